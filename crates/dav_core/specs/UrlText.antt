@@ -1,0 +1,18 @@
+-- The text of a path in a URL (RFC 3986, sections 2.1 and 2.3).
+use Rattle.std.specs.Prelude.{◌≡◌, ◌≢◌, ℕ, ◌==◌, ◌||◌, ◌⊎◌, Bool, if◌then◌else◌, List, [], ◌∷◌}
+use Rattle.std.specs.List.{flat_map, list_any}
+use Rattle.std.specs.Char.{is_ascii_alphanumeric}
+use Rattle.percent_encoding.specs.Percent.{percent_encode_byte}
+use Rattle.dav_core.specs.Path.{star}
+
+-- letters, digits and `-_.~/` stand for themselves
+abbrev pub is_url_byte : ℕ → Bool
+is_url_byte b = is_ascii_alphanumeric b || list_any (λ c. c == b) (45 ∷ 95 ∷ 46 ∷ 126 ∷ 47 ∷ [])
+
+-- every other byte is `%` and two upper-case hexadecimal digits
+unfoldable pub url_text : List ℕ → List ℕ
+url_text bytes = flat_map (λ b. if is_url_byte b then b ∷ [] else percent_encode_byte b) bytes
+
+-- what is written for a path: the star path is `*`
+abbrev pub IsTextOf : List ℕ → List ℕ → Type 0
+IsTextOf bytes written = ((bytes ≡ star) × (written ≡ star)) ⊎ ((bytes ≢ star) × (written ≡ url_text bytes))

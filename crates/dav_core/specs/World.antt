@@ -1,0 +1,123 @@
+-- What a file store holds: a finite map from paths to folders and files (RFC 4918, section 5), and the number
+-- that the next change takes.
+use Rattle.std.specs.Prelude.{◌≡◌, ℕ, ◌+◌, ◌-◌, ◌<◌, ◌≤◌, ◌++◌, ◌==◌, Bool, true, false, not, T, List, [], ◌∷◌, All, length, take, drop, if◌then◌else◌, replicate, Option, Some, None}
+use Rattle.std.specs.Option.{option_map, is_none}
+use Rattle.std.specs.FinMap.{find, put, is_sorted}
+use Rattle.dav_core.specs.Path.{Path, path_cmp, is_same_path, parent_of, IsName}
+use Rattle.dav_core.specs.Property.{Properties, key_cmp}
+
+-- a folder, or a file with its bytes
+pub data Kind : Type 0 where
+  Folder : Kind
+  File : List ℕ → Kind
+
+-- A folder or file: the number that it took when it was made, the last number that it took, what it is,
+-- its dead properties, and when it was made and last changed, in seconds since 1970.
+pub record Node : Type 0 where
+  pub made : ℕ
+  pub number : ℕ
+  pub kind : Kind
+  pub properties : Properties
+  pub created : ℕ
+  pub modified : ℕ
+
+-- the map, in order of the paths
+abbrev pub Nodes : Type 0
+Nodes = List (Path × Node)
+
+pub record World : Type 0 where
+  pub nodes : Nodes
+  pub next : ℕ
+
+-- what stands at a path
+abbrev pub node_at : World → Path → Option Node
+node_at w p = find path_cmp p w.nodes
+
+abbrev pub is_folder_kind : Kind → Bool
+is_folder_kind Folder = true
+is_folder_kind (File bytes) = false
+
+abbrev pub bytes_of : Kind → List ℕ
+bytes_of Folder = []
+bytes_of (File bytes) = bytes
+
+abbrev pub is_folder_node : Option Node → Bool
+is_folder_node None = false
+is_folder_node (Some n) = is_folder_kind n.kind
+
+abbrev pub is_folder : World → Path → Bool
+is_folder w p = is_folder_node (node_at w p)
+
+-- the number that is never handed out, 2^64 - 1
+abbrev pub LAST_NUMBER : ℕ
+LAST_NUMBER = 18446744073709551615
+
+-- the end of the year 9999, the last moment that a date of HTTP can show (RFC 9110, section 5.6.7)
+abbrev pub LAST_MOMENT : ℕ
+LAST_MOMENT = 253402300799
+
+-- the most bytes that a file holds
+abbrev pub MAX_FILE_LEN : ℕ
+MAX_FILE_LEN = 2147483647
+
+-- Each path stands once, in order; the root is a folder, and so is the parent of whatever is there.
+pub record IsTree (ns : Nodes) : Type 0 where
+  pub sorted : T (is_sorted path_cmp ns)
+  pub root : is_folder_node (find path_cmp [] ns) ≡ true
+  pub parents : (p : Path) (n : Node) → find path_cmp p ns ≡ Some n → is_folder_node (find path_cmp (parent_of p) ns) ≡ true
+
+-- these numbers of the nodes differ, and are below the next
+pub record IsNumbered (number_of : Node → ℕ) (w : World) : Type 0 where
+  pub below : (p : Path) (n : Node) → find path_cmp p w.nodes ≡ Some n → number_of n < w.next
+  pub once : (p q : Path) (n m : Node) → find path_cmp p w.nodes ≡ Some n → find path_cmp q w.nodes ≡ Some m → number_of n ≡ number_of m → p ≡ q
+
+-- its paths are names alone, its properties stand in order of their keys, and its times can be shown
+pub record IsKept (p : Path) (n : Node) : Type 0 where
+  pub names : All IsName p
+  pub properties : T (is_sorted key_cmp n.properties)
+  pub created : n.created ≤ LAST_MOMENT
+  pub modified : n.modified ≤ LAST_MOMENT
+
+-- What makes a map a world.
+pub record IsWorld (w : World) : Type 0 where
+  pub tree : IsTree w.nodes
+  pub numbers : IsNumbered (λ n. n.number) w
+  pub makings : IsNumbered (λ n. n.made) w
+  pub kept : (p : Path) (n : Node) → find path_cmp p w.nodes ≡ Some n → IsKept p n
+
+-- a new folder or file without properties, made at this moment with this number
+abbrev pub fresh : ℕ → Kind → ℕ → Node
+fresh number kind now = record { made = number; number = number; kind = kind; properties = []; created = now; modified = now }
+
+-- the empty world: the root, with number 0 and both times 0, and the number that the next change takes
+abbrev pub empty_from : ℕ → World
+empty_from next = record { nodes = ([], fresh 0 Folder 0) ∷ []; next = next }
+
+-- the first node that passes the test changed, all others as they were
+abbrev pub change_first : (Path × Node → Bool) → (Node → Node) → Nodes → Nodes
+change_first test f [] = []
+change_first test f (e ∷ es) = if test e then (e.0, f e.1) ∷ es else e ∷ change_first test f es
+
+-- the node at p changed
+abbrev pub adjust : Path → (Node → Node) → Nodes → Nodes
+adjust p = change_first (λ e. is_same_path p e.0)
+
+abbrev pub modified_at : ℕ → Node → Node
+modified_at now n = record n { modified = now }
+
+-- a member of p's folder was made, removed or moved at this moment
+abbrev pub touched : Path → ℕ → Nodes → Nodes
+touched p now = adjust (parent_of p) (modified_at now)
+
+-- a new folder or file at p, with the next number
+abbrev pub with_new : World → Path → Kind → Properties → ℕ → World
+with_new w p kind properties now = record {
+  nodes = touched p now (put path_cmp p (record (fresh w.next kind now) { properties = properties }) w.nodes);
+  next = w.next + 1;
+}
+
+-- Writing the bytes c at k over b: nothing where c is empty; else b, filled with zeros up to k where it is
+-- shorter, with c over the bytes from k on.
+abbrev pub splice : List ℕ → ℕ → List ℕ → List ℕ
+splice b k [] = b
+splice b k (x ∷ c) = take k (b ++ replicate (k - length b) 0) ++ (x ∷ c) ++ drop (k + length (x ∷ c)) b

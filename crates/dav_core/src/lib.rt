@@ -1,0 +1,4 @@
+//! Paths, and what a file store means (RFC 4918, section 5; RFC 3986).
+#![tactic(auto)]
+
+pub mod errors;
