@@ -48,6 +48,9 @@ is_folder_node (Some n) = is_folder_kind n.kind
 abbrev pub is_folder : World → Path → Bool
 is_folder w p = is_folder_node (node_at w p)
 
+abbrev pub is_missing : World → Path → Bool
+is_missing w p = is_none (node_at w p)
+
 -- the number that is never handed out, 2^64 - 1
 abbrev pub LAST_NUMBER : ℕ
 LAST_NUMBER = 18446744073709551615

@@ -1,0 +1,4 @@
+pub mod PathLemmas
+pub mod Place
+pub mod DateLemmas
+pub mod Splice

@@ -1,0 +1,25 @@
+-- What a head says (RFC 9112, sections 2 to 5; RFC 9110, section 5).
+use Rattle.std.specs.Prelude.{◌≡◌, ℕ, ◌≤◌, Bool, List, [], ◌∷◌, map, length, bytes_eq}
+use Rattle.std.specs.List.{filter}
+use Rattle.http_header.specs.Token.{lowercase}
+use Rattle.httparse.specs.Grammar.{RequestHead, ReadsRequest}
+use Rattle.httparse.specs.Spans.{name_and_value}
+
+-- What a head says: its method, its target, and its fields, each a name and the value without the blanks at its ends.
+pub record Request : Type 0 where
+  pub method : List ℕ
+  pub target : List ℕ
+  pub fields : List (List ℕ × List ℕ)
+
+-- the request of a head of the grammar
+abbrev pub request_of_head : RequestHead → Request
+request_of_head h = record { method = h.method; target = h.target; fields = map name_and_value h.fields }
+
+-- The bytes are a head that says this: at most 65,536 bytes, at most 64 fields, and nothing behind it.
+abbrev pub IsHead : List ℕ → Request → Type 0
+IsHead bytes r =
+    (length bytes ≤ 65536) × (h : RequestHead) × ReadsRequest bytes h [] × (length h.fields ≤ 64) × (r ≡ request_of_head h)
+
+-- the values of the fields with this name, in order; case of names is ignored (RFC 9110, section 5.1)
+abbrev pub values_of : List ℕ → List (List ℕ × List ℕ) → List (List ℕ)
+values_of name fields = map (λ f. f.1) (filter (λ f. bytes_eq (lowercase f.0) (lowercase name)) fields)
