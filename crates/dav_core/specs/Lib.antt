@@ -4,3 +4,6 @@ pub mod Property
 pub mod World
 pub mod UrlText
 pub mod Target
+pub mod ErrorNames
+pub mod Buffer
+pub mod PathRef

@@ -1,3 +1,9 @@
+//! Why a call fails.
+pub use std::alloc::AllocError as NoMemory;
+use std::alloc::AllocFailed;
+use std::error::Error;
+use std::fmt;
+
 /// Why a text names no path.
 #[derive(Clone, Copy, Debug, PartialEq, Eq)]
 pub enum ParseError {
@@ -9,4 +15,45 @@ pub enum ParseError {
     ForbiddenPath,
     /// Memory ran out.
     Memory,
+}
+
+/// Writes the variant's name.
+impl fmt::Display for ParseError {
+    ghost use Rattle.std.specs.Prelude.{Some};
+    ghost use Rattle.dav_core.specs.ErrorNames.{parse_error_name};
+
+    ghost output = { λ e. Some (parse_error_name e) };
+
+    fn fmt<W: fmt::Write>(&self, f: &mut fmt::Formatter<W>) -> fmt::Result {
+        match self {
+            ParseError::InvalidPath => write!(f, "InvalidPath"),
+            ParseError::PrefixMismatch => write!(f, "PrefixMismatch"),
+            ParseError::ForbiddenPath => write!(f, "ForbiddenPath"),
+            ParseError::Memory => write!(f, "Memory"),
+        }
+    }
+}
+
+impl Error for ParseError {}
+
+impl From<NoMemory> for ParseError {
+    ghost use Rattle.std.specs.Prelude.{◌≡◌};
+    ghost use Rattle.dav_core.specs.declared.errors.ParseError.TheVariants.{Memory};
+
+    ghost from_gives = { λ _ e. e ≡ Memory };
+
+    fn from(_error: NoMemory) -> ParseError {
+        ParseError::Memory
+    }
+}
+
+impl<T: Drop> From<AllocFailed<T>> for ParseError {
+    ghost use Rattle.std.specs.Prelude.{◌≡◌};
+    ghost use Rattle.dav_core.specs.declared.errors.ParseError.TheVariants.{Memory};
+
+    ghost from_gives = { λ _ e. e ≡ Memory };
+
+    fn from(_error: AllocFailed<T>) -> ParseError {
+        ParseError::Memory
+    }
 }

@@ -1,4 +1,5 @@
 //! Paths, and what a file store means (RFC 4918, section 5; RFC 3986).
 #![tactic(auto)]
 
+pub mod davpath;
 pub mod errors;

@@ -1,0 +1,4 @@
+pub mod TargetLemmas
+pub mod BufferLemmas
+pub mod LoopLemmas
+pub mod SegmentLemmas
