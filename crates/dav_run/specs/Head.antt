@@ -1,0 +1,44 @@
+-- The head of a request: which bytes are one, and what it says (RFC 9112, sections 2 to 5; RFC 9110, section 5).
+use Rattle.std.specs.Prelude.{◌≡◌, ℕ, ◌≤◌, Bool, List, [], length, map, take, bytes_eq}
+use Rattle.std.specs.List.{filter}
+use Rattle.std.specs.Char.{to_ascii_lowercase}
+use Rattle.httparse.specs.Grammar.{RequestHead, ReadsRequest}
+use Rattle.httparse.specs.Spans.{name_and_value, header_bytes}
+use Rattle.dav_run.specs.declared.head.RequestView.{RequestView}
+use Rattle.dav_run.specs.declared.head.Values.{Values}
+
+-- What a head says: its method, its target, and its fields, each a name and the value without the blanks at its ends.
+pub record Request : Type 0 where
+  pub method : List ℕ
+  pub target : List ℕ
+  pub fields : List (List ℕ × List ℕ)
+
+-- what a head of the grammar says
+abbrev pub request_of_head : RequestHead → Request
+request_of_head h = record { method = h.method; target = h.target; fields = map name_and_value h.fields }
+
+-- The bytes are a head that says this: at most 65,536 bytes, at most 64 fields, and nothing behind it.
+abbrev pub IsHead : List ℕ → Request → Type 0
+IsHead bytes r =
+    (length bytes ≤ 65536)
+    × (h : RequestHead) × ReadsRequest bytes h [] × (length h.fields ≤ 64) × (r ≡ request_of_head h)
+
+-- the field has this name, where ASCII case makes no difference (RFC 9110, section 5.1)
+abbrev pub is_named : List ℕ → List ℕ × List ℕ → Bool
+is_named name field = bytes_eq (map to_ascii_lowercase field.0) (map to_ascii_lowercase name)
+
+-- the values of the fields with this name, in order
+abbrev pub values_of : List ℕ → List (List ℕ × List ℕ) → List (List ℕ)
+values_of name fields = map (λ field. field.1) (filter (is_named name) fields)
+
+-- what a view shows
+abbrev pub request_of : RequestView → Request
+request_of v = record {
+  method = v.method.now;
+  target = v.target.now;
+  fields = map (header_bytes v.head.now) (take v.count v.headers);
+}
+
+-- the values that are still to come
+abbrev pub values_left : Values → List (List ℕ)
+values_left v = values_of v.name.now (map (header_bytes v.head.now) v.rest.now)
