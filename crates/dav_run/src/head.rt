@@ -1,6 +1,7 @@
 //! The head of a request, as bytes (RFC 9112, sections 2 to 5; RFC 9110, section 5).
 
-ghost use Rattle.std.specs.Prelude.{◌≡◌, ◌≤◌, length, take, All};
+ghost use Rattle.std.specs.Prelude.{◌≡◌, ◌≢◌, ◌≤◌, ◌↔◌, [], length, take, All, IsTrue};
+ghost use Rattle.std.specs.Iterator.{YieldsFirstRef, item_count};
 ghost use Rattle.httparse.specs.Spans.{IsHeaderWithin};
 
 mod read;
@@ -26,7 +27,7 @@ pub struct RequestView<'a> {
 }
 
 impl<'a> RequestView<'a> {
-    ghost use Rattle.dav_run.specs.Head.{request_of};
+    ghost use Rattle.dav_run.specs.Head.{request_of, values_left, values_of};
 
     /// The method, as it stands in the request line (RFC 9112, section 3.1).
     pub fn method(&self) -> &'a [u8]
@@ -41,6 +42,25 @@ impl<'a> RequestView<'a> {
     {
         self.target
     }
+
+    /// The values of the fields with this name, in order, without the blanks at their ends. ASCII case makes no difference
+    /// in a name (RFC 9110, section 5.1).
+    pub fn values<'n>(&'n self, name: &'n str) -> Values<'a, 'n>
+        ensures { values_left result ≡ values_of name.now (request_of self.now).fields }
+    {
+        Values {
+            head: self.head,
+            name,
+            rest: &self.headers[..self.count],
+        }
+    }
+
+    /// Whether there is a field with this name.
+    pub fn has(&self, name: &str) -> bool
+        ensures { IsTrue result ↔ (values_of name.now (request_of self.now).fields ≢ []) }
+    {
+        self.values(name).next().is_some()
+    }
 }
 
 /// The values of the fields with one name, in order.
@@ -50,4 +70,25 @@ pub struct Values<'a, 'n> {
     name: &'n str,
     rest: &'n [HeaderSpan],
     ghost within: { All (IsHeaderWithin (length head.now)) rest.now },
+}
+
+impl<'a, 'n> Iterator for Values<'a, 'n> {
+    type Item = &'a [u8];
+
+    ghost use Rattle.dav_run.specs.Head.{values_left};
+
+    ghost next_gives = { YieldsFirstRef values_left };
+
+    ghost remaining = { item_count values_left };
+
+    fn next(&mut self) -> Option<&'a [u8]> {
+        while let Some((header, rest)) = self.rest.split_first() {
+            self.rest = rest;
+            let name = header.name.of(self.head);
+            if name.eq_ignore_ascii_case(self.name.as_bytes()) {
+                return Some(header.value.of(self.head));
+            }
+        }
+        None
+    }
 }
