@@ -8,6 +8,10 @@ use Rattle.std.specs.Str.Parse.{digits_value}
 abbrev pub is_number : List ℕ → Bool
 is_number text = nat_lt 0 (length text) && (list_all is_ascii_digit text && nat_lt (digits_value 10 text) (2 ^ 64))
 
+-- the number that the text is, if it is one
+abbrev pub number_of : List ℕ → Option ℕ
+number_of text = if is_number text then Some (digits_value 10 text) else None
+
 -- the text is a number, and this one
 abbrev pub writes : ℕ → List ℕ → Bool
 writes n text = is_number text && (digits_value 10 text == n)

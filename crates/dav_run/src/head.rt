@@ -1,12 +1,14 @@
 //! The head of a request, as bytes (RFC 9112, sections 2 to 5; RFC 9110, section 5).
 
-ghost use Rattle.std.specs.Prelude.{◌≡◌, ◌≢◌, ◌≤◌, ◌↔◌, [], length, take, All, IsTrue};
+ghost use Rattle.std.specs.Prelude.{◌≡◌, ◌≢◌, ◌≤◌, ◌↔◌, [], length, take, All, IsTrue, codes};
 ghost use Rattle.std.specs.Iterator.{YieldsFirstRef, item_count};
 ghost use Rattle.httparse.specs.Spans.{IsHeaderWithin};
 
+mod length;
 mod read;
 
 use httparse::spans::HeaderSpan;
+use length::{number, writes};
 pub use read::read_head;
 
 /// The most bytes that a head has.
@@ -28,6 +30,7 @@ pub struct RequestView<'a> {
 
 impl<'a> RequestView<'a> {
     ghost use Rattle.dav_run.specs.Head.{request_of, values_left, values_of};
+    ghost use Rattle.dav_run.specs.Length.{announced_length};
 
     /// The method, as it stands in the request line (RFC 9112, section 3.1).
     pub fn method(&self) -> &'a [u8]
@@ -60,6 +63,18 @@ impl<'a> RequestView<'a> {
         ensures { IsTrue result ↔ (values_of name.now (request_of self.now).fields ≢ []) }
     {
         self.values(name).next().is_some()
+    }
+
+    /// The length that Content-Length announces for the body, in bytes (RFC 9110, section 8.6). `None` where there is no
+    /// such field, where a value of one is no decimal number below 2^64, and where two of them are different numbers. Takes
+    /// no memory.
+    pub fn announced_length(&self) -> Option<u64>
+        ensures { result
+            ≡ announced_length (values_of (codes "content-length") (request_of self.now).fields) }
+    {
+        let mut values = self.values("content-length");
+        let length = number(values.next()?)?;
+        values.all(|value| writes(length, value)).then_some(length)
     }
 }
 
