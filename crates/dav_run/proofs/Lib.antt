@@ -2,3 +2,4 @@ pub mod PathLemmas
 pub mod Place
 pub mod DateLemmas
 pub mod Splice
+pub mod HeadLemmas

@@ -1,9 +1,11 @@
--- What a head says (RFC 9112, sections 2 to 5; RFC 9110, section 5).
-use Rattle.std.specs.Prelude.{◌≡◌, ℕ, ◌≤◌, Bool, List, [], ◌∷◌, map, length, bytes_eq}
+-- The head of a request: which bytes are one, and what it says (RFC 9112, sections 2 to 5; RFC 9110, section 5).
+use Rattle.std.specs.Prelude.{◌≡◌, ℕ, ◌≤◌, Bool, true, false, List, [], ◌∷◌, length, map, take, bytes_eq}
 use Rattle.std.specs.List.{filter}
-use Rattle.http_header.specs.Token.{lowercase}
+use Rattle.std.specs.Char.{to_ascii_lowercase}
 use Rattle.httparse.specs.Grammar.{RequestHead, ReadsRequest}
-use Rattle.httparse.specs.Spans.{name_and_value}
+use Rattle.httparse.specs.Spans.{name_and_value, header_bytes}
+use Rattle.dav_run.specs.declared.head.RequestView.{RequestView}
+use Rattle.dav_run.specs.declared.head.Values.{Values}
 
 -- What a head says: its method, its target, and its fields, each a name and the value without the blanks at its ends.
 pub record Request : Type 0 where
@@ -11,15 +13,37 @@ pub record Request : Type 0 where
   pub target : List ℕ
   pub fields : List (List ℕ × List ℕ)
 
--- the request of a head of the grammar
+-- what a head of the grammar says
 abbrev pub request_of_head : RequestHead → Request
 request_of_head h = record { method = h.method; target = h.target; fields = map name_and_value h.fields }
 
 -- The bytes are a head that says this: at most 65,536 bytes, at most 64 fields, and nothing behind it.
 abbrev pub IsHead : List ℕ → Request → Type 0
 IsHead bytes r =
-    (length bytes ≤ 65536) × (h : RequestHead) × ReadsRequest bytes h [] × (length h.fields ≤ 64) × (r ≡ request_of_head h)
+    (length bytes ≤ 65536)
+    × (h : RequestHead) × ReadsRequest bytes h [] × (length h.fields ≤ 64) × (r ≡ request_of_head h)
 
--- the values of the fields with this name, in order; case of names is ignored (RFC 9110, section 5.1)
+-- the field has this name, where ASCII case makes no difference (RFC 9110, section 5.1)
+abbrev pub is_named : List ℕ → List ℕ × List ℕ → Bool
+is_named name field = bytes_eq (map to_ascii_lowercase field.0) (map to_ascii_lowercase name)
+
+-- the values of the fields with this name, in order
 abbrev pub values_of : List ℕ → List (List ℕ × List ℕ) → List (List ℕ)
-values_of name fields = map (λ f. f.1) (filter (λ f. bytes_eq (lowercase f.0) (lowercase name)) fields)
+values_of name fields = map (λ field. field.1) (filter (is_named name) fields)
+
+-- a value stands among them
+abbrev pub has_value : List (List ℕ) → Bool
+has_value [] = false
+has_value (value ∷ values) = true
+
+-- what a view shows
+abbrev pub request_of : RequestView → Request
+request_of v = record {
+  method = v.method.now;
+  target = v.target.now;
+  fields = map (header_bytes v.head.now) (take v.count v.headers);
+}
+
+-- the values that are still to come
+abbrev pub values_left : Values → List (List ℕ)
+values_left v = values_of v.name.now (map (header_bytes v.head.now) v.rest.now)

@@ -6,3 +6,4 @@ pub mod Methods
 pub mod Run
 pub mod Reply
 pub mod Store
+pub mod Exchange

@@ -3,7 +3,7 @@ use Rattle.std.specs.Prelude.{ℕ, ◌+◌, ◌==◌, ◌&&◌, Bool, true, fals
 use Rattle.std.specs.List.{list_any}
 use Rattle.dav_core.specs.Path.{Path, parent_of}
 use Rattle.dav_core.specs.World.{World, Node, Kind, Folder, File, node_at, is_folder, is_missing, is_folder_kind, bytes_of, with_new, adjust, splice, LAST_NUMBER, MAX_FILE_LEN}
-use Rattle.dav_run.specs.Head.{Request, values_of}
+use Rattle.dav_run.specs.Head.{Request, values_of, has_value}
 use Rattle.dav_run.specs.Length.{announced_length}
 use Rattle.dav_run.specs.Response.{Response, refusal, closing_refusal, shown, stored}
 
@@ -76,7 +76,7 @@ takes_body method =
     (codes "PUT" ∷ codes "PATCH" ∷ codes "PROPFIND" ∷ codes "PROPPATCH" ∷ codes "LOCK" ∷ [])
 
 abbrev pub has_field : List ℕ → Request → Bool
-has_field name r = nat_lt 0 (length (values_of name r.fields))
+has_field name r = has_value (values_of name r.fields)
 
 -- a condition or a range stands in the head, which aren't served yet
 abbrev pub has_conditions : Request → Bool

@@ -1,11 +1,13 @@
 //! Plays scripts.
 #![tactic(auto)]
 
+mod head;
 mod methods;
 mod moment;
 mod names;
 mod node;
 mod reply;
+mod server;
 mod store;
 
 fn main() {}
