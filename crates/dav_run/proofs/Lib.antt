@@ -3,3 +3,4 @@ pub mod Place
 pub mod DateLemmas
 pub mod Splice
 pub mod HeadLemmas
+pub mod RunLemmas

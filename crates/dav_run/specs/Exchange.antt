@@ -1,5 +1,5 @@
 -- What contracts see of an exchange and of what is answered to it.
-use Rattle.std.specs.Prelude.{ℕ, List, [], Result, Ok, Err, IfOk, MatchResult}
+use Rattle.std.specs.Prelude.{◌≡◌, ◌++◌, ℕ, List, [], ◌∷◌, Result, Ok, Err, IfOk, MatchResult}
 use Rattle.dav_core.specs.Path.{PathText}
 use Rattle.dav_core.specs.World.{World}
 use Rattle.dav_run.specs.declared.server.Body.{Body}
@@ -30,3 +30,8 @@ GivesServing result request body now old new = IfOk result (λ reply. Serves req
 -- Where memory sufficed, the reply and the world that is left are those of a step of the machine.
 abbrev pub GivesStep : {E : Type 0} → Result Reply E → Asked → World → World → Type 0
 GivesStep result x old new = IfOk result (λ reply. Steps x old (response_of reply, new))
+
+-- One reply more: that of a step from the old world to the new one.
+abbrev pub AddsReply : Asked → World → World → List Reply → List Reply → Type 0
+AddsReply x old new before after =
+    (reply : Reply) × (after ≡ before ++ reply ∷ []) × Steps x old (response_of reply, new)

@@ -17,11 +17,10 @@ pub record Asked : Type 0 where
 -- What a target comes to: the bytes of a path, or the status that refuses it. `*` is for OPTIONS alone
 -- (RFC 9110, section 9.3.7); any other text has to name a path, and 403 is for one that climbs above the root.
 pub data TargetGives (method target : List ℕ) : Result (List ℕ) ℕ → Type 0 where
-  whole_server : method ≡ codes "OPTIONS" → target ≡ star → TargetGives method target (Ok star)
-  no_path : method ≢ codes "OPTIONS" → target ≡ star → TargetGives method target (Err 400)
-  path : {bytes : List ℕ} → target ≢ star → Reads target bytes → TargetGives method target (Ok bytes)
-  invalid : target ≢ star → IsRefused target InvalidPath → TargetGives method target (Err 400)
-  climbs : target ≢ star → IsRefused target ForbiddenPath → TargetGives method target (Err 403)
+  path : {bytes : List ℕ} → (target ≡ star → method ≡ codes "OPTIONS") → Reads target bytes → TargetGives method target (Ok bytes)
+  reserved : target ≡ star → method ≢ codes "OPTIONS" → TargetGives method target (Err 400)
+  invalid : IsRefused target InvalidPath → TargetGives method target (Err 400)
+  climbs : IsRefused target ForbiddenPath → TargetGives method target (Err 403)
 
 -- What a request is answered, and the world that it leaves. An unknown method is refused before its target is read.
 pub data Serves (r : Request) (body : List ℕ) (now : ℕ) (old : World) : Outcome → Type 0 where

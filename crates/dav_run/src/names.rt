@@ -2,6 +2,7 @@
 ghost use Rattle.std.specs.Prelude.{◌≡◌, ◌∷◌, ◌++◌, [], IfOk, OnOk, OnErr};
 ghost use Rattle.dav_core.specs.Path.{name_cmp, path_cmp, is_same_path, parent_of};
 
+use dav_core::davpath::DavPathRef;
 use std::alloc::{AllocError, Global};
 use std::cmp::Ordering;
 use std::marker::Model;
@@ -103,6 +104,21 @@ fn parent_names(names: &[Name]) -> &[Name]
 }
 
 impl Names {
+    ghost use Rattle.std.specs.Prelude.{◌≡◌, ◌∷◌, ◌++◌, [], IfOk, OnOk, OnErr};
+    ghost use Rattle.dav_core.specs.Path.{path_cmp, is_same_path, parent_of, names_of};
+    ghost use Rattle.dav_core.specs.PathRef.{ref_bytes};
+
+    /// The names of a path; none for the star path.
+    pub fn of(alloc: Global, path: DavPathRef<'_>) -> Result<Names, AllocError>
+        ensures { IfOk result (λ names. names ≡ names_of (ref_bytes path.entry)) }
+    {
+        let mut names = Vec::new(alloc);
+        for segment in path.segments() {
+            names.push(Name::from_slice(alloc, segment)?)?;
+        }
+        Ok(Names { names })
+    }
+
     /// No names: the root.
     pub fn root(alloc: Global) -> Names
         ensures { result ≡ [] }
