@@ -4,6 +4,8 @@ ghost use Rattle.std.specs.List.{prefix_len};
 ghost use Rattle.dav_core.specs.Path.{names_in};
 
 mod reading;
+#[cfg(test)]
+mod tests;
 
 use crate::errors::ParseError;
 use reading::{close, ends_in_slash, is_rooted, len_before, read_names, text_of};
