@@ -1,6 +1,5 @@
 ghost use Rattle.std.specs.Prelude.{◌≡◌, IfOk, map};
-ghost use Rattle.dav_core.specs.Path.{names_of};
-ghost use Rattle.dav_core.specs.PathRef.{ref_bytes};
+ghost use Rattle.dav_core.specs.Path.{names};
 
 use super::*;
 use crate::errors::NoMemory;
@@ -52,11 +51,11 @@ fn refuses_texts(rt: HostRuntime) {
 }
 
 // Copies of the names, in order.
-fn copied_names(alloc: Global, path: DavPathRef<'_>) -> Result<Vec<Vec<u8>>, NoMemory>
-    ensures { IfOk result (λ v. map (λ n. n.items) v.items ≡ names_of (ref_bytes path.entry)) }
+fn copied_names(alloc: Global, path: &DavPath) -> Result<Vec<Vec<u8>>, NoMemory>
+    ensures { IfOk result (λ v. map (λ n. n.items) v.items ≡ names path.now) }
 {
     let mut names = Vec::new(alloc);
-    for name in path.segments() {
+    for name in path.as_ref().segments() {
         names.push(Vec::from_slice(alloc, name)?)?;
     }
     Ok(names)
@@ -66,7 +65,7 @@ fn copied_names(alloc: Global, path: DavPathRef<'_>) -> Result<Vec<Vec<u8>>, NoM
 fn gives_names(rt: HostRuntime) -> Result<(), Fail> {
     let alloc = rt.alloc();
     let path = DavPath::new(alloc, "/a/./b//c/../d%20e/")?;
-    let names = copied_names(alloc, path.as_ref())?;
+    let names = copied_names(alloc, &path)?;
     assert_eq!(rt; names.len(), 3);
     assert_eq!(rt; names[0].as_slice(), b"a".as_slice());
     assert_eq!(rt; names[1].as_slice(), b"b".as_slice());
