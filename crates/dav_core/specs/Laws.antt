@@ -1,8 +1,9 @@
 -- What holds of every text and every path: the statements of the laws.
-use Rattle.std.specs.Prelude.{◌≡◌, ℕ, Bool, List, [], All}
+use Rattle.std.specs.Prelude.{◌≡◌, ℕ, ◌<◌, Bool, List, [], All}
 use Rattle.dav_core.specs.declared.errors.ParseError.TheVariants.{InvalidPath, ForbiddenPath}
 use Rattle.dav_core.specs.Path.{Path, IsName, path_bytes, star, names_of}
 use Rattle.dav_core.specs.Target.{Leaves, Climbs, HasBadPiece, Reads, IsRefused}
+use Rattle.dav_core.specs.UrlText.{url_text, IsTextOf}
 
 -- pieces leave one path
 abbrev pub LeavesOnePath : Type 0
@@ -40,3 +41,13 @@ ReadsNames = (src a : List ℕ) → Reads src a → All IsName (names_of a)
 -- the star path has no names
 abbrev pub StarHasNoNames : Type 0
 StarHasNoNames = names_of star ≡ []
+
+-- the text of a path that was read is read again as this path
+abbrev pub ReadsAgain : Type 0
+ReadsAgain =
+    (src bytes written : List ℕ) → Reads src bytes → IsTextOf bytes written → Reads written bytes
+
+-- and so is that of any path of names that are bytes
+abbrev pub NamesReadAgain : Type 0
+NamesReadAgain =
+    (ns : Path) (closed : Bool) → All IsName ns → All (All (λ b. b < 256)) ns → Reads (url_text (path_bytes ns closed)) (path_bytes ns closed)

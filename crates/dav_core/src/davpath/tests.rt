@@ -81,3 +81,20 @@ fn names_errors(rt: HostRuntime) -> Result<(), Fail> {
     assert_eq!(rt; text.as_str(), "PrefixMismatch");
     Ok(())
 }
+
+#[test]
+fn writes_url_texts(rt: HostRuntime) -> Result<(), Fail> {
+    let alloc = rt.alloc();
+    let cases = [
+        ("/a/b/d%20e/", "/a/b/d%20e/"),
+        ("/%7e-_.%41", "/~-_.A"),
+        ("/%c3%a9!", "/%C3%A9%21"),
+        ("*", "*"),
+        ("/%2A", "/%2A"),
+    ];
+    for (text, written) in cases {
+        let url = DavPath::new(alloc, text)?.as_ref().as_url_string(alloc)?;
+        assert_eq!(rt; url.as_str(), written, "{text}");
+    }
+    Ok(())
+}
