@@ -60,13 +60,13 @@ joined_push [] n = append-nil (47 ∷ n)
 joined_push (m ∷ ns) n =
     ap (λ xs. 47 ∷ (m ++ xs)) (joined_push ns n) ∙ sym (append_assoc (47 ∷ m) (joined ns) (47 ∷ n))
 
--- a path is the root, or has a last name
-pub snoc_cases : (ns : Path) → (ns ≡ []) ⊎ ((init : Path) × (last : List ℕ) × (ns ≡ init ++ last ∷ []))
+-- a list is empty, or has a last item
+pub snoc_cases : {X : Type 0} (xs : List X) → (xs ≡ []) ⊎ ((init : List X) × (last : X) × (xs ≡ init ++ last ∷ []))
 snoc_cases [] = inl refl
-snoc_cases (n ∷ ns) =
-    elim (snoc_cases ns) [
-      | inl e ↦ inr ([], n, ap (λ ms. n ∷ ms) e)
-      | inr h ↦ inr (n ∷ h.0, h.1, ap (λ ms. n ∷ ms) h.2)
+snoc_cases (x ∷ xs) =
+    elim (snoc_cases xs) [
+      | inl e ↦ inr ([], x, ap (λ ys. x ∷ ys) e)
+      | inr h ↦ inr (x ∷ h.0, h.1, ap (λ ys. x ∷ ys) h.2)
     ]
 
 -- the last of the names that are left

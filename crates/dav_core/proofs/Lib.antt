@@ -2,3 +2,4 @@ pub mod TargetLemmas
 pub mod BufferLemmas
 pub mod LoopLemmas
 pub mod SegmentLemmas
+pub mod UrlLemmas

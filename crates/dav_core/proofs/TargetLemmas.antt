@@ -260,7 +260,8 @@ split_joined x (m ∷ ms) closed h hs =
     let cut = slice_split_at (λ b. b == 47) x 47 (m ++ (joined ms ++ ending closed)) h.no_slash refl in
     rw append_assoc (cut ∙ ap (λ ps. x ∷ ps) rest)
 
-name_no_slash : (n : List ℕ) → IsName n → HasNoSlash n
+-- no slash stands in a name
+pub name_no_slash : (n : List ℕ) → IsName n → HasNoSlash n
 name_no_slash n name = record {
   no_slash = All-weaker IsCleanByte (λ b. (b == 47) ≡ false) (λ b h. grind (arith, nat_tests, h)) n name.clean;
 }

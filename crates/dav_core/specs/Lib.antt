@@ -7,3 +7,4 @@ pub mod Target
 pub mod ErrorNames
 pub mod Buffer
 pub mod PathRef
+pub mod Laws

@@ -4,11 +4,15 @@ ghost use Rattle.std.specs.List.{prefix_len};
 ghost use Rattle.dav_core.specs.Path.{names_in};
 
 mod reading;
+#[cfg(test)]
+mod tests;
+mod url_text;
 
-use crate::errors::ParseError;
+use crate::errors::{NoMemory, ParseError};
 use reading::{close, ends_in_slash, is_rooted, len_before, read_names, text_of};
 use std::alloc::Global;
 use std::marker::Model;
+use url_text::url_text;
 
 /// The path of a resource: its names, each behind a slash, and a slash at the end where its text has one; or `*`,
 /// the path of the whole server (RFC 9110, section 7.1).
@@ -81,9 +85,10 @@ pub struct DavPathRef<'a> {
 }
 
 impl<'a> DavPathRef<'a> {
-    ghost use Rattle.std.specs.Prelude.{◌≡◌};
+    ghost use Rattle.std.specs.Prelude.{◌≡◌, IfOk, string_bytes};
     ghost use Rattle.dav_core.specs.Path.{names_of};
     ghost use Rattle.dav_core.specs.PathRef.{ref_bytes, names_left};
+    ghost use Rattle.dav_core.specs.UrlText.{IsTextOf};
 
     /// The bytes of the path.
     pub fn as_bytes(self) -> &'a [u8]
@@ -100,6 +105,18 @@ impl<'a> DavPathRef<'a> {
             Segments { rest: &[] }
         } else {
             Segments { rest: self.bytes }
+        }
+    }
+
+    /// The path in a URL: letters, digits and `-_.~/` as they are, every other byte as `%` and two upper-case
+    /// hexadecimal digits (RFC 3986, section 2.1); `*` for `*`.
+    pub fn as_url_string(self, alloc: Global) -> Result<String, NoMemory>
+        ensures { IfOk result (λ s. IsTextOf (ref_bytes self.entry) (string_bytes s)) }
+    {
+        if matches!(self.bytes, [b'*']) {
+            String::from_str(alloc, "*")
+        } else {
+            url_text(alloc, self.bytes)
         }
     }
 }

@@ -3,3 +3,4 @@
 
 pub mod davpath;
 pub mod errors;
+pub mod laws;

@@ -1,0 +1,53 @@
+-- What holds of every text and every path: the statements of the laws.
+use Rattle.std.specs.Prelude.{◌≡◌, ℕ, ◌<◌, Bool, List, [], All}
+use Rattle.dav_core.specs.declared.errors.ParseError.TheVariants.{InvalidPath, ForbiddenPath}
+use Rattle.dav_core.specs.Path.{Path, IsName, path_bytes, star, names_of}
+use Rattle.dav_core.specs.Target.{Leaves, Climbs, HasBadPiece, Reads, IsRefused}
+use Rattle.dav_core.specs.UrlText.{url_text, IsTextOf}
+
+-- pieces leave one path
+abbrev pub LeavesOnePath : Type 0
+LeavesOnePath = (ps : List (List ℕ)) (a b : Path) → Leaves ps a → Leaves ps b → a ≡ b
+
+-- pieces that leave a path don't climb above the root, and none of them is bad
+abbrev pub LeavesNoFault : Type 0
+LeavesNoFault = (ps : List (List ℕ)) (a : Path) → Leaves ps a → ¬ Climbs ps × ¬ HasBadPiece ps
+
+-- one piece refuses first: pieces that climb have no bad piece before the `..` that does
+abbrev pub OneFault : Type 0
+OneFault = (ps : List (List ℕ)) → Climbs ps → ¬ HasBadPiece ps
+
+-- a text is read as one path
+abbrev pub ReadsOnePath : Type 0
+ReadsOnePath = (src a b : List ℕ) → Reads src a → Reads src b → a ≡ b
+
+-- a text that is read isn't refused
+abbrev pub ReadsOrRefused : Type 0
+ReadsOrRefused =
+    (src a : List ℕ) → Reads src a → ¬ IsRefused src InvalidPath × ¬ IsRefused src ForbiddenPath
+
+-- a text is refused for one reason
+abbrev pub OneRefusal : Type 0
+OneRefusal = (src : List ℕ) → IsRefused src InvalidPath → ¬ IsRefused src ForbiddenPath
+
+-- the names in the bytes of a path are its names
+abbrev pub KeepsNames : Type 0
+KeepsNames = (ns : Path) (closed : Bool) → All IsName ns → names_of (path_bytes ns closed) ≡ ns
+
+-- what a text is read as has names alone
+abbrev pub ReadsNames : Type 0
+ReadsNames = (src a : List ℕ) → Reads src a → All IsName (names_of a)
+
+-- the star path has no names
+abbrev pub StarHasNoNames : Type 0
+StarHasNoNames = names_of star ≡ []
+
+-- the text of a path that was read is read again as this path
+abbrev pub ReadsAgain : Type 0
+ReadsAgain =
+    (src bytes written : List ℕ) → Reads src bytes → IsTextOf bytes written → Reads written bytes
+
+-- and so is that of any path of names that are bytes
+abbrev pub NamesReadAgain : Type 0
+NamesReadAgain =
+    (ns : Path) (closed : Bool) → All IsName ns → All (All (λ b. b < 256)) ns → Reads (url_text (path_bytes ns closed)) (path_bytes ns closed)

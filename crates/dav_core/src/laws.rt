@@ -1,0 +1,27 @@
+//! Laws of paths. Each function does nothing: its contract is a theorem on the definitions.
+ghost use Rattle.dav_core.specs.Laws.{LeavesOnePath, LeavesNoFault, OneFault, ReadsOnePath, ReadsOrRefused, OneRefusal, KeepsNames, ReadsNames, StarHasNoNames, ReadsAgain, NamesReadAgain};
+
+/// A text is read as one path, or refused for one reason: the pieces between slashes leave one path, or the first
+/// of them that refuses decides (RFC 3986, sections 3.3 and 5.2.4).
+pub fn one_reading()
+    ensures leaves { LeavesOnePath }
+    ensures leaves_no_fault { LeavesNoFault }
+    ensures one_fault { OneFault }
+    ensures reads { ReadsOnePath }
+    ensures reads_or_refused { ReadsOrRefused }
+    ensures one_refusal { OneRefusal }
+{}
+
+/// A path keeps its names: those in its bytes are the names that it was made of, and a text that is read gives
+/// names alone. The path `*` has none.
+pub fn names_are_kept()
+    ensures kept { KeepsNames }
+    ensures read { ReadsNames }
+    ensures star { StarHasNoNames }
+{}
+
+/// The text of a path in a URL is read again as this path.
+pub fn reads_again()
+    ensures read { ReadsAgain }
+    ensures names { NamesReadAgain }
+{}
