@@ -4,3 +4,4 @@ pub mod DateLemmas
 pub mod Splice
 pub mod HeadLemmas
 pub mod RunLemmas
+pub mod Determined

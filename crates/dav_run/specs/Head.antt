@@ -1,11 +1,9 @@
 -- The head of a request: which bytes are one, and what it says (RFC 9112, sections 2 to 5; RFC 9110, section 5).
-use Rattle.std.specs.Prelude.{◌≡◌, ℕ, ◌≤◌, Bool, true, false, List, [], ◌∷◌, length, map, take, bytes_eq}
+use Rattle.std.specs.Prelude.{◌≡◌, ℕ, ◌≤◌, Bool, true, false, List, [], ◌∷◌, length, map, bytes_eq}
 use Rattle.std.specs.List.{filter}
 use Rattle.std.specs.Char.{to_ascii_lowercase}
 use Rattle.httparse.specs.Grammar.{RequestHead, ReadsRequest}
-use Rattle.httparse.specs.Spans.{name_and_value, header_bytes}
-use Rattle.dav_run.specs.declared.head.RequestView.{RequestView}
-use Rattle.dav_run.specs.declared.head.Values.{Values}
+use Rattle.httparse.specs.Spans.{name_and_value}
 
 -- What a head says: its method, its target, and its fields, each a name and the value without the blanks at its ends.
 pub record Request : Type 0 where
@@ -35,15 +33,3 @@ values_of name fields = map (λ field. field.1) (filter (is_named name) fields)
 abbrev pub has_value : List (List ℕ) → Bool
 has_value [] = false
 has_value (value ∷ values) = true
-
--- what a view shows
-abbrev pub request_of : RequestView → Request
-request_of v = record {
-  method = v.method.now;
-  target = v.target.now;
-  fields = map (header_bytes v.head.now) (take v.count v.headers);
-}
-
--- the values that are still to come
-abbrev pub values_left : Values → List (List ℕ)
-values_left v = values_of v.name.now (map (header_bytes v.head.now) v.rest.now)

@@ -1,15 +1,19 @@
 //! The head of a request, as bytes (RFC 9112, sections 2 to 5; RFC 9110, section 5).
 
-ghost use Rattle.std.specs.Prelude.{◌≡◌, ◌≢◌, ◌≤◌, ◌↔◌, [], length, take, All, IsTrue, codes};
+ghost use Rattle.std.specs.Prelude.{◌≡◌, codes};
 ghost use Rattle.std.specs.Iterator.{YieldsFirstRef, item_count};
-ghost use Rattle.httparse.specs.Spans.{IsHeaderWithin};
+ghost use Rattle.dav_run.specs.Head.{values_of, has_value};
+ghost use Rattle.dav_run.specs.Length.{announced_length};
 
 mod length;
 mod read;
+#[cfg(test)]
+mod tests;
 
 use httparse::spans::HeaderSpan;
 use length::{number, writes};
 pub use read::read_head;
+use std::marker::Model;
 
 /// The most bytes that a head has.
 pub const MOST_BYTES: usize = 65_536;
@@ -24,24 +28,35 @@ pub struct RequestView<'a> {
     target: &'a str,
     headers: [HeaderSpan; MOST_FIELDS],
     count: usize,
-    ghost counted: { count ≤ 64 },
-    ghost within: { All (IsHeaderWithin (length head.now)) (take count headers) },
+}
+
+impl<'a> Model for RequestView<'a> {
+    ghost use Rattle.std.specs.Prelude.{◌≤◌, length, map, take, All};
+    ghost use Rattle.httparse.specs.Spans.{IsHeaderWithin, header_bytes};
+    ghost use Rattle.dav_run.specs.Head.{Request};
+
+    ghost Value = { Request };
+
+    ghost view = { λ v. record {
+      method = v.method.now;
+      target = v.target.now;
+      fields = map (header_bytes v.head.now) (take v.count v.headers);
+    } };
+
+    ghost invariant = { λ v. (v.count ≤ 64) × All (IsHeaderWithin (length v.head.now)) (take v.count v.headers) };
 }
 
 impl<'a> RequestView<'a> {
-    ghost use Rattle.dav_run.specs.Head.{request_of, values_left, values_of, has_value};
-    ghost use Rattle.dav_run.specs.Length.{announced_length};
-
     /// The method, as it stands in the request line (RFC 9112, section 3.1).
     pub fn method(&self) -> &'a [u8]
-        ensures { result.now ≡ (request_of self.now).method }
+        ensures { result.now ≡ self.now.method }
     {
         self.method
     }
 
     /// The target, as it stands in the request line (RFC 9112, section 3.2).
     pub fn target(&self) -> &'a str
-        ensures { result.now ≡ (request_of self.now).target }
+        ensures { result.now ≡ self.now.target }
     {
         self.target
     }
@@ -49,7 +64,7 @@ impl<'a> RequestView<'a> {
     /// The values of the fields with this name, in order, without the blanks at their ends. ASCII case makes no difference
     /// in a name (RFC 9110, section 5.1).
     pub fn values<'n>(&'n self, name: &'n str) -> Values<'a, 'n>
-        ensures { values_left result ≡ values_of name.now (request_of self.now).fields }
+        ensures { result ≡ values_of name.now self.now.fields }
     {
         Values {
             head: self.head,
@@ -60,7 +75,7 @@ impl<'a> RequestView<'a> {
 
     /// Whether there is a field with this name.
     pub fn has(&self, name: &str) -> bool
-        ensures { result ≡ has_value (values_of name.now (request_of self.now).fields) }
+        ensures { result ≡ has_value (values_of name.now self.now.fields) }
     {
         self.values(name).next().is_some()
     }
@@ -69,8 +84,7 @@ impl<'a> RequestView<'a> {
     /// such field, where a value of one is no decimal number below 2^64, and where two of them are different numbers. Takes
     /// no memory.
     pub fn announced_length(&self) -> Option<u64>
-        ensures { result
-            ≡ announced_length (values_of (codes "content-length") (request_of self.now).fields) }
+        ensures { result ≡ announced_length (values_of (codes "content-length") self.now.fields) }
     {
         let mut values = self.values("content-length");
         let length = number(values.next()?)?;
@@ -84,17 +98,26 @@ pub struct Values<'a, 'n> {
     head: &'a [u8],
     name: &'n str,
     rest: &'n [HeaderSpan],
-    ghost within: { All (IsHeaderWithin (length head.now)) rest.now },
+}
+
+impl<'a, 'n> Model for Values<'a, 'n> {
+    ghost use Rattle.std.specs.Prelude.{ℕ, List, length, map, All};
+    ghost use Rattle.httparse.specs.Spans.{IsHeaderWithin, header_bytes};
+    ghost use Rattle.dav_run.specs.Head.{values_of, has_value};
+
+    ghost Value = { List (List ℕ) };
+
+    ghost view = { λ v. values_of v.name.now (map (header_bytes v.head.now) v.rest.now) };
+
+    ghost invariant = { λ v. All (IsHeaderWithin (length v.head.now)) v.rest.now };
 }
 
 impl<'a, 'n> Iterator for Values<'a, 'n> {
     type Item = &'a [u8];
 
-    ghost use Rattle.dav_run.specs.Head.{values_left};
+    ghost next_gives = { YieldsFirstRef (λ values. values) };
 
-    ghost next_gives = { YieldsFirstRef values_left };
-
-    ghost remaining = { item_count values_left };
+    ghost remaining = { item_count (λ values. values) };
 
     fn next(&mut self) -> Option<&'a [u8]> {
         while let Some((header, rest)) = self.rest.split_first() {

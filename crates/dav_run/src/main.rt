@@ -2,6 +2,7 @@
 #![tactic(auto)]
 
 mod head;
+mod laws;
 mod methods;
 mod moment;
 mod names;

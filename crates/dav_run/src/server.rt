@@ -2,7 +2,6 @@
 ghost use Rattle.std.specs.Prelude.{◌≡◌, ◌≢◌, bytes_eq, codes, map, MatchBool, IfOk, IfErr, OnOk, OnErr};
 ghost use Rattle.std.specs.List.{list_any};
 ghost use Rattle.dav_core.specs.Path.{star};
-ghost use Rattle.dav_run.specs.Head.{request_of};
 ghost use Rattle.dav_run.specs.Methods.{is_known, takes_body, has_conditions, method_at};
 ghost use Rattle.dav_run.specs.Reply.{Gives, response_of};
 ghost use Rattle.dav_run.specs.Run.{Runs, RanInPart};
@@ -101,7 +100,7 @@ fn takes_body(method: &[u8]) -> bool
 
 // Whether a condition or a range stands in the head.
 fn has_conditions(request: &RequestView<'_>) -> bool
-    ensures { result ≡ has_conditions (request_of request.now) }
+    ensures { result ≡ has_conditions (request.now) }
 {
     request.has("if") || request.has("if-match") || request.has("if-none-match") || request.has("content-range")
 }
@@ -115,7 +114,7 @@ fn serve_at(
     body: &Bytes,
     now: Moment,
 ) -> Result<Reply, AllocError>
-    ensures { Gives result (world_of store.new) (method_at (request_of request.now) (world_of store.old) path.now body.now now.seconds) }
+    ensures { Gives result (world_of store.new) (method_at (request.now) (world_of store.old) path.now body.now now.seconds) }
 {
     let method = request.method();
     if !body.is_empty() && !takes_body(method) {
@@ -164,7 +163,7 @@ fn serve(
     body: &Bytes,
     now: Moment,
 ) -> Result<Reply, AllocError>
-    ensures { GivesServing result (request_of request.now) body.now now.seconds (world_of store.old) (world_of store.new) }
+    ensures { GivesServing result (request.now) body.now now.seconds (world_of store.old) (world_of store.new) }
 {
     let method = request.method();
     if !is_known(method) {

@@ -1,7 +1,7 @@
 //! From the bytes of a head to what it says.
 
 ghost use Rattle.std.specs.Prelude.{◌≡◌, IfOk, IfErr};
-ghost use Rattle.dav_run.specs.Head.{Request, IsHead, request_of};
+ghost use Rattle.dav_run.specs.Head.{Request, IsHead};
 
 use super::{MOST_BYTES, MOST_FIELDS, RequestView};
 use http::StatusCode;
@@ -13,7 +13,7 @@ use httparse::spans::{EMPTY_HEADER_SPAN, parse_request};
 /// `BAD_REQUEST` where the bytes are no head of HTTP/1.x (RFC 9112, sections 2 to 5), where bytes follow it, and where it
 /// has more than `MOST_BYTES` bytes or `MOST_FIELDS` fields.
 pub fn read_head(head: &[u8]) -> Result<RequestView<'_>, StatusCode>
-    ensures ok { IfOk result (λ view. IsHead head.now (request_of view)) }
+    ensures ok { IfOk result (IsHead head.now) }
     ensures err { IfErr result (λ status. (status ≡ 400) × ((r : Request) → ¬ IsHead head.now r)) }
 {
     if head.len() > MOST_BYTES {

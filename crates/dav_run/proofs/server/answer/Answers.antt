@@ -1,7 +1,6 @@
 use Rattle.std.proofs.Common.{◌≡◌, ℕ, List, sym, ap, subst, ◌∙◌}
 use Rattle.dav_core.specs.World.{World}
 use Rattle.dav_run.specs.declared.reply.Reply.{Reply}
-use Rattle.dav_run.specs.Head.{request_of}
 use Rattle.dav_run.specs.Response.{refusal}
 use Rattle.dav_run.specs.Reply.{response_of}
 use Rattle.dav_run.specs.Store.{world_of}
@@ -18,7 +17,7 @@ returns-in-Err c =
 
 pub returns-in-None : goal.returns-in-None
 returns-in-None c =
-    let r = request_of c.in-Ok.request in
+    let r = c.in-Ok.request in
     let x = asked c.args.exchange.now in
     let old = world_of c.args.store.now in
     let new = world_of c.serve-in-None.new.store in
@@ -29,7 +28,7 @@ returns-in-None c =
 
 pub returns-in-Bytes : goal.returns-in-Bytes
 returns-in-Bytes c =
-    let r = request_of c.in-Ok.request in
+    let r = c.in-Ok.request in
     let x = asked c.args.exchange.now in
     let old = world_of c.args.store.now in
     let new = world_of c.serve-in-Bytes.new.store in

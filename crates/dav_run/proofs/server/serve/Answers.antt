@@ -1,6 +1,5 @@
 use Rattle.std.proofs.Common.{◌≡◌, List, ℕ, true, false, Ok, Err, sym, ap, subst, ◌∙◌}
 use Rattle.dav_core.specs.Path.{Path, names_of}
-use Rattle.dav_run.specs.Head.{request_of}
 use Rattle.dav_run.specs.Methods.{is_known, method_at}
 use Rattle.dav_run.specs.Response.{refusal}
 use Rattle.dav_run.specs.Reply.{Gives}
@@ -11,14 +10,14 @@ use Rattle.dav_run.proofs.server.serve.Goals as goal
 
 pub returns-then-not-is_known : goal.returns-then-not-is_known
 returns-then-not-is_known c =
-    let r = request_of c.args.request.now in
+    let r = c.args.request.now in
     let not_known : is_known r.method ≡ false = ap is_known (sym c.method-method.ensures) ∙ sym c.is_known.ensures ∙ c.if-not-is_known.true in
     from_reply c.refuse.result (Serves r c.args.body.now c.args.now.seconds (world_of c.args.store.now)) (world_of c.args.store.now) (refusal 501)
     (unknown not_known) c.refuse.ensures
 
 pub returns-in-Err : goal.returns-in-Err
 returns-in-Err c =
-    let r = request_of c.args.request.now in
+    let r = c.args.request.now in
     let known : is_known r.method ≡ true = ap is_known (sym c.method-method.ensures) ∙ sym c.is_known.ensures ∙ c.if-not-is_known.false in
     let gives = rw c.in-Err.is at c.in_ok-status.ensures in
     let target = subst (λ (m : List ℕ). TargetGives m r.target (Err c.in-Err.status)) c.method-method.ensures
@@ -28,7 +27,7 @@ returns-in-Err c =
 
 pub returns-in_ok-names-in-Ok : goal.returns-in_ok-names-in-Ok
 returns-in_ok-names-in-Ok c =
-    let r = request_of c.args.request.now in
+    let r = c.args.request.now in
     let known : is_known r.method ≡ true = ap is_known (sym c.method-method.ensures) ∙ sym c.is_known.ensures ∙ c.if-not-is_known.false in
     let gives = rw c.in-Ok.is at c.in_ok-status.ensures in
     let target = subst (λ (m : List ℕ). TargetGives m r.target (Ok c.in-Ok.path.bytes)) c.method-method.ensures

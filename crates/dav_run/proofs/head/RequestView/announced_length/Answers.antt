@@ -5,7 +5,6 @@ use Rattle.std.specs.Str.Parse.{digits_value}
 use Rattle.std.proofs.lemmas.Bool.Decides.{nat_tests}
 use Rattle.std.proofs.lemmas.Iterator.Consumers.{YieldsList-from_first}
 use Rattle.std.proofs.lemmas.Iterator.Search.{all_from_yields_List}
-use Rattle.dav_run.specs.Head.{values_left}
 use Rattle.dav_run.specs.Length.{number_of, writes, announced_length}
 use Rattle.dav_run.proofs.head.RequestView.announced_length.Goals as goal
 
@@ -34,10 +33,10 @@ announced n value values same is all =
 pub returns : goal.returns
 returns c =
     let n = c.in_ok-length.length in
-    let left = values_left c.next.new.self in
+    let left = c.next.new.self in
     let same : c.all.result ≡ list_all (writes n) left =
     all_from_yields_List (writes n) c.all.new.self _ _ c.all.ensures.ran
-    (YieldsList-from_first (λ x. x.now) values_left {s = c.next.new.self} left refl) (λ x b q k. search (rules, tests))
+    (YieldsList-from_first (λ x. x.now) (λ values. values) {s = c.next.new.self} left refl) (λ x b q k. search (rules, tests))
     in
     c.then_some.ensures
     ∙ announced n c.in_ok-next.field-0.now left c.all.result c.in_ok-length.ensures same

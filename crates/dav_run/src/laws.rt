@@ -1,0 +1,8 @@
+//! Laws of the machine. Each function does nothing: its contract is a theorem on the definitions.
+ghost use Rattle.dav_run.specs.Run.{RunIsDetermined};
+
+/// From one store, the same exchanges have one run at most: one list of replies, and one store that is left.
+#[tactic(auto, using(crate::proofs::Determined::run_determined))]
+pub fn run_is_determined()
+    ensures { RunIsDetermined }
+{}
