@@ -57,13 +57,16 @@ step_one : {x : Asked} {old : World} {a b : Outcome} → Steps x old a → Steps
 step_one (no_head n) (no_head m) = refl
 step_one (no_head n) (head is s) = absurd (n _ is)
 step_one (head is s) (no_head n) = absurd (n _ is)
-step_one {x} {old} {b = b} (head {r} {a} is s) (head {q} {o} also t) =
-    serves_one s (subst (λ (q : Request). Serves q x.body x.moment old o) (IsHead-one x.head q r also is) t)
+step_one {x} {old} (head {r = r} h s) (head {r = q} {outcome = o} k t) =
+    serves_one s (subst (λ (p : Request). Serves p x.body x.moment old o) (IsHead-one x.head q r k h) t)
 
-pub run_determined : RunIsDetermined
-run_determined _ _ _ _ _ _ no_more no_more = (refl, refl)
-run_determined (x ∷ xs) old s t (r ∷ rs) (q ∷ qs) (one_more {mid = mid} a more) (one_more {mid = nid} b others) =
+runs_one : {xs : List Asked} {old s t : World} {replies others : List Response} → Runs xs old replies s → Runs xs old others t → (replies ≡ others) × (s ≡ t)
+runs_one no_more no_more = (refl, refl)
+runs_one {s = s} (one_more {xs = xs} {mid = mid} {replies = rs} a more) (one_more {mid = nid} {reply = q} b others) =
     let same = step_one a b in
     let worlds : mid ≡ nid = ap (λ (o : Outcome). o.1) same in
-    let rest = run_determined xs nid s t rs qs (subst (λ (w : World). Runs xs w rs s) worlds more) others in
+    let rest = runs_one (subst (λ (w : World). Runs xs w rs s) worlds more) others in
     (ap (λ (y : Response). y ∷ rs) (ap (λ (o : Outcome). o.0) same) ∙ ap (λ (l : List Response). q ∷ l) rest.0, rest.1)
+
+pub run_determined : RunIsDetermined
+run_determined xs old s t replies others a b = runs_one a b
