@@ -3,3 +3,4 @@ pub mod BufferLemmas
 pub mod LoopLemmas
 pub mod SegmentLemmas
 pub mod UrlLemmas
+pub mod WorldLemmas

@@ -4,6 +4,7 @@ use Rattle.dav_core.specs.declared.errors.ParseError.TheVariants.{InvalidPath, F
 use Rattle.dav_core.specs.Path.{Path, IsName, path_bytes, star, names_of}
 use Rattle.dav_core.specs.Target.{Leaves, Climbs, HasBadPiece, Reads, IsRefused}
 use Rattle.dav_core.specs.UrlText.{url_text, IsTextOf}
+use Rattle.dav_core.specs.World.{IsWorld, empty_from}
 
 -- pieces leave one path
 abbrev pub LeavesOnePath : Type 0
@@ -51,3 +52,7 @@ ReadsAgain =
 abbrev pub NamesReadAgain : Type 0
 NamesReadAgain =
     (ns : Path) (closed : Bool) → All IsName ns → All (All (λ b. b < 256)) ns → Reads (url_text (path_bytes ns closed)) (path_bytes ns closed)
+
+-- the empty world is a world, whatever number comes next but 0
+abbrev pub EmptyIsWorld : Type 0
+EmptyIsWorld = (next : ℕ) → 0 < next → IsWorld (empty_from next)

@@ -1,5 +1,5 @@
 //! Laws of paths. Each function does nothing: its contract is a theorem on the definitions.
-ghost use Rattle.dav_core.specs.Laws.{LeavesOnePath, LeavesNoFault, OneFault, ReadsOnePath, ReadsOrRefused, OneRefusal, KeepsNames, ReadsNames, StarHasNoNames, ReadsAgain, NamesReadAgain};
+ghost use Rattle.dav_core.specs.Laws.{LeavesOnePath, LeavesNoFault, OneFault, ReadsOnePath, ReadsOrRefused, OneRefusal, KeepsNames, ReadsNames, StarHasNoNames, ReadsAgain, NamesReadAgain, EmptyIsWorld};
 
 /// A text is read as one path, or refused for one reason: the pieces between slashes leave one path, or the first
 /// of them that refuses decides (RFC 3986, sections 3.3 and 5.2.4).
@@ -24,4 +24,9 @@ pub fn names_are_kept()
 pub fn reads_again()
     ensures read { ReadsAgain }
     ensures names { NamesReadAgain }
+{}
+
+/// The empty world is a world.
+pub fn empty_is_a_world()
+    ensures { EmptyIsWorld }
 {}
