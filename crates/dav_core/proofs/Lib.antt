@@ -3,4 +3,5 @@ pub mod BufferLemmas
 pub mod LoopLemmas
 pub mod SegmentLemmas
 pub mod UrlLemmas
+pub mod NodesLemmas
 pub mod WorldLemmas

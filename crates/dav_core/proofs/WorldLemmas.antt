@@ -1,8 +1,11 @@
 -- What makes a map a world.
-use Rattle.std.proofs.Common.{◌≡◌, ℕ, ◌<◌, ◌≤◌, Bool, true, T, List, [], ◌∷◌, All, Option, Some, None, refl, sym, ap, subst, ◌∙◌, arith}
-use Rattle.std.specs.FinMap.{find}
-use Rattle.dav_core.specs.Path.{Path, path_cmp, parent_of, IsName}
-use Rattle.dav_core.specs.World.{Node, Nodes, World, Folder, fresh, empty_from, is_folder_node, IsTree, IsNumbered, IsKept, IsWorld}
+use Rattle.std.proofs.Common.{◌≡◌, ℕ, ◌<◌, ◌≤◌, Bool, true, T, ◌+◌, ◌⊎◌, inl, inr, List, [], ◌∷◌, All, Option, Some, None, refl, sym, ap, subst, ◌∙◌, arith}
+use Rattle.std.specs.FinMap.{find, put, is_sorted}
+use Rattle.dav_core.specs.Path.{Path, path_cmp, is_same_path, parent_of, IsName}
+use Rattle.dav_core.proofs.NodesLemmas.{CameFrom, back-adjust, folder-adjust, sorted-change, back-put, folder-put, sorted-put_node}
+use Rattle.dav_core.specs.Laws.{NewKeepsWorld, ChangeKeepsWorld}
+use Rattle.dav_core.specs.Property.{Properties, key_cmp}
+use Rattle.dav_core.specs.World.{Node, Nodes, Kind, World, Folder, fresh, empty_from, node_at, adjust, modified_at, with_new, is_folder, is_folder_kind, is_folder_node, LAST_MOMENT, IsTree, IsNumbered, IsKept, IsWorld, Renumbers}
 
 -- what stands in the empty world is the root
 only_root : (p : Path) (n : Node) → find path_cmp p (([], fresh 0 Folder 0) ∷ []) ≡ Some n → (p ≡ []) × (fresh 0 Folder 0 ≡ n)
@@ -34,3 +37,140 @@ empty_is_world next some = record {
   makings = numbered (λ n. n.made) next some;
   kept = λ p n e. subst (λ (m : Node). IsKept p m) (only_root p n e).1 (subst (λ (q : Path). IsKept q (fresh 0 Folder 0)) (sym (only_root p n e).0) root_is_kept);
 }
+
+-- a change that keeps a node a folder or a file keeps the tree
+tree-adjust : (p : Path) (f : Node → Node) (ns : Nodes) → IsTree ns → ((n : Node) → find path_cmp p ns ≡ Some n → is_folder_kind (f n).kind ≡ is_folder_kind n.kind) → IsTree (adjust p f ns)
+tree-adjust p f ns t keeps = record {
+  sorted = subst T (sym (sorted-change (λ e. is_same_path p e.0) f ns)) t.sorted;
+  root = folder-adjust p f ns keeps [] ∙ t.root;
+  parents = λ q m h. let from = back-adjust p f ns q m h in folder-adjust p f ns keeps (parent_of q) ∙ t.parents q from.node from.stood;
+}
+
+put_parents : (p : Path) (n : Node) (ns : Nodes) → IsTree ns → find path_cmp p ns ≡ None → is_folder_node (find path_cmp (parent_of p) ns) ≡ true
+    → (q : Path) (m : Node) → ((q ≡ p) × (m ≡ n)) ⊎ (find path_cmp q ns ≡ Some m) → is_folder_node (find path_cmp (parent_of q) ns) ≡ true
+put_parents p n ns t none folder q m (inl (e, _)) = ap (λ (r : Path). is_folder_node (find path_cmp (parent_of r) ns)) e ∙ folder
+put_parents p n ns t none folder q m (inr h) = t.parents q m h
+
+-- a node below a folder, where nothing stood, keeps the tree
+tree-put : (p : Path) (n : Node) (ns : Nodes) → IsTree ns → find path_cmp p ns ≡ None → is_folder_node (find path_cmp (parent_of p) ns) ≡ true → IsTree (put path_cmp p n ns)
+tree-put p n ns t none folder = record {
+  sorted = sorted-put_node p n ns t.sorted;
+  root = folder-put p n ns [] none t.root;
+  parents = λ q m h. folder-put p n ns (parent_of q) none (put_parents p n ns t none folder q m (back-put p n ns q m h));
+}
+
+-- a node of the new world has the number of a node that stood at its path, or stands at the one place that took the next number
+abbrev Origin : (Node → ℕ) → Path → World → World → Path → Node → Type 0
+Origin tag place old new q m =
+    ((n : Node) × (find path_cmp q old.nodes ≡ Some n) × (tag m ≡ tag n)) ⊎ ((q ≡ place) × (tag m ≡ old.next) × (old.next < new.next))
+
+module _ (tag : Node → ℕ) (place : Path) (old new : World) (grows : old.next ≤ new.next) (t : IsNumbered tag old) where
+  origin_below : (q : Path) (m : Node) → Origin tag place old new q m → tag m < new.next
+  origin_below q m (inl (n, stood, same)) = let small = t.below q n stood in omega (arith, small, same, grows)
+  origin_below q m (inr (at, is, more)) = omega (arith, is, more)
+
+  origin_once : (p q : Path) (n m : Node) → Origin tag place old new p n → Origin tag place old new q m → tag n ≡ tag m → p ≡ q
+  origin_once p q n m (inl (a, stood, e)) (inl (b, other, f)) same = t.once p q a b stood other (sym e ∙ same ∙ f)
+  origin_once p q n m (inl (a, stood, e)) (inr (at, f, more)) same = let small = t.below p a stood in absurd (omega (arith, small, e, f, same))
+  origin_once p q n m (inr (at, e, more)) (inl (b, stood, f)) same = let small = t.below q b stood in absurd (omega (arith, small, e, f, same))
+  origin_once p q n m (inr (at, _, _)) (inr (here, _, _)) same = at ∙ sym here
+
+  -- where each node has such an origin, the numbers still differ and are below the next
+  tagged : ((q : Path) (m : Node) → find path_cmp q new.nodes ≡ Some m → Origin tag place old new q m) → IsNumbered tag new
+  tagged origin = record {
+    below = λ q m h. origin_below q m (origin q m h);
+    once = λ p q n m h k same. origin_once p q n m (origin p n h) (origin q m k) same;
+  }
+
+-- a moment of change is none of the numbers
+abbrev ByNumber : (Node → ℕ) → Type 0
+ByNumber tag = (moment : ℕ) (n : Node) → tag (modified_at moment n) ≡ tag n
+
+touched_tag : (tag : Node → ℕ) → ByNumber tag → (now : ℕ) (q : Path) (ns : Nodes) (r : Path) (m : Node) (from : CameFrom q (modified_at now) ns r m) → tag m ≡ tag from.node
+touched_tag tag same now q ns r m from =
+    elim from.became as (λ _. tag m ≡ tag from.node) [ inl h ↦ ap tag h.1 ∙ same now from.node | inr h ↦ ap tag h.1 ]
+
+module _ (w : World) (p : Path) (kind : Kind) (properties : Properties) (now : ℕ) where
+  abbrev the_new : Node
+  the_new = record (fresh w.next kind now) { properties = properties }
+
+  new_origin : (tag : Node → ℕ) → ByNumber tag → tag the_new ≡ w.next → (q : Path) (m : Node)
+      → find path_cmp q (with_new w p kind properties now).nodes ≡ Some m → Origin tag p w (with_new w p kind properties now) q m
+  new_origin tag same is q m h =
+      let from = back-adjust (parent_of p) (modified_at now) (put path_cmp p the_new w.nodes) q m h in
+      let keeps = touched_tag tag same now (parent_of p) (put path_cmp p the_new w.nodes) q m from in
+      elim (back-put p the_new w.nodes q from.node from.stood) as (λ _. Origin tag p w (with_new w p kind properties now) q m) [
+        | inl at ↦ inr (at.0, keeps ∙ ap tag at.1 ∙ is, omega arith)
+        | inr stood ↦ inl (from.node, stood, keeps)
+      ]
+
+  new_kept : IsWorld w → All IsName p → T (is_sorted key_cmp properties) → now ≤ LAST_MOMENT → (q : Path) (m : Node)
+      → find path_cmp q (with_new w p kind properties now).nodes ≡ Some m → IsKept q m
+  new_kept world names sorted small q m h =
+      let from = back-adjust (parent_of p) (modified_at now) (put path_cmp p the_new w.nodes) q m h in
+      let before : IsKept q from.node = elim (back-put p the_new w.nodes q from.node from.stood) as (λ _. IsKept q from.node) [
+            | inl at ↦ subst (λ (n : Node). IsKept q n) (sym at.1) (record { names = subst (All IsName) (sym at.0) names; properties = sorted; created = small; modified = small })
+            | inr stood ↦ world.kept q from.node stood
+          ] in
+      elim from.became as (λ _. IsKept q m) [
+        | inl e ↦ subst (λ (n : Node). IsKept q n) (sym e.1) (record { names = before.names; properties = before.properties; created = before.created; modified = small })
+        | inr e ↦ subst (λ (n : Node). IsKept q n) (sym e.1) before
+      ]
+
+  -- a new folder or file leaves a world
+  new_keeps : IsWorld w → node_at w p ≡ None → is_folder w (parent_of p) ≡ true → All IsName p → T (is_sorted key_cmp properties) → now ≤ LAST_MOMENT
+      → IsWorld (with_new w p kind properties now)
+  new_keeps world none folder names sorted small = record {
+    tree = tree-adjust (parent_of p) (modified_at now) (put path_cmp p the_new w.nodes) (tree-put p the_new w.nodes world.tree none folder) (λ n _. refl);
+    numbers = tagged (λ n. n.number) p w (with_new w p kind properties now) (omega arith) world.numbers (new_origin (λ n. n.number) (λ _ _. refl) refl);
+    makings = tagged (λ n. n.made) p w (with_new w p kind properties now) (omega arith) world.makings (new_origin (λ n. n.made) (λ _ _. refl) refl);
+    kept = new_kept world names sorted small;
+  }
+
+pub new_keeps_world : NewKeepsWorld
+new_keeps_world w p kind properties now = new_keeps w p kind properties now
+
+module _ (w : World) (p : Path) (f : Node → Node) (change : (n : Node) → node_at w p ≡ Some n → Renumbers w.next n (f n)) where
+  abbrev changed : World
+  changed = record { nodes = adjust p f w.nodes; next = w.next + 1 }
+
+  changes : (q : Path) (m : Node) (from : CameFrom p f w.nodes q m) → (p ≡ q) × (m ≡ f from.node) → Renumbers w.next from.node m
+  changes q m from (e, is) =
+      subst (λ (n : Node). Renumbers w.next from.node n) (sym is) (change from.node (subst (λ (r : Path). find path_cmp r w.nodes ≡ Some from.node) (sym e) from.stood))
+
+  number_origin : (q : Path) (m : Node) → find path_cmp q changed.nodes ≡ Some m → Origin (λ n. n.number) p w changed q m
+  number_origin q m h =
+      let from = back-adjust p f w.nodes q m h in
+      elim from.became as (λ _. Origin (λ n. n.number) p w changed q m) [
+        | inl e ↦ inr (sym e.0, (changes q m from e).number_is, omega arith)
+        | inr e ↦ inl (from.node, from.stood, ap (λ (n : Node). n.number) e.1)
+      ]
+
+  made_origin : (q : Path) (m : Node) → find path_cmp q changed.nodes ≡ Some m → Origin (λ n. n.made) p w changed q m
+  made_origin q m h =
+      let from = back-adjust p f w.nodes q m h in
+      elim from.became as (λ _. Origin (λ n. n.made) p w changed q m) [
+        | inl e ↦ inl (from.node, from.stood, (changes q m from e).made)
+        | inr e ↦ inl (from.node, from.stood, ap (λ (n : Node). n.made) e.1)
+      ]
+
+  change_kept : IsWorld w → (q : Path) (m : Node) → find path_cmp q changed.nodes ≡ Some m → IsKept q m
+  change_kept world q m h =
+      let from = back-adjust p f w.nodes q m h in
+      let before = world.kept q from.node from.stood in
+      elim from.became as (λ _. IsKept q m) [
+        | inl e ↦ let r = changes q m from e in record { names = before.names; properties = r.properties; created = r.created; modified = r.modified }
+        | inr e ↦ subst (λ (n : Node). IsKept q n) (sym e.1) before
+      ]
+
+  -- a change that takes the next number leaves a world
+  change_keeps : IsWorld w → IsWorld changed
+  change_keeps world = record {
+    tree = tree-adjust p f w.nodes world.tree (λ n stood. (change n stood).kind);
+    numbers = tagged (λ n. n.number) p w changed (omega arith) world.numbers number_origin;
+    makings = tagged (λ n. n.made) p w changed (omega arith) world.makings made_origin;
+    kept = change_kept world;
+  }
+
+pub change_keeps_world : ChangeKeepsWorld
+change_keeps_world w p f world change = change_keeps w p f change world

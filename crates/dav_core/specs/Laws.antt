@@ -1,10 +1,12 @@
 -- What holds of every text and every path: the statements of the laws.
-use Rattle.std.specs.Prelude.{◌≡◌, ℕ, ◌<◌, Bool, List, [], All}
+use Rattle.std.specs.Prelude.{◌≡◌, ℕ, ◌+◌, ◌<◌, ◌≤◌, Bool, true, T, List, [], All, Some, None}
 use Rattle.dav_core.specs.declared.errors.ParseError.TheVariants.{InvalidPath, ForbiddenPath}
-use Rattle.dav_core.specs.Path.{Path, IsName, path_bytes, star, names_of}
+use Rattle.dav_core.specs.Path.{Path, IsName, parent_of, path_bytes, star, names_of}
 use Rattle.dav_core.specs.Target.{Leaves, Climbs, HasBadPiece, Reads, IsRefused}
 use Rattle.dav_core.specs.UrlText.{url_text, IsTextOf}
-use Rattle.dav_core.specs.World.{IsWorld, empty_from}
+use Rattle.std.specs.FinMap.{is_sorted}
+use Rattle.dav_core.specs.Property.{Properties, key_cmp}
+use Rattle.dav_core.specs.World.{World, Node, Kind, IsWorld, Renumbers, LAST_MOMENT, empty_from, node_at, is_folder, with_new, adjust}
 
 -- pieces leave one path
 abbrev pub LeavesOnePath : Type 0
@@ -56,3 +58,18 @@ NamesReadAgain =
 -- the empty world is a world, whatever number comes next but 0
 abbrev pub EmptyIsWorld : Type 0
 EmptyIsWorld = (next : ℕ) → 0 < next → IsWorld (empty_from next)
+
+-- a new folder or file at a path of names, below a folder and where nothing stood, leaves a world
+abbrev pub NewKeepsWorld : Type 0
+NewKeepsWorld =
+    (w : World) (p : Path) (kind : Kind) (properties : Properties) (now : ℕ)
+    → IsWorld w → node_at w p ≡ None → is_folder w (parent_of p) ≡ true
+    → All IsName p → T (is_sorted key_cmp properties) → now ≤ LAST_MOMENT
+    → IsWorld (with_new w p kind properties now)
+
+-- a change of the node at a path that takes the next number leaves a world
+abbrev pub ChangeKeepsWorld : Type 0
+ChangeKeepsWorld =
+    (w : World) (p : Path) (f : Node → Node)
+    → IsWorld w → ((n : Node) → node_at w p ≡ Some n → Renumbers w.next n (f n))
+    → IsWorld (record { nodes = adjust p f w.nodes; next = w.next + 1 })

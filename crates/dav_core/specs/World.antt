@@ -119,6 +119,15 @@ with_new w p kind properties now = record {
   next = w.next + 1;
 }
 
+-- A node that was changed by a call that takes this number: it stays the node that it was, and a folder or a file.
+pub record Renumbers (number : ℕ) (old new : Node) : Type 0 where
+  pub made : new.made ≡ old.made
+  pub number_is : new.number ≡ number
+  pub kind : is_folder_kind new.kind ≡ is_folder_kind old.kind
+  pub properties : T (is_sorted key_cmp new.properties)
+  pub created : new.created ≤ LAST_MOMENT
+  pub modified : new.modified ≤ LAST_MOMENT
+
 -- Writing the bytes c at k over b: nothing where c is empty; else b, filled with zeros up to k where it is
 -- shorter, with c over the bytes from k on.
 abbrev pub splice : List ℕ → ℕ → List ℕ → List ℕ

@@ -1,5 +1,5 @@
 //! Laws of paths. Each function does nothing: its contract is a theorem on the definitions.
-ghost use Rattle.dav_core.specs.Laws.{LeavesOnePath, LeavesNoFault, OneFault, ReadsOnePath, ReadsOrRefused, OneRefusal, KeepsNames, ReadsNames, StarHasNoNames, ReadsAgain, NamesReadAgain, EmptyIsWorld};
+ghost use Rattle.dav_core.specs.Laws.{LeavesOnePath, LeavesNoFault, OneFault, ReadsOnePath, ReadsOrRefused, OneRefusal, KeepsNames, ReadsNames, StarHasNoNames, ReadsAgain, NamesReadAgain, EmptyIsWorld, NewKeepsWorld, ChangeKeepsWorld};
 
 /// A text is read as one path, or refused for one reason: the pieces between slashes leave one path, or the first
 /// of them that refuses decides (RFC 3986, sections 3.3 and 5.2.4).
@@ -26,7 +26,10 @@ pub fn reads_again()
     ensures names { NamesReadAgain }
 {}
 
-/// The empty world is a world.
-pub fn empty_is_a_world()
-    ensures { EmptyIsWorld }
+/// The empty world is a world; so is a world with one more node, and one in which a node was changed: the root and
+/// every parent are folders, numbers differ and are below the next, and times can be shown (RFC 4918, section 5.2).
+pub fn worlds_are_kept()
+    ensures empty { EmptyIsWorld }
+    ensures made { NewKeepsWorld }
+    ensures changed { ChangeKeepsWorld }
 {}
