@@ -1,19 +1,17 @@
 -- What one more piece does to the buffer of a path's names.
-use Rattle.std.proofs.Common.{rules, ◌≡◌, ◌≢◌, ℕ, ◌+◌, ◌-◌, ◌<◌, ◌≤◌, ◌==◌, List, [], ◌∷◌, map, ◌++◌, length, get_or, take, drop, All, Bool, true, false, Option, Some, None, Result, Ok, Err, position, unwrap_or, refl, sym, ◌∙◌, ap, subst, arith, inl, inr, ◌⊎◌, append_assoc, length-append, if◌then◌else◌}
+use Rattle.std.proofs.Common.{rules, ◌≡◌, ◌≢◌, ℕ, ◌+◌, ◌-◌, ◌<◌, ◌==◌, List, [], ◌∷◌, map, ◌++◌, length, get_or, take, drop, All, Bool, Some, None, position, unwrap_or, refl, sym, ◌∙◌, ap, subst, arith, inl, inr, ◌⊎◌, append_assoc, length-append}
 use Rattle.std.specs.List.{position_or_len, slice_split}
 use Rattle.percent_encoding.specs.Percent.{percent_decode}
-use Rattle.std.proofs.lemmas.Bool.{cond-true, cond-false, cases_lt}
-use Rattle.std.proofs.lemmas.Bool.Decides.{nat_tests}
-use Rattle.std.proofs.lemmas.List.{append-nil, map-append, get_or_at, get_or-append-add, get_or-append_right, take_all, take_at, drop_at, length_push, flat_map_more}
+use Rattle.std.proofs.lemmas.List.{append-nil, map-append, get_or_at, get_or-append_right, take_all, take_at, drop_at, length_push}
 use Rattle.std.proofs.lemmas.List.Sums.{prefix_len-le-length}
-use Rattle.std.proofs.lemmas.List.Elements.{All-get_or, All-nil, All-head, All-tail, All-weaker}
+use Rattle.std.proofs.lemmas.List.Elements.{All-get_or, All-weaker}
 use Rattle.std.proofs.lemmas.Grind.{common_steps}
 use Rattle.dav_core.specs.declared.errors.ParseError.{ParseError}
 use Rattle.dav_core.specs.declared.errors.ParseError.TheVariants.{InvalidPath, PrefixMismatch, ForbiddenPath, Memory}
-use Rattle.dav_core.specs.Path.{Path, parent_piece, IsName, IsBlank, joined, path_bytes, star}
-use Rattle.dav_core.specs.Target.{Cancels, Leaves, IsRooted, IsRefused, pieces_of, text_of, nothing}
+use Rattle.dav_core.specs.Path.{Path, parent_piece, IsName, IsBlank, joined}
+use Rattle.dav_core.specs.Target.{Cancels, Leaves, IsRooted, IsRefused, pieces_of, text_of}
 use Rattle.dav_core.specs.Buffer.{Kept, Refuses, IsRefusedBy, IsLastSlash}
-use Rattle.dav_core.proofs.TargetLemmas.{Leaves-blank, Leaves-name, Leaves-parent, Leaves-append, not_star}
+use Rattle.dav_core.proofs.TargetLemmas.{Leaves-blank, Leaves-name, Leaves-parent, not_star}
 
 -- a slash with no slash behind it stands where the rest of the list begins
 no_other_place : (front back buf : List ℕ) (i : ℕ) → buf ≡ front ++ 47 ∷ back → All (λ b. b ≢ 47) back → i < length buf → get_or buf i 0 ≡ 47 → ((k : ℕ) → i < k → k < length buf → get_or buf k 0 ≢ 47) → (length front < i → ⊥) × (i < length front → ⊥)
