@@ -1,18 +1,17 @@
 -- What one more piece does to the buffer of a path's names.
-use Rattle.std.proofs.Common.{rules, ◌≡◌, ◌≢◌, ℕ, ◌+◌, ◌-◌, ◌<◌, ◌≤◌, ◌==◌, List, [], ◌∷◌, ◌++◌, length, get_or, take, drop, All, Bool, true, false, Option, Some, None, Result, Ok, Err, position, unwrap_or, refl, sym, ◌∙◌, ap, subst, arith, inl, inr, ◌⊎◌, append_assoc, length-append, if◌then◌else◌}
-use Rattle.std.specs.List.{position_or_len}
-use Rattle.std.proofs.lemmas.Bool.{cond-true, cond-false, cases_lt}
-use Rattle.std.proofs.lemmas.Bool.Decides.{nat_tests}
-use Rattle.std.proofs.lemmas.List.{append-nil, get_or_at, get_or-append-add, get_or-append_right, take_all, take_at, drop_at, length_push, flat_map_more}
+use Rattle.std.proofs.Common.{rules, ◌≡◌, ◌≢◌, ℕ, ◌+◌, ◌-◌, ◌<◌, ◌==◌, List, [], ◌∷◌, map, ◌++◌, length, get_or, take, drop, All, Bool, Some, None, position, unwrap_or, refl, sym, ◌∙◌, ap, subst, arith, inl, inr, ◌⊎◌, append_assoc, length-append}
+use Rattle.std.specs.List.{position_or_len, slice_split}
+use Rattle.percent_encoding.specs.Percent.{percent_decode}
+use Rattle.std.proofs.lemmas.List.{append-nil, map-append, get_or_at, get_or-append_right, take_all, take_at, drop_at, length_push}
 use Rattle.std.proofs.lemmas.List.Sums.{prefix_len-le-length}
-use Rattle.std.proofs.lemmas.List.Elements.{All-get_or, All-nil, All-head, All-tail, All-weaker}
+use Rattle.std.proofs.lemmas.List.Elements.{All-get_or, All-weaker}
 use Rattle.std.proofs.lemmas.Grind.{common_steps}
 use Rattle.dav_core.specs.declared.errors.ParseError.{ParseError}
 use Rattle.dav_core.specs.declared.errors.ParseError.TheVariants.{InvalidPath, PrefixMismatch, ForbiddenPath, Memory}
-use Rattle.dav_core.specs.Path.{Path, parent_piece, IsName, IsBlank, joined, path_bytes, star}
-use Rattle.dav_core.specs.Target.{Cancels, Leaves, IsRooted, IsRefused, pieces_of, nothing}
+use Rattle.dav_core.specs.Path.{Path, parent_piece, IsName, IsBlank, joined}
+use Rattle.dav_core.specs.Target.{Cancels, Leaves, IsRooted, IsRefused, pieces_of, text_of}
 use Rattle.dav_core.specs.Buffer.{Kept, Refuses, IsRefusedBy, IsLastSlash}
-use Rattle.dav_core.proofs.TargetLemmas.{Leaves-blank, Leaves-name, Leaves-parent, Leaves-append, not_star}
+use Rattle.dav_core.proofs.TargetLemmas.{Leaves-blank, Leaves-name, Leaves-parent, not_star}
 
 -- a slash with no slash behind it stands where the rest of the list begins
 no_other_place : (front back buf : List ℕ) (i : ℕ) → buf ≡ front ++ 47 ∷ back → All (λ b. b ≢ 47) back → i < length buf → get_or buf i 0 ≡ 47 → ((k : ℕ) → i < k → k < length buf → get_or buf k 0 ≢ 47) → (length front < i → ⊥) × (i < length front → ⊥)
@@ -135,6 +134,18 @@ Refuses_first ps rest p InvalidPath buf k h = (ps, k.0, p, rest, k.1, h, refl)
 Refuses_first ps rest p PrefixMismatch buf k h = h
 Refuses_first ps rest p ForbiddenPath buf k h = (ps, rest, h.0, rw h.1 refl)
 Refuses_first ps rest p Memory buf k h = tt
+
+-- a piece of a text that is refused decides for the text
+pub refused_at : (src text : List ℕ) (before rest : List (List ℕ)) (p : List ℕ) (e : ParseError) (buf : List ℕ) → text ≡ text_of src → slice_split (λ b. b == 47) text ≡ before ++ p ∷ rest → Kept (map percent_decode before) buf → Refuses (map percent_decode before) (percent_decode p) e → IsRefusedBy (pieces_of src) e
+refused_at src text before rest p e buf is split kept why =
+    let pieces : pieces_of src ≡ map percent_decode before ++ percent_decode p ∷ map percent_decode rest = ap (λ t. map percent_decode (slice_split (λ b. b == 47) t)) (sym is) ∙ ap (map percent_decode) split ∙ map-append percent_decode before (p ∷ rest) in
+    subst (λ ps. IsRefusedBy ps e) (sym pieces) (Refuses_first (map percent_decode before) (map percent_decode rest) (percent_decode p) e buf kept why)
+
+-- all pieces of a text are kept
+pub kept_at_end : (src text : List ℕ) (all : List (List ℕ)) (buf : List ℕ) → text ≡ text_of src → all ≡ slice_split (λ b. b == 47) text → Kept (map percent_decode all) buf → Kept (pieces_of src) buf
+kept_at_end src text all buf is split kept =
+    let pieces : map percent_decode all ≡ pieces_of src = ap (map percent_decode) split ∙ ap (λ t. map percent_decode (slice_split (λ b. b == 47) t)) is in
+    subst (λ ps. Kept ps buf) pieces kept
 
 -- why a text of a path is refused
 pub refused : (src : List ℕ) (e : ParseError) → IsRooted src → IsRefusedBy (pieces_of src) e → IsRefused src e

@@ -1,5 +1,5 @@
 -- The turns of a `for` over an iterator whose list is known.
-use Rattle.std.proofs.Common.{◌≡◌, ℕ, ◌+◌, List, ◌∷◌, ◌++◌, length, map, take, drop, Option, Some, None, refl, sym, ◌∙◌, suc, drop-cons}
+use Rattle.std.proofs.Common.{◌≡◌, List, ◌∷◌, ◌++◌, length, map, drop, Option, Some, None, refl, sym, ◌∙◌, suc, drop-cons}
 use Rattle.std.specs.Iterator.{Yields}
 use Rattle.std.proofs.lemmas.Iterator.{YieldsList}
 use Rattle.std.proofs.lemmas.Iterator.Consumers.{YieldsList-turn, YieldsList-so_far, YieldsList-end}

@@ -1,10 +1,9 @@
 -- The names in the bytes of a path, one after another.
-use Rattle.std.proofs.Common.{◌≡◌, ◌≢◌, ℕ, ◌+◌, ◌<◌, ◌==◌, Bool, true, false, List, [], ◌∷◌, length, take, drop, refl, sym, ◌∙◌, ap, suc, arith, not, inl, inr}
-use Rattle.std.specs.List.{filter, slice_split, onto_first, prefix_len, position_or_len}
+use Rattle.std.proofs.Common.{◌≡◌, ◌≢◌, ℕ, ◌+◌, ◌==◌, false, List, [], ◌∷◌, take, drop, refl, ap, suc, arith, inl, inr}
+use Rattle.std.specs.List.{filter, slice_split, prefix_len, position_or_len}
 use Rattle.std.proofs.lemmas.Bool.{eqb-true, cases_Bool}
 use Rattle.std.proofs.lemmas.Bool.Decides.{nat_tests}
-use Rattle.std.proofs.lemmas.List.Splits.{slice_split-cons_yes, slice_split-cons_no}
-use Rattle.dav_core.specs.Path.{Path, names_in, is_nonempty}
+use Rattle.dav_core.specs.Path.{names_in, is_nonempty}
 
 different : (b : ℕ) → (b == 47) ≡ false → b ≢ 47
 different b h e = grind (arith, nat_tests)

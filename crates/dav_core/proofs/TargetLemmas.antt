@@ -1,13 +1,13 @@
 -- What pieces leave, that a text is read in one way, and that a path keeps its names.
-use Rattle.std.proofs.Common.{◌≡◌, ◌≢◌, ℕ, ◌<◌, ◌==◌, Bool, true, false, List, [], ◌∷◌, ◌++◌, All, Contains, refl, sym, ◌∙◌, ap, subst, arith, inl, inr, ◌⊎◌, append_assoc, bytes_eq, if◌then◌else◌}
-use Rattle.std.proofs.lemmas.List.{append-nil, append_cancel_right}
+use Rattle.std.proofs.Common.{◌≡◌, ◌≢◌, ℕ, ◌==◌, Bool, true, false, List, [], ◌∷◌, ◌++◌, All, refl, sym, ◌∙◌, ap, subst, arith, inl, inr, ◌⊎◌, append_assoc, if◌then◌else◌}
+use Rattle.std.proofs.lemmas.List.{append-nil}
 use Rattle.std.proofs.lemmas.Bool.Decides.{nat_tests}
 use Rattle.std.proofs.lemmas.List.Elements.{All-weaker, All-nil, All-cons, All-head, All-tail, All-contains}
-use Rattle.std.specs.List.{filter, flat_map, slice_split}
-use Rattle.std.proofs.lemmas.List.Splits.{slice_split_at, slice_split_none, slice_split-cons_yes, slice_split-cons_no}
+use Rattle.std.specs.List.{filter, slice_split}
+use Rattle.std.proofs.lemmas.List.Splits.{slice_split_at, slice_split_none}
 use Rattle.dav_core.specs.declared.errors.ParseError.TheVariants.{InvalidPath, ForbiddenPath}
-use Rattle.dav_core.specs.Path.{Path, parent_piece, IsBlank, IsBarred, IsBad, IsName, joined, path_bytes, star, is_nonempty, names_in, names_of}
-use Rattle.dav_core.specs.Target.{Cancels, Leaves, Climbs, HasBadPiece, pieces_of, text_of, IsRooted, EndsInSlash, IsClosed, NamesPath, Reads, IsRefused, nothing, blank, pair}
+use Rattle.dav_core.specs.Path.{Path, parent_piece, IsBlank, IsBad, IsName, joined, path_bytes, star, is_nonempty, names_of}
+use Rattle.dav_core.specs.Target.{Cancels, Leaves, Climbs, HasBadPiece, pieces_of, text_of, IsRooted, IsClosed, Reads, IsRefused, nothing, blank, pair}
 
 -- ---- one more piece
 

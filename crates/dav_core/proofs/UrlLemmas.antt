@@ -1,9 +1,8 @@
 -- The text of a path in a URL, and that it is read again as that path.
-use Rattle.std.proofs.Common.{◌≡◌, ◌≢◌, ℕ, ◌<◌, ◌≤◌, ◌==◌, ◌&&◌, ◌||◌, Bool, true, false, not, List, [], ◌∷◌, ◌++◌, length, take, map, All, refl, sym, ◌∙◌, ap, subst, arith, inl, inr, ◌⊎◌, append_assoc, if◌then◌else◌, nat_le}
+use Rattle.std.proofs.Common.{◌≡◌, ◌≢◌, ℕ, ◌<◌, ◌≤◌, ◌==◌, ◌&&◌, Bool, true, false, not, List, [], ◌∷◌, ◌++◌, length, map, All, refl, sym, ◌∙◌, ap, subst, arith, inl, inr, append_assoc, if◌then◌else◌, nat_le}
 use Rattle.std.specs.Bool.{⊤}
-use Rattle.std.specs.List.{flat_map, slice_split, onto_first, position_or_len}
-use Rattle.std.specs.Char.{is_ascii_alphanumeric}
-use Rattle.std.proofs.lemmas.Bool.{cases_Bool, cond-true, cond-false, cases_lt, agree_below, agree_below_at}
+use Rattle.std.specs.List.{slice_split, onto_first, position_or_len}
+use Rattle.std.proofs.lemmas.Bool.{cases_Bool, cases_lt, agree_below, agree_below_at}
 use Rattle.std.proofs.lemmas.Bool.Decides.{nat_tests}
 use Rattle.std.proofs.lemmas.List.Sums.{position_or_len_is}
 use Rattle.std.proofs.lemmas.Grind.{flat_map-append}
@@ -13,8 +12,8 @@ use Rattle.percent_encoding.specs.AsciiSet.{contains, should_percent_encode}
 use Rattle.percent_encoding.specs.Percent.{percent_encode, percent_encode_byte, percent_decode}
 use Rattle.percent_encoding.proofs.PercentLemmas.{IsByte, IsEscapeByte, percent_encode-nil, percent_encode_kept, percent_encode_escaped, All-percent_encode_byte, All-percent_decode, percent_decode-nil, percent_encode_nonempty, round_trip}
 use Rattle.dav_core.specs.declared.davpath.url_text.TheConstants.{ESCAPED}
-use Rattle.dav_core.specs.Path.{Path, IsName, IsBlank, joined, path_bytes, star}
-use Rattle.dav_core.specs.Target.{Cancels, Leaves, IsTextByte, IsRooted, EndsInSlash, IsClosed, NamesPath, Reads, text_of, pieces_of, nothing, blank}
+use Rattle.dav_core.specs.Path.{Path, IsName, joined, path_bytes}
+use Rattle.dav_core.specs.Target.{Cancels, Leaves, IsTextByte, EndsInSlash, IsClosed, NamesPath, Reads, text_of, pieces_of, nothing, blank}
 use Rattle.dav_core.specs.UrlText.{is_url_byte, url_text, IsTextOf}
 use Rattle.dav_core.proofs.TargetLemmas.{ending, last_pieces, HasNoSlash, split_joined, name_no_slash, Leaves-names}
 use Rattle.dav_core.proofs.BufferLemmas.{snoc_cases, joined_push}

@@ -1,7 +1,7 @@
 //! Paths (RFC 3986, sections 2.1, 3.3, 3.4 and 5.2.4).
-ghost use Rattle.std.specs.Prelude.{◌≡◌, ◌≢◌, ℕ, ◌==◌, List, [], ◌∷◌, MatchOption};
+ghost use Rattle.std.specs.Prelude.{◌≡◌, ◌≢◌, ℕ, ◌==◌, ◌↔◌, List, [], ◌∷◌, MatchOption, IsTrue};
 ghost use Rattle.std.specs.List.{prefix_len};
-ghost use Rattle.dav_core.specs.Path.{names_in};
+ghost use Rattle.dav_core.specs.Path.{star, names_in};
 
 mod reading;
 #[cfg(test)]
@@ -50,7 +50,7 @@ impl DavPath {
         ensures err { IfErr result (IsRefused src.now) }
     {
         let src = src.as_bytes();
-        if matches!(src, [b'*']) {
+        if is_star(src) {
             let full = Vec::from_slice(alloc, src)?;
             return Ok(DavPath {
                 full,
@@ -101,7 +101,7 @@ impl<'a> DavPathRef<'a> {
     pub fn segments(self) -> Segments<'a>
         ensures { names_left result ≡ names_of (ref_bytes self.entry) }
     {
-        if matches!(self.bytes, [b'*']) {
+        if is_star(self.bytes) {
             Segments { rest: &[] }
         } else {
             Segments { rest: self.bytes }
@@ -113,7 +113,7 @@ impl<'a> DavPathRef<'a> {
     pub fn as_url_string(self, alloc: Global) -> Result<String, NoMemory>
         ensures { IfOk result (λ s. IsTextOf (ref_bytes self.entry) (string_bytes s)) }
     {
-        if matches!(self.bytes, [b'*']) {
+        if is_star(self.bytes) {
             String::from_str(alloc, "*")
         } else {
             url_text(alloc, self.bytes)
@@ -142,6 +142,13 @@ impl<'a> Iterator for Segments<'a> {
         self.rest = rest;
         Some(name)
     }
+}
+
+// The path of the whole server.
+fn is_star(bytes: &[u8]) -> bool
+    ensures { IsTrue result ↔ (bytes.now ≡ star) }
+{
+    matches!(bytes, [b'*'])
 }
 
 // How many slashes stand at the front.

@@ -1,5 +1,5 @@
 //! Reads the names of a path from its text, in one pass, into one buffer.
-ghost use Rattle.std.specs.Prelude.{◌≡◌, ◌≢◌, ℕ, ◌==◌, ◌<◌, ◌↔◌, List, [], ◌∷◌, ◌++◌, length, Some, None, All, IfSome, MatchResult, OnOk, IfErr, IsTrue};
+ghost use Rattle.std.specs.Prelude.{◌≡◌, ℕ, ◌==◌, ◌↔◌, List, All, MatchResult, OnOk, IfErr, IsTrue};
 ghost use Rattle.std.specs.List.{position, position_or_len};
 ghost use Rattle.percent_encoding.specs.Percent.{percent_decode};
 ghost use Rattle.dav_core.specs.Path.{Path, parent_piece, IsBarred, joined, path_bytes};

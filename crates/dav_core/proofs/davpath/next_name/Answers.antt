@@ -1,8 +1,6 @@
-use Rattle.std.proofs.Common.{◌≡◌, ◌≢◌, [], length, sym, ap, ◌∙◌, ◌==◌, not, arith}
+use Rattle.std.proofs.Common.{◌≡◌, ◌≢◌, [], length, ap, ◌==◌, not, arith}
 use Rattle.std.proofs.lemmas.Bool.Decides.{nat_tests}
 use Rattle.std.proofs.lemmas.List.Sums.{prefix_len-le-length}
-use Rattle.std.specs.List.{prefix_len, position_or_len}
-use Rattle.dav_core.specs.Path.{names_in}
 use Rattle.dav_core.proofs.SegmentLemmas.{first_name}
 use Rattle.dav_core.proofs.davpath.next_name.Goals as goal
 

@@ -1,8 +1,6 @@
-use Rattle.std.proofs.Common.{◌≡◌, ◌≤◌, ◌-◌, ◌==◌, ℕ, length, take, drop, ap, ◌∙◌, arith}
-use Rattle.std.specs.List.{prefix_len}
+use Rattle.std.proofs.Common.{◌==◌, arith}
 use Rattle.std.proofs.lemmas.List.{take_rest}
 use Rattle.std.proofs.lemmas.List.Sums.{prefix_len-le-length}
-use Rattle.dav_core.specs.Path.{names_in}
 use Rattle.dav_core.proofs.SegmentLemmas.{names_behind, bare_behind}
 use Rattle.dav_core.proofs.davpath.skip_slashes.Goals as goal
 

@@ -1,4 +1,4 @@
-use Rattle.std.proofs.Common.{◌≡◌, ◌-◌, length, Some, refl, ap, arith}
+use Rattle.std.proofs.Common.{◌-◌, length, Some, refl, ap, arith}
 use Rattle.dav_core.proofs.BufferLemmas.{last_place, some_place}
 use Rattle.dav_core.proofs.davpath.reading.last_slash.Goals as goal
 
