@@ -16,11 +16,9 @@ passed_over name head h hs rest is other =
     ap (λ x. values_of name (map (header_bytes head) x)) is
     ∙ ap (map (λ field. field.1)) (cond-false (is_same_name (header_bytes head h).0 name) _ _ other)
 
--- src/head.rt:126:17
 pub invariant_of-self : goal.invariant_of-self
 invariant_of-self c = within_tail _ _ _ _ c.in-Some.ensures.cases.0 c.loop-header.invariant.0
 
--- src/head.rt:122:9
 pub loop-header-preserved : goal.loop-header-preserved
 loop-header-preserved c =
     let s = c.loop-header.self-inside in
