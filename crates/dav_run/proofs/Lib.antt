@@ -5,3 +5,4 @@ pub mod Splice
 pub mod HeadLemmas
 pub mod RunLemmas
 pub mod Determined
+pub mod Worlds

@@ -21,13 +21,13 @@ IsHead bytes r =
     (length bytes ≤ 65536)
     × (h : RequestHead) × ReadsRequest bytes h [] × (length h.fields ≤ 64) × (r ≡ request_of_head h)
 
--- the field has this name, where ASCII case makes no difference (RFC 9110, section 5.1)
-abbrev pub is_named : List ℕ → List ℕ × List ℕ → Bool
-is_named name field = bytes_eq (map to_ascii_lowercase field.0) (map to_ascii_lowercase name)
+-- the names are the same, where ASCII case makes no difference (RFC 9110, section 5.1)
+abbrev pub is_same_name : List ℕ → List ℕ → Bool
+is_same_name a b = bytes_eq (map to_ascii_lowercase a) (map to_ascii_lowercase b)
 
 -- the values of the fields with this name, in order
 abbrev pub values_of : List ℕ → List (List ℕ × List ℕ) → List (List ℕ)
-values_of name fields = map (λ field. field.1) (filter (is_named name) fields)
+values_of name fields = map (λ field. field.1) (filter (λ field. is_same_name field.0 name) fields)
 
 -- a value stands among them
 abbrev pub has_value : List (List ℕ) → Bool

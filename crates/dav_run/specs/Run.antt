@@ -1,9 +1,9 @@
 -- The machine: what each exchange may be answered, and what it leaves, from the bytes of its head on.
-use Rattle.std.specs.Prelude.{◌≡◌, ◌≢◌, ℕ, ◌++◌, ◌==◌, Bool, true, false, List, [], ◌∷◌, codes, Result, Ok, Err}
+use Rattle.std.specs.Prelude.{◌≡◌, ◌≢◌, ℕ, ◌≤◌, ◌++◌, All, Bool, true, false, List, [], ◌∷◌, codes, Result, Ok, Err}
 use Rattle.dav_core.specs.declared.errors.ParseError.TheVariants.{InvalidPath, ForbiddenPath}
 use Rattle.dav_core.specs.Path.{star, names_of}
 use Rattle.dav_core.specs.Target.{Reads, IsRefused}
-use Rattle.dav_core.specs.World.{World}
+use Rattle.dav_core.specs.World.{World, IsWorld, LAST_MOMENT}
 use Rattle.dav_run.specs.Head.{Request, IsHead}
 use Rattle.dav_run.specs.Response.{Response, refusal}
 use Rattle.dav_run.specs.Methods.{Outcome, is_known, method_at}
@@ -50,3 +50,9 @@ abbrev pub RunIsDetermined : Type 0
 RunIsDetermined =
     (xs : List Asked) (old s t : World) (replies others : List Response)
     → Runs xs old replies s → Runs xs old others t → (replies ≡ others) × (s ≡ t)
+
+-- A run from a world, at moments that can be shown, leaves a world.
+abbrev pub RunKeepsWorld : Type 0
+RunKeepsWorld =
+    (xs : List Asked) (old new : World) (replies : List Response)
+    → All (λ x. x.moment ≤ LAST_MOMENT) xs → IsWorld old → Runs xs old replies new → IsWorld new

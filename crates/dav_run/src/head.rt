@@ -2,7 +2,7 @@
 
 ghost use Rattle.std.specs.Prelude.{◌≡◌, codes};
 ghost use Rattle.std.specs.Iterator.{YieldsFirstRef, item_count};
-ghost use Rattle.dav_run.specs.Head.{values_of, has_value};
+ghost use Rattle.dav_run.specs.Head.{is_same_name, values_of, has_value};
 ghost use Rattle.dav_run.specs.Length.{announced_length};
 
 mod length;
@@ -92,6 +92,12 @@ impl<'a> RequestView<'a> {
     }
 }
 
+fn is_same_name(a: &[u8], b: &str) -> bool
+    ensures { result ≡ is_same_name a.now b.now }
+{
+    a.eq_ignore_ascii_case(b.as_bytes())
+}
+
 /// The values of the fields with one name, in order.
 #[derive(Drop)]
 pub struct Values<'a, 'n> {
@@ -123,7 +129,7 @@ impl<'a, 'n> Iterator for Values<'a, 'n> {
         while let Some((header, rest)) = self.rest.split_first() {
             self.rest = rest;
             let name = header.name.of(self.head);
-            if name.eq_ignore_ascii_case(self.name.as_bytes()) {
+            if is_same_name(name, self.name) {
                 return Some(header.value.of(self.head));
             }
         }

@@ -29,7 +29,6 @@ announced n value values same is all =
     in
     sym whole
 
--- src/head.rt:71:5
 pub returns : goal.returns
 returns c =
     let n = c.in_ok-length.length in

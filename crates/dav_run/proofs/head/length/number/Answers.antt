@@ -39,13 +39,11 @@ same_text : {E : Type 0} (U : Type 0) (text : List ℕ) (Q : E → Type 0) (r : 
 same_text U text Q (Ok x) s h e = let p : s ≡ x = cc in ap (λ b. b.now) p ∙ h.0
 same_text U text Q (Err x) s h e = absurd (cc)
 
--- src/head/length.rt:14:5
 pub returns-in_err-ok : goal.returns-in_err-ok
 returns-in_err-ok c =
     let all : list_all is_ascii_digit c.args.text.now ≡ true = search rules in
     absurd (not_refused _ _ _ _ c.from_utf8.ensures.cases (IsUtf8-from_ascii _ (digits_ascii _ all)) c.in_err-ok.ensures.variant)
 
--- src/head/length.rt:7:1
 pub returns : goal.returns
 returns c =
     let text = c.args.text.now in
