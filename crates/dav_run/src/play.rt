@@ -159,3 +159,6 @@ fn write_replies<W: Write>(alloc: Global, replies: &[Reply], writer: &mut W) -> 
     }
     Ok(())
 }
+
+#[cfg(test)]
+mod tests;
