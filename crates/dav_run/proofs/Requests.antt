@@ -4,7 +4,7 @@ use Rattle.std.proofs.lemmas.List.{take_more, map-append}
 use Rattle.serde_json.specs.View.{view, items_view}
 use Rattle.serde_json.specs.declared.value.Value.{Value}
 use Rattle.dav_run.specs.Script.{Asked, IsRequest, AreRequests, asked}
-use Rattle.dav_run.specs.declared.script.Request.{Request}
+use Rattle.dav_run.specs.declared.request.Request.{Request}
 
 -- one more item is one more request
 requests_pushed : (vs : List Value) (v : Value) (rs : List Asked) (r : Asked) → AreRequests (items_view vs) rs

@@ -1,12 +1,12 @@
 -- Scripts: which JSON texts (RFC 8259) are lists of requests, and which requests those are.
-use Rattle.std.specs.Prelude.{◌≡◌, ◌≤◌, ◌⊎◌, ⊤, ℕ, List, [], ◌∷◌, codes, Option, Some, None, Result, Ok, IsUtf8, All, Contains, IsSomeAnd, option_and_then}
+use Rattle.std.specs.Prelude.{◌≡◌, ◌≤◌, ◌⊎◌, ⊤, ℕ, List, [], ◌∷◌, codes, Option, Some, None, Ok, IsUtf8, All, IsSomeAnd, option_and_then}
 use Rattle.hex.specs.Hex.{decode_of}
 use Rattle.serde_json.specs.Data.{Data, null, Items, no_items, item, Members, no_members, member}
 use Rattle.serde_json.specs.Find.{get, as_str, as_number, as_array, as_object, as_u64}
 use Rattle.serde_json.specs.Read.{read}
 use Rattle.dav_run.specs.declared.server.Body.{Body}
 use Rattle.dav_run.specs.declared.server.Body.TheVariants as body
-use Rattle.dav_run.specs.declared.script.Request as request
+use Rattle.dav_run.specs.declared.request.Request as request
 use Rattle.dav_run.specs.declared.script.Form.{Form}
 use Rattle.dav_run.specs.declared.script.Form.TheVariants.{Script, Request, Digits, Bytes}
 

@@ -6,6 +6,7 @@
 
 mod play;
 mod print;
+mod request;
 mod script;
 mod server;
 

@@ -1,10 +1,12 @@
 //! Playing a script: from the bytes of a reader to the lines of a writer.
-ghost use Rattle.std.specs.Prelude.{◌≡◌, ◌≢◌, ◌≤◌, IfErr, IsErrOf};
+ghost use Rattle.std.specs.Prelude.{◌≡◌, ◌≢◌, ◌≤◌, ◌<◌, List, length, map, IfSome, IfOk, IfErr, OnOk, IsErrOf};
+ghost use Rattle.dav_run.specs.Script.{Asked, IsScript, asked};
 ghost use Rattle.dav_run.specs.declared.play.Fault.TheVariants.{NotScript, Io, Memory};
 
 use crate::print::reply_line;
+use crate::request::Request;
 use crate::script::{Script, ScriptError};
-use crate::server::{BadMoment, Body, Exchange, Reply, Store, run};
+use crate::server::{Body, Exchange, Reply, Store, run};
 use std::alloc::{AllocError, AllocFailed, Global};
 use std::io;
 use std::io::{Read, Write};
@@ -57,6 +59,10 @@ impl<T: Drop> From<AllocFailed<T>> for Fault {
 }
 
 impl From<ScriptError> for Fault {
+    ghost use Rattle.dav_run.specs.declared.script.ScriptError.{ScriptError};
+
+    ghost from_gives = { λ error e. e ≡ NotScript → error ≡ ScriptError.NotScript };
+
     fn from(error: ScriptError) -> Fault {
         match error {
             ScriptError::NotScript => Fault::NotScript,
@@ -65,17 +71,15 @@ impl From<ScriptError> for Fault {
     }
 }
 
-impl From<BadMoment> for Fault {
-    fn from(_error: BadMoment) -> Fault {
-        Fault::NotScript
-    }
-}
-
 /// Reads a script to its end, plays it on a new store, and writes one line of JSON per reply.
 /// Answers [`PLAYED`], or the status of the first fault met; where memory ran out, but writing the
 /// replies given before fails, that is [`IO_FAILED`].
 pub fn play<R: Read, W: Write>(alloc: Global, reader: &mut R, writer: &mut W) -> u8
     ensures status { result ≤ 3 }
+    ensures played { result ≡ 0 → IfSome (R.remaining reader.old) (λ text.
+        (length text ≤ 16777216) × ((requests : List Asked) × IsScript text requests)) }
+    ensures not_script { result ≡ 1 → IfSome (R.remaining reader.old) (λ text.
+        length text ≤ 16777216 → (requests : List Asked) → ¬ IsScript text requests) }
     ensures untouched { result ≡ 1 → writer.new ≡ writer.old }
 {
     match play_through(alloc, reader, writer) {
@@ -92,7 +96,11 @@ fn play_through<R: Read, W: Write>(
     reader: &mut R,
     writer: &mut W,
 ) -> Result<(), Fault>
-    ensures { IsErrOf result NotScript → writer.new ≡ writer.old }
+    ensures played { OnOk result (IfSome (R.remaining reader.old) (λ text.
+        (length text ≤ 16777216) × ((requests : List Asked) × IsScript text requests))) }
+    ensures not_script { IsErrOf result NotScript → IfSome (R.remaining reader.old) (λ text.
+        length text ≤ 16777216 → (requests : List Asked) → ¬ IsScript text requests) }
+    ensures untouched { IsErrOf result NotScript → writer.new ≡ writer.old }
 {
     let script = read_script(alloc, reader)?;
     let exchanges = exchanges_of(alloc, &script)?;
@@ -107,14 +115,20 @@ fn play_through<R: Read, W: Write>(
 }
 
 // The script that a reader gives.
-fn read_script<R: Read>(alloc: Global, reader: &mut R) -> Result<Script, Fault> {
+fn read_script<R: Read>(alloc: Global, reader: &mut R) -> Result<Script, Fault>
+    ensures ok { IfOk result (λ script. IfSome (R.remaining reader.old) (λ text. (length text ≤ 16777216) × IsScript text (map asked script.requests.items))) }
+    ensures not_script { IsErrOf result NotScript → IfSome (R.remaining reader.old) (λ text. length text ≤ 16777216 → (requests : List Asked) → ¬ IsScript text requests) }
+{
     let bytes = read_bytes(alloc, reader)?;
     Ok(Script::from_bytes(alloc, &bytes)?)
 }
 
 // All bytes that a reader has left. Each read but the last gives a byte at least, so no more reads
 // than this are made before there are too many bytes.
-fn read_bytes<R: Read>(alloc: Global, reader: &mut R) -> Result<Vec<u8>, Fault> {
+fn read_bytes<R: Read>(alloc: Global, reader: &mut R) -> Result<Vec<u8>, Fault>
+    ensures ok { IfOk result (λ bytes. IfSome (R.remaining reader.old) (λ text. (bytes.items ≡ text) × (length text ≤ 16777216))) }
+    ensures not_script { IsErrOf result NotScript → IfSome (R.remaining reader.old) (λ text. 16777216 < length text) }
+{
     let mut bytes = Vec::new(alloc);
     let mut piece = [0u8; 4096];
     for _ in 0..=MAX_SCRIPT_BYTES {
@@ -131,13 +145,18 @@ fn read_bytes<R: Read>(alloc: Global, reader: &mut R) -> Result<Vec<u8>, Fault> 
 }
 
 // The exchanges of a script.
-fn exchanges_of(alloc: Global, script: &Script) -> Result<Vec<Exchange<'_>>, Fault> {
+fn exchanges_of(alloc: Global, script: &Script) -> Result<Vec<Exchange<'_>>, AllocError> {
     let mut exchanges = Vec::new(alloc);
     for request in &script.requests {
-        let body = body_of(&request.body)?;
-        exchanges.push(Exchange::new(&request.head, body, request.moment)?)?;
+        exchanges.push(exchange_of(request)?)?;
     }
     Ok(exchanges)
+}
+
+// The exchange of a request. Its moment is none that an exchange refuses.
+fn exchange_of(request: &Request) -> Result<Exchange<'_>, AllocError> {
+    let body = body_of(&request.body)?;
+    Ok(Exchange::new(&request.head, body, request.moment).unwrap())
 }
 
 // The same body, which shares its bytes.

@@ -11,14 +11,12 @@ ghost use Rattle.hex.specs.declared.error.FromHexError.TheVariants.{OutOfMemory}
 ghost use Rattle.dav_run.specs.Script.{IsMemberOf, IsObjectOf, IsText, IsDigits, IsHead, IsBodyBytes, IsBody, IsMoment, IsRequest, AreRequests, IsScriptValue, IsScript, Asked, asked, body_bytes};
 ghost use Rattle.dav_run.specs.declared.script.ScriptError.TheVariants.{NotScript, Memory};
 
+use crate::request::{LAST_MOMENT, Request};
 use crate::server::Body;
 use bytes::Bytes;
 use hex::FromHexError;
 use serde_json::{Map, Value};
 use std::alloc::{AllocError, AllocFailed, Global};
-
-/// The last moment of a request, in seconds since 1970: the end of the year 9999.
-pub const LAST_MOMENT: u64 = 253_402_300_799;
 
 /// Why bytes give no script.
 #[derive(Clone, Copy, Debug, PartialEq, Eq)]
@@ -66,17 +64,6 @@ impl From<FromHexError> for ScriptError {
             _ => ScriptError::NotScript,
         }
     }
-}
-
-/// A request of a script.
-#[derive(Drop)]
-pub struct Request {
-    /// The request line and the fields, as they stand on the wire.
-    pub head: Vec<u8>,
-    /// What follows the head.
-    pub body: Body,
-    /// When the request is made, in seconds since 1970.
-    pub moment: u64,
 }
 
 /// The requests to be played, in order.
@@ -218,6 +205,7 @@ fn read_moment(value: Option<&Value>) -> Result<u64, ScriptError>
     ensures ok { IfOk result (IsMoment (option_map (λ v. view v.now) value.entry)) }
     ensures none { OnErr result ((moment : ℕ) → ¬ IsMoment (option_map (λ v. view v.now) value.entry) moment) }
     ensures err { IsOkUnless result NotScript }
+    ensures in_time { IfOk result (λ moment. moment ≤ 253402300799) }
 {
     let Some(value) = value else {
         return Ok(0);

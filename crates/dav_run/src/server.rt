@@ -1,4 +1,6 @@
 //! A stand-in for the server: it answers every request with 501.
+ghost use Rattle.std.specs.Prelude.{◌<◌, ◌↔◌, IsErr};
+
 use bytes::Bytes;
 use http::StatusCode;
 use http_header::{HeaderMap, HeaderMapError, HeaderName, HeaderValue};
@@ -28,7 +30,9 @@ pub struct Exchange<'a> {
 
 impl<'a> Exchange<'a> {
     /// A request of a head and a body, at a moment.
-    pub fn new(head: &'a [u8], body: Body, moment: u64) -> Result<Exchange<'a>, BadMoment> {
+    pub fn new(head: &'a [u8], body: Body, moment: u64) -> Result<Exchange<'a>, BadMoment>
+        ensures { IsErr result ↔ 253402300799 < moment }
+    {
         if moment > LAST_MOMENT {
             return Err(BadMoment);
         }

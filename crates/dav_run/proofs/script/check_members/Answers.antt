@@ -1,4 +1,4 @@
-use Rattle.std.proofs.Common.{◌≡◌, ◌∙◌, All, sym, subst, true≢false}
+use Rattle.std.proofs.Common.{◌∙◌, All, sym, subst, true≢false}
 use Rattle.std.specs.Prelude.{Option, IsSomeAnd}
 use Rattle.serde_json.specs.Data.{Members}
 use Rattle.dav_run.specs.Script.{IsMemberOf, member_names}

@@ -1,4 +1,4 @@
-use Rattle.std.proofs.Common.{◌≡◌, sym, subst}
+use Rattle.std.proofs.Common.{sym, subst}
 use Rattle.std.specs.Prelude.{Option, IsSomeAnd}
 use Rattle.serde_json.specs.Data.{Data}
 use Rattle.dav_run.specs.Script.{IsHead}

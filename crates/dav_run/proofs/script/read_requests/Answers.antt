@@ -1,4 +1,3 @@
-use Rattle.std.proofs.Common.{◌≡◌}
 use Rattle.dav_run.specs.declared.script.ScriptError.TheVariants.{NotScript}
 use Rattle.dav_run.proofs.Refusals.{handed_on}
 use Rattle.dav_run.proofs.Requests.{request_at, requests_more}
