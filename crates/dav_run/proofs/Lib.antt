@@ -6,3 +6,6 @@ pub mod HeadLemmas
 pub mod RunLemmas
 pub mod Determined
 pub mod Worlds
+pub mod Members
+pub mod Requests
+pub mod Refusals

@@ -7,3 +7,4 @@ pub mod Run
 pub mod Reply
 pub mod Store
 pub mod Exchange
+pub mod Script

@@ -1,4 +1,7 @@
-//! Plays scripts.
+//! The program `dav-run`: plays a script of WebDAV requests, read from standard input as JSON, on an
+//! empty store, and writes each reply to standard output as one line of JSON. It ignores its
+//! arguments. Its exit status is that of [`play::play`], and a status that is not 0 is told on
+//! standard error.
 #![tactic(auto)]
 
 mod head;
@@ -7,8 +10,26 @@ mod methods;
 mod moment;
 mod names;
 mod node;
+mod play;
+mod print;
 mod reply;
+mod request;
+mod script;
 mod server;
 mod store;
 
-fn main() {}
+use play::{IO_FAILED, NOT_SCRIPT, OUT_OF_MEMORY, play};
+use std::io;
+use std::process::ExitCode;
+
+fn main(rt: HostRuntime) -> ExitCode {
+    let status = play(rt.alloc(), &mut rt.reader(), &mut io::writer(&rt));
+    // There is nowhere left to tell of a standard error that cannot be written to.
+    let _ = match status {
+        NOT_SCRIPT => eprintln!(rt; "dav-run: not a script"),
+        IO_FAILED => eprintln!(rt; "dav-run: read or write failed"),
+        OUT_OF_MEMORY => eprintln!(rt; "dav-run: out of memory"),
+        _ => Ok(()),
+    };
+    ExitCode::from(status)
+}

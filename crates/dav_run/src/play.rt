@@ -1,0 +1,185 @@
+//! Playing a script: from the bytes of a reader to the lines of a writer.
+ghost use Rattle.std.specs.Prelude.{◌≡◌, ◌≢◌, ◌≤◌, ◌<◌, List, length, map, IfSome, IfOk, IfErr, OnOk, IsErrOf};
+ghost use Rattle.dav_run.specs.Script.{Asked, IsScript, asked};
+ghost use Rattle.dav_run.specs.declared.play.Fault.TheVariants.{NotScript, Io, Memory};
+
+use crate::print::reply_line;
+use crate::request::Request;
+use crate::script::{Script, ScriptError};
+use crate::server::{Body, Exchange, Reply, Store, run};
+use std::alloc::{AllocError, AllocFailed, Global};
+use std::io;
+use std::io::{Read, Write};
+
+/// The status of a script that was played to its end.
+pub const PLAYED: u8 = 0;
+
+/// The status where the bytes are not a script; then nothing was written.
+pub const NOT_SCRIPT: u8 = 1;
+
+/// The status where a read or a write failed.
+pub const IO_FAILED: u8 = 2;
+
+/// The status for want of memory; the replies given before were written.
+pub const OUT_OF_MEMORY: u8 = 3;
+
+/// The most bytes that a script may have.
+pub const MAX_SCRIPT_BYTES: usize = 16_777_216;
+
+// The first fault met.
+#[derive(Clone, Copy, Debug, PartialEq, Eq)]
+enum Fault {
+    NotScript,
+    Io,
+    Memory,
+}
+
+impl From<io::Error> for Fault {
+    ghost from_gives = { λ _ e. e ≡ Io };
+
+    fn from(_error: io::Error) -> Fault {
+        Fault::Io
+    }
+}
+
+impl From<AllocError> for Fault {
+    ghost from_gives = { λ _ e. e ≡ Memory };
+
+    fn from(_error: AllocError) -> Fault {
+        Fault::Memory
+    }
+}
+
+impl<T: Drop> From<AllocFailed<T>> for Fault {
+    ghost from_gives = { λ _ e. e ≡ Memory };
+
+    fn from(_error: AllocFailed<T>) -> Fault {
+        Fault::Memory
+    }
+}
+
+impl From<ScriptError> for Fault {
+    ghost use Rattle.dav_run.specs.declared.script.ScriptError.{ScriptError};
+
+    ghost from_gives = { λ error e. e ≡ NotScript → error ≡ ScriptError.NotScript };
+
+    fn from(error: ScriptError) -> Fault {
+        match error {
+            ScriptError::NotScript => Fault::NotScript,
+            ScriptError::Memory => Fault::Memory,
+        }
+    }
+}
+
+/// Reads a script to its end, plays it on a new store, and writes one line of JSON per reply.
+/// Answers [`PLAYED`], or the status of the first fault met; where memory ran out, but writing the
+/// replies given before fails, that is [`IO_FAILED`].
+pub fn play<R: Read, W: Write>(alloc: Global, reader: &mut R, writer: &mut W) -> u8
+    ensures status { result ≤ 3 }
+    ensures played { result ≡ 0 → IfSome (R.remaining reader.old) (λ text.
+        (length text ≤ 16777216) × ((requests : List Asked) × IsScript text requests)) }
+    ensures not_script { result ≡ 1 → IfSome (R.remaining reader.old) (λ text.
+        length text ≤ 16777216 → (requests : List Asked) → ¬ IsScript text requests) }
+    ensures untouched { result ≡ 1 → writer.new ≡ writer.old }
+{
+    match play_through(alloc, reader, writer) {
+        Ok(()) => PLAYED,
+        Err(Fault::NotScript) => NOT_SCRIPT,
+        Err(Fault::Io) => IO_FAILED,
+        Err(Fault::Memory) => OUT_OF_MEMORY,
+    }
+}
+
+// Plays the reader's script, and writes the replies.
+fn play_through<R: Read, W: Write>(
+    alloc: Global,
+    reader: &mut R,
+    writer: &mut W,
+) -> Result<(), Fault>
+    ensures played { OnOk result (IfSome (R.remaining reader.old) (λ text.
+        (length text ≤ 16777216) × ((requests : List Asked) × IsScript text requests))) }
+    ensures not_script { IsErrOf result NotScript → IfSome (R.remaining reader.old) (λ text.
+        length text ≤ 16777216 → (requests : List Asked) → ¬ IsScript text requests) }
+    ensures untouched { IsErrOf result NotScript → writer.new ≡ writer.old }
+{
+    let script = read_script(alloc, reader)?;
+    let exchanges = exchanges_of(alloc, &script)?;
+    let mut store = Store::new(alloc)?;
+    match run(&mut store, alloc, &exchanges) {
+        Ok(replies) => write_replies(alloc, &replies, writer),
+        Err(fault) => {
+            write_replies(alloc, &fault.replies, writer)?;
+            Err(Fault::Memory)
+        }
+    }
+}
+
+// The script that a reader gives.
+fn read_script<R: Read>(alloc: Global, reader: &mut R) -> Result<Script, Fault>
+    ensures ok { IfOk result (λ script. IfSome (R.remaining reader.old) (λ text. (length text ≤ 16777216) × IsScript text (map asked script.requests.items))) }
+    ensures not_script { IsErrOf result NotScript → IfSome (R.remaining reader.old) (λ text. length text ≤ 16777216 → (requests : List Asked) → ¬ IsScript text requests) }
+{
+    let bytes = read_bytes(alloc, reader)?;
+    Ok(Script::from_bytes(alloc, &bytes)?)
+}
+
+// All bytes that a reader has left. Each read but the last gives a byte at least, so no more reads
+// than this are made before there are too many bytes.
+fn read_bytes<R: Read>(alloc: Global, reader: &mut R) -> Result<Vec<u8>, Fault>
+    ensures ok { IfOk result (λ bytes. IfSome (R.remaining reader.old) (λ text. (bytes.items ≡ text) × (length text ≤ 16777216))) }
+    ensures not_script { IsErrOf result NotScript → IfSome (R.remaining reader.old) (λ text. 16777216 < length text) }
+{
+    let mut bytes = Vec::new(alloc);
+    let mut piece = [0u8; 4096];
+    for _ in 0..=MAX_SCRIPT_BYTES {
+        let count = reader.read(&mut piece)?;
+        if count == 0 {
+            return Ok(bytes);
+        }
+        if bytes.len() + count > MAX_SCRIPT_BYTES {
+            return Err(Fault::NotScript);
+        }
+        bytes.extend_from_slice(&piece[..count])?;
+    }
+    Err(Fault::NotScript)
+}
+
+// The exchanges of a script.
+fn exchanges_of(alloc: Global, script: &Script) -> Result<Vec<Exchange<'_>>, AllocError> {
+    let mut exchanges = Vec::new(alloc);
+    for request in &script.requests {
+        exchanges.push(exchange_of(request)?)?;
+    }
+    Ok(exchanges)
+}
+
+// The exchange of a request. Its moment is none that an exchange refuses.
+fn exchange_of(request: &Request) -> Result<Exchange<'_>, AllocError> {
+    let body = body_of(&request.body)?;
+    Ok(Exchange::new(&request.head, body, request.moment).unwrap())
+}
+
+// The same body, which shares its bytes.
+fn body_of(body: &Body) -> Result<Body, AllocError> {
+    match body {
+        Body::None => Ok(Body::None),
+        Body::Bytes(bytes) => Ok(Body::Bytes(bytes.clone()?)),
+    }
+}
+
+// Writes one line for each reply. A line is out before the next one is made.
+fn write_replies<W: Write>(alloc: Global, replies: &[Reply], writer: &mut W) -> Result<(), Fault>
+    ensures { IfErr result (λ e. e ≢ NotScript) }
+{
+    for reply in replies {
+        let line = reply_line(alloc, reply)?;
+        writer.write_all(line.as_bytes())?;
+        writer.flush()?;
+    }
+    Ok(())
+}
+
+#[cfg(test)]
+mod rows;
+#[cfg(test)]
+mod tests;
