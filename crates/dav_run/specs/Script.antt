@@ -1,5 +1,5 @@
 -- Scripts: which JSON texts (RFC 8259) are lists of requests, and which requests those are.
-use Rattle.std.specs.Prelude.{◌≡◌, ◌≤◌, ◌⊎◌, ⊤, ℕ, List, [], ◌∷◌, codes, Option, Some, None, Ok, IsUtf8, All, IsSomeAnd, option_and_then}
+use Rattle.std.specs.Prelude.{◌≡◌, ◌≤◌, ◌⊎◌, ⊤, ℕ, List, [], ◌∷◌, length, codes, Option, Some, None, Ok, IsUtf8, All, IsSomeAnd, option_and_then}
 use Rattle.hex.specs.Hex.{decode_of}
 use Rattle.serde_json.specs.Data.{Data, null, Items, no_items, item, Members, no_members, member}
 use Rattle.serde_json.specs.Find.{get, as_str, as_number, as_array, as_object, as_u64}
@@ -87,6 +87,14 @@ IsScriptValue d rs =
 -- bytes are a script of these requests: UTF-8, and the JSON text of such a value
 abbrev pub IsScript : List ℕ → List Asked → Type 0
 IsScript text rs = IsUtf8 text × IsSomeAnd (read text) (λ d. IsScriptValue d rs)
+
+-- no more bytes than a script may have
+abbrev pub IsShort : List ℕ → Type 0
+IsShort text = length text ≤ 16777216
+
+-- bytes that can be played: a script, and short
+abbrev pub IsPlayable : List ℕ → Type 0
+IsPlayable text = IsShort text × ((rs : List Asked) × IsScript text rs)
 
 -- ---- what was read
 

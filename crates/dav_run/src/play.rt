@@ -1,6 +1,6 @@
 //! Playing a script: from the bytes of a reader to the lines of a writer.
-ghost use Rattle.std.specs.Prelude.{◌≡◌, ◌≢◌, ◌≤◌, ◌<◌, List, length, map, IfSome, IfOk, IfErr, OnOk, IsErrOf};
-ghost use Rattle.dav_run.specs.Script.{Asked, IsScript, asked};
+ghost use Rattle.std.specs.Prelude.{◌≡◌, ◌≢◌, ◌≤◌, map, IfSome, IfOk, IfErr, OnOk, IsErrOf};
+ghost use Rattle.dav_run.specs.Script.{IsScript, IsShort, IsPlayable, asked};
 ghost use Rattle.dav_run.specs.declared.play.Fault.TheVariants.{NotScript, Io, Memory};
 
 use crate::print::reply_line;
@@ -76,10 +76,8 @@ impl From<ScriptError> for Fault {
 /// replies given before fails, that is [`IO_FAILED`].
 pub fn play<R: Read, W: Write>(alloc: Global, reader: &mut R, writer: &mut W) -> u8
     ensures status { result ≤ 3 }
-    ensures played { result ≡ 0 → IfSome (R.remaining reader.old) (λ text.
-        (length text ≤ 16777216) × ((requests : List Asked) × IsScript text requests)) }
-    ensures not_script { result ≡ 1 → IfSome (R.remaining reader.old) (λ text.
-        length text ≤ 16777216 → (requests : List Asked) → ¬ IsScript text requests) }
+    ensures played { result ≡ 0 → IfSome (R.remaining reader.old) IsPlayable }
+    ensures not_script { result ≡ 1 → IfSome (R.remaining reader.old) (λ text. ¬ IsPlayable text) }
     ensures untouched { result ≡ 1 → writer.new ≡ writer.old }
 {
     match play_through(alloc, reader, writer) {
@@ -96,10 +94,9 @@ fn play_through<R: Read, W: Write>(
     reader: &mut R,
     writer: &mut W,
 ) -> Result<(), Fault>
-    ensures played { OnOk result (IfSome (R.remaining reader.old) (λ text.
-        (length text ≤ 16777216) × ((requests : List Asked) × IsScript text requests))) }
-    ensures not_script { IsErrOf result NotScript → IfSome (R.remaining reader.old) (λ text.
-        length text ≤ 16777216 → (requests : List Asked) → ¬ IsScript text requests) }
+    ensures played { OnOk result (IfSome (R.remaining reader.old) IsPlayable) }
+    ensures not_script { IsErrOf result NotScript
+        → IfSome (R.remaining reader.old) (λ text. ¬ IsPlayable text) }
     ensures untouched { IsErrOf result NotScript → writer.new ≡ writer.old }
 {
     let script = read_script(alloc, reader)?;
@@ -116,8 +113,10 @@ fn play_through<R: Read, W: Write>(
 
 // The script that a reader gives.
 fn read_script<R: Read>(alloc: Global, reader: &mut R) -> Result<Script, Fault>
-    ensures ok { IfOk result (λ script. IfSome (R.remaining reader.old) (λ text. (length text ≤ 16777216) × IsScript text (map asked script.requests.items))) }
-    ensures not_script { IsErrOf result NotScript → IfSome (R.remaining reader.old) (λ text. length text ≤ 16777216 → (requests : List Asked) → ¬ IsScript text requests) }
+    ensures ok { IfOk result (λ script. IfSome (R.remaining reader.old) (λ text.
+        IsShort text × IsScript text (map asked script.requests.items))) }
+    ensures not_script { IsErrOf result NotScript
+        → IfSome (R.remaining reader.old) (λ text. ¬ IsPlayable text) }
 {
     let bytes = read_bytes(alloc, reader)?;
     Ok(Script::from_bytes(alloc, &bytes)?)
@@ -126,8 +125,10 @@ fn read_script<R: Read>(alloc: Global, reader: &mut R) -> Result<Script, Fault>
 // All bytes that a reader has left. Each read but the last gives a byte at least, so no more reads
 // than this are made before there are too many bytes.
 fn read_bytes<R: Read>(alloc: Global, reader: &mut R) -> Result<Vec<u8>, Fault>
-    ensures ok { IfOk result (λ bytes. IfSome (R.remaining reader.old) (λ text. (bytes.items ≡ text) × (length text ≤ 16777216))) }
-    ensures not_script { IsErrOf result NotScript → IfSome (R.remaining reader.old) (λ text. 16777216 < length text) }
+    ensures ok { IfOk result (λ bytes. IfSome (R.remaining reader.old) (λ text.
+        (bytes.items ≡ text) × IsShort text)) }
+    ensures not_script { IsErrOf result NotScript
+        → IfSome (R.remaining reader.old) (λ text. ¬ IsShort text) }
 {
     let mut bytes = Vec::new(alloc);
     let mut piece = [0u8; 4096];

@@ -78,7 +78,8 @@ impl Script {
     /// for want of memory.
     pub fn from_bytes(alloc: Global, bytes: &[u8]) -> Result<Script, ScriptError>
         ensures ok { IfOk result (λ script. IsScript bytes.now (map asked script.requests.items)) }
-        ensures none { IsErrOf result NotScript → (requests : List Asked) → ¬ IsScript bytes.now requests }
+        ensures none { IsErrOf result NotScript
+            → (requests : List Asked) → ¬ IsScript bytes.now requests }
     {
         let value = Value::from_slice(alloc, bytes)?;
         read_script(alloc, &value)
@@ -122,8 +123,10 @@ impl Form {
 
 // The script that a value stands for.
 fn read_script(alloc: Global, value: &Value) -> Result<Script, ScriptError>
-    ensures ok { IfOk result (λ script. IsScriptValue (view value.now) (map asked script.requests.items)) }
-    ensures none { IsErrOf result NotScript → (requests : List Asked) → ¬ IsScriptValue (view value.now) requests }
+    ensures ok { IfOk result
+        (λ script. IsScriptValue (view value.now) (map asked script.requests.items)) }
+    ensures none { IsErrOf result NotScript
+        → (requests : List Asked) → ¬ IsScriptValue (view value.now) requests }
 {
     check_members(value, Form::Script)?;
     let Some(list) = value.get("requests").and_then(Value::as_array) else {
@@ -135,8 +138,10 @@ fn read_script(alloc: Global, value: &Value) -> Result<Script, ScriptError>
 
 // The requests that the items of a list stand for.
 fn read_requests(alloc: Global, list: &[Value]) -> Result<Vec<Request>, ScriptError>
-    ensures ok { IfOk result (λ requests. AreRequests (items_view list.now) (map asked requests.items)) }
-    ensures none { IsErrOf result NotScript → (requests : List Asked) → ¬ AreRequests (items_view list.now) requests }
+    ensures ok { IfOk result
+        (λ requests. AreRequests (items_view list.now) (map asked requests.items)) }
+    ensures none { IsErrOf result NotScript
+        → (requests : List Asked) → ¬ AreRequests (items_view list.now) requests }
 {
     let mut requests = Vec::new(alloc);
     for item in list {
@@ -148,7 +153,8 @@ fn read_requests(alloc: Global, list: &[Value]) -> Result<Vec<Request>, ScriptEr
 // The request that a value stands for.
 fn read_request(alloc: Global, value: &Value) -> Result<Request, ScriptError>
     ensures ok { IfOk result (λ request. IsRequest (view value.now) (asked request)) }
-    ensures none { IsErrOf result NotScript → (request : Asked) → ¬ IsRequest (view value.now) request }
+    ensures none { IsErrOf result NotScript
+        → (request : Asked) → ¬ IsRequest (view value.now) request }
 {
     check_members(value, Form::Request)?;
     let Some(head) = value.get("head") else {
@@ -174,8 +180,10 @@ fn read_head(alloc: Global, value: &Value) -> Result<Vec<u8>, ScriptError>
 
 // The body of a request; none where the member is not there or null.
 fn read_body(alloc: Global, value: Option<&Value>) -> Result<Body, ScriptError>
-    ensures ok { IfOk result (λ body. IsBody (option_map (λ v. view v.now) value.entry) (body_bytes body)) }
-    ensures none { IsErrOf result NotScript → (body : Option (List ℕ)) → ¬ IsBody (option_map (λ v. view v.now) value.entry) body }
+    ensures ok { IfOk result
+        (λ body. IsBody (option_map (λ v. view v.now) value.entry) (body_bytes body)) }
+    ensures none { IsErrOf result NotScript
+        → (body : Option (List ℕ)) → ¬ IsBody (option_map (λ v. view v.now) value.entry) body }
 {
     let Some(form) = value else {
         return Ok(Body::None);
@@ -190,7 +198,8 @@ fn read_body(alloc: Global, value: Option<&Value>) -> Result<Body, ScriptError>
 // The bytes of a body: those of its one member, `text` or `hex`.
 fn read_body_bytes(alloc: Global, form: &Value) -> Result<Vec<u8>, ScriptError>
     ensures ok { IfOk result (λ bytes. IsBodyBytes (view form.now) bytes.items) }
-    ensures none { IsErrOf result NotScript → (bytes : List ℕ) → ¬ IsBodyBytes (view form.now) bytes }
+    ensures none { IsErrOf result NotScript
+        → (bytes : List ℕ) → ¬ IsBodyBytes (view form.now) bytes }
 {
     check_members(form, Form::Bytes)?;
     match (form.get("text"), form.get("hex")) {
@@ -203,7 +212,8 @@ fn read_body_bytes(alloc: Global, form: &Value) -> Result<Vec<u8>, ScriptError>
 // The moment of a request, in seconds since 1970; 0 where the member is not there.
 fn read_moment(value: Option<&Value>) -> Result<u64, ScriptError>
     ensures ok { IfOk result (IsMoment (option_map (λ v. view v.now) value.entry)) }
-    ensures none { OnErr result ((moment : ℕ) → ¬ IsMoment (option_map (λ v. view v.now) value.entry) moment) }
+    ensures none { OnErr result ((moment : ℕ)
+        → ¬ IsMoment (option_map (λ v. view v.now) value.entry) moment) }
     ensures err { IsOkUnless result NotScript }
     ensures in_time { IfOk result (λ moment. moment ≤ 253402300799) }
 {
