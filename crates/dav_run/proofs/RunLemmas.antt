@@ -40,7 +40,7 @@ pub run_further : {X : Type 0} (view : X → Asked) (xs : List X) (k : ℕ) (x :
     → after ≡ before ++ reply ∷ [] → Steps (view x) mid (response_of reply, new) → Runs (map view (take (k + 1) xs)) old (map response_of after) new
 run_further {X} view xs k x old mid new before after reply within here ran is step =
     let front : map view (take (k + 1) xs) ≡ map view (take k xs) ++ view x ∷ [] =
-        ap (map view) (take_more xs k x within ∙ ap (λ (y : X). take k xs ++ y ∷ []) (sym here)) ∙ map_push view (take k xs) x in
+    ap (map view) (take_more xs k x within ∙ ap (λ (y : X). take k xs ++ y ∷ []) (sym here)) ∙ map_push view (take k xs) x in
     let told : map response_of after ≡ map response_of before ++ response_of reply ∷ [] = ap (map response_of) is ∙ map_push response_of before reply in
     subst (λ (l : List Response). Runs (map view (take (k + 1) xs)) old l new) (sym told)
     (subst (λ (l : List Asked). Runs l old (map response_of before ++ response_of reply ∷ []) new) (sym front) (run_more (view x) (response_of reply) ran step))

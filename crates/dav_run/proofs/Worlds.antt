@@ -60,8 +60,8 @@ module _ (w : World) (p : Path) (now : ℕ) (world : IsWorld w) (small : now ≤
       by_test (not (is_folder w (parent_of p))) _ _ (λ _. world)
       (λ folder. by_test (w.next == LAST_NUMBER) _ _ (λ _. world)
       (λ _. put_bytes_keeps (with_new w p (File []) [] now) p now
-          (new_keeps_world w p (File []) [] now world (none_there (node_at w p) missing) (opposite (is_folder w (parent_of p)) folder) names tt small)
-          small body true w.next (new_file w p now)))
+      (new_keeps_world w p (File []) [] now world (none_there (node_at w p) missing) (opposite (is_folder w (parent_of p)) folder) names tt small)
+      small body true w.next (new_file w p now)))
 
   put_over_keeps : (body : List ℕ) → IsWorld (put_over w p body now).1
   put_over_keeps body =

@@ -12,7 +12,7 @@ use Rattle.dav_run.specs.declared.script.Form.TheVariants.{Script, Request, Digi
 
 -- the request that a script asks for: the bytes of its head, those of its body, if it has one, and
 -- its moment in seconds since 1970
-pub record Asked : Type 0 where
+pub record ScriptRequest : Type 0 where
   pub head : List ℕ
   pub body : Option (List ℕ)
   pub moment : ℕ
@@ -65,27 +65,27 @@ IsMoment None moment = moment ≡ 0
 IsMoment (Some d) moment = (option_and_then as_u64 (as_number d) ≡ Some moment) × (moment ≤ 253402300799)
 
 -- a request has a head, and where it says so a body and a moment
-pub record IsRequest (d : Data) (r : Asked) : Type 0 where
+pub record IsRequest (d : Data) (r : ScriptRequest) : Type 0 where
   pub members : IsObjectOf Request d
   pub head : IsSomeAnd (get (codes "head") d) (λ head. IsHead head r.head)
   pub body : IsBody (get (codes "body") d) r.body
   pub moment : IsMoment (get (codes "moment") d) r.moment
 
 -- the items of a list are these requests, in order
-abbrev pub AreRequests : Items → List Asked → Type 0
+abbrev pub AreRequests : Items → List ScriptRequest → Type 0
 AreRequests no_items [] = ⊤
 AreRequests no_items (r ∷ rs) = ⊥
 AreRequests (item d ds) [] = ⊥
 AreRequests (item d ds) (r ∷ rs) = IsRequest d r × AreRequests ds rs
 
 -- a value is a script of these requests: an object with the list of them as its one member
-abbrev pub IsScriptValue : Data → List Asked → Type 0
+abbrev pub IsScriptValue : Data → List ScriptRequest → Type 0
 IsScriptValue d rs =
     IsObjectOf Script d
     × IsSomeAnd (get (codes "requests") d) (λ list. IsSomeAnd (as_array list) (λ ds. AreRequests ds rs))
 
 -- bytes are a script of these requests: UTF-8, and the JSON text of such a value
-abbrev pub IsScript : List ℕ → List Asked → Type 0
+abbrev pub IsScript : List ℕ → List ScriptRequest → Type 0
 IsScript text rs = IsUtf8 text × IsSomeAnd (read text) (λ d. IsScriptValue d rs)
 
 -- no more bytes than a script may have
@@ -94,7 +94,7 @@ IsShort text = length text ≤ 16777216
 
 -- bytes that can be played: a script, and short
 abbrev pub IsPlayable : List ℕ → Type 0
-IsPlayable text = IsShort text × ((rs : List Asked) × IsScript text rs)
+IsPlayable text = IsShort text × ((rs : List ScriptRequest) × IsScript text rs)
 
 -- ---- what was read
 
@@ -104,5 +104,5 @@ body_bytes body.None = None
 body_bytes (body.Bytes bytes) = Some bytes
 
 -- what a request asks for
-abbrev pub asked : request.Request → Asked
-asked r = record { head = r.head.items; body = body_bytes r.body; moment = r.moment }
+abbrev pub script_request : request.Request → ScriptRequest
+script_request r = record { head = r.head.items; body = body_bytes r.body; moment = r.moment }

@@ -1,6 +1,6 @@
 //! Playing a script: from the bytes of a reader to the lines of a writer.
 ghost use Rattle.std.specs.Prelude.{◌≡◌, ◌≢◌, ◌≤◌, map, IfSome, IfOk, IfErr, OnOk, IsErrOf};
-ghost use Rattle.dav_run.specs.Script.{IsScript, IsShort, IsPlayable, asked};
+ghost use Rattle.dav_run.specs.Script.{IsScript, IsShort, IsPlayable, script_request};
 ghost use Rattle.dav_run.specs.declared.play.Fault.TheVariants.{NotScript, Io, Memory};
 
 use crate::print::reply_line;
@@ -114,7 +114,7 @@ fn play_through<R: Read, W: Write>(
 // The script that a reader gives.
 fn read_script<R: Read>(alloc: Global, reader: &mut R) -> Result<Script, Fault>
     ensures ok { IfOk result (λ script. IfSome (R.remaining reader.old) (λ text.
-        IsShort text × IsScript text (map asked script.requests.items))) }
+        IsShort text × IsScript text (map script_request script.requests.items))) }
     ensures not_script { IsErrOf result NotScript
         → IfSome (R.remaining reader.old) (λ text. ¬ IsPlayable text) }
 {

@@ -3,9 +3,6 @@ ghost use Rattle.std.specs.Prelude.{◌≤◌};
 
 use crate::server::Body;
 
-/// The last moment of a request, in seconds since 1970: the end of the year 9999.
-pub const LAST_MOMENT: u64 = 253_402_300_799;
-
 /// A request of a script, to be made at a moment.
 #[derive(Drop)]
 pub struct Request {
@@ -13,7 +10,7 @@ pub struct Request {
     pub head: Vec<u8>,
     /// What follows the head.
     pub body: Body,
-    /// When the request is made, in seconds since 1970; at most [`LAST_MOMENT`].
+    /// When the request is made, in seconds since 1970; at most [`crate::moment::LAST_MOMENT`].
     pub moment: u64,
     ghost in_time: { moment ≤ 253402300799 },
 }

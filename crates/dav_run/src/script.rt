@@ -8,10 +8,11 @@ ghost use Rattle.std.specs.Map.{keys_of};
 ghost use Rattle.serde_json.specs.View.{view, items_view};
 ghost use Rattle.serde_json.specs.Errors.{IsMemory};
 ghost use Rattle.hex.specs.declared.error.FromHexError.TheVariants.{OutOfMemory};
-ghost use Rattle.dav_run.specs.Script.{IsMemberOf, IsObjectOf, IsText, IsDigits, IsHead, IsBodyBytes, IsBody, IsMoment, IsRequest, AreRequests, IsScriptValue, IsScript, Asked, asked, body_bytes};
+ghost use Rattle.dav_run.specs.Script.{IsMemberOf, IsObjectOf, IsText, IsDigits, IsHead, IsBodyBytes, IsBody, IsMoment, IsRequest, AreRequests, IsScriptValue, IsScript, ScriptRequest, script_request, body_bytes};
 ghost use Rattle.dav_run.specs.declared.script.ScriptError.TheVariants.{NotScript, Memory};
 
-use crate::request::{LAST_MOMENT, Request};
+use crate::moment::LAST_MOMENT;
+use crate::request::Request;
 use crate::server::Body;
 use bytes::Bytes;
 use hex::FromHexError;
@@ -77,9 +78,9 @@ impl Script {
     /// The script that bytes spell. Fails with `NotScript` where they spell none, and with `Memory`
     /// for want of memory.
     pub fn from_bytes(alloc: Global, bytes: &[u8]) -> Result<Script, ScriptError>
-        ensures ok { IfOk result (λ script. IsScript bytes.now (map asked script.requests.items)) }
+        ensures ok { IfOk result (λ script. IsScript bytes.now (map script_request script.requests.items)) }
         ensures none { IsErrOf result NotScript
-            → (requests : List Asked) → ¬ IsScript bytes.now requests }
+            → (requests : List ScriptRequest) → ¬ IsScript bytes.now requests }
     {
         let value = Value::from_slice(alloc, bytes)?;
         read_script(alloc, &value)
@@ -124,9 +125,9 @@ impl Form {
 // The script that a value stands for.
 fn read_script(alloc: Global, value: &Value) -> Result<Script, ScriptError>
     ensures ok { IfOk result
-        (λ script. IsScriptValue (view value.now) (map asked script.requests.items)) }
+        (λ script. IsScriptValue (view value.now) (map script_request script.requests.items)) }
     ensures none { IsErrOf result NotScript
-        → (requests : List Asked) → ¬ IsScriptValue (view value.now) requests }
+        → (requests : List ScriptRequest) → ¬ IsScriptValue (view value.now) requests }
 {
     check_members(value, Form::Script)?;
     let Some(list) = value.get("requests").and_then(Value::as_array) else {
@@ -139,9 +140,9 @@ fn read_script(alloc: Global, value: &Value) -> Result<Script, ScriptError>
 // The requests that the items of a list stand for.
 fn read_requests(alloc: Global, list: &[Value]) -> Result<Vec<Request>, ScriptError>
     ensures ok { IfOk result
-        (λ requests. AreRequests (items_view list.now) (map asked requests.items)) }
+        (λ requests. AreRequests (items_view list.now) (map script_request requests.items)) }
     ensures none { IsErrOf result NotScript
-        → (requests : List Asked) → ¬ AreRequests (items_view list.now) requests }
+        → (requests : List ScriptRequest) → ¬ AreRequests (items_view list.now) requests }
 {
     let mut requests = Vec::new(alloc);
     for item in list {
@@ -152,9 +153,9 @@ fn read_requests(alloc: Global, list: &[Value]) -> Result<Vec<Request>, ScriptEr
 
 // The request that a value stands for.
 fn read_request(alloc: Global, value: &Value) -> Result<Request, ScriptError>
-    ensures ok { IfOk result (λ request. IsRequest (view value.now) (asked request)) }
+    ensures ok { IfOk result (λ request. IsRequest (view value.now) (script_request request)) }
     ensures none { IsErrOf result NotScript
-        → (request : Asked) → ¬ IsRequest (view value.now) request }
+        → (request : ScriptRequest) → ¬ IsRequest (view value.now) request }
 {
     check_members(value, Form::Request)?;
     let Some(head) = value.get("head") else {

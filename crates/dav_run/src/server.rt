@@ -11,8 +11,8 @@ ghost use Rattle.dav_run.specs.Exchange.{asked, GivesTarget, GivesServing, Gives
 use crate::head::RequestView;
 pub use crate::head::read_head;
 use crate::methods::{get, put};
-use crate::moment::Moment;
 pub use crate::moment::BadMoment;
+use crate::moment::Moment;
 use crate::names::Names;
 use crate::reply::refuse;
 pub use crate::reply::{Reply, ReplyBody};
@@ -102,7 +102,10 @@ fn takes_body(method: &[u8]) -> bool
 fn has_conditions(request: &RequestView<'_>) -> bool
     ensures { result ≡ has_conditions (request.now) }
 {
-    request.has("if") || request.has("if-match") || request.has("if-none-match") || request.has("content-range")
+    request.has("if")
+        || request.has("if-match")
+        || request.has("if-none-match")
+        || request.has("content-range")
 }
 
 // What a known method does at its path.
@@ -140,7 +143,11 @@ fn is_reserved(method: &[u8], target: &str) -> bool
 }
 
 // What a target comes to: a path, or the status that refuses it.
-fn read_target(alloc: Global, method: &[u8], target: &str) -> Result<Result<DavPath, StatusCode>, AllocError>
+fn read_target(
+    alloc: Global,
+    method: &[u8],
+    target: &str,
+) -> Result<Result<DavPath, StatusCode>, AllocError>
     ensures { GivesTarget method.now target.now result }
 {
     if is_reserved(method, target) {
@@ -212,7 +219,11 @@ fn answer_next(
 /// The replies and the store that is left are those of the machine's run from the bytes of each head on: each is a
 /// refusal or what GET (RFC 9110, section 9.3.1) and PUT (section 9.3.4) answer. `RunFault` where memory ran out, with
 /// the replies of the exchanges that were answered.
-pub fn run(store: &mut Store, alloc: Global, exchanges: &[Exchange<'_>]) -> Result<Vec<Reply>, RunFault>
+pub fn run(
+    store: &mut Store,
+    alloc: Global,
+    exchanges: &[Exchange<'_>],
+) -> Result<Vec<Reply>, RunFault>
     ensures run { IfOk result (λ replies. Runs (map asked exchanges.now) (world_of store.old) (map response_of replies.items) (world_of store.new)) }
     ensures fault { IfErr result (λ fault. RanInPart (map asked exchanges.now) (world_of store.old) (map response_of fault.replies.items)) }
 {

@@ -31,6 +31,12 @@ returns-in-Err c =
     let split = parts_of asked c.args.exchanges.now c.loop-exchange.exchange-index c.exchange-item.result c.loop-exchange-test.true c.exchange-item.is in
     record {
       run = tt;
-      fault = (_, _, _, world_of c.loop-exchange.store, split,
-          subst (λ (l : List Reply). Runs (map asked (take c.loop-exchange.exchange-index c.args.exchanges.now)) (world_of c.args.store.now) (map response_of l) (world_of c.loop-exchange.store)) (sym c.in-Err.ensures.err) c.loop-exchange.invariant);
+      fault = (
+        _,
+        _,
+        _,
+        world_of c.loop-exchange.store,
+        split,
+        subst (λ (l : List Reply). Runs (map asked (take c.loop-exchange.exchange-index c.args.exchanges.now)) (world_of c.args.store.now) (map response_of l) (world_of c.loop-exchange.store)) (sym c.in-Err.ensures.err) c.loop-exchange.invariant,
+      );
     }

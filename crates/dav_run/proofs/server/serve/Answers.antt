@@ -21,7 +21,7 @@ returns-in-Err c =
     let known : is_known r.method ≡ true = ap is_known (sym c.method-method.ensures) ∙ sym c.is_known.ensures ∙ c.if-not-is_known.false in
     let gives = rw c.in-Err.is at c.in_ok-status.ensures in
     let target = subst (λ (m : List ℕ). TargetGives m r.target (Err c.in-Err.status)) c.method-method.ensures
-        (subst (λ (t : List ℕ). TargetGives c.method-method.result.now t (Err c.in-Err.status)) c.target.ensures gives) in
+    (subst (λ (t : List ℕ). TargetGives c.method-method.result.now t (Err c.in-Err.status)) c.target.ensures gives) in
     from_reply c.refuse-in-Err.result (Serves r c.args.body.now c.args.now.seconds (world_of c.args.store.now)) (world_of c.args.store.now) (refusal c.in-Err.status)
     (no_target known target) c.refuse-in-Err.ensures
 
@@ -31,7 +31,7 @@ returns-in_ok-names-in-Ok c =
     let known : is_known r.method ≡ true = ap is_known (sym c.method-method.ensures) ∙ sym c.is_known.ensures ∙ c.if-not-is_known.false in
     let gives = rw c.in-Ok.is at c.in_ok-status.ensures in
     let target = subst (λ (m : List ℕ). TargetGives m r.target (Ok c.in-Ok.path.bytes)) c.method-method.ensures
-        (subst (λ (t : List ℕ). TargetGives c.method-method.result.now t (Ok c.in-Ok.path.bytes)) c.target.ensures gives) in
+    (subst (λ (t : List ℕ). TargetGives c.method-method.result.now t (Ok c.in-Ok.path.bytes)) c.target.ensures gives) in
     let names : c.in_ok-names-in-Ok.names ≡ names_of c.in-Ok.path.bytes = c.in_ok-names-in-Ok.ensures ∙ ap names_of c.as_ref.ensures in
     from_outcome c.serve_at.result (Serves r c.args.body.now c.args.now.seconds (world_of c.args.store.now)) (world_of c.serve_at.new.store) _
     (serves known target)
