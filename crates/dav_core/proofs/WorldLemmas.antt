@@ -1,5 +1,5 @@
 -- What makes a map a world.
-use Rattle.std.proofs.Common.{◌≡◌, ℕ, ◌<◌, ◌≤◌, Bool, true, T, ◌+◌, ◌⊎◌, inl, inr, List, [], ◌∷◌, All, Option, Some, None, refl, sym, ap, subst, ◌∙◌, arith}
+use Rattle.std.proofs.Common.{◌≡◌, ℕ, ◌<◌, ◌≤◌, true, T, ◌+◌, ◌⊎◌, inl, inr, [], ◌∷◌, All, Some, None, refl, sym, ap, subst, ◌∙◌, arith}
 use Rattle.std.specs.FinMap.{find, put, is_sorted}
 use Rattle.dav_core.specs.Path.{Path, path_cmp, is_same_path, parent_of, IsName}
 use Rattle.dav_core.proofs.NodesLemmas.{CameFrom, back-adjust, folder-adjust, sorted-change, back-put, folder-put, sorted-put_node}
@@ -109,9 +109,9 @@ module _ (w : World) (p : Path) (kind : Kind) (properties : Properties) (now : �
   new_kept world names sorted small q m h =
       let from = back-adjust (parent_of p) (modified_at now) (put path_cmp p the_new w.nodes) q m h in
       let before : IsKept q from.node = elim (back-put p the_new w.nodes q from.node from.stood) as (λ _. IsKept q from.node) [
-            | inl at ↦ subst (λ (n : Node). IsKept q n) (sym at.1) (record { names = subst (All IsName) (sym at.0) names; properties = sorted; created = small; modified = small })
-            | inr stood ↦ world.kept q from.node stood
-          ] in
+        | inl at ↦ subst (λ (n : Node). IsKept q n) (sym at.1) (record { names = subst (All IsName) (sym at.0) names; properties = sorted; created = small; modified = small })
+        | inr stood ↦ world.kept q from.node stood
+      ] in
       elim from.became as (λ _. IsKept q m) [
         | inl e ↦ subst (λ (n : Node). IsKept q n) (sym e.1) (record { names = before.names; properties = before.properties; created = before.created; modified = small })
         | inr e ↦ subst (λ (n : Node). IsKept q n) (sym e.1) before

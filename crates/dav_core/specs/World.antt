@@ -1,7 +1,7 @@
 -- What a file store holds: a finite map from paths to folders and files (RFC 4918, section 5), and the number
 -- that the next change takes.
-use Rattle.std.specs.Prelude.{◌≡◌, ℕ, ◌+◌, ◌-◌, ◌<◌, ◌≤◌, ◌++◌, ◌==◌, Bool, true, false, not, T, List, [], ◌∷◌, All, length, take, drop, if◌then◌else◌, replicate, Option, Some, None}
-use Rattle.std.specs.Option.{option_map, is_none}
+use Rattle.std.specs.Prelude.{◌≡◌, ℕ, ◌+◌, ◌-◌, ◌<◌, ◌≤◌, ◌++◌, Bool, true, false, T, List, [], ◌∷◌, All, length, take, drop, if◌then◌else◌, replicate, Option, Some, None}
+use Rattle.std.specs.Option.{is_none}
 use Rattle.std.specs.FinMap.{find, put, is_sorted}
 use Rattle.dav_core.specs.Path.{Path, path_cmp, is_same_path, parent_of, IsName}
 use Rattle.dav_core.specs.Property.{Properties, key_cmp}

@@ -1,9 +1,9 @@
 -- From one world, the same exchanges have one run at most.
-use Rattle.std.proofs.Common.{◌≡◌, ℕ, Bool, true, false, List, [], ◌∷◌, Result, Ok, Err, inl, refl, sym, ap, subst, ◌∙◌}
+use Rattle.std.proofs.Common.{◌≡◌, ℕ, Bool, true, false, List, ◌∷◌, Result, Ok, Err, inl, refl, ap, subst, ◌∙◌}
 use Rattle.dav_core.specs.Path.{names_of}
 use Rattle.dav_core.specs.World.{World}
 use Rattle.dav_core.proofs.TargetLemmas.{Reads-one, Reads-valid, Reads-allowed, refused_once}
-use Rattle.dav_run.specs.Head.{Request, IsHead}
+use Rattle.dav_run.specs.Head.{Request}
 use Rattle.dav_run.specs.Response.{Response, refusal}
 use Rattle.dav_run.specs.Methods.{Outcome, is_known, method_at}
 use Rattle.dav_run.specs.Run.{Asked, TargetGives, path, reserved, invalid, climbs, Serves, unknown, no_target, serves, Steps, no_head, head, Runs, no_more, one_more, RunIsDetermined}

@@ -1,5 +1,5 @@
 -- Facts on paths.
-use Rattle.std.proofs.Common.{◌≡◌, ℕ, suc, ◌-◌, ◌+◌, List, [], ◌∷◌, length, take, refl, ap, ◌∙◌, arith}
+use Rattle.std.proofs.Common.{◌≡◌, ℕ, suc, ◌-◌, [], ◌∷◌, length, take, refl, ap, ◌∙◌, arith}
 use Rattle.dav_core.specs.Path.{Path, parent_of}
 
 two_less : (n : ℕ) → suc (suc n) - 1 ≡ suc (suc n - 1)

@@ -1,7 +1,5 @@
 -- Steps and runs of the machine.
-use Rattle.std.proofs.Common.{◌≡◌, ◌≢◌, ℕ, ◌+◌, ◌<◌, get_or, Bool, true, false, List, [], ◌∷◌, ◌++◌, length, map, take, drop, codes, bytes_eq, ◌||◌, not, Option, Result, Ok, Err, IfOk, refl, sym, ap, subst, ◌∙◌, take-append-drop}
-use Rattle.std.specs.List.{list_any}
-use Rattle.std.proofs.lemmas.Slice.Eq.{bytes_eq-Decides}
+use Rattle.std.proofs.Common.{◌≡◌, ℕ, ◌+◌, ◌<◌, get_or, List, [], ◌∷◌, ◌++◌, length, map, take, drop, Result, Ok, Err, IfOk, sym, ap, subst, ◌∙◌, take-append-drop}
 use Rattle.std.proofs.lemmas.List.{map-append, map_push, take_more, drop_more}
 use Rattle.dav_core.specs.World.{World}
 use Rattle.dav_run.specs.declared.reply.Reply.{Reply}

@@ -1,18 +1,18 @@
 -- A run leaves a world a world.
-use Rattle.std.proofs.Common.{◌≡◌, ℕ, ◌≤◌, Bool, true, false, not, List, [], ◌∷◌, All, length, is_none, Option, Some, None, Ok, refl, sym, ap, subst, ◌∙◌, if◌then◌else◌, nat_lt, ◌==◌, ◌&&◌, bytes_eq, codes}
+use Rattle.std.proofs.Common.{◌≡◌, ℕ, ◌≤◌, Bool, true, false, not, List, [], All, length, is_none, Option, Some, None, refl, sym, ap, ◌∙◌, if◌then◌else◌, nat_lt, ◌==◌, ◌&&◌, bytes_eq, codes}
 use Rattle.std.specs.List.{AllByRecursion}
 use Rattle.std.specs.FinMap.{find, put}
-use Rattle.dav_core.specs.Path.{Path, IsName, path_cmp, parent_of, names_of, is_same_path}
-use Rattle.dav_core.specs.World.{World, Node, Kind, Folder, File, node_at, is_folder, is_folder_node, is_folder_kind, is_missing, with_new, adjust, fresh, modified_at, splice, IsWorld, Renumbers, LAST_MOMENT, LAST_NUMBER, MAX_FILE_LEN}
+use Rattle.dav_core.specs.Path.{Path, IsName, path_cmp, parent_of}
+use Rattle.dav_core.specs.World.{World, Node, File, node_at, is_folder, is_folder_node, is_folder_kind, is_missing, with_new, fresh, modified_at, splice, IsWorld, Renumbers, LAST_MOMENT, LAST_NUMBER, MAX_FILE_LEN}
 use Rattle.dav_core.proofs.NodesLemmas.{path-itself, folder-adjust, find-put_node}
 use Rattle.dav_core.proofs.WorldLemmas.{new_keeps_world, change_keeps_world}
 use Rattle.dav_core.proofs.TargetLemmas.{Reads-names}
 use Rattle.dav_run.specs.Head.{Request, values_of}
 use Rattle.dav_run.specs.Length.{announced_length}
-use Rattle.dav_run.specs.Response.{Response, refusal, stored}
+use Rattle.dav_run.specs.Response.{Response, refusal}
 use Rattle.dav_run.specs.Methods as methods
 use Rattle.dav_run.specs.Methods.{Outcome, renewed, with_bytes, get_node, get, put_bytes, put_new, put_over, method_at}
-use Rattle.dav_run.specs.Run.{Asked, TargetGives, path, reserved, invalid, climbs, Serves, unknown, no_target, serves, Steps, no_head, head, Runs, no_more, one_more}
+use Rattle.dav_run.specs.Run.{Asked, path, Serves, unknown, no_target, serves, Steps, no_head, head, Runs, no_more, one_more}
 
 -- the outcome of a test leaves a world, where each side does
 by_test : (b : Bool) (x y : Outcome) → (b ≡ true → IsWorld x.1) → (b ≡ false → IsWorld y.1) → IsWorld (if b then x else y).1

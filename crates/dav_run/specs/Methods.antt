@@ -2,7 +2,7 @@
 use Rattle.std.specs.Prelude.{ℕ, ◌+◌, ◌==◌, ◌&&◌, Bool, true, false, not, List, [], ◌∷◌, length, codes, bytes_eq, if◌then◌else◌, nat_lt, Option, Some, None}
 use Rattle.std.specs.List.{list_any}
 use Rattle.dav_core.specs.Path.{Path, parent_of}
-use Rattle.dav_core.specs.World.{World, Node, Kind, Folder, File, node_at, is_folder, is_missing, is_folder_kind, bytes_of, with_new, adjust, splice, LAST_NUMBER, MAX_FILE_LEN}
+use Rattle.dav_core.specs.World.{World, Node, File, node_at, is_folder, is_missing, is_folder_kind, bytes_of, with_new, adjust, splice, LAST_NUMBER, MAX_FILE_LEN}
 use Rattle.dav_run.specs.Head.{Request, values_of, has_value}
 use Rattle.dav_run.specs.Length.{announced_length}
 use Rattle.dav_run.specs.Response.{Response, refusal, closing_refusal, shown, stored}

@@ -1,7 +1,6 @@
 -- What is answered: replies as contracts see them (RFC 9110, sections 8 and 15).
 use Rattle.std.specs.Prelude.{ℕ, ◌++◌, Bool, false, List, [], ◌∷◌, length, codes, if◌then◌else◌, Option, Some, None}
 use Rattle.std.specs.Fmt.{decimal, digits}
-use Rattle.dav_core.specs.World.{Node, bytes_of}
 use Rattle.dav_run.specs.Date.{date_text_of}
 
 -- A reply: its status, its headers in order of their names, and the bytes of its body where it has one.

@@ -1,5 +1,5 @@
 -- The machine: what each exchange may be answered, and what it leaves, from the bytes of its head on.
-use Rattle.std.specs.Prelude.{◌≡◌, ◌≢◌, ℕ, ◌≤◌, ◌++◌, All, Bool, true, false, List, [], ◌∷◌, codes, Result, Ok, Err}
+use Rattle.std.specs.Prelude.{◌≡◌, ◌≢◌, ℕ, ◌≤◌, ◌++◌, All, true, false, List, [], ◌∷◌, codes, Result, Ok, Err}
 use Rattle.dav_core.specs.declared.errors.ParseError.TheVariants.{InvalidPath, ForbiddenPath}
 use Rattle.dav_core.specs.Path.{star, names_of}
 use Rattle.dav_core.specs.Target.{Reads, IsRefused}

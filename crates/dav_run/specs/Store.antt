@@ -1,5 +1,5 @@
 -- What contracts see of the store in memory: a world without properties.
-use Rattle.std.specs.Prelude.{ℕ, List, [], map}
+use Rattle.std.specs.Prelude.{List, [], map}
 use Rattle.dav_core.specs.Path.{Path}
 use Rattle.dav_core.specs.World.{World, Nodes, Kind, Folder as FolderKind, File as FileKind, Node as Seen}
 use Rattle.dav_run.specs.declared.node.Content.{Content}

@@ -1,5 +1,4 @@
 use Rattle.std.proofs.Common.{◌≡◌, ℕ, List, sym, ap, subst, ◌∙◌}
-use Rattle.dav_core.specs.World.{World}
 use Rattle.dav_run.specs.declared.reply.Reply.{Reply}
 use Rattle.dav_run.specs.Response.{refusal}
 use Rattle.dav_run.specs.Reply.{response_of}

@@ -1,5 +1,4 @@
-use Rattle.std.proofs.Common.{◌≡◌, List, [], map, take, take_all, sym, ap, subst, ◌∙◌}
-use Rattle.dav_core.specs.World.{World}
+use Rattle.std.proofs.Common.{List, [], map, take, take_all, sym, subst}
 use Rattle.dav_run.specs.declared.reply.Reply.{Reply}
 use Rattle.dav_run.specs.declared.server.Exchange.{Exchange}
 use Rattle.dav_run.specs.Exchange.{asked}

@@ -1,5 +1,4 @@
-use Rattle.std.proofs.Common.{◌≡◌, Some, true, sym, ap, ◌∙◌}
-use Rattle.std.specs.List.{position}
+use Rattle.std.proofs.Common.{sym, ap, ◌∙◌}
 use Rattle.std.specs.Ordering.{is_le}
 use Rattle.dav_core.specs.Path.{Path, path_cmp, is_same_path}
 use Rattle.dav_run.specs.declared.node.Node.{Node}
