@@ -152,4 +152,4 @@ pub refused : (src : List ℕ) (e : ParseError) → IsRooted src → IsRefusedBy
 refused src InvalidPath rooted h = (not_star src rooted.rooted.0 rooted.rooted.1, inr h)
 refused src PrefixMismatch rooted h = h
 refused src ForbiddenPath rooted h = (rooted, h)
-refused src Memory rooted h = tt
+refused src Memory rooted h = inr rooted

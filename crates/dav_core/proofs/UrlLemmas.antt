@@ -12,10 +12,10 @@ use Rattle.percent_encoding.specs.AsciiSet.{contains, should_percent_encode}
 use Rattle.percent_encoding.specs.Percent.{percent_encode, percent_encode_byte, percent_decode}
 use Rattle.percent_encoding.proofs.PercentLemmas.{IsByte, IsEscapeByte, percent_encode-nil, percent_encode_kept, percent_encode_escaped, All-percent_encode_byte, All-percent_decode, percent_decode-nil, percent_encode_nonempty, round_trip}
 use Rattle.dav_core.specs.declared.davpath.url_text.TheConstants.{ESCAPED}
-use Rattle.dav_core.specs.Path.{Path, IsName, joined, path_bytes}
+use Rattle.dav_core.specs.Path.{Path, IsName, joined, path_bytes, names_of}
 use Rattle.dav_core.specs.Target.{Cancels, Leaves, IsTextByte, EndsInSlash, IsClosed, NamesPath, Reads, text_of, pieces_of, nothing, blank}
 use Rattle.dav_core.specs.UrlText.{is_url_byte, url_text, IsTextOf}
-use Rattle.dav_core.proofs.TargetLemmas.{ending, last_pieces, HasNoSlash, split_joined, name_no_slash, Leaves-names}
+use Rattle.dav_core.proofs.TargetLemmas.{ending, last_pieces, HasNoSlash, split_joined, name_no_slash, Leaves-names, names_kept}
 use Rattle.dav_core.proofs.BufferLemmas.{snoc_cases, joined_push}
 
 -- ---- one byte
@@ -318,3 +318,11 @@ reads_again src bytes written (inr (ns, c, h, is)) (inr (no_star, e)) =
     let names = Leaves-names (pieces_of src) ns h.leaves in
     let small = Leaves-all (All IsByte) (pieces_of src) ns h.leaves (pieces_small src h.rooted.text) in
     rw (e, is) (names_again ns c names small)
+
+-- the names that a text is read as are bytes
+pub Reads-bytes : (src a : List ℕ) → Reads src a → All (All IsByte) (names_of a)
+Reads-bytes src a (inl (e, is)) = subst (λ (b : List ℕ). All (All IsByte) (names_of b)) (sym is) (λ k d h. absurd (omega arith))
+Reads-bytes src a (inr (ns, c, h, is)) =
+    let names = Leaves-names (pieces_of src) ns h.leaves in
+    let small = Leaves-all (All IsByte) (pieces_of src) ns h.leaves (pieces_small src h.rooted.text) in
+    subst (λ (p : Path). All (All IsByte) p) (sym (ap names_of is ∙ names_kept ns c names)) small

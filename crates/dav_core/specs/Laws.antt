@@ -6,7 +6,7 @@ use Rattle.dav_core.specs.Target.{Leaves, Climbs, HasBadPiece, Reads, IsRefused}
 use Rattle.dav_core.specs.UrlText.{url_text, IsTextOf}
 use Rattle.std.specs.FinMap.{is_sorted}
 use Rattle.dav_core.specs.Property.{Properties, key_cmp}
-use Rattle.dav_core.specs.World.{World, Node, Kind, IsWorld, Renumbers, LAST_MOMENT, empty_from, node_at, is_folder, with_new, adjust}
+use Rattle.dav_core.specs.World.{World, Node, Kind, IsWorld, Renumbers, last_moment, last_number, empty_from, node_at, is_folder, with_new, adjust}
 
 -- pieces leave one path
 abbrev pub LeavesOnePath : Type 0
@@ -25,8 +25,8 @@ abbrev pub ReadsOnePath : Type 0
 ReadsOnePath = (src a b : List ℕ) → Reads src a → Reads src b → a ≡ b
 
 -- a text that is read isn't refused
-abbrev pub ReadsOrRefused : Type 0
-ReadsOrRefused =
+abbrev pub ReadIsNotRefused : Type 0
+ReadIsNotRefused =
     (src a : List ℕ) → Reads src a → ¬ IsRefused src InvalidPath × ¬ IsRefused src ForbiddenPath
 
 -- a text is refused for one reason
@@ -37,9 +37,9 @@ OneRefusal = (src : List ℕ) → IsRefused src InvalidPath → ¬ IsRefused src
 abbrev pub KeepsNames : Type 0
 KeepsNames = (ns : Path) (closed : Bool) → All IsName ns → names_of (path_bytes ns closed) ≡ ns
 
--- what a text is read as has names alone
+-- what a text is read as has names alone, whose bytes are below 256
 abbrev pub ReadsNames : Type 0
-ReadsNames = (src a : List ℕ) → Reads src a → All IsName (names_of a)
+ReadsNames = (src a : List ℕ) → Reads src a → All IsName (names_of a) × All (All (λ b. b < 256)) (names_of a)
 
 -- the star path has no names
 abbrev pub StarHasNoNames : Type 0
@@ -57,19 +57,19 @@ NamesReadAgain =
 
 -- the empty world is a world, whatever number comes next but 0
 abbrev pub EmptyIsWorld : Type 0
-EmptyIsWorld = (next : ℕ) → 0 < next → IsWorld (empty_from next)
+EmptyIsWorld = (next : ℕ) → 0 < next → next ≤ last_number → IsWorld (empty_from next)
 
 -- a new folder or file at a path of names, below a folder and where nothing stood, leaves a world
 abbrev pub NewKeepsWorld : Type 0
 NewKeepsWorld =
     (w : World) (p : Path) (kind : Kind) (properties : Properties) (now : ℕ)
-    → IsWorld w → node_at w p ≡ None → is_folder w (parent_of p) ≡ true
-    → All IsName p → T (is_sorted key_cmp properties) → now ≤ LAST_MOMENT
+    → IsWorld w → w.next < last_number → node_at w p ≡ None → is_folder w (parent_of p) ≡ true
+    → All IsName p → All (All (λ b. b < 256)) p → T (is_sorted key_cmp properties) → now ≤ last_moment
     → IsWorld (with_new w p kind properties now)
 
 -- a change of the node at a path that takes the next number leaves a world
 abbrev pub ChangeKeepsWorld : Type 0
 ChangeKeepsWorld =
     (w : World) (p : Path) (f : Node → Node)
-    → IsWorld w → ((n : Node) → node_at w p ≡ Some n → Renumbers w.next n (f n))
+    → IsWorld w → w.next < last_number → ((n : Node) → node_at w p ≡ Some n → Renumbers w.next n (f n))
     → IsWorld (record { nodes = adjust p f w.nodes; next = w.next + 1 })

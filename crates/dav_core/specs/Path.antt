@@ -1,7 +1,6 @@
 -- Names and paths (RFC 3986, section 3.3).
-use Rattle.std.specs.Prelude.{◌≡◌, ◌≢◌, ℕ, ◌==◌, ◌++◌, ◌⊎◌, Bool, true, false, if◌then◌else◌, List, [], ◌∷◌, All, Contains, Option, Some, None, bytes_eq}
+use Rattle.std.specs.Prelude.{◌≡◌, ◌≢◌, ℕ, ◌==◌, ◌++◌, ◌⊎◌, Bool, true, false, if◌then◌else◌, List, [], ◌∷◌, All, Contains, bytes_eq}
 use Rattle.std.specs.List.{filter, flat_map, slice_split}
-use Rattle.std.specs.Option.{is_some}
 use Rattle.std.specs.declared.cmp.Ordering.{Ordering}
 use Rattle.std.specs.Ordering.{nat_cmp, is_eq}
 use Rattle.std.specs.Cmp.Lexicographic.{slice_cmp}
@@ -42,29 +41,15 @@ path_cmp = slice_cmp name_cmp
 abbrev pub is_same_path : Path → Path → Bool
 is_same_path p q = is_eq (path_cmp p q)
 
--- the names of q that follow the front p; none where q is neither p nor below it
-abbrev pub rest_after : Path → Path → Option Path
-rest_after [] q = Some q
-rest_after (x ∷ p) [] = None
-rest_after (x ∷ p) (y ∷ q) = if is_eq (name_cmp x y) then rest_after p q else None
-
--- q is p or below it
-abbrev pub is_at_or_below : Path → Path → Bool
-is_at_or_below p q = is_some (rest_after p q)
-
--- q is below p: p is a proper front of q
+-- p is below q: q is a proper front of p
 abbrev pub IsBelow : Path → Path → Type 0
-IsBelow p q = (x : List ℕ) × (rest : Path) × (q ≡ p ++ x ∷ rest)
+IsBelow p q = (x : List ℕ) × (rest : Path) × (p ≡ q ++ x ∷ rest)
 
 -- all names but the last; the root is its own parent
 abbrev pub parent_of : Path → Path
 parent_of [] = []
 parent_of (x ∷ []) = []
 parent_of (x ∷ y ∷ p) = x ∷ parent_of (y ∷ p)
-
-abbrev pub is_root : Path → Bool
-is_root [] = true
-is_root (x ∷ p) = false
 
 -- A path as bytes: the names, each behind a slash
 abbrev pub joined : Path → List ℕ

@@ -41,7 +41,7 @@ text_of src = before_first (λ b. b == 63) src
 abbrev pub pieces_of : List ℕ → List (List ℕ)
 pieces_of src = map percent_decode (slice_split (λ b. b == 47) (text_of src))
 
--- a text that can name a path: it begins with a slash
+-- a text that can name a path: bytes 32 to 126 but `#`, and a slash in front
 pub record IsRooted (src : List ℕ) : Type 0 where
   pub text : All IsTextByte src
   pub rooted : (rest : List ℕ) × (src ≡ 47 ∷ rest)
@@ -66,9 +66,9 @@ Reads src bytes =
     ⊎ ((names : Path) × (closed : Bool) × NamesPath src names closed × (bytes ≡ path_bytes names closed))
 
 -- Why a text is refused: it can't name a path, or the first piece that refuses decides. No text is refused for
--- its prefix here, and want of memory is no fault of a text.
+-- its prefix here. Memory is wanted only for a text that can name a path, or for the star path.
 abbrev pub IsRefused : List ℕ → ParseError → Type 0
 IsRefused src InvalidPath = (src ≢ star) × ((¬ IsRooted src) ⊎ HasBadPiece (pieces_of src))
 IsRefused src PrefixMismatch = ⊥
 IsRefused src ForbiddenPath = IsRooted src × Climbs (pieces_of src)
-IsRefused src Memory = ⊤
+IsRefused src Memory = (src ≡ star) ⊎ IsRooted src

@@ -52,18 +52,19 @@ abbrev pub is_missing : World → Path → Bool
 is_missing w p = is_none (node_at w p)
 
 -- the number that is never handed out, 2^64 - 1
-abbrev pub LAST_NUMBER : ℕ
-LAST_NUMBER = 18446744073709551615
+abbrev pub last_number : ℕ
+last_number = 18446744073709551615
 
 -- the end of the year 9999, the last moment that a date of HTTP can show (RFC 9110, section 5.6.7)
-abbrev pub LAST_MOMENT : ℕ
-LAST_MOMENT = 253402300799
+abbrev pub last_moment : ℕ
+last_moment = 253402300799
 
 -- the most bytes that a file holds
-abbrev pub MAX_FILE_LEN : ℕ
-MAX_FILE_LEN = 2147483647
+abbrev pub max_file_len : ℕ
+max_file_len = 2147483647
 
--- Each path stands once, in order; the root is a folder, and so is the parent of whatever is there.
+-- Each path stands once, in order; the root is a folder, and so is the parent of whatever is there (RFC 4918,
+-- section 5.1).
 pub record IsTree (ns : Nodes) : Type 0 where
   pub sorted : T (is_sorted path_cmp ns)
   pub root : is_folder_node (find path_cmp [] ns) ≡ true
@@ -74,19 +75,26 @@ pub record IsNumbered (number_of : Node → ℕ) (w : World) : Type 0 where
   pub below : (p : Path) (n : Node) → find path_cmp p w.nodes ≡ Some n → number_of n < w.next
   pub once : (p q : Path) (n m : Node) → find path_cmp p w.nodes ≡ Some n → find path_cmp q w.nodes ≡ Some m → number_of n ≡ number_of m → p ≡ q
 
--- its paths are names alone, its properties stand in order of their keys, and its times can be shown
-pub record IsKept (p : Path) (n : Node) : Type 0 where
+-- A node stands at a path of names, whose bytes are below 256; it never has a number below the one that it was
+-- made with; its properties stand in order of their keys; and its times can be shown.
+pub record IsSound (p : Path) (n : Node) : Type 0 where
   pub names : All IsName p
+  pub bytes : All (All (λ b. b < 256)) p
+  pub grown : n.made ≤ n.number
   pub properties : T (is_sorted key_cmp n.properties)
-  pub created : n.created ≤ LAST_MOMENT
-  pub modified : n.modified ≤ LAST_MOMENT
+  pub created : n.created ≤ last_moment
+  pub modified : n.modified ≤ last_moment
 
--- What makes a map a world.
+-- What makes a map a world: a tree of sound nodes, in which no node has a number that another one has, the root was
+-- made with number 0, and the next number is at most the last.
 pub record IsWorld (w : World) : Type 0 where
   pub tree : IsTree w.nodes
   pub numbers : IsNumbered (λ n. n.number) w
   pub makings : IsNumbered (λ n. n.made) w
-  pub kept : (p : Path) (n : Node) → find path_cmp p w.nodes ≡ Some n → IsKept p n
+  pub apart : (p q : Path) (n m : Node) → find path_cmp p w.nodes ≡ Some n → find path_cmp q w.nodes ≡ Some m → n.made ≡ m.number → p ≡ q
+  pub root_made : (n : Node) → find path_cmp [] w.nodes ≡ Some n → n.made ≡ 0
+  pub next : w.next ≤ last_number
+  pub sound : (p : Path) (n : Node) → find path_cmp p w.nodes ≡ Some n → IsSound p n
 
 -- a new folder or file without properties, made at this moment with this number
 abbrev pub fresh : ℕ → Kind → ℕ → Node
@@ -112,7 +120,8 @@ modified_at now n = record n { modified = now }
 abbrev pub touched : Path → ℕ → Nodes → Nodes
 touched p now = adjust (parent_of p) (modified_at now)
 
--- a new folder or file at p, with the next number
+-- A new folder or file at p, with the next number; where something stands there, it is replaced, so callers see
+-- that nothing does.
 abbrev pub with_new : World → Path → Kind → Properties → ℕ → World
 with_new w p kind properties now = record {
   nodes = touched p now (put path_cmp p (record (fresh w.next kind now) { properties = properties }) w.nodes);
@@ -125,10 +134,10 @@ pub record Renumbers (number : ℕ) (old new : Node) : Type 0 where
   pub number_is : new.number ≡ number
   pub kind : is_folder_kind new.kind ≡ is_folder_kind old.kind
   pub properties : T (is_sorted key_cmp new.properties)
-  pub created : new.created ≤ LAST_MOMENT
-  pub modified : new.modified ≤ LAST_MOMENT
+  pub created : new.created ≤ last_moment
+  pub modified : new.modified ≤ last_moment
 
--- Writing the bytes c at k over b: nothing where c is empty; else b, filled with zeros up to k where it is
+-- Writing the bytes c at k over b: b itself where c is empty; else b, filled with zeros up to k where it is
 -- shorter, with c over the bytes from k on.
 abbrev pub splice : List ℕ → ℕ → List ℕ → List ℕ
 splice b k [] = b

@@ -42,7 +42,7 @@ impl DavPath {
     /// (RFC 3986, section 2.1), without empty and `.` segments, and with each `..` and the name before it removed
     /// (section 5.2.4).
     ///
-    /// `InvalidPath` where the text doesn't begin with a slash, holds `#` or a byte outside 32 to 126, or a segment
+    /// `*` alone is the star path. `InvalidPath` where any other text doesn't begin with a slash, holds `#` or a byte outside 32 to 126, or a segment
     /// decodes to a zero byte or a slash; `ForbiddenPath` where it climbs above the root. The first segment that
     /// refuses decides.
     pub fn new(alloc: Global, src: &str) -> Result<DavPath, ParseError>

@@ -9,7 +9,7 @@ use std::fmt;
 pub enum ParseError {
     /// It isn't a text that can name a path, or a piece of it holds a zero byte or a slash.
     InvalidPath,
-    /// The path isn't below the prefix.
+    /// The path isn't at or below the prefix.
     PrefixMismatch,
     /// It climbs above the root.
     ForbiddenPath,

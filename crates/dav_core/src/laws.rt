@@ -1,14 +1,14 @@
 //! Laws of paths. Each function does nothing: its contract is a theorem on the definitions.
-ghost use Rattle.dav_core.specs.Laws.{LeavesOnePath, LeavesNoFault, OneFault, ReadsOnePath, ReadsOrRefused, OneRefusal, KeepsNames, ReadsNames, StarHasNoNames, ReadsAgain, NamesReadAgain, EmptyIsWorld, NewKeepsWorld, ChangeKeepsWorld};
+ghost use Rattle.dav_core.specs.Laws.{LeavesOnePath, LeavesNoFault, OneFault, ReadsOnePath, ReadIsNotRefused, OneRefusal, KeepsNames, ReadsNames, StarHasNoNames, ReadsAgain, NamesReadAgain, EmptyIsWorld, NewKeepsWorld, ChangeKeepsWorld};
 
-/// A text is read as one path, or refused for one reason: the pieces between slashes leave one path, or the first
-/// of them that refuses decides (RFC 3986, sections 3.3 and 5.2.4).
+/// A text is read as one path at most, and refused for one reason at most, and not both: the pieces between slashes
+/// leave one path, or the first of them that refuses decides (RFC 3986, sections 3.3 and 5.2.4).
 pub fn one_reading()
     ensures leaves { LeavesOnePath }
     ensures leaves_no_fault { LeavesNoFault }
     ensures one_fault { OneFault }
     ensures reads { ReadsOnePath }
-    ensures reads_or_refused { ReadsOrRefused }
+    ensures read_is_not_refused { ReadIsNotRefused }
     ensures one_refusal { OneRefusal }
 {}
 
@@ -27,7 +27,7 @@ pub fn reads_again()
 {}
 
 /// The empty world is a world; so is a world with one more node, and one in which a node was changed: the root and
-/// every parent are folders, numbers differ and are below the next, and times can be shown (RFC 4918, section 5.2).
+/// every parent are folders (RFC 4918, section 5.1), numbers differ and are below the next, and times can be shown.
 pub fn worlds_are_kept()
     ensures empty { EmptyIsWorld }
     ensures made { NewKeepsWorld }

@@ -1,5 +1,5 @@
 -- Steps and runs of the machine.
-use Rattle.std.proofs.Common.{◌≡◌, ℕ, ◌+◌, ◌<◌, get_or, List, [], ◌∷◌, ◌++◌, length, map, take, drop, Result, Ok, Err, IfOk, sym, ap, subst, ◌∙◌, take-append-drop}
+use Rattle.std.proofs.Common.{◌≡◌, ℕ, ◌+◌, ◌<◌, get_or, List, [], ◌∷◌, ◌++◌, length, map, take, drop, Result, Ok, Err, IfOk, MatchResult, refl, sym, ap, subst, ◌∙◌, take-append-drop}
 use Rattle.std.proofs.lemmas.List.{map-append, map_push, take_more, drop_more}
 use Rattle.dav_core.specs.World.{World}
 use Rattle.dav_run.specs.declared.reply.Reply.{Reply}
@@ -9,22 +9,22 @@ use Rattle.dav_run.specs.Reply.{response_of, Gives}
 use Rattle.dav_run.specs.Run.{Asked, Steps, Runs, no_more, one_more}
 
 -- what holds of an outcome holds of the reply and the world that were given
-pub from_outcome : {E : Type 0} (result : Result Reply E) (P : Outcome → Type 0) (new : World) (outcome : Outcome)
-    → P outcome → Gives result new outcome → IfOk result (λ reply. P (response_of reply, new))
-from_outcome (Ok r) P new outcome h given =
+pub from_outcome : {E : Type 0} (result : Result Reply E) (P : Outcome → Type 0) (old new : World) (outcome : Outcome)
+    → P outcome → Gives result old new outcome → MatchResult result (λ reply. P (response_of reply, new)) (λ _. new ≡ old)
+from_outcome (Ok r) P old new outcome h given =
     subst (λ (s : Response). P (s, new)) (sym given.0) (subst (λ (w : World). P (outcome.0, w)) (sym given.1) h)
-from_outcome (Err e) P new outcome h given = tt
+from_outcome (Err e) P old new outcome h given = given
 
 -- the same of a reply that leaves the world
 pub from_reply : {E : Type 0} (result : Result Reply E) (P : Outcome → Type 0) (w : World) (response : Response)
-    → P (response, w) → IfOk result (λ r. response_of r ≡ response) → IfOk result (λ reply. P (response_of reply, w))
+    → P (response, w) → IfOk result (λ r. response_of r ≡ response) → MatchResult result (λ reply. P (response_of reply, w)) (λ _. w ≡ w)
 from_reply (Ok r) P w response h given = subst (λ (s : Response). P (s, w)) (sym given) h
-from_reply (Err e) P w response h given = tt
+from_reply (Err e) P w response h given = refl
 
 -- what follows from each reply follows
-pub each_reply : {E : Type 0} (result : Result Reply E) (P Q : Reply → Type 0) → ((r : Reply) → P r → Q r) → IfOk result P → IfOk result Q
-each_reply (Ok r) P Q f h = f r h
-each_reply (Err e) P Q f h = tt
+pub each_reply : {E : Type 0} (result : Result Reply E) (P Q : Reply → Type 0) (R : Type 0) → ((r : Reply) → P r → Q r) → MatchResult result P (λ _. R) → MatchResult result Q (λ _. R)
+each_reply (Ok r) P Q R f h = f r h
+each_reply (Err e) P Q R f h = h
 
 -- one step more at the end of a run
 pub run_more : {xs : List Asked} {old mid new : World} {replies : List Response} (x : Asked) (reply : Response)

@@ -23,13 +23,15 @@ abbrev pub GivesTarget : {E : Type 0} → List ℕ → List ℕ → Result (Resu
 GivesTarget method target result =
     IfOk result (λ r. MatchResult r (λ p. TargetGives method target (Ok p.bytes)) (λ status. TargetGives method target (Err status)))
 
--- Where memory sufficed, the reply and the world that is left are those of a request.
+-- The reply and the world that is left are those of a request; for want of memory, the world is left as it was.
 abbrev pub GivesServing : {E : Type 0} → Result Reply E → Request → List ℕ → ℕ → World → World → Type 0
-GivesServing result request body now old new = IfOk result (λ reply. Serves request body now old (response_of reply, new))
+GivesServing result request body now old new =
+    MatchResult result (λ reply. Serves request body now old (response_of reply, new)) (λ _. new ≡ old)
 
--- Where memory sufficed, the reply and the world that is left are those of a step of the machine.
+-- The reply and the world that is left are those of a step of the machine; for want of memory, the world is left as it
+-- was.
 abbrev pub GivesStep : {E : Type 0} → Result Reply E → Asked → World → World → Type 0
-GivesStep result x old new = IfOk result (λ reply. Steps x old (response_of reply, new))
+GivesStep result x old new = MatchResult result (λ reply. Steps x old (response_of reply, new)) (λ _. new ≡ old)
 
 -- One reply more: that of a step from the old world to the new one.
 abbrev pub AddsReply : Asked → World → World → List Reply → List Reply → Type 0

@@ -2,7 +2,7 @@
 use Rattle.std.specs.Prelude.{ℕ, ◌+◌, ◌==◌, ◌&&◌, Bool, true, false, not, List, [], ◌∷◌, length, codes, bytes_eq, if◌then◌else◌, nat_lt, Option, Some, None}
 use Rattle.std.specs.List.{list_any}
 use Rattle.dav_core.specs.Path.{Path, parent_of}
-use Rattle.dav_core.specs.World.{World, Node, File, node_at, is_folder, is_missing, is_folder_kind, bytes_of, with_new, adjust, splice, LAST_NUMBER, MAX_FILE_LEN}
+use Rattle.dav_core.specs.World.{World, Node, File, node_at, is_folder, is_missing, is_folder_kind, bytes_of, with_new, adjust, splice, last_number, max_file_len}
 use Rattle.dav_run.specs.Head.{Request, values_of, has_value}
 use Rattle.dav_run.specs.Length.{announced_length}
 use Rattle.dav_run.specs.Response.{Response, refusal, closing_refusal, shown, stored}
@@ -24,43 +24,37 @@ get w p = get_node w (node_at w p)
 abbrev pub renewed : ℕ → List ℕ → ℕ → Node → Node
 renewed number bytes now n = record n { number = number; kind = File bytes; modified = now }
 
--- the file at p with other bytes and the next number
+-- the file at p with other bytes and the next number; callers see that a file stands there
 abbrev pub with_bytes : World → Path → List ℕ → ℕ → World
 with_bytes w p bytes now = record { nodes = adjust p (renewed w.next bytes now) w.nodes; next = w.next + 1 }
 
--- Writing the body into the file at p, which is empty and has this number: 413 where it is too long, 500 where
--- numbers are used up. An empty body takes no number.
-abbrev pub put_bytes : World → Path → List ℕ → ℕ → Bool → ℕ → Outcome
-put_bytes w p body now made number =
-    if nat_lt MAX_FILE_LEN (length body) then (refusal 413, w)
+-- Opening the file at p: it is made, or emptied, and takes the next number.
+abbrev pub opened : World → Path → ℕ → World
+opened w p now = if is_missing w p then with_new w p (File []) [] now else with_bytes w p [] now
+
+-- Writing the body into the opened file, which is empty and has this number. An empty body takes no number. 413
+-- where it is too long and 500 where numbers are used up; then the file stays as it was opened.
+abbrev pub wrote : World → Path → List ℕ → ℕ → Bool → ℕ → Outcome
+wrote w p body now made number =
+    if nat_lt max_file_len (length body) then (refusal 413, w)
     else (if length body == 0 then (stored made number now, w)
-    else (if w.next == LAST_NUMBER then (refusal 500, w)
+    else (if w.next == last_number then (refusal 500, w)
     else (stored made w.next now, with_bytes w p (splice [] 0 body) now)))
-
--- Nothing is there: an empty file is made, which takes a number. 409 where no folder is above it.
-abbrev pub put_new : World → Path → List ℕ → ℕ → Outcome
-put_new w p body now =
-    if not (is_folder w (parent_of p)) then (closing_refusal 409, w)
-    else (if w.next == LAST_NUMBER then (refusal 500, w)
-    else put_bytes (with_new w p (File []) [] now) p body now true w.next)
-
--- Something is there: the file is emptied, which takes a number too. 403 for a folder.
-abbrev pub put_over : World → Path → List ℕ → ℕ → Outcome
-put_over w p body now =
-    if is_folder w p then (refusal 403, w)
-    else (if w.next == LAST_NUMBER then (refusal 500, w)
-    else put_bytes (with_bytes w p [] now) p body now false w.next)
 
 -- a body that isn't of the announced length, where one is announced
 abbrev pub is_other_length : Option ℕ → List ℕ → Bool
 is_other_length None body = false
 is_other_length (Some n) body = not (n == length body)
 
--- PUT stores the body: 400 where it isn't of the announced length.
+-- PUT: 400 where the body isn't of the announced length, 409 where nothing is there and no folder is above, 403 for a
+-- folder, 500 where numbers are used up; else the file is opened and the body written.
 abbrev pub put : World → Path → List ℕ → ℕ → Option ℕ → Outcome
 put w p body now announced =
     if is_other_length announced body then (closing_refusal 400, w)
-    else (if is_missing w p then put_new w p body now else put_over w p body now)
+    else (if is_missing w p && not (is_folder w (parent_of p)) then (closing_refusal 409, w)
+    else (if is_folder w p then (refusal 403, w)
+    else (if w.next == last_number then (refusal 500, w)
+    else wrote (opened w p now) p body now (is_missing w p) w.next)))
 
 -- the methods that are known (RFC 9110, section 9.3; RFC 5789; RFC 4918, section 9)
 abbrev pub is_known : List ℕ → Bool

@@ -1,5 +1,5 @@
 -- What contracts see of a reply.
-use Rattle.std.specs.Prelude.{◌≡◌, ℕ, List, map, Option, Some, None, Result, IfOk}
+use Rattle.std.specs.Prelude.{◌≡◌, ℕ, List, map, Option, Some, None, Result, MatchResult}
 use Rattle.http_header.specs.HeaderMap.{Entries, pairs}
 use Rattle.http_header.specs.FieldValue.{FieldValue}
 use Rattle.dav_core.specs.World.{World}
@@ -20,6 +20,6 @@ header_pairs headers = map (λ p. (p.0, p.1.bytes)) (pairs headers)
 abbrev pub response_of : Reply → Response
 response_of r = record { status = r.status; headers = header_pairs r.headers; body = shown_body r.body }
 
--- Where memory sufficed, the reply and the world that is left are those of the outcome.
-abbrev pub Gives : {E : Type 0} → Result Reply E → World → Outcome → Type 0
-Gives result new outcome = IfOk result (λ r. (response_of r ≡ outcome.0) × (new ≡ outcome.1))
+-- The reply and the world that is left are those of the outcome; for want of memory, the world is left as it was.
+abbrev pub Gives : {E : Type 0} → Result Reply E → World → World → Outcome → Type 0
+Gives result old new outcome = MatchResult result (λ r. (response_of r ≡ outcome.0) × (new ≡ outcome.1)) (λ _. new ≡ old)

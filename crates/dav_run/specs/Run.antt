@@ -1,9 +1,9 @@
--- The machine: what each exchange may be answered, and what it leaves, from the bytes of its head on.
+-- The machine: what each exchange is answered, and what it leaves, from the bytes of its head on.
 use Rattle.std.specs.Prelude.{◌≡◌, ◌≢◌, ℕ, ◌≤◌, ◌++◌, All, true, false, List, [], ◌∷◌, codes, Result, Ok, Err}
 use Rattle.dav_core.specs.declared.errors.ParseError.TheVariants.{InvalidPath, ForbiddenPath}
 use Rattle.dav_core.specs.Path.{star, names_of}
 use Rattle.dav_core.specs.Target.{Reads, IsRefused}
-use Rattle.dav_core.specs.World.{World, IsWorld, LAST_MOMENT}
+use Rattle.dav_core.specs.World.{World, IsWorld, last_moment}
 use Rattle.dav_run.specs.Head.{Request, IsHead}
 use Rattle.dav_run.specs.Response.{Response, refusal}
 use Rattle.dav_run.specs.Methods.{Outcome, is_known, method_at}
@@ -39,11 +39,10 @@ pub data Runs : List Asked → World → List Response → World → Type 0 wher
   one_more : {x : Asked} {xs : List Asked} {old mid new : World} {reply : Response} {replies : List Response}
       → Steps x old (reply, mid) → Runs xs mid replies new → Runs (x ∷ xs) old (reply ∷ replies) new
 
--- These replies are those of a run of the first exchanges, and some exchange was left.
-abbrev pub RanInPart : List Asked → World → List Response → Type 0
-RanInPart xs old replies =
-    (front : List Asked) × (x : Asked) × (rest : List Asked) × (mid : World)
-    × (xs ≡ front ++ x ∷ rest) × Runs front old replies mid
+-- These replies, perhaps none, and this world are those of a run of the first exchanges, and some exchange was left.
+abbrev pub RanInPart : List Asked → World → List Response → World → Type 0
+RanInPart xs old replies new =
+    (front : List Asked) × (x : Asked) × (rest : List Asked) × (xs ≡ front ++ x ∷ rest) × Runs front old replies new
 
 -- From one world, the same exchanges have one run at most.
 abbrev pub RunIsDetermined : Type 0
@@ -55,4 +54,4 @@ RunIsDetermined =
 abbrev pub RunKeepsWorld : Type 0
 RunKeepsWorld =
     (xs : List Asked) (old new : World) (replies : List Response)
-    → All (λ x. x.moment ≤ LAST_MOMENT) xs → IsWorld old → Runs xs old replies new → IsWorld new
+    → All (λ x. x.moment ≤ last_moment) xs → IsWorld old → Runs xs old replies new → IsWorld new

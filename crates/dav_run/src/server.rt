@@ -1,6 +1,7 @@
 //! A server of GET and PUT over a store in memory.
-ghost use Rattle.std.specs.Prelude.{◌≡◌, ◌≢◌, bytes_eq, codes, map, MatchBool, IfOk, IfErr, OnOk, OnErr};
+ghost use Rattle.std.specs.Prelude.{◌≡◌, ◌≢◌, ◌<◌, ◌++◌, ◌∷◌, [], vec_len, bytes_eq, codes, map, MatchBool, IfOk, IfErr, OnOk, OnErr};
 ghost use Rattle.std.specs.List.{list_any};
+ghost use Rattle.std.specs.Vec.{vec_capacity};
 ghost use Rattle.dav_core.specs.Path.{star};
 ghost use Rattle.dav_run.specs.Methods.{is_known, takes_body, has_conditions, method_at};
 ghost use Rattle.dav_run.specs.Reply.{Gives, response_of};
@@ -117,7 +118,7 @@ fn serve_at(
     body: &Bytes,
     now: Moment,
 ) -> Result<Reply, AllocError>
-    ensures { Gives result (world_of store.new) (method_at (request.now) (world_of store.old) path.now body.now now.seconds) }
+    ensures { Gives result (world_of store.old) (world_of store.new) (method_at (request.now) (world_of store.old) path.now body.now now.seconds) }
 {
     let method = request.method();
     if !body.is_empty() && !takes_body(method) {
@@ -199,7 +200,15 @@ fn answer(store: &mut Store, alloc: Global, exchange: &Exchange<'_>) -> Result<R
     }
 }
 
-// Answers an exchange, and adds the reply at the end.
+// Adds a reply at the end, where there is room.
+fn add(replies: &mut Vec<Reply>, reply: Reply)
+    requires { vec_len replies.old < vec_capacity replies.old }
+    ensures { replies.new.items ≡ replies.old.items ++ reply ∷ [] }
+{
+    let _ = replies.push(reply);
+}
+
+// Answers an exchange, and adds the reply at the end. The room for it is made before the exchange is answered.
 fn answer_next(
     store: &mut Store,
     alloc: Global,
@@ -207,10 +216,12 @@ fn answer_next(
     replies: &mut Vec<Reply>,
 ) -> Result<(), AllocError>
     ensures ok { OnOk result (AddsReply (asked exchange.now) (world_of store.old) (world_of store.new) replies.old.items replies.new.items) }
-    ensures err { OnErr result (replies.new.items ≡ replies.old.items) }
+    ensures replies { OnErr result (replies.new.items ≡ replies.old.items) }
+    ensures store { OnErr result (world_of store.new ≡ world_of store.old) }
 {
+    replies.reserve(1)?;
     let reply = answer(store, alloc, exchange)?;
-    replies.push(reply)?;
+    add(replies, reply);
     Ok(())
 }
 
@@ -218,14 +229,14 @@ fn answer_next(
 ///
 /// The replies and the store that is left are those of the machine's run from the bytes of each head on: each is a
 /// refusal or what GET (RFC 9110, section 9.3.1) and PUT (section 9.3.4) answer. `RunFault` where memory ran out, with
-/// the replies of the exchanges that were answered.
+/// the replies of the exchanges that were answered; the store is then as these left it.
 pub fn run(
     store: &mut Store,
     alloc: Global,
     exchanges: &[Exchange<'_>],
 ) -> Result<Vec<Reply>, RunFault>
     ensures run { IfOk result (λ replies. Runs (map asked exchanges.now) (world_of store.old) (map response_of replies.items) (world_of store.new)) }
-    ensures fault { IfErr result (λ fault. RanInPart (map asked exchanges.now) (world_of store.old) (map response_of fault.replies.items)) }
+    ensures fault { IfErr result (λ fault. RanInPart (map asked exchanges.now) (world_of store.old) (map response_of fault.replies.items) (world_of store.new)) }
 {
     let mut replies = Vec::new(alloc);
     for exchange in exchanges {

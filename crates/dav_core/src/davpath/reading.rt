@@ -18,7 +18,7 @@ pub(super) enum Kind {
     Bad,
 }
 
-// A name ends at a slash or a zero byte.
+// A zero byte or a slash, which no name holds.
 fn is_barred(b: u8) -> bool
     ensures { IsTrue result ↔ IsBarred b }
 {

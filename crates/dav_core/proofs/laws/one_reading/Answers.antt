@@ -7,6 +7,6 @@ returns c = record {
   leaves_no_fault = λ ps a h. (Leaves-allowed ps a h, Leaves-valid ps a h);
   one_fault = Climbs-valid;
   reads = Reads-one;
-  reads_or_refused = λ src a h. (Reads-valid src a h, Reads-allowed src a h);
+  read_is_not_refused = λ src a h. (Reads-valid src a h, Reads-allowed src a h);
   one_refusal = refused_once;
 }

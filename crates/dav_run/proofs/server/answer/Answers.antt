@@ -21,7 +21,7 @@ returns-in-None c =
     let old = world_of c.args.store.now in
     let new = world_of c.serve-in-None.new.store in
     let body : c.new.result ≡ x.body = c.new.ensures ∙ sym (ap body_bytes c.in-None.is) in
-    each_reply c.serve-in-None.result (λ (reply : Reply). Serves r x.body x.moment old (response_of reply, new)) (λ (reply : Reply). Steps x old (response_of reply, new))
+    each_reply c.serve-in-None.result (λ (reply : Reply). Serves r x.body x.moment old (response_of reply, new)) (λ (reply : Reply). Steps x old (response_of reply, new)) (new ≡ old)
     (λ reply served. head c.in-Ok.ensures.ok served)
     (subst (λ (b : List ℕ). GivesServing c.serve-in-None.result r b x.moment old new) body c.serve-in-None.ensures)
 
@@ -32,6 +32,6 @@ returns-in-Bytes c =
     let old = world_of c.args.store.now in
     let new = world_of c.serve-in-Bytes.new.store in
     let body : c.in-Bytes.bytes ≡ x.body = sym (ap body_bytes c.in-Bytes.is) in
-    each_reply c.serve-in-Bytes.result (λ (reply : Reply). Serves r x.body x.moment old (response_of reply, new)) (λ (reply : Reply). Steps x old (response_of reply, new))
+    each_reply c.serve-in-Bytes.result (λ (reply : Reply). Serves r x.body x.moment old (response_of reply, new)) (λ (reply : Reply). Steps x old (response_of reply, new)) (new ≡ old)
     (λ reply served. head c.in-Ok.ensures.ok served)
     (subst (λ (b : List ℕ). GivesServing c.serve-in-Bytes.result r b x.moment old new) body c.serve-in-Bytes.ensures)

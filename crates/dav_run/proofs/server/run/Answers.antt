@@ -1,4 +1,5 @@
 use Rattle.std.proofs.Common.{List, [], map, take, take_all, sym, subst}
+use Rattle.dav_core.specs.World.{World}
 use Rattle.dav_run.specs.declared.reply.Reply.{Reply}
 use Rattle.dav_run.specs.declared.server.Exchange.{Exchange}
 use Rattle.dav_run.specs.Exchange.{asked}
@@ -28,14 +29,15 @@ returns c = record {
 pub returns-in-Err : goal.returns-in-Err
 returns-in-Err c =
     let split = parts_of asked c.args.exchanges.now c.loop-exchange.exchange-index c.exchange-item.result c.loop-exchange-test.true c.exchange-item.is in
+    let front = map asked (take c.loop-exchange.exchange-index c.args.exchanges.now) in
+    let told = subst (λ (l : List Reply). Runs front (world_of c.args.store.now) (map response_of l) (world_of c.loop-exchange.store)) (sym c.in-Err.ensures.replies) c.loop-exchange.invariant in
     record {
       run = tt;
       fault = (
+        front,
         _,
         _,
-        _,
-        world_of c.loop-exchange.store,
         split,
-        subst (λ (l : List Reply). Runs (map asked (take c.loop-exchange.exchange-index c.args.exchanges.now)) (world_of c.args.store.now) (map response_of l) (world_of c.loop-exchange.store)) (sym c.in-Err.ensures.err) c.loop-exchange.invariant,
+        subst (λ (w : World). Runs front (world_of c.args.store.now) (map response_of c.answer_next.new.replies.items) w) (sym c.in-Err.ensures.store) told,
       );
     }

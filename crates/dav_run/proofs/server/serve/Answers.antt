@@ -33,6 +33,6 @@ returns-in_ok-names-in-Ok c =
     let target = subst (λ (m : List ℕ). TargetGives m r.target (Ok c.in-Ok.path.bytes)) c.method-method.ensures
     (subst (λ (t : List ℕ). TargetGives c.method-method.result.now t (Ok c.in-Ok.path.bytes)) c.target.ensures gives) in
     let names : c.in_ok-names-in-Ok.names ≡ names_of c.in-Ok.path.bytes = c.in_ok-names-in-Ok.ensures ∙ ap names_of c.as_ref.ensures in
-    from_outcome c.serve_at.result (Serves r c.args.body.now c.args.now.seconds (world_of c.args.store.now)) (world_of c.serve_at.new.store) _
+    from_outcome c.serve_at.result (Serves r c.args.body.now c.args.now.seconds (world_of c.args.store.now)) (world_of c.args.store.now) (world_of c.serve_at.new.store) _
     (serves known target)
-    (subst (λ (p : Path). Gives c.serve_at.result (world_of c.serve_at.new.store) (method_at r (world_of c.args.store.now) p c.args.body.now c.args.now.seconds)) names c.serve_at.ensures)
+    (subst (λ (p : Path). Gives c.serve_at.result (world_of c.args.store.now) (world_of c.serve_at.new.store) (method_at r (world_of c.args.store.now) p c.args.body.now c.args.now.seconds)) names c.serve_at.ensures)
