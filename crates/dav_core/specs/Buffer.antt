@@ -37,7 +37,7 @@ IsKind p Blank = IsBlank p
 IsKind p Parent = p ≡ parent_piece
 IsKind p Bad = IsBad p
 
--- where the last slash of the buffer is, or that there is none
+-- where the last slash of the buffer is; none in an empty buffer
 pub record IsLastSlash (buf : List ℕ) (place : Option ℕ) : Type 0 where
   pub last : (front back : List ℕ) → buf ≡ front ++ 47 ∷ back → All (λ b. b ≢ 47) back → place ≡ Some (length front)
   pub none : buf ≡ [] → place ≡ None

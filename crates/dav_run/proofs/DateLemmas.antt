@@ -8,7 +8,7 @@ use Rattle.httpdate.specs.Valid.{IsValid, parts_secs}
 use Rattle.httpdate.proofs.CalendarLemmas.{days_of_years_closed, days_of_months_more, days_of_months_all}
 use Rattle.httpdate.proofs.ValidLemmas.{is_valid_complete}
 use Rattle.httpdate.proofs.Theorems.{date_text_is}
-use Rattle.dav_run.specs.Date.{year_of, month_of, date_on, date_of, date_text_of}
+use Rattle.dav_run.specs.Date.{year_of, month_of, date_on, date_of, date_text_of, DatesOfMoments}
 
 -- what a search for the year gives: a year of the calendar, and fewer days than it has
 record IsYear (y days : ℕ) (r : ℕ × ℕ) : Type 0 where
@@ -133,6 +133,9 @@ date-is moment h =
     let within = year.within in
     let month = month-found 11 (year_of 8029 1970 (moment / 86400)).0 1 (year_of 8029 1970 (moment / 86400)).1 (omega arith) (omega arith) (omega (arith, within)) in
     is_date moment (moment / 86400) (moment % 86400) _ _ (omega arith) (omega arith) year month
+
+pub dates_of_moments : DatesOfMoments
+dates_of_moments moment h = date-is moment (omega arith)
 
 -- what is written for a date is the text of its moment
 pub date_text-is : (d : HttpDate) (moment : ℕ) → unix_secs d ≡ moment → moment ≤ 253402300799 → date_text d ≡ date_text_of moment

@@ -9,3 +9,4 @@ pub mod Worlds
 pub mod Members
 pub mod Requests
 pub mod Refusals
+pub mod Shown

@@ -1,5 +1,5 @@
 -- What GET and PUT do and answer, over a world (RFC 9110, sections 9.3.1 and 9.3.4; RFC 4918, section 9.7).
-use Rattle.std.specs.Prelude.{ℕ, ◌+◌, ◌==◌, ◌&&◌, Bool, true, false, not, List, [], ◌∷◌, length, codes, bytes_eq, if◌then◌else◌, nat_lt, Option, Some, None}
+use Rattle.std.specs.Prelude.{◌≡◌, ◌⊎◌, ℕ, ◌+◌, ◌==◌, ◌&&◌, Bool, true, false, not, List, [], ◌∷◌, length, codes, bytes_eq, if◌then◌else◌, nat_lt, Option, Some, None}
 use Rattle.std.specs.List.{list_any}
 use Rattle.dav_core.specs.Path.{Path, parent_of}
 use Rattle.dav_core.specs.World.{World, Node, File, node_at, is_folder, is_missing, is_folder_kind, bytes_of, with_new, adjust, splice, last_number, max_file_len}
@@ -87,3 +87,12 @@ method_at r w p body now =
     else (if bytes_eq r.method (codes "GET") then get w p
     else (if bytes_eq r.method (codes "PUT") then put w p body now (announced_length (values_of (codes "content-length") r.fields))
     else (refusal 501, w))))
+
+-- What PUT stored, GET shows: where a PUT is answered 201 or 204, the reply has the number and the moment of the file
+-- that stands there, and GET answers its body with both.
+abbrev pub PutIsShown : Type 0
+PutIsShown =
+    (w : World) (p : Path) (body : List ℕ) (now : ℕ) (announced : Option ℕ)
+    → let o = put w p body now announced in
+    ((o.0.status ≡ 201) ⊎ (o.0.status ≡ 204))
+    → (made : Bool) × (number : ℕ) × (o.0 ≡ stored made number now) × (get o.1 p ≡ (shown number now body, o.1))

@@ -42,8 +42,8 @@ abbrev pub IsDigits : Data → List ℕ → Type 0
 IsDigits d bytes = IsSomeAnd (as_str d) (λ text. decode_of text ≡ Ok bytes)
 
 -- a head is a text, or an object with the digits as its one member `hex`
-abbrev pub IsHead : Data → List ℕ → Type 0
-IsHead d bytes =
+abbrev pub IsHeadText : Data → List ℕ → Type 0
+IsHeadText d bytes =
     IsText d bytes
     ⊎ (IsObjectOf Digits d × IsSomeAnd (get (codes "hex") d) (λ digits. IsDigits digits bytes))
 
@@ -67,7 +67,7 @@ IsMoment (Some d) moment = (option_and_then as_u64 (as_number d) ≡ Some moment
 -- a request has a head, and where it says so a body and a moment
 pub record IsRequest (d : Data) (r : ScriptRequest) : Type 0 where
   pub members : IsObjectOf Request d
-  pub head : IsSomeAnd (get (codes "head") d) (λ head. IsHead head r.head)
+  pub head : IsSomeAnd (get (codes "head") d) (λ head. IsHeadText head r.head)
   pub body : IsBody (get (codes "body") d) r.body
   pub moment : IsMoment (get (codes "moment") d) r.moment
 
@@ -99,10 +99,10 @@ IsPlayable text = IsShort text × ((rs : List ScriptRequest) × IsScript text rs
 -- ---- what was read
 
 -- the bytes of a body, if there is one
-abbrev pub body_bytes : Body → Option (List ℕ)
-body_bytes body.None = None
-body_bytes (body.Bytes bytes) = Some bytes
+abbrev pub given_body : Body → Option (List ℕ)
+given_body body.None = None
+given_body (body.Bytes bytes) = Some bytes
 
 -- what a request asks for
 abbrev pub script_request : request.Request → ScriptRequest
-script_request r = record { head = r.head.items; body = body_bytes r.body; moment = r.moment }
+script_request r = record { head = r.head.items; body = given_body r.body; moment = r.moment }

@@ -8,7 +8,7 @@ ghost use Rattle.std.specs.Map.{keys_of};
 ghost use Rattle.serde_json.specs.View.{view, items_view};
 ghost use Rattle.serde_json.specs.Errors.{IsMemory};
 ghost use Rattle.hex.specs.declared.error.FromHexError.TheVariants.{OutOfMemory};
-ghost use Rattle.dav_run.specs.Script.{IsMemberOf, IsObjectOf, IsText, IsDigits, IsHead, IsBodyBytes, IsBody, IsMoment, IsRequest, AreRequests, IsScriptValue, IsScript, ScriptRequest, script_request, body_bytes};
+ghost use Rattle.dav_run.specs.Script.{IsMemberOf, IsObjectOf, IsText, IsDigits, IsHeadText, IsBodyBytes, IsBody, IsMoment, IsRequest, AreRequests, IsScriptValue, IsScript, ScriptRequest, script_request, given_body};
 ghost use Rattle.dav_run.specs.declared.script.ScriptError.TheVariants.{NotScript, Memory};
 
 use crate::moment::LAST_MOMENT;
@@ -169,8 +169,8 @@ fn read_request(alloc: Global, value: &Value) -> Result<Request, ScriptError>
 
 // The bytes of a head: those of a text, or of the digits of the one member `hex`.
 fn read_head(alloc: Global, value: &Value) -> Result<Vec<u8>, ScriptError>
-    ensures ok { IfOk result (λ bytes. IsHead (view value.now) bytes.items) }
-    ensures none { IsErrOf result NotScript → (bytes : List ℕ) → ¬ IsHead (view value.now) bytes }
+    ensures ok { IfOk result (λ bytes. IsHeadText (view value.now) bytes.items) }
+    ensures none { IsErrOf result NotScript → (bytes : List ℕ) → ¬ IsHeadText (view value.now) bytes }
 {
     if value.is_string() {
         return read_text(alloc, value);
@@ -182,7 +182,7 @@ fn read_head(alloc: Global, value: &Value) -> Result<Vec<u8>, ScriptError>
 // The body of a request; none where the member is not there or null.
 fn read_body(alloc: Global, value: Option<&Value>) -> Result<Body, ScriptError>
     ensures ok { IfOk result
-        (λ body. IsBody (option_map (λ v. view v.now) value.entry) (body_bytes body)) }
+        (λ body. IsBody (option_map (λ v. view v.now) value.entry) (given_body body)) }
     ensures none { IsErrOf result NotScript
         → (body : Option (List ℕ)) → ¬ IsBody (option_map (λ v. view v.now) value.entry) body }
 {
