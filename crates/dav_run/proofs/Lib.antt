@@ -1,3 +1,5 @@
 pub mod Members
 pub mod Requests
 pub mod Refusals
+pub mod Headers
+pub mod Lines
