@@ -10,3 +10,5 @@ pub mod Members
 pub mod Requests
 pub mod Refusals
 pub mod Shown
+pub mod Headers
+pub mod Lines

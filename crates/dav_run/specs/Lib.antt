@@ -7,4 +7,5 @@ pub mod Run
 pub mod Reply
 pub mod Store
 pub mod Exchange
+pub mod Print
 pub mod Script

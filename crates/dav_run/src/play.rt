@@ -1,5 +1,7 @@
 //! Playing a script: from the bytes of a reader to the lines of a writer.
-ghost use Rattle.std.specs.Prelude.{◌≡◌, ◌≢◌, ◌≤◌, map, IfSome, IfOk, IfErr, OnOk, IsErrOf};
+ghost use Rattle.std.specs.Prelude.{◌≡◌, ◌≢◌, ◌↔◌, ◌≤◌, map, IfSome, IfOk, IfErr, OnOk, IsErrOf};
+ghost use Rattle.std.specs.Io.KnownBytes.{Appends};
+ghost use Rattle.dav_run.specs.Print.{lines_of};
 ghost use Rattle.dav_run.specs.Script.{IsScript, IsShort, IsPlayable, script_request};
 ghost use Rattle.dav_run.specs.declared.play.Fault.TheVariants.{NotScript, Io, Memory};
 
@@ -61,7 +63,7 @@ impl<T: Drop> From<AllocFailed<T>> for Fault {
 impl From<ScriptError> for Fault {
     ghost use Rattle.dav_run.specs.declared.script.ScriptError.{ScriptError};
 
-    ghost from_gives = { λ error e. e ≡ NotScript → error ≡ ScriptError.NotScript };
+    ghost from_gives = { λ error e. (e ≢ Io) × (e ≡ NotScript ↔ error ≡ ScriptError.NotScript) };
 
     fn from(error: ScriptError) -> Fault {
         match error {
@@ -170,7 +172,8 @@ fn body_of(body: &Body) -> Result<Body, AllocError> {
 
 // Writes one line for each reply. A line is out before the next one is made.
 fn write_replies<W: Write>(alloc: Global, replies: &[Reply], writer: &mut W) -> Result<(), Fault>
-    ensures { IfErr result (λ e. e ≢ NotScript) }
+    ensures written { OnOk result (Appends (W.contents writer.old) (W.contents writer.new) (lines_of replies.now)) }
+    ensures err { IfErr result (λ e. e ≢ NotScript) }
 {
     for reply in replies {
         let line = reply_line(alloc, reply)?;

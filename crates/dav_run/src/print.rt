@@ -1,4 +1,8 @@
 //! Replies as JSON.
+ghost use Rattle.std.specs.Prelude.{◌≡◌, IfOk, string_bytes};
+ghost use Rattle.serde_json.specs.View.{view};
+ghost use Rattle.dav_run.specs.Print.{body_data, headers_data, reply_data, line_of};
+
 use crate::server::{Reply, ReplyBody};
 use http_header::HeaderMap;
 use serde_json::{Map, Value, json};
@@ -6,19 +10,31 @@ use std::alloc::{AllocError, Global};
 
 /// The line of a reply: an object with the members `body`, `headers` and `status`, and a newline.
 /// The body is null, or the lower-case hexadecimal digits of its bytes as the member `hex`. The
-/// headers are an object, in byte order of their names.
-pub fn reply_line(alloc: Global, reply: &Reply) -> Result<String, AllocError> {
-    let body = body_value(alloc, &reply.body)?;
-    let headers = headers_value(alloc, &reply.headers)?;
-    let status = reply.status.as_u16();
-    let value = json!(in alloc; {"body": body, "headers": headers, "status": status})?;
-    let mut line = value.to_string(alloc)?;
+/// headers are an object, in byte order of their names: of a name with several values the last one
+/// counts, and what is not UTF-8 is printed as U+FFFD.
+#[tactic(auto, using(crate::proofs::Headers::reply_plain))]
+pub fn reply_line(alloc: Global, reply: &Reply) -> Result<String, AllocError>
+    ensures { IfOk result (λ line. string_bytes line ≡ line_of reply.now) }
+{
+    let mut line = reply_value(alloc, reply)?.to_string(alloc)?;
     line.push('\n')?;
     Ok(line)
 }
 
+// A reply as an object.
+fn reply_value(alloc: Global, reply: &Reply) -> Result<Value, AllocError>
+    ensures { IfOk result (λ value. view value ≡ reply_data reply.now) }
+{
+    let body = body_value(alloc, &reply.body)?;
+    let headers = headers_value(alloc, &reply.headers)?;
+    let status = reply.status.as_u16();
+    json!(in alloc; {"body": body, "headers": headers, "status": status})
+}
+
 // What is printed of a body.
-fn body_value(alloc: Global, body: &ReplyBody) -> Result<Value, AllocError> {
+fn body_value(alloc: Global, body: &ReplyBody) -> Result<Value, AllocError>
+    ensures { IfOk result (λ value. view value ≡ body_data body.now) }
+{
     match body {
         ReplyBody::Nothing => Ok(Value::Null),
         ReplyBody::Bytes(bytes) => {
@@ -28,14 +44,14 @@ fn body_value(alloc: Global, body: &ReplyBody) -> Result<Value, AllocError> {
     }
 }
 
-// What is printed of the headers: of a name with several values the last one, and a byte that is
-// not UTF-8 as U+FFFD.
-fn headers_value(alloc: Global, headers: &HeaderMap) -> Result<Value, AllocError> {
+// What is printed of the headers.
+fn headers_value(alloc: Global, headers: &HeaderMap) -> Result<Value, AllocError>
+    ensures { IfOk result (λ value. view value ≡ headers_data headers.now) }
+{
     let mut members = Map::new(alloc);
     for (name, value) in headers.iter() {
-        let name = String::from_str(alloc, name.as_str())?;
         let value = String::from_utf8_lossy(alloc, value.as_bytes())?;
-        members.insert(name, Value::String(value))?;
+        serde_json::put(&mut members, alloc, name.as_str(), Value::String(value))?;
     }
     Ok(Value::Object(members))
 }

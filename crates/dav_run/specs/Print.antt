@@ -1,0 +1,43 @@
+-- The line that is printed of a reply: JSON (RFC 8259).
+use Rattle.std.specs.Prelude.{ℕ, List, [], ◌∷◌, ◌++◌, codes}
+use Rattle.std.specs.List.{flat_map}
+use Rattle.std.specs.Str.Lossy.{utf8_lossy}
+use Rattle.hex.specs.Hex.{encode_lower}
+use Rattle.http_header.specs.FieldValue.{FieldValue}
+use Rattle.http_header.specs.HeaderMap.{Entries, pairs}
+use Rattle.serde_json.specs.Data.{Data, null, number, string, object, unsigned, Members, no_members, member, put}
+use Rattle.serde_json.specs.Written.{compact_text}
+use Rattle.dav_run.specs.declared.reply.Reply.{Reply}
+use Rattle.dav_run.specs.declared.reply.ReplyBody.{ReplyBody}
+use Rattle.dav_run.specs.declared.reply.ReplyBody.TheVariants.{Nothing, Bytes}
+
+-- a body's bytes as the member `hex`, in lower-case digits
+abbrev pub body_data : ReplyBody → Data
+body_data Nothing = null
+body_data (Bytes bytes) = object (member (codes "hex") (string (encode_lower bytes)) no_members)
+
+-- headers as members, each put in over those before it: of a name with several values the last
+-- one counts
+abbrev pub headers_over : List (List ℕ × FieldValue) → Members → Members
+headers_over [] found = found
+headers_over (h ∷ more) found = headers_over more (put h.0 (string (utf8_lossy h.1.bytes)) found)
+
+-- all headers, in byte order of their names
+abbrev pub headers_data : Entries FieldValue → Data
+headers_data headers = object (headers_over (pairs headers) no_members)
+
+-- a reply as an object
+abbrev pub reply_data : Reply → Data
+reply_data r =
+    object
+    (member (codes "body") (body_data r.body)
+    (member (codes "headers") (headers_data r.headers)
+    (member (codes "status") (number (unsigned r.status)) no_members)))
+
+-- the line of a reply: its JSON text with no blanks, and a newline
+abbrev pub line_of : Reply → List ℕ
+line_of r = compact_text (reply_data r) ++ 10 ∷ []
+
+-- the lines of replies, in order
+abbrev pub lines_of : List Reply → List ℕ
+lines_of rs = flat_map line_of rs
