@@ -12,3 +12,4 @@ pub mod Refusals
 pub mod Shown
 pub mod Headers
 pub mod Lines
+pub mod Played

@@ -1,12 +1,12 @@
 -- What PUT stored, GET shows.
-use Rattle.std.proofs.Common.{◌≡◌, ℕ, ◌⊎◌, Bool, true, false, not, cond, List, [], ◌∷◌, length, is_none, Option, Some, None, refl, sym, ap, subst, ◌∙◌, arith, inl, inr, if◌then◌else◌, nat_lt, ◌==◌, ◌&&◌, ◌+◌}
+use Rattle.std.proofs.Common.{◌≡◌, ℕ, ◌⊎◌, Bool, true, false, not, cond, List, [], ◌∷◌, length, is_none, Option, Some, None, refl, sym, ap, subst, ◌∙◌, arith, inl, inr, if◌then◌else◌, nat_lt, ◌==◌, ◌&&◌}
 use Rattle.std.proofs.lemmas.Bool.{eqb-true}
 use Rattle.std.specs.Option.{option_map}
 use Rattle.std.specs.FinMap.{find, put}
 use Rattle.dav_core.specs.Path.{Path, path_cmp, parent_of, is_same_path}
-use Rattle.dav_core.specs.World.{World, Node, Kind, File, node_at, is_folder, is_folder_kind, is_missing, with_new, adjust, fresh, modified_at, splice, bytes_of, last_number, max_file_len}
+use Rattle.dav_core.specs.World.{World, Node, Kind, File, node_at, is_folder, is_folder_kind, is_missing, with_new, fresh, modified_at, splice, bytes_of, last_number, max_file_len}
 use Rattle.dav_core.proofs.NodesLemmas.{path-itself, find-adjust, find-put_node}
-use Rattle.dav_run.specs.Response.{Response, refusal, closing_refusal, stored, shown}
+use Rattle.dav_run.specs.Response.{refusal, stored, shown}
 use Rattle.dav_run.specs.Methods as methods
 use Rattle.dav_run.specs.Methods.{Outcome, renewed, with_bytes, get_node, get, opened, wrote, is_other_length, PutIsShown}
 use Rattle.dav_run.proofs.Splice.{splice_empty}
@@ -99,9 +99,13 @@ module _ (p : Path) (body : List ℕ) (now : ℕ) where
       (λ _. by_test p body now (length body == 0) _ _
       (λ none _. (made, number, refl, subst (λ (b : List ℕ). get w p ≡ (shown number now b, w)) (sym (empty_body body none)) (get_shows w p [] number now s)))
       (λ _. by_test p body now (w.next == last_number) _ _ (λ _. not_done 500 refl refl)
-      (λ _ _. (made, w.next, refl,
-          get_shows (with_bytes w p (splice [] 0 body) now) p body w.next now
-          (subst (λ (b : List ℕ). Stands (with_bytes w p (splice [] 0 body) now) p b w.next now) (splice_empty body) (stands_renewed w p (splice [] 0 body) now s.node s.there))))))
+      (λ _ _. (
+        made,
+        w.next,
+        refl,
+        get_shows (with_bytes w p (splice [] 0 body) now) p body w.next now
+            (subst (λ (b : List ℕ). Stands (with_bytes w p (splice [] 0 body) now) p b w.next now) (splice_empty body) (stands_renewed w p (splice [] 0 body) now s.node s.there)),
+      ))))
 
   put_shown : (w : World) (announced : Option ℕ) → IsDone (methods.put w p body now announced) → Holds p body now (methods.put w p body now announced)
   put_shown w announced =

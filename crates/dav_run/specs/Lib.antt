@@ -9,3 +9,4 @@ pub mod Store
 pub mod Exchange
 pub mod Print
 pub mod Script
+pub mod Play

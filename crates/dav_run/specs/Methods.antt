@@ -1,5 +1,5 @@
 -- What GET and PUT do and answer, over a world (RFC 9110, sections 9.3.1 and 9.3.4; RFC 4918, section 9.7).
-use Rattle.std.specs.Prelude.{◌≡◌, ◌⊎◌, ℕ, ◌+◌, ◌==◌, ◌&&◌, Bool, true, false, not, List, [], ◌∷◌, length, codes, bytes_eq, if◌then◌else◌, nat_lt, Option, Some, None}
+use Rattle.std.specs.Prelude.{◌≡◌, ◌⊎◌, ℕ, ◌+◌, ◌==◌, ◌&&◌, Bool, false, not, List, [], ◌∷◌, length, codes, bytes_eq, if◌then◌else◌, nat_lt, Option, Some, None}
 use Rattle.std.specs.List.{list_any}
 use Rattle.dav_core.specs.Path.{Path, parent_of}
 use Rattle.dav_core.specs.World.{World, Node, File, node_at, is_folder, is_missing, is_folder_kind, bytes_of, with_new, adjust, splice, last_number, max_file_len}

@@ -90,7 +90,13 @@ fn open(store: &mut Store, path: &Names, now: Moment) -> Result<(), AllocError>
 }
 
 // Opens the file at a path and writes the body. All memory that it takes is there before the store is changed.
-fn store_body(store: &mut Store, alloc: Global, path: &Names, body: &Bytes, now: Moment) -> Result<Reply, AllocError>
+fn store_body(
+    store: &mut Store,
+    alloc: Global,
+    path: &Names,
+    body: &Bytes,
+    now: Moment,
+) -> Result<Reply, AllocError>
     requires { (world_of store.old).next < 18446744073709551615 }
     ensures { Gives result (world_of store.old) (world_of store.new)
         (methods.wrote (methods.opened (world_of store.old) path.now now.seconds) path.now body.now now.seconds (is_missing (world_of store.old) path.now) (world_of store.old).next) }

@@ -1,8 +1,10 @@
 //! Playing a script: from the bytes of a reader to the lines of a writer.
-ghost use Rattle.std.specs.Prelude.{◌≡◌, ◌≢◌, ◌↔◌, ◌≤◌, map, IfSome, IfOk, IfErr, OnOk, IsErrOf};
+ghost use Rattle.std.specs.Prelude.{◌≡◌, ◌≢◌, ◌↔◌, ◌≤◌, map, ℕ, List, [], unwrap_or, IfSome, IfOk, IfErr, OnOk, IsErrOf};
 ghost use Rattle.std.specs.Io.KnownBytes.{Appends};
 ghost use Rattle.dav_run.specs.Print.{lines_of};
-ghost use Rattle.dav_run.specs.Script.{IsScript, IsShort, IsPlayable, script_request};
+ghost use Rattle.dav_run.specs.Script.{IsScript, IsShort, IsPlayable, script_request, given_body};
+ghost use Rattle.dav_run.specs.Exchange.{asked, body_bytes};
+ghost use Rattle.dav_run.specs.Play.{Plays, exchange_asked};
 ghost use Rattle.dav_run.specs.declared.play.Fault.TheVariants.{NotScript, Io, Memory};
 
 use crate::print::reply_line;
@@ -78,7 +80,8 @@ impl From<ScriptError> for Fault {
 /// replies given before fails, that is [`IO_FAILED`].
 pub fn play<R: Read, W: Write>(alloc: Global, reader: &mut R, writer: &mut W) -> u8
     ensures status { result ≤ 3 }
-    ensures played { result ≡ 0 → IfSome (R.remaining reader.old) IsPlayable }
+    ensures played { result ≡ 0 → IfSome (R.remaining reader.old) (λ text. (lines : List ℕ) × Plays text lines
+        × Appends (W.contents writer.old) (W.contents writer.new) lines) }
     ensures not_script { result ≡ 1 → IfSome (R.remaining reader.old) (λ text. ¬ IsPlayable text) }
     ensures untouched { result ≡ 1 → writer.new ≡ writer.old }
 {
@@ -96,7 +99,8 @@ fn play_through<R: Read, W: Write>(
     reader: &mut R,
     writer: &mut W,
 ) -> Result<(), Fault>
-    ensures played { OnOk result (IfSome (R.remaining reader.old) IsPlayable) }
+    ensures played { OnOk result (IfSome (R.remaining reader.old) (λ text. (lines : List ℕ) × Plays text lines
+        × Appends (W.contents writer.old) (W.contents writer.new) lines)) }
     ensures not_script { IsErrOf result NotScript
         → IfSome (R.remaining reader.old) (λ text. ¬ IsPlayable text) }
     ensures untouched { IsErrOf result NotScript → writer.new ≡ writer.old }
@@ -148,7 +152,9 @@ fn read_bytes<R: Read>(alloc: Global, reader: &mut R) -> Result<Vec<u8>, Fault>
 }
 
 // The exchanges of a script.
-fn exchanges_of(alloc: Global, script: &Script) -> Result<Vec<Exchange<'_>>, AllocError> {
+fn exchanges_of(alloc: Global, script: &Script) -> Result<Vec<Exchange<'_>>, AllocError>
+    ensures { IfOk result (λ exchanges. map asked exchanges.items ≡ map (λ r. exchange_asked (script_request r)) script.now.requests.items) }
+{
     let mut exchanges = Vec::new(alloc);
     for request in &script.requests {
         exchanges.push(exchange_of(request)?)?;
@@ -157,13 +163,17 @@ fn exchanges_of(alloc: Global, script: &Script) -> Result<Vec<Exchange<'_>>, All
 }
 
 // The exchange of a request. Its moment is none that an exchange refuses.
-fn exchange_of(request: &Request) -> Result<Exchange<'_>, AllocError> {
+fn exchange_of(request: &Request) -> Result<Exchange<'_>, AllocError>
+    ensures { IfOk result (λ exchange. asked exchange ≡ exchange_asked (script_request request.now)) }
+{
     let body = body_of(&request.body)?;
     Ok(Exchange::new(&request.head, body, request.moment).unwrap())
 }
 
 // The same body, which shares its bytes.
-fn body_of(body: &Body) -> Result<Body, AllocError> {
+fn body_of(body: &Body) -> Result<Body, AllocError>
+    ensures { IfOk result (λ copy. body_bytes copy ≡ unwrap_or (given_body body.now) []) }
+{
     match body {
         Body::None => Ok(Body::None),
         Body::Bytes(bytes) => Ok(Body::Bytes(bytes.clone()?)),
