@@ -128,25 +128,25 @@ module _ (w : World) (p : Path) (kind : Kind) (properties : Properties) (now : �
   new_sound world names bytes sorted small q m h =
       let from = back-adjust (parent_of p) (modified_at now) (put path_cmp p the_new w.nodes) q m h in
       let before : IsSound q from.node = elim (back-put p the_new w.nodes q from.node from.stood) as (λ _. IsSound q from.node) [
-            | inl at ↦ subst (λ (n : Node). IsSound q n) (sym at.1) (record {
-                names = subst (All IsName) (sym at.0) names;
-                bytes = subst (All (All (λ b. b < 256))) (sym at.0) bytes;
-                grown = omega arith;
-                properties = sorted;
-                created = small;
-                modified = small;
-              })
-            | inr stood ↦ world.sound q from.node stood
-          ] in
+        | inl at ↦ subst (λ (n : Node). IsSound q n) (sym at.1) (record {
+          names = subst (All IsName) (sym at.0) names;
+          bytes = subst (All (All (λ b. b < 256))) (sym at.0) bytes;
+          grown = omega arith;
+          properties = sorted;
+          created = small;
+          modified = small;
+        })
+        | inr stood ↦ world.sound q from.node stood
+      ] in
       elim from.became as (λ _. IsSound q m) [
         | inl e ↦ subst (λ (n : Node). IsSound q n) (sym e.1) (record {
-            names = before.names;
-            bytes = before.bytes;
-            grown = before.grown;
-            properties = before.properties;
-            created = before.created;
-            modified = small;
-          })
+          names = before.names;
+          bytes = before.bytes;
+          grown = before.grown;
+          properties = before.properties;
+          created = before.created;
+          modified = small;
+        })
         | inr e ↦ subst (λ (n : Node). IsSound q n) (sym e.1) before
       ]
 

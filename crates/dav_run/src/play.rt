@@ -194,6 +194,6 @@ fn write_replies<W: Write>(alloc: Global, replies: &[Reply], writer: &mut W) -> 
 }
 
 #[cfg(test)]
-mod rows;
-#[cfg(test)]
 mod tests;
+#[cfg(test)]
+mod whole_scripts;
