@@ -4,5 +4,6 @@ pub mod LoopLemmas
 pub mod SegmentLemmas
 pub mod UrlLemmas
 pub mod EndLemmas
+pub mod PathLemmas
 pub mod NodesLemmas
 pub mod WorldLemmas

@@ -13,8 +13,9 @@ use crate::errors::{NoMemory, ParseError};
 use ends::{lacks_slash, push_after_slash, trimmed, without_first_slash, without_slash};
 use reading::{close, ends_in_slash, is_rooted, len_before, read_names, text_of};
 use std::alloc::Global;
+use std::fmt;
 use std::marker::Model;
-use url_text::url_text;
+use url_text::{escaped, url_text};
 
 /// The path of a resource: its names, each behind a slash, and a slash at the end where its text has one; or `*`,
 /// the path of the whole server (RFC 9110, section 7.1).
@@ -249,6 +250,37 @@ impl Eq for DavPath {
     ghost use Rattle.std.proofs.Common.{rules};
 
     ghost laws = { Prim.search (comparing, rules) };
+}
+
+/// Writes all of the path in a URL, as `as_url_string` does.
+impl fmt::Display for DavPath {
+    ghost use Rattle.std.specs.Prelude.{Some};
+    ghost use Rattle.dav_core.specs.Path.{full_bytes};
+    ghost use Rattle.dav_core.specs.UrlText.{path_text};
+
+    ghost output = { λ p. Some (path_text (full_bytes p)) };
+
+    fn fmt<W: fmt::Write>(&self, f: &mut fmt::Formatter<W>) -> fmt::Result {
+        if is_star(&self.full) {
+            write!(f, "*")
+        } else {
+            let text = escaped(&self.full);
+            write!(f, "{text}")
+        }
+    }
+}
+
+/// Writes the same as `Display`.
+impl fmt::Debug for DavPath {
+    ghost use Rattle.std.specs.Prelude.{Some};
+    ghost use Rattle.dav_core.specs.Path.{full_bytes};
+    ghost use Rattle.dav_core.specs.UrlText.{path_text};
+
+    ghost debug_output = { λ p. Some (path_text (full_bytes p)) };
+
+    fn fmt<W: fmt::Write>(&self, f: &mut fmt::Formatter<W>) -> fmt::Result {
+        fmt::Display::fmt(self, f)
+    }
 }
 
 /// A lent path.

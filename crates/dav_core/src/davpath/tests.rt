@@ -192,3 +192,16 @@ fn gives_last_names(rt: HostRuntime) -> Result<(), Fail> {
     assert_eq!(rt; text.as_rel_ospath(), Some("a/b"));
     Ok(())
 }
+
+#[test]
+fn shows_paths(rt: HostRuntime) -> Result<(), Fail> {
+    let alloc = rt.alloc();
+    let mut path = DavPath::new(alloc, "/dav/a%20b/")?;
+    path.set_prefix("/dav")?;
+    let text = format!(in alloc; "{path} {path:?}")?;
+    assert_eq!(rt; text.as_str(), "/dav/a%20b/ /dav/a%20b/");
+    let server = DavPath::new(alloc, "*")?;
+    let text = format!(in alloc; "{server}")?;
+    assert_eq!(rt; text.as_str(), "*");
+    Ok(())
+}

@@ -1,4 +1,4 @@
-use Rattle.std.proofs.Common.{◌≡◌, ◌+◌, length, drop, sym, rules}
+use Rattle.std.proofs.Common.{◌≡◌, length, drop, sym, rules}
 use Rattle.std.proofs.lemmas.List.{length-take-le}
 use Rattle.dav_core.specs.Path.{parent_bytes}
 use Rattle.dav_core.proofs.EndLemmas.{parent_within, parent_text, parent_prefix}
