@@ -3,5 +3,7 @@ pub mod BufferLemmas
 pub mod LoopLemmas
 pub mod SegmentLemmas
 pub mod UrlLemmas
+pub mod EndLemmas
+pub mod PathLemmas
 pub mod NodesLemmas
 pub mod WorldLemmas

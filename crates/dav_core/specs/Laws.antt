@@ -1,7 +1,7 @@
 -- What holds of every text and every path: the statements of the laws.
-use Rattle.std.specs.Prelude.{◌≡◌, ℕ, ◌+◌, ◌<◌, ◌≤◌, Bool, true, T, List, [], All, Some, None}
+use Rattle.std.specs.Prelude.{◌≡◌, ◌↔◌, ◌++◌, ◌∷◌, ℕ, ◌+◌, ◌<◌, ◌≤◌, Bool, true, false, T, List, [], All, Some, None}
 use Rattle.dav_core.specs.declared.errors.ParseError.TheVariants.{InvalidPath, ForbiddenPath}
-use Rattle.dav_core.specs.Path.{Path, IsName, parent_of, path_bytes, star, names_of}
+use Rattle.dav_core.specs.Path.{Path, IsName, parent_of, path_bytes, star, names_of, parent_bytes, with_slash}
 use Rattle.dav_core.specs.Target.{Leaves, Climbs, HasBadPiece, Reads, IsRefused}
 use Rattle.dav_core.specs.UrlText.{url_text, IsTextOf}
 use Rattle.std.specs.FinMap.{is_sorted}
@@ -73,3 +73,26 @@ ChangeKeepsWorld =
     (w : World) (p : Path) (f : Node → Node)
     → IsWorld w → w.next < last_number → ((n : Node) → node_at w p ≡ Some n → Renumbers w.next n (f n))
     → IsWorld (record { nodes = adjust p f w.nodes; next = w.next + 1 })
+
+-- two paths that were read have the same bytes exactly if their texts in a URL are equal
+abbrev pub SameText : Type 0
+SameText =
+    (src other a b s t : List ℕ)
+    → Reads src a → Reads other b → IsTextOf a s → IsTextOf b t → (a ≡ b) ↔ (s ≡ t)
+
+-- a path with a slash at the end has the same names
+abbrev pub SlashKeepsNames : Type 0
+SlashKeepsNames =
+    (ns : Path) (closed : Bool) → All IsName ns → with_slash (path_bytes ns closed) ≡ path_bytes ns true
+
+-- a name that is added is the last of the names
+abbrev pub AddsName : Type 0
+AddsName =
+    (ns : Path) (closed : Bool) (n : List ℕ)
+    → All IsName ns → with_slash (path_bytes ns closed) ++ n ≡ path_bytes (ns ++ n ∷ []) false
+
+-- the parent of a path of names has all names but the last
+abbrev pub ParentOfNames : Type 0
+ParentOfNames =
+    (ns : Path) (closed : Bool)
+    → All IsName ns → parent_bytes (path_bytes ns closed) ≡ path_bytes (parent_of ns) true

@@ -1,6 +1,7 @@
 -- Names and paths (RFC 3986, section 3.3).
-use Rattle.std.specs.Prelude.{◌≡◌, ◌≢◌, ℕ, ◌==◌, ◌++◌, ◌⊎◌, Bool, true, false, if◌then◌else◌, List, [], ◌∷◌, All, Contains, bytes_eq}
-use Rattle.std.specs.List.{filter, flat_map, slice_split}
+use Rattle.std.specs.Prelude.{◌≡◌, ◌≢◌, ℕ, ◌==◌, ◌++◌, ◌⊎◌, Bool, true, false, not, if◌then◌else◌, ◌-◌, nat_lt, length, take, List, [], ◌∷◌, All, Contains, Option, Some, None, bytes_eq}
+use Rattle.std.specs.List.{filter, flat_map, slice_split, ends_with, last_or}
+use Rattle.std.specs.Option.{unwrap_or}
 use Rattle.std.specs.declared.cmp.Ordering.{Ordering}
 use Rattle.std.specs.Ordering.{nat_cmp, is_eq}
 use Rattle.std.specs.Cmp.Lexicographic.{slice_cmp}
@@ -75,11 +76,85 @@ names_in bytes = filter is_nonempty (slice_split (λ b. b == 47) bytes)
 abbrev pub names_of : List ℕ → Path
 names_of bytes = if bytes_eq bytes star then [] else names_in bytes
 
+-- the path ends in a slash, as that of a collection
+abbrev pub is_collection : List ℕ → Bool
+is_collection bytes = ends_with ◌==◌ bytes (47 ∷ [])
+
+-- what is missing at the end of a path that is to end in a slash
+abbrev pub end_for : Bool → List ℕ
+end_for is_collection = if is_collection then [] else 47 ∷ []
+
+-- the path with a slash at the end
+abbrev pub with_slash : List ℕ → List ℕ
+with_slash bytes = bytes ++ end_for (is_collection bytes)
+
+-- without the one slash at the end
+abbrev pub without_slash : List ℕ → List ℕ
+without_slash bytes = if is_collection bytes then take (length bytes - 1) bytes else bytes
+
+-- without the slash at the front
+abbrev pub without_first_slash : List ℕ → List ℕ
+without_first_slash [] = []
+without_first_slash (b ∷ bs) = if b == 47 then bs else b ∷ bs
+
+-- a path longer than one byte, without the one slash at its end
+abbrev pub trimmed : List ℕ → List ℕ
+trimmed bytes = if nat_lt 1 (length bytes) then without_slash bytes else bytes
+
+-- a byte before a text, which is left out where it passes p and no text follows
+abbrev pub onto_end : (ℕ → Bool) → ℕ → List ℕ → List ℕ
+onto_end p b [] = if p b then [] else b ∷ []
+onto_end p b (c ∷ cs) = b ∷ c ∷ cs
+
+-- the text without the bytes at its end that pass p
+abbrev pub without_end : (ℕ → Bool) → List ℕ → List ℕ
+without_end p [] = []
+without_end p (b ∷ bs) = onto_end p b (without_end p bs)
+
+-- what stands before the last name: up to and with the slash there
+abbrev pub before_last_name : List ℕ → List ℕ
+before_last_name bytes = without_end (λ b. not (b == 47)) (without_end (λ b. b == 47) bytes)
+
+-- The parent of a path: what stands before its last name. A path without a slash before a name, as the root and
+-- the star path, is its own parent.
+abbrev pub parent_bytes : List ℕ → List ℕ
+parent_bytes bytes = if is_nonempty (before_last_name bytes) then before_last_name bytes else bytes
+
+-- the last of the names, or nothing where there are none
+abbrev pub last_name : List ℕ → List ℕ
+last_name bytes = unwrap_or (last_or None (names_of bytes)) []
+
 -- What contracts see of a path: the bytes of its prefix, and those behind it.
 pub record PathText : Type 0 where
   pub prefix : List ℕ
   pub bytes : List ℕ
 
+-- all bytes of a path
+abbrev pub full_bytes : PathText → List ℕ
+full_bytes p = p.prefix ++ p.bytes
+
+-- the path with these bytes behind its prefix
+abbrev pub with_bytes : PathText → List ℕ → PathText
+with_bytes p bytes = record { prefix = p.prefix; bytes = bytes }
+
 -- the names of a path behind its prefix
 abbrev pub names : PathText → Path
 names p = names_of p.bytes
+
+-- what follows the front p in a text; none where the text doesn't begin with it
+abbrev pub behind : List ℕ → List ℕ → Option (List ℕ)
+behind [] bytes = Some bytes
+behind (b ∷ p) [] = None
+behind (b ∷ p) (c ∷ bytes) = if b == c then behind p bytes else None
+
+-- A path whose prefix is p, from what follows p in it: p may be all of the path, which then gets a slash behind it,
+-- or be followed by a slash.
+abbrev pub cut_at : List ℕ → Option (List ℕ) → Option PathText
+cut_at p None = None
+cut_at p (Some []) = Some (record { prefix = p; bytes = 47 ∷ [] })
+cut_at p (Some (b ∷ bs)) = if b == 47 then Some (record { prefix = p; bytes = b ∷ bs }) else None
+
+-- The path with these bytes, cut behind the prefix p; none where p is no prefix of it. An empty prefix is always one.
+abbrev pub prefix_cut : List ℕ → List ℕ → Option PathText
+prefix_cut [] bytes = Some (record { prefix = []; bytes = bytes })
+prefix_cut (b ∷ p) bytes = cut_at (b ∷ p) (behind (b ∷ p) bytes)

@@ -1,8 +1,12 @@
 -- What contracts see of a lent path, and of the names that an iterator has left.
-use Rattle.std.specs.Prelude.{ℕ, List}
+use Rattle.std.specs.Prelude.{◌≡◌, ℕ, ◌≤◌, ◌++◌, ⊤, Bool, not, List, length, take, drop, Option, Some, None}
+use Rattle.std.specs.Str.{IsUtf8}
+use denote.Ref.{Bor}
+use Rattle.dav_core.specs.declared.errors.ParseError.{ParseError}
+use Rattle.dav_core.specs.declared.errors.ParseError.TheVariants.{InvalidPath, PrefixMismatch, ForbiddenPath, Memory}
 use Rattle.dav_core.specs.declared.davpath.DavPathRef.{DavPathRef}
 use Rattle.dav_core.specs.declared.davpath.Segments.{Segments}
-use Rattle.dav_core.specs.Path.{Path, names_in}
+use Rattle.dav_core.specs.Path.{Path, PathText, names_in, end_for, prefix_cut}
 
 -- the bytes of the path
 abbrev pub ref_bytes : DavPathRef → List ℕ
@@ -11,3 +15,21 @@ ref_bytes r = r.bytes.now
 -- the names that are still to come
 abbrev pub names_left : Segments → Path
 names_left s = names_in s.rest.now
+
+-- the text of these bytes, where there is one to give and it is UTF-8
+abbrev pub GivesText : Type 0 → List ℕ → Option (Bor (List ℕ)) → Type 0
+GivesText Wanted bytes None = ¬ (Wanted × IsUtf8 bytes)
+GivesText Wanted bytes (Some s) = Wanted × (s.now ≡ bytes)
+
+-- why a prefix is refused: it is none of the path, or memory ran out
+abbrev pub IsCutRefused : Option PathText → ParseError → Type 0
+IsCutRefused cut InvalidPath = ⊥
+IsCutRefused cut PrefixMismatch = cut ≡ None
+IsCutRefused cut ForbiddenPath = ⊥
+IsCutRefused cut Memory = ⊤
+
+-- where a path is cut behind the prefix p, and whether a slash is added there
+abbrev pub CutsAt : List ℕ → List ℕ → Option Bool → Type 0
+CutsAt p bytes None = prefix_cut p bytes ≡ None
+CutsAt p bytes (Some lacks_slash) =
+    (length p ≤ length bytes) × (prefix_cut p bytes ≡ Some (record { prefix = take (length p) bytes; bytes = drop (length p) bytes ++ end_for (not lacks_slash) }))

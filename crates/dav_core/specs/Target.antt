@@ -1,5 +1,5 @@
 -- The path that a text names (RFC 3986, sections 2.1, 3.3, 3.4 and 5.2.4).
-use Rattle.std.specs.Prelude.{◌≡◌, ◌≢◌, ℕ, ◌≤◌, ◌==◌, ◌++◌, ◌⊎◌, ⊤, Bool, true, false, List, [], ◌∷◌, map, All}
+use Rattle.std.specs.Prelude.{◌≡◌, ◌≢◌, ℕ, ◌≤◌, ◌==◌, ◌++◌, ◌⊎◌, Bool, true, false, List, [], ◌∷◌, map, All}
 use Rattle.std.specs.List.{before_first, slice_split}
 use Rattle.percent_encoding.specs.Percent.{percent_decode}
 use Rattle.dav_core.specs.declared.errors.ParseError.{ParseError}

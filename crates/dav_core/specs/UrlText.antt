@@ -1,5 +1,5 @@
 -- The text of a path in a URL (RFC 3986, sections 2.1 and 2.3).
-use Rattle.std.specs.Prelude.{◌≡◌, ◌≢◌, ℕ, ◌==◌, ◌||◌, ◌⊎◌, Bool, if◌then◌else◌, List, [], ◌∷◌}
+use Rattle.std.specs.Prelude.{◌≡◌, ◌≢◌, ℕ, ◌==◌, ◌||◌, ◌⊎◌, Bool, if◌then◌else◌, List, [], ◌∷◌, bytes_eq}
 use Rattle.std.specs.List.{flat_map, list_any}
 use Rattle.std.specs.Char.{is_ascii_alphanumeric}
 use Rattle.percent_encoding.specs.Percent.{percent_encode_byte}
@@ -16,3 +16,7 @@ url_text bytes = flat_map (λ b. if is_url_byte b then b ∷ [] else percent_enc
 -- what is written for a path: the star path is `*`
 abbrev pub IsTextOf : List ℕ → List ℕ → Type 0
 IsTextOf bytes written = ((bytes ≡ star) × (written ≡ star)) ⊎ ((bytes ≢ star) × (written ≡ url_text bytes))
+
+-- the same as a function
+abbrev pub path_text : List ℕ → List ℕ
+path_text bytes = if bytes_eq bytes star then star else url_text bytes

@@ -3,16 +3,19 @@ ghost use Rattle.std.specs.Prelude.{◌≡◌, ◌≢◌, ℕ, ◌==◌, ◌↔�
 ghost use Rattle.std.specs.List.{prefix_len};
 ghost use Rattle.dav_core.specs.Path.{star, names_in};
 
+mod ends;
 mod reading;
 #[cfg(test)]
 mod tests;
 mod url_text;
 
 use crate::errors::{NoMemory, ParseError};
+use ends::{lacks_slash, push_after_slash, trimmed, without_first_slash, without_slash};
 use reading::{close, ends_in_slash, is_rooted, len_before, read_names, text_of};
 use std::alloc::Global;
+use std::fmt;
 use std::marker::Model;
-use url_text::url_text;
+use url_text::{escaped, url_text};
 
 /// The path of a resource: its names, each behind a slash, and a slash at the end where its text has one; or `*`,
 /// the path of the whole server (RFC 9110, section 7.1).
@@ -34,9 +37,11 @@ impl Model for DavPath {
 }
 
 impl DavPath {
-    ghost use Rattle.std.specs.Prelude.{◌≡◌, [], IfOk, IfErr};
+    ghost use Rattle.std.specs.Prelude.{◌≡◌, ◌≢◌, ◌++◌, ⊤, Some, if◌then◌else◌, [], IfOk, IfErr, OnOk, OnErr, string_bytes};
+    ghost use Rattle.dav_core.specs.Path.{full_bytes, is_collection, last_name, names, parent_bytes, prefix_cut, with_bytes, with_slash, without_first_slash, without_slash};
     ghost use Rattle.dav_core.specs.Target.{Reads, IsRefused};
-    ghost use Rattle.dav_core.specs.PathRef.{ref_bytes};
+    ghost use Rattle.dav_core.specs.PathRef.{ref_bytes, names_left, GivesText, IsCutRefused};
+    ghost use Rattle.dav_core.specs.UrlText.{IsTextOf};
 
     /// Reads the target of a request (RFC 9112, section 3.2): what stands before the first `?`, with escapes decoded
     /// (RFC 3986, section 2.1), without empty and `.` segments, and with each `..` and the name before it removed
@@ -68,6 +73,137 @@ impl DavPath {
         })
     }
 
+    /// All of the path.
+    pub fn with_prefix(&self) -> DavPathRef<'_>
+        ensures { ref_bytes result ≡ full_bytes self.now }
+    {
+        DavPathRef { bytes: &self.full }
+    }
+
+    /// Whether this is the path of the whole server.
+    pub fn is_star(&self) -> bool
+        ensures { IsTrue result ↔ (self.now.bytes ≡ star) }
+    {
+        is_star(self.as_bytes())
+    }
+
+    /// Whether the path ends in a slash.
+    pub fn is_collection(&self) -> bool
+        ensures { result ≡ is_collection self.now.bytes }
+    {
+        ends::is_collection(self.as_bytes())
+    }
+
+    /// The bytes of the path behind its prefix.
+    pub fn as_bytes(&self) -> &[u8]
+        ensures { result.now ≡ self.now.bytes }
+    {
+        self.as_ref().as_bytes()
+    }
+
+    /// The names of the path, in order; none of `*`.
+    pub fn segments(&self) -> Segments<'_>
+        ensures { names_left result ≡ names self.now }
+    {
+        self.as_ref().segments()
+    }
+
+    /// The path behind its prefix in a URL, as `DavPathRef::as_url_string` writes it.
+    pub fn as_url_string(&self) -> Result<String, NoMemory>
+        ensures { IfOk result (λ s. IsTextOf self.now.bytes (string_bytes s)) }
+    {
+        self.as_ref().as_url_string(*self.full.allocator())
+    }
+
+    /// The last name; empty where there is none.
+    pub fn file_name_bytes(&self) -> &[u8]
+        ensures { result.now ≡ last_name self.now.bytes }
+    {
+        self.as_ref().file_name_bytes()
+    }
+
+    /// The last name; `None` where there is none, and where it isn't UTF-8.
+    pub fn file_name(&self) -> Option<&str>
+        ensures { GivesText (names self.now ≢ []) (last_name self.now.bytes) result }
+    {
+        self.as_ref().file_name()
+    }
+
+    /// The path as text, without its prefix; `None` where it isn't UTF-8.
+    pub fn as_pathbuf(&self) -> Option<&str>
+        ensures { GivesText ⊤ self.now.bytes result }
+    {
+        self.as_ref().as_pathbuf()
+    }
+
+    /// The same without the slash that it begins with.
+    pub fn as_rel_ospath(&self) -> Option<&str>
+        ensures { GivesText ⊤ (without_first_slash self.now.bytes) result }
+    {
+        self.as_ref().as_rel_ospath()
+    }
+
+    /// The path up to and with the slash before its last name, behind the same prefix; the root and `*` are their own
+    /// parents.
+    pub fn parent(&self) -> Result<DavPath, NoMemory>
+        ensures { IfOk result (λ p. p ≡ with_bytes self.now (parent_bytes self.now.bytes)) }
+    {
+        let len = self.prefix_len + self.as_ref().parent().as_bytes().len();
+        Ok(DavPath {
+            full: Vec::from_slice(*self.full.allocator(), &self.full[..len])?,
+            prefix_len: self.prefix_len,
+        })
+    }
+
+    /// Makes a text the prefix of the path, without the slash at the text's end. It may be empty, all of the path (a
+    /// slash is then added behind it), or followed by a slash in it.
+    ///
+    /// `PrefixMismatch` where it is none of these. After an error the path is as it was.
+    pub fn set_prefix(&mut self, prefix: &str) -> Result<(), ParseError>
+        ensures ok { OnOk result (prefix_cut (without_slash prefix.now) (full_bytes self.old) ≡ Some self.new) }
+        ensures err { IfErr result (IsCutRefused (prefix_cut (without_slash prefix.now) (full_bytes self.old))) }
+        ensures unchanged { OnErr result (self.new ≡ self.old) }
+    {
+        let prefix = without_slash(prefix.as_bytes());
+        let Some(lacks_slash) = lacks_slash(prefix, &self.full) else {
+            return Err(ParseError::PrefixMismatch);
+        };
+        if lacks_slash {
+            self.full.push(b'/')?;
+        }
+        self.prefix_len = prefix.len();
+        Ok(())
+    }
+
+    /// Adds a slash where none ends the path. Where memory runs out, the path stays as it was.
+    pub fn add_slash(&mut self) -> Result<(), NoMemory>
+        ensures ok { OnOk result (self.new ≡ with_bytes self.old (with_slash self.old.bytes)) }
+        ensures err { OnErr result (self.new ≡ self.old) }
+    {
+        self.push_segment(b"")
+    }
+
+    /// Adds a slash where it is wanted and none ends the path. Where memory runs out, the path stays as it was.
+    pub fn add_slash_if(&mut self, wanted: bool) -> Result<(), NoMemory>
+        ensures ok { OnOk result (self.new ≡ (if wanted then with_bytes self.old (with_slash self.old.bytes) else self.old)) }
+        ensures err { OnErr result (self.new ≡ self.old) }
+    {
+        if wanted {
+            self.add_slash()?;
+        }
+        Ok(())
+    }
+
+    /// Adds a name behind the path, with a slash between where none ends the path. Where memory runs out, the path
+    /// stays as it was.
+    pub fn push_segment(&mut self, name: &[u8]) -> Result<(), NoMemory>
+        ensures ok { OnOk result (self.new ≡ with_bytes self.old (with_slash self.old.bytes ++ name.now)) }
+        ensures err { OnErr result (self.new ≡ self.old) }
+    {
+        let is_collection = self.is_collection();
+        push_after_slash(&mut self.full, is_collection, name)
+    }
+
     /// The path behind its prefix.
     pub fn as_ref(&self) -> DavPathRef<'_>
         ensures { ref_bytes result ≡ self.now.bytes }
@@ -78,6 +214,75 @@ impl DavPath {
     }
 }
 
+impl Clone for DavPath {
+    ghost use Rattle.std.specs.Prelude.{◌≡◌};
+
+    ghost is_clone = { λ a b. a ≡ b };
+
+    fn clone(&self) -> Result<DavPath, NoMemory> {
+        Ok(DavPath {
+            full: self.full.clone()?,
+            prefix_len: self.prefix_len,
+        })
+    }
+}
+
+/// Compares the full paths, each without one slash at its end if it is longer than one byte.
+impl PartialEq for DavPath {
+    ghost use Rattle.std.specs.Prelude.{◌==◌};
+    ghost use Rattle.std.specs.Ordering.{on};
+    ghost use Rattle.std.specs.Cmp.Lexicographic.{pointwise};
+    ghost use Rattle.std.specs.Cmp.Rules.{comparing};
+    ghost use Rattle.std.proofs.Common.{rules};
+    ghost use Rattle.dav_core.specs.Path.{full_bytes, trimmed};
+
+    ghost eq = { on (λ p. trimmed (full_bytes p)) (pointwise ◌==◌) };
+
+    ghost laws = { Prim.search (comparing, rules) };
+
+    fn eq(&self, other: &DavPath) -> bool {
+        trimmed(&self.full) == trimmed(&other.full)
+    }
+}
+
+impl Eq for DavPath {
+    ghost use Rattle.std.specs.Cmp.Rules.{comparing};
+    ghost use Rattle.std.proofs.Common.{rules};
+
+    ghost laws = { Prim.search (comparing, rules) };
+}
+
+/// Writes all of the path in a URL, as `as_url_string` does.
+impl fmt::Display for DavPath {
+    ghost use Rattle.std.specs.Prelude.{Some};
+    ghost use Rattle.dav_core.specs.Path.{full_bytes};
+    ghost use Rattle.dav_core.specs.UrlText.{path_text};
+
+    ghost output = { λ p. Some (path_text (full_bytes p)) };
+
+    fn fmt<W: fmt::Write>(&self, f: &mut fmt::Formatter<W>) -> fmt::Result {
+        if is_star(&self.full) {
+            write!(f, "*")
+        } else {
+            let text = escaped(&self.full);
+            write!(f, "{text}")
+        }
+    }
+}
+
+/// Writes the same as `Display`.
+impl fmt::Debug for DavPath {
+    ghost use Rattle.std.specs.Prelude.{Some};
+    ghost use Rattle.dav_core.specs.Path.{full_bytes};
+    ghost use Rattle.dav_core.specs.UrlText.{path_text};
+
+    ghost debug_output = { λ p. Some (path_text (full_bytes p)) };
+
+    fn fmt<W: fmt::Write>(&self, f: &mut fmt::Formatter<W>) -> fmt::Result {
+        fmt::Display::fmt(self, f)
+    }
+}
+
 /// A lent path.
 #[derive(Clone, Copy)]
 pub struct DavPathRef<'a> {
@@ -85,9 +290,10 @@ pub struct DavPathRef<'a> {
 }
 
 impl<'a> DavPathRef<'a> {
-    ghost use Rattle.std.specs.Prelude.{◌≡◌, IfOk, string_bytes};
-    ghost use Rattle.dav_core.specs.Path.{names_of};
-    ghost use Rattle.dav_core.specs.PathRef.{ref_bytes, names_left};
+    ghost use Rattle.std.specs.Prelude.{◌≡◌, ◌≢◌, ⊤, [], None, IfOk, string_bytes, option_copied};
+    ghost use Rattle.std.specs.List.{last_or};
+    ghost use Rattle.dav_core.specs.Path.{is_collection, last_name, names_of, parent_bytes, without_first_slash};
+    ghost use Rattle.dav_core.specs.PathRef.{ref_bytes, names_left, GivesText};
     ghost use Rattle.dav_core.specs.UrlText.{IsTextOf};
 
     /// The bytes of the path.
@@ -95,6 +301,60 @@ impl<'a> DavPathRef<'a> {
         ensures { result.now ≡ ref_bytes self.entry }
     {
         self.bytes
+    }
+
+    /// Whether the path ends in a slash.
+    pub fn is_collection(self) -> bool
+        ensures { result ≡ is_collection (ref_bytes self.entry) }
+    {
+        ends::is_collection(self.bytes)
+    }
+
+    /// The path up to and with the slash before its last name; the root and `*` are their own parents.
+    pub fn parent(self) -> DavPathRef<'a>
+        ensures { ref_bytes result ≡ parent_bytes (ref_bytes self.entry) }
+    {
+        DavPathRef {
+            bytes: ends::parent(self.bytes),
+        }
+    }
+
+    /// The last name; empty where there is none.
+    pub fn file_name_bytes(self) -> &'a [u8]
+        ensures { result.now ≡ last_name (ref_bytes self.entry) }
+    {
+        self.last_name().unwrap_or(&[])
+    }
+
+    /// The last name; `None` where there is none, and where it isn't UTF-8.
+    pub fn file_name(self) -> Option<&'a str>
+        ensures { GivesText (names_of (ref_bytes self.entry) ≢ []) (last_name (ref_bytes self.entry)) result }
+    {
+        let Some(name) = self.last_name() else {
+            return None;
+        };
+        str::from_utf8(name).ok()
+    }
+
+    /// The path as text; `None` where it isn't UTF-8.
+    pub fn as_pathbuf(self) -> Option<&'a str>
+        ensures { GivesText ⊤ (ref_bytes self.entry) result }
+    {
+        str::from_utf8(self.bytes).ok()
+    }
+
+    /// The path as text, without the slash that it begins with; `None` where it isn't UTF-8.
+    pub fn as_rel_ospath(self) -> Option<&'a str>
+        ensures { GivesText ⊤ (without_first_slash (ref_bytes self.entry)) result }
+    {
+        str::from_utf8(without_first_slash(self.bytes)).ok()
+    }
+
+    // The last name, where there is one.
+    fn last_name(self) -> Option<&'a [u8]>
+        ensures { option_copied result ≡ last_or None (names_of (ref_bytes self.entry)) }
+    {
+        self.segments().last()
     }
 
     /// The names of the path, in order; none of `*`.

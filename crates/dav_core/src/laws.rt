@@ -1,5 +1,5 @@
 //! Laws of paths. Each function does nothing: its contract is a theorem on the definitions.
-ghost use Rattle.dav_core.specs.Laws.{LeavesOnePath, LeavesNoFault, OneFault, ReadsOnePath, ReadIsNotRefused, OneRefusal, KeepsNames, ReadsNames, StarHasNoNames, ReadsAgain, NamesReadAgain, EmptyIsWorld, NewKeepsWorld, ChangeKeepsWorld};
+ghost use Rattle.dav_core.specs.Laws.{LeavesOnePath, LeavesNoFault, OneFault, ReadsOnePath, ReadIsNotRefused, OneRefusal, KeepsNames, ReadsNames, StarHasNoNames, ReadsAgain, NamesReadAgain, SameText, SlashKeepsNames, AddsName, ParentOfNames, EmptyIsWorld, NewKeepsWorld, ChangeKeepsWorld};
 
 /// A text is read as one path at most, and refused for one reason at most, and not both: the pieces between slashes
 /// leave one path, or the first of them that refuses decides (RFC 3986, sections 3.3 and 5.2.4).
@@ -24,6 +24,18 @@ pub fn names_are_kept()
 pub fn reads_again()
     ensures read { ReadsAgain }
     ensures names { NamesReadAgain }
+{}
+
+/// Two paths that were read have the same bytes exactly if their texts in a URL are equal.
+pub fn texts_tell_paths()
+    ensures { SameText }
+{}
+
+/// A slash at the end changes no name, a name that is added is the last, and the parent has all names but the last.
+pub fn names_are_added()
+    ensures slash { SlashKeepsNames }
+    ensures name { AddsName }
+    ensures parent { ParentOfNames }
 {}
 
 /// The empty world is a world; so is a world with one more node, and one in which a node was changed: the root and

@@ -98,3 +98,110 @@ fn writes_url_texts(rt: HostRuntime) -> Result<(), Fail> {
     }
     Ok(())
 }
+
+#[test]
+fn cuts_prefixes(rt: HostRuntime) -> Result<(), Fail> {
+    let alloc = rt.alloc();
+    let mut path = DavPath::new(alloc, "/dav/x/y/")?;
+    let refused = path.set_prefix("/da").err();
+    assert_eq!(rt; refused, Some(ParseError::PrefixMismatch));
+    assert_eq!(rt; path.as_bytes(), b"/dav/x/y/".as_slice());
+    path.set_prefix("/dav")?;
+    assert_eq!(rt; path.as_bytes(), b"/x/y/".as_slice());
+    assert_eq!(rt; path.with_prefix().as_bytes(), b"/dav/x/y/".as_slice());
+    let parent = path.parent()?;
+    assert_eq!(rt; parent.as_bytes(), b"/x/".as_slice());
+    assert_eq!(rt; parent.with_prefix().as_bytes(), b"/dav/x/".as_slice());
+    let cases = [
+        ("/dav", "/dav", "/"),
+        ("/dav", "/dav/", "/"),
+        ("/dav/", "/dav/", "/"),
+        ("/dav/a", "/dav/", "/a"),
+        ("/dav/a", "", "/dav/a"),
+        ("/dav/a", "/", "/dav/a"),
+    ];
+    for (text, prefix, bytes) in cases {
+        let mut path = DavPath::new(alloc, text)?;
+        path.set_prefix(prefix)?;
+        assert_eq!(rt; path.as_bytes(), bytes.as_bytes(), "{text} {prefix}");
+    }
+    Ok(())
+}
+
+#[test]
+fn refuses_prefixes(rt: HostRuntime) -> Result<(), Fail> {
+    for prefix in ["/d", "dav", "/dav//", "/dav/a/b", "/x"] {
+        let mut path = DavPath::new(rt.alloc(), "/dav/a")?;
+        let refused = path.set_prefix(prefix).err();
+        assert_eq!(rt; refused, Some(ParseError::PrefixMismatch), "{prefix}");
+        assert_eq!(rt; path.as_bytes(), b"/dav/a".as_slice(), "{prefix}");
+    }
+    Ok(())
+}
+
+#[test]
+fn adds_names_and_slashes(rt: HostRuntime) -> Result<(), Fail> {
+    let alloc = rt.alloc();
+    let path = DavPath::new(alloc, "/d")?;
+    assert!(rt; !path.is_collection());
+    let mut copy = path.clone()?;
+    copy.add_slash_if(false)?;
+    assert_eq!(rt; copy.as_bytes(), b"/d".as_slice());
+    copy.add_slash_if(true)?;
+    assert_eq!(rt; copy.as_bytes(), b"/d/".as_slice());
+    assert!(rt; copy.is_collection());
+    assert!(rt; copy == path);
+    copy.push_segment(b"a b")?;
+    assert_eq!(rt; copy.as_bytes(), b"/d/a b".as_slice());
+    assert!(rt; copy != path);
+    copy.add_slash()?;
+    copy.add_slash()?;
+    assert_eq!(rt; copy.as_bytes(), b"/d/a b/".as_slice());
+    let url = copy.as_url_string()?;
+    assert_eq!(rt; url.as_str(), "/d/a%20b/");
+    assert_eq!(rt; copy.segments().count(), 2);
+    assert_eq!(rt; path.as_bytes(), b"/d".as_slice());
+    Ok(())
+}
+
+#[test]
+fn gives_last_names(rt: HostRuntime) -> Result<(), Fail> {
+    let alloc = rt.alloc();
+    let cases = [
+        ("/a/b%20c/", "b c", Some("b c"), "/a/"),
+        ("/a", "a", Some("a"), "/"),
+        ("/", "", None, "/"),
+        ("*", "", None, "*"),
+    ];
+    for (text, bytes, name, parent) in cases {
+        let path = DavPath::new(alloc, text)?;
+        assert_eq!(rt; path.file_name_bytes(), bytes.as_bytes(), "{text}");
+        assert_eq!(rt; path.file_name(), name, "{text}");
+        let lent = path.as_ref().parent();
+        assert_eq!(rt; lent.as_bytes(), parent.as_bytes(), "{text}");
+        assert_eq!(rt; path.is_star(), text == "*", "{text}");
+        assert_eq!(rt; lent.is_collection(), text != "*", "{text}");
+    }
+    let raw = DavPath::new(alloc, "/a/%ff")?;
+    assert_eq!(rt; raw.file_name(), None);
+    assert_eq!(rt; raw.file_name_bytes(), b"\xff".as_slice());
+    assert_eq!(rt; raw.as_pathbuf(), None);
+    assert_eq!(rt; raw.as_rel_ospath(), None);
+    let text = DavPath::new(alloc, "/a/b")?;
+    assert_eq!(rt; text.as_pathbuf(), Some("/a/b"));
+    assert_eq!(rt; text.as_rel_ospath(), Some("a/b"));
+    Ok(())
+}
+
+#[test]
+fn shows_paths(rt: HostRuntime) -> Result<(), Fail> {
+    let alloc = rt.alloc();
+    let mut path = DavPath::new(alloc, "/dav/a%20b/")?;
+    path.set_prefix("/dav")?;
+    let text = format!(in alloc; "{path} {path:?}")?;
+    assert_eq!(rt; text.as_str(), "/dav/a%20b/ /dav/a%20b/");
+    let server = DavPath::new(alloc, "*")?;
+    let text = format!(in alloc; "{server}")?;
+    assert_eq!(rt; text.as_str(), "*");
+    Ok(())
+}

@@ -1,9 +1,10 @@
 //! The text of a path in a URL (RFC 3986, sections 2.1 and 2.3).
 ghost use Rattle.std.specs.Prelude.{◌≡◌, IfOk, string_bytes};
 ghost use Rattle.dav_core.specs.UrlText.{url_text};
+ghost use Rattle.percent_encoding.specs.Iter.{encoded_text};
 
 use crate::errors::NoMemory;
-use percent_encoding::{AsciiSet, NON_ALPHANUMERIC, ascii_set, percent_encode};
+use percent_encoding::{AsciiSet, NON_ALPHANUMERIC, PercentEncode, ascii_set, percent_encode};
 use std::alloc::Global;
 
 /// The bytes that are escaped: all but letters, digits and `-_.~/`.
@@ -15,6 +16,13 @@ const ESCAPED: AsciiSet = ascii_set!(
         .remove(b'~')
         .remove(b'/')
 );
+
+/// The bytes with escapes, as what is written.
+pub(super) fn escaped(bytes: &[u8]) -> PercentEncode<'_>
+    ensures { encoded_text result ≡ url_text bytes.now }
+{
+    percent_encode(bytes, ESCAPED)
+}
 
 /// The bytes, with escapes.
 pub(super) fn url_text(alloc: Global, bytes: &[u8]) -> Result<String, NoMemory>

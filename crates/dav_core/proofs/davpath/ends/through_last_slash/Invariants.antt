@@ -1,0 +1,10 @@
+use Rattle.std.proofs.Common.{◌≡◌, ◌==◌, not, length}
+use Rattle.dav_core.specs.Path.{without_end}
+use Rattle.dav_core.proofs.davpath.ends.through_last_slash.Given as goal
+
+abbrev pub invariant-loop-bytes : goal.invariant-loop-bytes
+invariant-loop-bytes l =
+    without_end (λ b. not (b == 47)) l.bytes ≡ without_end (λ b. not (b == 47)) l.fn.bytes
+
+abbrev pub decreases-loop-bytes : goal.decreases-loop-bytes
+decreases-loop-bytes l = length l.bytes
