@@ -168,20 +168,25 @@ fn adds_names_and_slashes(rt: HostRuntime) -> Result<(), Fail> {
 fn gives_last_names(rt: HostRuntime) -> Result<(), Fail> {
     let alloc = rt.alloc();
     let cases = [
-        ("/a/b%20c/", "b c", Some("b c"), "/a/"),
-        ("/a", "a", Some("a"), "/"),
-        ("/", "", None, "/"),
-        ("*", "", None, "*"),
+        ("/a/b%20c/", "b c", "/a/"),
+        ("/a", "a", "/"),
+        ("/", "", "/"),
+        ("*", "", "*"),
     ];
-    for (text, bytes, name, parent) in cases {
+    for (text, bytes, parent) in cases {
         let path = DavPath::new(alloc, text)?;
-        assert_eq!(rt; path.file_name_bytes(), bytes.as_bytes(), "{text}");
-        assert_eq!(rt; path.file_name(), name, "{text}");
+        assert_eq!(rt; path.file_name_bytes(), bytes.as_bytes());
         let lent = path.as_ref().parent();
-        assert_eq!(rt; lent.as_bytes(), parent.as_bytes(), "{text}");
-        assert_eq!(rt; path.is_star(), text == "*", "{text}");
-        assert_eq!(rt; lent.is_collection(), text != "*", "{text}");
+        assert_eq!(rt; lent.as_bytes(), parent.as_bytes());
+        assert_eq!(rt; path.is_star(), text == "*");
+        assert_eq!(rt; lent.is_collection(), text != "*");
     }
+    let spaced = DavPath::new(alloc, "/a/b%20c/")?;
+    assert_eq!(rt; spaced.file_name(), Some("b c"));
+    let root = DavPath::new(alloc, "/")?;
+    assert_eq!(rt; root.file_name(), None);
+    let star = DavPath::new(alloc, "*")?;
+    assert_eq!(rt; star.file_name(), None);
     let raw = DavPath::new(alloc, "/a/%ff")?;
     assert_eq!(rt; raw.file_name(), None);
     assert_eq!(rt; raw.file_name_bytes(), b"\xff".as_slice());
