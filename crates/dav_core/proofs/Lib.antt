@@ -7,3 +7,4 @@ pub mod EndLemmas
 pub mod PathLemmas
 pub mod NodesLemmas
 pub mod WorldLemmas
+pub mod Rows

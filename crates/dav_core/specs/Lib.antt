@@ -8,3 +8,7 @@ pub mod ErrorNames
 pub mod Buffer
 pub mod PathRef
 pub mod Laws
+pub mod Handle
+pub mod Meaning
+pub mod Calls
+pub mod Asking

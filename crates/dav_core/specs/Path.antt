@@ -1,7 +1,7 @@
 -- Names and paths (RFC 3986, section 3.3).
-use Rattle.std.specs.Prelude.{◌≡◌, ◌≢◌, ℕ, ◌==◌, ◌++◌, ◌⊎◌, Bool, true, false, not, if◌then◌else◌, ◌-◌, nat_lt, length, take, List, [], ◌∷◌, All, Contains, Option, Some, None, bytes_eq}
+use Rattle.std.specs.Prelude.{◌≡◌, ◌≢◌, ℕ, ◌==◌, ◌++◌, ◌⊎◌, Bool, true, false, not, if◌then◌else◌, ◌-◌, nat_lt, length, take, List, [], ◌∷◌, All, Contains, map, Option, Some, None, bytes_eq}
 use Rattle.std.specs.List.{filter, flat_map, slice_split, ends_with, last_or}
-use Rattle.std.specs.Option.{unwrap_or}
+use Rattle.std.specs.Option.{unwrap_or, is_some}
 use Rattle.std.specs.declared.cmp.Ordering.{Ordering}
 use Rattle.std.specs.Ordering.{nat_cmp, is_eq}
 use Rattle.std.specs.Cmp.Lexicographic.{slice_cmp}
@@ -42,9 +42,40 @@ path_cmp = slice_cmp name_cmp
 abbrev pub is_same_path : Path → Path → Bool
 is_same_path p q = is_eq (path_cmp p q)
 
--- p is below q: q is a proper front of p
-abbrev pub IsBelow : Path → Path → Type 0
-IsBelow p q = (x : List ℕ) × (rest : Path) × (p ≡ q ++ x ∷ rest)
+-- the names of q that follow the front p; none where q is neither p nor below it
+abbrev pub rest_after : Path → Path → Option Path
+rest_after [] q = Some q
+rest_after (x ∷ p) [] = None
+rest_after (x ∷ p) (y ∷ q) = if is_eq (name_cmp x y) then rest_after p q else None
+
+-- q is p, or below it
+abbrev pub is_at_or_below : Path → Path → Bool
+is_at_or_below p q = is_some (rest_after p q)
+
+abbrev pub has_names : Option Path → Bool
+has_names None = false
+has_names (Some []) = false
+has_names (Some (x ∷ rest)) = true
+
+-- q is below p: p is a proper front of q
+abbrev pub is_below : Path → Path → Bool
+is_below p q = has_names (rest_after p q)
+
+abbrev pub is_root : Path → Bool
+is_root [] = true
+is_root (x ∷ p) = false
+
+-- the fronts of a path, the root first and the path itself last
+abbrev pub fronts : Path → List Path
+fronts [] = [] ∷ []
+fronts (x ∷ p) = [] ∷ map (λ q. x ∷ q) (fronts p)
+
+-- the one name of a path that has one
+abbrev pub only_name : Option Path → Option (List ℕ)
+only_name None = None
+only_name (Some []) = None
+only_name (Some (x ∷ [])) = Some x
+only_name (Some (x ∷ y ∷ rest)) = None
 
 -- all names but the last; the root is its own parent
 abbrev pub parent_of : Path → Path
@@ -65,7 +96,7 @@ path_bytes (n ∷ ns) closed = joined (n ∷ ns) ++ (if closed then 47 ∷ [] el
 abbrev pub star : List ℕ
 star = 42 ∷ []
 
-abbrev pub is_nonempty : List ℕ → Bool
+abbrev pub is_nonempty : {X : Type 0} → List X → Bool
 is_nonempty [] = false
 is_nonempty (x ∷ xs) = true
 

@@ -1,9 +1,10 @@
 -- What a file store holds: a finite map from paths to folders and files (RFC 4918, section 5), and the number
 -- that the next change takes.
-use Rattle.std.specs.Prelude.{◌≡◌, ℕ, ◌+◌, ◌-◌, ◌<◌, ◌≤◌, ◌++◌, Bool, true, false, T, List, [], ◌∷◌, All, length, take, drop, if◌then◌else◌, replicate, Option, Some, None}
-use Rattle.std.specs.Option.{is_none}
+use Rattle.std.specs.Prelude.{◌≡◌, ℕ, ◌+◌, ◌-◌, ◌<◌, ◌≤◌, ◌==◌, ◌++◌, Bool, true, false, not, T, List, [], ◌∷◌, All, length, take, drop, if◌then◌else◌, replicate, Option, Some, None}
+use Rattle.std.specs.List.{filter, filter_map, find as first}
+use Rattle.std.specs.Option.{is_none, option_map}
 use Rattle.std.specs.FinMap.{find, put, is_sorted}
-use Rattle.dav_core.specs.Path.{Path, path_cmp, is_same_path, parent_of, IsName}
+use Rattle.dav_core.specs.Path.{Path, path_cmp, is_same_path, is_at_or_below, is_nonempty, rest_after, only_name, parent_of, IsName}
 use Rattle.dav_core.specs.Property.{Properties, key_cmp}
 
 -- a folder, or a file with its bytes
@@ -48,8 +49,47 @@ is_folder_node (Some n) = is_folder_kind n.kind
 abbrev pub is_folder : World → Path → Bool
 is_folder w p = is_folder_node (node_at w p)
 
+abbrev pub is_file_node : Option Node → Bool
+is_file_node None = false
+is_file_node (Some n) = not (is_folder_kind n.kind)
+
+abbrev pub is_file : World → Path → Bool
+is_file w p = is_file_node (node_at w p)
+
 abbrev pub is_missing : World → Path → Bool
 is_missing w p = is_none (node_at w p)
+
+-- all nodes but those at p or below it
+abbrev pub prune : Path → Nodes → Nodes
+prune p = filter (λ e. not (is_at_or_below p e.0))
+
+-- the nodes at p or below it, with the front p of their paths replaced by q
+abbrev pub graft : Path → Path → Nodes → Nodes
+graft p q = filter_map (λ e. option_map (λ rest. (q ++ rest, e.1)) (rest_after p e.0))
+
+-- the nodes of both; where both have one at a path, that of the first
+abbrev pub union : Nodes → Nodes → Nodes
+union [] ns = ns
+union (e ∷ es) ns = put path_cmp e.0 e.1 (union es ns)
+
+-- what is at or below `from` moves to `to`, in the place of what is at or below that
+abbrev pub moved : Path → Path → Nodes → Nodes
+moved from to ns = union (graft from to ns) (prune to (prune from ns))
+
+-- what stands directly below p, by its name and whether it is a folder, in the order of the names' bytes
+abbrev pub members : Path → Nodes → List (List ℕ × Bool)
+members p = filter_map (λ e. option_map (λ name. (name, is_folder_kind e.1.kind)) (only_name (rest_after p e.0)))
+
+abbrev pub has_members : World → Path → Bool
+has_members w p = is_nonempty (members p w.nodes)
+
+-- the node was made with this number
+abbrev pub is_made_with : ℕ → Path × Node → Bool
+is_made_with made e = e.1.made == made
+
+-- the node that was made with this number
+abbrev pub made_with : ℕ → Nodes → Option Node
+made_with made ns = option_map (λ e. e.1) (first (is_made_with made) ns)
 
 -- the number that is never handed out, 2^64 - 1
 abbrev pub last_number : ℕ

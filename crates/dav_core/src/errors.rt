@@ -57,3 +57,30 @@ impl<T: Drop> From<AllocFailed<T>> for ParseError {
         ParseError::Memory
     }
 }
+
+/// Why a store refuses a call.
+#[derive(Clone, Copy, Debug, PartialEq, Eq)]
+pub enum FsError {
+    /// The store has no such call.
+    NotImplemented,
+    /// It failed for a reason of its own.
+    GeneralFailure,
+    /// Something is there already.
+    Exists,
+    /// Nothing is there.
+    NotFound,
+    /// It isn't allowed.
+    Forbidden,
+    /// There is no room, or memory ran out.
+    InsufficientStorage,
+    /// The path leads to itself.
+    LoopDetected,
+    /// The path is too long.
+    PathTooLong,
+    /// The file would get too large.
+    TooLarge,
+    /// It is on another server.
+    IsRemote,
+}
+
+pub type FsResult<T> = Result<T, FsError>;

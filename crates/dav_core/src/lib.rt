@@ -3,4 +3,5 @@
 
 pub mod davpath;
 pub mod errors;
+pub mod fs;
 pub mod laws;

@@ -1,0 +1,133 @@
+-- Asking a file store: the calls as values, what each answers, and what a store that may refuse any call does.
+use Rattle.std.specs.Prelude.{◌≡◌, ℕ, ⊤, Bool, true, false, List, [], ◌∷◌, Option, Some, None, Result, Ok, Err}
+use Rattle.std.specs.declared.io.traits.SeekFrom.{SeekFrom}
+use Rattle.dav_core.specs.declared.errors.FsError.{FsError}
+use Rattle.dav_core.specs.declared.errors.FsError.TheVariants.{NotImplemented, InsufficientStorage}
+use Rattle.dav_core.specs.declared.fs.DavMetaData.{DavMetaData}
+use Rattle.dav_core.specs.Element.{ElementTree}
+use Rattle.dav_core.specs.Path.{Path}
+use Rattle.dav_core.specs.Property.{Property, PropertyKey, Patch}
+use Rattle.dav_core.specs.World.{World}
+use Rattle.dav_core.specs.Handle.{Handle, Opening}
+use Rattle.dav_core.specs.Meaning.{Meaning}
+use Rattle.dav_core.specs.Calls.{metadata, read_dir, create_dir, remove_dir, remove_file, rename, copy, patch_props, get_props, get_prop, open_file, read_bytes, write_bytes, seek, flush, file_metadata}
+
+-- the calls of a store, with what they are handed; a number at the end is the moment of the call
+pub data Call : Type 0 where
+  Metadata : Path → Call
+  ReadDir : Path → Call
+  EntryMetadata : Path → Call
+  CreateDir : Path → ℕ → Call
+  RemoveDir : Path → ℕ → Call
+  RemoveFile : Path → ℕ → Call
+  Rename : Path → Path → ℕ → Call
+  Copy : Path → Path → ℕ → Call
+  HaveProps : Path → Call
+  PatchProps : Path → List Patch → Call
+  GetProps : Path → Bool → Call
+  GetProp : Path → PropertyKey → Call
+  GetQuota : Call
+  SetAccessed : Path → ℕ → Call
+  SetModified : Path → ℕ → Call
+  Open : Path → Opening → ℕ → Call
+  Read : Handle → ℕ → Call
+  Write : Handle → List ℕ → ℕ → Call
+  Seek : Handle → SeekFrom → Call
+  Flush : Handle → Call
+  FileMetadata : Handle → Call
+
+-- What a call answers where it isn't refused. A call that moves the place of an open file answers the file after it.
+abbrev pub Answer : Call → Type 0
+Answer (Metadata p) = DavMetaData
+Answer (ReadDir p) = List (List ℕ × Bool)
+Answer (EntryMetadata p) = DavMetaData
+Answer (CreateDir p now) = Unit {0}
+Answer (RemoveDir p now) = Unit {0}
+Answer (RemoveFile p now) = Unit {0}
+Answer (Rename from to now) = Unit {0}
+Answer (Copy from to now) = Unit {0}
+Answer (HaveProps p) = Bool
+Answer (PatchProps p patches) = List (ℕ × Property)
+Answer (GetProps p content) = List Property
+Answer (GetProp p key) = ElementTree
+Answer GetQuota = ℕ × Option ℕ
+Answer (SetAccessed p time) = Unit {0}
+Answer (SetModified p time) = Unit {0}
+Answer (Open p how now) = Handle
+Answer (Read file count) = List ℕ × Handle
+Answer (Write file bytes now) = Handle
+Answer (Seek file to) = ℕ × Handle
+Answer (Flush file) = Unit {0}
+Answer (FileMetadata file) = DavMetaData
+
+-- what a call means: every store has properties, and none of them tells of quotas or sets times by themselves
+unfoldable pub meaning : (call : Call) → World → Meaning (Answer call)
+meaning (Metadata p) w = metadata w p
+meaning (ReadDir p) w = read_dir w p
+meaning (EntryMetadata p) w = metadata w p
+meaning (CreateDir p now) w = create_dir w p now
+meaning (RemoveDir p now) w = remove_dir w p now
+meaning (RemoveFile p now) w = remove_file w p now
+meaning (Rename from to now) w = rename w from to now
+meaning (Copy from to now) w = copy w from to now
+meaning (HaveProps p) w = Ok (true, w)
+meaning (PatchProps p patches) w = patch_props w p patches
+meaning (GetProps p content) w = get_props w p content
+meaning (GetProp p key) w = get_prop w p key
+meaning GetQuota w = Err NotImplemented
+meaning (SetAccessed p time) w = Err NotImplemented
+meaning (SetModified p time) w = Err NotImplemented
+meaning (Open p how now) w = open_file w p how now
+meaning (Read file count) w = read_bytes w file count
+meaning (Write file bytes now) w = write_bytes w file bytes now
+meaning (Seek file to) w = seek w file to
+meaning (Flush file) w = flush w file
+meaning (FileMetadata file) w = file_metadata w file
+
+-- the calls that take memory, and so may find none
+abbrev pub TakesMemory : Call → Type 0
+TakesMemory (ReadDir p) = ⊤
+TakesMemory (CreateDir p now) = ⊤
+TakesMemory (Rename from to now) = ⊤
+TakesMemory (Copy from to now) = ⊤
+TakesMemory (PatchProps p patches) = ⊤
+TakesMemory (GetProps p content) = ⊤
+TakesMemory (GetProp p key) = ⊤
+TakesMemory (Open p how now) = ⊤
+TakesMemory (Read file count) = ⊤
+TakesMemory (Write file bytes now) = ⊤
+TakesMemory _ = ⊥
+
+-- What contracts see of a store: what it holds, the refusals to come, one for each call and an error where that call
+-- is refused, and whether it ever wanted memory that wasn't there.
+pub record StoreState : Type 0 where
+  pub world : World
+  pub refusals : List (Option FsError)
+  pub short : Bool
+
+-- the refusals to come after one call
+abbrev pub rest_of : List (Option FsError) → List (Option FsError)
+rest_of [] = []
+rest_of (r ∷ rs) = rs
+
+-- an answer and the world after it; after an error the world is as it was
+abbrev pub answered : {A : Type 0} → World → Meaning A → Result A FsError × World
+answered w (Ok (a, after)) = (Ok a, after)
+answered w (Err e) = (Err e, w)
+
+-- an error at the head of the refusals is the answer; else the call is answered as it means
+abbrev pub ask : (call : Call) → World → List (Option FsError) → Result (Answer call) FsError × World
+ask call w [] = answered w (meaning call w)
+ask call w (None ∷ rs) = answered w (meaning call w)
+ask call w (Some e ∷ rs) = (Err e, w)
+
+-- From old, a store may answer the call so, and be new: the answer is that of asking it; or the call takes memory and
+-- there was none, and then nothing changed but that the store remembers it. The head of the refusals is used up.
+pub data Asks (call : Call) (old : StoreState) (answer : Result (Answer call) FsError) (new : StoreState) : Type 0 where
+  asked : (answer, new.world) ≡ ask call old.world old.refusals → new.refusals ≡ rest_of old.refusals → new.short ≡ old.short → Asks call old answer new
+  ran_short : TakesMemory call → answer ≡ Err InsufficientStorage → new.world ≡ old.world → new.refusals ≡ rest_of old.refusals → new.short ≡ true → Asks call old answer new
+
+-- an answer, by what its value stands for
+abbrev pub seen : {A B : Type 0} → (A → B) → Result A FsError → Result B FsError
+seen view (Ok a) = Ok (view a)
+seen view (Err e) = Err e

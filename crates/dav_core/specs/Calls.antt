@@ -1,0 +1,172 @@
+-- What each call of a file store means (RFC 4918, sections 5 and 9): refusals in their order, then want of a number, then the
+-- answer and the world after it.
+use Rattle.std.specs.Prelude.{ℕ, ◌+◌, ◌||◌, ◌&&◌, nat_lt, Bool, true, false, not, if◌then◌else◌, List, [], ◌∷◌, length, take, drop, map, Option, Some, None, Result, Ok, Err}
+use Rattle.std.specs.FinMap.{find}
+use Rattle.std.specs.declared.io.traits.SeekFrom.{SeekFrom}
+use Rattle.dav_core.specs.declared.errors.FsError.{FsError}
+use Rattle.dav_core.specs.declared.errors.FsError.TheVariants.{NotImplemented, GeneralFailure, Exists, NotFound, Forbidden, TooLarge}
+use Rattle.dav_core.specs.declared.fs.DavMetaData.{DavMetaData}
+use Rattle.dav_core.specs.Element.{ElementTree}
+use Rattle.dav_core.specs.Path.{Path, is_same_path, is_below, is_root, is_nonempty, parent_of}
+use Rattle.dav_core.specs.Property.{Property, PropertyKey, Properties, Patch, key_cmp, patched, property_of, without_tree, shown_property}
+use Rattle.dav_core.specs.World.{World, Node, Kind, Folder, File, node_at, is_folder_kind, is_folder, is_file, is_missing, bytes_of, members, has_members, prune, moved, touched, with_new, adjust, change_first, is_made_with, made_with, splice, max_file_len}
+use Rattle.dav_core.specs.Handle.{Handle, Opening, opened, write_place, place_for}
+use Rattle.dav_core.specs.Meaning.{Meaning, refuse_if, at_node, numbered}
+
+-- what is told of a node: the length of a folder is 0
+abbrev pub metadata_of : Node → DavMetaData
+metadata_of n = record { len = length (bytes_of n.kind); dir = is_folder_kind n.kind; created = n.created; modified = n.modified; number = Some n.number }
+
+abbrev pub metadata : World → Path → Meaning DavMetaData
+metadata w p = at_node (node_at w p) (λ n. Ok (metadata_of n, w))
+
+-- the names in a folder, in the order of their bytes, each with whether it is a folder
+abbrev pub read_dir : World → Path → Meaning (List (List ℕ × Bool))
+read_dir w p =
+    refuse_if (is_missing w p) NotFound
+    (refuse_if (is_file w p) Forbidden
+    (Ok (members p w.nodes, w)))
+
+abbrev pub create_dir : World → Path → ℕ → Meaning (Unit {0})
+create_dir w p now =
+    refuse_if (not (is_missing w p)) Exists
+    (refuse_if (not (is_folder w (parent_of p))) NotFound
+    (numbered w (λ number. Ok (tt, with_new w p Folder [] now))))
+
+-- the world without what is at p or below it
+abbrev pub without : World → Path → ℕ → World
+without w p now = record w { nodes = touched p now (prune p w.nodes) }
+
+abbrev pub remove_file : World → Path → ℕ → Meaning (Unit {0})
+remove_file w p now =
+    refuse_if (is_missing w p) NotFound
+    (refuse_if (is_folder w p) Forbidden
+    (Ok (tt, without w p now)))
+
+abbrev pub remove_dir : World → Path → ℕ → Meaning (Unit {0})
+remove_dir w p now =
+    refuse_if (is_root p) Forbidden
+    (refuse_if (is_missing w p) NotFound
+    (refuse_if (is_file w p) Forbidden
+    (refuse_if (has_members w p) Exists
+    (Ok (tt, without w p now)))))
+
+-- what is at `from` or below it goes to `to`, in the place of what is there; all nodes keep their numbers
+abbrev pub rename : World → Path → Path → ℕ → Meaning (Unit {0})
+rename w from to now =
+    refuse_if (is_root from || is_root to) Forbidden
+    (refuse_if (is_missing w from) NotFound
+    (if is_same_path from to then Ok (tt, w) else
+    (refuse_if (is_below from to) Forbidden
+    (refuse_if (not (is_folder w (parent_of to))) NotFound
+    (refuse_if (is_folder w to && has_members w to) Exists
+    (Ok (tt, record w { nodes = touched from now (touched to now (moved from to w.nodes)) })))))))
+
+-- a node with the bytes and dead properties of another: it stays the node that it was
+abbrev pub copied_over : Node → ℕ → ℕ → Node → Node
+copied_over source number now n = record { made = n.made; number = number; kind = source.kind; properties = source.properties; created = now; modified = now }
+
+-- the copy, at a path where a file is, or where nothing is
+abbrev pub with_copy : World → Path → Node → Option Node → ℕ → World
+with_copy w to source None now = with_new w to source.kind source.properties now
+with_copy w to source (Some n) now = record { nodes = adjust to (copied_over source w.next now) w.nodes; next = w.next + 1 }
+
+-- the bytes and dead properties of a file go to another path
+abbrev pub copy : World → Path → Path → ℕ → Meaning (Unit {0})
+copy w from to now =
+    at_node (node_at w from) (λ source.
+    refuse_if (is_folder_kind source.kind) Forbidden
+    (refuse_if (is_same_path from to) Forbidden
+    (refuse_if (is_folder w to) Forbidden
+    (refuse_if (not (is_folder w (parent_of to))) NotFound
+    (numbered w (λ number. Ok (tt, with_copy w to source (node_at w to) now)))))))
+
+-- a file without bytes, changed at this moment
+abbrev pub emptied : ℕ → ℕ → Node → Node
+emptied number now n = record n { number = number; kind = File []; modified = now }
+
+-- opening what is there: a file, which is emptied if that is asked
+abbrev pub open_found : World → Path → Opening → ℕ → Node → Meaning Handle
+open_found w p how now n =
+    refuse_if (is_folder_kind n.kind) Forbidden
+    (refuse_if how.create_new Exists
+    (if how.truncate
+    then numbered w (λ number. Ok (opened n.made how, record { nodes = adjust p (emptied number now) w.nodes; next = w.next + 1 }))
+    else Ok (opened n.made how, w)))
+
+-- opening what isn't there: an empty file is made if that is asked
+abbrev pub open_missing : World → Path → Opening → ℕ → Meaning Handle
+open_missing w p how now =
+    refuse_if (not (how.create || how.create_new)) NotFound
+    (refuse_if (not (is_folder w (parent_of p))) NotFound
+    (numbered w (λ number. Ok (opened number how, with_new w p (File []) [] now))))
+
+abbrev pub open_at : World → Path → Opening → ℕ → Option Node → Meaning Handle
+open_at w p how now None = open_missing w p how now
+open_at w p how now (Some n) = open_found w p how now n
+
+abbrev pub open_file : World → Path → Opening → ℕ → Meaning Handle
+open_file w p how now = open_at w p how now (node_at w p)
+
+-- the bytes from the place on, at most so many; the place moves behind them
+abbrev pub read_bytes : World → Handle → ℕ → Meaning (List ℕ × Handle)
+read_bytes w file count =
+    at_node (made_with file.made w.nodes) (λ n.
+    let chunk = take count (drop file.position (bytes_of n.kind)) in
+    refuse_if (not file.reads) Forbidden
+    (Ok ((chunk, record file { position = file.position + length chunk }), w)))
+
+-- a file with the bytes c written from k on
+abbrev pub written : ℕ → List ℕ → ℕ → ℕ → Node → Node
+written k c number now n = record n { number = number; kind = File (splice (bytes_of n.kind) k c); modified = now }
+
+-- The bytes go to the place of the open file, or to the end where it appends; a gap is filled with zeros, and the
+-- place moves behind them. An empty write changes nothing.
+abbrev pub write_bytes : World → Handle → List ℕ → ℕ → Meaning Handle
+write_bytes w file c now =
+    at_node (made_with file.made w.nodes) (λ n.
+    let k = write_place file (bytes_of n.kind) in
+    refuse_if (not file.writes) Forbidden
+    (refuse_if (nat_lt max_file_len (k + length c)) TooLarge
+    (if is_nonempty c
+    then numbered w (λ number. Ok (record file { position = k + length c }, record { nodes = change_first (is_made_with file.made) (written k c number now) w.nodes; next = w.next + 1 }))
+    else Ok (file, w))))
+
+abbrev pub sought : Handle → Option ℕ → World → Meaning (ℕ × Handle)
+sought file None w = Err GeneralFailure
+sought file (Some k) w = Ok ((k, record file { position = k }), w)
+
+-- the place moves; it may lie past the end
+abbrev pub seek : World → Handle → SeekFrom → Meaning (ℕ × Handle)
+seek w file to =
+    at_node (made_with file.made w.nodes) (λ n.
+    sought file (place_for to file.position (length (bytes_of n.kind))) w)
+
+abbrev pub flush : World → Handle → Meaning (Unit {0})
+flush w file = at_node (made_with file.made w.nodes) (λ n. Ok (tt, w))
+
+abbrev pub file_metadata : World → Handle → Meaning DavMetaData
+file_metadata w file = at_node (made_with file.made w.nodes) (λ n. Ok (metadata_of n, w))
+
+-- a node with its properties changed; neither its number nor its times change
+abbrev pub repatched : List Patch → Node → Node
+repatched patches n = record n { properties = patched patches n.properties }
+
+-- each change is answered 200, with its property, in order
+abbrev pub patch_props : World → Path → List Patch → Meaning (List (ℕ × Property))
+patch_props w p patches =
+    at_node (node_at w p) (λ n.
+    Ok (map (λ patch. (200, without_tree (property_of patch))) patches, record w { nodes = adjust p (repatched patches) w.nodes }))
+
+-- the properties in order of namespace and name
+abbrev pub get_props : World → Path → Bool → Meaning (List Property)
+get_props w p content = at_node (node_at w p) (λ n. Ok (map (shown_property content) n.properties, w))
+
+abbrev pub stored_tree : Option (Option ElementTree) → World → Meaning ElementTree
+stored_tree None w = Err NotFound
+stored_tree (Some None) w = Err NotFound
+stored_tree (Some (Some tree)) w = Ok (tree, w)
+
+-- the element of one property; one that is stored without is not found
+abbrev pub get_prop : World → Path → PropertyKey → Meaning ElementTree
+get_prop w p key = at_node (node_at w p) (λ n. stored_tree (find key_cmp key n.properties) w)

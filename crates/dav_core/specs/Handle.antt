@@ -1,0 +1,42 @@
+-- What an open file stands for: the node that took this number when it was made, wherever a rename brought it; the
+-- place where the next read or write begins; and what it was opened for.
+use Rattle.std.specs.Prelude.{ℕ, ℤ, pos, ◌+ℤ◌, ◌||◌, int_lt, nat_lt, nat_abs, Bool, if◌then◌else◌, List, length, Option, Some, None}
+use Rattle.std.specs.declared.io.traits.SeekFrom.{SeekFrom}
+use Rattle.std.specs.declared.io.traits.SeekFrom.TheVariants.{Start, End, Current}
+use Rattle.dav_core.specs.World.{last_number}
+
+pub record Handle : Type 0 where
+  pub made : ℕ
+  pub position : ℕ
+  pub reads : Bool
+  pub writes : Bool
+  pub appends : Bool
+
+-- How a file is opened. The length that is announced and the checksum are hints, which change nothing here.
+pub record Opening : Type 0 where
+  pub read : Bool
+  pub write : Bool
+  pub append : Bool
+  pub truncate : Bool
+  pub create : Bool
+  pub create_new : Bool
+  pub size : Option ℕ
+  pub checksum : Option (List ℕ)
+
+-- a file that was just opened; appending is writing
+abbrev pub opened : ℕ → Opening → Handle
+opened made how = record { made = made; position = 0; reads = how.read; writes = how.write || how.append; appends = how.append }
+
+-- where the next write begins in a file of these bytes
+abbrev pub write_place : Handle → List ℕ → ℕ
+write_place file bytes = if file.appends then length bytes else file.position
+
+-- a place that a number names; none before 0 or past 2^64 - 1
+abbrev pub place_within : ℤ → Option ℕ
+place_within z = if int_lt z (pos 0) then None else if nat_lt last_number (nat_abs z) then None else Some (nat_abs z)
+
+-- where a seek goes from a place in a file of this length
+abbrev pub place_for : SeekFrom → ℕ → ℕ → Option ℕ
+place_for (Start k) position len = Some k
+place_for (End offset) position len = place_within (pos len +ℤ offset)
+place_for (Current offset) position len = place_within (pos position +ℤ offset)
