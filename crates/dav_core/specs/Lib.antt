@@ -12,3 +12,5 @@ pub mod Handle
 pub mod Meaning
 pub mod Calls
 pub mod Asking
+pub mod Locks
+pub mod Metadata
