@@ -8,3 +8,4 @@ pub mod PathLemmas
 pub mod NodesLemmas
 pub mod WorldLemmas
 pub mod Rows
+pub mod LockLemmas

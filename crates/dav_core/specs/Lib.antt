@@ -14,3 +14,4 @@ pub mod Calls
 pub mod Asking
 pub mod Locks
 pub mod Metadata
+pub mod LockLaws

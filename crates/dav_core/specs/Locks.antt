@@ -56,7 +56,7 @@ abbrev pub is_in_the_way : Bool → Asker → Path → List Lock → Lock → Bo
 is_in_the_way deep who p ls l =
     not (is_held who l)
     && ((covers l p && (not l.shared || not (list_any (λ m. covers m p && is_held who m) ls)))
-      || (deep && is_at_or_below p (names l.path)))
+    || (deep && is_at_or_below p (names l.path)))
 
 -- The answer to the question whether a path is free: yes, or one lock that stands in the way.
 pub data Checks (deep : Bool) (who : Asker) (p : Path) (ls : List Lock) : Result (Unit {0}) Lock → Type 0 where

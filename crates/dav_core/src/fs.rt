@@ -208,12 +208,23 @@ pub trait DavFileSystem {
     /// Opens a file at a place of 0, or at its end for each write where it appends. `Forbidden` for a folder;
     /// `Exists` where nothing may be there; `NotFound` where nothing is there and none is to be made, or its folder
     /// is missing; `GeneralFailure` where a change is to be made and no number is left.
-    fn open(&mut self, alloc: Global, path: &DavPath, options: &OpenOptions, now: u64) -> FsResult<Self::File>
+    fn open(
+        &mut self,
+        alloc: Global,
+        path: &DavPath,
+        options: &OpenOptions,
+        now: u64,
+    ) -> FsResult<Self::File>
         requires { now ≤ last_moment }
         ensures { Asks (Open (names path.now) (opening_of options.now) now) (state self.old) (seen handle result) (state self.new) };
 
     /// Lists a folder, in the order of the names' bytes. `NotFound`; `Forbidden` for a file.
-    fn read_dir(&mut self, alloc: Global, path: &DavPath, meta: ReadDirMeta) -> FsResult<Vec<Self::Entry>>
+    fn read_dir(
+        &mut self,
+        alloc: Global,
+        path: &DavPath,
+        meta: ReadDirMeta,
+    ) -> FsResult<Vec<Self::Entry>>
         ensures asks { Asks (ReadDir (names path.now)) (state self.old) (seen (λ entries. map (λ e. (Self.Entry.entry_name e, Self.Entry.entry_dir e)) entries.items) result) (state self.new) }
         ensures folder { IfOk result (λ entries. All (λ e. Self.Entry.entry_folder e ≡ names path.now) entries.items) };
 
@@ -290,13 +301,25 @@ pub trait DavFileSystem {
 
     /// Writes bytes. `NotFound` where the file was removed; `Forbidden` where it isn't open for writing; `TooLarge`
     /// where they would end past 2,147,483,647 bytes; `GeneralFailure` where there are any and no number is left.
-    fn write_bytes(&mut self, alloc: Global, file: &mut Self::File, bytes: Bytes, now: u64) -> FsResult<()>
+    fn write_bytes(
+        &mut self,
+        alloc: Global,
+        file: &mut Self::File,
+        bytes: Bytes,
+        now: u64,
+    ) -> FsResult<()>
         requires { now ≤ last_moment }
         ensures asks { Asks (Write (handle file.old) bytes now) (state self.old) (seen (λ _. handle file.new) result) (state self.new) }
         ensures err { OnErr result (handle file.new ≡ handle file.old) };
 
     /// The same with the bytes that a buffer has left.
-    fn write_buf<B: Buf + Drop>(&mut self, alloc: Global, file: &mut Self::File, buf: B, now: u64) -> FsResult<()>
+    fn write_buf<B: Buf + Drop>(
+        &mut self,
+        alloc: Global,
+        file: &mut Self::File,
+        buf: B,
+        now: u64,
+    ) -> FsResult<()>
         requires { now ≤ last_moment }
         ensures asks { Asks (Write (handle file.old) (B.unread buf) now) (state self.old) (seen (λ _. handle file.new) result) (state self.new) }
         ensures err { OnErr result (handle file.new ≡ handle file.old) };

@@ -1,5 +1,6 @@
 //! Laws of paths. Each function does nothing: its contract is a theorem on the definitions.
 ghost use Rattle.dav_core.specs.Laws.{LeavesOnePath, LeavesNoFault, OneFault, ReadsOnePath, ReadIsNotRefused, OneRefusal, KeepsNames, ReadsNames, StarHasNoNames, ReadsAgain, NamesReadAgain, SameText, SlashKeepsNames, AddsName, ParentOfNames, EmptyIsWorld, NewKeepsWorld, ChangeKeepsWorld};
+ghost use Rattle.dav_core.specs.LockLaws.{FreeHoldsExclusive, FreeDeepHoldsBelow, FreeIsNothingInTheWay, GrantedCanBeUnlocked};
 
 /// A text is read as one path at most, and refused for one reason at most, and not both: the pieces between slashes
 /// leave one path, or the first of them that refuses decides (RFC 3986, sections 3.3 and 5.2.4).
@@ -44,4 +45,14 @@ pub fn worlds_are_kept()
     ensures empty { EmptyIsWorld }
     ensures made { NewKeepsWorld }
     ensures changed { ChangeKeepsWorld }
+{}
+
+/// Where a path is free, whoever asks holds each exclusive lock that covers it, and for a deep question each lock at it
+/// and below it (RFC 4918, sections 6.1 and 7.5); it is free exactly where no lock stands in the way. A lock that was
+/// just granted can be taken back.
+pub fn free_paths_are_held()
+    ensures exclusive { FreeHoldsExclusive }
+    ensures below { FreeDeepHoldsBelow }
+    ensures way { FreeIsNothingInTheWay }
+    ensures granted { GrantedCanBeUnlocked }
 {}

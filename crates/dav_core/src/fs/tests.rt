@@ -43,12 +43,33 @@ fn tells_what_it_is(rt: HostRuntime) {
 #[test]
 fn opens_for_one_thing(rt: HostRuntime) -> Result<(), Fail> {
     let none = OpenOptions::default();
-    assert!(rt; !none.read && !none.write && !none.append && !none.truncate && !none.create && !none.create_new);
+    assert!(rt;
+        !none.read
+            && !none.write
+            && !none.append
+            && !none.truncate
+            && !none.create
+            && !none.create_new
+    );
     assert!(rt; none.size.is_none() && none.checksum.is_none());
     let read = OpenOptions::read();
-    assert!(rt; read.read && !read.write && !read.append && !read.truncate && !read.create && !read.create_new);
+    assert!(rt;
+        read.read
+            && !read.write
+            && !read.append
+            && !read.truncate
+            && !read.create
+            && !read.create_new
+    );
     let write = OpenOptions::write();
-    assert!(rt; !write.read && write.write && !write.append && !write.truncate && !write.create && !write.create_new);
+    assert!(rt;
+        !write.read
+            && write.write
+            && !write.append
+            && !write.truncate
+            && !write.create
+            && !write.create_new
+    );
     let sum = OpenOptions {
         checksum: Some(String::from_str(rt.alloc(), "SHA1:ab")?),
         size: Some(7),
