@@ -9,3 +9,4 @@ pub mod NodesLemmas
 pub mod WorldLemmas
 pub mod Rows
 pub mod LockLemmas
+pub mod EmptyStore

@@ -1,6 +1,6 @@
 -- Lists of locks.
 use Rattle.std.proofs.Common.{◌≡◌, ℕ, if◌then◌else◌, ◌++◌, ◌∷◌, [], Bool, true, false, not, ◌&&◌, ◌||◌, List, Contains, map, cond, bytes_eq, Option, Some, None, refl, sym, ap, subst, ◌∙◌, arith}
-use Rattle.std.specs.List.{list_all, list_any, find as first}
+use Rattle.std.specs.List.{list_all, list_any, flat_map, find as first}
 use Rattle.std.proofs.lemmas.List.Sums.{AllPass-from_list_all}
 use Rattle.std.specs.Option.{is_some, option_map}
 use Rattle.std.specs.Ordering.{is_eq}
@@ -10,7 +10,7 @@ use Rattle.std.proofs.lemmas.List.Folds.{list_any-append}
 use Rattle.std.proofs.lemmas.Map.Text.{is_eq-slice_cmp}
 use Rattle.std.proofs.lemmas.List.Elements.{All-contains}
 use Rattle.dav_core.specs.Path.{Path, names, is_at_or_below, is_same_path, fronts}
-use Rattle.dav_core.specs.Locks.{Lock, Asker, covers, is_held, is_free, is_free_deep, is_free_for, is_in_the_way, is_named, lock_front, unlocked}
+use Rattle.dav_core.specs.Locks.{Lock, Asker, covers, is_held, is_free, is_free_deep, is_free_for, is_in_the_way, is_named, lock_front, unlocked, without_first, discovered}
 use Rattle.dav_core.specs.LockLaws.{FreeHoldsExclusive, FreeDeepHoldsBelow, FreeIsNothingInTheWay, GrantedCanBeUnlocked}
 
 -- what passes for all of a list passes for one of it
@@ -46,7 +46,7 @@ parted_step h s c a b deep all covered below e = grind arith
 -- no lock stands in the way: none by covering the path, and for a deep question none by being at it or below it
 parted : (deep : Bool) (who : Asker) (p : Path) (b : Bool) (ls : List Lock)
     → list_all (λ l. not (not (is_held who l) && ((covers l p && (not l.shared || not b)) || (deep && is_at_or_below p (names l.path))))) ls
-      ≡ (list_all (λ l. is_held who l || (l.shared && b) || not (covers l p)) ls && (not deep || list_all (λ l. is_held who l || not (is_at_or_below p (names l.path))) ls))
+    ≡ (list_all (λ l. is_held who l || (l.shared && b) || not (covers l p)) ls && (not deep || list_all (λ l. is_held who l || not (is_at_or_below p (names l.path))) ls))
 parted true who p b [] = refl
 parted false who p b [] = refl
 parted deep who p b (l ∷ ls) =
@@ -123,3 +123,27 @@ granted_can_be_unlocked l ls =
     let named : is_named l.token (names l.path) l ≡ true = ap (λ b. b && is_same_path (names l.path) (names l.path)) token ∙ path_itself (names l.path) in
     let any : list_any (is_named l.token (names l.path)) (ls ++ l ∷ []) ≡ true = list_any-append (is_named l.token (names l.path)) ls (l ∷ []) ∙ grind arith in
     some_of_map _ _ (some_front (names l.path) (λ q. list_any (is_named l.token q) (ls ++ l ∷ [])) any)
+
+abbrev no_locks : List Lock
+no_locks = []
+
+-- without locks none is meant by a token and a path
+none_among : {X : Type 0} (xs : List X) → first (λ x. false) xs ≡ None
+none_among [] = refl
+none_among (x ∷ xs) = none_among xs
+
+pub none_is_named : (token : List ℕ) (p : Path) → unlocked token p [] ≡ None
+none_is_named token p = ap (option_map (λ q. without_first (is_named token q) [])) (none_among (fronts p))
+
+none_for_each : {X : Type 0} (xs : List X) → flat_map (λ (x : X). no_locks) xs ≡ no_locks
+none_for_each [] = refl
+none_for_each (x ∷ xs) = none_for_each xs
+
+-- and none is discovered
+pub none_is_discovered : (p : Path) → discovered p [] ≡ []
+none_is_discovered p = none_for_each (fronts p)
+
+-- without locks every path is free
+pub all_is_free : (deep : Bool) (who : Asker) (p : Path) → is_free_for deep who p [] ≡ true
+all_is_free true who p = refl
+all_is_free false who p = refl

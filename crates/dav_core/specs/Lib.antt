@@ -15,3 +15,6 @@ pub mod Asking
 pub mod Locks
 pub mod Metadata
 pub mod LockLaws
+pub mod LockRefusals
+pub mod LockCode
+pub mod PropertyCode

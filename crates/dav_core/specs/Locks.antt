@@ -1,5 +1,6 @@
 -- Write locks (RFC 4918, sections 6 and 7): one list, in order of granting.
 use Rattle.std.specs.Prelude.{◌≡◌, ℕ, ◌+◌, ◌&&◌, ◌||◌, Bool, true, false, not, if◌then◌else◌, bytes_eq, List, [], ◌∷◌, ◌++◌, Contains, Option, Some, None, Result, Ok, Err}
+use denote.Ref.{Bor}
 use Rattle.std.specs.List.{filter, flat_map, list_any, list_all, find as first}
 use Rattle.std.specs.Option.{option_map, option_and_then, option_eq}
 use Rattle.dav_core.specs.Element.{ElementTree}
@@ -25,6 +26,10 @@ covers l p = is_same_path (names l.path) p || (l.deep && is_below (names l.path)
 pub record Asker : Type 0 where
   pub tokens : List (List ℕ)
   pub principal : Option (Option (List ℕ))
+
+-- who submits these tokens, with a principal that is ignored or looked at
+abbrev pub asker_of : List (List ℕ) → Bool → Option (List ℕ) → Asker
+asker_of tokens ignored principal = record { tokens = tokens; principal = if ignored then None else Some principal }
 
 abbrev pub is_same_principal : Option (List ℕ) → Option (List ℕ) → Bool
 is_same_principal = option_eq bytes_eq
@@ -63,6 +68,11 @@ pub data Checks (deep : Bool) (who : Asker) (p : Path) (ls : List Lock) : Result
   free : is_free_for deep who p ls ≡ true → Checks deep who p ls (Ok tt)
   in_the_way : {l : Lock} → Contains ls l → is_in_the_way deep who p ls l ≡ true → Checks deep who p ls (Err l)
 
+-- an answer that lends its lock
+abbrev pub lent : Result (Unit {0}) (Bor Lock) → Result (Unit {0}) Lock
+lent (Ok u) = Ok u
+lent (Err l) = Err l.now
+
 -- A lock may be granted: an exclusive one where no lock covers its path, a shared one where no exclusive lock does;
 -- and a deep one where no lock is below its path either.
 abbrev pub is_grantable : Lock → List Lock → Bool
@@ -73,6 +83,19 @@ is_grantable new ls =
 -- when a lock ends that is to end after so many seconds
 abbrev pub ends_at : ℕ → Option ℕ → Option ℕ
 ends_at now timeout = option_map (λ seconds. now + seconds) timeout
+
+-- a lock as it is granted
+abbrev pub new_lock : List ℕ → PathText → Option (List ℕ) → Option ElementTree → Option ℕ → Bool → Bool → ℕ → Lock
+new_lock token path principal owner timeout shared deep now = record {
+  token = token;
+  path = path;
+  principal = principal;
+  owner = owner;
+  timeout_at = ends_at now timeout;
+  timeout = timeout;
+  shared = shared;
+  deep = deep;
+}
 
 -- the lock with a new timeout; it stays the lock that it was
 abbrev pub refreshed_lock : Option ℕ → ℕ → Lock → Lock

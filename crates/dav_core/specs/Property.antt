@@ -1,5 +1,5 @@
 -- Dead properties (RFC 4918, section 4).
-use Rattle.std.specs.Prelude.{ℕ, Bool, not, List, [], ◌∷◌, if◌then◌else◌, Option, Some, None}
+use Rattle.std.specs.Prelude.{ℕ, Bool, true, false, not, List, [], ◌∷◌, if◌then◌else◌, Option, Some, None}
 use Rattle.std.specs.Option.{option_and_then, unwrap_or}
 use Rattle.std.specs.FinMap.{put}
 use Rattle.std.specs.List.{filter}
@@ -42,6 +42,11 @@ without_tree p = record p { tree = None }
 pub data Patch : Type 0 where
   SetTo : Property → Patch
   Remove : Property → Patch
+
+-- a property that is set, or removed
+abbrev pub patch_of : Bool × Property → Patch
+patch_of (true, p) = SetTo p
+patch_of (false, p) = Remove p
 
 -- the property that a change names
 abbrev pub property_of : Patch → Property

@@ -8,8 +8,11 @@ ghost use Rattle.dav_core.specs.Metadata.{tag_of, opening_of, no_opening};
 mod tests;
 
 use crate::davpath::DavPath;
+pub use crate::davprop::DavProp;
+use crate::element::Element;
 use crate::errors::{FsError, FsResult, NoMemory};
 use bytes::{Buf, Bytes};
+use http::StatusCode;
 use std::alloc::Global;
 use std::io::SeekFrom;
 
@@ -190,8 +193,9 @@ pub trait DavFileSystem {
     ghost use Rattle.dav_core.specs.declared.errors.FsError.{FsError as Refusal};
     ghost use Rattle.dav_core.specs.Path.{names};
     ghost use Rattle.dav_core.specs.World.{last_moment};
+    ghost use Rattle.dav_core.specs.Property.{key_of, patch_of};
     ghost use Rattle.dav_core.specs.Handle.{Handle};
-    ghost use Rattle.dav_core.specs.Asking.{Asks, StoreState, seen, Metadata, ReadDir, EntryMetadata, CreateDir, RemoveDir, RemoveFile, Rename, Copy, HaveProps, GetQuota, SetAccessed, SetModified, Open, Read, Write, Seek, Flush, FileMetadata};
+    ghost use Rattle.dav_core.specs.Asking.{Asks, StoreState, seen, Metadata, ReadDir, EntryMetadata, CreateDir, RemoveDir, RemoveFile, Rename, Copy, HaveProps, PatchProps, GetProps, GetProp, GetQuota, SetAccessed, SetModified, Open, Read, Write, Seek, Flush, FileMetadata};
 
     /// An open file. It stays the file that it was through renames, until that is removed.
     type File: Drop;
@@ -279,6 +283,27 @@ pub trait DavFileSystem {
     /// Whether there are dead properties (RFC 4918, section 4). A store that refuses the question answers false.
     fn have_props(&mut self, path: &DavPath) -> bool
         ensures { (answer : Result Bool Refusal) × Asks (HaveProps (names path.now)) (state self.old) answer (state self.new) × (result ≡ result_unwrap_or answer false) };
+
+    /// Sets properties (`true`) and removes properties (`false`), in their order (RFC 4918, section 9.2). Each is answered
+    /// 200, with its name, prefix and namespace and without its element. No namespace and an empty one are the same.
+    /// `NotFound` where nothing is at the path.
+    fn patch_props(
+        &mut self,
+        alloc: Global,
+        path: &DavPath,
+        patches: Vec<(bool, DavProp)>,
+    ) -> FsResult<Vec<(StatusCode, DavProp)>>
+        ensures { Asks (PatchProps (names path.now) (map patch_of patches.items)) (state self.old) (seen (λ answers. answers.items) result) (state self.new) };
+
+    /// The properties in order of namespace and name, with their elements or without. `NotFound` where nothing is at the
+    /// path.
+    fn get_props(&mut self, alloc: Global, path: &DavPath, content: bool) -> FsResult<Vec<DavProp>>
+        ensures { Asks (GetProps (names path.now) content) (state self.old) (seen (λ properties. properties.items) result) (state self.new) };
+
+    /// The element of the property of this namespace and name. `NotFound` where nothing is at the path, where it has no
+    /// such property, and where that was stored without an element.
+    fn get_prop(&mut self, alloc: Global, path: &DavPath, property: &DavProp) -> FsResult<Element>
+        ensures { Asks (GetProp (names path.now) (key_of property.now)) (state self.old) result (state self.new) };
 
     /// How many bytes are used, and how many there are in all, where that is known (RFC 4331, section 3):
     /// `NotImplemented`.
