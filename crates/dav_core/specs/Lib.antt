@@ -8,3 +8,8 @@ pub mod ErrorNames
 pub mod Buffer
 pub mod PathRef
 pub mod Laws
+pub mod ElementCode
+pub mod ElementEq
+pub mod ElementView
+pub mod ElementFalls
+pub mod ChildElements

@@ -2,5 +2,6 @@
 #![tactic(auto)]
 
 pub mod davpath;
+pub mod element;
 pub mod errors;
 pub mod laws;
