@@ -1,3 +1,5 @@
+pub mod ElementLemmas
+pub mod NodeLemmas
 pub mod TargetLemmas
 pub mod BufferLemmas
 pub mod LoopLemmas

@@ -18,3 +18,8 @@ pub mod LockLaws
 pub mod LockRefusals
 pub mod LockCode
 pub mod PropertyCode
+pub mod ElementCode
+pub mod ElementEq
+pub mod ElementView
+pub mod ElementFalls
+pub mod ChildElements
