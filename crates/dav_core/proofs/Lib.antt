@@ -7,3 +7,6 @@ pub mod EndLemmas
 pub mod PathLemmas
 pub mod NodesLemmas
 pub mod WorldLemmas
+pub mod MethodLemmas
+pub mod NamedLemmas
+pub mod SetLemmas

@@ -4,3 +4,4 @@
 pub mod davpath;
 pub mod errors;
 pub mod laws;
+pub mod method;
