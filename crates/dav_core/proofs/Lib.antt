@@ -10,3 +10,4 @@ pub mod WorldLemmas
 pub mod MethodLemmas
 pub mod NamedLemmas
 pub mod SetLemmas
+pub mod PrefixLemmas
