@@ -2,6 +2,9 @@
 ghost use Rattle.std.specs.Prelude.{◌≡◌};
 ghost use Rattle.dav_core.specs.Status.{dav_status, must_close};
 
+#[cfg(test)]
+mod tests;
+
 use http::StatusCode;
 pub use std::alloc::AllocError as NoMemory;
 use std::alloc::AllocFailed;
@@ -179,7 +182,7 @@ impl DavError {
             DavError::ChanError => StatusCode::INTERNAL_SERVER_ERROR,
             DavError::Status(status) => status,
             DavError::StatusClose(status) => status,
-            DavError::FsError(error) => error.into(),
+            DavError::FsError(refusal) => refusal.into(),
             DavError::Memory => StatusCode::INSUFFICIENT_STORAGE,
         }
     }
@@ -232,8 +235,8 @@ impl From<StatusCode> for DavError {
 
     ghost from_gives = { λ status d. d ≡ dav.Status status };
 
-    fn from(status: StatusCode) -> DavError {
-        DavError::Status(status)
+    fn from(code: StatusCode) -> DavError {
+        DavError::Status(code)
     }
 }
 
@@ -268,6 +271,6 @@ impl<T: Drop> From<AllocFailed<T>> for DavError {
     ghost from_gives = { λ _ d. d ≡ dav.Memory };
 
     fn from(_error: AllocFailed<T>) -> DavError {
-        DavError::Memory
+        DavError::from(NoMemory)
     }
 }

@@ -2,6 +2,9 @@
 ghost use Rattle.std.specs.Prelude.{◌≡◌, ◌≢◌, ◌⊎◌, ◌↔◌, All, IsTrue, MatchOption, MatchResult};
 ghost use Rattle.dav_core.specs.Method.{method_name, bit_of, Names, IsMethodName};
 
+#[cfg(test)]
+mod tests;
+
 use crate::errors::DavError;
 use http::Method;
 use std::error::Error;
@@ -164,7 +167,7 @@ impl DavMethodSet {
         ensures bits { result ≡ 65535 }
         ensures members { (m : DavMethod) → Has result m }
     {
-        DavMethodSet(0xffff)
+        DavMethodSet::WEBDAV_RW
     }
 
     /// No method.
