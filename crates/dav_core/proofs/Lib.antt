@@ -12,3 +12,7 @@ pub mod WorldLemmas
 pub mod Rows
 pub mod LockLemmas
 pub mod EmptyStore
+pub mod MethodLemmas
+pub mod NamedLemmas
+pub mod SetLemmas
+pub mod PrefixLemmas

@@ -5,6 +5,8 @@ pub mod World
 pub mod UrlText
 pub mod Target
 pub mod ErrorNames
+pub mod Status
+pub mod Method
 pub mod Buffer
 pub mod PathRef
 pub mod Laws

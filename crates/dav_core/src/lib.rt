@@ -8,3 +8,4 @@ pub mod errors;
 pub mod fs;
 pub mod laws;
 pub mod ls;
+pub mod method;
