@@ -13,3 +13,5 @@ pub mod ElementEq
 pub mod ElementView
 pub mod ElementFalls
 pub mod ChildElements
+pub mod PropertyCode
+pub mod PropertyView

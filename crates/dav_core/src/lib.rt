@@ -2,6 +2,7 @@
 #![tactic(auto)]
 
 pub mod davpath;
+pub mod davprop;
 pub mod element;
 pub mod errors;
 pub mod laws;
