@@ -1,9 +1,10 @@
 -- Element trees: children as lists, and what is found among them.
-use Rattle.std.proofs.Common.{◌≡◌, ℕ, max, suc, zero, ◌+◌, ◌<◌, ◌||◌, not, cond, Bool, true, false, List, [], ◌∷◌, ◌++◌, length, map, take, drop, Some, None, refl, ap, ◌∙◌, sym, append_assoc, arith, slice_index_or}
+use Rattle.std.proofs.Common.{◌≡◌, ◌≢◌, ◌&&◌, ℕ, max, suc, zero, ◌+◌, ◌<◌, ◌||◌, not, cond, Bool, true, false, List, [], ◌∷◌, ◌++◌, length, map, take, drop, Some, None, refl, ap, ◌∙◌, sym, append_assoc, arith, slice_index_or}
 use Rattle.std.proofs.lemmas.List.{append-nil}
 use Rattle.std.proofs.lemmas.List.Folds.{list_any_more}
 use Rattle.std.specs.List.{find, concat, list_any, position_or_len}
 use Rattle.std.specs.Option.{unwrap_or}
+use Rattle.dav_core.specs.ElementEq.{tree_eq, trees_eq}
 use Rattle.dav_core.specs.Element.{ElementTree, ElementTrees, no_trees, tree_then, tree_list, trees, joined_texts, without_first, depth_of, depth_among}
 
 pub tree_list_trees : (ts : List ElementTree) → tree_list (trees ts) ≡ ts
@@ -62,3 +63,14 @@ concat_more (y ∷ ys) x = ap (λ zs. y ++ zs) (concat_more ys x) ∙ sym (appen
 pub joined_texts_more : (xs : List (List ℕ)) (x : List ℕ) → joined_texts (xs ++ x ∷ []) ≡ Some (unwrap_or (joined_texts xs) [] ++ x)
 joined_texts_more [] x = search (append-nil)
 joined_texts_more (y ∷ ys) x = ap Some (concat_more (y ∷ ys) x)
+
+and_false : (a b : Bool) → b ≡ false → (a && b) ≡ false
+and_false true b e = e
+and_false false b e = refl
+
+-- unlike numbers of trees are not equal
+pub trees_eq_length : {X : Type 0} (f : X → ElementTree) (xs ys : List X) → length xs ≢ length ys → trees_eq (trees (map f xs)) (trees (map f ys)) ≡ false
+trees_eq_length f [] [] ne = absurd (ne refl)
+trees_eq_length f [] (y ∷ ys) ne = refl
+trees_eq_length f (x ∷ xs) [] ne = refl
+trees_eq_length f (x ∷ xs) (y ∷ ys) ne = and_false (tree_eq (f x) (f y)) _ (trees_eq_length f xs ys (λ e. ne (ap suc e)))

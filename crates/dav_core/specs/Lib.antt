@@ -25,3 +25,4 @@ pub mod ElementEq
 pub mod ElementView
 pub mod ElementFalls
 pub mod ChildElements
+pub mod PropertyView

@@ -1,11 +1,13 @@
 //! Element trees, which stand for XML (RFC 4918, section 14; XML 1.0, section 3, and Namespaces in XML 1.0).
+ghost use Rattle.std.specs.Prelude.{◌≡◌};
+ghost use Rattle.dav_core.specs.ElementEq.{tag_eq};
 
 mod attributes;
 mod children;
 
 use crate::errors::NoMemory;
-use attributes::{set_attribute, xmlns_name};
-use children::{index_named, joined_texts};
+use attributes::{are_attributes_equal, copied_attributes, set_attribute, xmlns_name};
+use children::{are_equal, copied_children, index_named, joined_texts};
 use std::alloc::Global;
 use std::marker::Model;
 
@@ -210,4 +212,100 @@ impl<'a> Iterator for ChildElems<'a> {
         }
         None
     }
+}
+
+impl Clone for Element {
+    ghost use Rattle.std.specs.Prelude.{◌≡◌};
+
+    ghost is_clone = { λ a b. a ≡ b };
+
+    #[cycle(clones)]
+    fn clone(&self) -> Result<Element, NoMemory> {
+        Ok(Element {
+            name: self.name.clone()?,
+            prefix: self.prefix.clone()?,
+            namespace: self.namespace.clone()?,
+            attributes: copied_attributes(&self.attributes)?,
+            children: copied_children(&self.children)?,
+        })
+    }
+}
+
+impl Clone for XmlNode {
+    ghost use Rattle.std.specs.Prelude.{◌≡◌};
+    ghost use Rattle.dav_core.specs.ElementView.{node_tree};
+
+    ghost is_clone = { λ a b. node_tree a ≡ node_tree b };
+
+    #[cycle(clones)]
+    fn clone(&self) -> Result<XmlNode, NoMemory> {
+        match self {
+            XmlNode::Element(e) => Ok(XmlNode::Element(e.clone()?)),
+            XmlNode::Text(text) => Ok(XmlNode::Text(text.clone()?)),
+        }
+    }
+}
+
+/// Compares all fields.
+impl PartialEq for Element {
+    ghost use Rattle.std.specs.Cmp.{partial_equiv_from_equiv};
+    ghost use Rattle.dav_core.specs.ElementEq.{tree_eq, tree_eq-Decides, equality_by};
+
+    ghost eq = { tree_eq };
+
+    ghost laws = { partial_equiv_from_equiv (equality_by tree_eq tree_eq-Decides (λ t. t)) };
+
+    #[cycle(equals)]
+    fn eq(&self, other: &Element) -> bool {
+        has_equal_tag(self, other) && are_equal(&self.children, &other.children)
+    }
+}
+
+// Whether names, prefixes, namespaces and attributes are equal.
+fn has_equal_tag(left: &Element, right: &Element) -> bool
+    ensures { result ≡ tag_eq left.now right.now }
+{
+    if left.name != right.name || left.prefix != right.prefix || left.namespace != right.namespace {
+        return false;
+    }
+    are_attributes_equal(&left.attributes, &right.attributes)
+}
+
+impl Eq for Element {
+    ghost use Rattle.dav_core.specs.ElementEq.{tree_eq, tree_eq-Decides, equality_by};
+
+    ghost laws = { equality_by tree_eq tree_eq-Decides (λ t. t) };
+}
+
+/// Compares the elements or the texts.
+impl PartialEq for XmlNode {
+    ghost use Rattle.std.specs.Ordering.{on};
+    ghost use Rattle.std.specs.Cmp.{partial_equiv_from_equiv};
+    ghost use Rattle.dav_core.specs.ElementEq.{tree_eq, tree_eq-Decides, equality_by};
+    ghost use Rattle.dav_core.specs.ElementView.{node_tree};
+
+    ghost eq = { on node_tree tree_eq };
+
+    ghost laws = { partial_equiv_from_equiv (equality_by tree_eq tree_eq-Decides node_tree) };
+
+    #[cycle(equals)]
+    fn eq(&self, other: &XmlNode) -> bool {
+        match self {
+            XmlNode::Element(a) => {
+                let _ = &a.name;
+                match other {
+                    XmlNode::Element(b) => a.eq(b),
+                    XmlNode::Text(_) => false,
+                }
+            }
+            XmlNode::Text(a) => other.as_text() == Some(a.as_str()),
+        }
+    }
+}
+
+impl Eq for XmlNode {
+    ghost use Rattle.dav_core.specs.ElementEq.{tree_eq, tree_eq-Decides, equality_by};
+    ghost use Rattle.dav_core.specs.ElementView.{node_tree};
+
+    ghost laws = { equality_by tree_eq tree_eq-Decides node_tree };
 }

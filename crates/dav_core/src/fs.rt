@@ -193,7 +193,7 @@ pub trait DavFileSystem {
     ghost use Rattle.dav_core.specs.declared.errors.FsError.{FsError as Refusal};
     ghost use Rattle.dav_core.specs.Path.{names};
     ghost use Rattle.dav_core.specs.World.{last_moment};
-    ghost use Rattle.dav_core.specs.Property.{key_of, patch_of};
+    ghost use Rattle.dav_core.specs.Property.{property_key, patch_of};
     ghost use Rattle.dav_core.specs.Handle.{Handle};
     ghost use Rattle.dav_core.specs.Asking.{Asks, StoreState, seen, Metadata, ReadDir, EntryMetadata, CreateDir, RemoveDir, RemoveFile, Rename, Copy, HaveProps, PatchProps, GetProps, GetProp, GetQuota, SetAccessed, SetModified, Open, Read, Write, Seek, Flush, FileMetadata};
 
@@ -303,7 +303,7 @@ pub trait DavFileSystem {
     /// The element of the property of this namespace and name. `NotFound` where nothing is at the path, where it has no
     /// such property, and where that was stored without an element.
     fn get_prop(&mut self, alloc: Global, path: &DavPath, property: &DavProp) -> FsResult<Element>
-        ensures { Asks (GetProp (names path.now) (key_of property.now)) (state self.old) result (state self.new) };
+        ensures { Asks (GetProp (names path.now) (property_key property.now)) (state self.old) result (state self.new) };
 
     /// How many bytes are used, and how many there are in all, where that is known (RFC 4331, section 3):
     /// `NotImplemented`.

@@ -1,6 +1,8 @@
 //! Attributes that declare namespaces.
 ghost use Rattle.std.specs.Prelude.{◌≡◌, map, string_bytes, IfOk, OnOk, OnErr};
 ghost use Rattle.dav_core.specs.Element.{set_attribute, xmlns_name};
+ghost use Rattle.std.specs.Cmp.Lexicographic.{pointwise};
+ghost use Rattle.dav_core.specs.ElementEq.{attribute_eq};
 ghost use Rattle.dav_core.specs.ElementView.{attribute_bytes, has_name, IsFirst};
 
 use crate::errors::NoMemory;
@@ -44,4 +46,27 @@ fn index_of(attributes: &[(String, String)], name: &str) -> Option<usize>
         }
     }
     None
+}
+
+/// Copies of attributes, in order.
+pub(super) fn copied_attributes(
+    attributes: &Vec<(String, String)>,
+) -> Result<Vec<(String, String)>, NoMemory>
+    ensures { IfOk result (λ v. map attribute_bytes v.items ≡ map attribute_bytes attributes.now.items) }
+{
+    let mut copies = Vec::with_capacity(*attributes.allocator(), attributes.len())?;
+    for (name, value) in attributes {
+        copies.push((name.clone()?, value.clone()?))?;
+    }
+    Ok(copies)
+}
+
+/// Whether attributes are equal, one by one.
+pub(super) fn are_attributes_equal(
+    left: &Vec<(String, String)>,
+    right: &Vec<(String, String)>,
+) -> bool
+    ensures { result ≡ pointwise attribute_eq (map attribute_bytes left.now.items) (map attribute_bytes right.now.items) }
+{
+    left == right
 }

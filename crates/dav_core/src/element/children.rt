@@ -2,7 +2,8 @@
 ghost use Rattle.std.specs.Prelude.{◌≡◌, ◌++◌, [], true, false, map, option_map, string_bytes, IfOk, MatchOption};
 ghost use Rattle.std.specs.List.{filter_map};
 ghost use Rattle.std.specs.Option.{unwrap_or};
-ghost use Rattle.dav_core.specs.Element.{is_element, is_named, joined_texts, text_bytes};
+ghost use Rattle.dav_core.specs.Element.{is_element, is_named, joined_texts, text_bytes, trees};
+ghost use Rattle.dav_core.specs.ElementEq.{trees_eq};
 ghost use Rattle.dav_core.specs.ElementView.{is_node_named, node_tree, IsFirst};
 
 use super::{Element, XmlNode};
@@ -80,4 +81,32 @@ fn joined_with(alloc: Global, joined: Option<String>, text: &str) -> Result<Stri
     let mut joined = joined.unwrap_or(String::new(alloc));
     joined.push_str(text)?;
     Ok(joined)
+}
+
+/// Copies of children, in order.
+#[cycle(clones)]
+pub(super) fn copied_children(children: &Vec<XmlNode>) -> Result<Vec<XmlNode>, NoMemory>
+    ensures { IfOk result (λ v. map node_tree v.items ≡ map node_tree children.now.items) }
+{
+    let mut copies = Vec::with_capacity(*children.allocator(), children.len())?;
+    for child in children {
+        copies.push(child.clone()?)?;
+    }
+    Ok(copies)
+}
+
+/// Whether children are equal, one by one.
+#[cycle(equals)]
+pub(super) fn are_equal(left: &[XmlNode], right: &[XmlNode]) -> bool
+    ensures { result ≡ trees_eq (trees (map node_tree left.now)) (trees (map node_tree right.now)) }
+{
+    if left.len() != right.len() {
+        return false;
+    }
+    for index in 0..left.len() {
+        if !left[index].eq(&right[index]) {
+            return false;
+        }
+    }
+    true
 }
