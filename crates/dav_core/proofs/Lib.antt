@@ -8,3 +8,5 @@ pub mod PathLemmas
 pub mod NodesLemmas
 pub mod WorldLemmas
 pub mod Rows
+pub mod FrontLemmas
+pub mod NodesAfter

@@ -12,3 +12,4 @@ pub mod Handle
 pub mod Meaning
 pub mod Calls
 pub mod Asking
+pub mod CallLaws

@@ -1,4 +1,6 @@
 //! Laws of paths. Each function does nothing: its contract is a theorem on the definitions.
+pub mod calls;
+
 ghost use Rattle.dav_core.specs.Laws.{LeavesOnePath, LeavesNoFault, OneFault, ReadsOnePath, ReadIsNotRefused, OneRefusal, KeepsNames, ReadsNames, StarHasNoNames, ReadsAgain, NamesReadAgain, SameText, SlashKeepsNames, AddsName, ParentOfNames, EmptyIsWorld, NewKeepsWorld, ChangeKeepsWorld};
 
 /// A text is read as one path at most, and refused for one reason at most, and not both: the pieces between slashes

@@ -1,0 +1,62 @@
+-- What holds of the words of a world and of the calls of a store: the statements of the laws.
+use Rattle.std.specs.Prelude.{◌≡◌, ◌++◌, ℕ, T, if◌then◌else◌, Some, None}
+use Rattle.std.specs.Option.{option_map, option_or, option_and_then}
+use Rattle.std.specs.FinMap.{find, put, is_sorted}
+use Rattle.dav_core.specs.Path.{Path, path_cmp, is_same_path, rest_after, is_at_or_below, parent_of}
+use Rattle.dav_core.specs.World.{Node, Nodes, prune, graft, union, moved, adjust, touched, modified_at}
+
+-- after a prune of p nothing stands at p or below it, and all else as before
+abbrev pub PruneLeaves : Type 0
+PruneLeaves = (p q : Path) (ns : Nodes) → find path_cmp q (prune p ns) ≡ (if is_at_or_below p q then None else find path_cmp q ns)
+
+-- after a change at p what stands there is changed, and all else stands as before
+abbrev pub AdjustChanges : Type 0
+AdjustChanges =
+    (p : Path) (f : Node → Node) (q : Path) (ns : Nodes)
+    → find path_cmp q (adjust p f ns) ≡ (if is_same_path p q then option_map f (find path_cmp q ns) else find path_cmp q ns)
+
+-- in a union stands what stands in the first of the two, and else what stands in the second
+abbrev pub UnionHasBoth : Type 0
+UnionHasBoth = (es ns : Nodes) (q : Path) → find path_cmp q (union es ns) ≡ option_or (find path_cmp q es) (find path_cmp q ns)
+
+-- in a graft of p to t stands behind t what stood behind p, and nothing else
+abbrev pub GraftMoves : Type 0
+GraftMoves = (p t q : Path) (ns : Nodes) → find path_cmp q (graft p t ns) ≡ option_and_then (λ rest. find path_cmp (p ++ rest) ns) (rest_after t q)
+
+-- After a move stands behind `to` what stood behind `from`, nothing else there, nothing more behind `from`, and all
+-- else as before.
+abbrev pub MovedStands : Type 0
+MovedStands =
+    (from to q : Path) (ns : Nodes)
+    → find path_cmp q (moved from to ns) ≡ option_or (option_and_then (λ rest. find path_cmp (from ++ rest) ns) (rest_after to q))
+    (if is_at_or_below to q then None else if is_at_or_below from q then None else find path_cmp q ns)
+
+-- a touch of p modifies what stands at its parent, and all else stands as before
+abbrev pub TouchedIsModified : Type 0
+TouchedIsModified =
+    (p : Path) (now : ℕ) (q : Path) (ns : Nodes)
+    → find path_cmp q (touched p now ns) ≡ (if is_same_path (parent_of p) q then option_map (modified_at now) (find path_cmp q ns) else find path_cmp q ns)
+
+-- a node that was put at p stands there, and all else as before
+abbrev pub PutStands : Type 0
+PutStands = (p : Path) (n : Node) (q : Path) (ns : Nodes) → find path_cmp q (put path_cmp p n ns) ≡ (if is_same_path q p then Some n else find path_cmp q ns)
+
+-- nodes in order of their paths are in order after it
+abbrev pub KeepsOrder : (Nodes → Nodes) → Type 0
+KeepsOrder change = (ns : Nodes) → T (is_sorted path_cmp ns) → T (is_sorted path_cmp (change ns))
+
+abbrev pub PruneKeepsOrder : Type 0
+PruneKeepsOrder = (p : Path) → KeepsOrder (prune p)
+
+abbrev pub GraftKeepsOrder : Type 0
+GraftKeepsOrder = (p t : Path) → KeepsOrder (graft p t)
+
+-- whatever the order of the first
+abbrev pub UnionKeepsOrder : Type 0
+UnionKeepsOrder = (es : Nodes) → KeepsOrder (union es)
+
+abbrev pub MovedKeepsOrder : Type 0
+MovedKeepsOrder = (from to : Path) → KeepsOrder (moved from to)
+
+abbrev pub AdjustKeepsOrder : Type 0
+AdjustKeepsOrder = (p : Path) (f : Node → Node) → KeepsOrder (adjust p f)

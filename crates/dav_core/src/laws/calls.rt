@@ -1,0 +1,23 @@
+//! Laws of what a file store holds and of its calls. Each function does nothing: its contract is a theorem on the
+//! definitions.
+ghost use Rattle.dav_core.specs.CallLaws.{PruneLeaves, AdjustChanges, UnionHasBoth, GraftMoves, MovedStands, TouchedIsModified, PutStands, PruneKeepsOrder, AdjustKeepsOrder, UnionKeepsOrder, GraftKeepsOrder, MovedKeepsOrder};
+
+/// What stands at any path after each operation on the whole map, whatever the map's order.
+pub fn nodes_after()
+    ensures prune { PruneLeaves }
+    ensures adjust { AdjustChanges }
+    ensures union { UnionHasBoth }
+    ensures graft { GraftMoves }
+    ensures moved { MovedStands }
+    ensures touched { TouchedIsModified }
+    ensures put { PutStands }
+{}
+
+/// Each operation on the whole map keeps it in the order of its paths.
+pub fn order_is_kept()
+    ensures prune { PruneKeepsOrder }
+    ensures adjust { AdjustKeepsOrder }
+    ensures union { UnionKeepsOrder }
+    ensures graft { GraftKeepsOrder }
+    ensures moved { MovedKeepsOrder }
+{}
