@@ -10,3 +10,7 @@ pub mod WorldLemmas
 pub mod Rows
 pub mod FrontLemmas
 pub mod NodesAfter
+pub mod CarriedLemmas
+pub mod MadeLemmas
+pub mod StepLemmas
+pub mod KeptLemmas

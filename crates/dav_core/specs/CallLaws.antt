@@ -1,9 +1,12 @@
 -- What holds of the words of a world and of the calls of a store: the statements of the laws.
-use Rattle.std.specs.Prelude.{◌≡◌, ◌++◌, ℕ, T, if◌then◌else◌, Some, None}
+use Rattle.std.specs.Prelude.{◌≡◌, ◌++◌, ℕ, ◌<◌, ◌≤◌, ⊤, false, T, if◌then◌else◌, All, Some, None, Ok}
 use Rattle.std.specs.Option.{option_map, option_or, option_and_then}
 use Rattle.std.specs.FinMap.{find, put, is_sorted}
-use Rattle.dav_core.specs.Path.{Path, path_cmp, is_same_path, rest_after, is_at_or_below, parent_of}
-use Rattle.dav_core.specs.World.{Node, Nodes, prune, graft, union, moved, adjust, touched, modified_at}
+use Rattle.dav_core.specs.declared.fs.DavMetaData.{DavMetaData}
+use Rattle.dav_core.specs.Path.{Path, path_cmp, is_same_path, rest_after, is_at_or_below, parent_of, IsName}
+use Rattle.dav_core.specs.World.{World, Node, Nodes, prune, graft, union, moved, adjust, touched, modified_at, made_with, is_folder_kind, last_moment, IsWorld}
+use Rattle.dav_core.specs.Handle.{Handle}
+use Rattle.dav_core.specs.Asking.{Call, Metadata, EntryMetadata, CreateDir, RemoveDir, RemoveFile, Rename, Copy, Open, Write, FileMetadata, Answer, meaning}
 
 -- after a prune of p nothing stands at p or below it, and all else as before
 abbrev pub PruneLeaves : Type 0
@@ -60,3 +63,51 @@ MovedKeepsOrder = (from to : Path) → KeepsOrder (moved from to)
 
 abbrev pub AdjustKeepsOrder : Type 0
 AdjustKeepsOrder = (p : Path) (f : Node → Node) → KeepsOrder (adjust p f)
+
+-- a path at which a node may stand: names alone, whose bytes are below 256
+abbrev pub IsStorable : Path → Type 0
+IsStorable p = All IsName p × All (All (λ b. b < 256)) p
+
+-- A call that a caller may make: where it may put something at a path, a node may stand there, and a moment that it
+-- may store can be shown.
+abbrev pub IsProper : Call → Type 0
+IsProper (CreateDir p now) = IsStorable p × (now ≤ last_moment)
+IsProper (RemoveDir p now) = now ≤ last_moment
+IsProper (RemoveFile p now) = now ≤ last_moment
+IsProper (Rename from to now) = IsStorable to × (now ≤ last_moment)
+IsProper (Copy from to now) = IsStorable to × (now ≤ last_moment)
+IsProper (Open p how now) = IsStorable p × (now ≤ last_moment)
+IsProper (Write file bytes now) = now ≤ last_moment
+IsProper _ = ⊤
+
+-- the open file is a file of this world, or of none: no folder was made with its number
+abbrev pub IsOfFile : World → Handle → Type 0
+IsOfFile w file = (n : Node) → made_with file.made w.nodes ≡ Some n → is_folder_kind n.kind ≡ false
+
+-- what is written to is a file
+abbrev pub WritesToFile : World → Call → Type 0
+WritesToFile w (Write file bytes now) = IsOfFile w file
+WritesToFile w _ = ⊤
+
+-- a call that a caller may make leaves a world
+abbrev pub CallsKeepWorlds : Type 0
+CallsKeepWorlds = (call : Call) (w : World) (r : Answer call × World) → IsProper call → WritesToFile w call → IsWorld w → meaning call w ≡ Ok r → IsWorld r.1
+
+-- the next number never falls
+abbrev pub NumbersRise : Type 0
+NumbersRise = (call : Call) (w : World) (r : Answer call × World) → meaning call w ≡ Ok r → w.next ≤ r.1.next
+
+-- both times can be shown
+abbrev pub CanBeShown : DavMetaData → Type 0
+CanBeShown told = (told.created ≤ last_moment) × (told.modified ≤ last_moment)
+
+-- what a call answers of a node, if it does, has times that can be shown
+abbrev pub ShowsTimes : (call : Call) → Answer call → Type 0
+ShowsTimes (Metadata p) told = CanBeShown told
+ShowsTimes (EntryMetadata p) told = CanBeShown told
+ShowsTimes (FileMetadata file) told = CanBeShown told
+ShowsTimes _ _ = ⊤
+
+-- of a world a call answers times that can be shown
+abbrev pub TimesAreShown : Type 0
+TimesAreShown = (call : Call) (w : World) (r : Answer call × World) → IsWorld w → meaning call w ≡ Ok r → ShowsTimes call r.0

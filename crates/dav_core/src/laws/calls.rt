@@ -1,6 +1,6 @@
 //! Laws of what a file store holds and of its calls. Each function does nothing: its contract is a theorem on the
 //! definitions.
-ghost use Rattle.dav_core.specs.CallLaws.{PruneLeaves, AdjustChanges, UnionHasBoth, GraftMoves, MovedStands, TouchedIsModified, PutStands, PruneKeepsOrder, AdjustKeepsOrder, UnionKeepsOrder, GraftKeepsOrder, MovedKeepsOrder};
+ghost use Rattle.dav_core.specs.CallLaws.{PruneLeaves, AdjustChanges, UnionHasBoth, GraftMoves, MovedStands, TouchedIsModified, PutStands, PruneKeepsOrder, AdjustKeepsOrder, UnionKeepsOrder, GraftKeepsOrder, MovedKeepsOrder, CallsKeepWorlds, NumbersRise, TimesAreShown};
 
 /// What stands at any path after each operation on the whole map, whatever the map's order.
 pub fn nodes_after()
@@ -20,4 +20,12 @@ pub fn order_is_kept()
     ensures union { UnionKeepsOrder }
     ensures graft { GraftKeepsOrder }
     ensures moved { MovedKeepsOrder }
+{}
+
+/// A call that a caller may make leaves a world; the next number never falls, whatever is called; and of a world a
+/// call answers times from 1970 to the end of the year 9999.
+pub fn calls_keep_worlds()
+    ensures kept { CallsKeepWorlds }
+    ensures next { NumbersRise }
+    ensures times { TimesAreShown }
 {}
