@@ -14,3 +14,5 @@ pub mod CarriedLemmas
 pub mod MadeLemmas
 pub mod StepLemmas
 pub mod KeptLemmas
+pub mod AskingLemmas
+pub mod MemberLemmas

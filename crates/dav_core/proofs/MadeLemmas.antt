@@ -18,7 +18,7 @@ unequal Less h = refl
 unequal Equal h = absurd h
 unequal Greater h = refl
 
-later : (o : Ordering) → T (is_lt (ordering_reverse o)) → is_eq o ≡ false
+pub later : (o : Ordering) → T (is_lt (ordering_reverse o)) → is_eq o ≡ false
 later Less h = refl
 later Equal h = absurd h
 later Greater h = refl

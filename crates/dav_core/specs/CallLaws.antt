@@ -1,12 +1,13 @@
 -- What holds of the words of a world and of the calls of a store: the statements of the laws.
-use Rattle.std.specs.Prelude.{◌≡◌, ◌++◌, ℕ, ◌<◌, ◌≤◌, ⊤, false, T, if◌then◌else◌, All, Some, None, Ok}
+use Rattle.std.specs.Prelude.{◌≡◌, ◌++◌, ℕ, ◌<◌, ◌≤◌, ◌↔◌, ⊤, Bool, false, T, if◌then◌else◌, List, [], ◌∷◌, All, Contains, Option, Some, None, Result, Ok, Err}
 use Rattle.std.specs.Option.{option_map, option_or, option_and_then}
 use Rattle.std.specs.FinMap.{find, put, is_sorted}
+use Rattle.dav_core.specs.declared.errors.FsError.{FsError}
 use Rattle.dav_core.specs.declared.fs.DavMetaData.{DavMetaData}
-use Rattle.dav_core.specs.Path.{Path, path_cmp, is_same_path, rest_after, is_at_or_below, parent_of, IsName}
-use Rattle.dav_core.specs.World.{World, Node, Nodes, prune, graft, union, moved, adjust, touched, modified_at, made_with, is_folder_kind, last_moment, IsWorld}
+use Rattle.dav_core.specs.Path.{Path, name_cmp, path_cmp, is_same_path, rest_after, is_at_or_below, parent_of, IsName}
+use Rattle.dav_core.specs.World.{World, Node, Nodes, node_at, prune, graft, union, moved, members, adjust, touched, modified_at, made_with, is_folder_kind, last_moment, IsWorld}
 use Rattle.dav_core.specs.Handle.{Handle}
-use Rattle.dav_core.specs.Asking.{Call, Metadata, EntryMetadata, CreateDir, RemoveDir, RemoveFile, Rename, Copy, Open, Write, FileMetadata, Answer, meaning}
+use Rattle.dav_core.specs.Asking.{Call, Metadata, EntryMetadata, CreateDir, RemoveDir, RemoveFile, Rename, Copy, Open, Write, FileMetadata, Answer, meaning, StoreState, Asks, ask, rest_of}
 
 -- after a prune of p nothing stands at p or below it, and all else as before
 abbrev pub PruneLeaves : Type 0
@@ -111,3 +112,46 @@ ShowsTimes _ _ = ⊤
 -- of a world a call answers times that can be shown
 abbrev pub TimesAreShown : Type 0
 TimesAreShown = (call : Call) (w : World) (r : Answer call × World) → IsWorld w → meaning call w ≡ Ok r → ShowsTimes call r.0
+
+-- Where the flag is unset after a call, it was unset before, and the call was answered, and the world left, as asking
+-- it says.
+abbrev pub AskingIsDetermined : Type 0
+AskingIsDetermined =
+    (call : Call) (old : StoreState) (answer : Result (Answer call) FsError) (new : StoreState)
+    → Asks call old answer new → new.short ≡ false → (old.short ≡ false) × ((answer, new.world) ≡ ask call old.world old.refusals)
+
+-- an error leaves the world, want of memory too
+abbrev pub ErrorsLeaveWorlds : Type 0
+ErrorsLeaveWorlds = (call : Call) (old : StoreState) (e : FsError) (new : StoreState) → Asks call old (Err e) new → new.world ≡ old.world
+
+-- each call uses up the head of the refusals
+abbrev pub RefusalsAreUsedUp : Type 0
+RefusalsAreUsedUp =
+    (call : Call) (old : StoreState) (answer : Result (Answer call) FsError) (new : StoreState)
+    → Asks call old answer new → new.refusals ≡ rest_of old.refusals
+
+-- an error at the head of the refusals is the answer, and the world stays
+abbrev pub RefusalIsAnswered : Type 0
+RefusalIsAnswered = (call : Call) (w : World) (e : FsError) (refusals : List (Option FsError)) → ask call w (Some e ∷ refusals) ≡ (Err e, w)
+
+-- each call can be asked of each store, which then keeps its flag
+abbrev pub CanBeAsked : Type 0
+CanBeAsked =
+    (call : Call) (old : StoreState)
+    → (answer : Result (Answer call) FsError) × (new : StoreState) × Asks call old answer new × (new.short ≡ old.short)
+
+-- the first member of p under a name is what stands at this name below p, if anything does
+abbrev pub MembersStandBelow : Type 0
+MembersStandBelow =
+    (p : Path) (name : List ℕ) (ns : Nodes)
+    → find name_cmp name (members p ns) ≡ option_map (λ n. is_folder_kind n.kind) (find path_cmp (p ++ name ∷ []) ns)
+
+-- in a world the names of members strictly rise in the order of their bytes, so each stands once
+abbrev pub MembersRise : Type 0
+MembersRise = (p : Path) (w : World) → IsWorld w → T (is_sorted name_cmp (members p w.nodes))
+
+-- in a world a name is listed, as that of a folder or of a file, exactly where such a node stands below p
+abbrev pub ListsWhatStands : Type 0
+ListsWhatStands =
+    (p : Path) (name : List ℕ) (dir : Bool) (w : World)
+    → IsWorld w → Contains (members p w.nodes) (name, dir) ↔ ((n : Node) × (node_at w (p ++ name ∷ []) ≡ Some n) × (is_folder_kind n.kind ≡ dir))
