@@ -16,3 +16,11 @@ pub mod MethodLemmas
 pub mod NamedLemmas
 pub mod SetLemmas
 pub mod PrefixLemmas
+pub mod FrontLemmas
+pub mod NodesAfter
+pub mod CarriedLemmas
+pub mod MadeLemmas
+pub mod StepLemmas
+pub mod KeptLemmas
+pub mod AskingLemmas
+pub mod MemberLemmas

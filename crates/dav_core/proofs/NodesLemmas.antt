@@ -18,7 +18,7 @@ path_total = lists_total nat_list_cmp_total
 pub path_exact : IsAntisymmetric path_cmp
 path_exact = slice_cmp-IsAntisymmetric (slice_cmp-IsAntisymmetric nat_cmp-IsAntisymmetric)
 
-eq_true : (o : Ordering) → is_eq o ≡ true → o ≡ Equal
+pub eq_true : (o : Ordering) → is_eq o ≡ true → o ≡ Equal
 eq_true Less h = cc
 eq_true Equal h = refl
 eq_true Greater h = cc
@@ -37,7 +37,7 @@ not_itself p q false h differ = refl
 pub apart : (p q : Path) → p ≢ q → is_same_path p q ≡ false
 apart p q differ = not_itself p q (is_same_path p q) refl differ
 
-differ_from : (p q : Path) → is_same_path p q ≡ false → p ≢ q
+pub differ_from : (p q : Path) → is_same_path p q ≡ false → p ≢ q
 differ_from p q h e = let t : is_same_path p q ≡ true = subst (λ (r : Path). is_same_path p r ≡ true) e (path-itself p) in cc
 
 turned_by : (p q : Path) (b : Bool) → is_same_path p q ≡ b → is_same_path q p ≡ b

@@ -49,7 +49,7 @@ empty_is_world next some small = record {
 }
 
 -- a change that keeps a node a folder or a file keeps the tree
-tree-adjust : (p : Path) (f : Node → Node) (ns : Nodes) → IsTree ns → ((n : Node) → find path_cmp p ns ≡ Some n → is_folder_kind (f n).kind ≡ is_folder_kind n.kind) → IsTree (adjust p f ns)
+pub tree-adjust : (p : Path) (f : Node → Node) (ns : Nodes) → IsTree ns → ((n : Node) → find path_cmp p ns ≡ Some n → is_folder_kind (f n).kind ≡ is_folder_kind n.kind) → IsTree (adjust p f ns)
 tree-adjust p f ns t keeps = record {
   sorted = subst T (sym (sorted-change (λ e. is_same_path p e.0) f ns)) t.sorted;
   root = folder-adjust p f ns keeps [] ∙ t.root;

@@ -26,3 +26,4 @@ pub mod ElementView
 pub mod ElementFalls
 pub mod ChildElements
 pub mod PropertyView
+pub mod CallLaws

@@ -1,0 +1,41 @@
+-- Asking a store.
+use Rattle.std.proofs.Common.{◌≡◌, Bool, true, false, List, [], ◌∷◌, Option, Some, None, Result, Ok, Err, refl, sym, ap, ◌∙◌}
+use Rattle.dav_core.specs.declared.errors.FsError.{FsError}
+use Rattle.dav_core.specs.World.{World}
+use Rattle.dav_core.specs.Meaning.{Meaning}
+use Rattle.dav_core.specs.Asking.{Call, meaning, asked, ran_short, ask, answered, rest_of}
+use Rattle.dav_core.specs.CallLaws.{AskingIsDetermined, ErrorsLeaveWorlds, RefusalsAreUsedUp, RefusalIsAnswered, CanBeAsked}
+
+pub asking_is_determined : AskingIsDetermined
+asking_is_determined call old answer new (asked is used flag) unset = (sym flag ∙ unset, is)
+asking_is_determined call old answer new (ran_short takes is same used flag) unset = cc
+
+is_error : {A : Type 0} → Result A FsError → Bool
+is_error (Ok a) = false
+is_error (Err e) = true
+
+error_leaves : {A : Type 0} (w : World) (m : Meaning A) (e : FsError) (new : World) → ◌≡◌ {A = Result A FsError × World} (Err e, new) (answered w m) → new ≡ w
+unfolding is_error
+error_leaves w (Ok (a, after)) e new h = let clash : true ≡ false = ap (λ x. is_error x.0) h in cc
+error_leaves w (Err f) e new h = ap (λ x. x.1) h
+
+error_asked : (call : Call) (w new : World) (refusals : List (Option FsError)) (e : FsError) → (Err e, new) ≡ ask call w refusals → new ≡ w
+error_asked call w new [] e h = error_leaves w (meaning call w) e new h
+error_asked call w new (None ∷ rs) e h = error_leaves w (meaning call w) e new h
+error_asked call w new (Some f ∷ rs) e h = ap (λ x. x.1) h
+
+pub errors_leave_worlds : ErrorsLeaveWorlds
+errors_leave_worlds call old e new (asked is used flag) = error_asked call old.world new.world old.refusals e is
+errors_leave_worlds call old e new (ran_short takes is same used flag) = same
+
+pub refusals_are_used_up : RefusalsAreUsedUp
+refusals_are_used_up call old answer new (asked is used flag) = used
+refusals_are_used_up call old answer new (ran_short takes is same used flag) = used
+
+pub refusal_is_answered : RefusalIsAnswered
+refusal_is_answered call w e refusals = refl
+
+pub can_be_asked : CanBeAsked
+can_be_asked call old =
+    let both = ask call old.world old.refusals in
+    (both.0, record { world = both.1; refusals = rest_of old.refusals; short = old.short }, asked refl refl refl, refl)

@@ -1,0 +1,157 @@
+-- What holds of the words of a world and of the calls of a store: the statements of the laws.
+use Rattle.std.specs.Prelude.{◌≡◌, ◌++◌, ℕ, ◌<◌, ◌≤◌, ◌↔◌, ⊤, Bool, false, T, if◌then◌else◌, List, [], ◌∷◌, All, Contains, Option, Some, None, Result, Ok, Err}
+use Rattle.std.specs.Option.{option_map, option_or, option_and_then}
+use Rattle.std.specs.FinMap.{find, put, is_sorted}
+use Rattle.dav_core.specs.declared.errors.FsError.{FsError}
+use Rattle.dav_core.specs.declared.fs.DavMetaData.{DavMetaData}
+use Rattle.dav_core.specs.Path.{Path, name_cmp, path_cmp, is_same_path, rest_after, is_at_or_below, parent_of, IsName}
+use Rattle.dav_core.specs.World.{World, Node, Nodes, node_at, prune, graft, union, moved, members, adjust, touched, modified_at, made_with, is_folder_kind, last_moment, IsWorld}
+use Rattle.dav_core.specs.Handle.{Handle}
+use Rattle.dav_core.specs.Asking.{Call, Metadata, EntryMetadata, CreateDir, RemoveDir, RemoveFile, Rename, Copy, Open, Write, FileMetadata, Answer, meaning, StoreState, Asks, ask, rest_of}
+
+-- after a prune of p nothing stands at p or below it, and all else as before
+abbrev pub PruneLeaves : Type 0
+PruneLeaves = (p q : Path) (ns : Nodes) → find path_cmp q (prune p ns) ≡ (if is_at_or_below p q then None else find path_cmp q ns)
+
+-- after a change at p what stands there is changed, and all else stands as before
+abbrev pub AdjustChanges : Type 0
+AdjustChanges =
+    (p : Path) (f : Node → Node) (q : Path) (ns : Nodes)
+    → find path_cmp q (adjust p f ns) ≡ (if is_same_path p q then option_map f (find path_cmp q ns) else find path_cmp q ns)
+
+-- in a union stands what stands in the first of the two, and else what stands in the second
+abbrev pub UnionHasBoth : Type 0
+UnionHasBoth = (es ns : Nodes) (q : Path) → find path_cmp q (union es ns) ≡ option_or (find path_cmp q es) (find path_cmp q ns)
+
+-- in a graft of p to t stands behind t what stood behind p, and nothing else
+abbrev pub GraftMoves : Type 0
+GraftMoves = (p t q : Path) (ns : Nodes) → find path_cmp q (graft p t ns) ≡ option_and_then (λ rest. find path_cmp (p ++ rest) ns) (rest_after t q)
+
+-- After a move stands behind `to` what stood behind `from`, nothing else there, nothing more behind `from`, and all
+-- else as before.
+abbrev pub MovedStands : Type 0
+MovedStands =
+    (from to q : Path) (ns : Nodes)
+    → find path_cmp q (moved from to ns) ≡ option_or (option_and_then (λ rest. find path_cmp (from ++ rest) ns) (rest_after to q))
+    (if is_at_or_below to q then None else if is_at_or_below from q then None else find path_cmp q ns)
+
+-- a touch of p modifies what stands at its parent, and all else stands as before
+abbrev pub TouchedIsModified : Type 0
+TouchedIsModified =
+    (p : Path) (now : ℕ) (q : Path) (ns : Nodes)
+    → find path_cmp q (touched p now ns) ≡ (if is_same_path (parent_of p) q then option_map (modified_at now) (find path_cmp q ns) else find path_cmp q ns)
+
+-- a node that was put at p stands there, and all else as before
+abbrev pub PutStands : Type 0
+PutStands = (p : Path) (n : Node) (q : Path) (ns : Nodes) → find path_cmp q (put path_cmp p n ns) ≡ (if is_same_path q p then Some n else find path_cmp q ns)
+
+-- nodes in order of their paths are in order after it
+abbrev pub KeepsOrder : (Nodes → Nodes) → Type 0
+KeepsOrder change = (ns : Nodes) → T (is_sorted path_cmp ns) → T (is_sorted path_cmp (change ns))
+
+abbrev pub PruneKeepsOrder : Type 0
+PruneKeepsOrder = (p : Path) → KeepsOrder (prune p)
+
+abbrev pub GraftKeepsOrder : Type 0
+GraftKeepsOrder = (p t : Path) → KeepsOrder (graft p t)
+
+-- whatever the order of the first
+abbrev pub UnionKeepsOrder : Type 0
+UnionKeepsOrder = (es : Nodes) → KeepsOrder (union es)
+
+abbrev pub MovedKeepsOrder : Type 0
+MovedKeepsOrder = (from to : Path) → KeepsOrder (moved from to)
+
+abbrev pub AdjustKeepsOrder : Type 0
+AdjustKeepsOrder = (p : Path) (f : Node → Node) → KeepsOrder (adjust p f)
+
+-- a path at which a node may stand: names alone, whose bytes are below 256
+abbrev pub IsStorable : Path → Type 0
+IsStorable p = All IsName p × All (All (λ b. b < 256)) p
+
+-- A call that a caller may make: where it may put something at a path, a node may stand there, and a moment that it
+-- may store can be shown.
+abbrev pub IsProper : Call → Type 0
+IsProper (CreateDir p now) = IsStorable p × (now ≤ last_moment)
+IsProper (RemoveDir p now) = now ≤ last_moment
+IsProper (RemoveFile p now) = now ≤ last_moment
+IsProper (Rename from to now) = IsStorable to × (now ≤ last_moment)
+IsProper (Copy from to now) = IsStorable to × (now ≤ last_moment)
+IsProper (Open p how now) = IsStorable p × (now ≤ last_moment)
+IsProper (Write file bytes now) = now ≤ last_moment
+IsProper _ = ⊤
+
+-- the open file is a file of this world, or of none: no folder was made with its number
+abbrev pub IsOfFile : World → Handle → Type 0
+IsOfFile w file = (n : Node) → made_with file.made w.nodes ≡ Some n → is_folder_kind n.kind ≡ false
+
+-- what is written to is a file
+abbrev pub WritesToFile : World → Call → Type 0
+WritesToFile w (Write file bytes now) = IsOfFile w file
+WritesToFile w _ = ⊤
+
+-- a call that a caller may make leaves a world
+abbrev pub CallsKeepWorlds : Type 0
+CallsKeepWorlds = (call : Call) (w : World) (r : Answer call × World) → IsProper call → WritesToFile w call → IsWorld w → meaning call w ≡ Ok r → IsWorld r.1
+
+-- the next number never falls
+abbrev pub NumbersRise : Type 0
+NumbersRise = (call : Call) (w : World) (r : Answer call × World) → meaning call w ≡ Ok r → w.next ≤ r.1.next
+
+-- both times can be shown
+abbrev pub CanBeShown : DavMetaData → Type 0
+CanBeShown told = (told.created ≤ last_moment) × (told.modified ≤ last_moment)
+
+-- what a call answers of a node, if it does, has times that can be shown
+abbrev pub ShowsTimes : (call : Call) → Answer call → Type 0
+ShowsTimes (Metadata p) told = CanBeShown told
+ShowsTimes (EntryMetadata p) told = CanBeShown told
+ShowsTimes (FileMetadata file) told = CanBeShown told
+ShowsTimes _ _ = ⊤
+
+-- of a world a call answers times that can be shown
+abbrev pub TimesAreShown : Type 0
+TimesAreShown = (call : Call) (w : World) (r : Answer call × World) → IsWorld w → meaning call w ≡ Ok r → ShowsTimes call r.0
+
+-- Where the flag is unset after a call, it was unset before, and the call was answered, and the world left, as asking
+-- it says.
+abbrev pub AskingIsDetermined : Type 0
+AskingIsDetermined =
+    (call : Call) (old : StoreState) (answer : Result (Answer call) FsError) (new : StoreState)
+    → Asks call old answer new → new.short ≡ false → (old.short ≡ false) × ((answer, new.world) ≡ ask call old.world old.refusals)
+
+-- an error leaves the world, want of memory too
+abbrev pub ErrorsLeaveWorlds : Type 0
+ErrorsLeaveWorlds = (call : Call) (old : StoreState) (e : FsError) (new : StoreState) → Asks call old (Err e) new → new.world ≡ old.world
+
+-- each call uses up the head of the refusals
+abbrev pub RefusalsAreUsedUp : Type 0
+RefusalsAreUsedUp =
+    (call : Call) (old : StoreState) (answer : Result (Answer call) FsError) (new : StoreState)
+    → Asks call old answer new → new.refusals ≡ rest_of old.refusals
+
+-- an error at the head of the refusals is the answer, and the world stays
+abbrev pub RefusalIsAnswered : Type 0
+RefusalIsAnswered = (call : Call) (w : World) (e : FsError) (refusals : List (Option FsError)) → ask call w (Some e ∷ refusals) ≡ (Err e, w)
+
+-- each call can be asked of each store, which then keeps its flag
+abbrev pub CanBeAsked : Type 0
+CanBeAsked =
+    (call : Call) (old : StoreState)
+    → (answer : Result (Answer call) FsError) × (new : StoreState) × Asks call old answer new × (new.short ≡ old.short)
+
+-- the first member of p under a name is what stands at this name below p, if anything does
+abbrev pub MembersStandBelow : Type 0
+MembersStandBelow =
+    (p : Path) (name : List ℕ) (ns : Nodes)
+    → find name_cmp name (members p ns) ≡ option_map (λ n. is_folder_kind n.kind) (find path_cmp (p ++ name ∷ []) ns)
+
+-- in a world the names of members strictly rise in the order of their bytes, so each stands once
+abbrev pub MembersRise : Type 0
+MembersRise = (p : Path) (w : World) → IsWorld w → T (is_sorted name_cmp (members p w.nodes))
+
+-- in a world a name is listed, as that of a folder or of a file, exactly where such a node stands below p
+abbrev pub ListsWhatStands : Type 0
+ListsWhatStands =
+    (p : Path) (name : List ℕ) (dir : Bool) (w : World)
+    → IsWorld w → Contains (members p w.nodes) (name, dir) ↔ ((n : Node) × (node_at w (p ++ name ∷ []) ≡ Some n) × (is_folder_kind n.kind ≡ dir))

@@ -1,0 +1,49 @@
+//! Laws of what a file store holds and of its calls. Each function does nothing: its contract is a theorem on the
+//! definitions.
+ghost use Rattle.dav_core.specs.CallLaws.{PruneLeaves, AdjustChanges, UnionHasBoth, GraftMoves, MovedStands, TouchedIsModified, PutStands, PruneKeepsOrder, AdjustKeepsOrder, UnionKeepsOrder, GraftKeepsOrder, MovedKeepsOrder, CallsKeepWorlds, NumbersRise, TimesAreShown, AskingIsDetermined, ErrorsLeaveWorlds, RefusalsAreUsedUp, RefusalIsAnswered, CanBeAsked, MembersStandBelow, MembersRise, ListsWhatStands};
+
+/// What stands at any path after each operation on the whole map, whatever the map's order.
+pub fn nodes_after()
+    ensures prune { PruneLeaves }
+    ensures adjust { AdjustChanges }
+    ensures union { UnionHasBoth }
+    ensures graft { GraftMoves }
+    ensures moved { MovedStands }
+    ensures touched { TouchedIsModified }
+    ensures put { PutStands }
+{}
+
+/// Each operation on the whole map keeps it in the order of its paths.
+pub fn order_is_kept()
+    ensures prune { PruneKeepsOrder }
+    ensures adjust { AdjustKeepsOrder }
+    ensures union { UnionKeepsOrder }
+    ensures graft { GraftKeepsOrder }
+    ensures moved { MovedKeepsOrder }
+{}
+
+/// A call that a caller may make leaves a world; the next number never falls, whatever is called; and of a world a
+/// call answers times from 1970 to the end of the year 9999.
+pub fn calls_keep_worlds()
+    ensures kept { CallsKeepWorlds }
+    ensures next { NumbersRise }
+    ensures times { TimesAreShown }
+{}
+
+/// What a folder lists in a world: the names at which something stands directly below it, each once, in the order of
+/// their bytes, and each with whether a folder stands there.
+pub fn members_are_what_stands_below()
+    ensures below { MembersStandBelow }
+    ensures rise { MembersRise }
+    ensures listed { ListsWhatStands }
+{}
+
+/// Where a store never wanted memory that wasn't there, it answers each call as asking it says: the refusal that is
+/// to come, or what the call means. An error leaves the world as it was, and every call can be asked.
+pub fn asking_is_determined()
+    ensures determined { AskingIsDetermined }
+    ensures error { ErrorsLeaveWorlds }
+    ensures used_up { RefusalsAreUsedUp }
+    ensures refused { RefusalIsAnswered }
+    ensures can_be { CanBeAsked }
+{}
