@@ -1,5 +1,5 @@
--- Methods (RFC 9110, section 9.3; RFC 5789; RFC 4918, section 9; RFC 3253, section 3.6; RFC 4791, section 5.3.1;
--- RFC 6352, section 6.3.1) and sets of them.
+-- Methods (RFC 9110, section 9.3; RFC 5789; RFC 4918, section 9; RFC 3253, section 3.6; RFC 4791, section 5.3.1) and
+-- sets of them.
 use Rattle.std.specs.Prelude.{◌≡◌, ◌≢◌, ℕ, ◌^◌, ◌==◌, ◌↔◌, List, [], ◌∷◌, map, codes, All, Contains, Result, Ok, Err}
 use Rattle.std.specs.Int.{bit_at}
 use Rattle.std.specs.List.{filter}
