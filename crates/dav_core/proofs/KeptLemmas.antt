@@ -13,26 +13,26 @@ use Rattle.dav_core.proofs.MadeLemmas.{made_stands, change_made}
 use Rattle.dav_core.proofs.StepLemmas.{Step, unchanged, makes, renumbers, writes, patches, removes, renames, steps, some_number}
 
 -- the one node at a path is changed
-at_path : (w : World) (p : Path) (n : Node) (f : Node → Node) → node_at w p ≡ Some n → Renumbers w.next n (f n) → (m : Node) → node_at w p ≡ Some m → Renumbers w.next m (f m)
+pub at_path : (w : World) (p : Path) (n : Node) (f : Node → Node) → node_at w p ≡ Some n → Renumbers w.next n (f n) → (m : Node) → node_at w p ≡ Some m → Renumbers w.next m (f m)
 at_path w p n f there change m h =
     let both : Some n ≡ Some m = sym there ∙ h in
     let same : n ≡ m = cc in
     subst (λ (x : Node). Renumbers w.next x (f x)) same change
 
 step_keeps : (call : Call) (w new : World) → IsProper call → WritesToFile w call → IsWorld w → Step call w new → IsWorld new
-step_keeps call w new proper on_file world (unchanged is) = subst IsWorld (sym is) world
-step_keeps call w new proper on_file world (makes p kind properties now none folder room sound is) =
+step_keeps call w new proper on_file world (unchanged brings is) = subst IsWorld (sym is) world
+step_keeps call w new proper on_file world (makes p kind properties now none folder room sound brings is) =
     let (storable, sorted, small) = sound proper world in
     subst IsWorld (sym is) (new_keeps_world w p kind properties now world (some_number w room world.next) none folder storable.0 storable.1 sorted small)
-step_keeps call w new proper on_file world (renumbers p n f there room change is) =
+step_keeps call w new proper on_file world (renumbers p n f there room change brings is) =
     subst IsWorld (sym is) (change_keeps_world w p f world (some_number w room world.next) (at_path w p n f there (change proper world)))
-step_keeps call w new proper on_file world (writes made n f stood room change is) =
+step_keeps call w new proper on_file world (writes made n f stood room change brings is) =
     let (p, there, _, at) = change_made made f w.nodes world.tree.sorted n stood in
     let same : new ≡ record { nodes = adjust p f w.nodes; next = w.next + 1 } = is ∙ ap (λ (ns : Nodes). record { nodes = ns; next = w.next + 1 }) at in
     subst IsWorld (sym same) (change_keeps_world w p f world (some_number w room world.next) (at_path w p n f there (change proper on_file world)))
-step_keeps call w new proper on_file world (patches p f same is) = subst IsWorld (sym is) (same_keeps w p f same world)
-step_keeps call w new proper on_file world (removes p now some small is) = subst IsWorld (sym is) (without_keeps w p now (some world) (small proper) world)
-step_keeps call w new proper on_file world (renames from to now a b out folder sound is) =
+step_keeps call w new proper on_file world (patches p f same brings is) = subst IsWorld (sym is) (same_keeps w p f same world)
+step_keeps call w new proper on_file world (removes p now some small takes brings is) = subst IsWorld (sym is) (without_keeps w p now (some world) (small proper) world)
+step_keeps call w new proper on_file world (renames from to now a b out folder sound takes brings is) =
     let (storable, small) = sound proper in
     subst IsWorld (sym is) (renamed_keeps w from to now small a b out folder storable.0 storable.1 world)
 
@@ -40,13 +40,13 @@ pub calls_keep_worlds : CallsKeepWorlds
 calls_keep_worlds call w r proper on_file world h = step_keeps call w r.1 proper on_file world (steps call w r h)
 
 next_by : (call : Call) (w new : World) → Step call w new → w.next ≤ new.next
-next_by call w new (unchanged is) = subst (λ (x : World). w.next ≤ x.next) (sym is) (omega arith)
-next_by call w new (makes p kind properties now none folder room sound is) = subst (λ (x : World). w.next ≤ x.next) (sym is) (omega arith)
-next_by call w new (renumbers p n f there room change is) = subst (λ (x : World). w.next ≤ x.next) (sym is) (omega arith)
-next_by call w new (writes made n f stood room change is) = subst (λ (x : World). w.next ≤ x.next) (sym is) (omega arith)
-next_by call w new (patches p f same is) = subst (λ (x : World). w.next ≤ x.next) (sym is) (omega arith)
-next_by call w new (removes p now some small is) = subst (λ (x : World). w.next ≤ x.next) (sym is) (omega arith)
-next_by call w new (renames from to now a b out folder sound is) = subst (λ (x : World). w.next ≤ x.next) (sym is) (omega arith)
+next_by call w new (unchanged brings is) = subst (λ (x : World). w.next ≤ x.next) (sym is) (omega arith)
+next_by call w new (makes p kind properties now none folder room sound brings is) = subst (λ (x : World). w.next ≤ x.next) (sym is) (omega arith)
+next_by call w new (renumbers p n f there room change brings is) = subst (λ (x : World). w.next ≤ x.next) (sym is) (omega arith)
+next_by call w new (writes made n f stood room change brings is) = subst (λ (x : World). w.next ≤ x.next) (sym is) (omega arith)
+next_by call w new (patches p f same brings is) = subst (λ (x : World). w.next ≤ x.next) (sym is) (omega arith)
+next_by call w new (removes p now some small takes brings is) = subst (λ (x : World). w.next ≤ x.next) (sym is) (omega arith)
+next_by call w new (renames from to now a b out folder sound takes brings is) = subst (λ (x : World). w.next ≤ x.next) (sym is) (omega arith)
 
 pub numbers_rise : NumbersRise
 numbers_rise call w r h = next_by call w r.1 (steps call w r h)

@@ -24,3 +24,4 @@ pub mod StepLemmas
 pub mod KeptLemmas
 pub mod AskingLemmas
 pub mod MemberLemmas
+pub mod FollowLemmas

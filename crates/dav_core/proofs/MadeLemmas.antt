@@ -1,5 +1,5 @@
 -- The node that was made with a number, and the path where it stands.
-use Rattle.std.proofs.Common.{◌≡◌, ℕ, Bool, true, false, cond, T, [], ◌∷◌, Option, Some, None, refl, sym, ap, subst, ◌∙◌, if◌then◌else◌}
+use Rattle.std.proofs.Common.{◌==◌, ◌≡◌, ℕ, Bool, true, false, cond, T, [], ◌∷◌, Option, Some, None, refl, sym, ap, subst, ◌∙◌, if◌then◌else◌}
 use Rattle.std.proofs.lemmas.Bool.{eqb-true, eq-eqb}
 use Rattle.std.specs.declared.cmp.Ordering.{Ordering}
 use Rattle.std.specs.declared.cmp.Ordering.TheVariants.{Less, Equal, Greater}
@@ -128,3 +128,20 @@ stands_made w world p n h =
     let path : e.0 ≡ p = world.makings.once e.0 p e.1 n there h made in
     let same : Some e.1 ≡ Some n = sym there ∙ ap (λ (q : Path). find path_cmp q w.nodes) path ∙ h in
     ap (option_map (λ (x : Path × Node). x.1)) is ∙ same
+
+module _ (made : ℕ) (f : Node → Node) (q : Path) (n : Node) (other : (n.made == made) ≡ false) where
+  other_step : (d : Path × Node) (es rest : Nodes) (b c : Bool) → (d.1.made == made) ≡ b → (find path_cmp q es ≡ Some n → find path_cmp q rest ≡ Some n)
+      → is_same_path q d.0 ≡ c → cond c (Some d.1) (find path_cmp q es) ≡ Some n → find path_cmp q (if b then (d.0, f d.1) ∷ es else d ∷ rest) ≡ Some n
+  other_step d es rest true true is ih same h =
+      let one : d.1 ≡ n = cc in
+      let passes : (n.made == made) ≡ true = subst (λ (x : Node). (x.made == made) ≡ true) one is in
+      cc
+  other_step d es rest true false is ih same h = ap (λ b. cond b (Some (f d.1)) (find path_cmp q es)) same ∙ h
+  other_step d es rest false true is ih same h = ap (λ b. cond b (Some d.1) (find path_cmp q rest)) same ∙ h
+  other_step d es rest false false is ih same h = ap (λ b. cond b (Some d.1) (find path_cmp q rest)) same ∙ ih h
+
+  -- a node that wasn't made with the number is as it was
+  pub find-change_other : (ns : Nodes) → find path_cmp q ns ≡ Some n → find path_cmp q (change_first (is_made_with made) f ns) ≡ Some n
+  find-change_other [] h = cc
+  find-change_other (d ∷ es) h =
+      other_step d es (change_first (is_made_with made) f es) (d.1.made == made) (is_same_path q d.0) refl (find-change_other es) refl h

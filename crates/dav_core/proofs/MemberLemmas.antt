@@ -1,20 +1,20 @@
 -- What a folder lists.
-use Rattle.std.proofs.Common.{arith, All, Contains, ◌≢◌, ◌≡◌, ℕ, Bool, true, false, cond, T, List, [], ◌∷◌, ◌++◌, Option, Some, None, refl, sym, ap, subst, ◌∙◌}
+use Rattle.std.proofs.Common.{length, suc, zero, ◌≤◌, ◌&&◌, append-nil, append_assoc, arith, All, Contains, ◌≢◌, ◌≡◌, ℕ, Bool, true, false, cond, T, List, [], ◌∷◌, ◌++◌, Option, Some, None, refl, sym, ap, subst, ◌∙◌}
 use Rattle.std.specs.declared.cmp.Ordering.{Ordering}
 use Rattle.std.specs.declared.cmp.Ordering.TheVariants.{Less, Equal, Greater}
 use Rattle.std.specs.Ordering.{is_eq, is_lt, ordering_then}
-use Rattle.std.specs.Option.{option_map}
+use Rattle.std.specs.Option.{option_map, is_some}
 use Rattle.std.specs.List.{cons_option, slice_index_or}
-use Rattle.std.specs.FinMap.{find, is_sorted}
-use Rattle.std.specs.FinMap.Entries.{below_all}
-use Rattle.dav_core.specs.Path.{Path, name_cmp, path_cmp, is_same_path, rest_after, only_name}
-use Rattle.dav_core.specs.World.{Node, Nodes, node_at, members, is_folder_kind}
+use Rattle.std.specs.FinMap.{find, is_sorted, slice_cmp-IsAntisymmetric, nat_cmp-IsAntisymmetric}
+use Rattle.std.specs.FinMap.Entries.{below_all, same_entries}
+use Rattle.dav_core.specs.Path.{Path, parent_of, is_nonempty, is_at_or_below, name_cmp, path_cmp, is_same_path, rest_after, only_name}
+use Rattle.dav_core.specs.World.{World, IsWorld, is_folder_node, is_folder, has_members, IsTree, Node, Nodes, node_at, members, is_folder_kind}
 use Rattle.std.proofs.lemmas.List.Elements.{All-contains, All-cons, Contains-get_or, Contains-append_right}
 use Rattle.std.specs.Cmp.Lexicographic.{nat_list_cmp_total}
 use Rattle.dav_core.proofs.MadeLemmas.{later}
 use Rattle.dav_core.specs.CallLaws.{MembersStandBelow, MembersRise, ListsWhatStands}
 use Rattle.dav_core.proofs.NodesLemmas.{apart}
-use Rattle.dav_core.proofs.FrontLemmas.{same_name, name-itself, rest_after-append, from_rest, same-append, cmp-append}
+use Rattle.dav_core.proofs.FrontLemmas.{parent-append, same_name, name-itself, rest_after-append, from_rest, same-append, cmp-append}
 use Rattle.dav_core.proofs.NodesAfter.{both_true, left_true, right_true}
 
 then_none : (o : Ordering) → is_eq (ordering_then o Equal) ≡ is_eq o
@@ -156,3 +156,53 @@ lists_what_stands p name dir w world = (
       let both : option_map (λ (n : Node). is_folder_kind n.kind) (node_at w (p ++ name ∷ [])) ≡ Some dir = ap (option_map (λ (n : Node). is_folder_kind n.kind)) there ∙ ap (λ b. Some b) is in
       contained name dir (members p w.nodes) (stand_below p name w.nodes ∙ both),
 )
+
+length-parent : (x : List ℕ) (s : Path) → length (parent_of (x ∷ s)) ≡ length s
+length-parent x [] = refl
+length-parent x (y ∷ s) = ap (λ k. suc k) (length-parent y s)
+
+folder_stands : (o : Option Node) → is_folder_node o ≡ true → (m : Node) × (o ≡ Some m)
+folder_stands None h = cc
+folder_stands (Some m) h = (m, refl)
+
+above_by : (ns : Nodes) → IsTree ns → (k : ℕ) (q r : Path) (n : Node) → length r ≤ k → find path_cmp (q ++ r) ns ≡ Some n → (m : Node) × (find path_cmp q ns ≡ Some m)
+above_by ns t k q [] n small h = (n, ap (λ (x : Path). find path_cmp x ns) (sym (append-nil q)) ∙ h)
+above_by ns t zero q (x ∷ s) n small h = absurd (omega arith)
+above_by ns t (suc k) q (x ∷ s) n small h =
+    let (m, stood) = folder_stands (find path_cmp (parent_of (q ++ x ∷ s)) ns) (t.parents (q ++ x ∷ s) n h) in
+    let up : length (parent_of (x ∷ s)) ≡ length s = length-parent x s in
+    above_by ns t k q (parent_of (x ∷ s)) m (omega (arith, small, up)) (ap (λ (y : Path). find path_cmp y ns) (sym (parent-append q x s)) ∙ stood)
+
+-- above what stands in a tree something stands
+pub above : (ns : Nodes) → IsTree ns → (q r : Path) (n : Node) → find path_cmp (q ++ r) ns ≡ Some n → (m : Node) × (find path_cmp q ns ≡ Some m)
+above ns t q r n h = above_by ns t (length r) q r n (omega arith) h
+
+some_member : (x : List ℕ) (d : Bool) (es : Listing) → find name_cmp x es ≡ Some d → is_nonempty es ≡ true
+some_member x d [] h = cc
+some_member x d (e ∷ es) h = refl
+
+below_by : (w : World) → IsWorld w → (q x : Path) (n : Node) → (is_folder w q && has_members w q) ≡ false → node_at w x ≡ Some n
+    → (o : Option Path) → rest_after q x ≡ o → is_some o ≡ true → q ≡ x
+below_by w world q x n empty stood None is some = cc
+below_by w world q x n empty stood (Some []) is some = sym (append-nil q) ∙ sym (from_rest q x [] is)
+below_by w world q x n empty stood (Some (y ∷ s)) is some =
+    let path : x ≡ (q ++ y ∷ []) ++ s = from_rest q x (y ∷ s) is ∙ sym (append_assoc q (y ∷ []) s) in
+    let (m, there) = above w.nodes world.tree (q ++ y ∷ []) s n (ap (node_at w) (sym path) ∙ stood) in
+    let folder : is_folder w q ≡ true = ap (is_folder w) (sym (parent-append q y [] ∙ append-nil q)) ∙ world.tree.parents (q ++ y ∷ []) m there in
+    let listed : find name_cmp y (members q w.nodes) ≡ Some (is_folder_kind m.kind) = stand_below q y w.nodes ∙ ap (option_map (λ (z : Node). is_folder_kind z.kind)) there in
+    let members : has_members w q ≡ true = some_member y (is_folder_kind m.kind) (members q w.nodes) listed in
+    let both : (is_folder w q && has_members w q) ≡ true = ap (λ b. b && has_members w q) folder ∙ members in
+    let clash : false ≡ true = sym empty ∙ both in
+    cc
+
+-- nothing stands below a path that isn't a folder with members
+pub nothing_below : (w : World) → IsWorld w → (q x : Path) (n : Node) → (is_folder w q && has_members w q) ≡ false → node_at w x ≡ Some n → is_at_or_below q x ≡ true → q ≡ x
+nothing_below w world q x n empty stood at = below_by w world q x n empty stood (rest_after q x) refl at
+
+-- two folders, in two worlds, list the same where the same names stand below them
+pub members_same : (p q : Path) (w v : World) → IsWorld w → IsWorld v
+    → ((x : List ℕ) → option_map (λ n. is_folder_kind n.kind) (node_at w (p ++ x ∷ [])) ≡ option_map (λ n. is_folder_kind n.kind) (node_at v (q ++ x ∷ [])))
+    → members p w.nodes ≡ members q v.nodes
+members_same p q w v world other alike =
+    same_entries name_cmp nat_list_cmp_total (slice_cmp-IsAntisymmetric nat_cmp-IsAntisymmetric) (members p w.nodes) (members q v.nodes) (members_rise p w world) (members_rise q v other)
+    (λ x. stand_below p x w.nodes ∙ alike x ∙ sym (stand_below q x v.nodes))

@@ -1,12 +1,12 @@
 -- What holds of the words of a world and of the calls of a store: the statements of the laws.
-use Rattle.std.specs.Prelude.{◌≡◌, ◌++◌, ℕ, ◌<◌, ◌≤◌, ◌↔◌, ⊤, Bool, false, T, if◌then◌else◌, List, [], ◌∷◌, All, Contains, Option, Some, None, Result, Ok, Err}
-use Rattle.std.specs.Option.{option_map, option_or, option_and_then}
+use Rattle.std.specs.Prelude.{◌≡◌, ◌≢◌, ◌++◌, ℕ, ◌<◌, ◌≤◌, ◌↔◌, ⊤, Bool, false, T, if◌then◌else◌, List, [], ◌∷◌, All, Contains, Option, Some, None, Result, Ok, Err}
+use Rattle.std.specs.Option.{option_map, option_or, option_and_then, unwrap_or}
 use Rattle.std.specs.FinMap.{find, put, is_sorted}
 use Rattle.dav_core.specs.declared.errors.FsError.{FsError}
 use Rattle.dav_core.specs.declared.fs.DavMetaData.{DavMetaData}
 use Rattle.dav_core.specs.Path.{Path, name_cmp, path_cmp, is_same_path, rest_after, is_at_or_below, parent_of, IsName}
 use Rattle.dav_core.specs.World.{World, Node, Nodes, node_at, prune, graft, union, moved, members, adjust, touched, modified_at, made_with, is_folder_kind, last_moment, IsWorld}
-use Rattle.dav_core.specs.Handle.{Handle}
+use Rattle.dav_core.specs.Handle.{Handle, Opening}
 use Rattle.dav_core.specs.Asking.{Call, Metadata, EntryMetadata, CreateDir, RemoveDir, RemoveFile, Rename, Copy, Open, Write, FileMetadata, Answer, meaning, StoreState, Asks, ask, rest_of}
 
 -- after a prune of p nothing stands at p or below it, and all else as before
@@ -155,3 +155,83 @@ abbrev pub ListsWhatStands : Type 0
 ListsWhatStands =
     (p : Path) (name : List ℕ) (dir : Bool) (w : World)
     → IsWorld w → Contains (members p w.nodes) (name, dir) ↔ ((n : Node) × (node_at w (p ++ name ∷ []) ≡ Some n) × (is_folder_kind n.kind ≡ dir))
+
+-- where a rename brings what stands at p
+abbrev pub path_after : Path → Path → Path → Path
+path_after from to p = unwrap_or (option_map (λ rest. to ++ rest) (rest_after from p)) p
+
+-- where a call brings what stands at p
+abbrev pub brought : Call → Path → Path
+brought (Rename from to now) p = path_after from to p
+brought _ p = p
+
+-- the call takes away what stands at p: it removes p, or renames another path to p
+abbrev pub TakesAway : Call → Path → Type 0
+TakesAway (RemoveDir q now) p = q ≡ p
+TakesAway (RemoveFile q now) p = q ≡ p
+TakesAway (Rename from to now) p = (from ≢ to) × (to ≡ p)
+TakesAway _ p = ⊥
+
+-- m is n, but for the moment of its last change
+abbrev pub IsUnchanged : Node → Node → Type 0
+IsUnchanged n m = m ≡ record n { modified = m.modified }
+
+-- m is n after a call: it was made with the same number, and is a folder or a file as it was
+abbrev pub IsStill : Node → Node → Type 0
+IsStill n m = (m.made ≡ n.made) × (is_folder_kind m.kind ≡ is_folder_kind n.kind)
+
+-- what a rename doesn't take away stands where the rename brings it, with its bytes, properties and numbers
+abbrev pub NodesFollowRenames : Type 0
+NodesFollowRenames =
+    (from to : Path) (now : ℕ) (w : World) (r : Unit {0} × World) (p : Path) (n : Node)
+    → meaning (Rename from to now) w ≡ Ok r → node_at w p ≡ Some n → is_at_or_below to p ≡ false
+    → (m : Node) × (node_at r.1 (path_after from to p) ≡ Some m) × IsUnchanged n m
+
+-- what a call doesn't take away is still there, where the call brings it: all but a rename leave it where it was
+abbrev pub NodesStay : Type 0
+NodesStay =
+    (call : Call) (w : World) (r : Answer call × World) (p : Path) (n : Node)
+    → IsProper call → WritesToFile w call → IsWorld w → meaning call w ≡ Ok r → node_at w p ≡ Some n → ¬ TakesAway call p
+    → (m : Node) × (node_at r.1 (brought call p) ≡ Some m) × IsStill n m
+
+-- what is there after a call and was made with an older number was there before: nothing comes back
+abbrev pub NodesWereThere : Type 0
+NodesWereThere =
+    (call : Call) (w : World) (r : Answer call × World) (q : Path) (m : Node)
+    → IsProper call → WritesToFile w call → IsWorld w → meaning call w ≡ Ok r → node_at r.1 q ≡ Some m → m.made < w.next
+    → (p : Path) × (n : Node) × (node_at w p ≡ Some n) × IsStill n m
+
+-- what has the same number before and after a call is the same node with the same bytes
+abbrev pub NumbersTellBytes : Type 0
+NumbersTellBytes =
+    (call : Call) (w : World) (r : Answer call × World) (p q : Path) (n m : Node)
+    → IsProper call → WritesToFile w call → IsWorld w → meaning call w ≡ Ok r → node_at w p ≡ Some n → node_at r.1 q ≡ Some m
+    → n.number ≡ m.number → (m.made ≡ n.made) × (m.kind ≡ n.kind)
+
+-- in a world the node that was made with a number is what stands somewhere and was made with it
+abbrev pub MadeStands : Type 0
+MadeStands =
+    (w : World) (made : ℕ) (n : Node)
+    → IsWorld w → (made_with made w.nodes ≡ Some n) ↔ ((p : Path) × (node_at w p ≡ Some n) × (n.made ≡ made))
+
+-- an open that is answered gives an open file that stands for the file at the path
+abbrev pub OpenedStands : Type 0
+OpenedStands =
+    (p : Path) (how : Opening) (now : ℕ) (w : World) (r : Handle × World)
+    → meaning (Open p how now) w ≡ Ok r → (n : Node) × (node_at r.1 p ≡ Some n) × (n.made ≡ r.0.made) × (is_folder_kind n.kind ≡ false)
+
+-- its number was handed out, and it is of a file
+abbrev pub IsOpenFile : World → Handle → Type 0
+IsOpenFile w file = (file.made < w.next) × IsOfFile w file
+
+-- what was opened in a world is an open file
+abbrev pub OpenedIsOpenFile : Type 0
+OpenedIsOpenFile =
+    (p : Path) (how : Opening) (now : ℕ) (w : World) (r : Handle × World)
+    → IsProper (Open p how now) → IsWorld w → meaning (Open p how now) w ≡ Ok r → IsOpenFile r.1 r.0
+
+-- and stays one, whatever is called
+abbrev pub OpenFilesStay : Type 0
+OpenFilesStay =
+    (call : Call) (w : World) (r : Answer call × World) (file : Handle)
+    → IsProper call → WritesToFile w call → IsWorld w → meaning call w ≡ Ok r → IsOpenFile w file → IsOpenFile r.1 file
