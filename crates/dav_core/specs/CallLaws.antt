@@ -7,7 +7,7 @@ use Rattle.dav_core.specs.declared.fs.DavMetaData.{DavMetaData}
 use Rattle.dav_core.specs.Path.{Path, name_cmp, path_cmp, is_same_path, rest_after, is_at_or_below, parent_of, IsName}
 use Rattle.dav_core.specs.World.{World, Node, Nodes, node_at, prune, graft, union, moved, members, adjust, touched, modified_at, made_with, is_folder_kind, last_moment, IsWorld}
 use Rattle.dav_core.specs.Handle.{Handle, Opening}
-use Rattle.dav_core.specs.Asking.{Call, Metadata, EntryMetadata, CreateDir, RemoveDir, RemoveFile, Rename, Copy, Open, Write, FileMetadata, Answer, meaning, StoreState, Asks, ask, rest_of}
+use Rattle.dav_core.specs.Asking.{Call, Metadata, EntryMetadata, CreateDir, RemoveDir, RemoveFile, Rename, Copy, PatchProps, Open, Write, FileMetadata, Answer, meaning, StoreState, Asks, ask, rest_of}
 
 -- after a prune of p nothing stands at p or below it, and all else as before
 abbrev pub PruneLeaves : Type 0
@@ -172,6 +172,14 @@ TakesAway (RemoveFile q now) p = q ≡ p
 TakesAway (Rename from to now) p = (from ≢ to) × (to ≡ p)
 TakesAway _ p = ⊥
 
+-- the call may change the node n at p by itself: it patches p, copies to it, opens it, or writes to n
+abbrev pub MayChange : Call → Path → Node → Type 0
+MayChange (PatchProps q patches) p n = q ≡ p
+MayChange (Copy from to now) p n = to ≡ p
+MayChange (Open q how now) p n = q ≡ p
+MayChange (Write file bytes now) p n = file.made ≡ n.made
+MayChange _ p n = ⊥
+
 -- m is n, but for the moment of its last change
 abbrev pub IsUnchanged : Node → Node → Type 0
 IsUnchanged n m = m ≡ record n { modified = m.modified }
@@ -193,6 +201,13 @@ NodesStay =
     (call : Call) (w : World) (r : Answer call × World) (p : Path) (n : Node)
     → IsProper call → WritesToFile w call → IsWorld w → meaning call w ≡ Ok r → node_at w p ≡ Some n → ¬ TakesAway call p
     → (m : Node) × (node_at r.1 (brought call p) ≡ Some m) × IsStill n m
+
+-- what a call neither takes away nor may change is as it was, but for the moment of its last change
+abbrev pub OthersAreUnchanged : Type 0
+OthersAreUnchanged =
+    (call : Call) (w : World) (r : Answer call × World) (p : Path) (n : Node)
+    → IsWorld w → meaning call w ≡ Ok r → node_at w p ≡ Some n → ¬ TakesAway call p → ¬ MayChange call p n
+    → (m : Node) × (node_at r.1 (brought call p) ≡ Some m) × IsUnchanged n m
 
 -- what is there after a call and was made with an older number was there before: nothing comes back
 abbrev pub NodesWereThere : Type 0
