@@ -1,3 +1,5 @@
+pub mod ElementLemmas
+pub mod NodeLemmas
 pub mod TargetLemmas
 pub mod BufferLemmas
 pub mod LoopLemmas
@@ -8,6 +10,12 @@ pub mod PathLemmas
 pub mod NodesLemmas
 pub mod WorldLemmas
 pub mod Rows
+pub mod LockLemmas
+pub mod EmptyStore
+pub mod MethodLemmas
+pub mod NamedLemmas
+pub mod SetLemmas
+pub mod PrefixLemmas
 pub mod FrontLemmas
 pub mod NodesAfter
 pub mod CarriedLemmas

@@ -10,7 +10,7 @@ use Rattle.dav_core.specs.declared.errors.FsError.{FsError}
 use Rattle.dav_core.specs.declared.errors.FsError.TheVariants.{GeneralFailure, Exists, NotFound, Forbidden, TooLarge}
 use Rattle.dav_core.specs.Element.{ElementTree}
 use Rattle.dav_core.specs.Path.{Path, rest_after, is_same_path, is_at_or_below, is_below, is_root, is_nonempty, parent_of}
-use Rattle.dav_core.specs.Property.{Properties, PropertyKey, Patch, SetTo, Remove, key_cmp, key_of, is_same_key, patched, patched_by, shown_property}
+use Rattle.dav_core.specs.Property.{Properties, PropertyKey, Patch, SetTo, Remove, key_cmp, property_key, is_same_key, patched, patched_by, shown_property}
 use Rattle.dav_core.specs.World.{World, Node, Kind, Folder, File, node_at, is_folder_kind, is_folder_node, is_folder, is_file, is_missing, bytes_of, members, has_members, with_new, adjust, change_first, is_made_with, made_with, last_moment, last_number, max_file_len, IsWorld, Renumbers}
 use Rattle.dav_core.specs.Handle.{Handle, Opening, opened, write_place, place_for}
 use Rattle.dav_core.specs.Meaning.{Meaning, refuse_if, at_node}
@@ -86,8 +86,8 @@ key_total : IsTotalOrder key_cmp
 key_total = then_total (on_total (λ (k : PropertyKey). k.0) nat_list_cmp_total) (on_total (λ (k : PropertyKey). k.1) nat_list_cmp_total)
 
 patched_once : (patch : Patch) (ps : Properties) → T (is_sorted key_cmp ps) → T (is_sorted key_cmp (patched_by patch ps))
-patched_once (SetTo p) ps h = is_sorted-put key_cmp key_total (key_of p) p.tree ps h
-patched_once (Remove p) ps h = is_sorted-where_key key_cmp (λ k. not (is_same_key (key_of p) k)) ps h
+patched_once (SetTo p) ps h = is_sorted-put key_cmp key_total (property_key p) p.xml ps h
+patched_once (Remove p) ps h = is_sorted-where_key key_cmp (λ k. not (is_same_key (property_key p) k)) ps h
 
 -- patches keep the order of the properties
 pub sorted-patched : (changes : List Patch) (ps : Properties) → T (is_sorted key_cmp ps) → T (is_sorted key_cmp (patched changes ps))

@@ -8,7 +8,7 @@ use Rattle.dav_core.specs.declared.errors.FsError.TheVariants.{NotImplemented, G
 use Rattle.dav_core.specs.declared.fs.DavMetaData.{DavMetaData}
 use Rattle.dav_core.specs.Element.{ElementTree}
 use Rattle.dav_core.specs.Path.{Path, is_same_path, is_below, is_root, is_nonempty, parent_of}
-use Rattle.dav_core.specs.Property.{Property, PropertyKey, Properties, Patch, key_cmp, patched, property_of, without_tree, shown_property}
+use Rattle.dav_core.specs.Property.{Property, PropertyKey, Properties, Patch, key_cmp, patched, property_of, without_xml, shown_property}
 use Rattle.dav_core.specs.World.{World, Node, Kind, Folder, File, node_at, is_folder_kind, is_folder, is_file, is_missing, bytes_of, members, has_members, prune, moved, touched, with_new, adjust, change_first, is_made_with, made_with, splice, max_file_len}
 use Rattle.dav_core.specs.Handle.{Handle, Opening, opened, write_place, place_for}
 use Rattle.dav_core.specs.Meaning.{Meaning, refuse_if, at_node, numbered}
@@ -156,7 +156,7 @@ repatched patches n = record n { properties = patched patches n.properties }
 abbrev pub patch_props : World → Path → List Patch → Meaning (List (ℕ × Property))
 patch_props w p patches =
     at_node (node_at w p) (λ n.
-    Ok (map (λ patch. (200, without_tree (property_of patch))) patches, record w { nodes = adjust p (repatched patches) w.nodes }))
+    Ok (map (λ patch. (200, without_xml (property_of patch))) patches, record w { nodes = adjust p (repatched patches) w.nodes }))
 
 -- the properties in order of namespace and name
 abbrev pub get_props : World → Path → Bool → Meaning (List Property)

@@ -1,5 +1,6 @@
 -- Element trees, which stand for XML (RFC 4918, section 14; XML 1.0, section 3, and Namespaces in XML 1.0).
-use Rattle.std.specs.Prelude.{ℕ, List, Option, None}
+use Rattle.std.specs.Prelude.{ℕ, suc, max, ◌==◌, ◌++◌, Bool, true, false, if◌then◌else◌, List, [], ◌∷◌, Option, Some, None, bytes_eq, codes}
+use Rattle.std.specs.List.{filter, filter_map, concat, before_first, after_first, list_any}
 
 mutual
   -- An element: its name, prefix and namespace, its attributes in order, and its children; or a text among them.
@@ -12,7 +13,107 @@ mutual
     no_trees : ElementTrees
     tree_then : (first : ElementTree) (rest : ElementTrees) → ElementTrees
 
--- the prefix of an element, where it has one
+-- Children as a list, and a list as children.
+abbrev pub tree_list : ElementTrees → List ElementTree
+tree_list no_trees = []
+tree_list (tree_then t ts) = t ∷ tree_list ts
+
+abbrev pub trees : List ElementTree → ElementTrees
+trees [] = no_trees
+trees (t ∷ ts) = tree_then t (trees ts)
+
+-- The parts of an element; a text has none.
+abbrev pub name_of : ElementTree → List ℕ
+name_of (element name prefix namespace attributes children) = name
+name_of (text bytes) = []
+
 abbrev pub prefix_of : ElementTree → Option (List ℕ)
 prefix_of (element name prefix namespace attributes children) = prefix
 prefix_of (text bytes) = None
+
+abbrev pub namespace_of : ElementTree → Option (List ℕ)
+namespace_of (element name prefix namespace attributes children) = namespace
+namespace_of (text bytes) = None
+
+abbrev pub attributes_of : ElementTree → List (List ℕ × List ℕ)
+attributes_of (element name prefix namespace attributes children) = attributes
+attributes_of (text bytes) = []
+
+abbrev pub children_of : ElementTree → List ElementTree
+children_of (element name prefix namespace attributes children) = tree_list children
+children_of (text bytes) = []
+
+-- The same element with other attributes, and with other children.
+abbrev pub with_attributes : ElementTree → List (List ℕ × List ℕ) → ElementTree
+with_attributes (element name prefix namespace attributes children) others = element name prefix namespace others children
+with_attributes (text bytes) others = text bytes
+
+abbrev pub with_children : ElementTree → List ElementTree → ElementTree
+with_children (element name prefix namespace attributes children) others = element name prefix namespace attributes (trees others)
+with_children (text bytes) others = text bytes
+
+-- the same element with a child behind the others
+abbrev pub with_child : ElementTree → ElementTree → ElementTree
+with_child e child = with_children e (children_of e ++ child ∷ [])
+
+-- An element without attributes and children, whose name has that prefix.
+abbrev pub named : Option (List ℕ) → List ℕ → ElementTree
+named prefix name = element name prefix None [] no_trees
+
+-- A name that may have a prefix (Namespaces in XML 1.0, section 4): what stands before its first colon, if it has one,
+-- is the prefix, and what stands behind it the name.
+abbrev pub named_by : List ℕ → ElementTree
+named_by bytes = if list_any (λ b. b == 58) bytes
+    then named (Some (before_first (λ b. b == 58) bytes)) (after_first (λ b. b == 58) bytes)
+    else named None bytes
+
+-- The attribute that declares a prefix, or the namespace of names without one (Namespaces in XML 1.0, section 3).
+abbrev pub xmlns_name : List ℕ → List ℕ
+xmlns_name [] = codes "xmlns"
+xmlns_name (b ∷ prefix) = codes "xmlns:" ++ b ∷ prefix
+
+-- The first attribute of that name has this value; a new one stands at the end.
+abbrev pub set_attribute : List ℕ → List ℕ → List (List ℕ × List ℕ) → List (List ℕ × List ℕ)
+set_attribute name value [] = (name, value) ∷ []
+set_attribute name value (a ∷ others) = if bytes_eq a.0 name then (name, value) ∷ others else a ∷ set_attribute name value others
+
+-- The bytes of a text; an element is none.
+abbrev pub text_bytes : ElementTree → Option (List ℕ)
+text_bytes (element name prefix namespace attributes children) = None
+text_bytes (text bytes) = Some bytes
+
+abbrev pub joined_texts : List (List ℕ) → Option (List ℕ)
+joined_texts [] = None
+joined_texts (t ∷ ts) = Some (concat (t ∷ ts))
+
+-- The texts among an element's children, joined in order; none where it has no text.
+abbrev pub text_of : ElementTree → Option (List ℕ)
+text_of e = joined_texts (filter_map text_bytes (children_of e))
+
+abbrev pub is_element : ElementTree → Bool
+is_element (element name prefix namespace attributes children) = true
+is_element (text bytes) = false
+
+-- The child elements, in order.
+abbrev pub child_elements : ElementTree → List ElementTree
+child_elements e = filter is_element (children_of e)
+
+-- an element of that name, in whatever namespace
+abbrev pub is_named : List ℕ → ElementTree → Bool
+is_named wanted (element name prefix namespace attributes children) = bytes_eq name wanted
+is_named wanted (text bytes) = false
+
+-- The list without the first that passes the test.
+abbrev pub without_first : {X : Type 0} → (X → Bool) → List X → List X
+without_first test [] = []
+without_first test (x ∷ xs) = if test x then xs else x ∷ without_first test xs
+
+abbrev mutual
+  -- how many elements stand one in another: 1 for an element without child elements, 0 for a text
+  pub depth_of : ElementTree → ℕ
+  depth_of (element name prefix namespace attributes children) = suc (depth_among children)
+  depth_of (text bytes) = 0
+
+  pub depth_among : ElementTrees → ℕ
+  depth_among no_trees = 0
+  depth_among (tree_then t ts) = max (depth_of t) (depth_among ts)

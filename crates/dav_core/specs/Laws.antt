@@ -1,9 +1,11 @@
 -- What holds of every text and every path: the statements of the laws.
-use Rattle.std.specs.Prelude.{◌≡◌, ◌↔◌, ◌++◌, ◌∷◌, ℕ, ◌+◌, ◌<◌, ◌≤◌, Bool, true, false, T, List, [], All, Some, None}
+use Rattle.std.specs.Prelude.{◌≡◌, ◌↔◌, ◌++◌, ◌∷◌, ℕ, ◌+◌, ◌^◌, ◌<◌, ◌≤◌, Bool, true, false, T, List, [], All, Contains, Some, None}
 use Rattle.dav_core.specs.declared.errors.ParseError.TheVariants.{InvalidPath, ForbiddenPath}
 use Rattle.dav_core.specs.Path.{Path, IsName, parent_of, path_bytes, star, names_of, parent_bytes, with_slash}
 use Rattle.dav_core.specs.Target.{Leaves, Climbs, HasBadPiece, Reads, IsRefused}
 use Rattle.dav_core.specs.UrlText.{url_text, IsTextOf}
+use Rattle.dav_core.specs.declared.method.DavMethod.{DavMethod}
+use Rattle.dav_core.specs.Method.{method_name, Names, Has, members}
 use Rattle.std.specs.FinMap.{is_sorted}
 use Rattle.dav_core.specs.Property.{Properties, key_cmp}
 use Rattle.dav_core.specs.World.{World, Node, Kind, IsWorld, Renumbers, last_moment, last_number, empty_from, node_at, is_folder, with_new, adjust}
@@ -96,3 +98,20 @@ abbrev pub ParentOfNames : Type 0
 ParentOfNames =
     (ns : Path) (closed : Bool)
     → All IsName ns → parent_bytes (path_bytes ns closed) ≡ path_bytes (parent_of ns) true
+
+-- a name is that of one method, also where ASCII case is ignored
+abbrev pub OneMethod : Type 0
+OneMethod = (text : List ℕ) (m n : DavMethod) → Names text m → Names text n → m ≡ n
+
+-- a method's name is one of its names without regard to case
+abbrev pub NameNames : Type 0
+NameNames = (m : DavMethod) → Names (method_name m) m
+
+-- the members of a set are the methods that it has
+abbrev pub MembersAreHad : Type 0
+MembersAreHad = (set : ℕ) (m : DavMethod) → Contains (members set) m ↔ Has set m
+
+-- sets that have the same methods are one set
+abbrev pub SameMethodsSameSet : Type 0
+SameMethodsSameSet =
+    (a b : ℕ) → a < 2 ^ 16 → b < 2 ^ 16 → ((m : DavMethod) → Has a m ↔ Has b m) → a ≡ b

@@ -5,6 +5,8 @@ pub mod World
 pub mod UrlText
 pub mod Target
 pub mod ErrorNames
+pub mod Status
+pub mod Method
 pub mod Buffer
 pub mod PathRef
 pub mod Laws
@@ -12,4 +14,16 @@ pub mod Handle
 pub mod Meaning
 pub mod Calls
 pub mod Asking
+pub mod Locks
+pub mod Metadata
+pub mod LockLaws
+pub mod LockRefusals
+pub mod LockCode
+pub mod PropertyCode
+pub mod ElementCode
+pub mod ElementEq
+pub mod ElementView
+pub mod ElementFalls
+pub mod ChildElements
+pub mod PropertyView
 pub mod CallLaws

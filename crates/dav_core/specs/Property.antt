@@ -1,12 +1,12 @@
 -- Dead properties (RFC 4918, section 4).
-use Rattle.std.specs.Prelude.{ℕ, Bool, not, List, [], ◌∷◌, if◌then◌else◌, Option, Some, None}
+use Rattle.std.specs.Prelude.{ℕ, Bool, true, false, not, List, [], ◌∷◌, if◌then◌else◌, Option, Some, None}
 use Rattle.std.specs.Option.{option_and_then, unwrap_or}
 use Rattle.std.specs.FinMap.{put}
 use Rattle.std.specs.List.{filter}
 use Rattle.std.specs.declared.cmp.Ordering.{Ordering}
 use Rattle.std.specs.Ordering.{ordering_then, is_eq}
 use Rattle.dav_core.specs.Path.{name_cmp}
-use Rattle.dav_core.specs.Element.{ElementTree, prefix_of}
+use Rattle.dav_core.specs.Element.{ElementTree, element, text, no_trees, tree_then, prefix_of, xmlns_name}
 
 -- A property is known by its namespace, empty where it has none, and its name.
 abbrev pub PropertyKey : Type 0
@@ -20,28 +20,33 @@ key_cmp a b = ordering_then (name_cmp a.0 b.0) (name_cmp a.1 b.1)
 abbrev pub Properties : Type 0
 Properties = List (PropertyKey × Option ElementTree)
 
--- A property as a caller names it, with its element where it has one.
+-- A property as it is handed over: its name, prefix and namespace, and its element where it has one.
 pub record Property : Type 0 where
   pub name : List ℕ
   pub prefix : Option (List ℕ)
   pub namespace : Option (List ℕ)
-  pub tree : Option ElementTree
+  pub xml : Option ElementTree
 
 -- what it is known by: no namespace and an empty one are the same
-abbrev pub key_of : Property → PropertyKey
-key_of p = (unwrap_or p.namespace [], p.name)
+abbrev pub property_key : Property → PropertyKey
+property_key p = (unwrap_or p.namespace [], p.name)
 
 abbrev pub is_same_key : PropertyKey → PropertyKey → Bool
 is_same_key k l = is_eq (key_cmp k l)
 
 -- the property alone, without its element
-abbrev pub without_tree : Property → Property
-without_tree p = record p { tree = None }
+abbrev pub without_xml : Property → Property
+without_xml p = record p { xml = None }
 
 -- A change of the properties: one is set, with its element where it has one, or removed (RFC 4918, section 9.2).
 pub data Patch : Type 0 where
   SetTo : Property → Patch
   Remove : Property → Patch
+
+-- a property that is set, or removed
+abbrev pub patch_of : Bool × Property → Patch
+patch_of (true, p) = SetTo p
+patch_of (false, p) = Remove p
 
 -- the property that a change names
 abbrev pub property_of : Patch → Property
@@ -50,8 +55,8 @@ property_of (Remove p) = p
 
 -- the properties after one change
 abbrev pub patched_by : Patch → Properties → Properties
-patched_by (SetTo p) ps = put key_cmp (key_of p) p.tree ps
-patched_by (Remove p) ps = filter (λ e. not (is_same_key (key_of p) e.0)) ps
+patched_by (SetTo p) ps = put key_cmp (property_key p) p.xml ps
+patched_by (Remove p) ps = filter (λ e. not (is_same_key (property_key p) e.0)) ps
 
 -- the properties after all changes, in their order
 abbrev pub patched : List Patch → Properties → Properties
@@ -68,5 +73,14 @@ shown_property content e = record {
   name = e.0.1;
   prefix = option_and_then prefix_of e.1;
   namespace = some_namespace e.0.0;
-  tree = if content then e.1 else None;
+  xml = if content then e.1 else None;
 }
+
+-- The property of that name in a namespace whose element declares the namespace and has one text.
+abbrev pub text_property : List ℕ → List ℕ → List ℕ → List ℕ → Property
+text_property name prefix namespace value = record {
+    name = name;
+    prefix = Some prefix;
+    namespace = Some namespace;
+    xml = Some (element name (Some prefix) (Some namespace) ((xmlns_name prefix, namespace) ∷ []) (tree_then (text value) no_trees));
+  }

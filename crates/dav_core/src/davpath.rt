@@ -11,6 +11,7 @@ mod url_text;
 
 use crate::errors::{NoMemory, ParseError};
 use ends::{lacks_slash, push_after_slash, trimmed, without_first_slash, without_slash};
+use http_uri::Uri;
 use reading::{close, ends_in_slash, is_rooted, len_before, read_names, text_of};
 use std::alloc::Global;
 use std::fmt;
@@ -27,13 +28,14 @@ pub struct DavPath {
 
 impl Model for DavPath {
     ghost use Rattle.std.specs.Prelude.{◌≤◌, length, take, drop};
+    ghost use Rattle.std.specs.Str.{IsUtf8};
     ghost use Rattle.dav_core.specs.Path.{PathText};
 
     ghost Value = { PathText };
 
     ghost view = { λ p. record { prefix = take p.prefix_len p.full.items; bytes = drop p.prefix_len p.full.items } };
 
-    ghost invariant = { λ p. p.prefix_len ≤ length p.full.items };
+    ghost invariant = { λ p. (p.prefix_len ≤ length p.full.items) × IsUtf8 (take p.prefix_len p.full.items) };
 }
 
 impl DavPath {
@@ -42,6 +44,7 @@ impl DavPath {
     ghost use Rattle.dav_core.specs.Target.{Reads, IsRefused};
     ghost use Rattle.dav_core.specs.PathRef.{ref_bytes, names_left, GivesText, IsCutRefused};
     ghost use Rattle.dav_core.specs.UrlText.{IsTextOf};
+    ghost use Rattle.http_uri.specs.Uri.{uri_path};
 
     /// Reads the target of a request (RFC 9112, section 3.2): what stands before the first `?`, with escapes decoded
     /// (RFC 3986, section 2.1), without empty and `.` segments, and with each `..` and the name before it removed
@@ -71,6 +74,23 @@ impl DavPath {
             full,
             prefix_len: 0,
         })
+    }
+
+    /// The path of a URI as it stands there: nothing is decoded, and nothing is refused.
+    pub fn from_uri(alloc: Global, uri: &Uri) -> Result<DavPath, NoMemory>
+        ensures { IfOk result (λ p. p ≡ record { prefix = []; bytes = uri_path uri.now }) }
+    {
+        Ok(DavPath {
+            full: Vec::from_slice(alloc, uri.path().as_bytes())?,
+            prefix_len: 0,
+        })
+    }
+
+    /// The prefix; empty where none was set.
+    pub fn prefix(&self) -> &str
+        ensures { result.now ≡ self.now.prefix }
+    {
+        str::from_utf8(&self.full[..self.prefix_len]).unwrap()
     }
 
     /// All of the path.

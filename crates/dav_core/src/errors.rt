@@ -1,4 +1,11 @@
 //! Why a call fails.
+ghost use Rattle.std.specs.Prelude.{◌≡◌};
+ghost use Rattle.dav_core.specs.Status.{dav_status, must_close};
+
+#[cfg(test)]
+mod tests;
+
+use http::StatusCode;
 pub use std::alloc::AllocError as NoMemory;
 use std::alloc::AllocFailed;
 use std::error::Error;
@@ -58,29 +65,212 @@ impl<T: Drop> From<AllocFailed<T>> for ParseError {
     }
 }
 
-/// Why a store refuses a call.
+/// Why a file store refuses a call.
 #[derive(Clone, Copy, Debug, PartialEq, Eq)]
 pub enum FsError {
-    /// The store has no such call.
+    /// The store doesn't have this call: 501 (RFC 9110, section 15.6.2).
     NotImplemented,
-    /// It failed for a reason of its own.
+    /// It failed for a reason that has no name here: 500 (RFC 9110, section 15.6.1).
     GeneralFailure,
-    /// Something is there already.
+    /// Something is there already: 405 (RFC 9110, section 15.5.6; RFC 4918, section 9.3.1).
     Exists,
-    /// Nothing is there.
+    /// Nothing is there: 404 (RFC 9110, section 15.5.5).
     NotFound,
-    /// It isn't allowed.
+    /// The store doesn't allow it: 403 (RFC 9110, section 15.5.4).
     Forbidden,
-    /// There is no room, or memory ran out.
+    /// There is no room for it, or memory ran out: 507 (RFC 4918, section 11.5).
     InsufficientStorage,
-    /// The path leads to itself.
+    /// Its walk came to a folder twice: 508 (RFC 5842, section 7.2).
     LoopDetected,
-    /// The path is too long.
+    /// The path is longer than the store takes: 414 (RFC 9110, section 15.5.15).
     PathTooLong,
-    /// The file would get too large.
+    /// The file would be larger than the store takes: 413 (RFC 9110, section 15.5.14).
     TooLarge,
-    /// It is on another server.
+    /// It stands in another store: 502 (RFC 4918, section 9.8.5).
     IsRemote,
 }
 
+/// What a call of a file store answers.
 pub type FsResult<T> = Result<T, FsError>;
+
+/// Writes the variant's name.
+impl fmt::Display for FsError {
+    ghost use Rattle.std.specs.Prelude.{Some};
+    ghost use Rattle.dav_core.specs.ErrorNames.{fs_error_name};
+
+    ghost output = { λ e. Some (fs_error_name e) };
+
+    fn fmt<W: fmt::Write>(&self, f: &mut fmt::Formatter<W>) -> fmt::Result {
+        match self {
+            FsError::NotImplemented => write!(f, "NotImplemented"),
+            FsError::GeneralFailure => write!(f, "GeneralFailure"),
+            FsError::Exists => write!(f, "Exists"),
+            FsError::NotFound => write!(f, "NotFound"),
+            FsError::Forbidden => write!(f, "Forbidden"),
+            FsError::InsufficientStorage => write!(f, "InsufficientStorage"),
+            FsError::LoopDetected => write!(f, "LoopDetected"),
+            FsError::PathTooLong => write!(f, "PathTooLong"),
+            FsError::TooLarge => write!(f, "TooLarge"),
+            FsError::IsRemote => write!(f, "IsRemote"),
+        }
+    }
+}
+
+impl Error for FsError {}
+
+/// The status that tells a client of a store's error.
+impl From<FsError> for StatusCode {
+    ghost use Rattle.dav_core.specs.Status.{fs_status};
+
+    ghost from_gives = { λ e status. status ≡ fs_status e };
+
+    fn from(error: FsError) -> StatusCode {
+        match error {
+            FsError::NotImplemented => StatusCode::NOT_IMPLEMENTED,
+            FsError::GeneralFailure => StatusCode::INTERNAL_SERVER_ERROR,
+            FsError::Exists => StatusCode::METHOD_NOT_ALLOWED,
+            FsError::NotFound => StatusCode::NOT_FOUND,
+            FsError::Forbidden => StatusCode::FORBIDDEN,
+            FsError::InsufficientStorage => StatusCode::INSUFFICIENT_STORAGE,
+            FsError::LoopDetected => StatusCode::LOOP_DETECTED,
+            FsError::PathTooLong => StatusCode::URI_TOO_LONG,
+            FsError::TooLarge => StatusCode::PAYLOAD_TOO_LARGE,
+            FsError::IsRemote => StatusCode::BAD_GATEWAY,
+        }
+    }
+}
+
+/// Why a request is refused.
+#[derive(Clone, Copy, Debug, PartialEq, Eq)]
+pub enum DavError {
+    /// The body isn't the XML that the method asks for: 400 (RFC 9110, section 15.5.1).
+    XmlParseError,
+    /// A text names no path: 400.
+    InvalidPath,
+    /// A path climbs above the root: 403 (RFC 9110, section 15.5.4).
+    ForbiddenPath,
+    /// A path isn't at or below the prefix: 502 (RFC 4918, section 9.8.5).
+    IllegalPath,
+    /// No method of this name is known: 501 (RFC 9110, section 15.6.2).
+    UnknownDavMethod,
+    /// What was to be collected is missing: 500 (RFC 9110, section 15.6.1).
+    ChanError,
+    /// This status.
+    Status(StatusCode),
+    /// This status, and the connection closes behind it (RFC 9112, section 9.6).
+    StatusClose(StatusCode),
+    /// The store refused: the error's own status.
+    FsError(FsError),
+    /// Memory ran out: 507 (RFC 4918, section 11.5).
+    Memory,
+}
+
+/// What a method answers.
+pub type DavResult<T> = Result<T, DavError>;
+
+impl DavError {
+    /// The status that tells the client.
+    pub fn statuscode(&self) -> StatusCode
+        ensures { result ≡ dav_status self.now }
+    {
+        match *self {
+            DavError::XmlParseError => StatusCode::BAD_REQUEST,
+            DavError::InvalidPath => StatusCode::BAD_REQUEST,
+            DavError::ForbiddenPath => StatusCode::FORBIDDEN,
+            DavError::IllegalPath => StatusCode::BAD_GATEWAY,
+            DavError::UnknownDavMethod => StatusCode::NOT_IMPLEMENTED,
+            DavError::ChanError => StatusCode::INTERNAL_SERVER_ERROR,
+            DavError::Status(status) => status,
+            DavError::StatusClose(status) => status,
+            DavError::FsError(refusal) => refusal.into(),
+            DavError::Memory => StatusCode::INSUFFICIENT_STORAGE,
+        }
+    }
+
+    /// Whether the connection closes behind the reply (RFC 9112, section 9.6).
+    pub fn must_close(&self) -> bool
+        ensures { result ≡ must_close self.now }
+    {
+        matches!(self, DavError::StatusClose(_))
+    }
+}
+
+/// Writes the variant's name.
+impl fmt::Display for DavError {
+    ghost use Rattle.std.specs.Prelude.{Some};
+    ghost use Rattle.dav_core.specs.ErrorNames.{dav_error_name};
+
+    ghost output = { λ e. Some (dav_error_name e) };
+
+    fn fmt<W: fmt::Write>(&self, f: &mut fmt::Formatter<W>) -> fmt::Result {
+        match self {
+            DavError::XmlParseError => write!(f, "XmlParseError"),
+            DavError::InvalidPath => write!(f, "InvalidPath"),
+            DavError::ForbiddenPath => write!(f, "ForbiddenPath"),
+            DavError::IllegalPath => write!(f, "IllegalPath"),
+            DavError::UnknownDavMethod => write!(f, "UnknownDavMethod"),
+            DavError::ChanError => write!(f, "ChanError"),
+            DavError::Status(_) => write!(f, "Status"),
+            DavError::StatusClose(_) => write!(f, "StatusClose"),
+            DavError::FsError(_) => write!(f, "FsError"),
+            DavError::Memory => write!(f, "Memory"),
+        }
+    }
+}
+
+impl Error for DavError {}
+
+impl From<FsError> for DavError {
+    ghost use Rattle.dav_core.specs.declared.errors.DavError.TheVariants as dav;
+
+    ghost from_gives = { λ e d. d ≡ dav.FsError e };
+
+    fn from(error: FsError) -> DavError {
+        DavError::FsError(error)
+    }
+}
+
+impl From<StatusCode> for DavError {
+    ghost use Rattle.dav_core.specs.declared.errors.DavError.TheVariants as dav;
+
+    ghost from_gives = { λ status d. d ≡ dav.Status status };
+
+    fn from(code: StatusCode) -> DavError {
+        DavError::Status(code)
+    }
+}
+
+impl From<ParseError> for DavError {
+    ghost use Rattle.dav_core.specs.Status.{path_error};
+
+    ghost from_gives = { λ e d. d ≡ path_error e };
+
+    fn from(error: ParseError) -> DavError {
+        match error {
+            ParseError::InvalidPath => DavError::InvalidPath,
+            ParseError::PrefixMismatch => DavError::IllegalPath,
+            ParseError::ForbiddenPath => DavError::ForbiddenPath,
+            ParseError::Memory => DavError::Memory,
+        }
+    }
+}
+
+impl From<NoMemory> for DavError {
+    ghost use Rattle.dav_core.specs.declared.errors.DavError.TheVariants as dav;
+
+    ghost from_gives = { λ _ d. d ≡ dav.Memory };
+
+    fn from(_error: NoMemory) -> DavError {
+        DavError::Memory
+    }
+}
+
+impl<T: Drop> From<AllocFailed<T>> for DavError {
+    ghost use Rattle.dav_core.specs.declared.errors.DavError.TheVariants as dav;
+
+    ghost from_gives = { λ _ d. d ≡ dav.Memory };
+
+    fn from(_error: AllocFailed<T>) -> DavError {
+        DavError::from(NoMemory)
+    }
+}

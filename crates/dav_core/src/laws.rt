@@ -1,7 +1,13 @@
-//! Laws of paths. Each function does nothing: its contract is a theorem on the definitions.
+//! Laws of paths, worlds, locks and methods. Each function does nothing, or answers constants: its contract is a
+//! theorem on the definitions.
 pub mod calls;
 
-ghost use Rattle.dav_core.specs.Laws.{LeavesOnePath, LeavesNoFault, OneFault, ReadsOnePath, ReadIsNotRefused, OneRefusal, KeepsNames, ReadsNames, StarHasNoNames, ReadsAgain, NamesReadAgain, SameText, SlashKeepsNames, AddsName, ParentOfNames, EmptyIsWorld, NewKeepsWorld, ChangeKeepsWorld};
+ghost use Rattle.std.specs.Prelude.{◌≡◌, [], ◌∷◌};
+ghost use Rattle.dav_core.specs.Laws.{LeavesOnePath, LeavesNoFault, OneFault, ReadsOnePath, ReadIsNotRefused, OneRefusal, KeepsNames, ReadsNames, StarHasNoNames, ReadsAgain, NamesReadAgain, SameText, SlashKeepsNames, AddsName, ParentOfNames, EmptyIsWorld, NewKeepsWorld, ChangeKeepsWorld, OneMethod, NameNames, MembersAreHad, SameMethodsSameSet};
+ghost use Rattle.dav_core.specs.LockLaws.{FreeHoldsExclusive, FreeDeepHoldsBelow, FreeIsNothingInTheWay, GrantedCanBeUnlocked};
+ghost use Rattle.dav_core.specs.Method.{all_methods, members};
+
+use crate::method::{DavMethod, DavMethodSet};
 
 /// A text is read as one path at most, and refused for one reason at most, and not both: the pieces between slashes
 /// leave one path, or the first of them that refuses decides (RFC 3986, sections 3.3 and 5.2.4).
@@ -47,3 +53,38 @@ pub fn worlds_are_kept()
     ensures made { NewKeepsWorld }
     ensures changed { ChangeKeepsWorld }
 {}
+
+/// Where a path is free, whoever asks holds each exclusive lock that covers it, and for a deep question each lock at it
+/// and below it (RFC 4918, sections 6.1 and 7.5); it is free exactly where no lock stands in the way. A lock that was
+/// just granted can be taken back.
+pub fn free_paths_are_held()
+    ensures exclusive { FreeHoldsExclusive }
+    ensures below { FreeDeepHoldsBelow }
+    ensures way { FreeIsNothingInTheWay }
+    ensures granted { GrantedCanBeUnlocked }
+{}
+
+/// A name is that of one method. A set is known by its methods: two that have the same ones are equal.
+pub fn sets_are_their_methods()
+    ensures name { NameNames }
+    ensures one_method { OneMethod }
+    ensures members { MembersAreHad }
+    ensures one_set { SameMethodsSameSet }
+{}
+
+/// The sets that are constants, HTTP_RO, HTTP_RW, WEBDAV_RO and WEBDAV_RW: their methods, and the numbers that they
+/// are kept as.
+pub fn constant_sets() -> (DavMethodSet, DavMethodSet, DavMethodSet, DavMethodSet)
+    ensures bits { result ≡ (19, 23, 51, 65535) }
+    ensures http_ro { members result.0 ≡ DavMethod.Head ∷ DavMethod.Get ∷ DavMethod.Options ∷ [] }
+    ensures http_rw { members result.1 ≡ DavMethod.Head ∷ DavMethod.Get ∷ DavMethod.Put ∷ DavMethod.Options ∷ [] }
+    ensures webdav_ro { members result.2 ≡ DavMethod.Head ∷ DavMethod.Get ∷ DavMethod.Options ∷ DavMethod.PropFind ∷ [] }
+    ensures webdav_rw { members result.3 ≡ all_methods }
+{
+    (
+        DavMethodSet::HTTP_RO,
+        DavMethodSet::HTTP_RW,
+        DavMethodSet::WEBDAV_RO,
+        DavMethodSet::WEBDAV_RW,
+    )
+}

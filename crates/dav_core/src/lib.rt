@@ -2,6 +2,10 @@
 #![tactic(auto)]
 
 pub mod davpath;
+pub mod davprop;
+pub mod element;
 pub mod errors;
 pub mod fs;
 pub mod laws;
+pub mod ls;
+pub mod method;

@@ -109,21 +109,39 @@ fn cuts_prefixes(rt: HostRuntime) -> Result<(), Fail> {
     path.set_prefix("/dav")?;
     assert_eq!(rt; path.as_bytes(), b"/x/y/".as_slice());
     assert_eq!(rt; path.with_prefix().as_bytes(), b"/dav/x/y/".as_slice());
+    assert_eq!(rt; path.prefix(), "/dav");
     let parent = path.parent()?;
     assert_eq!(rt; parent.as_bytes(), b"/x/".as_slice());
     assert_eq!(rt; parent.with_prefix().as_bytes(), b"/dav/x/".as_slice());
     let cases = [
-        ("/dav", "/dav", "/"),
-        ("/dav", "/dav/", "/"),
-        ("/dav/", "/dav/", "/"),
-        ("/dav/a", "/dav/", "/a"),
-        ("/dav/a", "", "/dav/a"),
-        ("/dav/a", "/", "/dav/a"),
+        ("/dav", "/dav", "/dav", "/"),
+        ("/dav", "/dav/", "/dav", "/"),
+        ("/dav/", "/dav/", "/dav", "/"),
+        ("/dav/a", "/dav/", "/dav", "/a"),
+        ("/dav/a", "", "", "/dav/a"),
+        ("/dav/a", "/", "", "/dav/a"),
+        ("/%c3%a9/a", "/\u{e9}/", "/\u{e9}", "/a"),
     ];
-    for (text, prefix, bytes) in cases {
+    for (text, prefix, kept, bytes) in cases {
         let mut path = DavPath::new(alloc, text)?;
+        assert_eq!(rt; path.prefix(), "");
         path.set_prefix(prefix)?;
+        assert_eq!(rt; path.prefix(), kept, "{text} {prefix}");
         assert_eq!(rt; path.as_bytes(), bytes.as_bytes(), "{text} {prefix}");
+    }
+    Ok(())
+}
+
+#[test]
+fn takes_paths_of_uris(rt: HostRuntime) -> Result<(), Fail> {
+    let alloc = rt.alloc();
+    for (text, bytes) in [
+        ("/%64/./a", "/%64/./a"),
+        ("http://host:80/x/../%2F?q", "/x/../%2F"),
+    ] {
+        let path = DavPath::from_uri(alloc, &Uri::from_bytes(alloc, text.as_bytes())?)?;
+        assert_eq!(rt; path.as_bytes(), bytes.as_bytes(), "{text}");
+        assert_eq!(rt; path.prefix(), "", "{text}");
     }
     Ok(())
 }

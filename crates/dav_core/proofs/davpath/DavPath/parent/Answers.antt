@@ -7,7 +7,7 @@ use Rattle.dav_core.proofs.davpath.DavPath.parent.Goals as goal
 pub slice_bounds-from_slice-end : goal.slice_bounds-from_slice-end
 slice_bounds-from_slice-end c =
     let bytes : c.as_bytes.result.now ≡ parent_bytes (drop c.self.inside.prefix_len c.self.inside.full.items) = search rules in
-    let within = parent_within c.self.inside.full.items c.self.inside.prefix_len c.self.invariant in
+    let within = parent_within c.self.inside.full.items c.self.inside.prefix_len c.self.invariant.0 in
     rw (c.deref.ensures.value, bytes) (sym (length-take-le _ _ within))
 
 pub returns : goal.returns

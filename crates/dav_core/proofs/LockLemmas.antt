@@ -1,0 +1,149 @@
+-- Lists of locks.
+use Rattle.std.proofs.Common.{◌≡◌, ℕ, if◌then◌else◌, ◌++◌, ◌∷◌, [], Bool, true, false, not, ◌&&◌, ◌||◌, List, Contains, map, cond, bytes_eq, Option, Some, None, refl, sym, ap, subst, ◌∙◌, arith}
+use Rattle.std.specs.List.{list_all, list_any, flat_map, find as first}
+use Rattle.std.proofs.lemmas.List.Sums.{AllPass-from_list_all}
+use Rattle.std.specs.Option.{is_some, option_map}
+use Rattle.std.specs.Ordering.{is_eq}
+use Rattle.std.specs.Cmp.{tied_itself}
+use Rattle.std.specs.Cmp.Lexicographic.{lists_total, nat_list_cmp_total}
+use Rattle.std.proofs.lemmas.List.Folds.{list_any-append}
+use Rattle.std.proofs.lemmas.Map.Text.{is_eq-slice_cmp}
+use Rattle.std.proofs.lemmas.List.Elements.{All-contains}
+use Rattle.dav_core.specs.Path.{Path, names, is_at_or_below, is_same_path, fronts}
+use Rattle.dav_core.specs.Locks.{Lock, Asker, covers, is_held, is_free, is_free_deep, is_free_for, is_in_the_way, is_named, lock_front, unlocked, without_first, discovered}
+use Rattle.dav_core.specs.LockLaws.{FreeHoldsExclusive, FreeDeepHoldsBelow, FreeIsNothingInTheWay, GrantedCanBeUnlocked}
+
+-- what passes for all of a list passes for one of it
+passes : {X : Type 0} (test : X → Bool) (xs : List X) (x : X) → list_all test xs ≡ true → Contains xs x → test x ≡ true
+passes test xs x all here = All-contains (λ y. test y ≡ true) xs x (AllPass-from_list_all test xs all) here
+
+both : (a b : Bool) → (a && b) ≡ true → (a ≡ true) × (b ≡ true)
+both true b h = (refl, h)
+both false b h = cc
+
+is_exclusive_held : (h s c : Bool) → (h || s || not c) ≡ true → c ≡ true → s ≡ false → h ≡ true
+is_exclusive_held true s c passed covering exclusive = refl
+is_exclusive_held false s c passed covering exclusive = grind arith
+
+pub free_holds_exclusive : FreeHoldsExclusive
+free_holds_exclusive who p ls l free here covering exclusive =
+    is_exclusive_held (is_held who l) l.shared (covers l p) (passes (λ m. is_held who m || m.shared || not (covers m p)) ls l (both _ _ free).0 here) covering exclusive
+
+is_below_held : (h a : Bool) → (h || not a) ≡ true → a ≡ true → h ≡ true
+is_below_held true a passed below = refl
+is_below_held false a passed below = grind arith
+
+pub free_deep_holds_below : FreeDeepHoldsBelow
+free_deep_holds_below who p ls l free here below =
+    is_below_held (is_held who l) (is_at_or_below p (names l.path)) (passes (λ m. is_held who m || not (is_at_or_below p (names m.path))) ls l (both _ _ free).1 here) below
+
+-- one lock of the list: it stands in the way neither by covering nor by being below
+parted_step : (h s c a b deep all covered below : Bool)
+    → all ≡ (covered && (not deep || below))
+    → (not (not h && ((c && (not s || not b)) || (deep && a))) && all) ≡ (((h || (s && b) || not c) && covered) && (not deep || ((h || not a) && below)))
+parted_step h s c a b deep all covered below e = grind arith
+
+-- no lock stands in the way: none by covering the path, and for a deep question none by being at it or below it
+parted : (deep : Bool) (who : Asker) (p : Path) (b : Bool) (ls : List Lock)
+    → list_all (λ l. not (not (is_held who l) && ((covers l p && (not l.shared || not b)) || (deep && is_at_or_below p (names l.path))))) ls
+    ≡ (list_all (λ l. is_held who l || (l.shared && b) || not (covers l p)) ls && (not deep || list_all (λ l. is_held who l || not (is_at_or_below p (names l.path))) ls))
+parted true who p b [] = refl
+parted false who p b [] = refl
+parted deep who p b (l ∷ ls) =
+    parted_step (is_held who l) l.shared (covers l p) (is_at_or_below p (names l.path)) b deep _ _ _ (parted deep who p b ls)
+
+-- where some lock is held that covers the path, shared ones don't stand in the way
+with_one_held : (who : Asker) (p : Path) (ls : List Lock)
+    → list_all (λ l. is_held who l || (l.shared && true) || not (covers l p)) ls ≡ list_all (λ l. is_held who l || l.shared || not (covers l p)) ls
+with_one_held who p [] = refl
+with_one_held who p (l ∷ ls) =
+    let step : (h s c x y : Bool) → x ≡ y → ((h || (s && true) || not c) && x) ≡ ((h || s || not c) && y) = λ h s c x y e. grind arith in
+    step (is_held who l) l.shared (covers l p) _ _ (with_one_held who p ls)
+
+without_step : (h s c x y any held : Bool) → ((c && h) || held) ≡ false → (held ≡ false → x ≡ (y && not any))
+    → ((h || (s && false) || not c) && x) ≡ (((h || s || not c) && y) && not (c || any))
+without_step h s c x y any false none e = let e : x ≡ (y && not any) = e refl in grind arith
+without_step h s c x y any true none e = grind arith
+
+-- where none is held that covers it, each covering lock stands in the way
+with_none_held : (who : Asker) (p : Path) (ls : List Lock)
+    → list_any (λ l. covers l p && is_held who l) ls ≡ false
+    → list_all (λ l. is_held who l || (l.shared && false) || not (covers l p)) ls ≡ (list_all (λ l. is_held who l || l.shared || not (covers l p)) ls && not (list_any (λ l. covers l p) ls))
+with_none_held who p [] none = refl
+with_none_held who p (l ∷ ls) none =
+    without_step (is_held who l) l.shared (covers l p) _ _ _ _ none (with_none_held who p ls)
+
+covering_step : (b : Bool) (who : Asker) (p : Path) (ls : List Lock)
+    → list_any (λ l. covers l p && is_held who l) ls ≡ b
+    → list_all (λ l. is_held who l || (l.shared && b) || not (covers l p)) ls ≡ is_free who p ls
+covering_step true who p ls some =
+    let step : (x y any held : Bool) → x ≡ y → held ≡ true → x ≡ (y && (held || not any)) = λ x y any held e f. grind arith in
+    step _ _ _ _ (with_one_held who p ls) some
+covering_step false who p ls none =
+    let step : (x y any held : Bool) → x ≡ (y && not any) → held ≡ false → x ≡ (y && (held || not any)) = λ x y any held e f. grind arith in
+    step _ _ _ _ (with_none_held who p ls none) none
+
+deep_step : (deep x free below : Bool) → x ≡ (free && (not deep || below)) → (if deep then (free && below) else free) ≡ x
+deep_step true x free below e = sym e
+deep_step false x free below e = grind arith
+
+pub free_is_nothing_in_the_way : FreeIsNothingInTheWay
+free_is_nothing_in_the_way deep who p ls =
+    deep_step deep _ _ _ (parted deep who p _ ls ∙ ap (λ x. x && (not deep || list_all (λ l. is_held who l || not (is_at_or_below p (names l.path))) ls)) (covering_step _ who p ls refl))
+
+some_of_cond : {X : Type 0} (b : Bool) (x : X) (o : Option X) → (b || is_some o) ≡ true → is_some (cond b (Some x) o) ≡ true
+some_of_cond true x o h = refl
+some_of_cond false x o h = h
+
+some_mapped : (f : Path → Path) (test : Path → Bool) (ps : List Path) → is_some (first (λ q. test (f q)) ps) ≡ true → is_some (first test (map f ps)) ≡ true
+some_mapped f test [] h = h
+some_mapped f test (p ∷ ps) h =
+    elim (test (f p)) as (λ b. is_some (cond b (Some p) (first (λ q. test (f q)) ps)) ≡ true → is_some (cond b (Some (f p)) (first test (map f ps))) ≡ true) [
+      | true ↦ λ _. refl
+      | false ↦ some_mapped f test ps
+    ] h
+
+-- where the whole path passes, some front of it does
+some_front : (p : Path) (test : Path → Bool) → test p ≡ true → is_some (first test (fronts p)) ≡ true
+some_front [] test h = some_of_cond (test []) [] None (grind arith)
+some_front (x ∷ p) test h =
+    let more = some_mapped (λ q. x ∷ q) test (fronts p) (some_front p (λ q. test (x ∷ q)) h) in
+    some_of_cond (test []) [] _ (grind arith)
+
+some_of_map : {X Y : Type 0} (f : X → Y) (o : Option X) → is_some o ≡ true → is_some (option_map f o) ≡ true
+some_of_map f None h = cc
+some_of_map f (Some x) h = refl
+
+path_itself : (p : Path) → is_same_path p p ≡ true
+path_itself p = ap is_eq (tied_itself (lists_total nat_list_cmp_total) p)
+
+pub granted_can_be_unlocked : GrantedCanBeUnlocked
+granted_can_be_unlocked l ls =
+    let token : bytes_eq l.token l.token ≡ true = sym (is_eq-slice_cmp l.token l.token) ∙ ap is_eq (tied_itself nat_list_cmp_total l.token) in
+    let named : is_named l.token (names l.path) l ≡ true = ap (λ b. b && is_same_path (names l.path) (names l.path)) token ∙ path_itself (names l.path) in
+    let any : list_any (is_named l.token (names l.path)) (ls ++ l ∷ []) ≡ true = list_any-append (is_named l.token (names l.path)) ls (l ∷ []) ∙ grind arith in
+    some_of_map _ _ (some_front (names l.path) (λ q. list_any (is_named l.token q) (ls ++ l ∷ [])) any)
+
+abbrev no_locks : List Lock
+no_locks = []
+
+-- without locks none is meant by a token and a path
+none_among : {X : Type 0} (xs : List X) → first (λ x. false) xs ≡ None
+none_among [] = refl
+none_among (x ∷ xs) = none_among xs
+
+pub none_is_named : (token : List ℕ) (p : Path) → unlocked token p [] ≡ None
+none_is_named token p = ap (option_map (λ q. without_first (is_named token q) [])) (none_among (fronts p))
+
+none_for_each : {X : Type 0} (xs : List X) → flat_map (λ (x : X). no_locks) xs ≡ no_locks
+none_for_each [] = refl
+none_for_each (x ∷ xs) = none_for_each xs
+
+-- and none is discovered
+pub none_is_discovered : (p : Path) → discovered p [] ≡ []
+none_is_discovered p = none_for_each (fronts p)
+
+-- without locks every path is free
+pub all_is_free : (deep : Bool) (who : Asker) (p : Path) → is_free_for deep who p [] ≡ true
+all_is_free true who p = refl
+all_is_free false who p = refl

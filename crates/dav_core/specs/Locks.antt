@@ -1,0 +1,140 @@
+-- Write locks (RFC 4918, sections 6 and 7): one list, in order of granting.
+use Rattle.std.specs.Prelude.{◌≡◌, ℕ, ◌+◌, ◌&&◌, ◌||◌, Bool, true, false, not, if◌then◌else◌, bytes_eq, List, [], ◌∷◌, ◌++◌, Contains, Option, Some, None, Result, Ok, Err}
+use denote.Ref.{Bor}
+use Rattle.std.specs.List.{filter, flat_map, list_any, list_all, find as first}
+use Rattle.std.specs.Option.{option_map, option_and_then, option_eq}
+use Rattle.dav_core.specs.Element.{ElementTree}
+use Rattle.dav_core.specs.Path.{Path, PathText, names, is_same_path, is_below, is_at_or_below, fronts}
+
+-- A lock: its token, the path that it is on, whose it is, what its owner said of itself, when it ends and after how
+-- many seconds it was to, whether it is shared, and whether it is on all that is below its path too.
+pub record Lock : Type 0 where
+  pub token : List ℕ
+  pub path : PathText
+  pub principal : Option (List ℕ)
+  pub owner : Option ElementTree
+  pub timeout_at : Option ℕ
+  pub timeout : Option ℕ
+  pub shared : Bool
+  pub deep : Bool
+
+-- a lock covers its path, and where it is deep all that is below it
+abbrev pub covers : Lock → Path → Bool
+covers l p = is_same_path (names l.path) p || (l.deep && is_below (names l.path) p)
+
+-- Who asks: the tokens that are submitted, and whose they are to be; none where the principal isn't looked at.
+pub record Asker : Type 0 where
+  pub tokens : List (List ℕ)
+  pub principal : Option (Option (List ℕ))
+
+-- who submits these tokens, with a principal that is ignored or looked at
+abbrev pub asker_of : List (List ℕ) → Bool → Option (List ℕ) → Asker
+asker_of tokens ignored principal = record { tokens = tokens; principal = if ignored then None else Some principal }
+
+abbrev pub is_same_principal : Option (List ℕ) → Option (List ℕ) → Bool
+is_same_principal = option_eq bytes_eq
+
+abbrev pub is_of : Option (Option (List ℕ)) → Lock → Bool
+is_of None l = true
+is_of (Some principal) l = is_same_principal l.principal principal
+
+-- a lock is held by who submits its token, and is its principal where that is looked at
+abbrev pub is_held : Asker → Lock → Bool
+is_held who l = list_any (bytes_eq l.token) who.tokens && is_of who.principal l
+
+-- A path is free: every exclusive lock that covers it is held, and some lock that covers it is held unless none does.
+abbrev pub is_free : Asker → Path → List Lock → Bool
+is_free who p ls =
+    list_all (λ l. is_held who l || l.shared || not (covers l p)) ls
+    && (list_any (λ l. covers l p && is_held who l) ls || not (list_any (λ l. covers l p) ls))
+
+-- it is free deeply: it is free, and every lock at it or below it is held
+abbrev pub is_free_deep : Asker → Path → List Lock → Bool
+is_free_deep who p ls = is_free who p ls && list_all (λ l. is_held who l || not (is_at_or_below p (names l.path))) ls
+
+abbrev pub is_free_for : Bool → Asker → Path → List Lock → Bool
+is_free_for deep who p ls = if deep then is_free_deep who p ls else is_free who p ls
+
+-- A lock stands in the way: it isn't held, and covers the path, exclusively or with no covering lock held; or it is
+-- at the path or below it, and that is asked too.
+abbrev pub is_in_the_way : Bool → Asker → Path → List Lock → Lock → Bool
+is_in_the_way deep who p ls l =
+    not (is_held who l)
+    && ((covers l p && (not l.shared || not (list_any (λ m. covers m p && is_held who m) ls)))
+    || (deep && is_at_or_below p (names l.path)))
+
+-- The answer to the question whether a path is free: yes, or one lock that stands in the way.
+pub data Checks (deep : Bool) (who : Asker) (p : Path) (ls : List Lock) : Result (Unit {0}) Lock → Type 0 where
+  free : is_free_for deep who p ls ≡ true → Checks deep who p ls (Ok tt)
+  in_the_way : {l : Lock} → Contains ls l → is_in_the_way deep who p ls l ≡ true → Checks deep who p ls (Err l)
+
+-- an answer that lends its lock
+abbrev pub lent : Result (Unit {0}) (Bor Lock) → Result (Unit {0}) Lock
+lent (Ok u) = Ok u
+lent (Err l) = Err l.now
+
+-- A lock may be granted: an exclusive one where no lock covers its path, a shared one where no exclusive lock does;
+-- and a deep one where no lock is below its path either.
+abbrev pub is_grantable : Lock → List Lock → Bool
+is_grantable new ls =
+    not (list_any (λ l. covers l (names new.path) && not (l.shared && new.shared)) ls)
+    && not (new.deep && list_any (λ l. is_below (names new.path) (names l.path)) ls)
+
+-- when a lock ends that is to end after so many seconds
+abbrev pub ends_at : ℕ → Option ℕ → Option ℕ
+ends_at now timeout = option_map (λ seconds. now + seconds) timeout
+
+-- a lock as it is granted
+abbrev pub new_lock : List ℕ → PathText → Option (List ℕ) → Option ElementTree → Option ℕ → Bool → Bool → ℕ → Lock
+new_lock token path principal owner timeout shared deep now = record {
+  token = token;
+  path = path;
+  principal = principal;
+  owner = owner;
+  timeout_at = ends_at now timeout;
+  timeout = timeout;
+  shared = shared;
+  deep = deep;
+}
+
+-- the lock with a new timeout; it stays the lock that it was
+abbrev pub refreshed_lock : Option ℕ → ℕ → Lock → Lock
+refreshed_lock timeout now l = record l { timeout_at = ends_at now timeout; timeout = timeout }
+
+-- it has this token and this path
+abbrev pub is_named : List ℕ → Path → Lock → Bool
+is_named token p l = bytes_eq l.token token && is_same_path (names l.path) p
+
+-- A token and a path mean a lock with the token at a front of the path: the shortest such front.
+abbrev pub lock_front : List ℕ → Path → List Lock → Option Path
+lock_front token p ls = first (λ q. list_any (is_named token q) ls) (fronts p)
+
+-- and the first that was granted there
+abbrev pub named_lock : List ℕ → Path → List Lock → Option Lock
+named_lock token p ls = option_and_then (λ q. first (is_named token q) ls) (lock_front token p ls)
+
+-- the first lock that passes the test left out
+abbrev pub without_first : (Lock → Bool) → List Lock → List Lock
+without_first test [] = []
+without_first test (l ∷ ls) = if test l then ls else l ∷ without_first test ls
+
+-- the first lock that passes the test changed
+abbrev pub change_first_lock : (Lock → Bool) → (Lock → Lock) → List Lock → List Lock
+change_first_lock test f [] = []
+change_first_lock test f (l ∷ ls) = if test l then f l ∷ ls else l ∷ change_first_lock test f ls
+
+-- the list without the lock that is meant; none where none is
+abbrev pub unlocked : List ℕ → Path → List Lock → Option (List Lock)
+unlocked token p ls = option_map (λ q. without_first (is_named token q) ls) (lock_front token p ls)
+
+-- the list with a new timeout of the lock that is meant; none where none is
+abbrev pub refreshed : List ℕ → Path → Option ℕ → ℕ → List Lock → Option (List Lock)
+refreshed token p timeout now ls = option_map (λ q. change_first_lock (is_named token q) (refreshed_lock timeout now) ls) (lock_front token p ls)
+
+-- the locks that cover a path, the shortest path first, and of one path the first that was granted
+abbrev pub discovered : Path → List Lock → List Lock
+discovered p ls = flat_map (λ q. filter (λ l. is_same_path (names l.path) q && covers l p) ls) (fronts p)
+
+-- the list without the locks at a path and below it
+abbrev pub deleted : Path → List Lock → List Lock
+deleted p ls = filter (λ l. not (is_at_or_below p (names l.path))) ls

@@ -1,0 +1,69 @@
+//! Properties of a resource (RFC 4918, section 4).
+use crate::element::Element;
+use crate::errors::NoMemory;
+use std::alloc::Global;
+use std::marker::Model;
+
+/// A property: its name, prefix and namespace, and its element where its value is given.
+#[derive(Debug, Drop)]
+pub struct DavProp {
+    /// The name, without its prefix.
+    pub name: String,
+    /// The prefix of the name.
+    pub prefix: Option<String>,
+    /// The namespace of the name; none and an empty one are the same.
+    pub namespace: Option<String>,
+    /// The element that holds the value.
+    pub xml: Option<Element>,
+}
+
+impl Model for DavProp {
+    ghost use Rattle.dav_core.specs.Property.{Property};
+    ghost use Rattle.dav_core.specs.PropertyCode.{coded_property};
+
+    ghost Value = { Property };
+
+    ghost coded = { coded_property };
+
+    ghost use Rattle.dav_core.specs.PropertyView.{property_of};
+
+    ghost view = { property_of };
+}
+
+impl DavProp {
+    ghost use Rattle.std.specs.Prelude.{◌≡◌, IfOk};
+    ghost use Rattle.dav_core.specs.Property.{text_property};
+
+    /// A property whose element has that name, prefix and namespace, the attribute `xmlns:` and the prefix (`xmlns` for
+    /// an empty prefix) with the namespace, and the value as its one text.
+    pub fn new(alloc: Global, name: &str, prefix: &str, namespace: &str, value: &str) -> Result<DavProp, NoMemory>
+        ensures { IfOk result (λ p. p ≡ text_property name.now prefix.now namespace.now value.now) }
+    {
+        let mut xml = Element::new(alloc, name)?;
+        xml.prefix = Some(String::from_str(alloc, prefix)?);
+        xml.namespace = Some(String::from_str(alloc, namespace)?);
+        xml.ns(prefix, namespace)?;
+        xml.text(value)?;
+        Ok(DavProp {
+            name: String::from_str(alloc, name)?,
+            prefix: Some(String::from_str(alloc, prefix)?),
+            namespace: Some(String::from_str(alloc, namespace)?),
+            xml: Some(xml),
+        })
+    }
+}
+
+impl Clone for DavProp {
+    ghost use Rattle.std.specs.Prelude.{◌≡◌};
+
+    ghost is_clone = { λ a b. a ≡ b };
+
+    fn clone(&self) -> Result<DavProp, NoMemory> {
+        Ok(DavProp {
+            name: self.name.clone()?,
+            prefix: self.prefix.clone()?,
+            namespace: self.namespace.clone()?,
+            xml: self.xml.clone()?,
+        })
+    }
+}

@@ -1,0 +1,337 @@
+ghost use Rattle.std.specs.Prelude.{◌≡◌, true};
+ghost use Rattle.std.specs.Result.{IsErrOf};
+ghost use Rattle.dav_core.specs.Path.{names, is_root};
+
+use super::*;
+use std::test::Fail;
+
+#[test]
+fn shows_tags(rt: HostRuntime) -> Result<(), Fail> {
+    let meta = DavMetaData {
+        len: 3,
+        dir: false,
+        created: 1,
+        modified: 2,
+        number: Some(255),
+    };
+    assert_eq!(rt; meta.tag(rt.alloc())?.as_deref(), Some("\"ff\""));
+    let without = DavMetaData {
+        number: None,
+        ..meta
+    };
+    assert_eq!(rt; without.tag(rt.alloc())?.as_deref(), None);
+    Ok(())
+}
+
+#[test]
+fn tells_what_it_is(rt: HostRuntime) {
+    let file = DavMetaData {
+        len: 3,
+        dir: false,
+        created: 1,
+        modified: 2,
+        number: None,
+    };
+    assert!(rt; file.is_file() && !file.is_dir() && !file.is_symlink() && !file.is_empty());
+    let folder = DavMetaData {
+        len: 0,
+        dir: true,
+        ..file
+    };
+    assert!(rt; folder.is_dir() && !folder.is_file() && !folder.is_symlink() && folder.is_empty());
+    assert_eq!(rt; file.accessed(), Err(FsError::NotImplemented));
+    assert_eq!(rt; file.status_changed(), Err(FsError::NotImplemented));
+    assert_eq!(rt; file.executable(), Err(FsError::NotImplemented));
+}
+
+#[test]
+fn opens_for_one_thing(rt: HostRuntime) -> Result<(), Fail> {
+    let none = OpenOptions::default();
+    assert!(rt;
+        !none.read
+            && !none.write
+            && !none.append
+            && !none.truncate
+            && !none.create
+            && !none.create_new
+    );
+    assert!(rt; none.size.is_none() && none.checksum.is_none());
+    let read = OpenOptions::read();
+    assert!(rt;
+        read.read
+            && !read.write
+            && !read.append
+            && !read.truncate
+            && !read.create
+            && !read.create_new
+    );
+    let write = OpenOptions::write();
+    assert!(rt;
+        !write.read
+            && write.write
+            && !write.append
+            && !write.truncate
+            && !write.create
+            && !write.create_new
+    );
+    let sum = OpenOptions {
+        checksum: Some(String::from_str(rt.alloc(), "SHA1:ab")?),
+        size: Some(7),
+        ..write
+    };
+    let copy = sum.clone()?;
+    assert_eq!(rt; copy.checksum.as_deref(), Some("SHA1:ab"));
+    assert_eq!(rt; copy.size, Some(7));
+    assert!(rt; copy.write && !copy.read);
+    Ok(())
+}
+
+// A store that holds the root alone, and has no memory to give.
+#[derive(Drop)]
+struct EmptyFs {
+    short: bool,
+}
+
+#[derive(Drop)]
+enum NoFile {}
+
+#[derive(Drop)]
+enum NoEntry {}
+
+impl DavDirEntry for NoEntry {
+    ghost use Rattle.std.specs.Prelude.{[], false};
+
+    ghost entry_folder = { λ e. [] };
+
+    ghost entry_name = { λ e. [] };
+
+    ghost entry_dir = { λ e. false };
+
+    fn name(&self) -> &[u8] {
+        match *self {}
+    }
+
+    fn is_dir(&self) -> bool {
+        match *self {}
+    }
+}
+
+impl EmptyFs {
+    // There is no memory.
+    fn wants<T>(&mut self) -> FsResult<T>
+        ensures short { self.new.short ≡ true }
+        ensures err { IsErrOf result FsError.InsufficientStorage }
+    {
+        self.short = true;
+        Err(FsError::InsufficientStorage)
+    }
+}
+
+// Whether the path is the root.
+fn is_root(path: &DavPath) -> bool
+    ensures { result ≡ is_root (names path.now) }
+{
+    path.segments().next().is_none()
+}
+
+impl DavFileSystem for EmptyFs {
+    type File = NoFile;
+
+    type Entry = NoEntry;
+
+    ghost use Rattle.std.specs.Prelude.{[], false};
+    ghost use Rattle.dav_core.specs.World.{empty_from};
+
+    ghost state = { λ s. record { world = empty_from 1; refusals = []; short = s.short } };
+
+    ghost handle = { λ f. record { made = 0; position = 0; reads = false; writes = false; appends = false } };
+
+    fn open(
+        &mut self,
+        _alloc: Global,
+        _path: &DavPath,
+        _options: &OpenOptions,
+        _now: u64,
+    ) -> FsResult<NoFile> {
+        self.wants()
+    }
+
+    fn read_dir(
+        &mut self,
+        alloc: Global,
+        path: &DavPath,
+        _meta: ReadDirMeta,
+    ) -> FsResult<Vec<NoEntry>> {
+        if is_root(path) {
+            Ok(Vec::new(alloc))
+        } else {
+            Err(FsError::NotFound)
+        }
+    }
+
+    fn entry_metadata(&mut self, entry: &NoEntry) -> FsResult<DavMetaData> {
+        match *entry {}
+    }
+
+    fn metadata(&mut self, path: &DavPath) -> FsResult<DavMetaData> {
+        if is_root(path) {
+            Ok(DavMetaData {
+                len: 0,
+                dir: true,
+                created: 0,
+                modified: 0,
+                number: Some(0),
+            })
+        } else {
+            Err(FsError::NotFound)
+        }
+    }
+
+    fn create_dir(&mut self, _alloc: Global, _path: &DavPath, _now: u64) -> FsResult<()> {
+        self.wants()
+    }
+
+    fn remove_dir(&mut self, path: &DavPath, _now: u64) -> FsResult<()> {
+        if is_root(path) {
+            Err(FsError::Forbidden)
+        } else {
+            Err(FsError::NotFound)
+        }
+    }
+
+    fn remove_file(&mut self, path: &DavPath, _now: u64) -> FsResult<()> {
+        if is_root(path) {
+            Err(FsError::Forbidden)
+        } else {
+            Err(FsError::NotFound)
+        }
+    }
+
+    fn rename(
+        &mut self,
+        _alloc: Global,
+        _from: &DavPath,
+        _to: &DavPath,
+        _now: u64,
+    ) -> FsResult<()> {
+        self.wants()
+    }
+
+    fn copy(&mut self, _alloc: Global, _from: &DavPath, _to: &DavPath, _now: u64) -> FsResult<()> {
+        self.wants()
+    }
+
+    fn have_props(&mut self, _path: &DavPath) -> bool {
+        true
+    }
+
+    fn patch_props(
+        &mut self,
+        _alloc: Global,
+        _path: &DavPath,
+        _patches: Vec<(bool, DavProp)>,
+    ) -> FsResult<Vec<(StatusCode, DavProp)>> {
+        self.wants()
+    }
+
+    fn get_props(
+        &mut self,
+        _alloc: Global,
+        _path: &DavPath,
+        _content: bool,
+    ) -> FsResult<Vec<DavProp>> {
+        self.wants()
+    }
+
+    fn get_prop(
+        &mut self,
+        _alloc: Global,
+        _path: &DavPath,
+        _property: &DavProp,
+    ) -> FsResult<Element> {
+        self.wants()
+    }
+
+    fn get_quota(&mut self) -> FsResult<(u64, Option<u64>)> {
+        Err(FsError::NotImplemented)
+    }
+
+    fn set_accessed(&mut self, _path: &DavPath, _time: u64) -> FsResult<()> {
+        Err(FsError::NotImplemented)
+    }
+
+    fn set_modified(&mut self, _path: &DavPath, _time: u64) -> FsResult<()> {
+        Err(FsError::NotImplemented)
+    }
+
+    fn read_bytes(&mut self, _alloc: Global, file: &mut NoFile, _count: usize) -> FsResult<Bytes> {
+        match *file {}
+    }
+
+    fn write_bytes(
+        &mut self,
+        _alloc: Global,
+        file: &mut NoFile,
+        _bytes: Bytes,
+        _now: u64,
+    ) -> FsResult<()> {
+        match *file {}
+    }
+
+    fn write_buf<B: Buf + Drop>(
+        &mut self,
+        _alloc: Global,
+        file: &mut NoFile,
+        _buf: B,
+        _now: u64,
+    ) -> FsResult<()> {
+        match *file {}
+    }
+
+    fn seek(&mut self, file: &mut NoFile, _to: SeekFrom) -> FsResult<u64> {
+        match *file {}
+    }
+
+    fn flush(&mut self, file: &mut NoFile) -> FsResult<()> {
+        match *file {}
+    }
+
+    fn file_metadata(&mut self, file: &NoFile) -> FsResult<DavMetaData> {
+        match *file {}
+    }
+
+    fn was_short(&self) -> bool {
+        self.short
+    }
+}
+
+// How many members a folder has, of any store.
+fn members_of<F: DavFileSystem>(fs: &mut F, alloc: Global, path: &DavPath) -> FsResult<usize> {
+    let entries = fs.read_dir(alloc, path, ReadDirMeta::DataSymlink)?;
+    Ok(entries.len())
+}
+
+#[test]
+fn asks_a_store(rt: HostRuntime) -> Result<(), Fail> {
+    let mut fs = EmptyFs { short: false };
+    let root = DavPath::new(rt.alloc(), "/")?;
+    let missing = DavPath::new(rt.alloc(), "/a")?;
+    assert_eq!(rt; members_of(&mut fs, rt.alloc(), &root), Ok(0));
+    assert_eq!(rt;
+        members_of(&mut fs, rt.alloc(), &missing),
+        Err(FsError::NotFound)
+    );
+    assert_eq!(rt; fs.metadata(&root).map(|m| m.dir), Ok(true));
+    assert_eq!(rt;
+        fs.symlink_metadata(&missing).map(|m| m.dir),
+        Err(FsError::NotFound)
+    );
+    assert_eq!(rt; fs.remove_dir(&root, 1), Err(FsError::Forbidden));
+    assert!(rt; !fs.was_short());
+    assert_eq!(rt;
+        fs.create_dir(rt.alloc(), &missing, 1),
+        Err(FsError::InsufficientStorage)
+    );
+    assert!(rt; fs.was_short());
+    Ok(())
+}

@@ -1,0 +1,94 @@
+use super::*;
+use std::test::Fail;
+
+// A list that stays empty: there is no memory for a lock.
+#[derive(Drop)]
+struct NoLocks {}
+
+impl DavLockSystem for NoLocks {
+    ghost use Rattle.std.specs.Prelude.{[]};
+
+    ghost locks = { λ s. [] };
+
+    fn lock(
+        &mut self,
+        _alloc: Global,
+        _path: &DavPath,
+        _principal: Option<&str>,
+        _owner: Option<&Element>,
+        _timeout: Option<u64>,
+        _shared: bool,
+        _deep: bool,
+        _token: &str,
+        _now: u64,
+    ) -> Result<DavLock, LockRefusal> {
+        Err(LockRefusal::Memory)
+    }
+
+    fn unlock(&mut self, _path: &DavPath, _token: &str) -> Result<(), ()> {
+        Err(())
+    }
+
+    fn refresh(
+        &mut self,
+        _alloc: Global,
+        _path: &DavPath,
+        _token: &str,
+        _timeout: Option<u64>,
+        _now: u64,
+    ) -> Result<DavLock, RefreshRefusal> {
+        Err(RefreshRefusal::NotThere)
+    }
+
+    fn check(
+        &self,
+        _path: &DavPath,
+        _principal: Option<&str>,
+        _ignore_principal: bool,
+        _deep: bool,
+        _tokens: &[String],
+    ) -> Result<(), &DavLock> {
+        Ok(())
+    }
+
+    fn discover(&self, alloc: Global, _path: &DavPath) -> Result<Vec<DavLock>, NoMemory> {
+        Ok(Vec::new(alloc))
+    }
+
+    fn delete(&mut self, _path: &DavPath) -> Result<(), ()> {
+        Ok(())
+    }
+}
+
+// Whether anyone may write at a path, of any list of locks.
+fn may_write<L: DavLockSystem>(ls: Option<&L>, path: &DavPath) -> bool {
+    match ls {
+        Some(ls) => ls.check(path, None, true, false, &[]).is_ok(),
+        None => true,
+    }
+}
+
+#[test]
+fn asks_a_list(rt: HostRuntime) -> Result<(), Fail> {
+    let mut ls = NoLocks {};
+    let path = DavPath::new(rt.alloc(), "/a")?;
+    assert!(rt; may_write(Some(&ls), &path));
+    let granted = ls.lock(
+        rt.alloc(),
+        &path,
+        None,
+        None,
+        Some(60),
+        false,
+        true,
+        "urn:t:1",
+        1,
+    );
+    assert_eq!(rt; granted.err(), Some(LockRefusal::Memory));
+    assert!(rt; ls.unlock(&path, "urn:t:1").is_err());
+    let refreshed = ls.refresh(rt.alloc(), &path, "urn:t:1", None, 1);
+    assert_eq!(rt; refreshed.err(), Some(RefreshRefusal::NotThere));
+    assert_eq!(rt; ls.discover(rt.alloc(), &path)?.len(), 0);
+    assert!(rt; ls.delete(&path).is_ok());
+    Ok(())
+}
