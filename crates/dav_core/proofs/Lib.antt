@@ -25,4 +25,5 @@ pub mod KeptLemmas
 pub mod AskingLemmas
 pub mod MemberLemmas
 pub mod FollowLemmas
+pub mod GoneLemmas
 pub mod CopyLemmas
