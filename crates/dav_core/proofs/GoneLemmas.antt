@@ -1,13 +1,12 @@
 -- What a call takes away is gone, and open files stand for it no longer.
-use Rattle.std.proofs.Common.{◌≡◌, ◌≢◌, ℕ, ◌||◌, ◌&&◌, ◌≤◌, Bool, true, false, not, [], ◌++◌, append-nil, Option, Some, None, Ok, inl, inr, refl, sym, ap, ◌∙◌}
+use Rattle.std.proofs.Common.{◌≡◌, ◌≢◌, ℕ, ◌||◌, ◌&&◌, ◌≤◌, true, false, not, [], append-nil, Option, Some, None, Ok, inl, inr, refl, sym, ap, ◌∙◌}
 use Rattle.std.specs.Option.{is_some}
-use Rattle.std.specs.FinMap.{find}
 use Rattle.dav_core.specs.declared.errors.FsError.TheVariants.{Exists, NotFound, Forbidden}
-use Rattle.dav_core.specs.Path.{Path, path_cmp, is_same_path, is_at_or_below, is_below, is_root, parent_of}
+use Rattle.dav_core.specs.Path.{Path, is_same_path, is_at_or_below, is_below, is_root, parent_of}
 use Rattle.dav_core.specs.World.{World, Node, node_at, is_folder, is_file, is_missing, has_members, prune, modified_at, file_made_with, last_moment, IsWorld}
 use Rattle.dav_core.specs.Calls.{rename, remove_dir, remove_file, without}
-use Rattle.dav_core.specs.Asking.{Call, RemoveDir, RemoveFile, Rename, meaning}
-use Rattle.dav_core.specs.CallLaws.{TakesAway, TakenIsGone, TakenFilesAreGone}
+use Rattle.dav_core.specs.Asking.{RemoveDir, RemoveFile, Rename, meaning}
+use Rattle.dav_core.specs.CallLaws.{TakenIsGone, TakenFilesAreGone}
 use Rattle.dav_core.proofs.NodesLemmas.{CameFrom, back-adjust, same_path}
 use Rattle.dav_core.proofs.FrontLemmas.{rest_after-append, outside}
 use Rattle.dav_core.proofs.CarriedLemmas.{Same, Same-adjust, Same-modified, CameBy, back-prune, renamed_world, back-renamed}

@@ -11,6 +11,7 @@ pub mod NodesLemmas
 pub mod WorldLemmas
 pub mod Rows
 pub mod LockLemmas
+pub mod SharedLemmas
 pub mod EmptyStore
 pub mod MethodLemmas
 pub mod NamedLemmas

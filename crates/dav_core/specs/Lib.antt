@@ -1,3 +1,4 @@
+pub mod Lists
 pub mod Path
 pub mod Element
 pub mod Property

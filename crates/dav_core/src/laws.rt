@@ -4,7 +4,7 @@ pub mod calls;
 
 ghost use Rattle.std.specs.Prelude.{◌≡◌, [], ◌∷◌};
 ghost use Rattle.dav_core.specs.Laws.{LeavesOnePath, LeavesNoFault, OneFault, ReadsOnePath, ReadIsNotRefused, OneRefusal, KeepsNames, ReadsNames, StarHasNoNames, ReadsAgain, NamesReadAgain, SameText, SlashKeepsNames, AddsName, ParentOfNames, EmptyIsWorld, NewKeepsWorld, ChangeKeepsWorld, OneMethod, NameNames, MembersAreHad, SameMethodsSameSet};
-ghost use Rattle.dav_core.specs.LockLaws.{FreeHoldsExclusive, FreeDeepHoldsBelow, FreeIsNothingInTheWay, GrantedCanBeUnlocked};
+ghost use Rattle.dav_core.specs.LockLaws.{FreeHoldsExclusive, FreeDeepHoldsBelow, FreeIsNothingInTheWay, GrantedCanBeUnlocked, TakenBack, CoveringAreShared, GrantedAreShared, UnlockedAreShared, RefreshedAreShared, DeletedAreShared};
 ghost use Rattle.dav_core.specs.Method.{all_methods, members};
 
 use crate::method::{DavMethod, DavMethodSet};
@@ -56,12 +56,24 @@ pub fn worlds_are_kept()
 
 /// Where a path is free, whoever asks holds each exclusive lock that covers it, and for a deep question each lock at it
 /// and below it (RFC 4918, sections 6.1 and 7.5); it is free exactly where no lock stands in the way. A lock that was
-/// just granted can be taken back.
+/// just granted can be taken back, and where its token is new, that leaves the locks that were there.
 pub fn free_paths_are_held()
     ensures exclusive { FreeHoldsExclusive }
     ensures below { FreeDeepHoldsBelow }
     ensures way { FreeIsNothingInTheWay }
     ensures granted { GrantedCanBeUnlocked }
+    ensures back { TakenBack }
+{}
+
+/// Of two locks that cover one path both are shared (RFC 4918, section 6.2), where each was granted as it may be: so it
+/// is without locks, and it stays so when a lock is granted, refreshed or taken back, and when those below a path are
+/// dropped.
+pub fn locks_exclude()
+    ensures none { CoveringAreShared [] }
+    ensures granted { GrantedAreShared }
+    ensures unlocked { UnlockedAreShared }
+    ensures refreshed { RefreshedAreShared }
+    ensures deleted { DeletedAreShared }
 {}
 
 /// A name is that of one method. A set is known by its methods: two that have the same ones are equal.
