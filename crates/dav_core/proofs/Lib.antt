@@ -7,6 +7,8 @@ pub mod SegmentLemmas
 pub mod UrlLemmas
 pub mod EndLemmas
 pub mod PathLemmas
+pub mod AddedLemmas
+pub mod CutLemmas
 pub mod NodesLemmas
 pub mod WorldLemmas
 pub mod Rows
