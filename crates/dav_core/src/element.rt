@@ -4,6 +4,8 @@ ghost use Rattle.dav_core.specs.ElementEq.{tag_eq};
 
 mod attributes;
 mod children;
+#[cfg(test)]
+mod tests;
 
 use crate::errors::NoMemory;
 use attributes::{are_attributes_equal, copied_attributes, set_attribute, xmlns_name};
