@@ -3,31 +3,23 @@ use std::test::Fail;
 
 #[test]
 fn makes_properties(rt: HostRuntime) -> Result<(), Fail> {
-    let alloc = rt.alloc();
-    let made = DavProp::new(alloc, "foo", "n", "urn:n", "v")?;
-    for property in [made.clone()?, made] {
-        assert_eq!(rt; property.name.as_str(), "foo");
-        assert_eq!(rt; property.prefix.as_deref(), Some("n"));
-        assert_eq!(rt; property.namespace.as_deref(), Some("urn:n"));
-        let Some(xml) = &property.xml else {
-            assert!(rt; false);
-            return Ok(());
-        };
-        assert_eq!(rt; xml.name.as_str(), "foo");
-        assert_eq!(rt; xml.prefix.as_deref(), Some("n"));
-        assert_eq!(rt; xml.namespace.as_deref(), Some("urn:n"));
-        assert_eq!(rt; xml.attributes.len(), 1);
-        assert_eq!(rt; xml.attributes[0].0.as_str(), "xmlns:n");
-        assert_eq!(rt; xml.attributes[0].1.as_str(), "urn:n");
-        let text = xml.get_text(alloc)?;
-        assert_eq!(rt; text.as_deref(), Some("v"));
-    }
-    let bare = DavProp::new(alloc, "foo", "", "urn:n", "")?;
-    let Some(xml) = &bare.xml else {
+    let made = DavProp::new(rt.alloc(), "foo", "n", "urn:n", "v")?.clone()?;
+    let parts = format!(in rt.alloc(); "{made:?}")?;
+    assert_eq!(rt;
+        parts.as_str(),
+        "DavProp { name: \"foo\", prefix: Some(\"n\"), namespace: Some(\"urn:n\"), xml: Some(Element { name: \"foo\", prefix: Some(\"n\"), namespace: Some(\"urn:n\"), attributes: [(\"xmlns:n\", \"urn:n\")], children: [Text(\"v\")] }) }"
+    );
+    Ok(())
+}
+
+#[test]
+fn declares_the_namespace_without_a_prefix(rt: HostRuntime) -> Result<(), Fail> {
+    let made = DavProp::new(rt.alloc(), "foo", "", "urn:n", "")?;
+    let Some(xml) = &made.xml else {
         assert!(rt; false);
         return Ok(());
     };
-    assert_eq!(rt; xml.attributes[0].0.as_str(), "xmlns");
-    assert_eq!(rt; xml.children.len(), 1);
+    let parts = format!(in rt.alloc(); "{:?} {:?}", xml.attributes, xml.children)?;
+    assert_eq!(rt; parts.as_str(), "[(\"xmlns\", \"urn:n\")] [Text(\"\")]");
     Ok(())
 }
