@@ -15,3 +15,4 @@ pub mod ElementFalls
 pub mod ChildElements
 pub mod PropertyCode
 pub mod PropertyView
+pub mod WorldCode
