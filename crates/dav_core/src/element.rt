@@ -294,6 +294,7 @@ impl PartialEq for XmlNode {
     fn eq(&self, other: &XmlNode) -> bool {
         match self {
             XmlNode::Element(a) => {
+                // Reading a field tells contracts that the tree is an element.
                 let _ = &a.name;
                 match other {
                     XmlNode::Element(b) => a.eq(b),
