@@ -28,3 +28,4 @@ pub mod ElementFalls
 pub mod ChildElements
 pub mod PropertyView
 pub mod CallLaws
+pub mod WorldCode
