@@ -24,12 +24,12 @@ AdjustChanges =
 abbrev pub UnionHasBoth : Type 0
 UnionHasBoth = (es ns : Nodes) (q : Path) → find path_cmp q (union es ns) ≡ option_or (find path_cmp q es) (find path_cmp q ns)
 
--- in a graft of p to t stands behind t what stood behind p, and nothing else
+-- in a graft of p to t stands at t and below it what stood at p and below it, and nothing else
 abbrev pub GraftMoves : Type 0
 GraftMoves = (p t q : Path) (ns : Nodes) → find path_cmp q (graft p t ns) ≡ option_and_then (λ rest. find path_cmp (p ++ rest) ns) (rest_after t q)
 
--- After a move stands behind `to` what stood behind `from`, nothing else there, nothing more behind `from`, and all
--- else as before.
+-- After a move stands at `to` and below it what stood at `from` and below it, and nothing else; nothing more stands
+-- at `from` or below it; and all else stands as before.
 abbrev pub MovedStands : Type 0
 MovedStands =
     (from to q : Path) (ns : Nodes)
