@@ -1,1 +1,4 @@
 pub mod ErrorNames
+pub mod IfTokens
+pub mod IfTokenMachine
+pub mod IfParts

@@ -1,0 +1,2 @@
+//! The If header (RFC 4918, section 10.4).
+mod tokens;
