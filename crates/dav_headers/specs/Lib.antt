@@ -1,1 +1,3 @@
 pub mod ErrorNames
+pub mod ETag
+pub mod Value

@@ -2,3 +2,5 @@
 #![tactic(auto)]
 
 pub mod errors;
+pub mod etag;
+mod values;
