@@ -1,1 +1,3 @@
 pub mod IfTokenLemmas
+pub mod ValueLemmas
+pub mod ETagLemmas

@@ -1,4 +1,8 @@
+pub mod Depth
 pub mod ErrorNames
 pub mod IfTokens
 pub mod IfTokenMachine
 pub mod IfParts
+pub mod ETag
+pub mod Overwrite
+pub mod Value

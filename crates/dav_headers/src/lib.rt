@@ -1,5 +1,12 @@
 //! Typed headers: what their values say, and how they are written (RFC 9110, RFC 4918).
 #![tactic(auto)]
 
+pub mod content;
+pub mod depth;
 pub mod errors;
 pub mod if_header;
+pub mod etag;
+pub mod names;
+pub mod overwrite;
+pub mod tokens;
+mod values;
