@@ -358,6 +358,12 @@ pub some_from_test : {A : Type 0} (xs : List A) (r : Bool) → r ≡ (length xs 
 some_from_test [] r e h = λ k. grind (arith, nat_tests)
 some_from_test (x ∷ xs) r e h = λ k. cc
 
+pub none_from_test : {A : Type 0} (xs : List A) (r : Bool) (n : ℕ) → r ≡ (n == 0) → r ≡ true → length xs ≡ n → xs ≡ []
+none_from_test xs r n e h len = empty_from_test xs r (e ∙ ap (λ k. k == 0) (sym len)) h
+
+pub many_from_test : {A : Type 0} (xs : List A) (r : Bool) (n : ℕ) → r ≡ (n == 0) → r ≡ false → length xs ≡ n → 0 < length xs
+many_from_test xs r n e h len = grind (arith, nat_tests)
+
 -- ---- one reading
 
 first_cut : (text : List ℕ) (t u : Token) (r s : List ℕ) → Begins text t r → Begins text u s → (t ≡ u) × (r ≡ s)

@@ -1,3 +1,4 @@
 pub mod IfTokenLemmas
+pub mod IfListLemmas
 pub mod ValueLemmas
 pub mod ETagLemmas

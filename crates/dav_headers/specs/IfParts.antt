@@ -1,5 +1,4 @@
 -- What contracts see of the parts of an If header while it is read.
-use Rattle.std.specs.Prelude.{ℕ, List, Option, option_map}
 use Rattle.dav_headers.specs.IfTokens.{Token, open_list, close_list, negation, angle, square, word}
 use Rattle.dav_headers.specs.declared.if_header.tokens.Part.{Part}
 use Rattle.dav_headers.specs.declared.if_header.tokens.Part.TheVariants.{Open, Close, Not, Angle, Square, Word}

@@ -3,6 +3,9 @@ pub mod ErrorNames
 pub mod IfTokens
 pub mod IfTokenMachine
 pub mod IfParts
+pub mod If
+pub mod IfWritten
+pub mod IfTexts
 pub mod ETag
 pub mod Overwrite
 pub mod Value

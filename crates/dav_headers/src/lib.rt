@@ -4,8 +4,8 @@
 pub mod content;
 pub mod depth;
 pub mod errors;
-pub mod if_header;
 pub mod etag;
+pub mod if_header;
 pub mod names;
 pub mod overwrite;
 pub mod tokens;
