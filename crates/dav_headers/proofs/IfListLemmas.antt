@@ -49,6 +49,19 @@ same_list ts l m r s (us, f, some, c) (vs, g, more, d) =
 pub same_error : {T : Type 0} (r : Result T HeaderError) (y z : HeaderError) → r ≡ Err y → y ≡ z → IsErrOf r Invalid → z ≡ Invalid
 same_error r y z e f h = cc
 
+-- tokens are one list of lists at most
+pub lists_same : (ts : List Token) (ls ms : List WrittenList) → ListsAt ts ls → ListsAt ts ms → ls ≡ ms
+lists_same ts [] [] h k = refl
+lists_same ts [] (m ∷ ms) none (rest, (us, f, some, c), more) =
+    let wrong : ◌≡◌ {A = Option (Option (List ℕ) × List Token)} None (Some (m.resource, us)) = ap front_at (sym none) ∙ f in absurd (cc)
+lists_same ts (l ∷ ls) [] (rest, (us, f, some, c), more) none =
+    let wrong : ◌≡◌ {A = Option (Option (List ℕ) × List Token)} None (Some (l.resource, us)) = ap front_at (sym none) ∙ f in absurd (cc)
+lists_same ts (l ∷ ls) (m ∷ ms) (rest, at, more) (after, is, others) =
+    let same = same_list ts l m rest after at is in
+    let P : List Token → Type 0 = λ x. ListsAt x ls in
+    let tail = lists_same after ls ms (subst P same.1 more) others in
+    cc (same.0, tail)
+
 -- ---- the conditions so far
 
 pub step_more : (ts : List Token) (o : Option ConditionText) (n : ℕ) (x : ConditionText) → StepsAs ts (Some (o, n)) → o ≡ Some x → (0 < n) × (n ≤ length ts) × (conditions_at ts ≡ with_front (condition_view x ∷ []) (conditions_at (drop n ts)))

@@ -1,4 +1,5 @@
 pub mod IfTokenLemmas
 pub mod IfListLemmas
+pub mod IfMeaningLemmas
 pub mod ValueLemmas
 pub mod ETagLemmas

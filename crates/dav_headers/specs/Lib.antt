@@ -6,6 +6,7 @@ pub mod IfParts
 pub mod If
 pub mod IfWritten
 pub mod IfTexts
+pub mod IfView
 pub mod ETag
 pub mod Overwrite
 pub mod Value
