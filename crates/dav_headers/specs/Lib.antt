@@ -7,6 +7,7 @@ pub mod If
 pub mod IfWritten
 pub mod IfTexts
 pub mod IfView
+pub mod IfLaws
 pub mod ETag
 pub mod Overwrite
 pub mod Value

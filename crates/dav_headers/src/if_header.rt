@@ -1,5 +1,8 @@
 //! The If header (RFC 4918, section 10.4).
+pub mod laws;
 mod meaning;
+#[cfg(test)]
+mod tests;
 mod tokens;
 mod written;
 
