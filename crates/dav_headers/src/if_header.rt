@@ -1,4 +1,8 @@
 //! The If header (RFC 4918, section 10.4).
+ghost use Rattle.std.specs.Prelude.{List, IfOk, IsErrOf};
+ghost use Rattle.dav_headers.specs.If.{ConditionList, IsIf, IsIfHeader};
+ghost use Rattle.dav_headers.specs.IfView.{if_lists};
+
 pub mod laws;
 mod meaning;
 #[cfg(test)]
@@ -15,7 +19,7 @@ use tokens::parts_of;
 use url::Url;
 use written::lists_of;
 
-/// An If header: one or more lists, of which one is to be true.
+/// An If header: its lists, of which one is to be true.
 #[derive(Debug, Drop)]
 pub struct If(pub Vec<IfList>);
 
@@ -45,26 +49,11 @@ pub enum IfItem {
     ETag(ETag),
 }
 
-// The lists that a text says.
-fn read(alloc: Global, text: &[u8]) -> Result<If, HeaderError>
-    ensures ok { IfOk result (λ x. IsIf text.now (if_lists x)) }
-    ensures invalid { IsErrOf result HeaderError.Invalid → (ls : List ConditionList) → ¬ IsIf text.now ls }
-{
-    let parts = parts_of(alloc, text)?;
-    let lists = lists_of(alloc, &parts)?;
-    if lists.is_empty() {
-        return Err(HeaderError::Invalid);
-    }
-    Ok(If(meant_lists(alloc, &lists)?))
-}
-
-ghost use Rattle.std.specs.Prelude.{List, IfOk, IsErrOf};
-ghost use Rattle.dav_headers.specs.If.{ConditionList, IsIf, IsIfHeader};
-ghost use Rattle.dav_headers.specs.IfView.{if_lists};
-
 impl If {
-    /// The lists that the only value of a header says (RFC 4918, section 10.4.2). `Invalid` exactly where there isn't
-    /// one value, or it says none.
+    /// The lists that the only value of a header says (RFC 4918, section 10.4.2).
+    ///
+    /// `Invalid` where there isn't exactly one value, or it says none; `Memory` where memory runs out, or a resource tag
+    /// is a URL past 4 GB.
     pub fn decode(alloc: Global, values: &[HeaderValue]) -> Result<If, HeaderError>
         ensures ok { IfOk result (λ x. IsIfHeader values.now (if_lists x)) }
         ensures invalid { IsErrOf result HeaderError.Invalid → (ls : List ConditionList) → ¬ IsIfHeader values.now ls }
@@ -127,4 +116,17 @@ impl Clone for If {
     fn clone(&self) -> Result<If, NoMemory> {
         Ok(If(self.0.clone()?))
     }
+}
+
+// The lists that a text says.
+fn read(alloc: Global, text: &[u8]) -> Result<If, HeaderError>
+    ensures ok { IfOk result (λ x. IsIf text.now (if_lists x)) }
+    ensures invalid { IsErrOf result HeaderError.Invalid → (ls : List ConditionList) → ¬ IsIf text.now ls }
+{
+    let parts = parts_of(alloc, text)?;
+    let lists = lists_of(alloc, &parts)?;
+    if lists.is_empty() {
+        return Err(HeaderError::Invalid);
+    }
+    Ok(If(meant_lists(alloc, &lists)?))
 }

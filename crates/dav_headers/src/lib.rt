@@ -10,3 +10,5 @@ pub mod names;
 pub mod overwrite;
 pub mod tokens;
 mod values;
+
+pub use if_header::{If, IfCondition, IfItem, IfList};

@@ -59,7 +59,10 @@ fn reads_lists(rt: HostRuntime) -> Result<(), Fail> {
         ("(<a\">\"b>)", "a\">\"b, ; "),
         ("(<\"a\">)", "\"a\", ; "),
         ("<urn:x> (<a:b>)", "of urn:x: a:b, ; "),
-        ("<urn:x>(<a:b>)(<c:d>)<urn:y>(Not<e:f>)", "of urn:x: a:b, ; c:d, ; of urn:y: not e:f, ; "),
+        (
+            "<urn:x>(<a:b>)(<c:d>)<urn:y>(Not<e:f>)",
+            "of urn:x: a:b, ; c:d, ; of urn:y: not e:f, ; ",
+        ),
         ("\t(\t<a:b>\t)\t", "a:b, ; "),
         ("(<\u{e9}> \u{e9}:x)", "\u{e9}, \u{e9}:x, ; "),
         ("(<a:b> <a:b>) (<a:b>)", "a:b, a:b, ; a:b, ; "),
@@ -76,34 +79,103 @@ fn reads_lists(rt: HostRuntime) -> Result<(), Fail> {
 #[test]
 fn refuses_texts(rt: HostRuntime) -> Result<(), Fail> {
     let cases = [
-        "", " ", "()", "(Not)", "( Not )", "(Not Not <a:b>)", "(NotNot:x)", "Not (<a:b>)", "(<a:b>) Not", "(<a:b> Not Not)",
-        "(Not (<a:b>))", "((<a:b>))", "(<a:b>))", "(<a:b>", "(<a:b", "(<", "(", ")", "a:b", "<a:b>", "(a:b", "[\"a\"]", "(]", "(>)",
-        "([\"x)", "([\"", "([", "([W/\"a])", "([a])", "([])", "([\"a\"b\"])", "([\"a\"x])", "(<a\">)", "(<\">)", "(<a b>)", "(<a:b >)",
-        "(< a:b>)", "([\"a b\"])", "(<\"a b\">)", "([ \"a\"])", "(<a\tb>)", "<>", "<> (<a:b>)", "</a> (<a:b>)", "<a> (<a:b>)",
-        "<http://> (<a:b>)", "<http://[x> (<a:b>)", "<urn:x> <urn:y> (<a:b>)", "<urn:x>", "<urn:x> Not (<a:b>)", "urn:x (<a:b>)",
-        "[\"a\"] (<a:b>)", "(<a:b>) c:d", "(<a:b>) ()",
+        "",
+        " ",
+        "()",
+        "(Not)",
+        "( Not )",
+        "(Not Not <a:b>)",
+        "(NotNot:x)",
+        "Not (<a:b>)",
+        "(<a:b>) Not",
+        "(<a:b> Not Not)",
+        "(Not (<a:b>))",
+        "((<a:b>))",
+        "(<a:b>))",
+        "(<a:b>",
+        "(<a:b",
+        "(<",
+        "(",
+        ")",
+        "a:b",
+        "<a:b>",
+        "(a:b",
+        "[\"a\"]",
+        "(]",
+        "(>)",
+        "([\"x)",
+        "([\"",
+        "([",
+        "([W/\"a])",
+        "([a])",
+        "([])",
+        "([\"a\"b\"])",
+        "([\"a\"x])",
+        "(<a\">)",
+        "(<\">)",
+        "(<a b>)",
+        "(<a:b >)",
+        "(< a:b>)",
+        "([\"a b\"])",
+        "(<\"a b\">)",
+        "([ \"a\"])",
+        "(<a\tb>)",
+        "<>",
+        "<> (<a:b>)",
+        "</a> (<a:b>)",
+        "<a> (<a:b>)",
+        "<http://> (<a:b>)",
+        "<http://[x> (<a:b>)",
+        "<urn:x> <urn:y> (<a:b>)",
+        "<urn:x>",
+        "<urn:x> Not (<a:b>)",
+        "urn:x (<a:b>)",
+        "[\"a\"] (<a:b>)",
+        "(<a:b>) c:d",
+        "(<a:b>) ()",
     ];
     for text in cases {
         let values = [value(rt.alloc(), text.as_bytes())?];
-        assert_eq!(rt; If::decode(rt.alloc(), &values).err(), Some(HeaderError::Invalid), "{text}");
+        assert_eq!(rt;
+            If::decode(rt.alloc(), &values).err(),
+            Some(HeaderError::Invalid),
+            "{text}"
+        );
     }
     Ok(())
 }
 
 #[test]
 fn refuses_bytes_that_are_no_text(rt: HostRuntime) -> Result<(), Fail> {
-    for bytes in [b"(<\xff>)".as_slice(), b"(\xff)", b"([\"\xff\"])", b"<urn:\xff> (<a:b>)"] {
+    for bytes in [
+        b"(<\xff>)".as_slice(),
+        b"(\xff)",
+        b"([\"\xff\"])",
+        b"<urn:\xff> (<a:b>)",
+    ] {
         let values = [value(rt.alloc(), bytes)?];
-        assert_eq!(rt; If::decode(rt.alloc(), &values).err(), Some(HeaderError::Invalid));
+        assert_eq!(rt;
+            If::decode(rt.alloc(), &values).err(),
+            Some(HeaderError::Invalid)
+        );
     }
     Ok(())
 }
 
 #[test]
 fn takes_one_value(rt: HostRuntime) -> Result<(), Fail> {
-    let two = [value(rt.alloc(), b"(<a:b>)")?, value(rt.alloc(), b"(<c:d>)")?];
-    assert_eq!(rt; If::decode(rt.alloc(), &two).err(), Some(HeaderError::Invalid));
-    assert_eq!(rt; If::decode(rt.alloc(), &[]).err(), Some(HeaderError::Invalid));
+    let two = [
+        value(rt.alloc(), b"(<a:b>)")?,
+        value(rt.alloc(), b"(<c:d>)")?,
+    ];
+    assert_eq!(rt;
+        If::decode(rt.alloc(), &two).err(),
+        Some(HeaderError::Invalid)
+    );
+    assert_eq!(rt;
+        If::decode(rt.alloc(), &[]).err(),
+        Some(HeaderError::Invalid)
+    );
     Ok(())
 }
 
