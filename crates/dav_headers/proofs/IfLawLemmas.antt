@@ -7,9 +7,10 @@ use Rattle.std.proofs.lemmas.List.Elements.{All-nil, All-cons, All-append}
 use Rattle.url.specs.Parser.{Parsed, parse_url}
 use Rattle.url.specs.Parts.{Parts}
 use Rattle.dav_headers.specs.ETag.{EntityTag, tag_text, IsEntityTag}
-use Rattle.dav_headers.specs.IfTokens.{Token, open_list, close_list, negation, angle, square, word}
-use Rattle.dav_headers.specs.If.{Item, state_token, entity_tag, Condition, ConditionList, IsItem, AreConditions, AreLists, IsIf, tokens_in, tokens_of}
+use Rattle.dav_headers.specs.IfTokens.{IsBlank, IsInside, Spells, Token, open_list, close_list, negation, angle, square, word}
+use Rattle.dav_headers.specs.If.{Item, state_token, entity_tag, Condition, ConditionList, IsItem, AreConditions, IsList, AreLists, IsIf, tokens_in, tokens_of}
 use Rattle.dav_headers.specs.IfWritten.{WrittenItem, written_token, written_tag, WrittenCondition, WrittenList, SaysItem, SaysCondition, SaysResource, SaysList}
+use Rattle.dav_headers.specs.IfLaws.{asks_for}
 use Rattle.dav_headers.proofs.IfMeaningLemmas.{if_written, if_says}
 
 -- ---- one meaning
@@ -112,3 +113,17 @@ utf8_lists ts (l ∷ ls) (front, rest, (tag, inner, idle, resource, some, are, s
 
 pub utf8_tokens : (text : List ℕ) (ls : List ConditionList) → IsIf text ls → All IsUtf8 (tokens_of ls)
 utf8_tokens text ls (ts, spells, are, some) = utf8_lists ts ls are
+
+-- ---- one token alone
+
+pub asked_for : (token : List ℕ) → IsInside 62 false token → IsUtf8 token → IsIf (40 ∷ 60 ∷ (token ++ 62 ∷ 41 ∷ [])) (asks_for token ∷ []) × (tokens_of (asks_for token ∷ []) ≡ token ∷ [])
+asked_for token inside utf8 =
+    let blanks = All-nil IsBlank in
+    let last : Spells (41 ∷ []) (close_list ∷ []) = ([], 41 ∷ [], [], blanks, refl, refl, blanks) in
+    let middle : Spells (60 ∷ (token ++ 62 ∷ 41 ∷ [])) (angle token ∷ close_list ∷ []) =
+    ([], 60 ∷ (token ++ 62 ∷ 41 ∷ []), 41 ∷ [], blanks, refl, (inside, refl), last) in
+    let all : Spells (40 ∷ 60 ∷ (token ++ 62 ∷ 41 ∷ [])) (open_list ∷ angle token ∷ close_list ∷ []) =
+    ([], 40 ∷ 60 ∷ (token ++ 62 ∷ 41 ∷ []), 60 ∷ (token ++ 62 ∷ 41 ∷ []), blanks, refl, refl, middle) in
+    let conditions : AreConditions (angle token ∷ []) ((asks_for token).conditions) = (angle token, [], (utf8, refl), refl, refl) in
+    let list : IsList (open_list ∷ angle token ∷ close_list ∷ []) (asks_for token) = ([], angle token ∷ [], false, refl, omega arith, conditions, refl) in
+    ((open_list ∷ angle token ∷ close_list ∷ [], all, (open_list ∷ angle token ∷ close_list ∷ [], [], list, refl, refl), omega arith), refl)

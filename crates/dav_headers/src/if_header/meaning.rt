@@ -1,4 +1,4 @@
-//! What the texts of an If header mean: what is kept of them is copied here.
+//! What the texts in an If header mean: state tokens, entity tags and URLs of their own.
 ghost use Rattle.std.specs.Prelude.{◌≡◌, List, map, Option, IfOk, IsErrOf};
 ghost use Rattle.std.specs.List.{AllZip};
 ghost use Rattle.url.specs.Parts.{Parts};
@@ -36,6 +36,7 @@ fn entity_tag(alloc: Global, bytes: &[u8]) -> Result<IfItem, HeaderError>
     Ok(IfItem::ETag(ETag::from_str(alloc, text)?))
 }
 
+// What the text of an item means.
 fn meant_item(alloc: Global, item: ItemText<'_>) -> Result<IfItem, HeaderError>
     ensures ok { IfOk result (λ i. SaysItem (item_view item.entry) (item_value i)) }
     ensures invalid { IsErrOf result HeaderError.Invalid → (i : Item) → ¬ SaysItem (item_view item.entry) i }
@@ -46,6 +47,7 @@ fn meant_item(alloc: Global, item: ItemText<'_>) -> Result<IfItem, HeaderError>
     }
 }
 
+// What a condition means.
 fn meant_condition(alloc: Global, condition: ConditionText<'_>) -> Result<IfCondition, HeaderError>
     ensures ok { IfOk result (λ c. SaysCondition (condition_view condition.entry) (condition_value c)) }
     ensures invalid { IsErrOf result HeaderError.Invalid
@@ -58,6 +60,7 @@ fn meant_condition(alloc: Global, condition: ConditionText<'_>) -> Result<IfCond
     })
 }
 
+// What the conditions mean, in order.
 fn meant_conditions(
     alloc: Global,
     conditions: &[ConditionText<'_>],
@@ -88,6 +91,7 @@ fn resource(alloc: Global, bytes: &[u8]) -> Result<Url, HeaderError>
     }
 }
 
+// What the text of a resource tag means, where there is one.
 fn meant_resource(alloc: Global, tag: Option<&[u8]>) -> Result<Option<Url>, HeaderError>
     ensures ok { IfOk result (λ u. SaysResource (resource_view tag.entry) u) }
     ensures invalid { IsErrOf result HeaderError.Invalid → (u : Option Parts) → ¬ SaysResource (resource_view tag.entry) u }
@@ -98,6 +102,7 @@ fn meant_resource(alloc: Global, tag: Option<&[u8]>) -> Result<Option<Url>, Head
     }
 }
 
+// What a list means.
 fn meant_list(alloc: Global, list: &ListText<'_>) -> Result<IfList, HeaderError>
     ensures ok { IfOk result (λ l. SaysList (list_view list.now) (list_value l)) }
     ensures invalid { IsErrOf result HeaderError.Invalid → (l : ConditionList) → ¬ SaysList (list_view list.now) l }
@@ -110,7 +115,7 @@ fn meant_list(alloc: Global, list: &ListText<'_>) -> Result<IfList, HeaderError>
     })
 }
 
-/// What the lists mean; `Invalid` where one of them means nothing.
+/// What the lists mean, in order; `Invalid` where one of them means nothing.
 pub(super) fn meant_lists(alloc: Global, lists: &[ListText<'_>]) -> Result<Vec<IfList>, HeaderError>
     ensures ok { IfOk result (λ v. AllZip SaysList (map list_view lists.now) (map list_value v.items)) }
     ensures invalid { IsErrOf result HeaderError.Invalid
