@@ -4,7 +4,7 @@ use Rattle.std.specs.Prelude.{Ok, IsUtf8}
 use Rattle.std.specs.List.{AllZip, flat_map}
 use Rattle.std.proofs.lemmas.List.{append_cancel_right}
 use Rattle.std.proofs.lemmas.List.Elements.{All-nil, All-cons, All-append}
-use Rattle.url.specs.Parser.{Parsed, parse_url}
+use Rattle.url.specs.Parser.{Parsed}
 use Rattle.url.specs.Parts.{Parts}
 use Rattle.dav_headers.specs.ETag.{EntityTag, tag_text, IsEntityTag}
 use Rattle.dav_headers.specs.IfTokens.{IsBlank, IsInside, Spells, Token, open_list, close_list, negation, angle, square, word}

@@ -1,16 +1,12 @@
 -- The functions that read lists agree with the grammar, both ways.
-use Rattle.std.proofs.Common.{◌≡◌, ◌≢◌, ℕ, ◌+◌, ◌-◌, ◌<◌, ◌≤◌, ◌++◌, ◌⊎◌, inl, inr, Bool, true, false, cond, List, [], ◌∷◌, length, take, drop, map, suc, Option, Some, None, refl, sym, ◌∙◌, ap, subst, arith, append_assoc, length-drop}
-use Rattle.std.specs.Prelude.{Ok, Err, Result, IsErrOf, IsUtf8}
-use Rattle.std.specs.Option.{option_map}
+use Rattle.std.proofs.Common.{◌≡◌, ◌≢◌, ℕ, ◌+◌, ◌-◌, ◌<◌, ◌≤◌, ◌++◌, Bool, true, false, cond, List, [], ◌∷◌, length, take, drop, map, Option, Some, None, refl, sym, ◌∙◌, ap, subst, arith, append_assoc, length-drop}
+use Rattle.std.specs.Prelude.{Err, Result, IsErrOf}
 use Rattle.std.specs.List.{AllZip}
-use Rattle.std.proofs.lemmas.Bool.{cond-true, cond-false}
 use Rattle.std.proofs.lemmas.List.{append-nil, take_all, drop-map, drop-drop, length-map}
 use Rattle.std.proofs.lemmas.Slice.Zip.{AllZip-long}
-use Rattle.url.specs.Parser.{parse_url}
 use Rattle.url.specs.Parts.{Parts}
-use Rattle.dav_headers.specs.ETag.{EntityTag, IsEntityTag}
-use Rattle.dav_headers.specs.IfTokens.{Token, open_list, close_list, negation, angle, square, word, Spells}
-use Rattle.dav_headers.specs.If.{Item, state_token, entity_tag, Condition, ConditionList, IsItem, AreConditions, IsResourceTag, list_end, IsList, AreLists, IsIf}
+use Rattle.dav_headers.specs.IfTokens.{Token, open_list, close_list, negation, angle, square, word}
+use Rattle.dav_headers.specs.If.{Item, Condition, ConditionList, IsItem, AreConditions, IsResourceTag, list_end, IsList, AreLists}
 use Rattle.dav_headers.specs.IfWritten.{WrittenItem, written_token, written_tag, WrittenCondition, WrittenList, item_at, Read, with_front, one, conditions_at, front_at, ListAt, NoList, ListsAt, SaysItem, SaysCondition, SaysResource, SaysList}
 use Rattle.dav_headers.specs.IfParts.{part_view}
 use Rattle.dav_headers.specs.IfTexts.{condition_view, StepsAs}
@@ -18,7 +14,6 @@ use Rattle.dav_headers.specs.declared.errors.HeaderError.{HeaderError}
 use Rattle.dav_headers.specs.declared.errors.HeaderError.TheVariants.{Invalid}
 use Rattle.dav_headers.specs.declared.if_header.tokens.Part.{Part}
 use Rattle.dav_headers.specs.declared.if_header.written.ConditionText.{ConditionText}
-use Rattle.dav_headers.proofs.IfTokenLemmas.{spells_one}
 
 -- ---- what is read, and what follows it
 

@@ -1,5 +1,5 @@
 -- What lists mean, one after the other, and what that makes of the whole value.
-use Rattle.std.proofs.Common.{◌≡◌, ◌≢◌, ℕ, ◌+◌, ◌<◌, ◌++◌, List, [], ◌∷◌, length, take, drop, map, suc, refl, sym, ◌∙◌, ap, subst, arith, get_or, add-one, Option, Some, None}
+use Rattle.std.proofs.Common.{◌≡◌, ℕ, ◌+◌, ◌<◌, ◌++◌, List, [], ◌∷◌, length, take, drop, map, suc, refl, sym, ◌∙◌, ap, subst, arith, get_or, add-one, Option, Some, None}
 use Rattle.std.specs.List.{AllZip}
 use Rattle.std.proofs.lemmas.List.{map_push, map-append, take-append-drop}
 use Rattle.std.proofs.lemmas.Slice.Zip.{AllZip-long}

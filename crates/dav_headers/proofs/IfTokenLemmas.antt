@@ -1,19 +1,17 @@
 -- The machine that reads tokens agrees with their grammar, both ways.
-use Rattle.std.proofs.Common.{◌≡◌, ◌≢◌, ℕ, ◌+◌, ◌-◌, ◌<◌, ◌≤◌, ◌++◌, ◌⊎◌, inl, inr, Bool, true, false, cond, List, [], ◌∷◌, length, take, drop, suc, All, Option, Some, None, refl, sym, ◌∙◌, ap, subst, arith, append_assoc, ◌==◌, eq-eqb, length-append, not, ◌&&◌, ◌||◌}
+use Rattle.std.proofs.Common.{◌≡◌, ◌≢◌, ℕ, ◌+◌, ◌<◌, ◌≤◌, ◌++◌, inl, inr, Bool, true, false, cond, List, [], ◌∷◌, length, take, drop, suc, All, Option, Some, None, refl, sym, ◌∙◌, ap, subst, arith, append_assoc, ◌==◌, not, ◌&&◌}
 use Rattle.std.specs.Prelude.{nat_eq}
-use Rattle.std.specs.Bool.{Decides}
 use Rattle.std.specs.Option.{option_map}
-use Rattle.std.specs.List.{starts_with, prefix_len}
+use Rattle.std.specs.List.{starts_with}
 use Rattle.std.proofs.lemmas.Bool.{cond-true, cond-false, cases_Bool, false_from_ne_true}
 use Rattle.std.proofs.lemmas.Bool.Decides.{nat_tests, Decides-eqb}
 use Rattle.std.proofs.lemmas.Slice.Eq.{starts_is}
-use Rattle.std.proofs.lemmas.Grind.{common_steps}
 use Rattle.std.proofs.lemmas.List.{take-append-drop, append-nil}
 use Rattle.std.proofs.lemmas.List.Elements.{All-nil, All-cons, All-head, All-tail, All-append}
 use Rattle.std.proofs.lemmas.List.Folds.{length-prefix_len}
 use Rattle.std.proofs.Math.Seq.{drop-append_seam, drop-append-add, take-append_seam}
 use Rattle.dav_headers.specs.IfTokens.{IsBlank, IsWordByte, IsInside, Token, open_list, close_list, negation, angle, square, word, EndsWord, Begins, Spells}
-use Rattle.dav_headers.specs.IfTokenMachine.{is_blank, is_word_byte, skip, inside_len, Split, split_inside, bracketed, word_len, word_at, token_at}
+use Rattle.dav_headers.specs.IfTokenMachine.{is_blank, is_word_byte, skip, inside_len, Split, bracketed, word_len, word_at, token_at}
 
 -- ---- bytes
 

@@ -1,5 +1,5 @@
 -- How the tokens of an If header are read: functions that the code follows.
-use Rattle.std.specs.Prelude.{ℕ, ◌+◌, ◌==◌, ◌&&◌, ◌||◌, Bool, true, false, not, nat_le, nat_eq, if◌then◌else◌, take, drop, List, [], ◌∷◌, Option, Some, None, option_map}
+use Rattle.std.specs.Prelude.{ℕ, ◌+◌, ◌==◌, ◌&&◌, ◌||◌, Bool, false, not, nat_le, nat_eq, if◌then◌else◌, take, drop, List, [], ◌∷◌, Option, Some, None, option_map}
 use Rattle.std.specs.List.{starts_with, prefix_len}
 use Rattle.dav_headers.specs.IfTokens.{Token, open_list, close_list, negation, angle, square, word}
 

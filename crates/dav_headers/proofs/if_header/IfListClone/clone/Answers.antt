@@ -1,4 +1,3 @@
-use Rattle.std.proofs.Common.{◌≡◌, map}
 use Rattle.dav_headers.specs.IfView.{condition_value}
 use Rattle.dav_headers.proofs.IfMeaningLemmas.{copied_option, maps_alike}
 use Rattle.dav_headers.proofs.if_header.IfListClone.clone.Goals as goal

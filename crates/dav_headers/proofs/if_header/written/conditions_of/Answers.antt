@@ -1,8 +1,8 @@
-use Rattle.std.proofs.Common.{◌≡◌, ◌++◌, ◌∷◌, [], ◌≤◌, ℕ, List, Some, None, arith, ap, sym, ◌∙◌, subst, map, drop, length}
+use Rattle.std.proofs.Common.{◌≡◌, ◌++◌, ◌∷◌, [], List, Some, None, ap, sym, ◌∙◌, subst, map}
 use Rattle.std.proofs.lemmas.List.{map_push}
 use Rattle.dav_headers.specs.IfTokens.{Token}
 use Rattle.dav_headers.specs.IfParts.{part_view}
-use Rattle.dav_headers.specs.IfWritten.{with_front, conditions_at}
+use Rattle.dav_headers.specs.IfWritten.{with_front}
 use Rattle.dav_headers.specs.IfTexts.{condition_view, StepsAs}
 use Rattle.dav_headers.proofs.IfListLemmas.{from, step_more, step_end, read_on, read_end, within}
 use Rattle.dav_headers.proofs.if_header.written.conditions_of.Goals as goal

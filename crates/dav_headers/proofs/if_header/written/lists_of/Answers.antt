@@ -1,4 +1,4 @@
-use Rattle.std.proofs.Common.{◌≡◌, ◌++◌, ◌∷◌, [], ◌≤◌, ◌<◌, Err, List, arith, ap, sym, ◌∙◌, subst, map, drop, length, length-drop}
+use Rattle.std.proofs.Common.{◌≡◌, ◌++◌, ◌∷◌, [], Err, List, arith, ap, ◌∙◌, subst, map, drop, length, length-drop}
 use Rattle.std.proofs.lemmas.List.{map_push, drop-drop, drop_all, length-map}
 use Rattle.std.proofs.lemmas.Result.{err_from_is_err_and}
 use Rattle.dav_headers.specs.IfTokens.{Token}
@@ -6,7 +6,7 @@ use Rattle.dav_headers.specs.IfParts.{part_view}
 use Rattle.dav_headers.specs.IfWritten.{ListAt, NoList}
 use Rattle.dav_headers.specs.IfTexts.{list_view}
 use Rattle.dav_headers.specs.declared.errors.HeaderError.TheVariants.{Invalid}
-use Rattle.dav_headers.proofs.IfListLemmas.{from, same_error, within_slice, ListsSoFar-start, ListsSoFar-step, ListsSoFar-end, ListsSoFar-stuck}
+use Rattle.dav_headers.proofs.IfListLemmas.{from, same_error, within_slice, ListsSoFar-step, ListsSoFar-end, ListsSoFar-stuck}
 use Rattle.dav_headers.proofs.if_header.written.lists_of.Goals as goal
 
 pub returns-in_err-list-clause-none : goal.returns-in_err-list-clause-none
