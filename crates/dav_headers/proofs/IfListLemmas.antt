@@ -7,6 +7,7 @@ use Rattle.std.proofs.lemmas.Slice.Zip.{AllZip-long}
 use Rattle.url.specs.Parts.{Parts}
 use Rattle.dav_headers.specs.IfTokens.{Token, open_list, close_list, negation, angle, square, word}
 use Rattle.dav_headers.specs.If.{Item, Condition, ConditionList, IsItem, AreConditions, IsResourceTag, list_end, IsList, AreLists}
+use Rattle.dav_headers.proofs.IfTokenLemmas.{same_pair}
 use Rattle.dav_headers.specs.IfWritten.{WrittenItem, written_token, written_tag, WrittenCondition, WrittenList, item_at, Read, with_front, one, conditions_at, front_at, ListAt, NoList, ListsAt, SaysItem, SaysCondition, SaysResource, SaysList}
 use Rattle.dav_headers.specs.IfParts.{part_view}
 use Rattle.dav_headers.specs.IfTexts.{condition_view, StepsAs}
@@ -16,13 +17,6 @@ use Rattle.dav_headers.specs.declared.if_header.tokens.Part.{Part}
 use Rattle.dav_headers.specs.declared.if_header.written.ConditionText.{ConditionText}
 
 -- ---- what is read, and what follows it
-
-same_parts : {A B : Type 0} (t u : A) (r s : B) → ◌≡◌ {A = Option (A × B)} (Some (t, r)) (Some (u, s)) → (t ≡ u) × (r ≡ s)
-same_parts {A = A} {B = B} t u r s e = let p : ◌≡◌ {A = A × B} (t, r) (u, s) = cc in (ap (λ x. x.0) p, ap (λ x. x.1) p)
-
-pub with_front_nil : (r : Read) → with_front [] r ≡ r
-with_front_nil None = refl
-with_front_nil (Some x) = refl
 
 pub with_front_more : (cs ds : List WrittenCondition) (r : Read) → with_front cs (with_front ds r) ≡ with_front (cs ++ ds) r
 with_front_more cs ds None = refl
@@ -34,8 +28,8 @@ from f n xs h = ap (map f) (take_all (length xs - n) (drop n xs) (omega (arith, 
 
 same_list : (ts : List Token) (l m : WrittenList) (r s : List Token) → ListAt ts l r → ListAt ts m s → (l ≡ m) × (r ≡ s)
 same_list ts l m r s (us, f, some, c) (vs, g, more, d) =
-    let front = same_parts l.resource m.resource us vs (sym f ∙ g) in
-    let back = same_parts l.conditions m.conditions r s (sym c ∙ ap conditions_at front.1 ∙ d) in
+    let front = same_pair l.resource m.resource us vs (sym f ∙ g) in
+    let back = same_pair l.conditions m.conditions r s (sym c ∙ ap conditions_at front.1 ∙ d) in
     let first : Option (List ℕ) → WrittenList = λ x. record { resource = x; conditions = l.conditions } in
     let second : List WrittenCondition → WrittenList = λ x. record { resource = m.resource; conditions = x } in
     (ap first front.0 ∙ ap second back.0, back.1)
@@ -98,13 +92,13 @@ found_behind ps at n cs h read =
 
 pub no_conditions : (ts us : List Token) (r : Option (List ℕ)) → front_at ts ≡ Some (r, us) → conditions_at us ≡ None → NoList ts
 no_conditions ts us r f none l rest (vs, g, some, at) =
-    let same = same_parts r l.resource us vs (sym f ∙ g) in
+    let same = same_pair r l.resource us vs (sym f ∙ g) in
     let wrong : ◌≡◌ {A = Read} None (Some (l.conditions, rest)) = sym none ∙ ap conditions_at same.1 ∙ at in cc
 
 pub empty_list : (ts us rest : List Token) (r : Option (List ℕ)) (cs : List WrittenCondition) → front_at ts ≡ Some (r, us) → conditions_at us ≡ Some (cs, rest) → cs ≡ [] → NoList ts
 empty_list ts us rest r cs f found none l after (vs, g, some, at) =
-    let same = same_parts r l.resource us vs (sym f ∙ g) in
-    let back = same_parts cs l.conditions rest after (sym found ∙ ap conditions_at same.1 ∙ at) in
+    let same = same_pair r l.resource us vs (sym f ∙ g) in
+    let back = same_pair cs l.conditions rest after (sym found ∙ ap conditions_at same.1 ∙ at) in
     omega (arith, ap length back.0, ap length none)
 
 -- ---- the lists so far
@@ -113,12 +107,6 @@ empty_list ts us rest r cs f found none l after (vs, g, some, at) =
 pub record ListsSoFar (ts rest : List Token) (ls : List WrittenList) : Type 0 where
   pub found : (more : List WrittenList) → ListsAt rest more → ListsAt ts (ls ++ more)
   pub only : (all : List WrittenList) → ListsAt ts all → (more : List WrittenList) × (all ≡ ls ++ more) × ListsAt rest more
-
-pub ListsSoFar-start : (ts rest : List Token) (ls : List WrittenList) → rest ≡ ts → ls ≡ [] → ListsSoFar ts rest ls
-ListsSoFar-start ts rest ls e none = rw (e, none) (record {
-  found = λ more h. h;
-  only = λ all h. (all, refl, h);
-})
 
 only_next : (rest after : List Token) (ls : List WrittenList) (l : WrittenList) (all more : List WrittenList) → ListAt rest l after → all ≡ ls ++ more → ListsAt rest more → (later : List WrittenList) × (all ≡ (ls ++ l ∷ []) ++ later) × ListsAt after later
 only_next rest after ls l all [] (us, f, some, c) e none =
@@ -175,7 +163,7 @@ Shape ts cs rest =
 front_cases : (negated : Bool) (w : WrittenItem) (r : Read) (ws : List WrittenCondition) (rest : List Token) → with_front (one negated w) r ≡ Some (ws, rest) → (vs : List WrittenCondition) × (r ≡ Some (vs, rest)) × (ws ≡ one negated w ++ vs)
 front_cases negated w None ws rest e = absurd (cc)
 front_cases negated w (Some x) ws rest e =
-    let same = same_parts (one negated w ++ x.0) ws x.1 rest e in
+    let same = same_pair (one negated w ++ x.0) ws x.1 rest e in
     let back : List Token → Read = λ z. Some (x.0, z) in
     (x.0, ap back same.1, sym same.0)
 
@@ -207,10 +195,10 @@ read_more negated t w ts rest ws cs at e h again =
 -- no conditions are left
 at_end : (idle : Bool) (ts rest : List Token) (ws : List WrittenCondition) (cs : List Condition) → ◌≡◌ {A = Read} (Some ([], ts)) (Some (ws, rest)) → AllZip SaysCondition ws cs → Shape (list_end idle ++ ts) cs rest
 at_end idle ts rest ws [] e h =
-    let same = same_parts [] ws ts rest e in
+    let same = same_pair [] ws ts rest e in
     ([], idle, refl, ap (λ x. list_end idle ++ x) same.1)
 at_end idle ts rest ws (c ∷ cs) e h =
-    let same = same_parts [] ws ts rest e in
+    let same = same_pair [] ws ts rest e in
     let P : List WrittenCondition → Type 0 = λ x. AllZip SaysCondition x (c ∷ cs) in
     absurd (subst P (sym same.0) h)
 
@@ -275,11 +263,11 @@ a_resource a (Some u) (utf8, parsed) = (a, utf8, parsed, refl)
 front_found : (ts us : List Token) (r : Option (List ℕ)) (u : Option Parts) → front_at ts ≡ Some (r, us) → SaysResource r u → (tag : List Token) × IsResourceTag tag u × (ts ≡ tag ++ open_list ∷ us)
 front_found [] us r u e h = absurd (cc)
 front_found (open_list ∷ ts) us r u e h =
-    let same = same_parts None r ts us e in
+    let same = same_pair None r ts us e in
     let P : Option (List ℕ) → Type 0 = λ x. SaysResource x u in
     ([], no_resource u (subst P (sym same.0) h), ap (λ x. open_list ∷ x) same.1)
 front_found (angle a ∷ open_list ∷ ts) us r u e h =
-    let same = same_parts (Some a) r ts us e in
+    let same = same_pair (Some a) r ts us e in
     let P : Option (List ℕ) → Type 0 = λ x. SaysResource x u in
     (angle a ∷ [], a_resource a u (subst P (sym same.0) h), ap (λ x. angle a ∷ open_list ∷ x) same.1)
 front_found (t ∷ ts) us r u e h = absurd (cc)

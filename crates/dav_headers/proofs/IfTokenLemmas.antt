@@ -85,8 +85,9 @@ inside_only close quoted (b ∷ t) rest fits (clean, quotes, inside) =
 
 -- ---- one token
 
-same_pair : {A : Type 0} (t u : A) (r s : List ℕ) → ◌≡◌ {A = Option (A × List ℕ)} (Some (t, r)) (Some (u, s)) → (t ≡ u) × (r ≡ s)
-same_pair {A = A} t u r s e = let p : ◌≡◌ {A = A × List ℕ} (t, r) (u, s) = cc in (ap (λ x. x.0) p, ap (λ x. x.1) p)
+pub same_pair : {A B : Type 0} (t u : A) (r s : B) → ◌≡◌ {A = Option (A × B)} (Some (t, r)) (Some (u, s)) → (t ≡ u) × (r ≡ s)
+same_pair {A = A} {B = B} t u r s e =
+    let p : ◌≡◌ {A = A × B} (t, r) (u, s) = cc in (ap (λ x. x.0) p, ap (λ x. x.1) p)
 
 moved : (text : List ℕ) (t u : Token) (r s : List ℕ) → ◌≡◌ {A = Split} (Some (t, r)) (Some (u, s)) → Begins text t r → Begins text u s
 moved text t u r s e h =
