@@ -1,5 +1,10 @@
+pub mod ContentRange
+pub mod Cut
 pub mod Depth
+pub mod Destination
 pub mod ErrorNames
 pub mod ETag
+pub mod Length
 pub mod Overwrite
+pub mod UpdateRange
 pub mod Value

@@ -3,9 +3,12 @@
 
 pub mod content;
 pub mod depth;
+pub mod destination;
 pub mod errors;
 pub mod etag;
+pub mod length;
 pub mod names;
 pub mod overwrite;
+pub mod range;
 pub mod tokens;
 mod values;
