@@ -1,4 +1,7 @@
+pub mod ContentRange
+pub mod Cut
 pub mod Depth
+pub mod Destination
 pub mod ErrorNames
 pub mod IfTokens
 pub mod IfTokenMachine
@@ -9,5 +12,7 @@ pub mod IfTexts
 pub mod IfView
 pub mod IfLaws
 pub mod ETag
+pub mod Length
 pub mod Overwrite
+pub mod UpdateRange
 pub mod Value

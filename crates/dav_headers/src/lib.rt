@@ -3,11 +3,14 @@
 
 pub mod content;
 pub mod depth;
+pub mod destination;
 pub mod errors;
 pub mod etag;
 pub mod if_header;
+pub mod length;
 pub mod names;
 pub mod overwrite;
+pub mod range;
 pub mod tokens;
 mod values;
 
