@@ -1,6 +1,10 @@
 pub mod CutLemmas
 pub mod DestinationLemmas
 pub mod ETagLemmas
+pub mod ETagListLemmas
+pub mod LanguageLemmas
+pub mod LoopLemmas
 pub mod NumberLemmas
 pub mod RangeLemmas
+pub mod TimeoutLemmas
 pub mod ValueLemmas

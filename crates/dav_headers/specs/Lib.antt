@@ -4,7 +4,11 @@ pub mod Depth
 pub mod Destination
 pub mod ErrorNames
 pub mod ETag
+pub mod ETagList
+pub mod Language
 pub mod Length
 pub mod Overwrite
+pub mod Pieces
+pub mod Timeout
 pub mod UpdateRange
 pub mod Value
