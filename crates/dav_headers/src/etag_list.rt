@@ -135,11 +135,12 @@ fn push_tags(alloc: Global, tags: &mut Vec<ETag>, text: &str) -> Result<(), Head
     ensures err { IsOkUnless result HeaderError.Memory }
 {
     for piece in text.split(',') {
-        match ETag::from_str(alloc, trimmed(piece)) {
-            Ok(tag) => tags.push(tag)?,
-            Err(HeaderError::Invalid) => {}
+        let tag = match ETag::from_str(alloc, trimmed(piece)) {
+            Ok(tag) => tag,
+            Err(HeaderError::Invalid) => continue,
             Err(HeaderError::Memory) => return Err(HeaderError::Memory),
-        }
+        };
+        tags.push(tag)?;
     }
     Ok(())
 }
@@ -173,7 +174,7 @@ impl Clone for ETagList {
 fn copied(tags: &Vec<ETag>) -> Result<Vec<ETag>, NoMemory>
     ensures { IfOk result (λ copies. copies.items ≡ tags.now.items) }
 {
-    let mut copies = Vec::new(*tags.allocator());
+    let mut copies = Vec::with_capacity(*tags.allocator(), tags.len())?;
     for tag in tags {
         copies.push(tag.clone()?)?;
     }

@@ -96,9 +96,20 @@ impl Clone for ContentLanguage {
 
     fn clone(&self) -> Result<ContentLanguage, NoMemory> {
         Ok(ContentLanguage {
-            items: self.items.clone()?,
+            items: copied(&self.items)?,
         })
     }
+}
+
+// A copy of texts.
+fn copied(items: &Vec<String>) -> Result<Vec<String>, NoMemory>
+    ensures { IfOk result (λ copies. map string_bytes copies.items ≡ map string_bytes items.now.items) }
+{
+    let mut copies = Vec::with_capacity(*items.allocator(), items.len())?;
+    for item in items {
+        copies.push(item.clone()?)?;
+    }
+    Ok(copies)
 }
 
 /// Compares the languages, in order.

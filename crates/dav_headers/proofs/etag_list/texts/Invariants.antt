@@ -5,4 +5,4 @@ use Rattle.dav_headers.proofs.etag_list.texts.Given as goal
 abbrev pub invariant-loop-tag : goal.invariant-loop-tag
 invariant-loop-tag l =
     map string_bytes l.texts.items ++ map (λ t. tag_text t.weak t.tag) (drop l.tag-index l.tags)
-        ≡ map (λ t. tag_text t.weak t.tag) l.tags
+    ≡ map (λ t. tag_text t.weak t.tag) l.tags

@@ -6,4 +6,4 @@ use Rattle.dav_headers.proofs.pieces.joined.Given as goal
 abbrev pub invariant-loop-next : goal.invariant-loop-next
 invariant-loop-next l =
     string_bytes l.text ++ flat_map (λ y. 44 ∷ 32 ∷ y) (map string_bytes (drop l.next-index l.rest))
-        ≡ joined (map string_bytes l.texts)
+    ≡ joined (map string_bytes l.texts)

@@ -1,4 +1,4 @@
-use Rattle.std.proofs.Common.{◌≡◌, ◌≤◌, length, take, map, string_bytes, All}
+use Rattle.std.proofs.Common.{◌≡◌, take, map, string_bytes, All}
 use Rattle.std.specs.List.{flat_map}
 use Rattle.dav_headers.specs.Language.{IsLanguage}
 use Rattle.dav_headers.specs.Pieces.{pieces_of}
