@@ -5,6 +5,10 @@ pub mod IfTokenLemmas
 pub mod IfListLemmas
 pub mod IfMeaningLemmas
 pub mod IfLawLemmas
+pub mod ETagListLemmas
+pub mod LanguageLemmas
+pub mod LoopLemmas
 pub mod NumberLemmas
 pub mod RangeLemmas
+pub mod TimeoutLemmas
 pub mod ValueLemmas

@@ -77,7 +77,7 @@ parts_of_range values text rest x y is e cut b l h =
     parts_at_cut text rest x y b l e cut here
 
 -- the parts of a text that is visible
-both : (xs ys : List ℕ) → list_all is_visible_or_blank xs ≡ true → list_all is_visible_or_blank ys ≡ true → list_all is_visible_or_blank (xs ++ ys) ≡ true
+pub both : (xs ys : List ℕ) → list_all is_visible_or_blank xs ≡ true → list_all is_visible_or_blank ys ≡ true → list_all is_visible_or_blank (xs ++ ys) ≡ true
 both xs ys p q = list_all-append is_visible_or_blank xs ys ∙ and_from _ _ p q
 
 -- a sign and a text that is visible

@@ -12,7 +12,11 @@ pub mod IfTexts
 pub mod IfView
 pub mod IfLaws
 pub mod ETag
+pub mod ETagList
+pub mod Language
 pub mod Length
 pub mod Overwrite
+pub mod Pieces
+pub mod Timeout
 pub mod UpdateRange
 pub mod Value

@@ -7,10 +7,14 @@ pub mod destination;
 pub mod errors;
 pub mod etag;
 pub mod if_header;
+pub mod etag_list;
+pub mod language;
 pub mod length;
 pub mod names;
 pub mod overwrite;
+mod pieces;
 pub mod range;
+pub mod timeout;
 pub mod tokens;
 mod values;
 

@@ -1,0 +1,30 @@
+use Rattle.std.proofs.Common.{◌≡◌, ◌∷◌, ◌++◌, ◌∙◌, [], List, map, lit<, subst, ap, append_assoc, Err}
+use Rattle.std.proofs.lemmas.List.{map_push}
+use Rattle.std.proofs.lemmas.Iterator.Splits.{YieldsList-from_str_split}
+use Rattle.dav_headers.specs.ETag.{EntityTag}
+use Rattle.dav_headers.specs.ETagList.{AreTags}
+use Rattle.dav_headers.specs.Pieces.{trimmed}
+use Rattle.dav_headers.proofs.LoopLemmas.{end_parts}
+use Rattle.dav_headers.proofs.ETagListLemmas.{AreTags-push, AreTags-skip}
+use Rattle.dav_headers.proofs.etag_list.push_tags.Goals as goal
+
+pub loop-piece-preserved : goal.loop-piece-preserved
+loop-piece-preserved c =
+    let so_far = c.loop-piece.invariant in
+    let tag = rw c.trimmed.ensures at c.in-Ok.ensures.ok in
+    rw (map_push, map_push) (
+      so_far.0 ++ c.in-Ok.tag ∷ [],
+      c.in_ok-push.ensures.items ∙ ap (λ ts. ts ++ c.in-Ok.tag ∷ []) so_far.1 ∙ append_assoc _ so_far.0 (c.in-Ok.tag ∷ []),
+      AreTags-push _ so_far.0 _ c.in-Ok.tag so_far.2 tag,
+    )
+
+pub loop-piece-preserved-in-Err-Invalid : goal.loop-piece-preserved-in-Err-Invalid
+loop-piece-preserved-in-Err-Invalid c =
+    let so_far = c.loop-piece.invariant in
+    let other = rw c.trimmed.ensures at c.in-Err-Invalid.ensures.invalid (ap Err c.in-Err-Invalid.field-0-is) in
+    rw (map_push, map_push) (so_far.0, so_far.1, AreTags-skip _ so_far.0 _ so_far.2 other)
+
+pub returns-clause-ok : goal.returns-clause-ok
+returns-clause-ok c =
+    let e = end_parts c.loop-piece.yielded _ c.loop-piece.yielded_by (YieldsList-from_str_split 44 c.args.text.now (lit< tt) (cc) (cc) (cc)) _ _ c.in-None.is c.next.ensures.steps in
+    subst (λ ps. (added : List EntityTag) × (c.loop-piece.tags.items ≡ c.args.tags.now.items ++ added) × AreTags (map trimmed ps) added) e c.loop-piece.invariant

@@ -1,0 +1,55 @@
+-- The headers If-Match and If-None-Match (RFC 9110, sections 13.1.1 and 13.1.2).
+use Rattle.std.specs.Prelude.{ℕ, ◌<◌, List, [], ◌∷◌, ◌++◌, ◌≡◌, ◌≢◌, ◌⊎◌, codes, length, map}
+use Rattle.http_header.specs.FieldValue.{FieldValue}
+use Rattle.dav_headers.specs.ETag.{EntityTag, IsEntityTag, NoEntityTag, tag_text}
+use Rattle.dav_headers.specs.Pieces.{joined, pieces_of, trimmed}
+use Rattle.dav_headers.specs.Value.{IsText}
+use Rattle.dav_headers.specs.declared.etag_list.ETagList.{ETagList}
+use Rattle.dav_headers.specs.declared.etag_list.ETagList.TheVariants as list
+use Rattle.dav_headers.specs.declared.etag_list.IfRange.{IfRange}
+use Rattle.dav_headers.specs.declared.etag_list.IfRange.TheVariants as range
+
+-- any tag, or one of these
+pub data TagList : Type 0 where
+  star : TagList
+  tags : List EntityTag → TagList
+
+-- what a list says
+abbrev pub tag_list : ETagList → TagList
+tag_list (list.Tags v) = tags v.items
+tag_list list.Star = star
+
+-- the pieces that are tags, in order; the others are passed over
+abbrev pub AreTags : List (List ℕ) → List EntityTag → Type 0
+AreTags [] ts = ts ≡ []
+AreTags (p ∷ ps) ts =
+    (NoEntityTag p × AreTags ps ts)
+    ⊎ ((t : EntityTag) × (more : List EntityTag) × IsEntityTag p t.weak t.tag × (ts ≡ t ∷ more) × AreTags ps more)
+
+-- The values in order: each is text. The first that is `*` apart from blanks says any tag, whatever follows it; where
+-- there is none, the tags of all are the list.
+abbrev pub ReadTags : List FieldValue → TagList → Type 0
+ReadTags [] star = ⊥
+ReadTags [] (tags ts) = ts ≡ []
+ReadTags (v ∷ vs) star = IsText v.bytes × ((trimmed v.bytes ≡ codes "*") ⊎ ReadTags vs star)
+ReadTags (v ∷ vs) (tags ts) =
+    IsText v.bytes × (trimmed v.bytes ≢ codes "*")
+    × ((front : List EntityTag) × (back : List EntityTag)
+    × (ts ≡ front ++ back) × AreTags (pieces_of v.bytes) front × ReadTags vs (tags back))
+
+-- one or more values say this list
+abbrev pub IsTagList : List FieldValue → TagList → Type 0
+IsTagList values l = (0 < length values) × ReadTags values l
+
+-- the values say no list
+abbrev pub NoTagList : List FieldValue → Type 0
+NoTagList values = (l : TagList) → ¬ IsTagList values l
+
+-- the text that is written
+abbrev pub tag_list_text : TagList → List ℕ
+tag_list_text star = codes "*"
+tag_list_text (tags ts) = joined (map (λ t. tag_text t.weak t.tag) ts)
+
+-- the tag of If-Range
+abbrev pub range_tag : IfRange → EntityTag
+range_tag (range.ETag t) = t
