@@ -1,0 +1,3 @@
+pub mod NameLemmas
+pub mod Place
+pub mod PropertyLemmas

@@ -1,0 +1,4 @@
+pub mod Store
+pub mod NodeCode
+pub mod KindOf
+pub mod Answered

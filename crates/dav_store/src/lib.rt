@@ -1,0 +1,6 @@
+//! Files, folders and locks in memory (RFC 4918, sections 5 to 7).
+#![tactic(auto)]
+
+mod names;
+mod node;
+mod properties;
