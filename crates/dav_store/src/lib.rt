@@ -1,6 +1,7 @@
 //! Files, folders and locks in memory (RFC 4918, sections 5 to 7).
 #![tactic(auto)]
 
+mod entries;
 mod names;
 mod node;
 mod properties;

@@ -1,0 +1,153 @@
+//! A list of paths and nodes, in order of the paths.
+ghost use Rattle.std.specs.Prelude.{◌≡◌, ◌∷◌, ◌++◌, ◌+◌, ◌<◌, ◌≤◌, [], not, IfOk, OnOk, OnErr, Option, option_map, option_copied, position, map, vec_len, length};
+ghost use Rattle.std.specs.Vec.{vec_capacity};
+ghost use Rattle.std.specs.List.{insert};
+ghost use Rattle.std.specs.FinMap.{find, put};
+ghost use Rattle.std.specs.Ordering.{is_le};
+ghost use Rattle.dav_core.specs.Path.{names, path_cmp, is_same_path, is_at_or_below, parent_of};
+ghost use Rattle.dav_core.specs.World.{adjust, touched, prune, graft, union, moved, modified_at, is_folder_node, is_file_node, last_moment};
+ghost use Rattle.dav_core.specs.Calls.{emptied};
+
+use crate::names::Names;
+use crate::node::Node;
+use dav_core::davpath::DavPath;
+use dav_core::errors::NoMemory;
+use std::alloc::Global;
+
+// Where a path stands.
+fn place(entries: &[(Names, Node)], path: &DavPath) -> Option<usize>
+    ensures { result ≡ position (λ e. is_same_path (names path.now) e.0) entries.now }
+{
+    entries.iter().position(|e| e.0.are_of(path))
+}
+
+// Where the folder of a path stands.
+fn folder_place(entries: &[(Names, Node)], path: &DavPath) -> Option<usize>
+    ensures { result ≡ position (λ e. is_same_path (parent_of (names path.now)) e.0) entries.now }
+{
+    entries.iter().position(|e| e.0.are_of_folder_of(path))
+}
+
+// Where the first path stands that doesn't come before this one.
+fn place_from(entries: &[(Names, Node)], path: &Names) -> Option<usize>
+    ensures { result ≡ position (λ e. is_le (path_cmp path.now e.0)) entries.now }
+{
+    entries.iter().position(|e| path.compare(&e.0).is_le())
+}
+
+/// What stands at a path.
+pub fn node_at<'a>(entries: &'a [(Names, Node)], path: &DavPath) -> Option<&'a Node>
+    ensures { option_copied result ≡ find path_cmp (names path.now) entries.now }
+{
+    match place(entries, path) {
+        None => None,
+        Some(i) => Some(&entries[i].1),
+    }
+}
+
+/// What stands at the folder of a path.
+pub fn folder_of<'a>(entries: &'a [(Names, Node)], path: &DavPath) -> Option<&'a Node>
+    ensures { option_copied result ≡ find path_cmp (parent_of (names path.now)) entries.now }
+{
+    match folder_place(entries, path) {
+        None => None,
+        Some(i) => Some(&entries[i].1),
+    }
+}
+
+/// Whether a folder stands at a path.
+pub fn is_folder(entries: &[(Names, Node)], path: &DavPath) -> bool
+    ensures { result ≡ is_folder_node (find path_cmp (names path.now) entries.now) }
+{
+    match node_at(entries, path) {
+        Some(node) => node.is_folder(),
+        None => false,
+    }
+}
+
+/// Whether a file stands at a path.
+pub fn is_file(entries: &[(Names, Node)], path: &DavPath) -> bool
+    ensures { result ≡ is_file_node (find path_cmp (names path.now) entries.now) }
+{
+    match node_at(entries, path) {
+        Some(node) => !node.is_folder(),
+        None => false,
+    }
+}
+
+/// Whether a folder stands above a path.
+pub fn has_folder(entries: &[(Names, Node)], path: &DavPath) -> bool
+    ensures { result ≡ is_folder_node (find path_cmp (parent_of (names path.now)) entries.now) }
+{
+    match folder_of(entries, path) {
+        Some(node) => node.is_folder(),
+        None => false,
+    }
+}
+
+/// The folder of a path was changed now.
+pub fn touch_folder(entries: &mut [(Names, Node)], path: &DavPath, now: u64)
+    requires { now ≤ last_moment }
+    ensures { entries.new ≡ touched (names path.now) now entries.old }
+{
+    if let Some(i) = folder_place(entries, path) {
+        entries[i].1.touch(now);
+    }
+}
+
+/// The file at a path loses its bytes.
+pub fn empty_at(entries: &mut [(Names, Node)], path: &DavPath, number: u64, now: u64)
+    requires { now ≤ last_moment }
+    ensures { entries.new ≡ adjust (names path.now) (emptied number now) entries.old }
+{
+    if let Some(i) = place(entries, path) {
+        entries[i].1.empty(number, now);
+    }
+}
+
+/// What is at a path and below it goes.
+pub fn prune(entries: &mut Vec<(Names, Node)>, path: &DavPath)
+    ensures { entries.new.items ≡ prune (names path.now) entries.old.items }
+{
+    entries.retain(|e| !e.0.are_at_or_below(path));
+}
+
+// A push where there is room.
+fn push_within(entries: &mut Vec<(Names, Node)>, path: Names, node: Node)
+    requires { vec_len entries.old < vec_capacity entries.old }
+    ensures items { entries.new.items ≡ entries.old.items ++ (path, node) ∷ [] }
+    ensures len { vec_len entries.new ≡ vec_len entries.old + 1 }
+    ensures capacity { vec_capacity entries.old ≤ vec_capacity entries.new }
+{
+    let _ = entries.push((path, node));
+}
+
+// An insertion where there is room.
+fn insert_within(entries: &mut Vec<(Names, Node)>, index: usize, path: Names, node: Node)
+    requires room { vec_len entries.old < vec_capacity entries.old }
+    requires within { index ≤ vec_len entries.old }
+    ensures items { entries.new.items ≡ insert entries.old.items index (path, node) }
+    ensures len { vec_len entries.new ≡ vec_len entries.old + 1 }
+    ensures capacity { vec_capacity entries.old ≤ vec_capacity entries.new }
+{
+    let _ = entries.insert(index, (path, node));
+}
+
+/// A node at a path, in the place of what stands there; there is room for it.
+pub fn put_node(entries: &mut Vec<(Names, Node)>, path: Names, node: Node)
+    requires { vec_len entries.old < vec_capacity entries.old }
+    ensures items { entries.new.items ≡ put path_cmp path node entries.old.items }
+    ensures len { vec_len entries.new ≤ vec_len entries.old + 1 }
+    ensures capacity { vec_capacity entries.old ≤ vec_capacity entries.new }
+{
+    match place_from(entries, &path) {
+        Some(i) => {
+            if path.compare(&entries[i].0).is_eq() {
+                entries[i].1 = node;
+            } else {
+                insert_within(entries, i, path, node);
+            }
+        }
+        None => push_within(entries, path, node),
+    }
+}
