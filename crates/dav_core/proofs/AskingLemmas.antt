@@ -8,7 +8,7 @@ use Rattle.dav_core.specs.CallLaws.{AskingIsDetermined, ErrorsLeaveWorlds, Refus
 
 pub asking_is_determined : AskingIsDetermined
 asking_is_determined call old answer new (asked is used flag) unset = (sym flag ∙ unset, is)
-asking_is_determined call old answer new (ran_short takes is same used flag) unset = cc
+asking_is_determined call old answer new (ran_short takes head is same used flag) unset = cc
 
 is_error : {A : Type 0} → Result A FsError → Bool
 is_error (Ok a) = false
@@ -26,11 +26,11 @@ error_asked call w new (Some f ∷ rs) e h = ap (λ x. x.1) h
 
 pub errors_leave_worlds : ErrorsLeaveWorlds
 errors_leave_worlds call old e new (asked is used flag) = error_asked call old.world new.world old.refusals e is
-errors_leave_worlds call old e new (ran_short takes is same used flag) = same
+errors_leave_worlds call old e new (ran_short takes head is same used flag) = same
 
 pub refusals_are_used_up : RefusalsAreUsedUp
 refusals_are_used_up call old answer new (asked is used flag) = used
-refusals_are_used_up call old answer new (ran_short takes is same used flag) = used
+refusals_are_used_up call old answer new (ran_short takes head is same used flag) = used
 
 pub refusal_is_answered : RefusalIsAnswered
 refusal_is_answered call w e refusals = refl

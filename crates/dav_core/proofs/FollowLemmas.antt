@@ -1,20 +1,21 @@
 -- Where nodes are after a call, and open files with them.
-use Rattle.std.proofs.Common.{◌≡◌, ℕ, ◌+◌, ◌<◌, ◌≤◌, ◌==◌, ◌||◌, ◌&&◌, Bool, true, false, not, cond, [], ◌++◌, Option, Some, None, Ok, ◌⊎◌, inl, inr, refl, sym, ap, subst, ◌∙◌, arith}
+use Rattle.std.proofs.Common.{◌≢◌, ◌≡◌, ℕ, ◌+◌, ◌<◌, ◌≤◌, ◌==◌, ◌||◌, ◌&&◌, Bool, true, false, not, cond, [], ◌++◌, Option, Some, None, Ok, ◌⊎◌, inl, inr, refl, sym, ap, subst, ◌∙◌, arith}
 use Rattle.std.specs.Option.{option_map, unwrap_or, is_some}
 use Rattle.std.specs.FinMap.{find, put}
 use Rattle.dav_core.specs.declared.errors.FsError.TheVariants.{GeneralFailure, Exists, NotFound, Forbidden}
 use Rattle.dav_core.specs.Path.{Path, path_cmp, is_same_path, is_at_or_below, is_below, is_root, rest_after, parent_of}
-use Rattle.dav_core.specs.World.{World, Node, Nodes, Kind, File, fresh, node_at, is_folder_kind, is_folder, is_missing, has_members, prune, moved, touched, modified_at, with_new, adjust, made_with, last_number, IsWorld, Renumbers}
+use Rattle.dav_core.specs.World.{World, Node, Nodes, Kind, File, fresh, node_at, is_folder_kind, is_folder, is_missing, has_members, prune, moved, touched, modified_at, with_new, adjust, change_first, is_made_with, made_with, last_number, IsWorld, Renumbers}
 use Rattle.dav_core.specs.Property.{Properties}
+use Rattle.std.proofs.lemmas.Bool.{eqb-true}
 use Rattle.dav_core.specs.Handle.{Handle, Opening, opened}
 use Rattle.dav_core.specs.Meaning.{Meaning}
 use Rattle.dav_core.specs.Calls.{rename, open_at, emptied, without}
 use Rattle.dav_core.specs.Asking.{Call, Open, meaning}
-use Rattle.dav_core.specs.CallLaws.{IsProper, WritesToFile, TakesAway, brought, path_after, IsUnchanged, IsStill, NodesFollowRenames, NodesStay, NodesWereThere, NumbersTellBytes, MadeStands, OpenedStands, OpenedIsOpenFile, OpenFilesStay}
+use Rattle.dav_core.specs.CallLaws.{IsProper, WritesToFile, TakesAway, brought, path_after, IsUnchanged, IsStill, MayChange, OthersAreUnchanged, NodesFollowRenames, NodesStay, NodesWereThere, NumbersTellBytes, MadeStands, OpenedStands, OpenedIsOpenFile, OpenFilesStay}
 use Rattle.dav_core.proofs.NodesLemmas.{CameFrom, back-adjust, back-put, find-adjust, find-put_node, same_path, path-itself, apart}
 use Rattle.dav_core.proofs.FrontLemmas.{from_rest, no_rest}
 use Rattle.dav_core.proofs.CarriedLemmas.{Same, Same-adjust, Same-modified, back-prune, stays-prune, stays-moved, arrives-moved, renamed_world, back-renamed}
-use Rattle.dav_core.proofs.MadeLemmas.{made_stands, stands_made, change_made}
+use Rattle.dav_core.proofs.MadeLemmas.{find-change_other, made_stands, stands_made, change_made}
 use Rattle.dav_core.proofs.StepLemmas.{Step, unchanged, makes, renumbers, writes, patches, removes, renames, steps, went_on, went_if, left}
 use Rattle.dav_core.proofs.KeptLemmas.{at_path, calls_keep_worlds, numbers_rise}
 
@@ -137,15 +138,15 @@ step_stays call w new proper on_file world (makes q kind properties now none fol
     still_there (with_new w q kind properties now) new p (brought call p) n is (brings p)
     (stays-touched q now (put path_cmp q a_new w.nodes) (w.next + 1) p n
     (find-put_node p q a_new w.nodes ∙ ap (λ b. cond b (Some a_new) (find path_cmp p w.nodes)) (not_put w q p n none stood) ∙ stood))
-step_stays call w new proper on_file world (renumbers q x f there room change brings is) p n stood kept =
+step_stays call w new proper on_file world (renumbers q x f there room change may brings is) p n stood kept =
     still_there (record { nodes = adjust q f w.nodes; next = w.next + 1 }) new p (brought call p) n is (brings p)
     (stays-adjusted w q f (w.next + 1) p n stood (λ m at. renumbered_still w.next m (f m) (at_path w q x f there (change proper world) m at)))
-step_stays call w new proper on_file world (writes made x f first room change brings is) p n stood kept =
+step_stays call w new proper on_file world (writes made x f first room change may brings is) p n stood kept =
     let (q, there, _, at) = change_made made f w.nodes world.tree.sorted x first in
     let same : new ≡ record { nodes = adjust q f w.nodes; next = w.next + 1 } = is ∙ ap (λ (ns : Nodes). record { nodes = ns; next = w.next + 1 }) at in
     still_there (record { nodes = adjust q f w.nodes; next = w.next + 1 }) new p (brought call p) n same (brings p)
     (stays-adjusted w q f (w.next + 1) p n stood (λ m at. renumbered_still w.next m (f m) (at_path w q x f there (change proper on_file world) m at)))
-step_stays call w new proper on_file world (patches q f same brings is) p n stood kept =
+step_stays call w new proper on_file world (patches q f same may brings is) p n stood kept =
     still_there (record w { nodes = adjust q f w.nodes }) new p (brought call p) n is (brings p)
     (stays-adjusted w q f w.next p n stood (λ m at. ((same m).made, ap is_folder_kind (same m).kind)))
 step_stays call w new proper on_file world (removes q now some small takes brings is) p n stood kept =
@@ -157,6 +158,45 @@ step_stays call w new proper on_file world (renames from to now a b out folder s
 
 pub nodes_stay : NodesStay
 nodes_stay call w r p n proper on_file world h stood kept = step_stays call w r.1 proper on_file world (steps call w r h) p n stood kept
+
+-- the node n stands at q, unchanged but for its times
+abbrev Rests : World → Path → Node → Type 0
+Rests new q n = (m : Node) × (node_at new q ≡ Some m) × IsUnchanged n m
+
+rests_there : (old new : World) (p q : Path) (n : Node) → new ≡ old → q ≡ p → Rests old p n → Rests new q n
+rests_there old new p q n is path rests = subst (λ (x : World). Rests x q n) (sym is) (subst (λ (x : Path). Rests old x n) (sym path) rests)
+
+-- a change at another path
+rests-adjusted : (w : World) (p : Path) (f : Node → Node) (next : ℕ) (q : Path) (n : Node) → node_at w q ≡ Some n → p ≢ q → Rests (record { nodes = adjust p f w.nodes; next = next }) q n
+rests-adjusted w p f next q n stood other =
+    (n, find-adjust p f q w.nodes ∙ ap (λ b. cond b (option_map f (node_at w q)) (node_at w q)) (apart p q other) ∙ stood, refl)
+
+step_rests : (call : Call) (w new : World) → IsWorld w → Step call w new → (p : Path) (n : Node) → node_at w p ≡ Some n → ¬ TakesAway call p → ¬ MayChange call p n
+    → Rests new (brought call p) n
+step_rests call w new world (unchanged brings is) p n stood kept left_alone = rests_there w new p (brought call p) n is (brings p) (n, stood, refl)
+step_rests call w new world (makes q kind properties now none folder room sound brings is) p n stood kept left_alone =
+    let a_new : Node = record (fresh w.next kind now) { properties = properties } in
+    rests_there (with_new w q kind properties now) new p (brought call p) n is (brings p)
+    (after-touched q now (put path_cmp q a_new w.nodes) p n
+    (find-put_node p q a_new w.nodes ∙ ap (λ b. cond b (Some a_new) (find path_cmp p w.nodes)) (not_put w q p n none stood) ∙ stood))
+step_rests call w new world (renumbers q x f there room change may brings is) p n stood kept left_alone =
+    rests_there (record { nodes = adjust q f w.nodes; next = w.next + 1 }) new p (brought call p) n is (brings p)
+    (rests-adjusted w q f (w.next + 1) p n stood (λ e. left_alone (subst (λ (y : Path). MayChange call y n) e (may n))))
+step_rests call w new world (writes made x f first room change may brings is) p n stood kept left_alone =
+    rests_there (record { nodes = change_first (is_made_with made) f w.nodes; next = w.next + 1 }) new p (brought call p) n is (brings p)
+    (n, find-change_other made f p n (decided (n.made == made) (λ h. left_alone (may p n (sym (eqb-true n.made made h))))) w.nodes stood, refl)
+step_rests call w new world (patches q f same may brings is) p n stood kept left_alone =
+    rests_there (record w { nodes = adjust q f w.nodes }) new p (brought call p) n is (brings p)
+    (rests-adjusted w q f w.next p n stood (λ e. left_alone (subst (λ (y : Path). MayChange call y n) e (may n))))
+step_rests call w new world (removes q now some small takes brings is) p n stood kept left_alone =
+    rests_there (without w q now) new p (brought call p) n is (brings p)
+    (after-touched q now (prune q w.nodes) p n (stays-prune q p w.nodes (decided (is_at_or_below q p) (λ h. kept (takes world p n stood h))) ∙ stood))
+step_rests call w new world (renames from to now a b out folder sound takes brings is) p n stood kept left_alone =
+    rests_there (renamed_world w from to now) new (path_after from to p) (brought call p) n is (brings p)
+    (follows w from to now p n stood (decided (is_at_or_below to p) (λ h. kept (takes world p n stood h))))
+
+pub others_are_unchanged : OthersAreUnchanged
+others_are_unchanged call w r p n world h stood kept left_alone = step_rests call w r.1 world (steps call w r h) p n stood kept left_alone
 
 -- Where a node of the new world comes from: it stood there unchanged but for properties and times, or was changed by
 -- the call, or was made by it.
@@ -193,13 +233,13 @@ comes call w new proper on_file world (makes p kind properties now none folder r
     back-adjust (parent_of p) (modified_at now) (put path_cmp p a_new w.nodes) q m (ap (λ (x : World). node_at x q) (sym is) ∙ h) in
     born_by w p kind properties now q from.node m (Same-adjust (parent_of p) (modified_at now) (put path_cmp p a_new w.nodes) (λ n. Same-modified now n small) q m from)
     (back-put p a_new w.nodes q from.node from.stood)
-comes call w new proper on_file world (renumbers p x f there room change brings is) q m h =
+comes call w new proper on_file world (renumbers p x f there room change may brings is) q m h =
     comes-adjusted w p f (at_path w p x f there (change proper world)) q m (ap (λ (x : World). node_at x q) (sym is) ∙ h)
-comes call w new proper on_file world (writes made x f first room change brings is) q m h =
+comes call w new proper on_file world (writes made x f first room change may brings is) q m h =
     let (p, there, _, at) = change_made made f w.nodes world.tree.sorted x first in
     comes-adjusted w p f (at_path w p x f there (change proper on_file world)) q m
     (ap (find path_cmp q) (sym at) ∙ ap (λ (x : World). node_at x q) (sym is) ∙ h)
-comes call w new proper on_file world (patches p f same brings is) q m h =
+comes call w new proper on_file world (patches p f same may brings is) q m h =
     let from : CameFrom p f w.nodes q m = back-adjust p f w.nodes q m (ap (λ (x : World). node_at x q) (sym is) ∙ h) in
     comes_same w m q from.node from.stood (Same-adjust p f w.nodes same q m from)
 comes call w new proper on_file world (removes p now some small takes brings is) q m h =

@@ -24,13 +24,13 @@ step_keeps call w new proper on_file world (unchanged brings is) = subst IsWorld
 step_keeps call w new proper on_file world (makes p kind properties now none folder room sound brings is) =
     let (storable, sorted, small) = sound proper world in
     subst IsWorld (sym is) (new_keeps_world w p kind properties now world (some_number w room world.next) none folder storable.0 storable.1 sorted small)
-step_keeps call w new proper on_file world (renumbers p n f there room change brings is) =
+step_keeps call w new proper on_file world (renumbers p n f there room change may brings is) =
     subst IsWorld (sym is) (change_keeps_world w p f world (some_number w room world.next) (at_path w p n f there (change proper world)))
-step_keeps call w new proper on_file world (writes made n f stood room change brings is) =
+step_keeps call w new proper on_file world (writes made n f stood room change may brings is) =
     let (p, there, _, at) = change_made made f w.nodes world.tree.sorted n stood in
     let same : new ≡ record { nodes = adjust p f w.nodes; next = w.next + 1 } = is ∙ ap (λ (ns : Nodes). record { nodes = ns; next = w.next + 1 }) at in
     subst IsWorld (sym same) (change_keeps_world w p f world (some_number w room world.next) (at_path w p n f there (change proper on_file world)))
-step_keeps call w new proper on_file world (patches p f same brings is) = subst IsWorld (sym is) (same_keeps w p f same world)
+step_keeps call w new proper on_file world (patches p f same may brings is) = subst IsWorld (sym is) (same_keeps w p f same world)
 step_keeps call w new proper on_file world (removes p now some small takes brings is) = subst IsWorld (sym is) (without_keeps w p now (some world) (small proper) world)
 step_keeps call w new proper on_file world (renames from to now a b out folder sound takes brings is) =
     let (storable, small) = sound proper in
@@ -42,9 +42,9 @@ calls_keep_worlds call w r proper on_file world h = step_keeps call w r.1 proper
 next_by : (call : Call) (w new : World) → Step call w new → w.next ≤ new.next
 next_by call w new (unchanged brings is) = subst (λ (x : World). w.next ≤ x.next) (sym is) (omega arith)
 next_by call w new (makes p kind properties now none folder room sound brings is) = subst (λ (x : World). w.next ≤ x.next) (sym is) (omega arith)
-next_by call w new (renumbers p n f there room change brings is) = subst (λ (x : World). w.next ≤ x.next) (sym is) (omega arith)
-next_by call w new (writes made n f stood room change brings is) = subst (λ (x : World). w.next ≤ x.next) (sym is) (omega arith)
-next_by call w new (patches p f same brings is) = subst (λ (x : World). w.next ≤ x.next) (sym is) (omega arith)
+next_by call w new (renumbers p n f there room change may brings is) = subst (λ (x : World). w.next ≤ x.next) (sym is) (omega arith)
+next_by call w new (writes made n f stood room change may brings is) = subst (λ (x : World). w.next ≤ x.next) (sym is) (omega arith)
+next_by call w new (patches p f same may brings is) = subst (λ (x : World). w.next ≤ x.next) (sym is) (omega arith)
 next_by call w new (removes p now some small takes brings is) = subst (λ (x : World). w.next ≤ x.next) (sym is) (omega arith)
 next_by call w new (renames from to now a b out folder sound takes brings is) = subst (λ (x : World). w.next ≤ x.next) (sym is) (omega arith)
 

@@ -25,3 +25,4 @@ pub mod KeptLemmas
 pub mod AskingLemmas
 pub mod MemberLemmas
 pub mod FollowLemmas
+pub mod CopyLemmas

@@ -16,7 +16,7 @@ use Rattle.dav_core.specs.Handle.{Handle, Opening, opened, write_place, place_fo
 use Rattle.dav_core.specs.Meaning.{Meaning, refuse_if, at_node}
 use Rattle.dav_core.specs.Calls.{metadata_of, read_dir, create_dir, without, remove_dir, remove_file, rename, copy, copied_over, with_copy, emptied, open_at, open_file, read_bytes, written, write_bytes, sought, repatched, stored_tree}
 use Rattle.dav_core.specs.Asking.{Call, Metadata, ReadDir, EntryMetadata, CreateDir, RemoveDir, RemoveFile, Rename, Copy, HaveProps, PatchProps, GetProps, GetProp, GetQuota, SetAccessed, SetModified, Open, Read, Write, Seek, Flush, FileMetadata, Answer, meaning}
-use Rattle.dav_core.specs.CallLaws.{IsStorable, IsProper, WritesToFile, TakesAway, path_after, brought}
+use Rattle.dav_core.specs.CallLaws.{IsStorable, IsProper, WritesToFile, TakesAway, MayChange, path_after, brought}
 use Rattle.dav_core.proofs.FrontLemmas.{outside, from_rest}
 use Rattle.dav_core.proofs.MadeLemmas.{made_stands}
 use Rattle.dav_core.proofs.NodesLemmas.{differ_from, same_path}
@@ -72,10 +72,10 @@ pub data Step (call : Call) (w new : World) : Type 0 where
   makes : (p : Path) (kind : Kind) (properties : Properties) (now : ℕ) → node_at w p ≡ None → is_folder w (parent_of p) ≡ true → (w.next == last_number) ≡ false
       → (IsProper call → IsWorld w → IsStorable p × T (is_sorted key_cmp properties) × (now ≤ last_moment)) → InPlace call → new ≡ with_new w p kind properties now → Step call w new
   renumbers : (p : Path) (n : Node) (f : Node → Node) → node_at w p ≡ Some n → (w.next == last_number) ≡ false
-      → (IsProper call → IsWorld w → Renumbers w.next n (f n)) → InPlace call → new ≡ record { nodes = adjust p f w.nodes; next = w.next + 1 } → Step call w new
+      → (IsProper call → IsWorld w → Renumbers w.next n (f n)) → ((m : Node) → MayChange call p m) → InPlace call → new ≡ record { nodes = adjust p f w.nodes; next = w.next + 1 } → Step call w new
   writes : (made : ℕ) (n : Node) (f : Node → Node) → made_with made w.nodes ≡ Some n → (w.next == last_number) ≡ false
-      → (IsProper call → WritesToFile w call → IsWorld w → Renumbers w.next n (f n)) → InPlace call → new ≡ record { nodes = change_first (is_made_with made) f w.nodes; next = w.next + 1 } → Step call w new
-  patches : (p : Path) (f : Node → Node) → ((n : Node) → Same n (f n)) → InPlace call → new ≡ record w { nodes = adjust p f w.nodes } → Step call w new
+      → (IsProper call → WritesToFile w call → IsWorld w → Renumbers w.next n (f n)) → ((q : Path) (m : Node) → made ≡ m.made → MayChange call q m) → InPlace call → new ≡ record { nodes = change_first (is_made_with made) f w.nodes; next = w.next + 1 } → Step call w new
+  patches : (p : Path) (f : Node → Node) → ((n : Node) → Same n (f n)) → ((m : Node) → MayChange call p m) → InPlace call → new ≡ record w { nodes = adjust p f w.nodes } → Step call w new
   removes : (p : Path) (now : ℕ) → (IsWorld w → is_root p ≡ false) → (IsProper call → now ≤ last_moment)
       → (IsWorld w → (x : Path) (n : Node) → node_at w x ≡ Some n → is_at_or_below p x ≡ true → TakesAway call x) → InPlace call → new ≡ without w p now → Step call w new
   renames : (from to : Path) (now : ℕ) → is_root from ≡ false → is_root to ≡ false → is_at_or_below from to ≡ false → is_folder w (parent_of to) ≡ true
@@ -171,7 +171,7 @@ module _ (w : World) (from to : Path) (now : ℕ) (r : Unit {0} × World) where
         properties = (world.sound from source stood).properties;
         created = proper.1;
         modified = proper.1;
-      }) (λ x. refl) is
+      }) (λ m. refl) (λ x. refl) is
 
   copies : copy w from to now ≡ Ok r → Step (Copy from to now) w r.1
   copies h =
@@ -205,7 +205,7 @@ module _ (w : World) (p : Path) (how : Opening) (now : ℕ) (r : Handle × World
               properties = (world.sound p n there).properties;
               created = (world.sound p n there).created;
               modified = proper.1;
-            }) (λ x. refl) (left (opened n.made how) (record { nodes = adjust p (emptied w.next now) w.nodes; next = w.next + 1 }) r h3)
+            }) (λ m. refl) (λ x. refl) (left (opened n.made how) (record { nodes = adjust p (emptied w.next now) w.nodes; next = w.next + 1 }) r h3)
         | inr keeps ↦ unchanged (λ x. refl) (left (opened n.made how) w r keeps.1)
       ]
 
@@ -246,7 +246,7 @@ writes_to w file c now r h =
             properties = (world.sound p n there).properties;
             created = (world.sound p n there).created;
             modified = proper;
-          }) (λ x. refl) (left (record file { position = k + length c }) (record { nodes = change_first (is_made_with file.made) (written k c w.next now) w.nodes; next = w.next + 1 }) r h4)
+          }) (λ q m same. same) (λ x. refl) (left (record file { position = k + length c }) (record { nodes = change_first (is_made_with file.made) (written k c w.next now) w.nodes; next = w.next + 1 }) r h4)
       | inr none ↦ unchanged (λ x. refl) (left file w r none.1)
     ]
 
@@ -264,7 +264,7 @@ steps (Copy from to now) w r h = copies w from to now r h
 steps (HaveProps p) w r h = unchanged (λ x. refl) (left true w r h)
 steps (PatchProps p changes) w r h =
     let (n, stood, is) = found (node_at w p) _ r h in
-    patches p (repatched changes) (Same-repatched changes) (λ x. refl) (left _ (record w { nodes = adjust p (repatched changes) w.nodes }) r is)
+    patches p (repatched changes) (Same-repatched changes) (λ m. refl) (λ x. refl) (left _ (record w { nodes = adjust p (repatched changes) w.nodes }) r is)
 steps (GetProps p content) w r h = looks_up (GetProps p content) (λ x. refl) w (node_at w p) (λ n. map (shown_property content) n.properties) r h
 steps (GetProp p key) w r h =
     let (n, stood, is) = found (node_at w p) _ r h in

@@ -60,7 +60,7 @@ Answer (Seek file to) = ℕ × Handle
 Answer (Flush file) = Unit {0}
 Answer (FileMetadata file) = DavMetaData
 
--- what a call means: every store has properties, and none of them tells of quotas or sets times by themselves
+-- what a call means: every store has properties; telling of quotas and setting times are not implemented
 unfoldable pub meaning : (call : Call) → World → Meaning (Answer call)
 meaning (Metadata p) w = metadata w p
 meaning (ReadDir p) w = read_dir w p
@@ -121,11 +121,16 @@ ask call w [] = answered w (meaning call w)
 ask call w (None ∷ rs) = answered w (meaning call w)
 ask call w (Some e ∷ rs) = (Err e, w)
 
--- From old, a store may answer the call so, and be new: the answer is that of asking it; or the call takes memory and
--- there was none, and then nothing changed but that the store remembers it. The head of the refusals is used up.
+-- the call is refused: an error is at the head of the refusals
+abbrev pub next_refusal : List (Option FsError) → Option FsError
+next_refusal [] = None
+next_refusal (r ∷ rs) = r
+
+-- From old, a store may answer the call so, and be new: the answer is that of asking it; or the call isn't refused, takes
+-- memory, and there was none, and then nothing changed but that the store remembers it. The head of the refusals is used up.
 pub data Asks (call : Call) (old : StoreState) (answer : Result (Answer call) FsError) (new : StoreState) : Type 0 where
   asked : (answer, new.world) ≡ ask call old.world old.refusals → new.refusals ≡ rest_of old.refusals → new.short ≡ old.short → Asks call old answer new
-  ran_short : TakesMemory call → answer ≡ Err InsufficientStorage → new.world ≡ old.world → new.refusals ≡ rest_of old.refusals → new.short ≡ true → Asks call old answer new
+  ran_short : TakesMemory call → next_refusal old.refusals ≡ None → answer ≡ Err InsufficientStorage → new.world ≡ old.world → new.refusals ≡ rest_of old.refusals → new.short ≡ true → Asks call old answer new
 
 -- an answer, by what its value stands for
 abbrev pub seen : {A B : Type 0} → (A → B) → Result A FsError → Result B FsError

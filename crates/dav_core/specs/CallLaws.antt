@@ -1,13 +1,14 @@
 -- What holds of the words of a world and of the calls of a store: the statements of the laws.
-use Rattle.std.specs.Prelude.{◌≡◌, ◌≢◌, ◌++◌, ℕ, ◌<◌, ◌≤◌, ◌↔◌, ⊤, Bool, false, T, if◌then◌else◌, List, [], ◌∷◌, All, Contains, Option, Some, None, Result, Ok, Err}
+use Rattle.std.specs.Prelude.{◌≡◌, ◌≢◌, ◌++◌, ℕ, ◌<◌, ◌≤◌, ◌↔◌, ⊤, Bool, true, false, T, if◌then◌else◌, List, [], ◌∷◌, All, Contains, Option, Some, None, Result, Ok, Err}
 use Rattle.std.specs.Option.{option_map, option_or, option_and_then, unwrap_or}
 use Rattle.std.specs.FinMap.{find, put, is_sorted}
 use Rattle.dav_core.specs.declared.errors.FsError.{FsError}
+use Rattle.dav_core.specs.declared.errors.FsError.TheVariants.{Exists, Forbidden}
 use Rattle.dav_core.specs.declared.fs.DavMetaData.{DavMetaData}
-use Rattle.dav_core.specs.Path.{Path, name_cmp, path_cmp, is_same_path, rest_after, is_at_or_below, parent_of, IsName}
-use Rattle.dav_core.specs.World.{World, Node, Nodes, node_at, prune, graft, union, moved, members, adjust, touched, modified_at, made_with, is_folder_kind, last_moment, IsWorld}
+use Rattle.dav_core.specs.Path.{Path, name_cmp, path_cmp, is_same_path, rest_after, is_at_or_below, is_root, parent_of, IsName}
+use Rattle.dav_core.specs.World.{World, Node, Nodes, node_at, is_missing, is_folder, has_members, prune, graft, union, moved, members, adjust, touched, modified_at, made_with, is_folder_kind, last_moment, IsWorld}
 use Rattle.dav_core.specs.Handle.{Handle, Opening}
-use Rattle.dav_core.specs.Asking.{Call, Metadata, EntryMetadata, CreateDir, RemoveDir, RemoveFile, Rename, Copy, Open, Write, FileMetadata, Answer, meaning, StoreState, Asks, ask, rest_of}
+use Rattle.dav_core.specs.Asking.{Call, Metadata, EntryMetadata, CreateDir, RemoveDir, RemoveFile, Rename, Copy, PatchProps, Open, Write, FileMetadata, Answer, meaning, StoreState, Asks, ask, rest_of}
 
 -- after a prune of p nothing stands at p or below it, and all else as before
 abbrev pub PruneLeaves : Type 0
@@ -172,6 +173,14 @@ TakesAway (RemoveFile q now) p = q ≡ p
 TakesAway (Rename from to now) p = (from ≢ to) × (to ≡ p)
 TakesAway _ p = ⊥
 
+-- the call may change the node n at p by itself: it patches p, copies to it, opens it, or writes to n
+abbrev pub MayChange : Call → Path → Node → Type 0
+MayChange (PatchProps q patches) p n = q ≡ p
+MayChange (Copy from to now) p n = to ≡ p
+MayChange (Open q how now) p n = q ≡ p
+MayChange (Write file bytes now) p n = file.made ≡ n.made
+MayChange _ p n = ⊥
+
 -- m is n, but for the moment of its last change
 abbrev pub IsUnchanged : Node → Node → Type 0
 IsUnchanged n m = m ≡ record n { modified = m.modified }
@@ -193,6 +202,13 @@ NodesStay =
     (call : Call) (w : World) (r : Answer call × World) (p : Path) (n : Node)
     → IsProper call → WritesToFile w call → IsWorld w → meaning call w ≡ Ok r → node_at w p ≡ Some n → ¬ TakesAway call p
     → (m : Node) × (node_at r.1 (brought call p) ≡ Some m) × IsStill n m
+
+-- what a call neither takes away nor may change is as it was, but for the moment of its last change
+abbrev pub OthersAreUnchanged : Type 0
+OthersAreUnchanged =
+    (call : Call) (w : World) (r : Answer call × World) (p : Path) (n : Node)
+    → IsWorld w → meaning call w ≡ Ok r → node_at w p ≡ Some n → ¬ TakesAway call p → ¬ MayChange call p n
+    → (m : Node) × (node_at r.1 (brought call p) ≡ Some m) × IsUnchanged n m
 
 -- what is there after a call and was made with an older number was there before: nothing comes back
 abbrev pub NodesWereThere : Type 0
@@ -235,3 +251,29 @@ abbrev pub OpenFilesStay : Type 0
 OpenFilesStay =
     (call : Call) (w : World) (r : Answer call × World) (file : Handle)
     → IsProper call → WritesToFile w call → IsWorld w → meaning call w ≡ Ok r → IsOpenFile w file → IsOpenFile r.1 file
+
+-- m is a copy of source that was made at this moment with this number: it has its bytes and dead properties
+pub record IsCopy (source : Node) (number now : ℕ) (m : Node) : Type 0 where
+  pub kind : m.kind ≡ source.kind
+  pub properties : m.properties ≡ source.properties
+  pub number_is : m.number ≡ number
+  pub created : m.created ≡ now
+  pub modified : m.modified ≡ now
+
+-- a copy that is answered puts a copy of what stands at the one path to the other, with the next number
+abbrev pub CopyBrings : Type 0
+CopyBrings =
+    (from to : Path) (now : ℕ) (w : World) (r : Unit {0} × World) (source : Node)
+    → meaning (Copy from to now) w ≡ Ok r → node_at w from ≡ Some source → (m : Node) × (node_at r.1 to ≡ Some m) × IsCopy source w.next now m
+
+-- a folder is no place for a copy
+abbrev pub CopySparesFolders : Type 0
+CopySparesFolders =
+    (from to : Path) (now : ℕ) (w : World)
+    → is_missing w from ≡ false → is_folder w to ≡ true → meaning (Copy from to now) w ≡ Err Forbidden
+
+-- a folder with members isn't removed
+abbrev pub RemovalSparesMembers : Type 0
+RemovalSparesMembers =
+    (p : Path) (now : ℕ) (w : World)
+    → is_root p ≡ false → is_folder w p ≡ true → has_members w p ≡ true → meaning (RemoveDir p now) w ≡ Err Exists

@@ -28,6 +28,10 @@ pub record IsName (p : List ℕ) : Type 0 where
   pub not_blank : ¬ IsBlank p
   pub not_parent : p ≢ parent_piece
 
+-- A segment: nonempty bytes without a slash (RFC 3986, section 3.3). Each name is one.
+abbrev pub IsSegment : List ℕ → Type 0
+IsSegment p = (p ≢ []) × All (λ b. b ≢ 47) p
+
 -- A path: the names from the root down. The root is the empty list.
 abbrev pub Path : Type 0
 Path = List (List ℕ)

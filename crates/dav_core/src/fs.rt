@@ -150,18 +150,21 @@ pub enum ReadDirMeta {
 /// An entry of a listing. It is told of without asking the store again.
 pub trait DavDirEntry: Drop {
     ghost use Rattle.std.specs.Prelude.{◌≡◌, ℕ, Bool, false, not, List};
-    ghost use Rattle.dav_core.specs.Path.{Path};
+    ghost use Rattle.dav_core.specs.Path.{Path, IsSegment};
 
-    /// Where it stood, and whether it was a folder, when the listing was made; its name is the last one there.
+    /// The folder that was listed.
     ghost entry_folder: { Self → Path };
 
+    /// The name in it.
     ghost entry_name: { Self → List ℕ };
 
+    /// Whether a folder stood there.
     ghost entry_dir: { Self → Bool };
 
-    /// The name.
+    /// The name; it isn't empty and holds no slash.
     fn name(&self) -> &[u8]
-        ensures { result.now ≡ entry_name self.now };
+        ensures value { result.now ≡ entry_name self.now }
+        ensures segment { IsSegment result.now };
 
     /// Whether it was a folder.
     fn is_dir(&self) -> bool

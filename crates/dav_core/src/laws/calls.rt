@@ -1,6 +1,6 @@
 //! Laws of what a file store holds and of its calls. Each function does nothing: its contract is a theorem on the
 //! definitions.
-ghost use Rattle.dav_core.specs.CallLaws.{PruneLeaves, AdjustChanges, UnionHasBoth, GraftMoves, MovedStands, TouchedIsModified, PutStands, PruneKeepsOrder, AdjustKeepsOrder, UnionKeepsOrder, GraftKeepsOrder, MovedKeepsOrder, CallsKeepWorlds, NumbersRise, TimesAreShown, AskingIsDetermined, ErrorsLeaveWorlds, RefusalsAreUsedUp, RefusalIsAnswered, CanBeAsked, MembersStandBelow, MembersRise, ListsWhatStands, NodesFollowRenames, NodesStay, NodesWereThere, NumbersTellBytes, MadeStands, OpenedStands, OpenedIsOpenFile, OpenFilesStay};
+ghost use Rattle.dav_core.specs.CallLaws.{PruneLeaves, AdjustChanges, UnionHasBoth, GraftMoves, MovedStands, TouchedIsModified, PutStands, PruneKeepsOrder, AdjustKeepsOrder, UnionKeepsOrder, GraftKeepsOrder, MovedKeepsOrder, CallsKeepWorlds, NumbersRise, TimesAreShown, AskingIsDetermined, ErrorsLeaveWorlds, RefusalsAreUsedUp, RefusalIsAnswered, CanBeAsked, MembersStandBelow, MembersRise, ListsWhatStands, NodesFollowRenames, NodesStay, OthersAreUnchanged, NodesWereThere, NumbersTellBytes, MadeStands, OpenedStands, OpenedIsOpenFile, OpenFilesStay, CopyBrings, CopySparesFolders, RemovalSparesMembers};
 
 /// What stands at any path after each operation on the whole map, whatever the map's order.
 pub fn nodes_after()
@@ -48,11 +48,13 @@ pub fn asking_is_determined()
     ensures can_be { CanBeAsked }
 {}
 
-/// A folder or file that a call doesn't take away is still there, at its path or where a rename brings it; what was
-/// taken away never comes back; and what keeps its number keeps its bytes, so each change of bytes takes a new number.
+/// A folder or file that a call doesn't take away is still there, at its path or where a rename brings it, and as it
+/// was, but for its moments, where the call isn't a change of it. What was taken away never comes back; and what keeps
+/// its number keeps its bytes, so each change of bytes takes a new number.
 pub fn nodes_follow()
     ensures renamed { NodesFollowRenames }
     ensures stay { NodesStay }
+    ensures others { OthersAreUnchanged }
     ensures were_there { NodesWereThere }
     ensures numbers { NumbersTellBytes }
 {}
@@ -64,4 +66,12 @@ pub fn open_files_follow()
     ensures opened { OpenedStands }
     ensures is_open { OpenedIsOpenFile }
     ensures stays { OpenFilesStay }
+{}
+
+/// A copy has the bytes and dead properties of its source, the next number and the moment of the call as both times.
+/// It doesn't go to a path at which a folder stands, and a folder with members isn't removed.
+pub fn copies_and_removals()
+    ensures brings { CopyBrings }
+    ensures spares_folders { CopySparesFolders }
+    ensures spares_members { RemovalSparesMembers }
 {}
