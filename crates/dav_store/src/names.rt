@@ -1,7 +1,7 @@
 //! The names of a path, which own their bytes (RFC 3986, section 3.3), and paths compared with them.
 ghost use Rattle.std.specs.Prelude.{◌≡◌, ◌∷◌, ◌++◌, [], IfOk, OnOk, OnErr, option_map, option_copied};
 ghost use Rattle.std.specs.Ordering.{is_eq};
-ghost use Rattle.dav_core.specs.Path.{names, name_cmp, path_cmp, is_same_path, is_at_or_below, is_below, rest_after, parent_of, only_name, fronts};
+ghost use Rattle.dav_core.specs.Path.{names, name_cmp, path_cmp, is_same_path, is_at_or_below, is_below, rest_after, parent_of, only_name, IsSegment};
 ghost use Rattle.dav_core.specs.PathRef.{names_left};
 
 use dav_core::davpath::{DavPath, Segments};
@@ -18,24 +18,29 @@ pub struct Name {
 
 impl Model for Name {
     ghost use Rattle.std.specs.Prelude.{ℕ, List};
+    ghost use Rattle.dav_core.specs.Path.{IsSegment};
 
     ghost Value = { List ℕ };
 
     ghost view = { λ n. n.bytes.items };
+
+    ghost invariant = { λ n. IsSegment n.bytes.items };
 }
 
 impl Name {
     /// A name with these bytes.
     pub fn from_slice(alloc: Global, bytes: &[u8]) -> Result<Name, NoMemory>
+        requires { IsSegment bytes.now }
         ensures { IfOk result (λ n. n ≡ bytes.now) }
     {
         let bytes = Vec::from_slice(alloc, bytes)?;
         Ok(Name { bytes })
     }
 
-    /// The bytes.
+    /// The bytes; there are some, and no slash is among them.
     pub fn as_slice(&self) -> &[u8]
-        ensures { result.now ≡ self.now }
+        ensures value { result.now ≡ self.now }
+        ensures segment { IsSegment result.now }
     {
         &self.bytes
     }
@@ -167,6 +172,29 @@ fn are_all_but_last(first: &[u8], mut others: Segments<'_>, names: &[Name]) -> b
     }
 }
 
+// Whether the names are those of a folder and one more.
+fn are_of_member(folder: &[Name], name: &Name, names: &[Name]) -> bool
+    ensures { result ≡ is_same_path (folder.now ++ name.now ∷ []) names.now }
+{
+    match folder {
+        [] => match names {
+            [] => false,
+            [y] => name.compare(y).is_eq(),
+            [_, _, ..] => false,
+        },
+        [x, xs @ ..] => match names {
+            [] => false,
+            [y, ys @ ..] => {
+                if x.compare(y).is_eq() {
+                    are_of_member(xs, name, ys)
+                } else {
+                    false
+                }
+            }
+        },
+    }
+}
+
 impl Names {
     ghost use Rattle.std.specs.Prelude.{◌≡◌, ◌∷◌, ◌++◌, [], IfOk, OnOk, OnErr, option_map, option_copied, Bool};
     ghost use Rattle.dav_core.specs.Path.{names, path_cmp, is_same_path, is_at_or_below, rest_after, parent_of, only_name};
@@ -221,5 +249,40 @@ impl Names {
         ensures { result ≡ is_at_or_below (names path.now) self.now }
     {
         rest_behind(path.segments(), &self.names).is_some()
+    }
+
+    /// Whether these are the names of a folder and one more.
+    pub fn are_of_member(&self, folder: &Names, name: &Name) -> bool
+        ensures { result ≡ is_same_path (folder.now ++ name.now ∷ []) self.now }
+    {
+        are_of_member(&folder.names, name, &self.names)
+    }
+
+    /// The one name that follows those of the path; `None` where another number does.
+    pub fn name_below(&self, path: &DavPath) -> Option<&Name>
+        ensures { option_copied result ≡ only_name (rest_after (names path.now) self.now) }
+    {
+        match rest_behind(path.segments(), &self.names)? {
+            [] => None,
+            [name] => Some(name),
+            [_, _, ..] => None,
+        }
+    }
+
+    /// The names with those of `to` in the place of those of `from`; `None` where they don't begin with these.
+    pub fn grafted(
+        &self,
+        alloc: Global,
+        from: &DavPath,
+        to: &DavPath,
+    ) -> Result<Option<Names>, NoMemory>
+        ensures { IfOk result (λ ns. ns ≡ option_map (λ rest. names to.now ++ rest) (rest_after (names from.now) self.now)) }
+    {
+        let Some(rest) = rest_behind(from.segments(), &self.names) else {
+            return Ok(None);
+        };
+        let mut names = Names::of(alloc, to)?.names;
+        names.extend_from_slice(rest)?;
+        Ok(Some(Names { names }))
     }
 }
