@@ -1,5 +1,5 @@
 //! A list of paths and nodes, in order of the paths.
-ghost use Rattle.std.specs.Prelude.{◌≡◌, ◌∷◌, ◌++◌, ◌+◌, ◌<◌, ◌≤◌, [], not, IfOk, OnOk, OnErr, Option, option_map, option_copied, position, map, vec_len, length};
+ghost use Rattle.std.specs.Prelude.{◌≡◌, ◌∷◌, ◌++◌, ◌+◌, ◌<◌, ◌≤◌, [], not, IfOk, OnOk, OnErr, Option, option_map, option_copied, position, map, vec_len, length, reverse};
 ghost use Rattle.std.specs.Vec.{vec_capacity};
 ghost use Rattle.std.specs.List.{insert};
 ghost use Rattle.std.specs.FinMap.{find, put};
@@ -150,4 +150,81 @@ pub fn put_node(entries: &mut Vec<(Names, Node)>, path: Names, node: Node)
         }
         None => push_within(entries, path, node),
     }
+}
+
+/// Each of these nodes at its path, in the place of what stands there; there is room for them.
+fn put_all(entries: &mut Vec<(Names, Node)>, mut nodes: Vec<(Names, Node)>)
+    requires { vec_len entries.old + vec_len nodes ≤ vec_capacity entries.old }
+    ensures { entries.new.items ≡ union nodes.items entries.old.items }
+{
+    while let Some((path, node)) = nodes.pop() {
+        put_node(entries, path, node);
+    }
+}
+
+// The paths that what is at `from` and below it has when it is at `to`.
+fn grafted_keys(
+    alloc: Global,
+    entries: &[(Names, Node)],
+    from: &DavPath,
+    to: &DavPath,
+) -> Result<Vec<Names>, NoMemory>
+    ensures { IfOk result (λ keys. keys.items ≡ map (λ e. e.0) (graft (names from.now) (names to.now) entries.now)) }
+{
+    let mut keys = Vec::new(alloc);
+    for e in entries {
+        if let Some(key) = e.0.grafted(alloc, from, to)? {
+            keys.push(key)?;
+        }
+    }
+    Ok(keys)
+}
+
+// Parts the nodes, the last of which comes first: what moves, under the new keys, and what stays and isn't replaced.
+fn part(
+    old: &mut Vec<(Names, Node)>,
+    keys: &mut Vec<Names>,
+    from: &DavPath,
+    to: &DavPath,
+    kept: &mut Vec<(Names, Node)>,
+    moving: &mut Vec<(Names, Node)>,
+)
+    requires keys { reverse keys.old.items ≡ map (λ e. e.0) (graft (names from.now) (names to.now) (reverse old.old.items)) }
+    requires kept_room { vec_len kept.old + vec_len old.old ≤ vec_capacity kept.old }
+    requires moving_room { vec_len moving.old + vec_len keys.old ≤ vec_capacity moving.old }
+    ensures kept { kept.new.items ≡ kept.old.items ++ prune (names to.now) (prune (names from.now) (reverse old.old.items)) }
+    ensures moving { moving.new.items ≡ moving.old.items ++ graft (names from.now) (names to.now) (reverse old.old.items) }
+    ensures kept_capacity { vec_capacity kept.old ≤ vec_capacity kept.new }
+    ensures count { vec_len kept.new + vec_len moving.new ≤ vec_len kept.old + vec_len moving.old + vec_len old.old }
+{
+    while let Some((path, node)) = old.pop() {
+        if path.are_at_or_below(from) {
+            if let Some(key) = keys.pop() {
+                push_within(moving, key, node);
+            }
+        } else if !path.are_at_or_below(to) {
+            push_within(kept, path, node);
+        }
+    }
+}
+
+/// What is at `from` and below it goes to `to`, in the place of what is there. Where memory runs out, nothing changes.
+pub fn move_nodes(
+    alloc: Global,
+    entries: &mut Vec<(Names, Node)>,
+    from: &DavPath,
+    to: &DavPath,
+) -> Result<(), NoMemory>
+    ensures ok { OnOk result (entries.new.items ≡ moved (names from.now) (names to.now) entries.old.items) }
+    ensures err { OnErr result (entries.new.items ≡ entries.old.items) }
+{
+    let mut keys = grafted_keys(alloc, entries, from, to)?;
+    let mut moving = Vec::with_capacity(alloc, keys.len())?;
+    let mut kept = Vec::with_capacity(alloc, entries.len())?;
+    entries.reverse();
+    keys.reverse();
+    part(entries, &mut keys, from, to, &mut kept, &mut moving);
+    put_all(&mut kept, moving);
+    *entries = kept;
+    Ok(())
 }
