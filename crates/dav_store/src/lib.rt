@@ -4,4 +4,5 @@
 mod entries;
 mod names;
 mod node;
+mod paths;
 mod properties;
