@@ -1,3 +1,4 @@
 pub mod NameLemmas
 pub mod Place
 pub mod PropertyLemmas
+pub mod MemberLemmas

@@ -2,3 +2,4 @@ pub mod Store
 pub mod NodeCode
 pub mod KindOf
 pub mod Answered
+pub mod Listing

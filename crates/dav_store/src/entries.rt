@@ -228,3 +228,22 @@ pub fn move_nodes(
     *entries = kept;
     Ok(())
 }
+
+/// A new node at a path; its folder was changed now. Where memory runs out, nothing changes.
+pub fn add_node(
+    alloc: Global,
+    entries: &mut Vec<(Names, Node)>,
+    path: &DavPath,
+    node: Node,
+    now: u64,
+) -> Result<(), NoMemory>
+    requires { now ≤ last_moment }
+    ensures ok { OnOk result (entries.new.items ≡ touched (names path.now) now (put path_cmp (names path.now) node entries.old.items)) }
+    ensures err { OnErr result (entries.new.items ≡ entries.old.items) }
+{
+    let key = Names::of(alloc, path)?;
+    entries.reserve(1)?;
+    put_node(entries, key, node);
+    touch_folder(entries, path, now);
+    Ok(())
+}

@@ -2,6 +2,7 @@
 #![tactic(auto)]
 
 mod entries;
+pub mod memfs;
 mod names;
 mod node;
 mod paths;
