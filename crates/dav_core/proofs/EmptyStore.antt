@@ -1,9 +1,9 @@
 -- A store that holds the root alone: what its calls answer.
-use Rattle.std.proofs.Common.{◌≡◌, ℕ, Bool, true, false, List, [], ◌∷◌, Some, None, Result, Ok, Err, refl}
+use Rattle.std.proofs.Common.{◌≡◌, ℕ, Bool, true, false, [], ◌∷◌, Some, Result, Ok, Err, refl}
 use Rattle.dav_core.specs.declared.errors.FsError.{FsError}
 use Rattle.dav_core.specs.declared.errors.FsError.TheVariants.{NotImplemented, NotFound, Forbidden}
 use Rattle.dav_core.specs.Path.{Path, is_root}
-use Rattle.dav_core.specs.World.{World, empty_from}
+use Rattle.dav_core.specs.World.{empty_from}
 use Rattle.dav_core.specs.Asking.{Call, Answer, Metadata, ReadDir, RemoveDir, RemoveFile, HaveProps, GetQuota, SetAccessed, SetModified, StoreState, Asks, asked, answered, meaning}
 
 -- the store, short of memory at some time or not

@@ -4,18 +4,17 @@ use Rattle.std.specs.Option.{option_map, unwrap_or, is_some}
 use Rattle.std.specs.FinMap.{find, put}
 use Rattle.dav_core.specs.declared.errors.FsError.TheVariants.{GeneralFailure, Exists, NotFound, Forbidden}
 use Rattle.dav_core.specs.Path.{Path, path_cmp, is_same_path, is_at_or_below, is_below, is_root, rest_after, parent_of}
-use Rattle.dav_core.specs.World.{World, Node, Nodes, Kind, File, fresh, node_at, is_folder_kind, is_folder, is_missing, has_members, prune, moved, touched, modified_at, with_new, adjust, change_first, is_made_with, made_with, last_number, IsWorld, Renumbers}
+use Rattle.dav_core.specs.World.{World, Node, Nodes, Kind, File, fresh, node_at, is_folder_kind, is_folder, is_missing, has_members, prune, moved, touched, modified_at, with_new, adjust, change_first, is_file_made_with, file_made_with, last_number, IsWorld, Renumbers}
 use Rattle.dav_core.specs.Property.{Properties}
-use Rattle.std.proofs.lemmas.Bool.{eqb-true}
 use Rattle.dav_core.specs.Handle.{Handle, Opening, opened}
 use Rattle.dav_core.specs.Meaning.{Meaning}
 use Rattle.dav_core.specs.Calls.{rename, open_at, emptied, without}
 use Rattle.dav_core.specs.Asking.{Call, Open, meaning}
-use Rattle.dav_core.specs.CallLaws.{IsProper, WritesToFile, TakesAway, brought, path_after, IsUnchanged, IsStill, MayChange, OthersAreUnchanged, NodesFollowRenames, NodesStay, NodesWereThere, NumbersTellBytes, MadeStands, OpenedStands, OpenedIsOpenFile, OpenFilesStay}
+use Rattle.dav_core.specs.CallLaws.{IsProper, TakesAway, brought, path_after, IsUnchanged, IsStill, MayChange, OthersAreUnchanged, NodesFollowRenames, NodesStay, NodesWereThere, NumbersTellBytes, MadeStands, StandsFor, OpenedStands, OpenedIsOpenFile, OpenFilesStay, TakenNeverReturn}
 use Rattle.dav_core.proofs.NodesLemmas.{CameFrom, back-adjust, back-put, find-adjust, find-put_node, same_path, path-itself, apart}
 use Rattle.dav_core.proofs.FrontLemmas.{from_rest, no_rest}
 use Rattle.dav_core.proofs.CarriedLemmas.{Same, Same-adjust, Same-modified, back-prune, stays-prune, stays-moved, arrives-moved, renamed_world, back-renamed}
-use Rattle.dav_core.proofs.MadeLemmas.{find-change_other, made_stands, stands_made, change_made}
+use Rattle.dav_core.proofs.MadeLemmas.{passed, find-change_other, made_stands, stands_made, change_made}
 use Rattle.dav_core.proofs.StepLemmas.{Step, unchanged, makes, renumbers, writes, patches, removes, renames, steps, went_on, went_if, left}
 use Rattle.dav_core.proofs.KeptLemmas.{at_path, calls_keep_worlds, numbers_rise}
 
@@ -130,34 +129,34 @@ renumbered_still number n m r = (r.made, r.kind)
 still_there : (old new : World) (p q : Path) (n : Node) → new ≡ old → q ≡ p → Stays old p n → Stays new q n
 still_there old new p q n is path stays = subst (λ (x : World). Stays x q n) (sym is) (subst (λ (x : Path). Stays old x n) (sym path) stays)
 
-step_stays : (call : Call) (w new : World) → IsProper call → WritesToFile w call → IsWorld w → Step call w new → (p : Path) (n : Node) → node_at w p ≡ Some n → ¬ TakesAway call p
+step_stays : (call : Call) (w new : World) → IsProper call → IsWorld w → Step call w new → (p : Path) (n : Node) → node_at w p ≡ Some n → ¬ TakesAway call p
     → Stays new (brought call p) n
-step_stays call w new proper on_file world (unchanged brings is) p n stood kept = still_there w new p (brought call p) n is (brings p) (n, stood, (refl, refl))
-step_stays call w new proper on_file world (makes q kind properties now none folder room sound brings is) p n stood kept =
+step_stays call w new proper world (unchanged brings is) p n stood kept = still_there w new p (brought call p) n is (brings p) (n, stood, (refl, refl))
+step_stays call w new proper world (makes q kind properties now none folder room sound brings is) p n stood kept =
     let a_new : Node = record (fresh w.next kind now) { properties = properties } in
     still_there (with_new w q kind properties now) new p (brought call p) n is (brings p)
     (stays-touched q now (put path_cmp q a_new w.nodes) (w.next + 1) p n
     (find-put_node p q a_new w.nodes ∙ ap (λ b. cond b (Some a_new) (find path_cmp p w.nodes)) (not_put w q p n none stood) ∙ stood))
-step_stays call w new proper on_file world (renumbers q x f there room change may brings is) p n stood kept =
+step_stays call w new proper world (renumbers q x f there room change may brings is) p n stood kept =
     still_there (record { nodes = adjust q f w.nodes; next = w.next + 1 }) new p (brought call p) n is (brings p)
     (stays-adjusted w q f (w.next + 1) p n stood (λ m at. renumbered_still w.next m (f m) (at_path w q x f there (change proper world) m at)))
-step_stays call w new proper on_file world (writes made x f first room change may brings is) p n stood kept =
-    let (q, there, _, at) = change_made made f w.nodes world.tree.sorted x first in
+step_stays call w new proper world (writes made x f first room change may brings is) p n stood kept =
+    let (q, there, at) = change_made made f w.nodes world.tree.sorted x first in
     let same : new ≡ record { nodes = adjust q f w.nodes; next = w.next + 1 } = is ∙ ap (λ (ns : Nodes). record { nodes = ns; next = w.next + 1 }) at in
     still_there (record { nodes = adjust q f w.nodes; next = w.next + 1 }) new p (brought call p) n same (brings p)
-    (stays-adjusted w q f (w.next + 1) p n stood (λ m at. renumbered_still w.next m (f m) (at_path w q x f there (change proper on_file world) m at)))
-step_stays call w new proper on_file world (patches q f same may brings is) p n stood kept =
+    (stays-adjusted w q f (w.next + 1) p n stood (λ m at. renumbered_still w.next m (f m) (at_path w q x f there (change proper world) m at)))
+step_stays call w new proper world (patches q f same may brings is) p n stood kept =
     still_there (record w { nodes = adjust q f w.nodes }) new p (brought call p) n is (brings p)
     (stays-adjusted w q f w.next p n stood (λ m at. ((same m).made, ap is_folder_kind (same m).kind)))
-step_stays call w new proper on_file world (removes q now some small takes brings is) p n stood kept =
+step_stays call w new proper world (removes q now some small takes brings is) p n stood kept =
     still_there (without w q now) new p (brought call p) n is (brings p)
     (stays-touched q now (prune q w.nodes) w.next p n (stays-prune q p w.nodes (decided (is_at_or_below q p) (λ h. kept (takes world p n stood h))) ∙ stood))
-step_stays call w new proper on_file world (renames from to now a b out folder sound takes brings is) p n stood kept =
+step_stays call w new proper world (renames from to now a b out folder sound takes brings is) p n stood kept =
     let (m, there, same) = follows w from to now p n stood (decided (is_at_or_below to p) (λ h. kept (takes world p n stood h))) in
     still_there (renamed_world w from to now) new (path_after from to p) (brought call p) n is (brings p) (m, there, unchanged_still n m same)
 
 pub nodes_stay : NodesStay
-nodes_stay call w r p n proper on_file world h stood kept = step_stays call w r.1 proper on_file world (steps call w r h) p n stood kept
+nodes_stay call w r p n proper world h stood kept = step_stays call w r.1 proper world (steps call w r h) p n stood kept
 
 -- the node n stands at q, unchanged but for its times
 abbrev Rests : World → Path → Node → Type 0
@@ -183,8 +182,8 @@ step_rests call w new world (renumbers q x f there room change may brings is) p 
     rests_there (record { nodes = adjust q f w.nodes; next = w.next + 1 }) new p (brought call p) n is (brings p)
     (rests-adjusted w q f (w.next + 1) p n stood (λ e. left_alone (subst (λ (y : Path). MayChange call y n) e (may n))))
 step_rests call w new world (writes made x f first room change may brings is) p n stood kept left_alone =
-    rests_there (record { nodes = change_first (is_made_with made) f w.nodes; next = w.next + 1 }) new p (brought call p) n is (brings p)
-    (n, find-change_other made f p n (decided (n.made == made) (λ h. left_alone (may p n (sym (eqb-true n.made made h))))) w.nodes stood, refl)
+    rests_there (record { nodes = change_first (is_file_made_with made) f w.nodes; next = w.next + 1 }) new p (brought call p) n is (brings p)
+    (n, find-change_other made f p n (decided ((n.made == made) && not (is_folder_kind n.kind)) (λ h. let (same, file) = passed made n h in left_alone (may p n (sym same) file))) w.nodes stood, refl)
 step_rests call w new world (patches q f same may brings is) p n stood kept left_alone =
     rests_there (record w { nodes = adjust q f w.nodes }) new p (brought call p) n is (brings p)
     (rests-adjusted w q f w.next p n stood (λ e. left_alone (subst (λ (y : Path). MayChange call y n) e (may n))))
@@ -224,29 +223,29 @@ born_by : (w : World) (p : Path) (kind : Kind) (properties : Properties) (now : 
 born_by w p kind properties now q x m same (inl (_, e)) = born (same.made ∙ ap (λ (y : Node). y.made) e) (same.number ∙ ap (λ (y : Node). y.number) e)
 born_by w p kind properties now q x m same (inr stood) = comes_same w m q x stood same
 
-comes : (call : Call) (w new : World) → IsProper call → WritesToFile w call → IsWorld w → Step call w new → (q : Path) (m : Node) → node_at new q ≡ Some m → Comes w m
-comes call w new proper on_file world (unchanged brings is) q m h = stayed q m (ap (λ (x : World). node_at x q) (sym is) ∙ h) refl refl refl
-comes call w new proper on_file world (makes p kind properties now none folder room sound brings is) q m h =
+comes : (call : Call) (w new : World) → IsProper call → IsWorld w → Step call w new → (q : Path) (m : Node) → node_at new q ≡ Some m → Comes w m
+comes call w new proper world (unchanged brings is) q m h = stayed q m (ap (λ (x : World). node_at x q) (sym is) ∙ h) refl refl refl
+comes call w new proper world (makes p kind properties now none folder room sound brings is) q m h =
     let a_new : Node = record (fresh w.next kind now) { properties = properties } in
     let (storable, sorted, small) = sound proper world in
     let from : CameFrom (parent_of p) (modified_at now) (put path_cmp p a_new w.nodes) q m =
     back-adjust (parent_of p) (modified_at now) (put path_cmp p a_new w.nodes) q m (ap (λ (x : World). node_at x q) (sym is) ∙ h) in
     born_by w p kind properties now q from.node m (Same-adjust (parent_of p) (modified_at now) (put path_cmp p a_new w.nodes) (λ n. Same-modified now n small) q m from)
     (back-put p a_new w.nodes q from.node from.stood)
-comes call w new proper on_file world (renumbers p x f there room change may brings is) q m h =
+comes call w new proper world (renumbers p x f there room change may brings is) q m h =
     comes-adjusted w p f (at_path w p x f there (change proper world)) q m (ap (λ (x : World). node_at x q) (sym is) ∙ h)
-comes call w new proper on_file world (writes made x f first room change may brings is) q m h =
-    let (p, there, _, at) = change_made made f w.nodes world.tree.sorted x first in
-    comes-adjusted w p f (at_path w p x f there (change proper on_file world)) q m
+comes call w new proper world (writes made x f first room change may brings is) q m h =
+    let (p, there, at) = change_made made f w.nodes world.tree.sorted x first in
+    comes-adjusted w p f (at_path w p x f there (change proper world)) q m
     (ap (find path_cmp q) (sym at) ∙ ap (λ (x : World). node_at x q) (sym is) ∙ h)
-comes call w new proper on_file world (patches p f same may brings is) q m h =
+comes call w new proper world (patches p f same may brings is) q m h =
     let from : CameFrom p f w.nodes q m = back-adjust p f w.nodes q m (ap (λ (x : World). node_at x q) (sym is) ∙ h) in
     comes_same w m q from.node from.stood (Same-adjust p f w.nodes same q m from)
-comes call w new proper on_file world (removes p now some small takes brings is) q m h =
+comes call w new proper world (removes p now some small takes brings is) q m h =
     let from : CameFrom (parent_of p) (modified_at now) (prune p w.nodes) q m = back-adjust (parent_of p) (modified_at now) (prune p w.nodes) q m (ap (λ (x : World). node_at x q) (sym is) ∙ h) in
     let (out, stood) = back-prune p w.nodes q from.node from.stood in
     comes_same w m q from.node stood (Same-adjust (parent_of p) (modified_at now) (prune p w.nodes) (λ n. Same-modified now n (small proper)) q m from)
-comes call w new proper on_file world (renames from to now a b out folder sound takes brings is) q m h =
+comes call w new proper world (renames from to now a b out folder sound takes brings is) q m h =
     let (storable, small) = sound proper in
     let (s, n, came, stood, same) = back-renamed w from to now small q m (ap (λ (x : World). node_at x q) (sym is) ∙ h) in
     comes_same w m s n stood same
@@ -257,7 +256,7 @@ were_there w m older (changed s n stood still number) = (s, n, stood, still)
 were_there w m older (born made number) = absurd (omega (arith, older, made))
 
 pub nodes_were_there : NodesWereThere
-nodes_were_there call w r q m proper on_file world h stood older = were_there w m older (comes call w r.1 proper on_file world (steps call w r h) q m stood)
+nodes_were_there call w r q m proper world h stood older = were_there w m older (comes call w r.1 proper world (steps call w r h) q m stood)
 
 same_by_number : (w : World) → IsWorld w → (p : Path) (n m : Node) → node_at w p ≡ Some n → n.number ≡ m.number → Comes w m → (m.made ≡ n.made) × (m.kind ≡ n.kind)
 same_by_number w world p n m stood same (stayed s x there made number kind) =
@@ -269,13 +268,13 @@ same_by_number w world p n m stood same (changed s x there still number) = let s
 same_by_number w world p n m stood same (born made number) = let small : n.number < w.next = world.numbers.below p n stood in absurd (omega (arith, small, same, number))
 
 pub numbers_tell_bytes : NumbersTellBytes
-numbers_tell_bytes call w r p q n m proper on_file world h stood there same =
-    same_by_number w world p n m stood same (comes call w r.1 proper on_file world (steps call w r h) q m there)
+numbers_tell_bytes call w r p q n m proper world h stood there same =
+    same_by_number w world p n m stood same (comes call w r.1 proper world (steps call w r h) q m there)
 
 pub made_stands_there : MadeStands
 made_stands_there w made n world = (
   λ h. made_stands made w.nodes world.tree.sorted n h,
-  λ h. let (p, stood, is) = h in subst (λ k. made_with k w.nodes ≡ Some n) is (stands_made w world p n stood),
+  λ h. let (p, stood, is, file) = h in subst (λ k. file_made_with k w.nodes ≡ Some n) is (stands_made w world p n stood file),
 )
 
 given : {A : Type 0} (a : A) (w : World) (r : A × World) → ◌≡◌ {A = Meaning A} (Ok (a, w)) (Ok r) → r.0 ≡ a
@@ -319,32 +318,42 @@ module _ (w : World) (p : Path) (how : Opening) (now : ℕ) (r : Handle × World
             (n, ap (λ (x : World). node_at x p) is ∙ there, ap (λ (x : Handle). x.made) (sym handle), file)
       ]
 
-pub opened_stands : OpenedStands
+opened_at : (p : Path) (how : Opening) (now : ℕ) (w : World) (r : Handle × World) → meaning (Open p how now) w ≡ Ok r → OpenedAt w p how now r
 unfolding meaning
-opened_stands p how now w r h = opened_by w p how now r (node_at w p) refl h
+opened_at p how now w r h = opened_by w p how now r (node_at w p) refl h
+
+-- the file that stands at a path is the one for which an open file with its number stands
+stands_for : (w : World) (file : Handle) (p : Path) (n : Node) → IsWorld w → node_at w p ≡ Some n → n.made ≡ file.made → is_folder_kind n.kind ≡ false → StandsFor w file p n
+stands_for w file p n world there made is_file = (subst (λ k. file_made_with k w.nodes ≡ Some n) made (stands_made w world p n there is_file), there)
+
+pub opened_stands : OpenedStands
+opened_stands p how now w r proper world h =
+    let (n, there, made, file) = opened_at p how now w r h in
+    (n, stands_for r.1 r.0 p n (calls_keep_worlds (Open p how now) w r proper world h) there made file)
 
 pub opened_is_open_file : OpenedIsOpenFile
 opened_is_open_file p how now w r proper world h =
-    let (n, there, made, file) = opened_stands p how now w r h in
-    let after : IsWorld r.1 = calls_keep_worlds (Open p how now) w r proper tt world h in
-    let small : n.made < r.1.next = after.makings.below p n there in (
-      omega (arith, small, made),
-      λ m first.
-          let stands : made_with r.0.made r.1.nodes ≡ Some n = subst (λ k. made_with k r.1.nodes ≡ Some n) made (stands_made r.1 after p n there) in
-          let both : Some n ≡ Some m = sym stands ∙ first in
-          let one : n ≡ m = cc in
-          ap (λ (x : Node). is_folder_kind x.kind) (sym one) ∙ file,
-    )
+    let (n, there, made, file) = opened_at p how now w r h in
+    let small : n.made < r.1.next = (calls_keep_worlds (Open p how now) w r proper world h).makings.below p n there in
+    omega (arith, small, made)
 
 pub open_files_stay : OpenFilesStay
-open_files_stay call w r file proper on_file world h is_open =
-    let after : IsWorld r.1 = calls_keep_worlds call w r proper on_file world h in
-    let rises : w.next ≤ r.1.next = numbers_rise call w r h in
-    let older : file.made < w.next = is_open.0 in (
+open_files_stay call w r file p n proper world h stands kept =
+    let (q, there, made, is_file) = made_stands file.made w.nodes world.tree.sorted n stands.0 in
+    let (m, stood, still) = nodes_stay call w r p n proper world h stands.1 kept in
+    (m, stands_for r.1 file (brought call p) m (calls_keep_worlds call w r proper world h) stood (still.0 ∙ made) (still.1 ∙ is_file), still)
+
+none_before : (w : World) (made : ℕ) (o : Option Node) → file_made_with made w.nodes ≡ None → ((n : Node) → o ≡ Some n → (x : Node) × (file_made_with made w.nodes ≡ Some x)) → o ≡ None
+none_before w made None none back = refl
+none_before w made (Some n) none back = let (x, is) = back n refl in let clash : None ≡ Some x = sym none ∙ is in cc
+
+pub taken_never_return : TakenNeverReturn
+taken_never_return call w r file proper world h older none =
+    let after : IsWorld r.1 = calls_keep_worlds call w r proper world h in
+    let rises : w.next ≤ r.1.next = numbers_rise call w r h in (
       omega (arith, rises, older),
-      λ m first.
-          let (q, there, made) = made_stands file.made r.1.nodes after.tree.sorted m first in
-          let (p, n, stood, still) = nodes_were_there call w r q m proper on_file world h there (omega (arith, older, made)) in
-          let before : made_with file.made w.nodes ≡ Some n = subst (λ k. made_with k w.nodes ≡ Some n) (sym still.0 ∙ made) (stands_made w world p n stood) in
-          still.1 ∙ is_open.1 n before,
+      none_before w file.made (file_made_with file.made r.1.nodes) none (λ m is.
+          let (q, there, made, is_file) = made_stands file.made r.1.nodes after.tree.sorted m is in
+          let (p, n, stood, still) = nodes_were_there call w r q m proper world h there (omega (arith, older, made)) in
+          (n, (stands_for w file p n world stood (sym still.0 ∙ made) (sym still.1 ∙ is_file)).0)),
     )

@@ -2,11 +2,11 @@
 use Rattle.std.proofs.Common.{◌≡◌, ◌+◌, ◌≤◌, Option, Some, None, Ok, refl, sym, ap, subst, ◌∙◌, arith}
 use Rattle.dav_core.specs.declared.fs.DavMetaData.{DavMetaData}
 use Rattle.dav_core.specs.Path.{Path}
-use Rattle.dav_core.specs.World.{World, Node, Nodes, node_at, adjust, made_with, IsWorld, Renumbers}
+use Rattle.dav_core.specs.World.{World, Node, Nodes, node_at, adjust, file_made_with, IsWorld, Renumbers}
 use Rattle.dav_core.specs.Meaning.{at_node}
 use Rattle.dav_core.specs.Calls.{metadata, metadata_of}
 use Rattle.dav_core.specs.Asking.{Call, Metadata, ReadDir, EntryMetadata, CreateDir, RemoveDir, RemoveFile, Rename, Copy, HaveProps, PatchProps, GetProps, GetProp, GetQuota, SetAccessed, SetModified, Open, Read, Write, Seek, Flush, FileMetadata, meaning}
-use Rattle.dav_core.specs.CallLaws.{CallsKeepWorlds, NumbersRise, CanBeShown, TimesAreShown, IsProper, WritesToFile}
+use Rattle.dav_core.specs.CallLaws.{CallsKeepWorlds, NumbersRise, CanBeShown, TimesAreShown, IsProper}
 use Rattle.dav_core.proofs.WorldLemmas.{new_keeps_world, change_keeps_world}
 use Rattle.dav_core.proofs.CarriedLemmas.{same_keeps, without_keeps, renamed_keeps}
 use Rattle.dav_core.proofs.MadeLemmas.{made_stands, change_made}
@@ -19,25 +19,25 @@ at_path w p n f there change m h =
     let same : n ≡ m = cc in
     subst (λ (x : Node). Renumbers w.next x (f x)) same change
 
-step_keeps : (call : Call) (w new : World) → IsProper call → WritesToFile w call → IsWorld w → Step call w new → IsWorld new
-step_keeps call w new proper on_file world (unchanged brings is) = subst IsWorld (sym is) world
-step_keeps call w new proper on_file world (makes p kind properties now none folder room sound brings is) =
+step_keeps : (call : Call) (w new : World) → IsProper call → IsWorld w → Step call w new → IsWorld new
+step_keeps call w new proper world (unchanged brings is) = subst IsWorld (sym is) world
+step_keeps call w new proper world (makes p kind properties now none folder room sound brings is) =
     let (storable, sorted, small) = sound proper world in
     subst IsWorld (sym is) (new_keeps_world w p kind properties now world (some_number w room world.next) none folder storable.0 storable.1 sorted small)
-step_keeps call w new proper on_file world (renumbers p n f there room change may brings is) =
+step_keeps call w new proper world (renumbers p n f there room change may brings is) =
     subst IsWorld (sym is) (change_keeps_world w p f world (some_number w room world.next) (at_path w p n f there (change proper world)))
-step_keeps call w new proper on_file world (writes made n f stood room change may brings is) =
-    let (p, there, _, at) = change_made made f w.nodes world.tree.sorted n stood in
+step_keeps call w new proper world (writes made n f stood room change may brings is) =
+    let (p, there, at) = change_made made f w.nodes world.tree.sorted n stood in
     let same : new ≡ record { nodes = adjust p f w.nodes; next = w.next + 1 } = is ∙ ap (λ (ns : Nodes). record { nodes = ns; next = w.next + 1 }) at in
-    subst IsWorld (sym same) (change_keeps_world w p f world (some_number w room world.next) (at_path w p n f there (change proper on_file world)))
-step_keeps call w new proper on_file world (patches p f same may brings is) = subst IsWorld (sym is) (same_keeps w p f same world)
-step_keeps call w new proper on_file world (removes p now some small takes brings is) = subst IsWorld (sym is) (without_keeps w p now (some world) (small proper) world)
-step_keeps call w new proper on_file world (renames from to now a b out folder sound takes brings is) =
+    subst IsWorld (sym same) (change_keeps_world w p f world (some_number w room world.next) (at_path w p n f there (change proper world)))
+step_keeps call w new proper world (patches p f same may brings is) = subst IsWorld (sym is) (same_keeps w p f same world)
+step_keeps call w new proper world (removes p now some small takes brings is) = subst IsWorld (sym is) (without_keeps w p now (some world) (small proper) world)
+step_keeps call w new proper world (renames from to now a b out folder sound takes brings is) =
     let (storable, small) = sound proper in
     subst IsWorld (sym is) (renamed_keeps w from to now small a b out folder storable.0 storable.1 world)
 
 pub calls_keep_worlds : CallsKeepWorlds
-calls_keep_worlds call w r proper on_file world h = step_keeps call w r.1 proper on_file world (steps call w r h)
+calls_keep_worlds call w r proper world h = step_keeps call w r.1 proper world (steps call w r h)
 
 next_by : (call : Call) (w new : World) → Step call w new → w.next ≤ new.next
 next_by call w new (unchanged brings is) = subst (λ (x : World). w.next ≤ x.next) (sym is) (omega arith)
@@ -65,8 +65,8 @@ unfolding meaning
 times_are_shown (Metadata p) w r world h = told_at w world p r h
 times_are_shown (EntryMetadata p) w r world h = told_at w world p r h
 times_are_shown (FileMetadata file) w r world h =
-    told_of w (made_with file.made w.nodes) r (λ n stood.
-    let (p, there, _) = made_stands file.made w.nodes world.tree.sorted n stood in
+    told_of w (file_made_with file.made w.nodes) r (λ n stood.
+    let (p, there, _, _) = made_stands file.made w.nodes world.tree.sorted n stood in
     ((world.sound p n there).created, (world.sound p n there).modified)) h
 times_are_shown (ReadDir p) w r world h = tt
 times_are_shown (CreateDir p now) w r world h = tt

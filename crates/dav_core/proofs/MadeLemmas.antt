@@ -1,5 +1,5 @@
--- The node that was made with a number, and the path where it stands.
-use Rattle.std.proofs.Common.{◌==◌, ◌≡◌, ℕ, Bool, true, false, cond, T, [], ◌∷◌, Option, Some, None, refl, sym, ap, subst, ◌∙◌, if◌then◌else◌}
+-- The file that was made with a number, and the path where it stands.
+use Rattle.std.proofs.Common.{◌==◌, ◌&&◌, ◌≡◌, ℕ, Bool, true, false, not, cond, T, [], ◌∷◌, Option, Some, None, refl, sym, ap, subst, ◌∙◌, if◌then◌else◌}
 use Rattle.std.proofs.lemmas.Bool.{eqb-true, eq-eqb}
 use Rattle.std.specs.declared.cmp.Ordering.{Ordering}
 use Rattle.std.specs.declared.cmp.Ordering.TheVariants.{Less, Equal, Greater}
@@ -9,7 +9,7 @@ use Rattle.std.specs.List.{find as first}
 use Rattle.std.specs.FinMap.{find, is_sorted}
 use Rattle.std.specs.FinMap.Entries.{below_all}
 use Rattle.dav_core.specs.Path.{Path, path_cmp, is_same_path}
-use Rattle.dav_core.specs.World.{Node, Nodes, World, change_first, adjust, is_made_with, made_with, node_at, IsWorld}
+use Rattle.dav_core.specs.World.{Node, Nodes, World, change_first, adjust, is_folder_kind, is_file_made_with, file_made_with, node_at, IsWorld}
 use Rattle.dav_core.proofs.NodesLemmas.{path_total, path-itself}
 use Rattle.dav_core.proofs.NodesAfter.{left_true, right_true}
 
@@ -86,23 +86,31 @@ entry_of : (o : Option (Path × Node)) (n : Node) → option_map (λ (e : Path �
 entry_of None n h = cc
 entry_of (Some e) n h = let same : e.1 ≡ n = cc in (e.0, ap (λ (m : Node). Some (e.0, m)) same)
 
--- the node that was made with a number stands somewhere
-pub made_stands : (made : ℕ) (ns : Nodes) → T (is_sorted path_cmp ns) → (n : Node) → made_with made ns ≡ Some n
-    → (p : Path) × (find path_cmp p ns ≡ Some n) × (n.made ≡ made)
+both_passed : (a b : Bool) → (a && not b) ≡ true → (a ≡ true) × (b ≡ false)
+both_passed true true h = cc
+both_passed true false h = (refl, refl)
+both_passed false b h = cc
+
+-- what passes the test for it is a file that was made with the number
+pub passed : (made : ℕ) (n : Node) → ((n.made == made) && not (is_folder_kind n.kind)) ≡ true → (n.made ≡ made) × (is_folder_kind n.kind ≡ false)
+passed made n h =
+    let (same, file) = both_passed (n.made == made) (is_folder_kind n.kind) h in
+    (eqb-true n.made made same, file)
+
+-- the file that was made with a number stands somewhere
+pub made_stands : (made : ℕ) (ns : Nodes) → T (is_sorted path_cmp ns) → (n : Node) → file_made_with made ns ≡ Some n
+    → (p : Path) × (find path_cmp p ns ≡ Some n) × (n.made ≡ made) × (is_folder_kind n.kind ≡ false)
 made_stands made ns sorted n h =
-    let (p, is) = entry_of (first (is_made_with made) ns) n h in
-    (p, first_at (is_made_with made) (p, n) ns sorted is, eqb-true n.made made (first_passes (is_made_with made) (p, n) ns is))
+    let (p, is) = entry_of (first (is_file_made_with made) ns) n h in
+    let (same, file) = passed made n (first_passes (is_file_made_with made) (p, n) ns is) in
+    (p, first_at (is_file_made_with made) (p, n) ns sorted is, same, file)
 
 -- and a change of it is the change there
-pub change_made : (made : ℕ) (f : Node → Node) (ns : Nodes) → T (is_sorted path_cmp ns) → (n : Node) → made_with made ns ≡ Some n
-    → (p : Path) × (find path_cmp p ns ≡ Some n) × (n.made ≡ made) × (change_first (is_made_with made) f ns ≡ adjust p f ns)
+pub change_made : (made : ℕ) (f : Node → Node) (ns : Nodes) → T (is_sorted path_cmp ns) → (n : Node) → file_made_with made ns ≡ Some n
+    → (p : Path) × (find path_cmp p ns ≡ Some n) × (change_first (is_file_made_with made) f ns ≡ adjust p f ns)
 change_made made f ns sorted n h =
-    let (p, is) = entry_of (first (is_made_with made) ns) n h in (
-      p,
-      first_at (is_made_with made) (p, n) ns sorted is,
-      eqb-true n.made made (first_passes (is_made_with made) (p, n) ns is),
-      change_at (is_made_with made) (p, n) f ns sorted is,
-    )
+    let (p, is) = entry_of (first (is_file_made_with made) ns) n h in
+    (p, first_at (is_file_made_with made) (p, n) ns sorted is, change_at (is_file_made_with made) (p, n) f ns sorted is)
 
 some_first_step : (test : Path × Node → Bool) (q : Path) (n : Node) (d : Path × Node) (es : Nodes) (b c : Bool) → test d ≡ b → is_same_path q d.0 ≡ c
     → ((e : Path) → is_same_path q e ≡ true → test (e, n) ≡ true)
@@ -119,29 +127,30 @@ some_first : (test : Path × Node → Bool) (q : Path) (n : Node) → ((e : Path
 some_first test q n passes [] h = cc
 some_first test q n passes (d ∷ es) h = some_first_step test q n d es (test d) (is_same_path q d.0) refl refl passes (some_first test q n passes es) h
 
--- what stands at a path is the node that was made with its number
-pub stands_made : (w : World) → IsWorld w → (p : Path) (n : Node) → node_at w p ≡ Some n → made_with n.made w.nodes ≡ Some n
-stands_made w world p n h =
-    let (e, is) = some_first (is_made_with n.made) p n (λ _ _. eq-eqb n.made n.made refl) w.nodes h in
-    let there : find path_cmp e.0 w.nodes ≡ Some e.1 = first_at (is_made_with n.made) e w.nodes world.tree.sorted is in
-    let made : e.1.made ≡ n.made = eqb-true e.1.made n.made (first_passes (is_made_with n.made) e w.nodes is) in
+-- a file that stands at a path is the one that was made with its number
+pub stands_made : (w : World) → IsWorld w → (p : Path) (n : Node) → node_at w p ≡ Some n → is_folder_kind n.kind ≡ false → file_made_with n.made w.nodes ≡ Some n
+stands_made w world p n h file =
+    let passes : ((n.made == n.made) && not (is_folder_kind n.kind)) ≡ true = ap (λ b. b && not (is_folder_kind n.kind)) (eq-eqb n.made n.made refl) ∙ ap not file in
+    let (e, is) = some_first (is_file_made_with n.made) p n (λ _ _. passes) w.nodes h in
+    let there : find path_cmp e.0 w.nodes ≡ Some e.1 = first_at (is_file_made_with n.made) e w.nodes world.tree.sorted is in
+    let made : e.1.made ≡ n.made = (passed n.made e.1 (first_passes (is_file_made_with n.made) e w.nodes is)).0 in
     let path : e.0 ≡ p = world.makings.once e.0 p e.1 n there h made in
     let same : Some e.1 ≡ Some n = sym there ∙ ap (λ (q : Path). find path_cmp q w.nodes) path ∙ h in
     ap (option_map (λ (x : Path × Node). x.1)) is ∙ same
 
-module _ (made : ℕ) (f : Node → Node) (q : Path) (n : Node) (other : (n.made == made) ≡ false) where
-  other_step : (d : Path × Node) (es rest : Nodes) (b c : Bool) → (d.1.made == made) ≡ b → (find path_cmp q es ≡ Some n → find path_cmp q rest ≡ Some n)
+module _ (made : ℕ) (f : Node → Node) (q : Path) (n : Node) (other : ((n.made == made) && not (is_folder_kind n.kind)) ≡ false) where
+  other_step : (d : Path × Node) (es rest : Nodes) (b c : Bool) → is_file_made_with made d ≡ b → (find path_cmp q es ≡ Some n → find path_cmp q rest ≡ Some n)
       → is_same_path q d.0 ≡ c → cond c (Some d.1) (find path_cmp q es) ≡ Some n → find path_cmp q (if b then (d.0, f d.1) ∷ es else d ∷ rest) ≡ Some n
   other_step d es rest true true is ih same h =
       let one : d.1 ≡ n = cc in
-      let passes : (n.made == made) ≡ true = subst (λ (x : Node). (x.made == made) ≡ true) one is in
+      let passes : ((n.made == made) && not (is_folder_kind n.kind)) ≡ true = subst (λ (x : Node). ((x.made == made) && not (is_folder_kind x.kind)) ≡ true) one is in
       cc
   other_step d es rest true false is ih same h = ap (λ b. cond b (Some (f d.1)) (find path_cmp q es)) same ∙ h
   other_step d es rest false true is ih same h = ap (λ b. cond b (Some d.1) (find path_cmp q rest)) same ∙ h
   other_step d es rest false false is ih same h = ap (λ b. cond b (Some d.1) (find path_cmp q rest)) same ∙ ih h
 
-  -- a node that wasn't made with the number is as it was
-  pub find-change_other : (ns : Nodes) → find path_cmp q ns ≡ Some n → find path_cmp q (change_first (is_made_with made) f ns) ≡ Some n
+  -- all but the file that was made with the number is as it was
+  pub find-change_other : (ns : Nodes) → find path_cmp q ns ≡ Some n → find path_cmp q (change_first (is_file_made_with made) f ns) ≡ Some n
   find-change_other [] h = cc
   find-change_other (d ∷ es) h =
-      other_step d es (change_first (is_made_with made) f es) (d.1.made == made) (is_same_path q d.0) refl (find-change_other es) refl h
+      other_step d es (change_first (is_file_made_with made) f es) (is_file_made_with made d) (is_same_path q d.0) refl (find-change_other es) refl h

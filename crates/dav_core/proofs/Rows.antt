@@ -1,12 +1,11 @@
 -- Scripts of calls, computed.
-use Rattle.std.proofs.Common.{◌≡◌, ℕ, List, [], ◌∷◌, Bool, true, false, Option, Some, None, Result, Ok, Err, refl}
+use Rattle.std.proofs.Common.{◌≡◌, [], ◌∷◌, true, false, Some, None, Result, Ok, Err, refl}
 use Rattle.dav_core.specs.declared.errors.FsError.{FsError}
-use Rattle.dav_core.specs.declared.errors.FsError.TheVariants.{Exists, NotFound, Forbidden, GeneralFailure, TooLarge}
-use Rattle.dav_core.specs.Path.{Path}
-use Rattle.dav_core.specs.World.{World, Node, Kind, Folder, File, empty_from, node_at, last_number, max_file_len}
-use Rattle.dav_core.specs.Handle.{Handle, Opening, opened}
+use Rattle.dav_core.specs.declared.errors.FsError.TheVariants.{Exists, NotFound, Forbidden, GeneralFailure}
+use Rattle.dav_core.specs.World.{World, empty_from, last_number}
+use Rattle.dav_core.specs.Handle.{Opening, opened}
 use Rattle.dav_core.specs.Meaning.{Meaning}
-use Rattle.dav_core.specs.Calls.{metadata, metadata_of, read_dir, create_dir, remove_dir, remove_file, rename, copy, open_file, read_bytes, write_bytes}
+use Rattle.dav_core.specs.Calls.{metadata, read_dir, create_dir, remove_dir, remove_file, rename, copy, open_file, read_bytes, write_bytes}
 
 abbrev after : {A : Type 0} → World → Meaning A → World
 after w (Ok (a, new)) = new

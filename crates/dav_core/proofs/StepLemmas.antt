@@ -11,12 +11,12 @@ use Rattle.dav_core.specs.declared.errors.FsError.TheVariants.{GeneralFailure, E
 use Rattle.dav_core.specs.Element.{ElementTree}
 use Rattle.dav_core.specs.Path.{Path, rest_after, is_same_path, is_at_or_below, is_below, is_root, is_nonempty, parent_of}
 use Rattle.dav_core.specs.Property.{Properties, PropertyKey, Patch, SetTo, Remove, key_cmp, property_key, is_same_key, patched, patched_by, shown_property}
-use Rattle.dav_core.specs.World.{World, Node, Kind, Folder, File, node_at, is_folder_kind, is_folder_node, is_folder, is_file, is_missing, bytes_of, members, has_members, with_new, adjust, change_first, is_made_with, made_with, last_moment, last_number, max_file_len, IsWorld, Renumbers}
+use Rattle.dav_core.specs.World.{World, Node, Kind, Folder, File, node_at, is_folder_kind, is_folder_node, is_folder, is_file, is_missing, bytes_of, members, has_members, with_new, adjust, change_first, is_file_made_with, file_made_with, last_moment, last_number, max_file_len, IsWorld, Renumbers}
 use Rattle.dav_core.specs.Handle.{Handle, Opening, opened, write_place, place_for}
 use Rattle.dav_core.specs.Meaning.{Meaning, refuse_if, at_node}
 use Rattle.dav_core.specs.Calls.{metadata_of, read_dir, create_dir, without, remove_dir, remove_file, rename, copy, copied_over, with_copy, emptied, open_at, open_file, read_bytes, written, write_bytes, sought, repatched, stored_tree}
 use Rattle.dav_core.specs.Asking.{Call, Metadata, ReadDir, EntryMetadata, CreateDir, RemoveDir, RemoveFile, Rename, Copy, HaveProps, PatchProps, GetProps, GetProp, GetQuota, SetAccessed, SetModified, Open, Read, Write, Seek, Flush, FileMetadata, Answer, meaning}
-use Rattle.dav_core.specs.CallLaws.{IsStorable, IsProper, WritesToFile, TakesAway, MayChange, path_after, brought}
+use Rattle.dav_core.specs.CallLaws.{IsStorable, IsProper, TakesAway, MayChange, path_after, brought}
 use Rattle.dav_core.proofs.FrontLemmas.{outside, from_rest}
 use Rattle.dav_core.proofs.MadeLemmas.{made_stands}
 use Rattle.dav_core.proofs.NodesLemmas.{differ_from, same_path}
@@ -73,8 +73,8 @@ pub data Step (call : Call) (w new : World) : Type 0 where
       → (IsProper call → IsWorld w → IsStorable p × T (is_sorted key_cmp properties) × (now ≤ last_moment)) → InPlace call → new ≡ with_new w p kind properties now → Step call w new
   renumbers : (p : Path) (n : Node) (f : Node → Node) → node_at w p ≡ Some n → (w.next == last_number) ≡ false
       → (IsProper call → IsWorld w → Renumbers w.next n (f n)) → ((m : Node) → MayChange call p m) → InPlace call → new ≡ record { nodes = adjust p f w.nodes; next = w.next + 1 } → Step call w new
-  writes : (made : ℕ) (n : Node) (f : Node → Node) → made_with made w.nodes ≡ Some n → (w.next == last_number) ≡ false
-      → (IsProper call → WritesToFile w call → IsWorld w → Renumbers w.next n (f n)) → ((q : Path) (m : Node) → made ≡ m.made → MayChange call q m) → InPlace call → new ≡ record { nodes = change_first (is_made_with made) f w.nodes; next = w.next + 1 } → Step call w new
+  writes : (made : ℕ) (n : Node) (f : Node → Node) → file_made_with made w.nodes ≡ Some n → (w.next == last_number) ≡ false
+      → (IsProper call → IsWorld w → Renumbers w.next n (f n)) → ((q : Path) (m : Node) → made ≡ m.made → is_folder_kind m.kind ≡ false → MayChange call q m) → InPlace call → new ≡ record { nodes = change_first (is_file_made_with made) f w.nodes; next = w.next + 1 } → Step call w new
   patches : (p : Path) (f : Node → Node) → ((n : Node) → Same n (f n)) → ((m : Node) → MayChange call p m) → InPlace call → new ≡ record w { nodes = adjust p f w.nodes } → Step call w new
   removes : (p : Path) (now : ℕ) → (IsWorld w → is_root p ≡ false) → (IsProper call → now ≤ last_moment)
       → (IsWorld w → (x : Path) (n : Node) → node_at w x ≡ Some n → is_at_or_below p x ≡ true → TakesAway call x) → InPlace call → new ≡ without w p now → Step call w new
@@ -214,7 +214,7 @@ module _ (w : World) (p : Path) (how : Opening) (now : ℕ) (r : Handle × World
 
 reads_on : (w : World) (file : Handle) (count : ℕ) (r : (List ℕ × Handle) × World) → read_bytes w file count ≡ Ok r → Step (Read file count) w r.1
 reads_on w file count r h =
-    let (n, stood, h1) = found (made_with file.made w.nodes) _ r h in
+    let (n, stood, h1) = found (file_made_with file.made w.nodes) _ r h in
     let (allowed, h2) = went_on (not file.reads) Forbidden _ r h1 in
     unchanged (λ x. refl) (left _ w r h2)
 
@@ -229,7 +229,7 @@ finds call brings (Some (Some tree)) w r h = unchanged brings (left tree w r h)
 
 writes_to : (w : World) (file : Handle) (c : List ℕ) (now : ℕ) (r : Handle × World) → write_bytes w file c now ≡ Ok r → Step (Write file c now) w r.1
 writes_to w file c now r h =
-    let (n, stood, h1) = found (made_with file.made w.nodes) _ r h in
+    let (n, stood, h1) = found (file_made_with file.made w.nodes) _ r h in
     let k = write_place file (bytes_of n.kind) in
     let (allowed, h2) = went_on (not file.writes) Forbidden _ r h1 in
     let (fits, h3) = went_on (nat_lt max_file_len (k + length c)) TooLarge _ r h2 in
@@ -237,16 +237,16 @@ writes_to w file c now r h =
       | inl some ↦
           let (room, h4) = went_on (w.next == last_number) GeneralFailure _ r some.1 in
           writes file.made n (written k c w.next now) stood room
-          (λ proper on_file world.
-          let (p, there, made) = made_stands file.made w.nodes world.tree.sorted n stood in
+          (λ proper world.
+          let (p, there, made, is_file) = made_stands file.made w.nodes world.tree.sorted n stood in
           record {
             made = refl;
             number_is = refl;
-            kind = sym (on_file n stood);
+            kind = sym is_file;
             properties = (world.sound p n there).properties;
             created = (world.sound p n there).created;
             modified = proper;
-          }) (λ q m same. same) (λ x. refl) (left (record file { position = k + length c }) (record { nodes = change_first (is_made_with file.made) (written k c w.next now) w.nodes; next = w.next + 1 }) r h4)
+          }) (λ q m same is. (same, is)) (λ x. refl) (left (record file { position = k + length c }) (record { nodes = change_first (is_file_made_with file.made) (written k c w.next now) w.nodes; next = w.next + 1 }) r h4)
       | inr none ↦ unchanged (λ x. refl) (left file w r none.1)
     ]
 
@@ -276,7 +276,7 @@ steps (Open p how now) w r h = opens w p how now r h
 steps (Read file count) w r h = reads_on w file count r h
 steps (Write file c now) w r h = writes_to w file c now r h
 steps (Seek file to) w r h =
-    let (n, stood, is) = found (made_with file.made w.nodes) _ r h in
+    let (n, stood, is) = found (file_made_with file.made w.nodes) _ r h in
     seeks w file (place_for to file.position (length (bytes_of n.kind))) (Seek file to) (λ x. refl) r is
-steps (Flush file) w r h = looks_up (Flush file) (λ x. refl) w (made_with file.made w.nodes) (λ n. tt) r h
-steps (FileMetadata file) w r h = looks_up (FileMetadata file) (λ x. refl) w (made_with file.made w.nodes) metadata_of r h
+steps (Flush file) w r h = looks_up (Flush file) (λ x. refl) w (file_made_with file.made w.nodes) (λ n. tt) r h
+steps (FileMetadata file) w r h = looks_up (FileMetadata file) (λ x. refl) w (file_made_with file.made w.nodes) metadata_of r h

@@ -6,7 +6,7 @@ use Rattle.dav_core.specs.declared.errors.FsError.{FsError}
 use Rattle.dav_core.specs.declared.errors.FsError.TheVariants.{Exists, Forbidden}
 use Rattle.dav_core.specs.declared.fs.DavMetaData.{DavMetaData}
 use Rattle.dav_core.specs.Path.{Path, name_cmp, path_cmp, is_same_path, rest_after, is_at_or_below, is_root, parent_of, IsName}
-use Rattle.dav_core.specs.World.{World, Node, Nodes, node_at, is_missing, is_folder, has_members, prune, graft, union, moved, members, adjust, touched, modified_at, made_with, is_folder_kind, last_moment, IsWorld}
+use Rattle.dav_core.specs.World.{World, Node, Nodes, node_at, is_missing, is_folder, has_members, prune, graft, union, moved, members, adjust, touched, modified_at, file_made_with, is_folder_kind, last_moment, IsWorld}
 use Rattle.dav_core.specs.Handle.{Handle, Opening}
 use Rattle.dav_core.specs.Asking.{Call, Metadata, EntryMetadata, CreateDir, RemoveDir, RemoveFile, Rename, Copy, PatchProps, Open, Write, FileMetadata, Answer, meaning, StoreState, Asks, ask, rest_of}
 
@@ -82,18 +82,9 @@ IsProper (Open p how now) = IsStorable p × (now ≤ last_moment)
 IsProper (Write file bytes now) = now ≤ last_moment
 IsProper _ = ⊤
 
--- the open file is a file of this world, or of none: no folder was made with its number
-abbrev pub IsOfFile : World → Handle → Type 0
-IsOfFile w file = (n : Node) → made_with file.made w.nodes ≡ Some n → is_folder_kind n.kind ≡ false
-
--- what is written to is a file
-abbrev pub WritesToFile : World → Call → Type 0
-WritesToFile w (Write file bytes now) = IsOfFile w file
-WritesToFile w _ = ⊤
-
 -- a call that a caller may make leaves a world
 abbrev pub CallsKeepWorlds : Type 0
-CallsKeepWorlds = (call : Call) (w : World) (r : Answer call × World) → IsProper call → WritesToFile w call → IsWorld w → meaning call w ≡ Ok r → IsWorld r.1
+CallsKeepWorlds = (call : Call) (w : World) (r : Answer call × World) → IsProper call → IsWorld w → meaning call w ≡ Ok r → IsWorld r.1
 
 -- the next number never falls
 abbrev pub NumbersRise : Type 0
@@ -173,12 +164,12 @@ TakesAway (RemoveFile q now) p = q ≡ p
 TakesAway (Rename from to now) p = (from ≢ to) × (to ≡ p)
 TakesAway _ p = ⊥
 
--- the call may change the node n at p by itself: it patches p, copies to it, opens it, or writes to n
+-- the call may change the node n at p by itself: it patches p, copies to it, opens it, or writes to the file n
 abbrev pub MayChange : Call → Path → Node → Type 0
 MayChange (PatchProps q patches) p n = q ≡ p
 MayChange (Copy from to now) p n = to ≡ p
 MayChange (Open q how now) p n = q ≡ p
-MayChange (Write file bytes now) p n = file.made ≡ n.made
+MayChange (Write file bytes now) p n = (file.made ≡ n.made) × (is_folder_kind n.kind ≡ false)
 MayChange _ p n = ⊥
 
 -- m is n, but for the moment of its last change
@@ -200,7 +191,7 @@ NodesFollowRenames =
 abbrev pub NodesStay : Type 0
 NodesStay =
     (call : Call) (w : World) (r : Answer call × World) (p : Path) (n : Node)
-    → IsProper call → WritesToFile w call → IsWorld w → meaning call w ≡ Ok r → node_at w p ≡ Some n → ¬ TakesAway call p
+    → IsProper call → IsWorld w → meaning call w ≡ Ok r → node_at w p ≡ Some n → ¬ TakesAway call p
     → (m : Node) × (node_at r.1 (brought call p) ≡ Some m) × IsStill n m
 
 -- what a call neither takes away nor may change is as it was, but for the moment of its last change
@@ -214,31 +205,43 @@ OthersAreUnchanged =
 abbrev pub NodesWereThere : Type 0
 NodesWereThere =
     (call : Call) (w : World) (r : Answer call × World) (q : Path) (m : Node)
-    → IsProper call → WritesToFile w call → IsWorld w → meaning call w ≡ Ok r → node_at r.1 q ≡ Some m → m.made < w.next
+    → IsProper call → IsWorld w → meaning call w ≡ Ok r → node_at r.1 q ≡ Some m → m.made < w.next
     → (p : Path) × (n : Node) × (node_at w p ≡ Some n) × IsStill n m
 
 -- what has the same number before and after a call is the same node with the same bytes
 abbrev pub NumbersTellBytes : Type 0
 NumbersTellBytes =
     (call : Call) (w : World) (r : Answer call × World) (p q : Path) (n m : Node)
-    → IsProper call → WritesToFile w call → IsWorld w → meaning call w ≡ Ok r → node_at w p ≡ Some n → node_at r.1 q ≡ Some m
+    → IsProper call → IsWorld w → meaning call w ≡ Ok r → node_at w p ≡ Some n → node_at r.1 q ≡ Some m
     → n.number ≡ m.number → (m.made ≡ n.made) × (m.kind ≡ n.kind)
 
--- in a world the node that was made with a number is what stands somewhere and was made with it
+-- in a world the file that was made with a number is the file that stands somewhere and was made with it
 abbrev pub MadeStands : Type 0
 MadeStands =
     (w : World) (made : ℕ) (n : Node)
-    → IsWorld w → (made_with made w.nodes ≡ Some n) ↔ ((p : Path) × (node_at w p ≡ Some n) × (n.made ≡ made))
+    → IsWorld w
+    → (file_made_with made w.nodes ≡ Some n) ↔ ((p : Path) × (node_at w p ≡ Some n) × (n.made ≡ made) × (is_folder_kind n.kind ≡ false))
+
+-- the open file stands for the file n, which is at p
+abbrev pub StandsFor : World → Handle → Path → Node → Type 0
+StandsFor w file p n = (file_made_with file.made w.nodes ≡ Some n) × (node_at w p ≡ Some n)
 
 -- an open that is answered gives an open file that stands for the file at the path
 abbrev pub OpenedStands : Type 0
 OpenedStands =
     (p : Path) (how : Opening) (now : ℕ) (w : World) (r : Handle × World)
-    → meaning (Open p how now) w ≡ Ok r → (n : Node) × (node_at r.1 p ≡ Some n) × (n.made ≡ r.0.made) × (is_folder_kind n.kind ≡ false)
+    → IsProper (Open p how now) → IsWorld w → meaning (Open p how now) w ≡ Ok r → (n : Node) × StandsFor r.1 r.0 p n
 
--- its number was handed out, and it is of a file
+-- It stands for this file, as it is after each call that doesn't take it away, where the call brings it.
+abbrev pub OpenFilesStay : Type 0
+OpenFilesStay =
+    (call : Call) (w : World) (r : Answer call × World) (file : Handle) (p : Path) (n : Node)
+    → IsProper call → IsWorld w → meaning call w ≡ Ok r → StandsFor w file p n → ¬ TakesAway call p
+    → (m : Node) × StandsFor r.1 file (brought call p) m × IsStill n m
+
+-- its number was handed out
 abbrev pub IsOpenFile : World → Handle → Type 0
-IsOpenFile w file = (file.made < w.next) × IsOfFile w file
+IsOpenFile w file = file.made < w.next
 
 -- what was opened in a world is an open file
 abbrev pub OpenedIsOpenFile : Type 0
@@ -246,11 +249,12 @@ OpenedIsOpenFile =
     (p : Path) (how : Opening) (now : ℕ) (w : World) (r : Handle × World)
     → IsProper (Open p how now) → IsWorld w → meaning (Open p how now) w ≡ Ok r → IsOpenFile r.1 r.0
 
--- and stays one, whatever is called
-abbrev pub OpenFilesStay : Type 0
-OpenFilesStay =
+-- an open file whose file was taken away stands for none, whatever is called
+abbrev pub TakenNeverReturn : Type 0
+TakenNeverReturn =
     (call : Call) (w : World) (r : Answer call × World) (file : Handle)
-    → IsProper call → WritesToFile w call → IsWorld w → meaning call w ≡ Ok r → IsOpenFile w file → IsOpenFile r.1 file
+    → IsProper call → IsWorld w → meaning call w ≡ Ok r → IsOpenFile w file → file_made_with file.made w.nodes ≡ None
+    → IsOpenFile r.1 file × (file_made_with file.made r.1.nodes ≡ None)
 
 -- m is a copy of source that was made at this moment with this number: it has its bytes and dead properties
 pub record IsCopy (source : Node) (number now : ℕ) (m : Node) : Type 0 where

@@ -1,15 +1,14 @@
 -- What each call of a file store means (RFC 4918, sections 5 and 9): refusals in their order, then want of a number, then the
 -- answer and the world after it.
-use Rattle.std.specs.Prelude.{ℕ, ◌+◌, ◌||◌, ◌&&◌, nat_lt, Bool, true, false, not, if◌then◌else◌, List, [], ◌∷◌, length, take, drop, map, Option, Some, None, Result, Ok, Err}
+use Rattle.std.specs.Prelude.{ℕ, ◌+◌, ◌||◌, ◌&&◌, nat_lt, Bool, not, if◌then◌else◌, List, [], length, take, drop, map, Option, Some, None, Ok, Err}
 use Rattle.std.specs.FinMap.{find}
 use Rattle.std.specs.declared.io.traits.SeekFrom.{SeekFrom}
-use Rattle.dav_core.specs.declared.errors.FsError.{FsError}
-use Rattle.dav_core.specs.declared.errors.FsError.TheVariants.{NotImplemented, GeneralFailure, Exists, NotFound, Forbidden, TooLarge}
+use Rattle.dav_core.specs.declared.errors.FsError.TheVariants.{GeneralFailure, Exists, NotFound, Forbidden, TooLarge}
 use Rattle.dav_core.specs.declared.fs.DavMetaData.{DavMetaData}
 use Rattle.dav_core.specs.Element.{ElementTree}
 use Rattle.dav_core.specs.Path.{Path, is_same_path, is_below, is_root, is_nonempty, parent_of}
-use Rattle.dav_core.specs.Property.{Property, PropertyKey, Properties, Patch, key_cmp, patched, property_of, without_xml, shown_property}
-use Rattle.dav_core.specs.World.{World, Node, Kind, Folder, File, node_at, is_folder_kind, is_folder, is_file, is_missing, bytes_of, members, has_members, prune, moved, touched, with_new, adjust, change_first, is_made_with, made_with, splice, max_file_len}
+use Rattle.dav_core.specs.Property.{Property, PropertyKey, Patch, key_cmp, patched, property_of, without_xml, shown_property}
+use Rattle.dav_core.specs.World.{World, Node, Folder, File, node_at, is_folder_kind, is_folder, is_file, is_missing, bytes_of, members, has_members, prune, moved, touched, with_new, adjust, change_first, is_file_made_with, file_made_with, splice, max_file_len}
 use Rattle.dav_core.specs.Handle.{Handle, Opening, opened, write_place, place_for}
 use Rattle.dav_core.specs.Meaning.{Meaning, refuse_if, at_node, numbered}
 
@@ -111,7 +110,7 @@ open_file w p how now = open_at w p how now (node_at w p)
 -- the bytes from the place on, at most so many; the place moves behind them
 abbrev pub read_bytes : World → Handle → ℕ → Meaning (List ℕ × Handle)
 read_bytes w file count =
-    at_node (made_with file.made w.nodes) (λ n.
+    at_node (file_made_with file.made w.nodes) (λ n.
     let chunk = take count (drop file.position (bytes_of n.kind)) in
     refuse_if (not file.reads) Forbidden
     (Ok ((chunk, record file { position = file.position + length chunk }), w)))
@@ -124,12 +123,12 @@ written k c number now n = record n { number = number; kind = File (splice (byte
 -- place moves behind them. An empty write changes nothing.
 abbrev pub write_bytes : World → Handle → List ℕ → ℕ → Meaning Handle
 write_bytes w file c now =
-    at_node (made_with file.made w.nodes) (λ n.
+    at_node (file_made_with file.made w.nodes) (λ n.
     let k = write_place file (bytes_of n.kind) in
     refuse_if (not file.writes) Forbidden
     (refuse_if (nat_lt max_file_len (k + length c)) TooLarge
     (if is_nonempty c
-    then numbered w (λ number. Ok (record file { position = k + length c }, record { nodes = change_first (is_made_with file.made) (written k c number now) w.nodes; next = w.next + 1 }))
+    then numbered w (λ number. Ok (record file { position = k + length c }, record { nodes = change_first (is_file_made_with file.made) (written k c number now) w.nodes; next = w.next + 1 }))
     else Ok (file, w))))
 
 abbrev pub sought : Handle → Option ℕ → World → Meaning (ℕ × Handle)
@@ -139,14 +138,14 @@ sought file (Some k) w = Ok ((k, record file { position = k }), w)
 -- the place moves; it may lie past the end
 abbrev pub seek : World → Handle → SeekFrom → Meaning (ℕ × Handle)
 seek w file to =
-    at_node (made_with file.made w.nodes) (λ n.
+    at_node (file_made_with file.made w.nodes) (λ n.
     sought file (place_for to file.position (length (bytes_of n.kind))) w)
 
 abbrev pub flush : World → Handle → Meaning (Unit {0})
-flush w file = at_node (made_with file.made w.nodes) (λ n. Ok (tt, w))
+flush w file = at_node (file_made_with file.made w.nodes) (λ n. Ok (tt, w))
 
 abbrev pub file_metadata : World → Handle → Meaning DavMetaData
-file_metadata w file = at_node (made_with file.made w.nodes) (λ n. Ok (metadata_of n, w))
+file_metadata w file = at_node (file_made_with file.made w.nodes) (λ n. Ok (metadata_of n, w))
 
 -- a node with its properties changed; neither its number nor its times change
 abbrev pub repatched : List Patch → Node → Node

@@ -1,4 +1,4 @@
--- What an open file stands for: the node that took this number when it was made, wherever a rename brought it; the
+-- What an open file stands for: the file that took this number when it was made, wherever a rename brought it; the
 -- place where the next read or write begins; and what it was opened for.
 use Rattle.std.specs.Prelude.{ℕ, ℤ, pos, ◌+ℤ◌, ◌||◌, int_lt, nat_lt, nat_abs, Bool, if◌then◌else◌, List, length, Option, Some, None}
 use Rattle.std.specs.declared.io.traits.SeekFrom.{SeekFrom}

@@ -1,9 +1,9 @@
 -- What holds of every list of locks: the statements of the laws.
-use Rattle.std.specs.Prelude.{◌≡◌, ℕ, ◌++◌, ◌∷◌, [], Bool, true, false, not, List, Contains, Option, Some}
+use Rattle.std.specs.Prelude.{◌≡◌, ◌++◌, ◌∷◌, [], Bool, true, false, not, List, Contains}
 use Rattle.std.specs.Option.{is_some}
 use Rattle.std.specs.List.{list_all}
 use Rattle.dav_core.specs.Path.{Path, names, is_at_or_below}
-use Rattle.dav_core.specs.Locks.{Lock, Asker, covers, is_held, is_free, is_free_deep, is_free_for, is_in_the_way, named_lock, unlocked}
+use Rattle.dav_core.specs.Locks.{Lock, Asker, covers, is_held, is_free, is_free_deep, is_free_for, is_in_the_way, unlocked}
 
 -- where a path is free, whoever asks holds each exclusive lock that covers it
 abbrev pub FreeHoldsExclusive : Type 0

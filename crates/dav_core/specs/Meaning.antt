@@ -1,6 +1,6 @@
 -- What a call of a store means: its answer and the world after it, or an error. An error carries no world, so a call
 -- that is refused changes nothing.
-use Rattle.std.specs.Prelude.{ℕ, ◌==◌, Bool, true, false, Option, Some, None, Result, Ok, Err}
+use Rattle.std.specs.Prelude.{ℕ, ◌==◌, Bool, true, false, Option, Some, None, Result, Err}
 use Rattle.dav_core.specs.declared.errors.FsError.{FsError}
 use Rattle.dav_core.specs.declared.errors.FsError.TheVariants.{NotFound, GeneralFailure}
 use Rattle.dav_core.specs.World.{World, Node, last_number}

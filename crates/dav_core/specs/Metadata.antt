@@ -1,5 +1,5 @@
 -- What is told of a file or folder, and how one is opened.
-use Rattle.std.specs.Prelude.{ℕ, ◌++◌, Bool, true, false, List, [], ◌∷◌, Option, None, string_bytes}
+use Rattle.std.specs.Prelude.{ℕ, ◌++◌, false, List, [], ◌∷◌, None, string_bytes}
 use Rattle.std.specs.Option.{option_map}
 use Rattle.std.specs.Fmt.{digits}
 use Rattle.dav_core.specs.declared.fs.OpenOptions.{OpenOptions}

@@ -79,8 +79,8 @@ shown_property content e = record {
 -- The property of that name in a namespace whose element declares the namespace and has one text.
 abbrev pub text_property : List ℕ → List ℕ → List ℕ → List ℕ → Property
 text_property name prefix namespace value = record {
-    name = name;
-    prefix = Some prefix;
-    namespace = Some namespace;
-    xml = Some (element name (Some prefix) (Some namespace) ((xmlns_name prefix, namespace) ∷ []) (tree_then (text value) no_trees));
-  }
+  name = name;
+  prefix = Some prefix;
+  namespace = Some namespace;
+  xml = Some (element name (Some prefix) (Some namespace) ((xmlns_name prefix, namespace) ∷ []) (tree_then (text value) no_trees));
+}

@@ -13,8 +13,8 @@ bytes_code = coded_list coded_ℕ
 abbrev pub coded_property : Coded Property
 coded_property =
     code_by (List ℕ × (Option (List ℕ) × (Option (List ℕ) × Option ElementTree)))
-        (coded× bytes_code (coded× (coded_option bytes_code) (coded× (coded_option bytes_code) (coded_option coded_tree))))
-        (λ p. (p.name, (p.prefix, (p.namespace, p.xml)))) (λ q. record { name = q.0; prefix = q.1.0; namespace = q.1.1.0; xml = q.1.1.1 }) (λ _. refl)
+    (coded× bytes_code (coded× (coded_option bytes_code) (coded× (coded_option bytes_code) (coded_option coded_tree))))
+    (λ p. (p.name, (p.prefix, (p.namespace, p.xml)))) (λ q. record { name = q.0; prefix = q.1.0; namespace = q.1.1.0; xml = q.1.1.1 }) (λ _. refl)
 
 abbrev pub coded_properties : Coded Properties
 coded_properties = coded_list (coded× (coded× bytes_code bytes_code) (coded_option coded_tree))

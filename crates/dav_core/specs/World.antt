@@ -1,6 +1,6 @@
 -- What a file store holds: a finite map from paths to folders and files (RFC 4918, section 5), and the number
 -- that the next change takes.
-use Rattle.std.specs.Prelude.{◌≡◌, ℕ, ◌+◌, ◌-◌, ◌<◌, ◌≤◌, ◌==◌, ◌++◌, Bool, true, false, not, T, List, [], ◌∷◌, All, length, take, drop, if◌then◌else◌, replicate, Option, Some, None}
+use Rattle.std.specs.Prelude.{◌≡◌, ℕ, ◌+◌, ◌-◌, ◌<◌, ◌≤◌, ◌==◌, ◌&&◌, ◌++◌, Bool, true, false, not, T, List, [], ◌∷◌, All, length, take, drop, if◌then◌else◌, replicate, Option, Some, None}
 use Rattle.std.specs.List.{filter, filter_map, find as first}
 use Rattle.std.specs.Option.{is_none, option_map}
 use Rattle.std.specs.FinMap.{find, put, is_sorted}
@@ -83,13 +83,13 @@ members p = filter_map (λ e. option_map (λ name. (name, is_folder_kind e.1.kin
 abbrev pub has_members : World → Path → Bool
 has_members w p = is_nonempty (members p w.nodes)
 
--- the node was made with this number
-abbrev pub is_made_with : ℕ → Path × Node → Bool
-is_made_with made e = e.1.made == made
+-- it is a file that was made with this number
+abbrev pub is_file_made_with : ℕ → Path × Node → Bool
+is_file_made_with made e = (e.1.made == made) && not (is_folder_kind e.1.kind)
 
--- the node that was made with this number
-abbrev pub made_with : ℕ → Nodes → Option Node
-made_with made ns = option_map (λ e. e.1) (first (is_made_with made) ns)
+-- the file that was made with this number
+abbrev pub file_made_with : ℕ → Nodes → Option Node
+file_made_with made ns = option_map (λ e. e.1) (first (is_file_made_with made) ns)
 
 -- the number that is never handed out, 2^64 - 1
 abbrev pub last_number : ℕ

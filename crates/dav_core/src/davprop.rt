@@ -36,7 +36,13 @@ impl DavProp {
 
     /// A property whose element has that name, prefix and namespace, the attribute `xmlns:` and the prefix (`xmlns` for
     /// an empty prefix) with the namespace, and the value as its one text.
-    pub fn new(alloc: Global, name: &str, prefix: &str, namespace: &str, value: &str) -> Result<DavProp, NoMemory>
+    pub fn new(
+        alloc: Global,
+        name: &str,
+        prefix: &str,
+        namespace: &str,
+        value: &str,
+    ) -> Result<DavProp, NoMemory>
         ensures { IfOk result (λ p. p ≡ text_property name.now prefix.now namespace.now value.now) }
     {
         let mut xml = Element::new(alloc, name)?;

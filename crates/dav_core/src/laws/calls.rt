@@ -1,6 +1,6 @@
 //! Laws of what a file store holds and of its calls. Each function does nothing: its contract is a theorem on the
 //! definitions.
-ghost use Rattle.dav_core.specs.CallLaws.{PruneLeaves, AdjustChanges, UnionHasBoth, GraftMoves, MovedStands, TouchedIsModified, PutStands, PruneKeepsOrder, AdjustKeepsOrder, UnionKeepsOrder, GraftKeepsOrder, MovedKeepsOrder, CallsKeepWorlds, NumbersRise, TimesAreShown, AskingIsDetermined, ErrorsLeaveWorlds, RefusalsAreUsedUp, RefusalIsAnswered, CanBeAsked, MembersStandBelow, MembersRise, ListsWhatStands, NodesFollowRenames, NodesStay, OthersAreUnchanged, NodesWereThere, NumbersTellBytes, MadeStands, OpenedStands, OpenedIsOpenFile, OpenFilesStay, CopyBrings, CopySparesFolders, RemovalSparesMembers};
+ghost use Rattle.dav_core.specs.CallLaws.{PruneLeaves, AdjustChanges, UnionHasBoth, GraftMoves, MovedStands, TouchedIsModified, PutStands, PruneKeepsOrder, AdjustKeepsOrder, UnionKeepsOrder, GraftKeepsOrder, MovedKeepsOrder, CallsKeepWorlds, NumbersRise, TimesAreShown, AskingIsDetermined, ErrorsLeaveWorlds, RefusalsAreUsedUp, RefusalIsAnswered, CanBeAsked, MembersStandBelow, MembersRise, ListsWhatStands, NodesFollowRenames, NodesStay, OthersAreUnchanged, NodesWereThere, NumbersTellBytes, MadeStands, OpenedStands, OpenedIsOpenFile, OpenFilesStay, TakenNeverReturn, CopyBrings, CopySparesFolders, RemovalSparesMembers};
 
 /// What stands at any path after each operation on the whole map, whatever the map's order.
 pub fn nodes_after()
@@ -59,13 +59,14 @@ pub fn nodes_follow()
     ensures numbers { NumbersTellBytes }
 {}
 
-/// An open file stands for the file at the path at which it was opened, wherever a rename brings it: the node that was
-/// made with a number stands at one path in a world, and no call makes a folder of it.
+/// An open file stands for the file at the path at which it was opened, wherever a rename brings it, until a call takes
+/// it away: then it stands for none. The file that was made with a number stands at one path in a world.
 pub fn open_files_follow()
     ensures made { MadeStands }
     ensures opened { OpenedStands }
-    ensures is_open { OpenedIsOpenFile }
     ensures stays { OpenFilesStay }
+    ensures is_open { OpenedIsOpenFile }
+    ensures never { TakenNeverReturn }
 {}
 
 /// A copy has the bytes and dead properties of its source, the next number and the moment of the call as both times.
