@@ -1,6 +1,6 @@
 -- Places in a list of keys and values, and what stands there.
 use Rattle.std.proofs.Common.{◌≡◌, ℕ, zero, suc, ◌+◌, ◌<◌, Bool, true, false, cond, List, [], ◌∷◌, ◌++◌, length, map, get_or, set, Some, None, refl, sym, ap, subst, ◌∙◌, arith}
-use Rattle.std.specs.List.{position, position_from, insert}
+use Rattle.std.specs.List.{position, position_from, insert, find as first}
 use Rattle.std.specs.FinMap.{find, put}
 use Rattle.std.specs.FinMap.Entries.{by_order}
 use Rattle.std.specs.declared.cmp.Ordering.{Ordering}
@@ -146,3 +146,13 @@ module _ {K X : Type 0} (R : K → K → Ordering) where
 pub union-push : (es : Nodes) (e : Path × Node) (ns : Nodes) → union (es ++ e ∷ []) ns ≡ union es (put path_cmp e.0 e.1 ns)
 union-push [] e ns = refl
 union-push (x ∷ es) e ns = ap (put path_cmp x.0 x.1) (union-push es e ns)
+
+-- the first that passes
+pub first_of : {E : Type 0} (test : E → Bool) (xs : List E) (i : ℕ) (e : E) → IsFirst test xs i e → first test xs ≡ Some e
+first_of test [] i e h = absurd h
+first_of test (x ∷ xs) zero e h = ap (λ b. cond b (Some x) (first test xs)) h.0 ∙ ap Some h.1
+first_of test (x ∷ xs) (suc i) e h = ap (λ b. cond b (Some x) (first test xs)) h.0 ∙ first_of test xs i e h.1
+
+pub first_none : {E : Type 0} (test : E → Bool) (xs : List E) → NonePasses test xs → first test xs ≡ None
+first_none test [] h = refl
+first_none test (x ∷ xs) h = ap (λ b. cond b (Some x) (first test xs)) h.0 ∙ first_none test xs h.1

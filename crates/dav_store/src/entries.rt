@@ -1,15 +1,16 @@
 //! A list of paths and nodes, in order of the paths.
-ghost use Rattle.std.specs.Prelude.{◌≡◌, ◌∷◌, ◌++◌, ◌+◌, ◌<◌, ◌≤◌, [], not, IfOk, OnOk, OnErr, Option, option_map, option_copied, position, map, vec_len, length, reverse};
+ghost use Rattle.std.specs.Prelude.{◌≡◌, ◌∷◌, ◌++◌, ◌+◌, ◌<◌, ◌≤◌, [], ◌≢◌, ◌==◌, ◌&&◌, not, IfOk, OnOk, OnErr, Option, option_map, option_copied, position, map, vec_len, length, reverse};
 ghost use Rattle.std.specs.Vec.{vec_capacity};
 ghost use Rattle.std.specs.List.{insert};
 ghost use Rattle.std.specs.FinMap.{find, put};
 ghost use Rattle.std.specs.Ordering.{is_le};
 ghost use Rattle.dav_core.specs.Path.{names, path_cmp, is_same_path, is_at_or_below, parent_of};
-ghost use Rattle.dav_core.specs.World.{adjust, touched, prune, graft, union, moved, modified_at, is_folder_node, is_file_node, last_moment};
-ghost use Rattle.dav_core.specs.Calls.{emptied};
+ghost use Rattle.dav_core.specs.World.{adjust, touched, prune, graft, union, moved, modified_at, is_folder_node, is_file_node, last_moment, max_file_len, change_first, is_file_made_with, file_made_with, is_folder_kind};
+ghost use Rattle.dav_core.specs.Calls.{emptied, written};
 
 use crate::names::Names;
 use crate::node::Node;
+use crate::properties::Properties;
 use dav_core::davpath::DavPath;
 use dav_core::errors::NoMemory;
 use std::alloc::Global;
@@ -246,4 +247,61 @@ pub fn add_node(
     put_node(entries, key, node);
     touch_folder(entries, path, now);
     Ok(())
+}
+
+// Where the file stands that was made with a number.
+fn made_place(entries: &[(Names, Node)], made: u64) -> Option<usize>
+    ensures { result ≡ position (λ e. (e.1.made == made) && not (is_folder_kind e.1.kind)) entries.now }
+{
+    entries.iter().position(|e| e.1.is_file_made_with(made))
+}
+
+/// The file that was made with a number.
+pub fn file_made_with(entries: &[(Names, Node)], made: u64) -> Option<&Node>
+    ensures { option_copied result ≡ file_made_with made entries.now }
+{
+    match made_place(entries, made) {
+        None => None,
+        Some(i) => Some(&entries[i].1),
+    }
+}
+
+/// Bytes are written to the file that was made with a number. Where memory runs out, nothing changes.
+pub fn write_made(
+    alloc: Global,
+    entries: &mut [(Names, Node)],
+    made: u64,
+    place: usize,
+    chunk: &[u8],
+    number: u64,
+    now: u64,
+) -> Result<(), NoMemory>
+    requires some { chunk.now ≢ [] }
+    requires fits { place + length chunk.now ≤ max_file_len }
+    requires now { now ≤ last_moment }
+    ensures ok { OnOk result (entries.new ≡ change_first (is_file_made_with made) (written place chunk.now number now) entries.old) }
+    ensures err { OnErr result (entries.new ≡ entries.old) }
+{
+    if let Some(i) = made_place(entries, made) {
+        entries[i].1.write(alloc, place, chunk, number, now)?;
+    }
+    Ok(())
+}
+
+/// What stands at a path gets all that another node has, but stays the node that it was.
+pub fn replace_at(entries: &mut [(Names, Node)], path: &DavPath, other: Node)
+    ensures { entries.new ≡ adjust (names path.now) (λ n. record other { made = n.made }) entries.old }
+{
+    if let Some(i) = place(entries, path) {
+        entries[i].1.become_like(other);
+    }
+}
+
+/// What stands at a path gets other properties.
+pub fn set_properties_at(entries: &mut [(Names, Node)], path: &DavPath, properties: Properties)
+    ensures { entries.new ≡ adjust (names path.now) (λ n. record n { properties = properties }) entries.old }
+{
+    if let Some(i) = place(entries, path) {
+        entries[i].1.set_properties(properties);
+    }
 }

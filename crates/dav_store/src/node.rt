@@ -87,7 +87,7 @@ fn spliced(alloc: Global, bytes: &[u8], place: usize, chunk: &[u8]) -> Result<Ve
 }
 
 impl Node {
-    ghost use Rattle.std.specs.Prelude.{◌≡◌, ◌≤◌, ◌+◌, [], length, ◌≢◌, IfOk, OnOk, OnErr};
+    ghost use Rattle.std.specs.Prelude.{◌≡◌, ◌≤◌, ◌+◌, ◌==◌, ◌&&◌, not, [], length, ◌≢◌, IfOk, OnOk, OnErr};
     ghost use Rattle.dav_core.specs.World.{bytes_of, is_folder_kind, fresh, modified_at, last_moment, max_file_len, Folder as FolderKind, File as FileKind};
     ghost use Rattle.dav_core.specs.Calls.{metadata_of, emptied, written, repatched, copied_over};
 
@@ -129,6 +129,13 @@ impl Node {
             Content::Folder => true,
             Content::File(_) => false,
         }
+    }
+
+    /// Whether it is the file that took this number when it was made.
+    pub fn is_file_made_with(&self, made: u64) -> bool
+        ensures { result ≡ ((self.now.made == made) && not (is_folder_kind self.now.kind)) }
+    {
+        self.made == made && !self.is_folder()
     }
 
     /// The number that it took when it was made.
