@@ -2,3 +2,4 @@ pub mod NameLemmas
 pub mod Place
 pub mod PropertyLemmas
 pub mod MemberLemmas
+pub mod CopyLemmas

@@ -1,12 +1,13 @@
 //! A list of paths and nodes, in order of the paths.
-ghost use Rattle.std.specs.Prelude.{◌≡◌, ◌∷◌, ◌++◌, ◌+◌, ◌<◌, ◌≤◌, [], ◌≢◌, ◌==◌, ◌&&◌, not, IfOk, OnOk, OnErr, Option, option_map, option_copied, position, map, vec_len, length, reverse};
+ghost use Rattle.std.specs.Prelude.{◌≡◌, ◌∷◌, ◌++◌, ◌+◌, ◌<◌, ◌≤◌, [], ℕ, ◌≢◌, ◌==◌, ◌&&◌, not, IfOk, OnOk, OnErr, Option, option_map, option_copied, position, map, vec_len, length, reverse};
 ghost use Rattle.std.specs.Vec.{vec_capacity};
 ghost use Rattle.std.specs.List.{insert};
 ghost use Rattle.std.specs.FinMap.{find, put};
 ghost use Rattle.std.specs.Ordering.{is_le};
 ghost use Rattle.dav_core.specs.Path.{names, path_cmp, is_same_path, is_at_or_below, parent_of};
 ghost use Rattle.dav_core.specs.World.{adjust, touched, prune, graft, union, moved, modified_at, is_folder_node, is_file_node, last_moment, max_file_len, change_first, is_file_made_with, file_made_with, is_folder_kind};
-ghost use Rattle.dav_core.specs.Calls.{emptied, written};
+ghost use Rattle.dav_core.specs.World.{Node as Seen, fresh};
+ghost use Rattle.dav_core.specs.Calls.{emptied, written, copied_over};
 
 use crate::names::Names;
 use crate::node::Node;
@@ -288,12 +289,12 @@ pub fn write_made(
     Ok(())
 }
 
-/// What stands at a path gets all that another node has, but stays the node that it was.
-pub fn replace_at(entries: &mut [(Names, Node)], path: &DavPath, other: Node)
-    ensures { entries.new ≡ adjust (names path.now) (λ n. record other { made = n.made }) entries.old }
+/// A copy goes to a path where a file is, which stays the node that it was.
+pub fn copy_over(entries: &mut [(Names, Node)], path: &DavPath, copy: Node)
+    ensures { (source : Seen) (number now : ℕ) → copy ≡ record (fresh number source.kind now) { properties = source.properties } → entries.new ≡ adjust (names path.now) (copied_over source number now) entries.old }
 {
     if let Some(i) = place(entries, path) {
-        entries[i].1.become_like(other);
+        entries[i].1.become_like(copy);
     }
 }
 

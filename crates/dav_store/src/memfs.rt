@@ -37,6 +37,43 @@ impl Model for MemFs {
     ghost view = { λ s. record { world = record { nodes = s.entries.items; next = s.next }; short = s.short } };
 }
 
+/// An open file: the file that took a number when it was made.
+#[derive(Drop)]
+pub struct MemFile {
+    made: u64,
+    position: u64,
+    reads: bool,
+    writes: bool,
+    appends: bool,
+}
+
+impl Model for MemFile {
+    ghost use Rattle.dav_core.specs.Handle.{Handle};
+
+    ghost Value = { Handle };
+
+    ghost view = { λ f. record { made = f.made; position = f.position; reads = f.reads; writes = f.writes; appends = f.appends } };
+}
+
+impl MemFile {
+    ghost use Rattle.std.specs.Prelude.{◌≡◌};
+    ghost use Rattle.dav_core.specs.Handle.{opened};
+    ghost use Rattle.dav_core.specs.Metadata.{opening_of};
+
+    // A file that was just opened.
+    fn open(made: u64, options: &OpenOptions) -> MemFile
+        ensures { result ≡ opened made (opening_of options.now) }
+    {
+        MemFile {
+            made,
+            position: 0,
+            reads: options.read,
+            writes: options.write || options.append,
+            appends: options.append,
+        }
+    }
+}
+
 /// An entry of a listing.
 #[derive(Drop)]
 pub struct MemEntry {
@@ -78,10 +115,11 @@ fn has_members(entries: &[(Names, Node)], path: &DavPath) -> bool
 }
 
 impl MemFs {
-    ghost use Rattle.std.specs.Prelude.{◌≡◌, ◌≤◌, ◌∷◌, ◌++◌, [], IfOk, OnOk, OnErr, false, max, map};
+    ghost use Rattle.std.specs.Prelude.{◌≡◌, ◌≤◌, ◌<◌, ◌∷◌, ◌++◌, [], Ok, IfOk, OnOk, OnErr, IfSome, IsSome, false, max, map};
     ghost use Rattle.dav_core.specs.Path.{names};
-    ghost use Rattle.dav_core.specs.World.{empty_from, last_moment};
-    ghost use Rattle.dav_core.specs.Calls.{metadata, read_dir, create_dir, remove_file, remove_dir};
+    ghost use Rattle.dav_core.specs.World.{empty_from, last_moment, last_number, node_at, fresh, Node as Seen};
+    ghost use Rattle.dav_core.specs.Calls.{metadata, read_dir, create_dir, remove_file, remove_dir, rename, copy, with_copy, open_file, open_found, open_missing};
+    ghost use Rattle.dav_core.specs.Metadata.{opening_of};
     ghost use Rattle.dav_core.specs.Asking.{seen};
     ghost use Rattle.dav_store.specs.Store.{Answers, AnswersExactly};
     ghost use Rattle.dav_store.specs.Listing.{member_of};
@@ -197,5 +235,172 @@ impl MemFs {
         entries::prune(&mut self.entries, path);
         entries::touch_folder(&mut self.entries, path, now);
         Ok(())
+    }
+
+    /// Moves what is at a path, and all below it, in the place of what is at another. `Forbidden` from or to the root;
+    /// `NotFound`; nothing changes where both are one path; `Forbidden` to a place below itself; `NotFound` without a
+    /// folder above; `Exists` onto a folder with members.
+    pub fn rename(&mut self, alloc: Global, from: &DavPath, to: &DavPath, now: u64) -> FsResult<()>
+        requires { now ≤ last_moment }
+        ensures { Answers (rename self.old.world (names from.now) (names to.now) now) result self.old self.new }
+    {
+        if paths::is_root(from) || paths::is_root(to) {
+            return Err(FsError::Forbidden);
+        }
+        if entries::node_at(&self.entries, from).is_none() {
+            return Err(FsError::NotFound);
+        }
+        if paths::is_same(from, to) {
+            return Ok(());
+        }
+        if paths::is_below(from, to) {
+            return Err(FsError::Forbidden);
+        }
+        if !entries::has_folder(&self.entries, to) {
+            return Err(FsError::NotFound);
+        }
+        if entries::is_folder(&self.entries, to) && has_members(&self.entries, to) {
+            return Err(FsError::Exists);
+        }
+        if let Err(_) = entries::move_nodes(alloc, &mut self.entries, from, to) {
+            self.short = true;
+            return Err(FsError::InsufficientStorage);
+        }
+        entries::touch_folder(&mut self.entries, to, now);
+        entries::touch_folder(&mut self.entries, from, now);
+        Ok(())
+    }
+
+    /// Copies the bytes and dead properties of a file. `NotFound`; `Forbidden` for a folder, onto itself, and onto a
+    /// folder; `NotFound` without a folder above; `GeneralFailure` where no number is left.
+    pub fn copy(&mut self, alloc: Global, from: &DavPath, to: &DavPath, now: u64) -> FsResult<()>
+        requires { now ≤ last_moment }
+        ensures { Answers (copy self.old.world (names from.now) (names to.now) now) result self.old self.new }
+    {
+        let Some(source) = entries::node_at(&self.entries, from) else {
+            return Err(FsError::NotFound);
+        };
+        if source.is_folder() || paths::is_same(from, to) {
+            return Err(FsError::Forbidden);
+        }
+        if entries::is_folder(&self.entries, to) {
+            return Err(FsError::Forbidden);
+        }
+        if !entries::has_folder(&self.entries, to) {
+            return Err(FsError::NotFound);
+        }
+        if self.next == u64::MAX {
+            return Err(FsError::GeneralFailure);
+        }
+        let Ok(copy) = source.copy(self.next, now) else {
+            self.short = true;
+            return Err(FsError::InsufficientStorage);
+        };
+        self.put_copy(alloc, to, copy, now)
+    }
+
+    // A copy goes to a path where a file is, or where nothing is.
+    fn put_copy(&mut self, alloc: Global, to: &DavPath, copy: Node, now: u64) -> FsResult<()>
+        requires now { now ≤ last_moment }
+        requires next { self.old.world.next < last_number }
+        ensures { (source : Seen) → copy ≡ record (fresh self.old.world.next source.kind now) { properties = source.properties } → Answers (Ok (tt, with_copy self.old.world (names to.now) source (node_at self.old.world (names to.now)) now)) result self.old self.new }
+    {
+        match entries::node_at(&self.entries, to) {
+            Some(_) => {
+                entries::copy_over(&mut self.entries, to, copy);
+                self.next += 1;
+                Ok(())
+            }
+            None => {
+                if let Err(_) = entries::add_node(alloc, &mut self.entries, to, copy, now) {
+                    self.short = true;
+                    return Err(FsError::InsufficientStorage);
+                }
+                self.next += 1;
+                Ok(())
+            }
+        }
+    }
+
+    // Opens what stands at a path: a file, which is emptied if that is asked.
+    fn open_found(
+        &mut self,
+        path: &DavPath,
+        options: &OpenOptions,
+        now: u64,
+    ) -> FsResult<MemFile>
+        requires now { now ≤ last_moment }
+        requires found { IsSome (node_at self.old.world (names path.now)) }
+        ensures { IfSome (node_at self.old.world (names path.now)) (λ n. AnswersExactly (open_found self.old.world (names path.now) (opening_of options.now) now n) result self.old self.new) }
+    {
+        let Some(node) = entries::node_at(&self.entries, path) else {
+            return Err(FsError::NotFound);
+        };
+        if node.is_folder() {
+            return Err(FsError::Forbidden);
+        }
+        if options.create_new {
+            return Err(FsError::Exists);
+        }
+        let file = MemFile::open(node.made(), options);
+        if !options.truncate {
+            return Ok(file);
+        }
+        if self.next == u64::MAX {
+            return Err(FsError::GeneralFailure);
+        }
+        entries::empty_at(&mut self.entries, path, self.next, now);
+        self.next += 1;
+        Ok(file)
+    }
+
+    // Opens what isn't there: an empty file is made if that is asked.
+    fn open_missing(
+        &mut self,
+        alloc: Global,
+        path: &DavPath,
+        options: &OpenOptions,
+        now: u64,
+    ) -> FsResult<MemFile>
+        requires { now ≤ last_moment }
+        ensures { Answers (open_missing self.old.world (names path.now) (opening_of options.now) now) result self.old self.new }
+    {
+        if !options.create && !options.create_new {
+            return Err(FsError::NotFound);
+        }
+        if !entries::has_folder(&self.entries, path) {
+            return Err(FsError::NotFound);
+        }
+        if self.next == u64::MAX {
+            return Err(FsError::GeneralFailure);
+        }
+        let node = Node::new_file(alloc, self.next, now);
+        let file = MemFile::open(self.next, options);
+        if let Err(_) = entries::add_node(alloc, &mut self.entries, path, node, now) {
+            self.short = true;
+            return Err(FsError::InsufficientStorage);
+        }
+        self.next += 1;
+        Ok(file)
+    }
+
+    /// Opens a file at the place 0. `Forbidden` for a folder; `Exists` where nothing may be there; `NotFound` where
+    /// nothing is there and none is to be made, or its folder is missing; `GeneralFailure` where a change is to be made
+    /// and no number is left.
+    pub fn open(
+        &mut self,
+        alloc: Global,
+        path: &DavPath,
+        options: &OpenOptions,
+        now: u64,
+    ) -> FsResult<MemFile>
+        requires { now ≤ last_moment }
+        ensures { Answers (open_file self.old.world (names path.now) (opening_of options.now) now) result self.old self.new }
+    {
+        if entries::node_at(&self.entries, path).is_some() {
+            self.open_found(path, options, now)
+        } else {
+            self.open_missing(alloc, path, options, now)
+        }
     }
 }
