@@ -5,6 +5,7 @@ ghost use Rattle.std.specs.Option.{is_some};
 ghost use Rattle.dav_core.specs.Path.{names, is_nonempty, only_name, rest_after};
 ghost use Rattle.dav_core.specs.World.{empty_from, members, last_moment, node_at, is_missing, is_folder, is_file, with_new};
 ghost use Rattle.dav_core.specs.Asking.{seen};
+ghost use Rattle.dav_core.specs.Handle.{place_for};
 ghost use Rattle.dav_store.specs.Store.{Answers, AnswersExactly};
 ghost use Rattle.dav_store.specs.Listing.{member_of};
 
@@ -15,8 +16,13 @@ use crate::paths;
 use dav_core::davpath::DavPath;
 use dav_core::errors::{FsError, FsResult, NoMemory};
 use dav_core::fs::{DavMetaData, OpenOptions};
+use bytes::Bytes;
 use std::alloc::Global;
+use std::io::SeekFrom;
 use std::marker::Model;
+
+/// The most bytes that a file holds.
+pub const MAX_FILE_LEN: u64 = 2_147_483_647;
 
 /// Files and folders in memory.
 #[derive(Drop)]
@@ -56,8 +62,8 @@ impl Model for MemFile {
 }
 
 impl MemFile {
-    ghost use Rattle.std.specs.Prelude.{◌≡◌};
-    ghost use Rattle.dav_core.specs.Handle.{opened};
+    ghost use Rattle.std.specs.Prelude.{◌≡◌, ℕ, List, length};
+    ghost use Rattle.dav_core.specs.Handle.{opened, write_place};
     ghost use Rattle.dav_core.specs.Metadata.{opening_of};
 
     // A file that was just opened.
@@ -71,6 +77,28 @@ impl MemFile {
             writes: options.write || options.append,
             appends: options.append,
         }
+    }
+
+    // Where the next write begins in a file of this length.
+    fn write_place(&self, len: usize) -> u64
+        ensures { (bytes : List ℕ) → length bytes ≡ len → result ≡ write_place self.now bytes }
+    {
+        if self.appends {
+            len as u64
+        } else {
+            self.position
+        }
+    }
+}
+
+// Where a seek goes from a place in a file of this length; `None` before 0 or past 2^64 - 1.
+fn place_for(to: SeekFrom, position: u64, len: u64) -> Option<u64>
+    ensures { result ≡ place_for to position len }
+{
+    match to {
+        SeekFrom::Start(place) => Some(place),
+        SeekFrom::End(offset) => len.checked_add_signed(offset),
+        SeekFrom::Current(offset) => position.checked_add_signed(offset),
     }
 }
 
@@ -118,7 +146,7 @@ impl MemFs {
     ghost use Rattle.std.specs.Prelude.{◌≡◌, ◌≤◌, ◌<◌, ◌∷◌, ◌++◌, [], Ok, IfOk, OnOk, OnErr, IfSome, IsSome, false, max, map};
     ghost use Rattle.dav_core.specs.Path.{names};
     ghost use Rattle.dav_core.specs.World.{empty_from, last_moment, last_number, node_at, fresh, Node as Seen};
-    ghost use Rattle.dav_core.specs.Calls.{metadata, read_dir, create_dir, remove_file, remove_dir, rename, copy, with_copy, open_file, open_found, open_missing};
+    ghost use Rattle.dav_core.specs.Calls.{metadata, read_dir, create_dir, remove_file, remove_dir, rename, copy, with_copy, open_file, open_found, open_missing, read_bytes, write_bytes, seek, flush, file_metadata};
     ghost use Rattle.dav_core.specs.Metadata.{opening_of};
     ghost use Rattle.dav_core.specs.Asking.{seen};
     ghost use Rattle.dav_store.specs.Store.{Answers, AnswersExactly};
@@ -401,6 +429,105 @@ impl MemFs {
             self.open_found(path, options, now)
         } else {
             self.open_missing(alloc, path, options, now)
+        }
+    }
+
+    /// Reads at most so many bytes, fewer only at the end. `NotFound` where the file was removed; `Forbidden` where it
+    /// isn't open for reading.
+    pub fn read_bytes(&mut self, file: &mut MemFile, count: usize) -> FsResult<Bytes>
+        ensures answers { Answers (read_bytes self.old.world file.old count) (seen (λ chunk. (chunk, file.new)) result) self.old self.new }
+        ensures err { OnErr result (file.new ≡ file.old) }
+    {
+        let Some(node) = entries::file_made_with(&self.entries, file.made) else {
+            return Err(FsError::NotFound);
+        };
+        if !file.reads {
+            return Err(FsError::Forbidden);
+        }
+        let Ok(chunk) = node.read(file.position, count) else {
+            self.short = true;
+            return Err(FsError::InsufficientStorage);
+        };
+        file.position += chunk.len() as u64;
+        Ok(chunk)
+    }
+
+    /// Writes bytes. `NotFound` where the file was removed; `Forbidden` where it isn't open for writing; `TooLarge`
+    /// where they would end past 2,147,483,647 bytes; `GeneralFailure` where there are any and no number is left.
+    pub fn write_bytes(
+        &mut self,
+        alloc: Global,
+        file: &mut MemFile,
+        chunk: &[u8],
+        now: u64,
+    ) -> FsResult<()>
+        requires { now ≤ last_moment }
+        ensures answers { Answers (write_bytes self.old.world file.old chunk.now now) (seen (λ _. file.new) result) self.old self.new }
+        ensures err { OnErr result (file.new ≡ file.old) }
+    {
+        let Some(node) = entries::file_made_with(&self.entries, file.made) else {
+            return Err(FsError::NotFound);
+        };
+        let place = file.write_place(node.bytes().len());
+        if !file.writes {
+            return Err(FsError::Forbidden);
+        }
+        if place.saturating_add(chunk.len() as u64) > MAX_FILE_LEN {
+            return Err(FsError::TooLarge);
+        }
+        if chunk.is_empty() {
+            return Ok(());
+        }
+        if self.next == u64::MAX {
+            return Err(FsError::GeneralFailure);
+        }
+        let (made, number) = (file.made, self.next);
+        if let Err(_) = entries::write_made(alloc, &mut self.entries, made, place as usize, chunk, number, now) {
+            self.short = true;
+            return Err(FsError::InsufficientStorage);
+        }
+        file.position = place + chunk.len() as u64;
+        self.next += 1;
+        Ok(())
+    }
+
+    /// Moves the place of the next read or write, and tells it. `NotFound` where the file was removed; `GeneralFailure`
+    /// before 0 or past 2^64 - 1.
+    pub fn seek(&mut self, file: &mut MemFile, to: SeekFrom) -> FsResult<u64>
+        ensures exactly { AnswersExactly (seek self.old.world file.old to) (seen (λ place. (place, file.new)) result) self.old self.new }
+        ensures err { OnErr result (file.new ≡ file.old) }
+    {
+        let Some(node) = entries::file_made_with(&self.entries, file.made) else {
+            return Err(FsError::NotFound);
+        };
+        match place_for(to, file.position, node.bytes().len() as u64) {
+            Some(place) => {
+                file.position = place;
+                Ok(place)
+            }
+            None => Err(FsError::GeneralFailure),
+        }
+    }
+
+    /// Sees to it that all that was written is kept. `NotFound` where the file was removed.
+    pub fn flush(&mut self, file: &mut MemFile) -> FsResult<()>
+        ensures exactly { AnswersExactly (flush self.old.world file.old) result self.old self.new }
+        ensures same { file.new ≡ file.old }
+    {
+        match entries::file_made_with(&self.entries, file.made) {
+            Some(_) => Ok(()),
+            None => Err(FsError::NotFound),
+        }
+    }
+
+    /// Tells of the file. `NotFound` where it was removed.
+    pub fn file_metadata(&mut self, file: &MemFile) -> FsResult<DavMetaData>
+        ensures exactly { AnswersExactly (file_metadata self.old.world file.now) result self.old self.new }
+        ensures times { IfOk result (λ m. (m.created ≤ last_moment) × (m.modified ≤ last_moment)) }
+    {
+        match entries::file_made_with(&self.entries, file.made) {
+            Some(node) => Ok(node.metadata()),
+            None => Err(FsError::NotFound),
         }
     }
 }

@@ -87,7 +87,7 @@ fn spliced(alloc: Global, bytes: &[u8], place: usize, chunk: &[u8]) -> Result<Ve
 }
 
 impl Node {
-    ghost use Rattle.std.specs.Prelude.{◌≡◌, ◌≤◌, ◌+◌, ◌==◌, ◌&&◌, not, [], length, ◌≢◌, IfOk, OnOk, OnErr};
+    ghost use Rattle.std.specs.Prelude.{◌≡◌, ◌≤◌, ◌+◌, ◌==◌, ◌&&◌, not, [], length, take, drop, ◌≢◌, IfOk, OnOk, OnErr};
     ghost use Rattle.dav_core.specs.World.{bytes_of, is_folder_kind, fresh, modified_at, last_moment, max_file_len, Folder as FolderKind, File as FileKind};
     ghost use Rattle.dav_core.specs.Calls.{metadata_of, emptied, written, repatched, copied_over};
 
@@ -242,5 +242,20 @@ impl Node {
         let made = self.made;
         *self = other;
         self.made = made;
+    }
+
+    /// At most so many bytes from a place on, fewer only at the end.
+    pub fn read(&self, place: u64, count: usize) -> Result<Bytes, NoMemory>
+        ensures value { IfOk result (λ chunk. chunk ≡ take count (drop place (bytes_of self.now.kind))) }
+        ensures fits { IfOk result (λ chunk. place + length chunk ≤ 18446744073709551615) }
+    {
+        match &self.content {
+            Content::Folder => Ok(Bytes::new()),
+            Content::File(bytes) => {
+                let start = (place as usize).min(bytes.len());
+                let end = start.saturating_add(count).min(bytes.len());
+                bytes.slice(start..end)
+            }
+        }
     }
 }
