@@ -1,7 +1,10 @@
 -- Changes of properties, one after another.
-use Rattle.std.proofs.Common.{◌≡◌, ℕ, Bool, true, false, List, [], ◌∷◌, ◌++◌, map, refl, sym, ap, ◌∙◌}
+use Rattle.std.proofs.Common.{◌≡◌, ℕ, Some, Bool, true, false, List, [], ◌∷◌, ◌++◌, map, refl, sym, ap, ◌∙◌}
 use Rattle.std.proofs.lemmas.List.{map-append}
 use Rattle.dav_core.specs.Property.{Property, Properties, Patch, patched, patched_by, patch_of, property_of, without_xml}
+use Rattle.std.specs.Option.{unwrap_or}
+use Rattle.dav_core.specs.World.{Node}
+use Rattle.dav_core.specs.Calls.{repatched}
 use Rattle.dav_store.specs.Answered.{answer_to}
 
 patched_last : (xs : List Patch) (x : Patch) (ps : Properties) → patched (xs ++ x ∷ []) ps ≡ patched_by x (patched xs ps)
@@ -23,3 +26,18 @@ pub answered_more : (ys : List (Bool × Property)) (y : Bool × Property) (said 
     → said ≡ map answer_to ys → p ≡ without_xml y.1 → told ≡ said ++ (200, p) ∷ [] → told ≡ map answer_to (ys ++ y ∷ [])
 answered_more ys y said told p before one now =
     now ∙ ap (λ xs. xs ++ (200, p) ∷ []) before ∙ ap (λ (q : Property). map answer_to ys ++ (200, q) ∷ []) (one ∙ ap without_xml (property_patched y)) ∙ sym (map-append answer_to ys (y ∷ []))
+
+-- each change is answered with its property
+pub answers_are : (ys : List (Bool × Property)) → map answer_to ys ≡ map (λ patch. (200, without_xml (property_of patch))) (map patch_of ys)
+answers_are [] = refl
+answers_are (y ∷ ys) = ap (λ (rest : List (ℕ × Property)). answer_to y ∷ rest) (answers_are ys)
+
+-- one node stands at a path
+pub same_node : (n m : Node) → Some n ≡ Some m → n ≡ m
+same_node n m e = ap (λ o. unwrap_or o n) e
+
+-- the node that stood there, with its properties changed
+pub patched_node : (m new n : Node) (patches : List Patch) (ps : Properties)
+    → new ≡ record m { properties = ps } → ps ≡ patched patches n.properties → n ≡ m → new ≡ repatched patches m
+patched_node m new n patches ps is changed same =
+    is ∙ ap (λ (qs : Properties). record m { properties = qs }) (changed ∙ ap (λ (o : Node). patched patches o.properties) same)

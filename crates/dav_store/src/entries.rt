@@ -1,5 +1,5 @@
 //! A list of paths and nodes, in order of the paths.
-ghost use Rattle.std.specs.Prelude.{◌≡◌, ◌∷◌, ◌++◌, ◌+◌, ◌<◌, ◌≤◌, [], ℕ, ◌≢◌, ◌==◌, ◌&&◌, not, IfOk, OnOk, OnErr, Option, option_map, option_copied, position, map, vec_len, length, reverse};
+ghost use Rattle.std.specs.Prelude.{◌≡◌, ◌∷◌, ◌++◌, ◌+◌, ◌<◌, ◌≤◌, [], ℕ, List, Some, ◌≢◌, ◌==◌, ◌&&◌, not, IfOk, OnOk, OnErr, Option, option_map, option_copied, position, map, vec_len, length, reverse};
 ghost use Rattle.std.specs.Vec.{vec_capacity};
 ghost use Rattle.std.specs.List.{insert};
 ghost use Rattle.std.specs.FinMap.{find, put};
@@ -7,9 +7,10 @@ ghost use Rattle.std.specs.Ordering.{is_le};
 ghost use Rattle.dav_core.specs.Path.{names, path_cmp, is_same_path, is_at_or_below, parent_of};
 ghost use Rattle.dav_core.specs.World.{adjust, touched, prune, graft, union, moved, modified_at, is_folder_node, is_file_node, last_moment, max_file_len, change_first, is_file_made_with, file_made_with, is_folder_kind};
 ghost use Rattle.dav_core.specs.World.{Node as Seen, fresh};
-ghost use Rattle.dav_core.specs.Calls.{emptied, written, copied_over};
+ghost use Rattle.dav_core.specs.Calls.{emptied, written, copied_over, repatched};
+ghost use Rattle.dav_core.specs.Property.{Patch, patched};
 
-use crate::names::Names;
+use crate::names::{Name, Names};
 use crate::node::Node;
 use crate::properties::Properties;
 use dav_core::davpath::DavPath;
@@ -298,11 +299,28 @@ pub fn copy_over(entries: &mut [(Names, Node)], path: &DavPath, copy: Node)
     }
 }
 
-/// What stands at a path gets other properties.
+/// What stands at a path gets other properties: its own after changes.
 pub fn set_properties_at(entries: &mut [(Names, Node)], path: &DavPath, properties: Properties)
-    ensures { entries.new ≡ adjust (names path.now) (λ n. record n { properties = properties }) entries.old }
+    ensures { (n : Seen) (patches : List Patch) → find path_cmp (names path.now) entries.old ≡ Some n → properties ≡ patched patches n.properties → entries.new ≡ adjust (names path.now) (repatched patches) entries.old }
 {
     if let Some(i) = place(entries, path) {
         entries[i].1.set_properties(properties);
+    }
+}
+
+// Where the path stands of a folder's names and one more.
+fn member_place(entries: &[(Names, Node)], folder: &Names, name: &Name) -> Option<usize>
+    ensures { result ≡ position (λ e. is_same_path (folder.now ++ name.now ∷ []) e.0) entries.now }
+{
+    entries.iter().position(|e| e.0.are_of_member(folder, name))
+}
+
+/// What stands at a name in a folder.
+pub fn member_at<'a>(entries: &'a [(Names, Node)], folder: &Names, name: &Name) -> Option<&'a Node>
+    ensures { option_copied result ≡ find path_cmp (folder.now ++ name.now ∷ []) entries.now }
+{
+    match member_place(entries, folder, name) {
+        None => None,
+        Some(i) => Some(&entries[i].1),
     }
 }

@@ -6,6 +6,7 @@ ghost use Rattle.dav_core.specs.Path.{names, is_nonempty, only_name, rest_after}
 ghost use Rattle.dav_core.specs.World.{empty_from, members, last_moment, node_at, is_missing, is_folder, is_file, with_new};
 ghost use Rattle.dav_core.specs.Asking.{seen};
 ghost use Rattle.dav_core.specs.Handle.{place_for};
+ghost use Rattle.dav_core.specs.Property.{patched, patch_of, without_xml, property_of};
 ghost use Rattle.dav_store.specs.Store.{Answers, AnswersExactly};
 ghost use Rattle.dav_store.specs.Listing.{member_of};
 
@@ -13,9 +14,12 @@ use crate::entries;
 use crate::names::{Name, Names};
 use crate::node::Node;
 use crate::paths;
+use crate::properties::Properties;
 use dav_core::davpath::DavPath;
+use dav_core::element::Element;
 use dav_core::errors::{FsError, FsResult, NoMemory};
-use dav_core::fs::{DavMetaData, OpenOptions};
+use dav_core::fs::{DavMetaData, DavProp, OpenOptions};
+use http::StatusCode;
 use bytes::Bytes;
 use std::alloc::Global;
 use std::io::SeekFrom;
@@ -142,11 +146,25 @@ fn has_members(entries: &[(Names, Node)], path: &DavPath) -> bool
     any_below(entries, path)
 }
 
+// The properties after changes in their order, and what is answered to these.
+fn patched(
+    alloc: Global,
+    properties: &Properties,
+    patches: Vec<(bool, DavProp)>,
+) -> Result<(Properties, Vec<(StatusCode, DavProp)>), NoMemory>
+    ensures { IfOk result (λ r. (r.0 ≡ patched (map patch_of patches.items) properties.now) × (r.1.items ≡ map (λ patch. (200, without_xml (property_of patch))) (map patch_of patches.items))) }
+{
+    let mut properties = properties.clone()?;
+    let answers = properties.patch(alloc, patches)?;
+    Ok((properties, answers))
+}
+
 impl MemFs {
     ghost use Rattle.std.specs.Prelude.{◌≡◌, ◌≤◌, ◌<◌, ◌∷◌, ◌++◌, [], Ok, IfOk, OnOk, OnErr, IfSome, IsSome, false, max, map};
     ghost use Rattle.dav_core.specs.Path.{names};
     ghost use Rattle.dav_core.specs.World.{empty_from, last_moment, last_number, node_at, fresh, Node as Seen};
-    ghost use Rattle.dav_core.specs.Calls.{metadata, read_dir, create_dir, remove_file, remove_dir, rename, copy, with_copy, open_file, open_found, open_missing, read_bytes, write_bytes, seek, flush, file_metadata};
+    ghost use Rattle.dav_core.specs.Calls.{metadata, read_dir, create_dir, remove_file, remove_dir, rename, copy, with_copy, open_file, open_found, open_missing, read_bytes, write_bytes, seek, flush, file_metadata, patch_props, get_props, get_prop};
+    ghost use Rattle.dav_core.specs.Property.{patch_of, property_key};
     ghost use Rattle.dav_core.specs.Metadata.{opening_of};
     ghost use Rattle.dav_core.specs.Asking.{seen};
     ghost use Rattle.dav_store.specs.Store.{Answers, AnswersExactly};
@@ -529,5 +547,71 @@ impl MemFs {
             Some(node) => Ok(node.metadata()),
             None => Err(FsError::NotFound),
         }
+    }
+
+    /// Tells of what is now where an entry was. `NotFound` where nothing is.
+    pub fn entry_metadata(&mut self, entry: &MemEntry) -> FsResult<DavMetaData>
+        ensures exactly { AnswersExactly (metadata self.old.world (entry.now.folder ++ entry.now.name ∷ [])) result self.old self.new }
+        ensures times { IfOk result (λ m. (m.created ≤ last_moment) × (m.modified ≤ last_moment)) }
+    {
+        match entries::member_at(&self.entries, &entry.folder, &entry.name) {
+            Some(node) => Ok(node.metadata()),
+            None => Err(FsError::NotFound),
+        }
+    }
+
+    /// Sets properties (`true`) and removes properties (`false`), in their order; each is answered 200. `NotFound`.
+    pub fn patch_props(
+        &mut self,
+        alloc: Global,
+        path: &DavPath,
+        patches: Vec<(bool, DavProp)>,
+    ) -> FsResult<Vec<(StatusCode, DavProp)>>
+        ensures { Answers (patch_props self.old.world (names path.now) (map patch_of patches.items)) (seen (λ answers. answers.items) result) self.old self.new }
+    {
+        let Some(node) = entries::node_at(&self.entries, path) else {
+            return Err(FsError::NotFound);
+        };
+        let Ok((properties, answers)) = patched(alloc, node.properties(), patches) else {
+            self.short = true;
+            return Err(FsError::InsufficientStorage);
+        };
+        entries::set_properties_at(&mut self.entries, path, properties);
+        Ok(answers)
+    }
+
+    /// The properties in order of namespace and name, with their elements or without. `NotFound`.
+    pub fn get_props(&mut self, alloc: Global, path: &DavPath, content: bool) -> FsResult<Vec<DavProp>>
+        ensures { Answers (get_props self.old.world (names path.now) content) (seen (λ properties. properties.items) result) self.old self.new }
+    {
+        let Some(node) = entries::node_at(&self.entries, path) else {
+            return Err(FsError::NotFound);
+        };
+        let Ok(list) = node.properties().list(alloc, content) else {
+            self.short = true;
+            return Err(FsError::InsufficientStorage);
+        };
+        Ok(list)
+    }
+
+    /// The element of the property of this namespace and name. `NotFound` where nothing is at the path, where it has no
+    /// such property, and where that was stored without an element.
+    pub fn get_prop(&mut self, path: &DavPath, property: &DavProp) -> FsResult<Element>
+        ensures { Answers (get_prop self.old.world (names path.now) (property_key property.now)) result self.old self.new }
+    {
+        let Some(node) = entries::node_at(&self.entries, path) else {
+            return Err(FsError::NotFound);
+        };
+        let Some(stored) = node.properties().get(property) else {
+            return Err(FsError::NotFound);
+        };
+        let Some(xml) = stored else {
+            return Err(FsError::NotFound);
+        };
+        let Ok(xml) = xml.clone() else {
+            self.short = true;
+            return Err(FsError::InsufficientStorage);
+        };
+        Ok(xml)
     }
 }
