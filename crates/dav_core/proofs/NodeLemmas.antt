@@ -3,13 +3,15 @@ use Rattle.std.proofs.Common.{◌≡◌, ℕ, max, min, suc, zero, ◌+◌, ◌<
 use Rattle.std.proofs.lemmas.List.{map-append, append-nil}
 use Rattle.std.proofs.lemmas.List.Elements.{filter_map-append}
 use Rattle.std.proofs.lemmas.Grind.{take_at_read}
-use Rattle.std.specs.Cmp.Lexicographic.{same_text}
+use Rattle.std.specs.Cmp.Derive.Mapped.{pointwise-map}
+use Rattle.std.specs.Cmp.Lexicographic.{pointwise, same_text}
 use Rattle.std.specs.List.{filter_map, find, list_any, remove}
 use Rattle.std.specs.Option.{unwrap_or}
 use Rattle.dav_core.specs.declared.element.XmlNode.{XmlNode}
 use Rattle.dav_core.specs.declared.element.XmlNode.TheVariants.{Element}
 use Rattle.dav_core.specs.declared.element.Element.TheInside.{Inside}
 use Rattle.dav_core.specs.Element.{ElementTree, element, text, trees, children_of, with_children, is_named, without_first, text_bytes, joined_texts, depth_of, depth_among, set_attribute}
+use Rattle.dav_core.specs.ElementEq.{attribute_eq}
 use Rattle.dav_core.specs.ElementView.{tree_of, node_tree, is_node_named, attribute_bytes, has_name}
 use Rattle.dav_core.proofs.ElementLemmas.{tree_list_trees, trees_tree_list, neither, find_at, find_none, joined_texts_more, depth_among_more}
 
@@ -89,3 +91,8 @@ module _ (a : Inside) (t : ElementTree) (e : tree_of a ≡ t) (name : List ℕ) 
   pub element_taken : (i : ℕ) (n : XmlNode) (child : ElementTree) → n ≡ Element child → i < length a.children.items → list_any (is_node_named name) (take i a.children.items) ≡ false
       → is_node_named name (slice_index_or a.children.items i n) ≡ true → n ≡ slice_index_or a.children.items i n → Some child ≡ find (is_named name) (children_of t)
   element_taken i n child this lt none hit is = ap (λ m. Some (node_tree m)) (sym this) ∙ (one_taken i n lt none hit is).0
+
+-- attributes compared one by one, and as their bytes
+pub attributes_seen : (xs ys : List (String Global × String Global))
+    → pointwise attribute_eq (map attribute_bytes xs) (map attribute_bytes ys) ≡ pointwise (λ a b. attribute_eq (attribute_bytes a) (attribute_bytes b)) xs ys
+attributes_seen xs ys = pointwise-map attribute_bytes attribute_eq xs ys

@@ -27,3 +27,4 @@ pub mod ElementFalls
 pub mod ChildElements
 pub mod PropertyView
 pub mod CallLaws
+pub mod WorldCode

@@ -1,4 +1,7 @@
 //! Properties of a resource (RFC 4918, section 4).
+#[cfg(test)]
+mod tests;
+
 use crate::element::Element;
 use crate::errors::NoMemory;
 use std::alloc::Global;

@@ -4,6 +4,8 @@ ghost use Rattle.dav_core.specs.ElementEq.{tag_eq};
 
 mod attributes;
 mod children;
+#[cfg(test)]
+mod tests;
 
 use crate::errors::NoMemory;
 use attributes::{are_attributes_equal, copied_attributes, set_attribute, xmlns_name};
@@ -292,6 +294,7 @@ impl PartialEq for XmlNode {
     fn eq(&self, other: &XmlNode) -> bool {
         match self {
             XmlNode::Element(a) => {
+                // Reading a field tells contracts that the tree is an element.
                 let _ = &a.name;
                 match other {
                     XmlNode::Element(b) => a.eq(b),

@@ -62,6 +62,7 @@ pub(super) fn copied_attributes(
 }
 
 /// Whether attributes are equal, one by one.
+#[tactic(auto, using(crate::proofs::NodeLemmas::attributes_seen))]
 pub(super) fn are_attributes_equal(
     left: &Vec<(String, String)>,
     right: &Vec<(String, String)>,

@@ -17,6 +17,7 @@ impl XmlNode {
     {
         match self {
             XmlNode::Element(e) => {
+                // Reading a field tells contracts that the tree is an element.
                 let _ = &e.name;
                 Some(e)
             }
@@ -30,6 +31,7 @@ impl XmlNode {
     {
         match self {
             XmlNode::Element(e) => {
+                // As above.
                 let _ = &e.name;
                 None
             }
