@@ -5,7 +5,8 @@ use Rattle.std.proofs.lemmas.List.Folds.{list_any_more}
 use Rattle.std.specs.List.{find, concat, list_any, position_or_len}
 use Rattle.std.specs.Option.{unwrap_or}
 use Rattle.dav_core.specs.ElementEq.{tree_eq, trees_eq}
-use Rattle.dav_core.specs.Element.{ElementTree, ElementTrees, no_trees, tree_then, tree_list, trees, joined_texts, without_first, depth_of, depth_among}
+use Rattle.dav_core.specs.Element.{ElementTree, ElementTrees, no_trees, tree_then, tree_list, trees, joined_texts, depth_of, depth_among}
+use Rattle.dav_core.specs.Lists.{without_first}
 
 pub tree_list_trees : (ts : List ElementTree) → tree_list (trees ts) ≡ ts
 tree_list_trees [] = refl

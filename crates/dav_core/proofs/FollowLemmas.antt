@@ -10,7 +10,7 @@ use Rattle.dav_core.specs.Handle.{Handle, Opening, opened}
 use Rattle.dav_core.specs.Meaning.{Meaning}
 use Rattle.dav_core.specs.Calls.{rename, open_at, emptied, without}
 use Rattle.dav_core.specs.Asking.{Call, Open, meaning}
-use Rattle.dav_core.specs.CallLaws.{IsProper, TakesAway, brought, path_after, IsUnchanged, IsStill, MayChange, OthersAreUnchanged, NodesFollowRenames, NodesStay, NodesWereThere, NumbersTellBytes, MadeStands, StandsFor, OpenedStands, OpenedIsOpenFile, OpenFilesStay, TakenNeverReturn}
+use Rattle.dav_core.specs.CallLaws.{IsProper, TakesAway, brought, path_after, IsUnchanged, IsStill, MayChange, OthersAreUnchanged, NodesFollowRenames, NodesStay, NodesWereThere, NumbersTellBytes, NumbersLookBack, MadeStands, StandsFor, OpenedStands, OpenedIsOpenFile, OpenFilesStay, TakenNeverReturn}
 use Rattle.dav_core.proofs.NodesLemmas.{CameFrom, back-adjust, back-put, find-adjust, find-put_node, same_path, path-itself, apart}
 use Rattle.dav_core.proofs.FrontLemmas.{from_rest, no_rest}
 use Rattle.dav_core.proofs.CarriedLemmas.{Same, Same-adjust, Same-modified, back-prune, stays-prune, stays-moved, arrives-moved, renamed_world, back-renamed}
@@ -270,6 +270,15 @@ same_by_number w world p n m stood same (born made number) = let small : n.numbe
 pub numbers_tell_bytes : NumbersTellBytes
 numbers_tell_bytes call w r p q n m proper world h stood there same =
     same_by_number w world p n m stood same (comes call w r.1 proper world (steps call w r h) q m there)
+
+looks_back : (w : World) (m : Node) → m.number < w.next → Comes w m
+    → (p : Path) × (n : Node) × (node_at w p ≡ Some n) × (m.number ≡ n.number) × (m.made ≡ n.made) × (m.kind ≡ n.kind)
+looks_back w m older (stayed s n stood made number kind) = (s, n, stood, number, made, kind)
+looks_back w m older (changed s n stood still number) = absurd (omega (arith, older, number))
+looks_back w m older (born made number) = absurd (omega (arith, older, number))
+
+pub numbers_look_back : NumbersLookBack
+numbers_look_back call w r q m proper world h stood older = looks_back w m older (comes call w r.1 proper world (steps call w r h) q m stood)
 
 pub made_stands_there : MadeStands
 made_stands_there w made n world = (

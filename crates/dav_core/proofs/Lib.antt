@@ -7,10 +7,13 @@ pub mod SegmentLemmas
 pub mod UrlLemmas
 pub mod EndLemmas
 pub mod PathLemmas
+pub mod AddedLemmas
+pub mod CutLemmas
 pub mod NodesLemmas
 pub mod WorldLemmas
 pub mod Rows
 pub mod LockLemmas
+pub mod SharedLemmas
 pub mod EmptyStore
 pub mod MethodLemmas
 pub mod NamedLemmas
@@ -25,4 +28,5 @@ pub mod KeptLemmas
 pub mod AskingLemmas
 pub mod MemberLemmas
 pub mod FollowLemmas
+pub mod GoneLemmas
 pub mod CopyLemmas

@@ -1,5 +1,5 @@
 -- Lists of locks.
-use Rattle.std.proofs.Common.{◌≡◌, ℕ, if◌then◌else◌, ◌++◌, ◌∷◌, [], Bool, true, false, not, ◌&&◌, ◌||◌, List, Contains, map, cond, bytes_eq, Option, Some, None, refl, sym, ap, ◌∙◌, arith}
+use Rattle.std.proofs.Common.{◌≡◌, ◌≢◌, All, ℕ, if◌then◌else◌, ◌++◌, ◌∷◌, [], Bool, true, false, not, ◌&&◌, ◌||◌, List, Contains, map, cond, bytes_eq, Option, Some, None, refl, sym, ap, ◌∙◌, arith}
 use Rattle.std.specs.List.{list_all, list_any, flat_map, find as first}
 use Rattle.std.proofs.lemmas.List.Sums.{AllPass-from_list_all}
 use Rattle.std.specs.Option.{is_some, option_map}
@@ -8,10 +8,14 @@ use Rattle.std.specs.Cmp.{tied_itself}
 use Rattle.std.specs.Cmp.Lexicographic.{lists_total, nat_list_cmp_total}
 use Rattle.std.proofs.lemmas.List.Folds.{list_any-append}
 use Rattle.std.proofs.lemmas.Map.Text.{is_eq-slice_cmp}
-use Rattle.std.proofs.lemmas.List.Elements.{All-contains}
+use Rattle.std.proofs.lemmas.List.Elements.{All-contains, All-weaker}
 use Rattle.dav_core.specs.Path.{Path, names, is_at_or_below, is_same_path, fronts}
-use Rattle.dav_core.specs.Locks.{Lock, Asker, covers, is_held, is_free, is_free_for, is_named, unlocked, without_first, discovered}
-use Rattle.dav_core.specs.LockLaws.{FreeHoldsExclusive, FreeDeepHoldsBelow, FreeIsNothingInTheWay, GrantedCanBeUnlocked}
+use Rattle.dav_core.specs.Locks.{Lock, Asker, covers, is_held, is_free, is_free_for, is_named, lock_front, unlocked, discovered}
+use Rattle.dav_core.specs.Lists.{without_first}
+use Rattle.dav_core.specs.LockLaws.{FreeHoldsExclusive, FreeDeepHoldsBelow, FreeIsNothingInTheWay, GrantedCanBeUnlocked, TakenBack}
+use Rattle.std.proofs.lemmas.Slice.Eq.{bytes_eq-Decides}
+use Rattle.std.proofs.lemmas.List.Folds.{list_any_none}
+use Rattle.dav_core.proofs.NodesLemmas.{apart}
 
 -- what passes for all of a list passes for one of it
 passes : {X : Type 0} (test : X → Bool) (xs : List X) (x : X) → list_all test xs ≡ true → Contains xs x → test x ≡ true
@@ -123,6 +127,63 @@ granted_can_be_unlocked l ls =
     let named : is_named l.token (names l.path) l ≡ true = ap (λ b. b && is_same_path (names l.path) (names l.path)) token ∙ path_itself (names l.path) in
     let any : list_any (is_named l.token (names l.path)) (ls ++ l ∷ []) ≡ true = list_any-append (is_named l.token (names l.path)) ls (l ∷ []) ∙ grind arith in
     some_of_map _ _ (some_front (names l.path) (λ q. list_any (is_named l.token q) (ls ++ l ∷ [])) any)
+
+first_mapped_step : (f : Path → Path) (test : Path → Bool) (q : Path) (ps : List Path) (p : Path) (b : Bool)
+    → (first (λ x. test (f x)) ps ≡ Some p → first test (map f ps) ≡ Some (f p))
+    → cond b (Some q) (first (λ x. test (f x)) ps) ≡ Some p → cond b (Some (f q)) (first test (map f ps)) ≡ Some (f p)
+first_mapped_step f test q ps p true ih h = let same : q ≡ p = cc in ap (λ x. Some (f x)) same
+first_mapped_step f test q ps p false ih h = ih h
+
+neither : (a b : Bool) → (a || b) ≡ false → (a ≡ false) × (b ≡ false)
+neither true b h = cc
+neither false b h = (refl, h)
+
+or_false : (b : Bool) → (b || false) ≡ b
+or_false true = refl
+or_false false = refl
+
+unnamed_by : (t u : List ℕ) (same b : Bool) → bytes_eq t u ≡ b → t ≢ u → (b && same) ≡ false
+unnamed_by t u same true is differ = absurd (differ ((bytes_eq-Decides t u).0 is))
+unnamed_by t u same false is differ = refl
+
+unnamed : (token : List ℕ) (q : Path) (m : Lock) → m.token ≢ token → is_named token q m ≡ false
+unnamed token q m differ = unnamed_by m.token token (is_same_path (names m.path) q) (bytes_eq m.token token) refl differ
+
+first_mapped : (f : Path → Path) (test : Path → Bool) (ps : List Path) (p : Path) → first (λ q. test (f q)) ps ≡ Some p → first test (map f ps) ≡ Some (f p)
+first_mapped f test [] p h = cc
+first_mapped f test (q ∷ ps) p h = first_mapped_step f test q ps p (test (f q)) (first_mapped f test ps p) h
+
+-- where a test is true of the path alone, it is the first front that passes
+only_front : (p : Path) (test : Path → Bool) → test p ≡ true → ((q : Path) → q ≢ p → test q ≡ false) → first test (fronts p) ≡ Some p
+only_front [] test here others = ap (λ b. cond b (Some []) None) here
+only_front (x ∷ p) test here others =
+    ap (λ b. cond b (Some []) (first test (map (λ q. x ∷ q) (fronts p)))) (others [] (λ e. cc))
+    ∙ first_mapped (λ q. x ∷ q) test (fronts p) p (only_front p (λ q. test (x ∷ q)) here (λ q differ. others (x ∷ q) (λ e. differ (let same : q ≡ p = cc in same))))
+
+-- the last item is left out where none before it passes
+last_left_out : {X : Type 0} (test : X → Bool) (x : X) (xs : List X) → test x ≡ true → list_any test xs ≡ false → without_first test (xs ++ x ∷ []) ≡ xs
+last_left_out test x [] here none = ap (λ b. cond b [] (x ∷ [])) here
+last_left_out test x (y ∷ xs) here none =
+    let (fails, rest) = neither (test y) (list_any test xs) none in
+    ap (λ b. cond b (xs ++ x ∷ []) (y ∷ without_first test (xs ++ x ∷ []))) fails ∙ ap (λ zs. y ∷ zs) (last_left_out test x xs here rest)
+
+token_itself : (l : Lock) → bytes_eq l.token l.token ≡ true
+token_itself l = (bytes_eq-Decides l.token l.token).1 refl
+
+-- no lock of another token has this one's name
+none_named : (l : Lock) (q : Path) (ls : List Lock) → All (λ m. m.token ≢ l.token) ls → list_any (is_named l.token q) ls ≡ false
+none_named l q ls others = list_any_none (is_named l.token q) ls (All-weaker (λ m. m.token ≢ l.token) (λ m. is_named l.token q m ≡ false) (λ m h. unnamed l.token q m h) ls others)
+
+pub taken_back : TakenBack
+taken_back l ls others =
+    let test = λ (q : Path). list_any (is_named l.token q) (ls ++ l ∷ []) in
+    let only : (q : Path) → test q ≡ is_same_path (names l.path) q = λ q.
+    list_any-append (is_named l.token q) ls (l ∷ []) ∙ ap (λ b. b || ((bytes_eq l.token l.token && is_same_path (names l.path) q) || false)) (none_named l q ls others)
+    ∙ ap (λ b. (b && is_same_path (names l.path) q) || false) (token_itself l) ∙ or_false (is_same_path (names l.path) q) in
+    let front : lock_front l.token (names l.path) (ls ++ l ∷ []) ≡ Some (names l.path) =
+    only_front (names l.path) test (only (names l.path) ∙ path_itself (names l.path)) (λ q differ. only q ∙ apart (names l.path) q (λ e. differ (sym e))) in
+    ap (option_map (λ q. without_first (is_named l.token q) (ls ++ l ∷ []))) front
+    ∙ ap (λ (ms : List Lock). Some ms) (last_left_out (is_named l.token (names l.path)) l ls (ap (λ b. b && is_same_path (names l.path) (names l.path)) (token_itself l) ∙ path_itself (names l.path)) (none_named l (names l.path) ls others))
 
 abbrev no_locks : List Lock
 no_locks = []

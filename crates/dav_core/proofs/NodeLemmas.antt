@@ -10,8 +10,9 @@ use Rattle.std.specs.Option.{unwrap_or}
 use Rattle.dav_core.specs.declared.element.XmlNode.{XmlNode}
 use Rattle.dav_core.specs.declared.element.XmlNode.TheVariants.{Element}
 use Rattle.dav_core.specs.declared.element.Element.TheInside.{Inside}
-use Rattle.dav_core.specs.Element.{ElementTree, element, text, trees, children_of, with_children, is_named, without_first, text_bytes, joined_texts, depth_of, depth_among, set_attribute}
+use Rattle.dav_core.specs.Element.{ElementTree, element, text, trees, children_of, with_children, is_named, text_bytes, joined_texts, depth_of, depth_among, set_attribute}
 use Rattle.dav_core.specs.ElementEq.{attribute_eq}
+use Rattle.dav_core.specs.Lists.{without_first}
 use Rattle.dav_core.specs.ElementView.{tree_of, node_tree, is_node_named, attribute_bytes, has_name}
 use Rattle.dav_core.proofs.ElementLemmas.{tree_list_trees, trees_tree_list, neither, find_at, find_none, joined_texts_more, depth_among_more}
 

@@ -24,12 +24,12 @@ AdjustChanges =
 abbrev pub UnionHasBoth : Type 0
 UnionHasBoth = (es ns : Nodes) (q : Path) → find path_cmp q (union es ns) ≡ option_or (find path_cmp q es) (find path_cmp q ns)
 
--- in a graft of p to t stands behind t what stood behind p, and nothing else
+-- in a graft of p to t stands at t and below it what stood at p and below it, and nothing else
 abbrev pub GraftMoves : Type 0
 GraftMoves = (p t q : Path) (ns : Nodes) → find path_cmp q (graft p t ns) ≡ option_and_then (λ rest. find path_cmp (p ++ rest) ns) (rest_after t q)
 
--- After a move stands behind `to` what stood behind `from`, nothing else there, nothing more behind `from`, and all
--- else as before.
+-- After a move stands at `to` and below it what stood at `from` and below it, and nothing else; nothing more stands
+-- at `from` or below it; and all else stands as before.
 abbrev pub MovedStands : Type 0
 MovedStands =
     (from to q : Path) (ns : Nodes)
@@ -208,12 +208,25 @@ NodesWereThere =
     → IsProper call → IsWorld w → meaning call w ≡ Ok r → node_at r.1 q ≡ Some m → m.made < w.next
     → (p : Path) × (n : Node) × (node_at w p ≡ Some n) × IsStill n m
 
+-- and what a call takes away is gone
+abbrev pub TakenIsGone : Type 0
+TakenIsGone =
+    (call : Call) (w : World) (r : Answer call × World) (p q : Path) (n m : Node)
+    → IsProper call → IsWorld w → meaning call w ≡ Ok r → node_at w p ≡ Some n → TakesAway call p → node_at r.1 q ≡ Some m → m.made ≢ n.made
+
 -- what has the same number before and after a call is the same node with the same bytes
 abbrev pub NumbersTellBytes : Type 0
 NumbersTellBytes =
     (call : Call) (w : World) (r : Answer call × World) (p q : Path) (n m : Node)
     → IsProper call → IsWorld w → meaning call w ≡ Ok r → node_at w p ≡ Some n → node_at r.1 q ≡ Some m
     → n.number ≡ m.number → (m.made ≡ n.made) × (m.kind ≡ n.kind)
+
+-- what has an older number after a call had it before, and is the same node with the same bytes
+abbrev pub NumbersLookBack : Type 0
+NumbersLookBack =
+    (call : Call) (w : World) (r : Answer call × World) (q : Path) (m : Node)
+    → IsProper call → IsWorld w → meaning call w ≡ Ok r → node_at r.1 q ≡ Some m → m.number < w.next
+    → (p : Path) × (n : Node) × (node_at w p ≡ Some n) × (m.number ≡ n.number) × (m.made ≡ n.made) × (m.kind ≡ n.kind)
 
 -- in a world the file that was made with a number is the file that stands somewhere and was made with it
 abbrev pub MadeStands : Type 0
@@ -239,7 +252,13 @@ OpenFilesStay =
     → IsProper call → IsWorld w → meaning call w ≡ Ok r → StandsFor w file p n → ¬ TakesAway call p
     → (m : Node) × StandsFor r.1 file (brought call p) m × IsStill n m
 
--- its number was handed out
+-- After a call that takes its file away it stands for none.
+abbrev pub TakenFilesAreGone : Type 0
+TakenFilesAreGone =
+    (call : Call) (w : World) (r : Answer call × World) (file : Handle) (p : Path) (n : Node)
+    → IsProper call → IsWorld w → meaning call w ≡ Ok r → StandsFor w file p n → TakesAway call p → file_made_with file.made r.1.nodes ≡ None
+
+-- the number of its file was handed out
 abbrev pub IsOpenFile : World → Handle → Type 0
 IsOpenFile w file = file.made < w.next
 
@@ -249,7 +268,7 @@ OpenedIsOpenFile =
     (p : Path) (how : Opening) (now : ℕ) (w : World) (r : Handle × World)
     → IsProper (Open p how now) → IsWorld w → meaning (Open p how now) w ≡ Ok r → IsOpenFile r.1 r.0
 
--- an open file whose file was taken away stands for none, whatever is called
+-- and one that stands for no file stands for none after each call: its file never comes back
 abbrev pub TakenNeverReturn : Type 0
 TakenNeverReturn =
     (call : Call) (w : World) (r : Answer call × World) (file : Handle)

@@ -7,7 +7,7 @@ use Rattle.dav_core.specs.declared.errors.FsError.TheVariants.{GeneralFailure, E
 use Rattle.dav_core.specs.declared.fs.DavMetaData.{DavMetaData}
 use Rattle.dav_core.specs.Element.{ElementTree}
 use Rattle.dav_core.specs.Path.{Path, is_same_path, is_below, is_root, is_nonempty, parent_of}
-use Rattle.dav_core.specs.Property.{Property, PropertyKey, Patch, key_cmp, patched, property_of, without_xml, shown_property}
+use Rattle.dav_core.specs.Property.{Property, PropertyKey, Patch, key_cmp, patched, patched_property, without_xml, shown_property}
 use Rattle.dav_core.specs.World.{World, Node, Folder, File, node_at, is_folder_kind, is_folder, is_file, is_missing, bytes_of, members, has_members, prune, moved, touched, with_new, adjust, change_first, is_file_made_with, file_made_with, splice, max_file_len}
 use Rattle.dav_core.specs.Handle.{Handle, Opening, opened, write_place, place_for}
 use Rattle.dav_core.specs.Meaning.{Meaning, refuse_if, at_node, numbered}
@@ -30,7 +30,7 @@ abbrev pub create_dir : World → Path → ℕ → Meaning (Unit {0})
 create_dir w p now =
     refuse_if (not (is_missing w p)) Exists
     (refuse_if (not (is_folder w (parent_of p))) NotFound
-    (numbered w (λ number. Ok (tt, with_new w p Folder [] now))))
+    (numbered w (λ _. Ok (tt, with_new w p Folder [] now))))
 
 -- the world without what is at p or below it
 abbrev pub without : World → Path → ℕ → World
@@ -78,7 +78,7 @@ copy w from to now =
     (refuse_if (is_same_path from to) Forbidden
     (refuse_if (is_folder w to) Forbidden
     (refuse_if (not (is_folder w (parent_of to))) NotFound
-    (numbered w (λ number. Ok (tt, with_copy w to source (node_at w to) now)))))))
+    (numbered w (λ _. Ok (tt, with_copy w to source (node_at w to) now)))))))
 
 -- a file without bytes, changed at this moment
 abbrev pub emptied : ℕ → ℕ → Node → Node
@@ -155,7 +155,7 @@ repatched patches n = record n { properties = patched patches n.properties }
 abbrev pub patch_props : World → Path → List Patch → Meaning (List (ℕ × Property))
 patch_props w p patches =
     at_node (node_at w p) (λ n.
-    Ok (map (λ patch. (200, without_xml (property_of patch))) patches, record w { nodes = adjust p (repatched patches) w.nodes }))
+    Ok (map (λ patch. (200, without_xml (patched_property patch))) patches, record w { nodes = adjust p (repatched patches) w.nodes }))
 
 -- the properties in order of namespace and name
 abbrev pub get_props : World → Path → Bool → Meaning (List Property)

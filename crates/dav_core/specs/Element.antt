@@ -103,11 +103,6 @@ abbrev pub is_named : List ℕ → ElementTree → Bool
 is_named wanted (element name prefix namespace attributes children) = bytes_eq name wanted
 is_named wanted (text bytes) = false
 
--- The list without the first that passes the test.
-abbrev pub without_first : {X : Type 0} → (X → Bool) → List X → List X
-without_first test [] = []
-without_first test (x ∷ xs) = if test x then xs else x ∷ without_first test xs
-
 abbrev mutual
   -- how many elements stand one in another: 1 for an element without child elements, 0 for a text
   pub depth_of : ElementTree → ℕ

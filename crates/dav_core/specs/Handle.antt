@@ -3,7 +3,7 @@
 use Rattle.std.specs.Prelude.{ℕ, ℤ, pos, ◌+ℤ◌, ◌||◌, int_lt, nat_lt, nat_abs, Bool, if◌then◌else◌, List, length, Option, Some, None}
 use Rattle.std.specs.declared.io.traits.SeekFrom.{SeekFrom}
 use Rattle.std.specs.declared.io.traits.SeekFrom.TheVariants.{Start, End, Current}
-use Rattle.dav_core.specs.World.{last_number}
+use Rattle.dav_core.specs.Numbers.{max_u64}
 
 pub record Handle : Type 0 where
   pub made : ℕ
@@ -33,7 +33,7 @@ write_place file bytes = if file.appends then length bytes else file.position
 
 -- a place that a number names; none before 0 or past 2^64 - 1
 abbrev pub place_within : ℤ → Option ℕ
-place_within z = if int_lt z (pos 0) then None else if nat_lt last_number (nat_abs z) then None else Some (nat_abs z)
+place_within z = if int_lt z (pos 0) then None else if nat_lt max_u64 (nat_abs z) then None else Some (nat_abs z)
 
 -- where a seek goes from a place in a file of this length
 abbrev pub place_for : SeekFrom → ℕ → ℕ → Option ℕ

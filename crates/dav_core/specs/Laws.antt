@@ -1,7 +1,7 @@
 -- What holds of every text and every path: the statements of the laws.
-use Rattle.std.specs.Prelude.{◌≡◌, ◌↔◌, ◌++◌, ◌∷◌, ℕ, ◌+◌, ◌^◌, ◌<◌, ◌≤◌, Bool, true, false, T, List, [], All, Contains, Some, None}
+use Rattle.std.specs.Prelude.{◌≡◌, ◌≢◌, ◌↔◌, ◌++◌, ◌∷◌, ℕ, ◌+◌, ◌^◌, ◌<◌, ◌≤◌, Bool, true, false, T, List, [], All, Contains, Some, None}
 use Rattle.dav_core.specs.declared.errors.ParseError.TheVariants.{InvalidPath, ForbiddenPath}
-use Rattle.dav_core.specs.Path.{Path, IsName, parent_of, path_bytes, star, names_of, parent_bytes, with_slash}
+use Rattle.dav_core.specs.Path.{Path, PathText, IsName, IsSegment, parent_of, joined, path_bytes, star, names_of, parent_bytes, with_slash, prefix_cut}
 use Rattle.dav_core.specs.Target.{Leaves, Climbs, HasBadPiece, Reads, IsRefused}
 use Rattle.dav_core.specs.UrlText.{url_text, IsTextOf}
 use Rattle.dav_core.specs.declared.method.DavMethod.{DavMethod}
@@ -92,6 +92,32 @@ abbrev pub AddsName : Type 0
 AddsName =
     (ns : Path) (closed : Bool) (n : List ℕ)
     → All IsName ns → with_slash (path_bytes ns closed) ++ n ≡ path_bytes (ns ++ n ∷ []) false
+
+-- a segment that is added to any path but the star path is the last of its names
+abbrev pub AddsSegment : Type 0
+AddsSegment =
+    (bytes n : List ℕ) → IsSegment n → bytes ≢ star → names_of (with_slash bytes ++ n) ≡ names_of bytes ++ n ∷ []
+
+-- the names in any bytes are segments
+abbrev pub NamesAreSegments : Type 0
+NamesAreSegments = (bytes : List ℕ) → All IsSegment (names_of bytes)
+
+-- a name is a segment
+abbrev pub NameIsSegment : Type 0
+NameIsSegment = (n : List ℕ) → IsName n → IsSegment n
+
+-- a path is cut behind names in front of its names, and the other names are left
+abbrev pub CutsAtNames : Type 0
+CutsAtNames =
+    (ps ns : Path) (closed : Bool)
+    → prefix_cut (joined ps) (path_bytes (ps ++ ns) closed) ≡ Some (record { prefix = joined ps; bytes = path_bytes ns closed })
+
+-- and where a path of names is cut behind any prefix, the names behind those of the prefix are left
+abbrev pub CutKeepsNames : Type 0
+CutKeepsNames =
+    (names : Path) (closed : Bool) (prefix : List ℕ) (cut : PathText)
+    → All IsName names → prefix_cut prefix (path_bytes names closed) ≡ Some cut
+    → (ns : Path) × (end : Bool) × (names ≡ names_of prefix ++ ns) × (cut.bytes ≡ path_bytes ns end)
 
 -- the parent of a path of names has all names but the last
 abbrev pub ParentOfNames : Type 0

@@ -1,3 +1,5 @@
+pub mod Lists
+pub mod Numbers
 pub mod Path
 pub mod Element
 pub mod Property

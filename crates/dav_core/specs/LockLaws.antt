@@ -1,9 +1,9 @@
 -- What holds of every list of locks: the statements of the laws.
-use Rattle.std.specs.Prelude.{◌≡◌, ◌++◌, ◌∷◌, [], Bool, true, false, not, List, Contains}
+use Rattle.std.specs.Prelude.{◌≡◌, ◌≢◌, ℕ, ◌++◌, ◌∷◌, [], Bool, true, false, not, List, All, AllPairs, Contains, Option, Some}
 use Rattle.std.specs.Option.{is_some}
 use Rattle.std.specs.List.{list_all}
 use Rattle.dav_core.specs.Path.{Path, names, is_at_or_below}
-use Rattle.dav_core.specs.Locks.{Lock, Asker, covers, is_held, is_free, is_free_deep, is_free_for, is_in_the_way, unlocked}
+use Rattle.dav_core.specs.Locks.{Lock, Asker, covers, is_held, is_free, is_free_deep, is_free_for, is_in_the_way, is_grantable, unlocked, refreshed, deleted}
 
 -- where a path is free, whoever asks holds each exclusive lock that covers it
 abbrev pub FreeHoldsExclusive : Type 0
@@ -27,3 +27,35 @@ FreeIsNothingInTheWay =
 abbrev pub GrantedCanBeUnlocked : Type 0
 GrantedCanBeUnlocked =
     (l : Lock) (ls : List Lock) → is_some (unlocked l.token (names l.path) (ls ++ l ∷ [])) ≡ true
+
+-- and where no other lock has its token, what was there before is left
+abbrev pub TakenBack : Type 0
+TakenBack =
+    (l : Lock) (ls : List Lock)
+    → All (λ m. m.token ≢ l.token) ls → unlocked l.token (names l.path) (ls ++ l ∷ []) ≡ Some ls
+
+-- Locks exclude one another: any two of the list that cover one path are both shared (RFC 4918, section 6.2).
+abbrev pub CoveringAreShared : List Lock → Type 0
+CoveringAreShared = AllPairs (λ l m. (p : Path) → covers l p ≡ true → covers m p ≡ true → (l.shared ≡ true) × (m.shared ≡ true))
+
+-- they do with a lock more that may be granted
+abbrev pub GrantedAreShared : Type 0
+GrantedAreShared =
+    (new : Lock) (ls : List Lock)
+    → CoveringAreShared ls → is_grantable new ls ≡ true → CoveringAreShared (ls ++ new ∷ [])
+
+-- without one that is unlocked
+abbrev pub UnlockedAreShared : Type 0
+UnlockedAreShared =
+    (token : List ℕ) (p : Path) (ls left : List Lock)
+    → CoveringAreShared ls → unlocked token p ls ≡ Some left → CoveringAreShared left
+
+-- with a new timeout of one
+abbrev pub RefreshedAreShared : Type 0
+RefreshedAreShared =
+    (token : List ℕ) (p : Path) (timeout : Option ℕ) (now : ℕ) (ls new : List Lock)
+    → CoveringAreShared ls → refreshed token p timeout now ls ≡ Some new → CoveringAreShared new
+
+-- and without those at a path and below it
+abbrev pub DeletedAreShared : Type 0
+DeletedAreShared = (p : Path) (ls : List Lock) → CoveringAreShared ls → CoveringAreShared (deleted p ls)

@@ -1,9 +1,10 @@
 -- Write locks (RFC 4918, sections 6 and 7): one list, in order of granting.
-use Rattle.std.specs.Prelude.{◌≡◌, ℕ, ◌+◌, ◌&&◌, ◌||◌, Bool, true, not, if◌then◌else◌, bytes_eq, List, [], ◌∷◌, Contains, Option, Some, None, Result, Ok, Err}
+use Rattle.std.specs.Prelude.{◌≡◌, ℕ, ◌+◌, ◌&&◌, ◌||◌, Bool, true, not, if◌then◌else◌, bytes_eq, List, Contains, Option, Some, None, Result, Ok, Err}
 use denote.Ref.{Bor}
 use Rattle.std.specs.List.{filter, flat_map, list_any, list_all, find as first}
 use Rattle.std.specs.Option.{option_map, option_and_then, option_eq}
 use Rattle.dav_core.specs.Element.{ElementTree}
+use Rattle.dav_core.specs.Lists.{without_first, change_first}
 use Rattle.dav_core.specs.Path.{Path, PathText, names, is_same_path, is_below, is_at_or_below, fronts}
 
 -- A lock: its token, the path that it is on, whose it is, what its owner said of itself, when it ends and after how
@@ -113,23 +114,13 @@ lock_front token p ls = first (λ q. list_any (is_named token q) ls) (fronts p)
 abbrev pub named_lock : List ℕ → Path → List Lock → Option Lock
 named_lock token p ls = option_and_then (λ q. first (is_named token q) ls) (lock_front token p ls)
 
--- the first lock that passes the test left out
-abbrev pub without_first : (Lock → Bool) → List Lock → List Lock
-without_first test [] = []
-without_first test (l ∷ ls) = if test l then ls else l ∷ without_first test ls
-
--- the first lock that passes the test changed
-abbrev pub change_first_lock : (Lock → Bool) → (Lock → Lock) → List Lock → List Lock
-change_first_lock test f [] = []
-change_first_lock test f (l ∷ ls) = if test l then f l ∷ ls else l ∷ change_first_lock test f ls
-
 -- the list without the lock that is meant; none where none is
 abbrev pub unlocked : List ℕ → Path → List Lock → Option (List Lock)
 unlocked token p ls = option_map (λ q. without_first (is_named token q) ls) (lock_front token p ls)
 
 -- the list with a new timeout of the lock that is meant; none where none is
 abbrev pub refreshed : List ℕ → Path → Option ℕ → ℕ → List Lock → Option (List Lock)
-refreshed token p timeout now ls = option_map (λ q. change_first_lock (is_named token q) (refreshed_lock timeout now) ls) (lock_front token p ls)
+refreshed token p timeout now ls = option_map (λ q. change_first (is_named token q) (refreshed_lock timeout now) ls) (lock_front token p ls)
 
 -- the locks that cover a path, the shortest path first, and of one path the first that was granted
 abbrev pub discovered : Path → List Lock → List Lock

@@ -49,9 +49,9 @@ patch_of (true, p) = SetTo p
 patch_of (false, p) = Remove p
 
 -- the property that a change names
-abbrev pub property_of : Patch → Property
-property_of (SetTo p) = p
-property_of (Remove p) = p
+abbrev pub patched_property : Patch → Property
+patched_property (SetTo p) = p
+patched_property (Remove p) = p
 
 -- the properties after one change
 abbrev pub patched_by : Patch → Properties → Properties

@@ -4,6 +4,7 @@ use Rattle.std.specs.Prelude.{◌≡◌, ℕ, ◌+◌, ◌-◌, ◌<◌, ◌≤�
 use Rattle.std.specs.List.{filter, filter_map, find as first}
 use Rattle.std.specs.Option.{is_none, option_map}
 use Rattle.std.specs.FinMap.{find, put, is_sorted}
+use Rattle.dav_core.specs.Numbers.{max_u64}
 use Rattle.dav_core.specs.Path.{Path, path_cmp, is_same_path, is_at_or_below, is_nonempty, rest_after, only_name, parent_of, IsName}
 use Rattle.dav_core.specs.Property.{Properties, key_cmp}
 
@@ -93,7 +94,7 @@ file_made_with made ns = option_map (λ e. e.1) (first (is_file_made_with made) 
 
 -- the number that is never handed out, 2^64 - 1
 abbrev pub last_number : ℕ
-last_number = 18446744073709551615
+last_number = max_u64
 
 -- the end of the year 9999, the last moment that a date of HTTP can show (RFC 9110, section 5.6.7)
 abbrev pub last_moment : ℕ

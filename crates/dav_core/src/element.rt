@@ -62,7 +62,8 @@ impl Model for Element {
 impl Element {
     ghost use Rattle.std.specs.Prelude.{◌≡◌, ◌≢◌, ◌↔◌, None, [], min, option_map, string_bytes, IfOk, OnOk, OnErr, IsTrue};
     ghost use Rattle.std.specs.List.{find};
-    ghost use Rattle.dav_core.specs.Element.{attributes_of, child_elements, children_of, depth_of, is_named, named, named_by, set_attribute, text, text_of, with_attributes, with_child, with_children, without_first, xmlns_name};
+    ghost use Rattle.dav_core.specs.Element.{attributes_of, child_elements, children_of, depth_of, is_named, named, named_by, set_attribute, text, text_of, with_attributes, with_child, with_children, xmlns_name};
+    ghost use Rattle.dav_core.specs.Lists.{without_first};
     ghost use Rattle.dav_core.specs.ChildElements.{elements_left};
 
     /// An element of that name, with nothing else.

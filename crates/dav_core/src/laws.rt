@@ -3,8 +3,8 @@
 pub mod calls;
 
 ghost use Rattle.std.specs.Prelude.{◌≡◌, [], ◌∷◌};
-ghost use Rattle.dav_core.specs.Laws.{LeavesOnePath, LeavesNoFault, OneFault, ReadsOnePath, ReadIsNotRefused, OneRefusal, KeepsNames, ReadsNames, StarHasNoNames, ReadsAgain, NamesReadAgain, SameText, SlashKeepsNames, AddsName, ParentOfNames, EmptyIsWorld, NewKeepsWorld, ChangeKeepsWorld, OneMethod, NameNames, MembersAreHad, SameMethodsSameSet};
-ghost use Rattle.dav_core.specs.LockLaws.{FreeHoldsExclusive, FreeDeepHoldsBelow, FreeIsNothingInTheWay, GrantedCanBeUnlocked};
+ghost use Rattle.dav_core.specs.Laws.{LeavesOnePath, LeavesNoFault, OneFault, ReadsOnePath, ReadIsNotRefused, OneRefusal, KeepsNames, ReadsNames, StarHasNoNames, ReadsAgain, NamesReadAgain, SameText, SlashKeepsNames, AddsName, AddsSegment, NamesAreSegments, NameIsSegment, ParentOfNames, CutsAtNames, CutKeepsNames, EmptyIsWorld, NewKeepsWorld, ChangeKeepsWorld, OneMethod, NameNames, MembersAreHad, SameMethodsSameSet};
+ghost use Rattle.dav_core.specs.LockLaws.{FreeHoldsExclusive, FreeDeepHoldsBelow, FreeIsNothingInTheWay, GrantedCanBeUnlocked, TakenBack, CoveringAreShared, GrantedAreShared, UnlockedAreShared, RefreshedAreShared, DeletedAreShared};
 ghost use Rattle.dav_core.specs.Method.{all_methods, members};
 
 use crate::method::{DavMethod, DavMethodSet};
@@ -21,11 +21,13 @@ pub fn one_reading()
 {}
 
 /// A path keeps its names: those in its bytes are the names that it was made of, and a text that is read gives
-/// names alone. The path `*` has none.
+/// names alone. The path `*` has none. The names in any bytes are segments, and each name is one.
 pub fn names_are_kept()
     ensures kept { KeepsNames }
     ensures read { ReadsNames }
     ensures star { StarHasNoNames }
+    ensures segments { NamesAreSegments }
+    ensures name { NameIsSegment }
 {}
 
 /// The text of a path in a URL is read again as this path.
@@ -39,11 +41,15 @@ pub fn texts_tell_paths()
     ensures { SameText }
 {}
 
-/// A slash at the end changes no name, a name that is added is the last, and the parent has all names but the last.
+/// A slash at the end changes no name, a name or segment that is added is the last, and the parent has all names but the
+/// last. A path that is cut behind a prefix has the names behind those of the prefix.
 pub fn names_are_added()
     ensures slash { SlashKeepsNames }
     ensures name { AddsName }
+    ensures segment { AddsSegment }
     ensures parent { ParentOfNames }
+    ensures cut { CutsAtNames }
+    ensures behind { CutKeepsNames }
 {}
 
 /// The empty world is a world; so is a world with one more node, and one in which a node was changed: the root and
@@ -56,12 +62,24 @@ pub fn worlds_are_kept()
 
 /// Where a path is free, whoever asks holds each exclusive lock that covers it, and for a deep question each lock at it
 /// and below it (RFC 4918, sections 6.1 and 7.5); it is free exactly where no lock stands in the way. A lock that was
-/// just granted can be taken back.
+/// just granted can be taken back, and where its token is new, that leaves the locks that were there.
 pub fn free_paths_are_held()
     ensures exclusive { FreeHoldsExclusive }
     ensures below { FreeDeepHoldsBelow }
     ensures way { FreeIsNothingInTheWay }
     ensures granted { GrantedCanBeUnlocked }
+    ensures back { TakenBack }
+{}
+
+/// Of two locks that cover one path both are shared (RFC 4918, section 6.2), where each was granted as it may be: so it
+/// is without locks, and it stays so when a lock is granted, refreshed or taken back, and when those below a path are
+/// dropped.
+pub fn locks_exclude()
+    ensures none { CoveringAreShared [] }
+    ensures granted { GrantedAreShared }
+    ensures unlocked { UnlockedAreShared }
+    ensures refreshed { RefreshedAreShared }
+    ensures deleted { DeletedAreShared }
 {}
 
 /// A name is that of one method. A set is known by its methods: two that have the same ones are equal.

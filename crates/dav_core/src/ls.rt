@@ -65,6 +65,7 @@ pub enum RefreshRefusal {
 pub trait DavLockSystem {
     ghost use Rattle.std.specs.Prelude.{◌≡◌, ◌≤◌, ◌+◌, ◌++◌, ◌∷◌, [], ℕ, Bool, true, false, List, map, Option, Some, None, Result, Ok, Err, IfOk, IfErr, OnOk, OnErr, IsOk, IfSome, string_bytes, if◌then◌else◌};
     ghost use Rattle.std.specs.Option.{option_map, option_copied, option_and_then};
+    ghost use Rattle.dav_core.specs.Numbers.{max_u64};
     ghost use Rattle.dav_core.specs.LockRefusals.{IsRefusedGrant, IsRefusedRefresh};
     ghost use Rattle.dav_core.specs.Path.{names};
     ghost use Rattle.dav_core.specs.Locks.{Lock, Asker, Checks, is_grantable, ends_at, new_lock, asker_of, lent, named_lock, unlocked, refreshed, refreshed_lock, discovered, deleted};
@@ -86,7 +87,7 @@ pub trait DavLockSystem {
         token: &str,
         now: u64,
     ) -> Result<DavLock, LockRefusal>
-        requires { IfSome timeout (λ seconds. now + seconds ≤ 18446744073709551615) }
+        requires { IfSome timeout (λ seconds. now + seconds ≤ max_u64) }
         ensures ok { IfOk result (λ lock. (lock ≡ new_lock token.now path.now (option_copied principal.entry) (option_copied owner.entry) timeout shared deep now) × (is_grantable lock (locks self.old) ≡ true) × (locks self.new ≡ locks self.old ++ lock ∷ [])) }
         ensures err { IfErr result (λ e. IsRefusedGrant e (is_grantable (new_lock token.now path.now (option_copied principal.entry) (option_copied owner.entry) timeout shared deep now) (locks self.old))) }
         ensures same { OnErr result (locks self.new ≡ locks self.old) };
@@ -108,7 +109,7 @@ pub trait DavLockSystem {
         timeout: Option<u64>,
         now: u64,
     ) -> Result<DavLock, RefreshRefusal>
-        requires { IfSome timeout (λ seconds. now + seconds ≤ 18446744073709551615) }
+        requires { IfSome timeout (λ seconds. now + seconds ≤ max_u64) }
         ensures ok { IfOk result (λ lock. (option_map (refreshed_lock timeout now) (named_lock token.now (names path.now) (locks self.old)) ≡ Some lock) × (refreshed token.now (names path.now) timeout now (locks self.old) ≡ Some (locks self.new))) }
         ensures err { IfErr result (λ e. IsRefusedRefresh e (named_lock token.now (names path.now) (locks self.old))) }
         ensures same { OnErr result (locks self.new ≡ locks self.old) };

@@ -1,6 +1,6 @@
 //! Laws of what a file store holds and of its calls. Each function does nothing: its contract is a theorem on the
 //! definitions.
-ghost use Rattle.dav_core.specs.CallLaws.{PruneLeaves, AdjustChanges, UnionHasBoth, GraftMoves, MovedStands, TouchedIsModified, PutStands, PruneKeepsOrder, AdjustKeepsOrder, UnionKeepsOrder, GraftKeepsOrder, MovedKeepsOrder, CallsKeepWorlds, NumbersRise, TimesAreShown, AskingIsDetermined, ErrorsLeaveWorlds, RefusalsAreUsedUp, RefusalIsAnswered, CanBeAsked, MembersStandBelow, MembersRise, ListsWhatStands, NodesFollowRenames, NodesStay, OthersAreUnchanged, NodesWereThere, NumbersTellBytes, MadeStands, OpenedStands, OpenedIsOpenFile, OpenFilesStay, TakenNeverReturn, CopyBrings, CopySparesFolders, RemovalSparesMembers};
+ghost use Rattle.dav_core.specs.CallLaws.{PruneLeaves, AdjustChanges, UnionHasBoth, GraftMoves, MovedStands, TouchedIsModified, PutStands, PruneKeepsOrder, AdjustKeepsOrder, UnionKeepsOrder, GraftKeepsOrder, MovedKeepsOrder, CallsKeepWorlds, NumbersRise, TimesAreShown, AskingIsDetermined, ErrorsLeaveWorlds, RefusalsAreUsedUp, RefusalIsAnswered, CanBeAsked, MembersStandBelow, MembersRise, ListsWhatStands, NodesFollowRenames, NodesStay, OthersAreUnchanged, NodesWereThere, TakenIsGone, NumbersTellBytes, NumbersLookBack, MadeStands, OpenedStands, OpenedIsOpenFile, OpenFilesStay, TakenFilesAreGone, TakenNeverReturn, CopyBrings, CopySparesFolders, RemovalSparesMembers};
 
 /// What stands at any path after each operation on the whole map, whatever the map's order.
 pub fn nodes_after()
@@ -49,23 +49,26 @@ pub fn asking_is_determined()
 {}
 
 /// A folder or file that a call doesn't take away is still there, at its path or where a rename brings it, and as it
-/// was, but for its moments, where the call isn't a change of it. What was taken away never comes back; and what keeps
-/// its number keeps its bytes, so each change of bytes takes a new number.
+/// was, but for its moments, where the call isn't a change of it. What is taken away is gone and never comes back; and
+/// what keeps its number keeps its bytes, so each change of bytes takes a new number, which nothing had before.
 pub fn nodes_follow()
     ensures renamed { NodesFollowRenames }
     ensures stay { NodesStay }
     ensures others { OthersAreUnchanged }
     ensures were_there { NodesWereThere }
+    ensures gone { TakenIsGone }
     ensures numbers { NumbersTellBytes }
+    ensures back { NumbersLookBack }
 {}
 
 /// An open file stands for the file at the path at which it was opened, wherever a rename brings it, until a call takes
-/// it away: then it stands for none. The file that was made with a number stands at one path in a world.
+/// it away: from then on it stands for none. The file that was made with a number stands at one path in a world.
 pub fn open_files_follow()
     ensures made { MadeStands }
     ensures opened { OpenedStands }
     ensures stays { OpenFilesStay }
     ensures is_open { OpenedIsOpenFile }
+    ensures gone { TakenFilesAreGone }
     ensures never { TakenNeverReturn }
 {}
 

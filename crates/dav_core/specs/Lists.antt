@@ -1,0 +1,12 @@
+-- Lists in which one item is left out or changed.
+use Rattle.std.specs.Prelude.{Bool, List, [], ◌∷◌, if◌then◌else◌}
+
+-- the list without the first item that passes the test
+abbrev pub without_first : {X : Type 0} → (X → Bool) → List X → List X
+without_first test [] = []
+without_first test (x ∷ xs) = if test x then xs else x ∷ without_first test xs
+
+-- the list with the first item that passes the test changed
+abbrev pub change_first : {X : Type 0} → (X → Bool) → (X → X) → List X → List X
+change_first test f [] = []
+change_first test f (x ∷ xs) = if test x then f x ∷ xs else x ∷ change_first test f xs
