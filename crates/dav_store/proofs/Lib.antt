@@ -3,3 +3,4 @@ pub mod Place
 pub mod PropertyLemmas
 pub mod MemberLemmas
 pub mod CopyLemmas
+pub mod AskingLemmas

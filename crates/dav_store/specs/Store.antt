@@ -1,9 +1,10 @@
 -- What contracts see of a store in memory, and what its calls answer.
-use Rattle.std.specs.Prelude.{◌≡◌, ◌⊎◌, Bool, true, Result, Ok, Err}
+use Rattle.std.specs.Prelude.{◌≡◌, ◌⊎◌, [], Bool, true, Result, Ok, Err}
 use Rattle.dav_core.specs.declared.errors.FsError.{FsError}
 use Rattle.dav_core.specs.declared.errors.FsError.TheVariants.{InsufficientStorage}
 use Rattle.dav_core.specs.World.{World}
 use Rattle.dav_core.specs.Meaning.{Meaning}
+use Rattle.dav_core.specs.Asking.{StoreState}
 
 -- What it holds, and whether it ever wanted memory that wasn't there.
 pub record Store : Type 0 where
@@ -21,3 +22,7 @@ abbrev pub Answers : {A : Type 0} → Meaning A → Result A FsError → Store �
 Answers (Err e) result old new = (result ≡ Err e) × (new ≡ old)
 Answers (Ok (a, w)) result old new =
     ((result ≡ Ok a) × (new ≡ record old { world = w })) ⊎ ((result ≡ Err InsufficientStorage) × (new ≡ record old { short = true }))
+
+-- what the trait's contracts see of it: it refuses nothing of itself
+abbrev pub state_of : Store → StoreState
+state_of s = record { world = s.world; refusals = []; short = s.short }

@@ -6,7 +6,7 @@ ghost use Rattle.dav_core.specs.Path.{names, is_nonempty, only_name, rest_after}
 ghost use Rattle.dav_core.specs.World.{empty_from, members, last_moment, node_at, is_missing, is_folder, is_file, with_new};
 ghost use Rattle.dav_core.specs.Asking.{seen};
 ghost use Rattle.dav_core.specs.Handle.{place_for};
-ghost use Rattle.dav_core.specs.Property.{patched, patch_of, without_xml, property_of};
+ghost use Rattle.dav_core.specs.Property.{patched, patch_of, without_xml, patched_property};
 ghost use Rattle.dav_store.specs.Store.{Answers, AnswersExactly};
 ghost use Rattle.dav_store.specs.Listing.{member_of};
 
@@ -152,7 +152,7 @@ fn patched(
     properties: &Properties,
     patches: Vec<(bool, DavProp)>,
 ) -> Result<(Properties, Vec<(StatusCode, DavProp)>), NoMemory>
-    ensures { IfOk result (λ r. (r.0 ≡ patched (map patch_of patches.items) properties.now) × (r.1.items ≡ map (λ patch. (200, without_xml (property_of patch))) (map patch_of patches.items))) }
+    ensures { IfOk result (λ r. (r.0 ≡ patched (map patch_of patches.items) properties.now) × (r.1.items ≡ map (λ patch. (200, without_xml (patched_property patch))) (map patch_of patches.items))) }
 {
     let mut properties = properties.clone()?;
     let answers = properties.patch(alloc, patches)?;
