@@ -1,5 +1,5 @@
 -- What contracts see of a store in memory, and what its calls answer.
-use Rattle.std.specs.Prelude.{◌≡◌, ◌⊎◌, [], Bool, true, Result, Ok, Err}
+use Rattle.std.specs.Prelude.{◌≡◌, ◌⊎◌, [], Bool, true, Option, Some, None, Result, Ok, Err}
 use Rattle.dav_core.specs.declared.errors.FsError.{FsError}
 use Rattle.dav_core.specs.declared.errors.FsError.TheVariants.{InsufficientStorage}
 use Rattle.dav_core.specs.World.{World}
@@ -26,3 +26,8 @@ Answers (Ok (a, w)) result old new =
 -- what the trait's contracts see of it: it refuses nothing of itself
 abbrev pub state_of : Store → StoreState
 state_of s = record { world = s.world; refusals = []; short = s.short }
+
+-- why a call is refused by a rule; none where it isn't
+abbrev pub refusal_in : {A : Type 0} → Meaning A → Option FsError
+refusal_in (Ok r) = None
+refusal_in (Err e) = Some e

@@ -20,7 +20,7 @@ use dav_core::element::Element;
 use dav_core::errors::{FsError, FsResult, NoMemory};
 use dav_core::fs::{DavMetaData, DavProp, OpenOptions};
 use http::StatusCode;
-use bytes::Bytes;
+use bytes::{Buf, Bytes};
 use std::alloc::Global;
 use std::io::SeekFrom;
 use std::marker::Model;
@@ -160,14 +160,14 @@ fn patched(
 }
 
 impl MemFs {
-    ghost use Rattle.std.specs.Prelude.{◌≡◌, ◌≤◌, ◌<◌, ◌∷◌, ◌++◌, [], Ok, IfOk, OnOk, OnErr, IfSome, IsSome, false, max, map};
+    ghost use Rattle.std.specs.Prelude.{◌≡◌, ◌≤◌, ◌<◌, ◌∷◌, ◌++◌, [], Ok, IfOk, OnOk, OnErr, IfSome, IsSome, false, max, map, ℕ, List, length};
     ghost use Rattle.dav_core.specs.Path.{names};
     ghost use Rattle.dav_core.specs.World.{empty_from, last_moment, last_number, node_at, fresh, Node as Seen};
     ghost use Rattle.dav_core.specs.Calls.{metadata, read_dir, create_dir, remove_file, remove_dir, rename, copy, with_copy, open_file, open_found, open_missing, read_bytes, write_bytes, seek, flush, file_metadata, patch_props, get_props, get_prop};
     ghost use Rattle.dav_core.specs.Property.{patch_of, property_key};
     ghost use Rattle.dav_core.specs.Metadata.{opening_of};
     ghost use Rattle.dav_core.specs.Asking.{seen};
-    ghost use Rattle.dav_store.specs.Store.{Answers, AnswersExactly};
+    ghost use Rattle.dav_store.specs.Store.{Answers, AnswersExactly, refusal_in};
     ghost use Rattle.dav_store.specs.Listing.{member_of};
 
     /// The empty store: the root alone, a folder of number 0, made and changed at moment 0.
@@ -613,5 +613,48 @@ impl MemFs {
             return Err(FsError::InsufficientStorage);
         };
         Ok(xml)
+    }
+
+    // Why a write of so many bytes is refused; `None` where no rule refuses it.
+    fn write_refusal(&self, file: &MemFile, len: usize) -> Option<FsError>
+        ensures { (bytes : List ℕ) (now : ℕ) → length bytes ≡ len → result ≡ refusal_in (write_bytes self.now.world file.now bytes now) }
+    {
+        let Some(node) = entries::file_made_with(&self.entries, file.made) else {
+            return Some(FsError::NotFound);
+        };
+        let place = file.write_place(node.bytes().len());
+        if !file.writes {
+            return Some(FsError::Forbidden);
+        }
+        if place.saturating_add(len as u64) > MAX_FILE_LEN {
+            return Some(FsError::TooLarge);
+        }
+        if len > 0 && self.next == u64::MAX {
+            return Some(FsError::GeneralFailure);
+        }
+        None
+    }
+
+    /// Writes what a buffer has left, as `write_bytes` does.
+    pub fn write_buf<B: Buf + Drop>(
+        &mut self,
+        alloc: Global,
+        file: &mut MemFile,
+        mut buf: B,
+        now: u64,
+    ) -> FsResult<()>
+        requires { now ≤ last_moment }
+        ensures answers { Answers (write_bytes self.old.world file.old (B.unread buf) now) (seen (λ _. file.new) result) self.old self.new }
+        ensures err { OnErr result (file.new ≡ file.old) }
+    {
+        let len = buf.remaining();
+        if let Some(e) = self.write_refusal(file, len) {
+            return Err(e);
+        }
+        let Ok(chunk) = buf.copy_to_bytes(alloc, len) else {
+            self.short = true;
+            return Err(FsError::InsufficientStorage);
+        };
+        self.write_bytes(alloc, file, chunk.as_slice(), now)
     }
 }
