@@ -10,6 +10,8 @@ ghost use Rattle.dav_core.specs.Property.{patched, patch_of, without_xml, patche
 ghost use Rattle.dav_store.specs.Store.{Answers, AnswersExactly};
 ghost use Rattle.dav_store.specs.Listing.{member_of};
 
+mod filesystem;
+
 use crate::entries;
 use crate::names::{Name, Names};
 use crate::node::Node;
