@@ -42,6 +42,25 @@ impl Model for DavLock {
     ghost view = { λ l. record { token = string_bytes l.token; path = l.path; principal = option_map string_bytes l.principal; owner = l.owner; timeout_at = l.timeout_at; timeout = l.timeout; shared = l.shared; deep = l.deep } };
 }
 
+impl Clone for DavLock {
+    ghost use Rattle.std.specs.Prelude.{◌≡◌};
+
+    ghost is_clone = { λ a b. a ≡ b };
+
+    fn clone(&self) -> Result<DavLock, NoMemory> {
+        Ok(DavLock {
+            token: self.token.clone()?,
+            path: self.path.clone()?,
+            principal: self.principal.clone()?,
+            owner: self.owner.clone()?,
+            timeout_at: self.timeout_at,
+            timeout: self.timeout,
+            shared: self.shared,
+            deep: self.deep,
+        })
+    }
+}
+
 /// Why a lock isn't granted.
 #[derive(Clone, Copy, Debug, PartialEq, Eq)]
 pub enum LockRefusal {

@@ -92,3 +92,25 @@ fn asks_a_list(rt: HostRuntime) -> Result<(), Fail> {
     assert!(rt; ls.delete(&path).is_ok());
     Ok(())
 }
+
+#[test]
+fn copies_a_lock(rt: HostRuntime) -> Result<(), Fail> {
+    let lock = DavLock {
+        token: String::from_str(rt.alloc(), "urn:t:1")?,
+        path: DavPath::new(rt.alloc(), "/a/")?,
+        principal: Some(String::from_str(rt.alloc(), "anna")?),
+        owner: Some(Element::new(rt.alloc(), "owner")?),
+        timeout_at: Some(61),
+        timeout: Some(60),
+        shared: false,
+        deep: true,
+    };
+    let copy = lock.clone()?;
+    assert_eq!(rt; copy.token.as_str(), "urn:t:1");
+    assert_eq!(rt; copy.path.as_bytes(), b"/a/".as_slice());
+    assert_eq!(rt; copy.principal.as_deref(), Some("anna"));
+    assert_eq!(rt; copy.owner, lock.owner);
+    assert_eq!(rt; (copy.timeout_at, copy.timeout), (Some(61), Some(60)));
+    assert!(rt; !copy.shared && copy.deep);
+    Ok(())
+}

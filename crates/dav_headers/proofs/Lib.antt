@@ -1,0 +1,10 @@
+pub mod CutLemmas
+pub mod DestinationLemmas
+pub mod ETagLemmas
+pub mod IfTokenLemmas
+pub mod IfListLemmas
+pub mod IfMeaningLemmas
+pub mod IfLawLemmas
+pub mod NumberLemmas
+pub mod RangeLemmas
+pub mod ValueLemmas

@@ -1,0 +1,39 @@
+-- The header Content-Range (RFC 9110, section 14.4).
+use Rattle.std.specs.Prelude.{ℕ, List, ◌∷◌, ◌++◌, ◌≡◌, Option, Some, None, IsSomeAnd, codes, decimal}
+use Rattle.http_header.specs.FieldValue.{FieldValue}
+use Rattle.dav_headers.specs.Value.{only_text, IsNumber}
+
+-- a star, or the first and the last byte with a dash between them
+abbrev pub IsBounds : List ℕ → Option (ℕ × ℕ) → Type 0
+IsBounds text None = text ≡ codes "*"
+IsBounds text (Some (a, b)) =
+    (first : List ℕ) × (last : List ℕ) × (text ≡ first ++ 45 ∷ last) × IsNumber first a × IsNumber last b
+
+-- a star, or the length of all
+abbrev pub IsLength : List ℕ → Option ℕ → Type 0
+IsLength text None = text ≡ codes "*"
+IsLength text (Some n) = IsNumber text n
+
+-- `bytes `, the bounds, a slash and the length
+abbrev pub IsContentRangeText : List ℕ → Option (ℕ × ℕ) → Option ℕ → Type 0
+IsContentRangeText text bounds length =
+    (range : List ℕ) × (size : List ℕ)
+    × (text ≡ codes "bytes " ++ (range ++ 47 ∷ size)) × IsBounds range bounds × IsLength size length
+
+-- the only value is this range
+abbrev pub IsContentRange : List FieldValue → Option (ℕ × ℕ) → Option ℕ → Type 0
+IsContentRange values bounds length = IsSomeAnd (only_text values) (λ text. IsContentRangeText text bounds length)
+
+-- the values are no range
+abbrev pub NoContentRange : List FieldValue → Type 0
+NoContentRange values = (bounds : Option (ℕ × ℕ)) → (length : Option ℕ) → ¬ IsContentRange values bounds length
+
+-- the texts that are written
+abbrev pub length_text : Option ℕ → List ℕ
+length_text None = codes "*"
+length_text (Some n) = decimal n
+
+abbrev pub content_range_text : Option (ℕ × ℕ) → Option ℕ → List ℕ
+content_range_text None length = codes "bytes */" ++ length_text length
+content_range_text (Some (a, b)) length =
+    codes "bytes " ++ (decimal a ++ 45 ∷ (decimal b ++ 47 ∷ length_text length))

@@ -1,0 +1,28 @@
+-- The header Depth (RFC 4918, section 10.2).
+use Rattle.std.specs.Prelude.{ℕ, List, ◌≡◌, ◌⊎◌, Option, Some, None, IsSomeAnd, codes}
+use Rattle.http_header.specs.FieldValue.{FieldValue}
+use Rattle.dav_headers.specs.Value.{only_text}
+use Rattle.dav_headers.specs.declared.depth.Depth.{Depth}
+use Rattle.dav_headers.specs.declared.depth.Depth.TheVariants.{Default, Zero, One, Infinity}
+
+-- the texts of each depth; none says that the header is left out
+abbrev pub IsDepthText : List ℕ → Depth → Type 0
+IsDepthText text Default = ⊥
+IsDepthText text Zero = text ≡ codes "0"
+IsDepthText text One = text ≡ codes "1"
+IsDepthText text Infinity = (text ≡ codes "infinity") ⊎ (text ≡ codes "Infinity")
+
+-- the only value is this depth
+abbrev pub IsDepth : List FieldValue → Depth → Type 0
+IsDepth values depth = IsSomeAnd (only_text values) (λ text. IsDepthText text depth)
+
+-- the values are no depth
+abbrev pub NoDepth : List FieldValue → Type 0
+NoDepth values = (depth : Depth) → ¬ IsDepth values depth
+
+-- the text that is written
+abbrev pub depth_text : Depth → Option (List ℕ)
+depth_text Default = None
+depth_text Zero = Some (codes "0")
+depth_text One = Some (codes "1")
+depth_text Infinity = Some (codes "Infinity")

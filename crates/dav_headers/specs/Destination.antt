@@ -1,0 +1,32 @@
+-- The header Destination (RFC 4918, section 10.3; RFC 3986, section 3).
+use Rattle.std.specs.Prelude.{ℕ, List, [], ◌∷◌, ◌++◌, ◌≡◌, ◌⊎◌, ◌==◌, IsSomeAnd, codes, map, if◌then◌else◌}
+use Rattle.std.specs.Char.{to_ascii_lowercase}
+use Rattle.http_header.specs.FieldValue.{FieldValue}
+use Rattle.dav_headers.specs.Value.{only_text}
+
+-- `http` or `https`, in whatever case of ASCII letters
+abbrev pub IsHttp : List ℕ → Type 0
+IsHttp scheme =
+    (map to_ascii_lowercase scheme ≡ codes "http") ⊎ (map to_ascii_lowercase scheme ≡ codes "https")
+
+-- the text from its first slash on; a slash where it has none
+abbrev pub from_slash : List ℕ → List ℕ
+from_slash [] = 47 ∷ []
+from_slash (b ∷ bs) = if b == 47 then b ∷ bs else from_slash bs
+
+-- an absolute path as it is
+abbrev pub IsPathText : List ℕ → List ℕ → Type 0
+IsPathText text path = (rest : List ℕ) × (text ≡ 47 ∷ rest) × (path ≡ text)
+
+-- of an http or https URI, what follows the authority
+abbrev pub IsUriText : List ℕ → List ℕ → Type 0
+IsUriText text path =
+    (scheme : List ℕ) × (behind : List ℕ)
+    × IsHttp scheme × (text ≡ scheme ++ 58 ∷ 47 ∷ 47 ∷ behind) × (path ≡ from_slash behind)
+
+abbrev pub IsDestinationText : List ℕ → List ℕ → Type 0
+IsDestinationText text path = IsPathText text path ⊎ IsUriText text path
+
+-- the only value names this destination
+abbrev pub IsDestination : List FieldValue → List ℕ → Type 0
+IsDestination values path = IsSomeAnd (only_text values) (λ text. IsDestinationText text path)

@@ -1,0 +1,81 @@
+-- The value of an If header (RFC 4918, section 10.4): lists of conditions, each with the resource that it speaks of.
+use Rattle.std.specs.Prelude.{◌≡◌, ℕ, ◌<◌, ◌++◌, Bool, true, false, if◌then◌else◌, length, List, [], ◌∷◌, Option, Some, None, Ok, IsUtf8}
+use Rattle.std.specs.List.{flat_map}
+use Rattle.http_header.specs.FieldValue.{FieldValue}
+use Rattle.url.specs.Parser.{parse_url}
+use Rattle.url.specs.Parts.{Parts}
+use Rattle.dav_headers.specs.ETag.{EntityTag, IsEntityTag}
+use Rattle.dav_headers.specs.IfTokens.{Token, open_list, close_list, negation, angle, square, word, Spells}
+
+-- what a condition asks: that a state token is there, or that the resource has an entity tag
+pub data Item : Type 0 where
+  state_token : List ℕ → Item
+  entity_tag : EntityTag → Item
+
+-- an item, and whether `Not` stands before it
+pub record Condition : Type 0 where
+  pub negated : Bool
+  pub item : Item
+
+-- a list of conditions, and the URL of its resource tag where it has one
+pub record ConditionList : Type 0 where
+  pub resource : Option Parts
+  pub conditions : List Condition
+
+-- What a token says as an item: UTF-8 in `<>` or alone is a state token, the text of an entity tag in `[]` is that tag.
+abbrev pub IsItem : Token → Item → Type 0
+IsItem (angle t) i = IsUtf8 t × (i ≡ state_token t)
+IsItem (word t) i = IsUtf8 t × (i ≡ state_token t)
+IsItem (square t) i = (e : EntityTag) × IsUtf8 t × IsEntityTag t e.weak e.tag × (i ≡ entity_tag e)
+IsItem open_list i = ⊥
+IsItem close_list i = ⊥
+IsItem negation i = ⊥
+
+-- the tokens of the conditions, one after the other
+abbrev pub AreConditions : List Token → List Condition → Type 0
+AreConditions ts [] = ts ≡ []
+AreConditions ts (c ∷ cs) =
+    (t : Token) × (more : List Token)
+    × IsItem t c.item × (ts ≡ (if c.negated then negation ∷ t ∷ more else t ∷ more)) × AreConditions more cs
+
+-- the tokens of a resource tag: none, or UTF-8 in `<>` that the URL Standard's parser reads, without a base, as the URL
+abbrev pub IsResourceTag : List Token → Option Parts → Type 0
+IsResourceTag ts None = ts ≡ []
+IsResourceTag ts (Some url) = (t : List ℕ) × IsUtf8 t × (parse_url None t ≡ Ok url) × (ts ≡ angle t ∷ [])
+
+-- the end of a list, with or without a `Not` that means nothing
+abbrev pub list_end : Bool → List Token
+list_end true = negation ∷ close_list ∷ []
+list_end false = close_list ∷ []
+
+-- one list: a resource tag or none, `(`, one or more conditions, and the end
+abbrev pub IsList : List Token → ConditionList → Type 0
+IsList ts l =
+    (tag : List Token) × (inner : List Token) × (idle : Bool)
+    × IsResourceTag tag l.resource × (0 < length l.conditions) × AreConditions inner l.conditions
+    × (ts ≡ tag ++ open_list ∷ (inner ++ list_end idle))
+
+-- lists one after the other
+abbrev pub AreLists : List Token → List ConditionList → Type 0
+AreLists ts [] = ts ≡ []
+AreLists ts (l ∷ ls) =
+    (front : List Token) × (rest : List Token) × IsList front l × (ts ≡ front ++ rest) × AreLists rest ls
+
+-- the text is that of one or more lists
+abbrev pub IsIf : List ℕ → List ConditionList → Type 0
+IsIf text ls = (ts : List Token) × Spells text ts × AreLists ts ls × (0 < length ls)
+
+-- the only value of a header is that text
+abbrev pub IsIfHeader : List FieldValue → List ConditionList → Type 0
+IsIfHeader values ls = (v : FieldValue) × (values ≡ v ∷ []) × IsIf v.bytes ls
+
+-- ---- tokens
+
+-- the token that an item asks for, where it does
+abbrev pub tokens_in : Item → List (List ℕ)
+tokens_in (state_token t) = t ∷ []
+tokens_in (entity_tag e) = []
+
+-- all state tokens of the lists in order, those under `Not` too, each as often as it stands there
+abbrev pub tokens_of : List ConditionList → List (List ℕ)
+tokens_of ls = flat_map (λ l. flat_map (λ c. tokens_in c.item) l.conditions) ls

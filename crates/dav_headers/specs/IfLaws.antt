@@ -1,0 +1,28 @@
+-- What holds of every text of an If header: the statements of the laws.
+use Rattle.std.specs.Prelude.{◌≡◌, ℕ, ◌<◌, ◌++◌, List, [], ◌∷◌, length, All, IsUtf8, false, None}
+use Rattle.dav_headers.specs.IfTokens.{IsInside}
+use Rattle.dav_headers.specs.If.{state_token, ConditionList, IsIf, tokens_of}
+
+-- a text says one thing
+abbrev pub SaysOneIf : Type 0
+SaysOneIf = (text : List ℕ) (ls ms : List ConditionList) → IsIf text ls → IsIf text ms → ls ≡ ms
+
+-- there are lists, and each has conditions
+abbrev pub HasConditions : Type 0
+HasConditions =
+    (text : List ℕ) (ls : List ConditionList) → IsIf text ls
+    → (0 < length ls) × All (λ l. 0 < length l.conditions) ls
+
+-- the tokens are UTF-8
+abbrev pub TokensAreText : Type 0
+TokensAreText = (text : List ℕ) (ls : List ConditionList) → IsIf text ls → All IsUtf8 (tokens_of ls)
+
+-- one list that asks for this token alone
+abbrev pub asks_for : List ℕ → ConditionList
+asks_for token = record { resource = None; conditions = record { negated = false; item = state_token token } ∷ [] }
+
+-- a token between `(<` and `>)` is asked for, and is the only token there
+abbrev pub TokenIsAskedFor : Type 0
+TokenIsAskedFor =
+    (token : List ℕ) → IsInside 62 false token → IsUtf8 token
+    → IsIf (40 ∷ 60 ∷ (token ++ 62 ∷ 41 ∷ [])) (asks_for token ∷ []) × (tokens_of (asks_for token ∷ []) ≡ token ∷ [])

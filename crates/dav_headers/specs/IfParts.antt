@@ -1,0 +1,12 @@
+-- What contracts see of the parts of an If header while it is read.
+use Rattle.dav_headers.specs.IfTokens.{Token, open_list, close_list, negation, angle, square, word}
+use Rattle.dav_headers.specs.declared.if_header.tokens.Part.{Part}
+use Rattle.dav_headers.specs.declared.if_header.tokens.Part.TheVariants.{Open, Close, Not, Angle, Square, Word}
+
+abbrev pub part_view : Part → Token
+part_view Open = open_list
+part_view Close = close_list
+part_view Not = negation
+part_view (Angle t) = angle t.now
+part_view (Square t) = square t.now
+part_view (Word t) = word t.now

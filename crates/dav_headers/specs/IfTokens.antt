@@ -1,0 +1,48 @@
+-- What the value of an If header is made of (RFC 4918, section 10.4): signs, `Not`, and what stands in brackets or alone.
+use Rattle.std.specs.Prelude.{◌≡◌, ◌≢◌, ℕ, ◌≤◌, ◌<◌, ◌==◌, ◌++◌, ◌⊎◌, ⊤, Bool, true, false, not, if◌then◌else◌, length, List, [], ◌∷◌, All}
+
+-- space, tab, CR and LF
+abbrev pub IsBlank : ℕ → Type 0
+IsBlank b = (b ≡ 32) ⊎ ((b ≡ 9) ⊎ ((b ≡ 13) ⊎ (b ≡ 10)))
+
+-- a byte of a bare word: from 33 up, but none of `<>()[]`
+abbrev pub IsWordByte : ℕ → Type 0
+IsWordByte b = (33 ≤ b) × (b ≢ 60) × (b ≢ 62) × (b ≢ 40) × (b ≢ 41) × (b ≢ 91) × (b ≢ 93)
+
+-- What may stand before the closing sign, where `quoted` says that a quote is open: no blank, the closing sign only
+-- between quotes, and no quote open at the end.
+abbrev pub IsInside : ℕ → Bool → List ℕ → Type 0
+IsInside close quoted [] = quoted ≡ false
+IsInside close quoted (b ∷ bs) =
+    (¬ IsBlank b) × (b ≡ close → quoted ≡ true) × IsInside close (if b == 34 then not quoted else quoted) bs
+
+-- `(`, `)`, `Not`, what stands in `<>`, what stands in `[]`, and a bare word
+pub data Token : Type 0 where
+  open_list close_list negation : Token
+  angle : List ℕ → Token
+  square : List ℕ → Token
+  word : List ℕ → Token
+
+-- the text doesn't begin with a byte of a word
+abbrev pub EndsWord : List ℕ → Type 0
+EndsWord [] = ⊤
+EndsWord (b ∷ bs) = ¬ IsWordByte b
+
+-- The text begins with this token, and goes on with the rest. A word is as long as it can be, and doesn't begin with
+-- `Not`, which is always cut off first.
+abbrev pub Begins : List ℕ → Token → List ℕ → Type 0
+Begins text open_list rest = text ≡ 40 ∷ rest
+Begins text close_list rest = text ≡ 41 ∷ rest
+Begins text negation rest = text ≡ 78 ∷ 111 ∷ 116 ∷ rest
+Begins text (angle t) rest = IsInside 62 false t × (text ≡ 60 ∷ (t ++ 62 ∷ rest))
+Begins text (square t) rest = IsInside 93 false t × (text ≡ 91 ∷ (t ++ 93 ∷ rest))
+Begins text (word w) rest =
+    (0 < length w) × All IsWordByte w × EndsWord rest × (text ≡ w ++ rest)
+    × ((more : List ℕ) → text ≢ 78 ∷ 111 ∷ 116 ∷ more)
+
+-- the text spells the tokens, with blanks before, between and behind them
+abbrev pub Spells : List ℕ → List Token → Type 0
+Spells text [] = All IsBlank text
+Spells text (t ∷ ts) =
+    (gap : List ℕ) × (inner : List ℕ) × (rest : List ℕ)
+    × All IsBlank gap × (text ≡ gap ++ inner) × Begins inner t rest × Spells rest ts

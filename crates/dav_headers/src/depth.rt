@@ -1,0 +1,54 @@
+//! How deep a request goes (RFC 4918, section 10.2).
+ghost use Rattle.std.specs.Prelude.{◌≡◌, ◌↔◌, IfOk, IfErr, IsErrOf, IsSomeAnd};
+ghost use Rattle.http_header.specs.FieldValue.{plain_value};
+ghost use Rattle.dav_headers.specs.Depth.{depth_text, IsDepth, NoDepth};
+
+use crate::errors::HeaderError;
+use crate::values::{only_text, written};
+use http_header::HeaderValue;
+use std::alloc::Global;
+
+/// The header Depth: how far below its resource a request goes.
+#[derive(Clone, Copy, Debug, PartialEq, Eq)]
+pub enum Depth {
+    /// The header is left out.
+    Default,
+    /// The resource alone.
+    Zero,
+    /// The resource and its members.
+    One,
+    /// The resource and all below it.
+    Infinity,
+}
+
+impl Depth {
+    /// The depth that the only value says: `0`, `1`, and `infinity` or `Infinity`. `Invalid` for any other values. Takes
+    /// no memory.
+    pub fn decode(_alloc: Global, values: &[HeaderValue]) -> Result<Depth, HeaderError>
+        ensures ok { IfOk result (λ depth. IsDepth values.now depth) }
+        ensures invalid { IfErr result (λ e. (e ≡ HeaderError.Invalid) × NoDepth values.now) }
+    {
+        match only_text(values) {
+            Some("0") => Ok(Depth::Zero),
+            Some("1") => Ok(Depth::One),
+            Some("infinity" | "Infinity") => Ok(Depth::Infinity),
+            _ => Err(HeaderError::Invalid),
+        }
+    }
+
+    /// `0`, `1` or `Infinity`; `Invalid` exactly for `Default`, which has no text.
+    pub fn encode(&self, alloc: Global) -> Result<HeaderValue, HeaderError>
+        ensures ok { IfOk result (λ v. IsSomeAnd (depth_text self.now) (λ text. v ≡ plain_value text)) }
+        ensures invalid { IsErrOf result HeaderError.Invalid ↔ (self.now ≡ Depth.Default) }
+    {
+        match self {
+            Depth::Default => Err(HeaderError::Invalid),
+            Depth::Zero => written(alloc, "0"),
+            Depth::One => written(alloc, "1"),
+            Depth::Infinity => written(alloc, "Infinity"),
+        }
+    }
+}
+
+#[cfg(test)]
+mod tests;

@@ -1,0 +1,81 @@
+//! Where a copy or a move goes (RFC 4918, section 10.3).
+ghost use Rattle.std.specs.Prelude.{◌≡◌, ◌≢◌, ◌↔◌, IsTrue, ℕ, List, ◌++◌, ◌∷◌, IfOk, IfSome, IfNone, IsErrOf, string_bytes};
+ghost use Rattle.dav_headers.specs.Value.{Writes};
+ghost use Rattle.dav_headers.specs.Destination.{from_slash, IsDestination, IsDestinationText, IsHttp};
+
+use crate::errors::HeaderError;
+use crate::values::{cut, only_text, written};
+use http_header::HeaderValue;
+use std::alloc::Global;
+
+/// The header Destination: the path that COPY and MOVE go to, as it is written in a URL.
+#[derive(Clone, Debug, PartialEq, Eq, Drop)]
+pub struct Destination(pub String);
+
+impl Destination {
+    /// The path of the only value. A text that begins with a slash is the path itself; of an `http` or `https` URI it
+    /// is what follows the authority, from its first slash on, and `/` where there is none. ASCII case of the scheme makes
+    /// no difference. `Invalid` for any other values.
+    pub fn decode(alloc: Global, values: &[HeaderValue]) -> Result<Destination, HeaderError>
+        ensures ok { IfOk result (λ d. IsDestination values.now (string_bytes d.0)) }
+        ensures invalid { IsErrOf result HeaderError.Invalid → (path : List ℕ) → ¬ IsDestination values.now path }
+    {
+        let Some(text) = only_text(values) else {
+            return Err(HeaderError::Invalid);
+        };
+        let Some(path) = path_of(text) else {
+            return Err(HeaderError::Invalid);
+        };
+        Ok(Destination(String::from_str(alloc, path)?))
+    }
+
+    /// The path; `Invalid` exactly where it has other bytes than 32 to 126 and tab.
+    pub fn encode(&self, alloc: Global) -> Result<HeaderValue, HeaderError>
+        ensures { Writes result (string_bytes self.now.0) }
+    {
+        written(alloc, &self.0)
+    }
+}
+
+// The path that a text names.
+fn path_of(text: &str) -> Option<&str>
+    ensures found { IfSome result (λ path. IsDestinationText text.now path.now) }
+    ensures none { IfNone result ((path : List ℕ) → ¬ IsDestinationText text.now path) }
+{
+    if text.starts_with('/') {
+        return Some(text);
+    }
+    let behind = behind_scheme(text)?;
+    Some(path_behind(behind))
+}
+
+// What follows `http://` or `https://`.
+fn behind_scheme(text: &str) -> Option<&str>
+    ensures found { IfSome result (λ behind. (scheme : List ℕ)
+        × IsHttp scheme × (text.now ≡ scheme ++ 58 ∷ 47 ∷ 47 ∷ behind.now)) }
+    ensures none { IfNone result ((scheme behind : List ℕ)
+        → IsHttp scheme → text.now ≢ scheme ++ 58 ∷ 47 ∷ 47 ∷ behind) }
+{
+    let (scheme, rest) = cut(text, ':')?;
+    let behind = rest.strip_prefix("//")?;
+    if is_http(scheme) { Some(behind) } else { None }
+}
+
+fn is_http(scheme: &str) -> bool
+    ensures { IsTrue result ↔ IsHttp scheme.now }
+{
+    scheme.eq_ignore_ascii_case("http") || scheme.eq_ignore_ascii_case("https")
+}
+
+// The text from its first slash on.
+fn path_behind(authority: &str) -> &str
+    ensures { result.now ≡ from_slash authority.now }
+{
+    match authority.find('/') {
+        Some(i) => authority.split_at(i).1,
+        None => "/",
+    }
+}
+
+#[cfg(test)]
+mod tests;

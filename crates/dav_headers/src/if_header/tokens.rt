@@ -1,0 +1,143 @@
+//! Reads the tokens of an If header, which borrow its bytes.
+ghost use Rattle.std.specs.Prelude.{false, ◌≡◌, ◌<◌, ◌≤◌, ◌==◌, ℕ, List, map, length, Option, option_map, IfSome, IfOk, IsErrOf};
+ghost use Rattle.dav_headers.specs.IfTokens.{Token, Spells};
+ghost use Rattle.dav_headers.specs.IfTokenMachine.{is_blank, is_word_byte, skip, inside_len, split_inside, word_len, word_at, token_at};
+ghost use Rattle.dav_headers.specs.IfParts.{part_view};
+
+use crate::errors::HeaderError;
+use std::alloc::Global;
+
+/// A token, whose text is lent by the value.
+#[derive(Clone, Copy)]
+pub(super) enum Part<'a> {
+    /// `(`
+    Open,
+    /// `)`
+    Close,
+    /// `Not`
+    Not,
+    /// What stands in `<>`.
+    Angle(&'a [u8]),
+    /// What stands in `[]`.
+    Square(&'a [u8]),
+    /// A bare word.
+    Word(&'a [u8]),
+}
+
+// Space, tab, CR or LF.
+fn is_blank(b: u8) -> bool
+    ensures { result ≡ is_blank b }
+{
+    b == b' ' || b == b'\t' || b == b'\r' || b == b'\n'
+}
+
+// A byte of a bare word.
+fn is_word_byte(b: u8) -> bool
+    ensures { result ≡ is_word_byte b }
+{
+    b > b' ' && !matches!(b, b'<' | b'>' | b'(' | b')' | b'[' | b']')
+}
+
+// The text from its first byte that is no blank.
+fn skip(text: &[u8]) -> &[u8]
+    ensures { result.now ≡ skip text.now }
+{
+    for (i, b) in text.iter().enumerate() {
+        if !is_blank(*b) {
+            return &text[i..];
+        }
+    }
+    &[]
+}
+
+// How many bytes stand before the closing sign; none where a blank comes first, or no closing sign.
+fn inside_len(text: &[u8], close: u8) -> Option<usize>
+    ensures is { result ≡ inside_len close false text.now }
+    ensures within { IfSome result (λ n. n < length text.now) }
+{
+    let mut quoted = false;
+    for (i, b) in text.iter().enumerate() {
+        if is_blank(*b) {
+            return None;
+        }
+        if *b == close && !quoted {
+            return Some(i);
+        }
+        if *b == b'"' {
+            quoted = !quoted;
+        }
+    }
+    None
+}
+
+// What stands before the closing sign, and what follows it.
+fn bracketed(text: &[u8], close: u8) -> Option<(&[u8], &[u8])>
+    ensures is { option_map (λ x. (x.0.now, x.1.now)) result ≡ split_inside close text.now }
+    ensures shorter { IfSome result (λ x. length x.1.now < length text.now) }
+{
+    let n = inside_len(text, close)?;
+    Some((&text[..n], &text[n + 1..]))
+}
+
+// How many bytes of a word stand at the front.
+fn word_len(text: &[u8]) -> usize
+    ensures is { result ≡ word_len text.now }
+    ensures within { result ≤ length text.now }
+{
+    for (i, b) in text.iter().enumerate() {
+        if !is_word_byte(*b) {
+            return i;
+        }
+    }
+    text.len()
+}
+
+// The bare word at the front, and what follows it.
+fn word_at<'a>(text: &'a [u8]) -> Option<(Part<'a>, &'a [u8])>
+    ensures is { option_map (λ x. (part_view x.0, x.1.now)) result ≡ word_at text.now }
+    ensures shorter { IfSome result (λ x. length x.1.now < length text.now) }
+{
+    let n = word_len(text);
+    if n == 0 {
+        return None;
+    }
+    Some((Part::Word(&text[..n]), &text[n..]))
+}
+
+// The token at the front, and what follows it.
+fn token_at<'a>(text: &'a [u8]) -> Option<(Part<'a>, &'a [u8])>
+    ensures is { option_map (λ x. (part_view x.0, x.1.now)) result ≡ token_at text.now }
+    ensures shorter { IfSome result (λ x. length x.1.now < length text.now) }
+{
+    match text {
+        [b'(', rest @ ..] => Some((Part::Open, rest)),
+        [b')', rest @ ..] => Some((Part::Close, rest)),
+        [b'N', b'o', b't', rest @ ..] => Some((Part::Not, rest)),
+        [b'<', rest @ ..] => {
+            let (inside, rest) = bracketed(rest, b'>')?;
+            Some((Part::Angle(inside), rest))
+        }
+        [b'[', rest @ ..] => {
+            let (inside, rest) = bracketed(rest, b']')?;
+            Some((Part::Square(inside), rest))
+        }
+        _ => word_at(text),
+    }
+}
+
+/// The tokens that a text spells; `Invalid` where it spells none.
+pub(super) fn parts_of<'a>(alloc: Global, text: &'a [u8]) -> Result<Vec<Part<'a>>, HeaderError>
+    ensures found { IfOk result (λ parts. Spells text.now (map part_view parts.items)) }
+    ensures none { IsErrOf result HeaderError.Invalid → (ts : List Token) → ¬ Spells text.now ts }
+{
+    let mut parts = Vec::new(alloc);
+    let mut rest = skip(text);
+    while !rest.is_empty() {
+        let Some((part, after)) = token_at(rest) else {
+            return Err(HeaderError::Invalid);
+        };
+        parts.push(part)?;
+        rest = skip(after);
+    }
+    Ok(parts)
+}

@@ -1,0 +1,53 @@
+//! How long a body is (RFC 9110, section 8.6).
+ghost use Rattle.std.specs.Prelude.{◌≡◌, ℕ, decimal, IfOk, IfErr, IfSome, IfNone, IsOkUnless};
+ghost use Rattle.http_header.specs.FieldValue.{plain_value};
+ghost use Rattle.dav_headers.specs.Value.{IsNumber};
+ghost use Rattle.dav_headers.specs.Length.{IsContentLength};
+
+use crate::errors::HeaderError;
+use crate::values::number;
+use http_header::HeaderValue;
+use std::alloc::Global;
+
+/// The header Content-Length: how many bytes a body has.
+#[derive(Clone, Debug, PartialEq, Eq, Drop)]
+pub struct ContentLength(pub u64);
+
+impl ContentLength {
+    /// The number that all the values are; `3` and `03` are one number. `Invalid` where there are no values, or one is
+    /// no number of decimal digits below 2^64, or two are different numbers. Takes no memory.
+    pub fn decode(_alloc: Global, values: &[HeaderValue]) -> Result<ContentLength, HeaderError>
+        ensures ok { IfOk result (λ l. IsContentLength values.now l.0) }
+        ensures invalid { IfErr result (λ e. (e ≡ HeaderError.Invalid) × ((n : ℕ) → ¬ IsContentLength values.now n)) }
+    {
+        let first = values.first().ok_or(HeaderError::Invalid)?;
+        let length = length_of(first).ok_or(HeaderError::Invalid)?;
+        if values.iter().all(|value| length_of(value) == Some(length)) {
+            Ok(ContentLength(length))
+        } else {
+            Err(HeaderError::Invalid)
+        }
+    }
+
+    /// The number in decimal digits.
+    pub fn encode(&self, alloc: Global) -> Result<HeaderValue, HeaderError>
+        ensures ok { IfOk result (λ v. v ≡ plain_value (decimal self.now.0)) }
+        ensures err { IsOkUnless result HeaderError.Memory }
+    {
+        Ok(HeaderValue::from_u64(alloc, self.0)?)
+    }
+}
+
+// The number that one value is.
+fn length_of(value: &HeaderValue) -> Option<u64>
+    ensures found { IfSome result (λ n. IsNumber value.now.bytes n) }
+    ensures none { IfNone result ((n : ℕ) → ¬ IsNumber value.now.bytes n) }
+{
+    match value.to_str() {
+        Ok(text) => number(text),
+        Err(_) => None,
+    }
+}
+
+#[cfg(test)]
+mod tests;

@@ -1,0 +1,38 @@
+//! Whether a copy or a move replaces what is there (RFC 4918, section 10.6).
+ghost use Rattle.std.specs.Prelude.{◌≡◌, Bool, IfOk, IfErr, IsOkUnless};
+ghost use Rattle.http_header.specs.FieldValue.{plain_value};
+ghost use Rattle.dav_headers.specs.Overwrite.{overwrite_text, IsOverwrite};
+
+use crate::errors::HeaderError;
+use crate::values::{only_text, written};
+use http_header::HeaderValue;
+use std::alloc::Global;
+
+/// The header Overwrite: whether COPY and MOVE replace what is at their destination.
+#[derive(Clone, Debug, PartialEq, Eq, Drop)]
+pub struct Overwrite(pub bool);
+
+impl Overwrite {
+    /// What the only value says: `T` or `F`. `Invalid` for any other values. Takes no memory.
+    pub fn decode(_alloc: Global, values: &[HeaderValue]) -> Result<Overwrite, HeaderError>
+        ensures ok { IfOk result (λ o. IsOverwrite values.now o.0) }
+        ensures invalid { IfErr result (λ e. (e ≡ HeaderError.Invalid) × ((b : Bool) → ¬ IsOverwrite values.now b)) }
+    {
+        match only_text(values) {
+            Some("T") => Ok(Overwrite(true)),
+            Some("F") => Ok(Overwrite(false)),
+            _ => Err(HeaderError::Invalid),
+        }
+    }
+
+    /// `T` or `F`.
+    pub fn encode(&self, alloc: Global) -> Result<HeaderValue, HeaderError>
+        ensures ok { IfOk result (λ v. v ≡ plain_value (overwrite_text self.now.0)) }
+        ensures err { IsOkUnless result HeaderError.Memory }
+    {
+        written(alloc, if self.0 { "T" } else { "F" })
+    }
+}
+
+#[cfg(test)]
+mod tests;

@@ -1,0 +1,57 @@
+//! Tokens of locks, and of tests.
+ghost use Rattle.std.specs.Prelude.{◌≡◌, ◌↔◌, Some, None, IfOk, IsErrOf, string_bytes};
+ghost use Rattle.dav_headers.specs.Value.{only_text, Writes};
+
+use crate::errors::HeaderError;
+use crate::values::{only_text, written};
+use http_header::HeaderValue;
+use std::alloc::Global;
+
+/// The header Lock-Token: a token between angle brackets (RFC 4918, section 10.5), which isn't taken apart.
+#[derive(Clone, Debug, PartialEq, Eq, Drop)]
+pub struct LockToken(pub String);
+
+impl LockToken {
+    /// The text of the only value; `Invalid` where there isn't exactly one, or it isn't text.
+    pub fn decode(alloc: Global, values: &[HeaderValue]) -> Result<LockToken, HeaderError>
+        ensures ok { IfOk result (λ h. only_text values.now ≡ Some (string_bytes h.0)) }
+        ensures invalid { IsErrOf result HeaderError.Invalid ↔ (only_text values.now ≡ None) }
+    {
+        let token = only_text(values).ok_or(HeaderError::Invalid)?;
+        Ok(LockToken(String::from_str(alloc, token)?))
+    }
+
+    /// The text; `Invalid` exactly where it has other bytes than 32 to 126 and tab.
+    pub fn encode(&self, alloc: Global) -> Result<HeaderValue, HeaderError>
+        ensures { Writes result (string_bytes self.now.0) }
+    {
+        let Self(token) = self;
+        written(alloc, token)
+    }
+}
+
+/// The header X-Litmus: the name of a test, which the test suite litmus sends.
+#[derive(Clone, Debug, PartialEq, Eq, Drop)]
+pub struct XLitmus(pub String);
+
+impl XLitmus {
+    /// The text of the only value; `Invalid` where there isn't exactly one, or it isn't text.
+    pub fn decode(alloc: Global, values: &[HeaderValue]) -> Result<XLitmus, HeaderError>
+        ensures ok { IfOk result (λ h. only_text values.now ≡ Some (string_bytes h.0)) }
+        ensures invalid { IsErrOf result HeaderError.Invalid ↔ (only_text values.now ≡ None) }
+    {
+        let test = only_text(values).ok_or(HeaderError::Invalid)?;
+        Ok(XLitmus(String::from_str(alloc, test)?))
+    }
+
+    /// The text; `Invalid` exactly where it has other bytes than 32 to 126 and tab.
+    pub fn encode(&self, alloc: Global) -> Result<HeaderValue, HeaderError>
+        ensures { Writes result (string_bytes self.now.0) }
+    {
+        let Self(test) = self;
+        written(alloc, test)
+    }
+}
+
+#[cfg(test)]
+mod tests;
