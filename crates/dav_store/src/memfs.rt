@@ -11,6 +11,8 @@ ghost use Rattle.dav_store.specs.Store.{Answers, AnswersExactly};
 ghost use Rattle.dav_store.specs.Listing.{member_of};
 
 mod filesystem;
+#[cfg(test)]
+mod tests;
 
 use crate::entries;
 use crate::names::{Name, Names};
@@ -47,6 +49,21 @@ impl Model for MemFs {
     ghost coded = { coded_store };
 
     ghost view = { λ s. record { world = record { nodes = s.entries.items; next = s.next }; short = s.short } };
+}
+
+/// A copy of its own, which changes apart from this one.
+impl Clone for MemFs {
+    ghost use Rattle.std.specs.Prelude.{◌≡◌};
+
+    ghost is_clone = { λ a b. a ≡ b };
+
+    fn clone(&self) -> Result<MemFs, NoMemory> {
+        Ok(MemFs {
+            entries: self.entries.clone()?,
+            next: self.next,
+            short: self.short,
+        })
+    }
 }
 
 /// An open file: the file that took a number when it was made.

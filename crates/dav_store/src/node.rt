@@ -62,6 +62,23 @@ impl Clone for Content {
     }
 }
 
+impl Clone for Node {
+    ghost use Rattle.std.specs.Prelude.{◌≡◌};
+
+    ghost is_clone = { λ a b. a ≡ b };
+
+    fn clone(&self) -> Result<Node, NoMemory> {
+        Ok(Node {
+            made: self.made,
+            number: self.number,
+            content: self.content.clone()?,
+            properties: self.properties.clone()?,
+            created: self.created,
+            modified: self.modified,
+        })
+    }
+}
+
 // The bytes of a file; none of a folder.
 fn bytes_in(content: &Content) -> &[u8]
     ensures { result.now ≡ bytes_of (kind_of content.now) }
