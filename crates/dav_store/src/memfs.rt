@@ -14,17 +14,16 @@ mod filesystem;
 #[cfg(test)]
 mod tests;
 
-use crate::entries;
 use crate::names::{Name, Names};
 use crate::node::Node;
-use crate::paths;
 use crate::properties::Properties;
+use crate::{entries, paths};
+use bytes::{Buf, Bytes};
 use dav_core::davpath::DavPath;
 use dav_core::element::Element;
 use dav_core::errors::{FsError, FsResult, NoMemory};
 use dav_core::fs::{DavMetaData, DavProp, OpenOptions};
 use http::StatusCode;
-use bytes::{Buf, Bytes};
 use std::alloc::Global;
 use std::io::SeekFrom;
 use std::marker::Model;
@@ -388,12 +387,7 @@ impl MemFs {
     }
 
     // Opens what stands at a path: a file, which is emptied if that is asked.
-    fn open_found(
-        &mut self,
-        path: &DavPath,
-        options: &OpenOptions,
-        now: u64,
-    ) -> FsResult<MemFile>
+    fn open_found(&mut self, path: &DavPath, options: &OpenOptions, now: u64) -> FsResult<MemFile>
         requires now { now ≤ last_moment }
         requires found { IsSome (node_at self.old.world (names path.now)) }
         ensures { IfSome (node_at self.old.world (names path.now)) (λ n. AnswersExactly (open_found self.old.world (names path.now) (opening_of options.now) now n) result self.old self.new) }
@@ -519,7 +513,15 @@ impl MemFs {
             return Err(FsError::GeneralFailure);
         }
         let (made, number) = (file.made, self.next);
-        if let Err(_) = entries::write_made(alloc, &mut self.entries, made, place as usize, chunk, number, now) {
+        if let Err(_) = entries::write_made(
+            alloc,
+            &mut self.entries,
+            made,
+            place as usize,
+            chunk,
+            number,
+            now,
+        ) {
             self.short = true;
             return Err(FsError::InsufficientStorage);
         }
@@ -600,7 +602,12 @@ impl MemFs {
     }
 
     /// The properties in order of namespace and name, with their elements or without. `NotFound`.
-    pub fn get_props(&mut self, alloc: Global, path: &DavPath, content: bool) -> FsResult<Vec<DavProp>>
+    pub fn get_props(
+        &mut self,
+        alloc: Global,
+        path: &DavPath,
+        content: bool,
+    ) -> FsResult<Vec<DavProp>>
         ensures { Answers (get_props self.old.world (names path.now) content) (seen (λ properties. properties.items) result) self.old self.new }
     {
         let Some(node) = entries::node_at(&self.entries, path) else {

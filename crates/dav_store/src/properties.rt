@@ -77,7 +77,9 @@ impl Key {
     pub fn is_of(&self, property: &DavProp) -> bool
         ensures { result ≡ is_same_key (property_key property.now) self.now }
     {
-        let first = namespace_of(property).as_bytes().cmp(&self.namespace.as_bytes());
+        let first = namespace_of(property)
+            .as_bytes()
+            .cmp(&self.namespace.as_bytes());
         let whole = first.then(property.name.as_bytes().cmp(&self.name.as_bytes()));
         whole.is_eq()
     }
@@ -127,7 +129,10 @@ fn place_from(entries: &[(Key, Option<Element>)], key: &Key) -> Option<usize>
 }
 
 // What is stored of a property.
-fn stored_in<'a>(entries: &'a [(Key, Option<Element>)], property: &DavProp) -> Option<&'a Option<Element>>
+fn stored_in<'a>(
+    entries: &'a [(Key, Option<Element>)],
+    property: &DavProp,
+) -> Option<&'a Option<Element>>
     ensures { option_copied result ≡ find key_cmp (property_key property.now) entries.now }
 {
     match place(entries, property) {
@@ -195,7 +200,12 @@ fn prefix_in(xml: &Option<Element>) -> Result<Option<String>, NoMemory>
 }
 
 // A stored property as it is told.
-fn shown(alloc: Global, key: &Key, xml: &Option<Element>, content: bool) -> Result<DavProp, NoMemory>
+fn shown(
+    alloc: Global,
+    key: &Key,
+    xml: &Option<Element>,
+    content: bool,
+) -> Result<DavProp, NoMemory>
     ensures { IfOk result (λ p. p ≡ shown_property content (key.now, xml.now)) }
 {
     let namespace = if key.namespace.is_empty() {

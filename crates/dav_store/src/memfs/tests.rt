@@ -32,11 +32,20 @@ fn follows_an_open_file(rt: HostRuntime) -> Result<(), Fail> {
     fs.write_bytes(rt.alloc(), &mut file, b"c", 3)?;
     assert_eq!(rt; fs.metadata(&f).err(), Some(FsError::NotFound));
     let meta = fs.metadata(&g)?;
-    assert_eq!(rt; (meta.len, meta.number, meta.created, meta.modified), (3, Some(3), 1, 3));
+    assert_eq!(rt;
+        (meta.len, meta.number, meta.created, meta.modified),
+        (3, Some(3), 1, 3)
+    );
     let mut copy = fs.clone()?;
-    assert_eq!(rt; read_all(&mut copy, rt.alloc(), &g)?.as_slice(), b"abc".as_slice());
+    assert_eq!(rt;
+        read_all(&mut copy, rt.alloc(), &g)?.as_slice(),
+        b"abc".as_slice()
+    );
     fs.remove_file(&g, 4)?;
-    assert_eq!(rt; fs.write_bytes(rt.alloc(), &mut file, b"d", 5), Err(FsError::NotFound));
+    assert_eq!(rt;
+        fs.write_bytes(rt.alloc(), &mut file, b"d", 5),
+        Err(FsError::NotFound)
+    );
     assert_eq!(rt; copy.metadata(&g)?.len, 3);
     assert!(rt; !DavFileSystem::was_short(&fs));
     Ok(())
@@ -105,7 +114,10 @@ fn copies_files(rt: HostRuntime) -> Result<(), Fail> {
     patches.push((false, foo.clone()?))?;
     fs.patch_props(rt.alloc(), &f, patches)?;
     assert_eq!(rt; fs.get_prop(&f, &foo).err(), Some(FsError::NotFound));
-    assert_eq!(rt; read_all(&mut fs, rt.alloc(), &g)?.as_slice(), b"one".as_slice());
+    assert_eq!(rt;
+        read_all(&mut fs, rt.alloc(), &g)?.as_slice(),
+        b"one".as_slice()
+    );
     assert_eq!(rt; fs.copy(rt.alloc(), &f, &f, 3), Err(FsError::Forbidden));
     Ok(())
 }
@@ -114,10 +126,16 @@ fn copies_files(rt: HostRuntime) -> Result<(), Fail> {
 fn uses_numbers_up(rt: HostRuntime) -> Result<(), Fail> {
     let f = path(rt.alloc(), "/f")?;
     let mut none = MemFs::new_at(rt.alloc(), u64::MAX)?;
-    assert_eq!(rt; none.open(rt.alloc(), &f, &to_make(), 1).err(), Some(FsError::GeneralFailure));
+    assert_eq!(rt;
+        none.open(rt.alloc(), &f, &to_make(), 1).err(),
+        Some(FsError::GeneralFailure)
+    );
     let mut one = MemFs::new_at(rt.alloc(), u64::MAX - 1)?;
     let mut file = one.open(rt.alloc(), &f, &to_make(), 1)?;
-    assert_eq!(rt; one.write_bytes(rt.alloc(), &mut file, b"x", 1), Err(FsError::GeneralFailure));
+    assert_eq!(rt;
+        one.write_bytes(rt.alloc(), &mut file, b"x", 1),
+        Err(FsError::GeneralFailure)
+    );
     assert_eq!(rt; one.metadata(&f)?.len, 0);
     Ok(())
 }
@@ -127,16 +145,31 @@ fn bounds_files(rt: HostRuntime) -> Result<(), Fail> {
     let mut fs = MemFs::new(rt.alloc())?;
     let f = path(rt.alloc(), "/f")?;
     let mut file = fs.open(rt.alloc(), &f, &to_make(), 1)?;
-    assert_eq!(rt; fs.seek(&mut file, SeekFrom::Start(2_147_483_647))?, 2_147_483_647);
-    assert_eq!(rt; fs.write_bytes(rt.alloc(), &mut file, b"x", 1), Err(FsError::TooLarge));
+    assert_eq!(rt;
+        fs.seek(&mut file, SeekFrom::Start(2_147_483_647))?,
+        2_147_483_647
+    );
+    assert_eq!(rt;
+        fs.write_bytes(rt.alloc(), &mut file, b"x", 1),
+        Err(FsError::TooLarge)
+    );
     assert_eq!(rt; fs.metadata(&f)?.len, 0);
-    assert_eq!(rt; fs.seek(&mut file, SeekFrom::Current(-2_147_483_648)), Err(FsError::GeneralFailure));
+    assert_eq!(rt;
+        fs.seek(&mut file, SeekFrom::Current(-2_147_483_648)),
+        Err(FsError::GeneralFailure)
+    );
     fs.seek(&mut file, SeekFrom::Start(2))?;
     fs.write_buf(rt.alloc(), &mut file, b"x".as_slice(), 1)?;
     fs.flush(&mut file)?;
     assert_eq!(rt; fs.file_metadata(&file)?.len, 3);
-    assert_eq!(rt; read_all(&mut fs, rt.alloc(), &f)?.as_slice(), b"\0\0x".as_slice());
+    assert_eq!(rt;
+        read_all(&mut fs, rt.alloc(), &f)?.as_slice(),
+        b"\0\0x".as_slice()
+    );
     let mut reader = fs.open(rt.alloc(), &f, &OpenOptions::read(), 1)?;
-    assert_eq!(rt; fs.write_bytes(rt.alloc(), &mut reader, b"x", 1), Err(FsError::Forbidden));
+    assert_eq!(rt;
+        fs.write_bytes(rt.alloc(), &mut reader, b"x", 1),
+        Err(FsError::Forbidden)
+    );
     Ok(())
 }
