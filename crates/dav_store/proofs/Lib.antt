@@ -1,0 +1,6 @@
+pub mod NameLemmas
+pub mod Place
+pub mod PropertyLemmas
+pub mod MemberLemmas
+pub mod CopyLemmas
+pub mod AskingLemmas

@@ -1,0 +1,57 @@
+-- Paths compared name by name.
+use Rattle.std.proofs.Common.{◌≡◌, ◌≢◌, zero, suc, ◌==◌, All, subst, ℕ, ◌<◌, ◌-◌, Bool, true, false, cond, List, [], ◌∷◌, length, get_or, take, drop, refl, sym, ap, ◌∙◌, arith}
+use Rattle.std.proofs.lemmas.List.{take_rest}
+use Rattle.std.proofs.lemmas.List.Splits.{slice_split-cons_yes, slice_split-cons_no}
+use Rattle.std.proofs.lemmas.Bool.Decides.{nat_tests}
+use Rattle.std.specs.List.{AllByRecursion, slice_split, onto_first, filter}
+use Rattle.std.specs.declared.cmp.Ordering.{Ordering}
+use Rattle.std.specs.declared.cmp.Ordering.TheVariants.{Less, Equal, Greater}
+use Rattle.std.specs.Ordering.{is_eq, ordering_then}
+use Rattle.dav_core.specs.Path.{Path, name_cmp, is_same_path, parent_of, is_nonempty, names_in, IsSegment}
+
+same_then : (o p : Ordering) (b : Bool) → is_eq o ≡ b → cond b (is_eq p) false ≡ is_eq (ordering_then o p)
+same_then Less p b h = ap (λ c. cond c (is_eq p) false) (sym h)
+same_then Equal p b h = ap (λ c. cond c (is_eq p) false) (sym h)
+same_then Greater p b h = ap (λ c. cond c (is_eq p) false) (sym h)
+
+-- all names of a path but the last are these names, where the first is alike, and the others are all but the last
+pub all_but_last : (b : Bool) (x s : List ℕ) (left rest : Path) (ns : Path) (d : List ℕ) → left ≡ s ∷ rest → 0 < length ns → is_eq (name_cmp x (get_or ns 0 d)) ≡ b
+    → cond b (is_same_path (parent_of (s ∷ rest)) (take (length ns - 1) (drop 1 ns))) false ≡ is_same_path (parent_of (x ∷ left)) ns
+all_but_last b x s left rest [] d e some h = absurd (omega arith)
+all_but_last b x s left rest (n ∷ ns) d e some h =
+    ap (λ (p : Path). cond b (is_same_path (parent_of (s ∷ rest)) p) false) (take_rest (n ∷ ns) 1) ∙ same_then (name_cmp x n) _ b h ∙ ap (λ (p : Path). is_same_path (parent_of (x ∷ p)) (n ∷ ns)) (sym e)
+
+-- a piece without a slash
+abbrev Slashless : List ℕ → Type 0
+Slashless p = AllByRecursion (λ b. b ≢ 47) p
+
+begun_with : (b : ℕ) (ps : List (List ℕ)) → b ≢ 47 → AllByRecursion Slashless ps → AllByRecursion Slashless (onto_first b ps)
+begun_with b [] h all = ((h, tt), tt)
+begun_with b (p ∷ ps) h all = ((h, all.0), all.1)
+
+slashless : (bs : List ℕ) → AllByRecursion Slashless (slice_split (λ b. b == 47) bs)
+slashless [] = (tt, tt)
+slashless (b ∷ bs) =
+    elim (b == 47) as (λ c. (b == 47) ≡ c → AllByRecursion Slashless (slice_split (λ b. b == 47) (b ∷ bs))) [
+      | true ↦ λ h. subst (AllByRecursion Slashless) (sym (slice_split-cons_yes (λ b. b == 47) b bs h)) (tt, slashless bs)
+      | false ↦ λ h. subst (AllByRecursion Slashless) (sym (slice_split-cons_no (λ b. b == 47) b bs h)) (begun_with b _ (grind (arith, nat_tests)) (slashless bs))
+    ] refl
+
+all_of : (p : List ℕ) → Slashless p → All (λ b. b ≢ 47) p
+all_of [] h = λ k d lt. absurd (omega arith)
+all_of (b ∷ p) h = λ k d lt. elim k as (λ i. i < length (b ∷ p) → get_or (b ∷ p) i d ≢ 47) [ zero ↦ λ _. h.0 | suc i ↦ λ l. all_of p h.1 i d (omega arith) ] lt
+
+kept_step : (p : List ℕ) (c : Bool) → is_nonempty p ≡ c → (ps qs : List (List ℕ)) → Slashless p → AllByRecursion IsSegment qs → AllByRecursion IsSegment (cond c (p ∷ qs) qs)
+kept_step p false e ps qs free more = more
+kept_step [] true e ps qs free more = cc
+kept_step (b ∷ p) true e ps qs free more = ((λ h. cc, all_of (b ∷ p) free), more)
+
+kept : (ps : List (List ℕ)) → AllByRecursion Slashless ps → AllByRecursion IsSegment (filter is_nonempty ps)
+kept [] all = tt
+kept (p ∷ ps) all = kept_step p (is_nonempty p) refl ps _ all.0 (kept ps all.1)
+
+-- the first of the names in bytes is a segment
+pub first_is_segment : (bytes name : List ℕ) (rest : Path) → names_in bytes ≡ name ∷ rest → IsSegment name
+first_is_segment bytes name rest e =
+    let all : AllByRecursion IsSegment (name ∷ rest) = subst (AllByRecursion IsSegment) e (kept (slice_split (λ b. b == 47) bytes) (slashless bytes)) in
+    all.0

@@ -1,0 +1,5 @@
+pub mod Store
+pub mod NodeCode
+pub mod KindOf
+pub mod Answered
+pub mod Listing

@@ -1,0 +1,326 @@
+//! A list of paths and nodes, in order of the paths.
+ghost use Rattle.std.specs.Prelude.{◌≡◌, ◌∷◌, ◌++◌, ◌+◌, ◌<◌, ◌≤◌, [], ℕ, List, Some, ◌≢◌, ◌==◌, ◌&&◌, not, IfOk, OnOk, OnErr, Option, option_map, option_copied, position, map, vec_len, length, reverse};
+ghost use Rattle.std.specs.Vec.{vec_capacity};
+ghost use Rattle.std.specs.List.{insert};
+ghost use Rattle.std.specs.FinMap.{find, put};
+ghost use Rattle.std.specs.Ordering.{is_le};
+ghost use Rattle.dav_core.specs.Path.{names, path_cmp, is_same_path, is_at_or_below, parent_of};
+ghost use Rattle.dav_core.specs.World.{adjust, touched, prune, graft, union, moved, modified_at, is_folder_node, is_file_node, last_moment, max_file_len, change_first, is_file_made_with, file_made_with, is_folder_kind};
+ghost use Rattle.dav_core.specs.World.{Node as Seen, fresh};
+ghost use Rattle.dav_core.specs.Calls.{emptied, written, copied_over, repatched};
+ghost use Rattle.dav_core.specs.Property.{Patch, patched};
+
+use crate::names::{Name, Names};
+use crate::node::Node;
+use crate::properties::Properties;
+use dav_core::davpath::DavPath;
+use dav_core::errors::NoMemory;
+use std::alloc::Global;
+
+// Where a path stands.
+fn place(entries: &[(Names, Node)], path: &DavPath) -> Option<usize>
+    ensures { result ≡ position (λ e. is_same_path (names path.now) e.0) entries.now }
+{
+    entries.iter().position(|e| e.0.are_of(path))
+}
+
+// Where the folder of a path stands.
+fn folder_place(entries: &[(Names, Node)], path: &DavPath) -> Option<usize>
+    ensures { result ≡ position (λ e. is_same_path (parent_of (names path.now)) e.0) entries.now }
+{
+    entries.iter().position(|e| e.0.are_of_folder_of(path))
+}
+
+// Where the first path stands that doesn't come before this one.
+fn place_from(entries: &[(Names, Node)], path: &Names) -> Option<usize>
+    ensures { result ≡ position (λ e. is_le (path_cmp path.now e.0)) entries.now }
+{
+    entries.iter().position(|e| path.compare(&e.0).is_le())
+}
+
+/// What stands at a path.
+pub fn node_at<'a>(entries: &'a [(Names, Node)], path: &DavPath) -> Option<&'a Node>
+    ensures { option_copied result ≡ find path_cmp (names path.now) entries.now }
+{
+    match place(entries, path) {
+        None => None,
+        Some(i) => Some(&entries[i].1),
+    }
+}
+
+/// What stands at the folder of a path.
+pub fn folder_of<'a>(entries: &'a [(Names, Node)], path: &DavPath) -> Option<&'a Node>
+    ensures { option_copied result ≡ find path_cmp (parent_of (names path.now)) entries.now }
+{
+    match folder_place(entries, path) {
+        None => None,
+        Some(i) => Some(&entries[i].1),
+    }
+}
+
+/// Whether a folder stands at a path.
+pub fn is_folder(entries: &[(Names, Node)], path: &DavPath) -> bool
+    ensures { result ≡ is_folder_node (find path_cmp (names path.now) entries.now) }
+{
+    match node_at(entries, path) {
+        Some(node) => node.is_folder(),
+        None => false,
+    }
+}
+
+/// Whether a file stands at a path.
+pub fn is_file(entries: &[(Names, Node)], path: &DavPath) -> bool
+    ensures { result ≡ is_file_node (find path_cmp (names path.now) entries.now) }
+{
+    match node_at(entries, path) {
+        Some(node) => !node.is_folder(),
+        None => false,
+    }
+}
+
+/// Whether a folder stands above a path.
+pub fn has_folder(entries: &[(Names, Node)], path: &DavPath) -> bool
+    ensures { result ≡ is_folder_node (find path_cmp (parent_of (names path.now)) entries.now) }
+{
+    match folder_of(entries, path) {
+        Some(node) => node.is_folder(),
+        None => false,
+    }
+}
+
+/// The folder of a path was changed now.
+pub fn touch_folder(entries: &mut [(Names, Node)], path: &DavPath, now: u64)
+    requires { now ≤ last_moment }
+    ensures { entries.new ≡ touched (names path.now) now entries.old }
+{
+    if let Some(i) = folder_place(entries, path) {
+        entries[i].1.touch(now);
+    }
+}
+
+/// The file at a path loses its bytes.
+pub fn empty_at(entries: &mut [(Names, Node)], path: &DavPath, number: u64, now: u64)
+    requires { now ≤ last_moment }
+    ensures { entries.new ≡ adjust (names path.now) (emptied number now) entries.old }
+{
+    if let Some(i) = place(entries, path) {
+        entries[i].1.empty(number, now);
+    }
+}
+
+/// What is at a path and below it goes.
+pub fn prune(entries: &mut Vec<(Names, Node)>, path: &DavPath)
+    ensures { entries.new.items ≡ prune (names path.now) entries.old.items }
+{
+    entries.retain(|e| !e.0.are_at_or_below(path));
+}
+
+// A push where there is room.
+fn push_within(entries: &mut Vec<(Names, Node)>, path: Names, node: Node)
+    requires { vec_len entries.old < vec_capacity entries.old }
+    ensures items { entries.new.items ≡ entries.old.items ++ (path, node) ∷ [] }
+    ensures len { vec_len entries.new ≡ vec_len entries.old + 1 }
+    ensures capacity { vec_capacity entries.old ≤ vec_capacity entries.new }
+{
+    let _ = entries.push((path, node));
+}
+
+// An insertion where there is room.
+fn insert_within(entries: &mut Vec<(Names, Node)>, index: usize, path: Names, node: Node)
+    requires room { vec_len entries.old < vec_capacity entries.old }
+    requires within { index ≤ vec_len entries.old }
+    ensures items { entries.new.items ≡ insert entries.old.items index (path, node) }
+    ensures len { vec_len entries.new ≡ vec_len entries.old + 1 }
+    ensures capacity { vec_capacity entries.old ≤ vec_capacity entries.new }
+{
+    let _ = entries.insert(index, (path, node));
+}
+
+/// A node at a path, in the place of what stands there; there is room for it.
+pub fn put_node(entries: &mut Vec<(Names, Node)>, path: Names, node: Node)
+    requires { vec_len entries.old < vec_capacity entries.old }
+    ensures items { entries.new.items ≡ put path_cmp path node entries.old.items }
+    ensures len { vec_len entries.new ≤ vec_len entries.old + 1 }
+    ensures capacity { vec_capacity entries.old ≤ vec_capacity entries.new }
+{
+    match place_from(entries, &path) {
+        Some(i) => {
+            if path.compare(&entries[i].0).is_eq() {
+                entries[i].1 = node;
+            } else {
+                insert_within(entries, i, path, node);
+            }
+        }
+        None => push_within(entries, path, node),
+    }
+}
+
+/// Each of these nodes at its path, in the place of what stands there; there is room for them.
+fn put_all(entries: &mut Vec<(Names, Node)>, mut nodes: Vec<(Names, Node)>)
+    requires { vec_len entries.old + vec_len nodes ≤ vec_capacity entries.old }
+    ensures { entries.new.items ≡ union nodes.items entries.old.items }
+{
+    while let Some((path, node)) = nodes.pop() {
+        put_node(entries, path, node);
+    }
+}
+
+// The paths that what is at `from` and below it has when it is at `to`.
+fn grafted_keys(
+    alloc: Global,
+    entries: &[(Names, Node)],
+    from: &DavPath,
+    to: &DavPath,
+) -> Result<Vec<Names>, NoMemory>
+    ensures { IfOk result (λ keys. keys.items ≡ map (λ e. e.0) (graft (names from.now) (names to.now) entries.now)) }
+{
+    let mut keys = Vec::new(alloc);
+    for e in entries {
+        if let Some(key) = e.0.grafted(alloc, from, to)? {
+            keys.push(key)?;
+        }
+    }
+    Ok(keys)
+}
+
+// Parts the nodes, the last of which comes first: what moves, under the new keys, and what stays and isn't replaced.
+fn part(
+    old: &mut Vec<(Names, Node)>,
+    keys: &mut Vec<Names>,
+    from: &DavPath,
+    to: &DavPath,
+    kept: &mut Vec<(Names, Node)>,
+    moving: &mut Vec<(Names, Node)>,
+)
+    requires keys { reverse keys.old.items ≡ map (λ e. e.0) (graft (names from.now) (names to.now) (reverse old.old.items)) }
+    requires kept_room { vec_len kept.old + vec_len old.old ≤ vec_capacity kept.old }
+    requires moving_room { vec_len moving.old + vec_len keys.old ≤ vec_capacity moving.old }
+    ensures kept { kept.new.items ≡ kept.old.items ++ prune (names to.now) (prune (names from.now) (reverse old.old.items)) }
+    ensures moving { moving.new.items ≡ moving.old.items ++ graft (names from.now) (names to.now) (reverse old.old.items) }
+    ensures kept_capacity { vec_capacity kept.old ≤ vec_capacity kept.new }
+    ensures count { vec_len kept.new + vec_len moving.new ≤ vec_len kept.old + vec_len moving.old + vec_len old.old }
+{
+    while let Some((path, node)) = old.pop() {
+        if path.are_at_or_below(from) {
+            if let Some(key) = keys.pop() {
+                push_within(moving, key, node);
+            }
+        } else if !path.are_at_or_below(to) {
+            push_within(kept, path, node);
+        }
+    }
+}
+
+/// What is at `from` and below it goes to `to`, in the place of what is there. Where memory runs out, nothing changes.
+pub fn move_nodes(
+    alloc: Global,
+    entries: &mut Vec<(Names, Node)>,
+    from: &DavPath,
+    to: &DavPath,
+) -> Result<(), NoMemory>
+    ensures ok { OnOk result (entries.new.items ≡ moved (names from.now) (names to.now) entries.old.items) }
+    ensures err { OnErr result (entries.new.items ≡ entries.old.items) }
+{
+    let mut keys = grafted_keys(alloc, entries, from, to)?;
+    let mut moving = Vec::with_capacity(alloc, keys.len())?;
+    let mut kept = Vec::with_capacity(alloc, entries.len())?;
+    entries.reverse();
+    keys.reverse();
+    part(entries, &mut keys, from, to, &mut kept, &mut moving);
+    put_all(&mut kept, moving);
+    *entries = kept;
+    Ok(())
+}
+
+/// A new node at a path; its folder was changed now. Where memory runs out, nothing changes.
+pub fn add_node(
+    alloc: Global,
+    entries: &mut Vec<(Names, Node)>,
+    path: &DavPath,
+    node: Node,
+    now: u64,
+) -> Result<(), NoMemory>
+    requires { now ≤ last_moment }
+    ensures ok { OnOk result (entries.new.items ≡ touched (names path.now) now (put path_cmp (names path.now) node entries.old.items)) }
+    ensures err { OnErr result (entries.new.items ≡ entries.old.items) }
+{
+    let key = Names::of(alloc, path)?;
+    entries.reserve(1)?;
+    put_node(entries, key, node);
+    touch_folder(entries, path, now);
+    Ok(())
+}
+
+// Where the file stands that was made with a number.
+fn made_place(entries: &[(Names, Node)], made: u64) -> Option<usize>
+    ensures { result ≡ position (λ e. (e.1.made == made) && not (is_folder_kind e.1.kind)) entries.now }
+{
+    entries.iter().position(|e| e.1.is_file_made_with(made))
+}
+
+/// The file that was made with a number.
+pub fn file_made_with(entries: &[(Names, Node)], made: u64) -> Option<&Node>
+    ensures { option_copied result ≡ file_made_with made entries.now }
+{
+    match made_place(entries, made) {
+        None => None,
+        Some(i) => Some(&entries[i].1),
+    }
+}
+
+/// Bytes are written to the file that was made with a number. Where memory runs out, nothing changes.
+pub fn write_made(
+    alloc: Global,
+    entries: &mut [(Names, Node)],
+    made: u64,
+    place: usize,
+    chunk: &[u8],
+    number: u64,
+    now: u64,
+) -> Result<(), NoMemory>
+    requires some { chunk.now ≢ [] }
+    requires fits { place + length chunk.now ≤ max_file_len }
+    requires now { now ≤ last_moment }
+    ensures ok { OnOk result (entries.new ≡ change_first (is_file_made_with made) (written place chunk.now number now) entries.old) }
+    ensures err { OnErr result (entries.new ≡ entries.old) }
+{
+    if let Some(i) = made_place(entries, made) {
+        entries[i].1.write(alloc, place, chunk, number, now)?;
+    }
+    Ok(())
+}
+
+/// A copy goes to a path where a file is, which stays the node that it was.
+pub fn copy_over(entries: &mut [(Names, Node)], path: &DavPath, copy: Node)
+    ensures { (source : Seen) (number now : ℕ) → copy ≡ record (fresh number source.kind now) { properties = source.properties } → entries.new ≡ adjust (names path.now) (copied_over source number now) entries.old }
+{
+    if let Some(i) = place(entries, path) {
+        entries[i].1.become_like(copy);
+    }
+}
+
+/// What stands at a path gets other properties: its own after changes.
+pub fn set_properties_at(entries: &mut [(Names, Node)], path: &DavPath, properties: Properties)
+    ensures { (n : Seen) (patches : List Patch) → find path_cmp (names path.now) entries.old ≡ Some n → properties ≡ patched patches n.properties → entries.new ≡ adjust (names path.now) (repatched patches) entries.old }
+{
+    if let Some(i) = place(entries, path) {
+        entries[i].1.set_properties(properties);
+    }
+}
+
+// Where the path stands of a folder's names and one more.
+fn member_place(entries: &[(Names, Node)], folder: &Names, name: &Name) -> Option<usize>
+    ensures { result ≡ position (λ e. is_same_path (folder.now ++ name.now ∷ []) e.0) entries.now }
+{
+    entries.iter().position(|e| e.0.are_of_member(folder, name))
+}
+
+/// What stands at a name in a folder.
+pub fn member_at<'a>(entries: &'a [(Names, Node)], folder: &Names, name: &Name) -> Option<&'a Node>
+    ensures { option_copied result ≡ find path_cmp (folder.now ++ name.now ∷ []) entries.now }
+{
+    match member_place(entries, folder, name) {
+        None => None,
+        Some(i) => Some(&entries[i].1),
+    }
+}

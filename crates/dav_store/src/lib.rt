@@ -1,0 +1,9 @@
+//! Files, folders and locks in memory (RFC 4918, sections 5 to 7).
+#![tactic(auto)]
+
+mod entries;
+pub mod memfs;
+mod names;
+mod node;
+mod paths;
+mod properties;

@@ -1,0 +1,288 @@
+//! The names of a path, which own their bytes (RFC 3986, section 3.3), and paths compared with them.
+ghost use Rattle.std.specs.Prelude.{◌≡◌, ◌∷◌, ◌++◌, [], IfOk, OnOk, OnErr, option_map, option_copied};
+ghost use Rattle.std.specs.Ordering.{is_eq};
+ghost use Rattle.dav_core.specs.Path.{names, name_cmp, path_cmp, is_same_path, is_at_or_below, is_below, rest_after, parent_of, only_name, IsSegment};
+ghost use Rattle.dav_core.specs.PathRef.{names_left};
+
+use dav_core::davpath::{DavPath, Segments};
+use dav_core::errors::NoMemory;
+use std::alloc::Global;
+use std::cmp::Ordering;
+use std::marker::Model;
+
+/// The bytes of a name.
+#[derive(Drop)]
+pub struct Name {
+    bytes: Vec<u8>,
+}
+
+impl Model for Name {
+    ghost use Rattle.std.specs.Prelude.{ℕ, List};
+    ghost use Rattle.dav_core.specs.Path.{IsSegment};
+
+    ghost Value = { List ℕ };
+
+    ghost view = { λ n. n.bytes.items };
+
+    ghost invariant = { λ n. IsSegment n.bytes.items };
+}
+
+impl Name {
+    /// A name with these bytes.
+    pub fn from_slice(alloc: Global, bytes: &[u8]) -> Result<Name, NoMemory>
+        requires { IsSegment bytes.now }
+        ensures { IfOk result (λ n. n ≡ bytes.now) }
+    {
+        let bytes = Vec::from_slice(alloc, bytes)?;
+        Ok(Name { bytes })
+    }
+
+    /// The bytes; there are some, and no slash is among them.
+    pub fn as_slice(&self) -> &[u8]
+        ensures value { result.now ≡ self.now }
+        ensures segment { IsSegment result.now }
+    {
+        &self.bytes
+    }
+
+    /// Whether these are its bytes.
+    pub fn is(&self, bytes: &[u8]) -> bool
+        ensures { result ≡ is_eq (name_cmp bytes.now self.now) }
+    {
+        bytes == self.as_slice()
+    }
+
+    /// In the order of the bytes.
+    pub fn compare(&self, other: &Name) -> Ordering
+        ensures { result ≡ name_cmp self.now other.now }
+    {
+        self.bytes.as_slice().cmp(&other.bytes.as_slice())
+    }
+}
+
+impl Clone for Name {
+    ghost use Rattle.std.specs.Prelude.{◌≡◌};
+
+    ghost is_clone = { λ a b. a ≡ b };
+
+    fn clone(&self) -> Result<Name, NoMemory> {
+        let bytes = self.bytes.clone()?;
+        Ok(Name { bytes })
+    }
+}
+
+/// The names of a path, from the root down.
+#[derive(Drop)]
+pub struct Names {
+    names: Vec<Name>,
+}
+
+impl Model for Names {
+    ghost use Rattle.dav_core.specs.Path.{Path};
+
+    ghost Value = { Path };
+
+    ghost view = { λ n. n.names.items };
+}
+
+impl Clone for Names {
+    ghost use Rattle.std.specs.Prelude.{◌≡◌};
+
+    ghost is_clone = { λ a b. a ≡ b };
+
+    fn clone(&self) -> Result<Names, NoMemory> {
+        let names = self.names.clone()?;
+        Ok(Names { names })
+    }
+}
+
+// Names in their order, a path before what is below it.
+fn compare_names(a: &[Name], b: &[Name]) -> Ordering
+    ensures { result ≡ path_cmp a.now b.now }
+{
+    match a {
+        [] => match b {
+            [] => Ordering::Equal,
+            [_, ..] => Ordering::Less,
+        },
+        [x, xs @ ..] => match b {
+            [] => Ordering::Greater,
+            [y, ys @ ..] => match x.compare(y) {
+                Ordering::Equal => compare_names(xs, ys),
+                other => other,
+            },
+        },
+    }
+}
+
+// The same of the segments of a path and names.
+fn compare_segments(mut segments: Segments<'_>, names: &[Name]) -> Ordering
+    ensures { result ≡ path_cmp (names_left segments.entry) names.now }
+{
+    match names {
+        [] => match segments.next() {
+            None => Ordering::Equal,
+            Some(_) => Ordering::Greater,
+        },
+        [y, ys @ ..] => match segments.next() {
+            None => Ordering::Less,
+            Some(x) => match x.cmp(y.as_slice()) {
+                Ordering::Equal => compare_segments(segments, ys),
+                other => other,
+            },
+        },
+    }
+}
+
+// The names that follow the segments; `None` where the names don't begin with them.
+fn rest_behind<'a>(mut segments: Segments<'_>, names: &'a [Name]) -> Option<&'a [Name]>
+    ensures { option_copied result ≡ rest_after (names_left segments.entry) names.now }
+{
+    let Some(x) = segments.next() else {
+        return Some(names);
+    };
+    match names {
+        [] => None,
+        [y, ys @ ..] => {
+            if y.is(x) {
+                rest_behind(segments, ys)
+            } else {
+                None
+            }
+        }
+    }
+}
+
+// Whether the names are those of a first segment and the others, but for the last.
+fn are_all_but_last(first: &[u8], mut others: Segments<'_>, names: &[Name]) -> bool
+    ensures { result ≡ is_same_path (parent_of (first.now ∷ names_left others.entry)) names.now }
+{
+    let Some(second) = others.next() else {
+        return names.is_empty();
+    };
+    match names {
+        [] => false,
+        [y, ys @ ..] => {
+            if y.is(first) {
+                are_all_but_last(second, others, ys)
+            } else {
+                false
+            }
+        }
+    }
+}
+
+// Whether the names are those of a folder and one more.
+fn are_of_member(folder: &[Name], name: &Name, names: &[Name]) -> bool
+    ensures { result ≡ is_same_path (folder.now ++ name.now ∷ []) names.now }
+{
+    match folder {
+        [] => match names {
+            [] => false,
+            [y] => name.compare(y).is_eq(),
+            [_, _, ..] => false,
+        },
+        [x, xs @ ..] => match names {
+            [] => false,
+            [y, ys @ ..] => {
+                if x.compare(y).is_eq() {
+                    are_of_member(xs, name, ys)
+                } else {
+                    false
+                }
+            }
+        },
+    }
+}
+
+impl Names {
+    ghost use Rattle.std.specs.Prelude.{◌≡◌, ◌∷◌, ◌++◌, [], IfOk, OnOk, OnErr, option_map, option_copied, Bool};
+    ghost use Rattle.dav_core.specs.Path.{names, path_cmp, is_same_path, is_at_or_below, rest_after, parent_of, only_name};
+
+    /// The names of a path; none for the star path.
+    pub fn of(alloc: Global, path: &DavPath) -> Result<Names, NoMemory>
+        ensures { IfOk result (λ ns. ns ≡ names path.now) }
+    {
+        let mut names = Vec::new(alloc);
+        for segment in path.segments() {
+            names.push(Name::from_slice(alloc, segment)?)?;
+        }
+        Ok(Names { names })
+    }
+
+    /// No names: the root.
+    pub fn root(alloc: Global) -> Names
+        ensures { result ≡ [] }
+    {
+        Names {
+            names: Vec::new(alloc),
+        }
+    }
+
+    /// In the order of the names, a path before what is below it.
+    pub fn compare(&self, other: &Names) -> Ordering
+        ensures { result ≡ path_cmp self.now other.now }
+    {
+        compare_names(&self.names, &other.names)
+    }
+
+    /// Whether these are the names of the path.
+    pub fn are_of(&self, path: &DavPath) -> bool
+        ensures { result ≡ is_same_path (names path.now) self.now }
+    {
+        compare_segments(path.segments(), &self.names).is_eq()
+    }
+
+    /// Whether these are the names of the folder of the path.
+    pub fn are_of_folder_of(&self, path: &DavPath) -> bool
+        ensures { result ≡ is_same_path (parent_of (names path.now)) self.now }
+    {
+        let mut segments = path.segments();
+        match segments.next() {
+            None => self.names.is_empty(),
+            Some(first) => are_all_but_last(first, segments, &self.names),
+        }
+    }
+
+    /// Whether the path is at these names or below them.. of the path.
+    pub fn are_at_or_below(&self, path: &DavPath) -> bool
+        ensures { result ≡ is_at_or_below (names path.now) self.now }
+    {
+        rest_behind(path.segments(), &self.names).is_some()
+    }
+
+    /// Whether these are the names of a folder and one more.
+    pub fn are_of_member(&self, folder: &Names, name: &Name) -> bool
+        ensures { result ≡ is_same_path (folder.now ++ name.now ∷ []) self.now }
+    {
+        are_of_member(&folder.names, name, &self.names)
+    }
+
+    /// The one name that follows those of the path; `None` where another number does.
+    pub fn name_below(&self, path: &DavPath) -> Option<&Name>
+        ensures { option_copied result ≡ only_name (rest_after (names path.now) self.now) }
+    {
+        match rest_behind(path.segments(), &self.names)? {
+            [] => None,
+            [name] => Some(name),
+            [_, _, ..] => None,
+        }
+    }
+
+    /// The names with those of `to` in the place of those of `from`; `None` where they don't begin with these.
+    pub fn grafted(
+        &self,
+        alloc: Global,
+        from: &DavPath,
+        to: &DavPath,
+    ) -> Result<Option<Names>, NoMemory>
+        ensures { IfOk result (λ ns. ns ≡ option_map (λ rest. names to.now ++ rest) (rest_after (names from.now) self.now)) }
+    {
+        let Some(rest) = rest_behind(from.segments(), &self.names) else {
+            return Ok(None);
+        };
+        let mut names = Names::of(alloc, to)?.names;
+        names.extend_from_slice(rest)?;
+        Ok(Some(Names { names }))
+    }
+}

@@ -1,0 +1,74 @@
+//! Paths compared name by name (RFC 3986, section 3.3).
+ghost use Rattle.std.specs.Prelude.{◌≡◌, option_map};
+ghost use Rattle.dav_core.specs.Path.{names, name_cmp, path_cmp, is_same_path, is_at_or_below, is_below, is_root, rest_after};
+ghost use Rattle.dav_core.specs.PathRef.{names_left};
+
+use dav_core::davpath::{DavPath, Segments};
+use std::cmp::Ordering;
+
+// In the order of the names, a path before what is below it.
+fn compare(mut a: Segments<'_>, mut b: Segments<'_>) -> Ordering
+    ensures { result ≡ path_cmp (names_left a.entry) (names_left b.entry) }
+{
+    match a.next() {
+        None => match b.next() {
+            None => Ordering::Equal,
+            Some(_) => Ordering::Less,
+        },
+        Some(x) => match b.next() {
+            None => Ordering::Greater,
+            Some(y) => match x.cmp(&y) {
+                Ordering::Equal => compare(a, b),
+                other => other,
+            },
+        },
+    }
+}
+
+// The segments that follow those of the front; `None` where the path doesn't begin with them.
+fn rest_behind<'a>(mut front: Segments<'_>, mut path: Segments<'a>) -> Option<Segments<'a>>
+    ensures { option_map names_left result ≡ rest_after (names_left front.entry) (names_left path.entry) }
+{
+    let Some(x) = front.next() else {
+        return Some(path);
+    };
+    let Some(y) = path.next() else {
+        return None;
+    };
+    match x.cmp(&y) {
+        Ordering::Equal => rest_behind(front, path),
+        Ordering::Less => None,
+        Ordering::Greater => None,
+    }
+}
+
+/// Whether this is the root.
+pub fn is_root(path: &DavPath) -> bool
+    ensures { result ≡ is_root (names path.now) }
+{
+    path.segments().next().is_none()
+}
+
+/// Whether both are one path.
+pub fn is_same(a: &DavPath, b: &DavPath) -> bool
+    ensures { result ≡ is_same_path (names a.now) (names b.now) }
+{
+    compare(a.segments(), b.segments()).is_eq()
+}
+
+/// Whether the path is at the front or below it.
+pub fn is_at_or_below(front: &DavPath, path: &DavPath) -> bool
+    ensures { result ≡ is_at_or_below (names front.now) (names path.now) }
+{
+    rest_behind(front.segments(), path.segments()).is_some()
+}
+
+/// Whether the path is below the front.
+pub fn is_below(front: &DavPath, path: &DavPath) -> bool
+    ensures { result ≡ is_below (names front.now) (names path.now) }
+{
+    match rest_behind(front.segments(), path.segments()) {
+        Some(mut rest) => rest.next().is_some(),
+        None => false,
+    }
+}

@@ -1,0 +1,284 @@
+//! Dead properties in memory (RFC 4918, section 4).
+ghost use Rattle.std.specs.Prelude.{◌≡◌, ◌∷◌, ◌++◌, [], IfOk, OnOk, OnErr, not, Option, option_map, option_copied, position, map, string_bytes};
+ghost use Rattle.std.specs.FinMap.{find, put};
+ghost use Rattle.std.specs.List.{filter};
+ghost use Rattle.std.specs.Ordering.{is_le};
+ghost use Rattle.std.specs.Option.{option_and_then};
+ghost use Rattle.dav_core.specs.Element.{prefix_of};
+ghost use Rattle.dav_core.specs.Property.{key_cmp, is_same_key, property_key, patched_by, patch_of, without_xml, shown_property};
+
+use dav_core::davprop::DavProp;
+use dav_core::element::Element;
+use dav_core::errors::NoMemory;
+use http::StatusCode;
+use std::alloc::Global;
+use std::cmp::Ordering;
+use std::marker::Model;
+
+/// What a property is known by: its namespace, empty where it has none, and its name.
+#[derive(Drop)]
+pub struct Key {
+    namespace: String,
+    name: String,
+}
+
+impl Model for Key {
+    ghost use Rattle.std.specs.Prelude.{string_bytes};
+    ghost use Rattle.dav_core.specs.Property.{PropertyKey};
+
+    ghost Value = { PropertyKey };
+
+    ghost view = { λ k. (string_bytes k.namespace, string_bytes k.name) };
+}
+
+impl Clone for Key {
+    ghost use Rattle.std.specs.Prelude.{◌≡◌};
+
+    ghost is_clone = { λ a b. a ≡ b };
+
+    fn clone(&self) -> Result<Key, NoMemory> {
+        Ok(Key {
+            namespace: self.namespace.clone()?,
+            name: self.name.clone()?,
+        })
+    }
+}
+
+// The namespace of a property; empty where it has none.
+fn namespace_of(property: &DavProp) -> &str
+    ensures { result.now ≡ (property_key property.now).0 }
+{
+    match &property.namespace {
+        Some(namespace) => namespace,
+        None => "",
+    }
+}
+
+impl Key {
+    /// What this property is known by.
+    pub fn of(alloc: Global, property: &DavProp) -> Result<Key, NoMemory>
+        ensures { IfOk result (λ k. k ≡ property_key property.now) }
+    {
+        Ok(Key {
+            namespace: String::from_str(alloc, namespace_of(property))?,
+            name: property.name.clone()?,
+        })
+    }
+
+    /// First by namespace, then by name.
+    pub fn compare(&self, other: &Key) -> Ordering
+        ensures { result ≡ key_cmp self.now other.now }
+    {
+        let first = self.namespace.as_bytes().cmp(&other.namespace.as_bytes());
+        first.then(self.name.as_bytes().cmp(&other.name.as_bytes()))
+    }
+
+    /// Whether the property is known by this.
+    pub fn is_of(&self, property: &DavProp) -> bool
+        ensures { result ≡ is_same_key (property_key property.now) self.now }
+    {
+        let first = namespace_of(property)
+            .as_bytes()
+            .cmp(&self.namespace.as_bytes());
+        let whole = first.then(property.name.as_bytes().cmp(&self.name.as_bytes()));
+        whole.is_eq()
+    }
+}
+
+/// Properties in order of their keys, each with its element where it has one.
+#[derive(Drop)]
+pub struct Properties {
+    entries: Vec<(Key, Option<Element>)>,
+}
+
+impl Model for Properties {
+    ghost use Rattle.dav_core.specs.Property.{Properties as Seen};
+    ghost use Rattle.dav_core.specs.PropertyCode.{coded_properties};
+
+    ghost Value = { Seen };
+
+    ghost coded = { coded_properties };
+
+    ghost view = { λ p. p.entries.items };
+}
+
+impl Clone for Properties {
+    ghost use Rattle.std.specs.Prelude.{◌≡◌};
+
+    ghost is_clone = { λ a b. a ≡ b };
+
+    fn clone(&self) -> Result<Properties, NoMemory> {
+        Ok(Properties {
+            entries: self.entries.clone()?,
+        })
+    }
+}
+
+// Where a property stands.
+fn place(entries: &[(Key, Option<Element>)], property: &DavProp) -> Option<usize>
+    ensures { result ≡ position (λ e. is_same_key (property_key property.now) e.0) entries.now }
+{
+    entries.iter().position(|e| e.0.is_of(property))
+}
+
+// Where the first property stands that doesn't come before this one.
+fn place_from(entries: &[(Key, Option<Element>)], key: &Key) -> Option<usize>
+    ensures { result ≡ position (λ e. is_le (key_cmp key.now e.0)) entries.now }
+{
+    entries.iter().position(|e| key.compare(&e.0).is_le())
+}
+
+// What is stored of a property.
+fn stored_in<'a>(
+    entries: &'a [(Key, Option<Element>)],
+    property: &DavProp,
+) -> Option<&'a Option<Element>>
+    ensures { option_copied result ≡ find key_cmp (property_key property.now) entries.now }
+{
+    match place(entries, property) {
+        None => None,
+        Some(i) => Some(&entries[i].1),
+    }
+}
+
+// A property with this element, in the place of the one with this key.
+fn put_property(
+    entries: &mut Vec<(Key, Option<Element>)>,
+    key: Key,
+    xml: Option<Element>,
+) -> Result<(), NoMemory>
+    ensures { OnOk result (entries.new.items ≡ put key_cmp key xml entries.old.items) }
+{
+    match place_from(entries, &key) {
+        Some(i) => {
+            if key.compare(&entries[i].0).is_eq() {
+                entries[i].1 = xml;
+            } else {
+                entries.insert(i, (key, xml))?;
+            }
+        }
+        None => entries.push((key, xml))?,
+    }
+    Ok(())
+}
+
+// The property left out.
+fn remove_property(entries: &mut Vec<(Key, Option<Element>)>, property: &DavProp)
+    ensures { entries.new.items ≡ filter (λ e. not (is_same_key (property_key property.now) e.0)) entries.old.items }
+{
+    entries.retain(|e| !e.0.is_of(property));
+}
+
+// One change, which gives back its property without its element.
+fn apply(
+    alloc: Global,
+    entries: &mut Vec<(Key, Option<Element>)>,
+    set: bool,
+    mut property: DavProp,
+) -> Result<DavProp, NoMemory>
+    ensures { IfOk result (λ p. (p ≡ without_xml property) × (entries.new.items ≡ patched_by (patch_of (set, property)) entries.old.items)) }
+{
+    if set {
+        let key = Key::of(alloc, &property)?;
+        let xml = property.xml.take();
+        put_property(entries, key, xml)?;
+    } else {
+        remove_property(entries, &property);
+        property.xml = None;
+    }
+    Ok(property)
+}
+
+// The prefix of a property's element.
+fn prefix_in(xml: &Option<Element>) -> Result<Option<String>, NoMemory>
+    ensures { IfOk result (λ p. option_map string_bytes p ≡ option_and_then prefix_of xml.now) }
+{
+    match xml {
+        Some(xml) => xml.prefix.clone(),
+        None => Ok(None),
+    }
+}
+
+// A stored property as it is told.
+fn shown(
+    alloc: Global,
+    key: &Key,
+    xml: &Option<Element>,
+    content: bool,
+) -> Result<DavProp, NoMemory>
+    ensures { IfOk result (λ p. p ≡ shown_property content (key.now, xml.now)) }
+{
+    let namespace = if key.namespace.is_empty() {
+        None
+    } else {
+        Some(key.namespace.clone()?)
+    };
+    Ok(DavProp {
+        name: key.name.clone()?,
+        prefix: prefix_in(xml)?,
+        namespace,
+        xml: if content { xml.clone()? } else { None },
+    })
+}
+
+// These properties as they are told.
+fn list(
+    alloc: Global,
+    entries: &[(Key, Option<Element>)],
+    content: bool,
+) -> Result<Vec<DavProp>, NoMemory>
+    ensures { IfOk result (λ list. list.items ≡ map (shown_property content) entries.now) }
+{
+    let mut list = Vec::new(alloc);
+    for entry in entries {
+        list.push(shown(alloc, &entry.0, &entry.1, content)?)?;
+    }
+    Ok(list)
+}
+
+impl Properties {
+    ghost use Rattle.std.specs.Prelude.{◌≡◌, [], map, option_copied, IfOk, OnOk, OnErr};
+    ghost use Rattle.std.specs.FinMap.{find};
+    ghost use Rattle.dav_core.specs.Property.{key_cmp, property_key, patched, patch_of, shown_property};
+    ghost use Rattle.dav_store.specs.Answered.{answer_to};
+
+    /// No property.
+    pub fn new(alloc: Global) -> Properties
+        ensures { result ≡ [] }
+    {
+        Properties {
+            entries: Vec::new(alloc),
+        }
+    }
+
+    /// What is stored of a property.
+    pub fn get(&self, property: &DavProp) -> Option<&Option<Element>>
+        ensures { option_copied result ≡ find key_cmp (property_key property.now) self.now }
+    {
+        stored_in(&self.entries, property)
+    }
+
+    /// Makes changes in their order, and answers each with its property, without its element. Where memory runs out,
+    /// some changes may be made.
+    pub fn patch(
+        &mut self,
+        alloc: Global,
+        patches: Vec<(bool, DavProp)>,
+    ) -> Result<Vec<(StatusCode, DavProp)>, NoMemory>
+        ensures { IfOk result (λ answers. (answers.items ≡ map answer_to patches.items) × (self.new ≡ patched (map patch_of patches.items) self.old)) }
+    {
+        let mut answers = Vec::new(alloc);
+        for (set, property) in patches {
+            let property = apply(alloc, &mut self.entries, set, property)?;
+            answers.push((StatusCode::OK, property))?;
+        }
+        Ok(answers)
+    }
+
+    /// All properties, in order, with their elements or without.
+    pub fn list(&self, alloc: Global, content: bool) -> Result<Vec<DavProp>, NoMemory>
+        ensures { IfOk result (λ list. list.items ≡ map (shown_property content) self.now) }
+    {
+        list(alloc, &self.entries, content)
+    }
+}
