@@ -3,6 +3,7 @@ pub mod DestinationLemmas
 pub mod ETagLemmas
 pub mod ETagListLemmas
 pub mod LanguageLemmas
+pub mod LawLemmas
 pub mod LoopLemmas
 pub mod NumberLemmas
 pub mod RangeLemmas

@@ -6,6 +6,7 @@ pub mod ErrorNames
 pub mod ETag
 pub mod ETagList
 pub mod Language
+pub mod Laws
 pub mod Length
 pub mod Overwrite
 pub mod Pieces

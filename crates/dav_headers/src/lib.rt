@@ -8,6 +8,7 @@ pub mod errors;
 pub mod etag;
 pub mod etag_list;
 pub mod language;
+pub mod laws;
 pub mod length;
 pub mod names;
 pub mod overwrite;
