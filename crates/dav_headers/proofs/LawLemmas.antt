@@ -81,7 +81,7 @@ one_depth values a b p q =
     let both = both_at (only_text values) (λ t. IsDepthText t a) (λ t. IsDepthText t b) p q in
     depths both.0 a b both.1 both.2
 
-number_again : (n : ℕ) → n < 2 ^ 64 → IsNumber (decimal n) n
+pub number_again : (n : ℕ) → n < 2 ^ 64 → IsNumber (decimal n) n
 number_again n small = let numeral = decimal_is_IsNumeral n small in (numeral.0, numeral.1, small)
 
 range_again : (r : XUpdateRange) → AreBelow r → IsUpdateRangeText (update_range_text r) r

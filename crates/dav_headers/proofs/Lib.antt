@@ -7,5 +7,6 @@ pub mod LawLemmas
 pub mod LoopLemmas
 pub mod NumberLemmas
 pub mod RangeLemmas
+pub mod TimeoutAgain
 pub mod TimeoutLemmas
 pub mod ValueLemmas

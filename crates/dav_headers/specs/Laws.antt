@@ -1,10 +1,11 @@
 -- Laws of headers, which are stated over their grammars.
-use Rattle.std.specs.Prelude.{ℕ, ◌<◌, ◌^◌, Bool, false, List, [], ◌∷◌, ◌≡◌, ◌↔◌, ⊤, Some}
+use Rattle.std.specs.Prelude.{ℕ, ◌<◌, ◌^◌, Bool, false, List, [], ◌∷◌, ◌≡◌, ◌↔◌, ⊤, Some, All}
 use Rattle.http_header.specs.FieldValue.{FieldValue, plain_value}
 use Rattle.dav_headers.specs.ETag.{EntityTag, IsStrongMatch}
 use Rattle.dav_headers.specs.Overwrite.{overwrite_text, IsOverwrite}
 use Rattle.dav_headers.specs.Depth.{depth_text, IsDepth}
-use Rattle.dav_headers.specs.Timeout.{IsTimeout}
+use Rattle.dav_headers.specs.Timeout.{timeout_text, IsTimeout}
+use Rattle.dav_headers.specs.declared.timeout.DavTimeout.TheVariants.{Seconds, Infinite}
 use Rattle.dav_headers.specs.UpdateRange.{update_range_text, IsUpdateRange}
 use Rattle.dav_headers.specs.declared.depth.Depth.{Depth}
 use Rattle.dav_headers.specs.declared.timeout.DavTimeout.{DavTimeout}
@@ -41,6 +42,15 @@ AreBelow Append = ⊤
 
 abbrev pub UpdateRangeReadsAgain : Type 0
 UpdateRangeReadsAgain = (r : XUpdateRange) → AreBelow r → IsUpdateRange (written (update_range_text r)) r
+
+-- the seconds of a word are below 2^32
+abbrev pub IsShort : DavTimeout → Type 0
+IsShort (Seconds n) = n < 2 ^ 32
+IsShort Infinite = ⊤
+
+abbrev pub TimeoutReadsAgain : Type 0
+TimeoutReadsAgain =
+    (w : DavTimeout) → (ws : List DavTimeout) → All IsShort (w ∷ ws) → IsTimeout (written (timeout_text (w ∷ ws))) (w ∷ ws)
 
 -- values are read in one way at most
 abbrev pub OneOverwrite : Type 0

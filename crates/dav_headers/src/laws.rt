@@ -1,5 +1,5 @@
 //! Laws of headers. Each function does nothing: its contract is a theorem on the grammars.
-ghost use Rattle.dav_headers.specs.Laws.{StrongIsSymmetric, StrongIsTransitive, StrongMatchesItself, OverwriteReadsAgain, OneOverwrite, DepthReadsAgain, OneDepth, UpdateRangeReadsAgain, OneUpdateRange, OneTimeout};
+ghost use Rattle.dav_headers.specs.Laws.{StrongIsSymmetric, StrongIsTransitive, StrongMatchesItself, OverwriteReadsAgain, OneOverwrite, DepthReadsAgain, OneDepth, UpdateRangeReadsAgain, OneUpdateRange, OneTimeout, TimeoutReadsAgain};
 
 /// The strong comparison of entity tags (RFC 9110, section 8.8.3.2) is symmetric and transitive, and a tag matches itself
 /// exactly where it is strong.
@@ -27,7 +27,8 @@ pub fn update_range_is_read_again()
     ensures one { OneUpdateRange }
 {}
 
-/// Values are read as one `Timeout` at most.
-pub fn timeout_is_read_once()
+/// The value that is written for a `Timeout` with a word is read as this one, and any values as one at most.
+pub fn timeout_is_read_again()
+    ensures again { TimeoutReadsAgain }
     ensures one { OneTimeout }
 {}
