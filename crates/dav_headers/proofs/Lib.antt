@@ -7,8 +7,10 @@ pub mod IfMeaningLemmas
 pub mod IfLawLemmas
 pub mod ETagListLemmas
 pub mod LanguageLemmas
+pub mod LawLemmas
 pub mod LoopLemmas
 pub mod NumberLemmas
 pub mod RangeLemmas
+pub mod TimeoutAgain
 pub mod TimeoutLemmas
 pub mod ValueLemmas

@@ -25,14 +25,14 @@ use Rattle.http_header.specs.Token.{is_visible_or_blank}
 parts_one : (c : ℕ) (text x y u v : List ℕ) → IsCut c text x y → IsWithout c u → text ≡ u ++ c ∷ v → (x ≡ u) × (y ≡ v)
 parts_one c text x y u v cut without e = cut_one c x y u v (sym cut.1 ∙ e) cut.0 without
 
-ends_without : (from to : List ℕ) (r : XUpdateRange) → IsEnds from to r → IsWithout 45 from
+pub ends_without : (from to : List ℕ) (r : XUpdateRange) → IsEnds from to r → IsWithout 45 from
 ends_without from to (FromTo a b) h = number_without 45 from a (omega arith) h.0
 ends_without from to (AllFrom a) h = number_without 45 from a (omega arith) h.0
 ends_without from to (Last n) h = subst (IsWithout 45) (sym h.0) (IsWithout-nil 45)
 ends_without from to Append h = absurd h
 
 -- the two forms begin differently
-not_append : (bs : List ℕ) → codes "append" ≡ codes "bytes=" ++ bs → ⊥
+pub not_append : (bs : List ℕ) → codes "append" ≡ codes "bytes=" ++ bs → ⊥
 not_append bs e =
     let heads : get_or (codes "append") 0 0 ≡ get_or (codes "bytes=" ++ bs) 0 0 = ap (λ xs. get_or xs 0 0) e in
     absurd (omega (arith, heads))
@@ -84,7 +84,7 @@ both xs ys p q = list_all-append is_visible_or_blank xs ys ∙ and_from _ _ p q
 behind : (b : ℕ) (ys : List ℕ) → is_visible_or_blank b ≡ true → list_all is_visible_or_blank ys ≡ true → list_all is_visible_or_blank (b ∷ ys) ≡ true
 behind b ys p q = and_from (is_visible_or_blank b) (list_all is_visible_or_blank ys) p q
 
-update_range_shown : (r : XUpdateRange) → list_all is_visible_or_blank (update_range_text r) ≡ true
+pub update_range_shown : (r : XUpdateRange) → list_all is_visible_or_blank (update_range_text r) ≡ true
 update_range_shown (FromTo a b) = both (codes "bytes=") (decimal a ++ 45 ∷ decimal b) refl (both (decimal a) (45 ∷ decimal b) (decimal_visible a) (behind 45 (decimal b) refl (decimal_visible b)))
 update_range_shown (AllFrom a) = both (codes "bytes=") (decimal a ++ 45 ∷ []) refl (both (decimal a) (45 ∷ []) (decimal_visible a) refl)
 update_range_shown (Last n) = both (codes "bytes=") (45 ∷ decimal n) refl (behind 45 (decimal n) refl (decimal_visible n))

@@ -35,7 +35,7 @@ rest_shown (w ∷ ws) =
     both (44 ∷ 32 ∷ word_text w) (flat_map (λ y. 44 ∷ 32 ∷ y) (map word_text ws))
     (both (44 ∷ 32 ∷ []) (word_text w) refl (word_shown w)) (rest_shown ws)
 
-shown : (ws : List DavTimeout) → list_all is_visible_or_blank (timeout_text ws) ≡ true
+pub shown : (ws : List DavTimeout) → list_all is_visible_or_blank (timeout_text ws) ≡ true
 shown [] = refl
 shown (w ∷ ws) = both (word_text w) (flat_map (λ y. 44 ∷ 32 ∷ y) (map word_text ws)) (word_shown w) (rest_shown ws)
 

@@ -14,6 +14,7 @@ pub mod IfLaws
 pub mod ETag
 pub mod ETagList
 pub mod Language
+pub mod Laws
 pub mod Length
 pub mod Overwrite
 pub mod Pieces

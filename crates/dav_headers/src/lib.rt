@@ -9,6 +9,7 @@ pub mod etag;
 pub mod etag_list;
 pub mod if_header;
 pub mod language;
+pub mod laws;
 pub mod length;
 pub mod names;
 pub mod overwrite;

@@ -1,0 +1,68 @@
+-- Laws of headers, which are stated over their grammars.
+use Rattle.std.specs.Prelude.{ℕ, ◌<◌, ◌^◌, Bool, false, List, [], ◌∷◌, ◌≡◌, ◌↔◌, ⊤, Some, All}
+use Rattle.http_header.specs.FieldValue.{FieldValue, plain_value}
+use Rattle.dav_headers.specs.ETag.{EntityTag, IsStrongMatch}
+use Rattle.dav_headers.specs.Overwrite.{overwrite_text, IsOverwrite}
+use Rattle.dav_headers.specs.Depth.{depth_text, IsDepth}
+use Rattle.dav_headers.specs.Timeout.{timeout_text, IsTimeout}
+use Rattle.dav_headers.specs.declared.timeout.DavTimeout.TheVariants.{Seconds, Infinite}
+use Rattle.dav_headers.specs.UpdateRange.{update_range_text, IsUpdateRange}
+use Rattle.dav_headers.specs.declared.depth.Depth.{Depth}
+use Rattle.dav_headers.specs.declared.timeout.DavTimeout.{DavTimeout}
+use Rattle.dav_headers.specs.declared.range.XUpdateRange.{XUpdateRange}
+use Rattle.dav_headers.specs.declared.range.XUpdateRange.TheVariants.{FromTo, AllFrom, Last, Append}
+
+-- the one value that is made of a text
+abbrev pub written : List ℕ → List FieldValue
+written text = plain_value text ∷ []
+
+-- the strong comparison of entity tags
+abbrev pub StrongIsSymmetric : Type 0
+StrongIsSymmetric = (e f : EntityTag) → IsStrongMatch e f → IsStrongMatch f e
+
+abbrev pub StrongIsTransitive : Type 0
+StrongIsTransitive = (e f g : EntityTag) → IsStrongMatch e f → IsStrongMatch f g → IsStrongMatch e g
+
+abbrev pub StrongMatchesItself : Type 0
+StrongMatchesItself = (e : EntityTag) → IsStrongMatch e e ↔ (e.weak ≡ false)
+
+-- what is written is read as what it was written for
+abbrev pub OverwriteReadsAgain : Type 0
+OverwriteReadsAgain = (o : Bool) → IsOverwrite (written (overwrite_text o)) o
+
+abbrev pub DepthReadsAgain : Type 0
+DepthReadsAgain = (d : Depth) → (text : List ℕ) → depth_text d ≡ Some text → IsDepth (written text) d
+
+-- the numbers of a range are below 2^64
+abbrev pub AreBelow : XUpdateRange → Type 0
+AreBelow (FromTo a b) = (a < 2 ^ 64) × (b < 2 ^ 64)
+AreBelow (AllFrom a) = a < 2 ^ 64
+AreBelow (Last n) = n < 2 ^ 64
+AreBelow Append = ⊤
+
+abbrev pub UpdateRangeReadsAgain : Type 0
+UpdateRangeReadsAgain = (r : XUpdateRange) → AreBelow r → IsUpdateRange (written (update_range_text r)) r
+
+-- the seconds of a word are below 2^32
+abbrev pub IsShort : DavTimeout → Type 0
+IsShort (Seconds n) = n < 2 ^ 32
+IsShort Infinite = ⊤
+
+abbrev pub TimeoutReadsAgain : Type 0
+TimeoutReadsAgain =
+    (w : DavTimeout) → (ws : List DavTimeout) → All IsShort (w ∷ ws) → IsTimeout (written (timeout_text (w ∷ ws))) (w ∷ ws)
+
+-- values are read in one way at most
+abbrev pub OneOverwrite : Type 0
+OneOverwrite = (values : List FieldValue) → (a b : Bool) → IsOverwrite values a → IsOverwrite values b → a ≡ b
+
+abbrev pub OneDepth : Type 0
+OneDepth = (values : List FieldValue) → (a b : Depth) → IsDepth values a → IsDepth values b → a ≡ b
+
+abbrev pub OneUpdateRange : Type 0
+OneUpdateRange =
+    (values : List FieldValue) → (a b : XUpdateRange) → IsUpdateRange values a → IsUpdateRange values b → a ≡ b
+
+abbrev pub OneTimeout : Type 0
+OneTimeout =
+    (values : List FieldValue) → (a b : List DavTimeout) → IsTimeout values a → IsTimeout values b → a ≡ b

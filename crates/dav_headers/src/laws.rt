@@ -1,0 +1,34 @@
+//! Laws of headers. Each function does nothing: its contract is a theorem on the grammars.
+ghost use Rattle.dav_headers.specs.Laws.{StrongIsSymmetric, StrongIsTransitive, StrongMatchesItself, OverwriteReadsAgain, OneOverwrite, DepthReadsAgain, OneDepth, UpdateRangeReadsAgain, OneUpdateRange, OneTimeout, TimeoutReadsAgain};
+
+/// The strong comparison of entity tags (RFC 9110, section 8.8.3.2) is symmetric and transitive, and a tag matches itself
+/// exactly where it is strong.
+pub fn strong_comparison()
+    ensures symmetric { StrongIsSymmetric }
+    ensures transitive { StrongIsTransitive }
+    ensures reflexive { StrongMatchesItself }
+{}
+
+/// The value that is written for an `Overwrite` is read as this one, and any values as one at most.
+pub fn overwrite_is_read_again()
+    ensures again { OverwriteReadsAgain }
+    ensures one { OneOverwrite }
+{}
+
+/// The value that is written for a `Depth` is read as this one, and any values as one at most.
+pub fn depth_is_read_again()
+    ensures again { DepthReadsAgain }
+    ensures one { OneDepth }
+{}
+
+/// The value that is written for an `XUpdateRange` is read as this one, and any values as one at most.
+pub fn update_range_is_read_again()
+    ensures again { UpdateRangeReadsAgain }
+    ensures one { OneUpdateRange }
+{}
+
+/// The value that is written for a `Timeout` with a word is read as this one, and any values as one at most.
+pub fn timeout_is_read_again()
+    ensures again { TimeoutReadsAgain }
+    ensures one { OneTimeout }
+{}
