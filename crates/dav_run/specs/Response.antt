@@ -1,6 +1,7 @@
 -- What is answered: replies as contracts see them (RFC 9110, sections 8 and 15).
 use Rattle.std.specs.Prelude.{ℕ, ◌++◌, Bool, false, List, [], ◌∷◌, length, codes, if◌then◌else◌, Option, Some, None}
-use Rattle.std.specs.Fmt.{decimal, digits}
+use Rattle.std.specs.Fmt.{decimal}
+use Rattle.dav_core.specs.Metadata.{tag_of}
 use Rattle.dav_run.specs.Date.{date_text_of}
 
 -- A reply: its status, its headers in order of their names, and the bytes of its body where it has one.
@@ -13,10 +14,7 @@ pub record Response : Type 0 where
 abbrev pub content_length : ℕ → List ℕ × List ℕ
 content_length n = (codes "content-length", decimal n)
 
--- the change number of a file in lower-case hexadecimal, in quotes (RFC 9110, section 8.8.3)
-abbrev pub tag_of : ℕ → List ℕ
-tag_of number = 34 ∷ (digits 16 false number ++ 34 ∷ [])
-
+-- the header of a file's entity tag (RFC 9110, section 8.8.3)
 abbrev pub etag : ℕ → List ℕ × List ℕ
 etag number = (codes "etag", tag_of number)
 

@@ -3,7 +3,8 @@ ghost use Rattle.std.specs.Prelude.{◌≡◌, IfOk, OnOk, codes};
 ghost use Rattle.http_header.specs.HeaderMap.{insert};
 ghost use Rattle.http_header.specs.FieldValue.{plain_value};
 ghost use Rattle.dav_run.specs.Date.{date_text_of};
-ghost use Rattle.dav_run.specs.Response.{refusal, closing_refusal, shown, stored, tag_of};
+ghost use Rattle.dav_core.specs.Metadata.{tag_of};
+ghost use Rattle.dav_run.specs.Response.{refusal, closing_refusal, shown, stored};
 ghost use Rattle.dav_run.specs.Reply.{response_of};
 
 use crate::moment::Moment;
