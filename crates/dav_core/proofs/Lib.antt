@@ -30,3 +30,4 @@ pub mod MemberLemmas
 pub mod FollowLemmas
 pub mod GoneLemmas
 pub mod CopyLemmas
+pub mod EqualLemmas

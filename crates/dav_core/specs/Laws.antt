@@ -1,7 +1,7 @@
 -- What holds of every text and every path: the statements of the laws.
 use Rattle.std.specs.Prelude.{◌≡◌, ◌≢◌, ◌↔◌, ◌++◌, ◌∷◌, ℕ, ◌+◌, ◌^◌, ◌<◌, ◌≤◌, Bool, true, false, T, List, [], All, Contains, Some, None}
 use Rattle.dav_core.specs.declared.errors.ParseError.TheVariants.{InvalidPath, ForbiddenPath}
-use Rattle.dav_core.specs.Path.{Path, PathText, IsName, IsSegment, parent_of, joined, path_bytes, star, names_of, parent_bytes, with_slash, prefix_cut}
+use Rattle.dav_core.specs.Path.{Path, PathText, IsName, IsSegment, parent_of, joined, path_bytes, star, names_of, parent_bytes, with_slash, prefix_cut, are_equal}
 use Rattle.dav_core.specs.Target.{Leaves, Climbs, HasBadPiece, Reads, IsRefused}
 use Rattle.dav_core.specs.UrlText.{url_text, IsTextOf}
 use Rattle.dav_core.specs.declared.method.DavMethod.{DavMethod}
@@ -141,3 +141,15 @@ MembersAreHad = (set : ℕ) (m : DavMethod) → Contains (members set) m ↔ Has
 abbrev pub SameMethodsSameSet : Type 0
 SameMethodsSameSet =
     (a b : ℕ) → a < 2 ^ 16 → b < 2 ^ 16 → ((m : DavMethod) → Has a m ↔ Has b m) → a ≡ b
+
+-- a path is equal to itself
+abbrev pub EqualToItself : Type 0
+EqualToItself = (p : PathText) → are_equal p p ≡ true
+
+-- of two equal paths each is equal to the other
+abbrev pub EqualBothWays : Type 0
+EqualBothWays = (p q : PathText) → are_equal p q ≡ true → are_equal q p ≡ true
+
+-- and paths that are equal to one path are equal
+abbrev pub EqualThrough : Type 0
+EqualThrough = (p q r : PathText) → are_equal p q ≡ true → are_equal q r ≡ true → are_equal p r ≡ true

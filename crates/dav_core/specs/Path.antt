@@ -3,8 +3,8 @@ use Rattle.std.specs.Prelude.{◌≡◌, ◌≢◌, ℕ, ◌==◌, ◌++◌, ◌
 use Rattle.std.specs.List.{filter, flat_map, slice_split, ends_with, last_or}
 use Rattle.std.specs.Option.{unwrap_or, is_some}
 use Rattle.std.specs.declared.cmp.Ordering.{Ordering}
-use Rattle.std.specs.Ordering.{nat_cmp, is_eq}
-use Rattle.std.specs.Cmp.Lexicographic.{slice_cmp}
+use Rattle.std.specs.Ordering.{nat_cmp, is_eq, on}
+use Rattle.std.specs.Cmp.Lexicographic.{slice_cmp, pointwise}
 
 -- `..`, the segment that stands for the parent
 abbrev pub parent_piece : List ℕ
@@ -167,6 +167,10 @@ pub record PathText : Type 0 where
 -- all bytes of a path
 abbrev pub full_bytes : PathText → List ℕ
 full_bytes p = p.prefix ++ p.bytes
+
+-- Two paths are equal: their full bytes are, each without one slash at the end if it is longer than one byte.
+abbrev pub are_equal : PathText → PathText → Bool
+are_equal = on (λ p. trimmed (full_bytes p)) (pointwise ◌==◌)
 
 -- the path with these bytes behind its prefix
 abbrev pub with_bytes : PathText → List ℕ → PathText

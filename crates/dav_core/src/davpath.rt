@@ -249,14 +249,11 @@ impl Clone for DavPath {
 
 /// Compares the full paths, each without one slash at its end if it is longer than one byte.
 impl PartialEq for DavPath {
-    ghost use Rattle.std.specs.Prelude.{◌==◌};
-    ghost use Rattle.std.specs.Ordering.{on};
-    ghost use Rattle.std.specs.Cmp.Lexicographic.{pointwise};
     ghost use Rattle.std.specs.Cmp.Rules.{comparing};
     ghost use Rattle.std.proofs.Common.{rules};
-    ghost use Rattle.dav_core.specs.Path.{full_bytes, trimmed};
+    ghost use Rattle.dav_core.specs.Path.{are_equal};
 
-    ghost eq = { on (λ p. trimmed (full_bytes p)) (pointwise ◌==◌) };
+    ghost eq = { are_equal };
 
     ghost laws = { Prim.search (comparing, rules) };
 

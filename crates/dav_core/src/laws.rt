@@ -3,7 +3,7 @@
 pub mod calls;
 
 ghost use Rattle.std.specs.Prelude.{◌≡◌, [], ◌∷◌};
-ghost use Rattle.dav_core.specs.Laws.{LeavesOnePath, LeavesNoFault, OneFault, ReadsOnePath, ReadIsNotRefused, OneRefusal, KeepsNames, ReadsNames, StarHasNoNames, ReadsAgain, NamesReadAgain, SameText, SlashKeepsNames, AddsName, AddsSegment, NamesAreSegments, NameIsSegment, ParentOfNames, CutsAtNames, CutKeepsNames, EmptyIsWorld, NewKeepsWorld, ChangeKeepsWorld, OneMethod, NameNames, MembersAreHad, SameMethodsSameSet};
+ghost use Rattle.dav_core.specs.Laws.{LeavesOnePath, LeavesNoFault, OneFault, ReadsOnePath, ReadIsNotRefused, OneRefusal, KeepsNames, ReadsNames, StarHasNoNames, ReadsAgain, NamesReadAgain, SameText, SlashKeepsNames, AddsName, AddsSegment, NamesAreSegments, NameIsSegment, ParentOfNames, CutsAtNames, CutKeepsNames, EmptyIsWorld, NewKeepsWorld, ChangeKeepsWorld, OneMethod, NameNames, MembersAreHad, SameMethodsSameSet, EqualToItself, EqualBothWays, EqualThrough};
 ghost use Rattle.dav_core.specs.LockLaws.{FreeHoldsExclusive, FreeDeepHoldsBelow, FreeIsNothingInTheWay, GrantedCanBeUnlocked, TakenBack, CoveringAreShared, GrantedAreShared, UnlockedAreShared, RefreshedAreShared, DeletedAreShared};
 ghost use Rattle.dav_core.specs.Method.{all_methods, members};
 
@@ -39,6 +39,13 @@ pub fn reads_again()
 /// Two paths that were read have the same bytes exactly if their texts in a URL are equal.
 pub fn texts_tell_paths()
     ensures { SameText }
+{}
+
+/// `==` of paths is reflexive, symmetric and transitive.
+pub fn equal_paths_are_alike()
+    ensures reflexive { EqualToItself }
+    ensures symmetric { EqualBothWays }
+    ensures transitive { EqualThrough }
 {}
 
 /// A slash at the end changes no name, a name or segment that is added is the last, and the parent has all names but the
