@@ -1,9 +1,10 @@
 use super::*;
 use std::test::Fail;
 
-fn decoded(alloc: Global, texts: &[&str]) -> Result<ContentLength, HeaderError> {
+// What the values between bars are read as.
+fn decoded(alloc: Global, texts: &str) -> Result<ContentLength, HeaderError> {
     let mut values = Vec::new(alloc);
-    for text in texts {
+    for text in texts.split('|') {
         let Ok(value) = HeaderValue::from_str(alloc, text) else {
             return Err(HeaderError::Memory);
         };
@@ -15,16 +16,16 @@ fn decoded(alloc: Global, texts: &[&str]) -> Result<ContentLength, HeaderError> 
 #[test]
 fn reads_lengths(rt: HostRuntime) -> Result<(), Fail> {
     let cases = [
-        (["3"].as_slice(), 3, "3"),
-        (["03", "3", "0003"].as_slice(), 3, "3"),
-        (["0"].as_slice(), 0, "0"),
+        ("3", 3, "3"),
+        ("03|3|0003", 3, "3"),
+        ("0", 0, "0"),
         (
-            ["18446744073709551615"].as_slice(),
+            "18446744073709551615",
             18446744073709551615,
             "18446744073709551615",
         ),
         (
-            ["00018446744073709551615"].as_slice(),
+            "00018446744073709551615",
             18446744073709551615,
             "18446744073709551615",
         ),
@@ -42,24 +43,28 @@ fn reads_lengths(rt: HostRuntime) -> Result<(), Fail> {
 #[test]
 fn refuses_lengths(rt: HostRuntime) {
     let cases = [
-        [].as_slice(),
-        [""].as_slice(),
-        ["+3"].as_slice(),
-        ["-3"].as_slice(),
-        [" 3"].as_slice(),
-        ["3 "].as_slice(),
-        ["3,3"].as_slice(),
-        ["3.0"].as_slice(),
-        ["0x3"].as_slice(),
-        ["18446744073709551616"].as_slice(),
-        ["3", "4"].as_slice(),
-        ["3", "3", ""].as_slice(),
-        ["\u{e9}"].as_slice(),
+        "",
+        "+3",
+        "-3",
+        " 3",
+        "3 ",
+        "3,3",
+        "3.0",
+        "0x3",
+        "18446744073709551616",
+        "3|4",
+        "3|3|",
+        "\u{e9}",
     ];
     for texts in cases {
         assert_eq!(rt;
             decoded(rt.alloc(), texts).err(),
-            Some(HeaderError::Invalid)
+            Some(HeaderError::Invalid),
+            "{texts}"
         );
     }
+    assert_eq!(rt;
+        ContentLength::decode(rt.alloc(), &[]).err(),
+        Some(HeaderError::Invalid)
+    );
 }
