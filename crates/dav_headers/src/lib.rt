@@ -19,4 +19,16 @@ pub mod timeout;
 pub mod tokens;
 mod values;
 
+pub use content::{ContentLocation, ContentType};
+pub use depth::Depth;
+pub use destination::Destination;
+pub use errors::HeaderError;
+pub use etag::ETag;
+pub use etag_list::{ETagList, IfMatch, IfNoneMatch, IfRange};
 pub use if_header::{If, IfCondition, IfItem, IfList};
+pub use language::ContentLanguage;
+pub use length::ContentLength;
+pub use overwrite::Overwrite;
+pub use range::{ContentRange, XUpdateRange};
+pub use timeout::{DavTimeout, Timeout};
+pub use tokens::{LockToken, XLitmus};
