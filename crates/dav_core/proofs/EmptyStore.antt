@@ -1,10 +1,12 @@
 -- A store that holds the root alone: what its calls answer.
-use Rattle.std.proofs.Common.{◌≡◌, ℕ, Bool, true, false, [], ◌∷◌, Some, Result, Ok, Err, refl}
+use Rattle.std.proofs.Common.{◌≡◌, ℕ, Bool, true, false, [], ◌∷◌, Some, Result, Ok, Err, refl, List}
 use Rattle.dav_core.specs.declared.errors.FsError.{FsError}
 use Rattle.dav_core.specs.declared.errors.FsError.TheVariants.{NotImplemented, NotFound, Forbidden}
 use Rattle.dav_core.specs.Path.{Path, is_root}
+use Rattle.std.specs.declared.io.traits.SeekFrom.{SeekFrom}
 use Rattle.dav_core.specs.World.{empty_from}
-use Rattle.dav_core.specs.Asking.{Call, Answer, Metadata, ReadDir, RemoveDir, RemoveFile, HaveProps, GetQuota, SetAccessed, SetModified, StoreState, Asks, asked, answered, meaning}
+use Rattle.dav_core.specs.Handle.{Handle}
+use Rattle.dav_core.specs.Asking.{Call, Answer, Metadata, ReadDir, RemoveDir, RemoveFile, HaveProps, GetQuota, SetAccessed, SetModified, EntryMetadata, Read, Write, Seek, Flush, FileMetadata, StoreState, Asks, asked, answered, meaning}
 
 -- the store, short of memory at some time or not
 abbrev pub empty_store : Bool → StoreState
@@ -55,3 +57,31 @@ has_no_quota short = told GetQuota short _ refl
 pub sets_no_times : (p : Path) (time : ℕ) (short : Bool) → Asks (SetAccessed p time) (empty_store short) (Err NotImplemented) (empty_store short) × Asks (SetModified p time) (empty_store short) (Err NotImplemented) (empty_store short)
 unfolding meaning
 sets_no_times p time short = (told (SetAccessed p time) short _ refl, told (SetModified p time) short _ refl)
+
+-- an open file that was removed
+abbrev pub gone_file : Handle
+gone_file = record { made = 1; position = 0; reads = true; writes = true; appends = false }
+
+pub gone_file_is_not_read : (count : ℕ) (short : Bool) → Asks (Read gone_file count) (empty_store short) (Err NotFound) (empty_store short)
+unfolding meaning
+gone_file_is_not_read count short = told (Read gone_file count) short _ refl
+
+pub gone_file_is_not_written : (bytes : List ℕ) (now : ℕ) (short : Bool) → Asks (Write gone_file bytes now) (empty_store short) (Err NotFound) (empty_store short)
+unfolding meaning
+gone_file_is_not_written bytes now short = told (Write gone_file bytes now) short _ refl
+
+pub gone_file_is_not_sought : (to : SeekFrom) (short : Bool) → Asks (Seek gone_file to) (empty_store short) (Err NotFound) (empty_store short)
+unfolding meaning
+gone_file_is_not_sought to short = told (Seek gone_file to) short _ refl
+
+pub gone_file_is_not_flushed : (short : Bool) → Asks (Flush gone_file) (empty_store short) (Err NotFound) (empty_store short)
+unfolding meaning
+gone_file_is_not_flushed short = told (Flush gone_file) short _ refl
+
+pub gone_file_is_not_told_of : (short : Bool) → Asks (FileMetadata gone_file) (empty_store short) (Err NotFound) (empty_store short)
+unfolding meaning
+gone_file_is_not_told_of short = told (FileMetadata gone_file) short _ refl
+
+pub gone_entry_is_missing : (short : Bool) → Asks (EntryMetadata ((120 ∷ []) ∷ [])) (empty_store short) (Err NotFound) (empty_store short)
+unfolding meaning
+gone_entry_is_missing short = told (EntryMetadata ((120 ∷ []) ∷ [])) short _ refl

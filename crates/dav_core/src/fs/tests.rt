@@ -92,27 +92,29 @@ struct EmptyFs {
     short: bool,
 }
 
+// A file that was removed.
 #[derive(Drop)]
-enum NoFile {}
+struct GoneFile;
 
+// An entry that was removed.
 #[derive(Drop)]
-enum NoEntry {}
+struct GoneEntry;
 
-impl DavDirEntry for NoEntry {
-    ghost use Rattle.std.specs.Prelude.{[], false};
+impl DavDirEntry for GoneEntry {
+    ghost use Rattle.std.specs.Prelude.{[], ◌∷◌, false};
 
     ghost entry_folder = { λ e. [] };
 
-    ghost entry_name = { λ e. [] };
+    ghost entry_name = { λ e. 120 ∷ [] };
 
     ghost entry_dir = { λ e. false };
 
     fn name(&self) -> &[u8] {
-        match *self {}
+        b"x".as_slice()
     }
 
     fn is_dir(&self) -> bool {
-        match *self {}
+        false
     }
 }
 
@@ -135,16 +137,16 @@ fn is_root(path: &DavPath) -> bool
 }
 
 impl DavFileSystem for EmptyFs {
-    type File = NoFile;
+    type File = GoneFile;
 
-    type Entry = NoEntry;
+    type Entry = GoneEntry;
 
-    ghost use Rattle.std.specs.Prelude.{[], false};
+    ghost use Rattle.std.specs.Prelude.{[], true, false};
     ghost use Rattle.dav_core.specs.World.{empty_from};
 
     ghost state = { λ s. record { world = empty_from 1; refusals = []; short = s.short } };
 
-    ghost handle = { λ f. record { made = 0; position = 0; reads = false; writes = false; appends = false } };
+    ghost handle = { λ f. record { made = 1; position = 0; reads = true; writes = true; appends = false } };
 
     fn open(
         &mut self,
@@ -152,7 +154,7 @@ impl DavFileSystem for EmptyFs {
         _path: &DavPath,
         _options: &OpenOptions,
         _now: u64,
-    ) -> FsResult<NoFile> {
+    ) -> FsResult<GoneFile> {
         self.wants()
     }
 
@@ -161,7 +163,7 @@ impl DavFileSystem for EmptyFs {
         alloc: Global,
         path: &DavPath,
         _meta: ReadDirMeta,
-    ) -> FsResult<Vec<NoEntry>> {
+    ) -> FsResult<Vec<GoneEntry>> {
         if is_root(path) {
             Ok(Vec::new(alloc))
         } else {
@@ -169,8 +171,8 @@ impl DavFileSystem for EmptyFs {
         }
     }
 
-    fn entry_metadata(&mut self, entry: &NoEntry) -> FsResult<DavMetaData> {
-        match *entry {}
+    fn entry_metadata(&mut self, _entry: &GoneEntry) -> FsResult<DavMetaData> {
+        Err(FsError::NotFound)
     }
 
     fn metadata(&mut self, path: &DavPath) -> FsResult<DavMetaData> {
@@ -264,40 +266,45 @@ impl DavFileSystem for EmptyFs {
         Err(FsError::NotImplemented)
     }
 
-    fn read_bytes(&mut self, _alloc: Global, file: &mut NoFile, _count: usize) -> FsResult<Bytes> {
-        match *file {}
+    fn read_bytes(
+        &mut self,
+        _alloc: Global,
+        _file: &mut GoneFile,
+        _count: usize,
+    ) -> FsResult<Bytes> {
+        Err(FsError::NotFound)
     }
 
     fn write_bytes(
         &mut self,
         _alloc: Global,
-        file: &mut NoFile,
+        _file: &mut GoneFile,
         _bytes: Bytes,
         _now: u64,
     ) -> FsResult<()> {
-        match *file {}
+        Err(FsError::NotFound)
     }
 
     fn write_buf<B: Buf + Drop>(
         &mut self,
         _alloc: Global,
-        file: &mut NoFile,
+        _file: &mut GoneFile,
         _buf: B,
         _now: u64,
     ) -> FsResult<()> {
-        match *file {}
+        Err(FsError::NotFound)
     }
 
-    fn seek(&mut self, file: &mut NoFile, _to: SeekFrom) -> FsResult<u64> {
-        match *file {}
+    fn seek(&mut self, _file: &mut GoneFile, _to: SeekFrom) -> FsResult<u64> {
+        Err(FsError::NotFound)
     }
 
-    fn flush(&mut self, file: &mut NoFile) -> FsResult<()> {
-        match *file {}
+    fn flush(&mut self, _file: &mut GoneFile) -> FsResult<()> {
+        Err(FsError::NotFound)
     }
 
-    fn file_metadata(&mut self, file: &NoFile) -> FsResult<DavMetaData> {
-        match *file {}
+    fn file_metadata(&mut self, _file: &GoneFile) -> FsResult<DavMetaData> {
+        Err(FsError::NotFound)
     }
 
     fn was_short(&self) -> bool {
