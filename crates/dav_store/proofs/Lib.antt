@@ -4,3 +4,4 @@ pub mod PropertyLemmas
 pub mod MemberLemmas
 pub mod CopyLemmas
 pub mod AskingLemmas
+pub mod LockLemmas

@@ -1,8 +1,9 @@
 //! A list of locks in memory (RFC 4918, sections 6 and 7).
-ghost use Rattle.std.specs.Prelude.{◌≡◌, ◌&&◌, ◌||◌, not, Bool, List, [], map, IfOk, IfSome, IfNone, IsNone, bytes_eq, string_bytes, option_copied, position};
+ghost use Rattle.std.specs.Prelude.{◌≡◌, ◌&&◌, ◌||◌, not, Bool, List, [], map, IfOk, IfSome, IfNone, IsNone, MatchOption, Contains, true, bytes_eq, string_bytes, option_copied, position};
 ghost use Rattle.std.specs.List.{list_any, list_all};
 ghost use Rattle.dav_core.specs.Path.{names, is_below, is_at_or_below};
 ghost use Rattle.dav_core.specs.Locks.{Lock, covers, asker_of, is_held, is_of, is_free_for, is_in_the_way, is_grantable, is_named};
+ghost use Rattle.dav_store.specs.Asking.{asker_in};
 
 use crate::paths;
 use dav_core::davpath::DavPath;
@@ -39,9 +40,24 @@ fn covers(lock: &DavLock, path: &DavPath) -> bool
 
 // Whether a token is among these.
 fn has_token(tokens: &[String], token: &str) -> bool
-    ensures { result ≡ list_any (λ t. bytes_eq token.now (string_bytes t)) tokens.now }
+    ensures { result ≡ list_any (bytes_eq token.now) (map string_bytes tokens.now) }
 {
-    tokens.iter().any(|t| token == t.as_str())
+    any_is(tokens, token)
+}
+
+// Whether one of these texts is this one.
+fn any_is(texts: &[String], text: &str) -> bool
+    ensures { result ≡ list_any (λ t. bytes_eq text.now (string_bytes t)) texts.now }
+{
+    texts.iter().any(|t| text == t.as_str())
+}
+
+/// Who asks: the tokens that are submitted, whose they are to be, and whether that is looked at.
+#[derive(Clone, Copy)]
+struct Asker<'a> {
+    tokens: &'a [String],
+    principal: Option<&'a str>,
+    ignore_principal: bool,
 }
 
 // Whether a lock is a principal's, or the principal is ignored.
@@ -49,6 +65,47 @@ fn is_of(lock: &DavLock, principal: Option<&str>, ignore_principal: bool) -> boo
     ensures { result ≡ is_of (asker_of [] ignore_principal (option_copied principal.entry)).principal lock.now }
 {
     ignore_principal || lock.principal.as_deref() == principal
+}
+
+// Whether a lock is held by who asks.
+fn is_held(lock: &DavLock, who: Asker<'_>) -> bool
+    ensures { result ≡ is_held (asker_in who.entry) lock.now }
+{
+    has_token(who.tokens, &lock.token) && is_of(lock, who.principal, who.ignore_principal)
+}
+
+// Whether some lock that covers a path is held.
+fn any_held(locks: &[DavLock], path: &DavPath, who: Asker<'_>) -> bool
+    ensures { result ≡ list_any (λ l. covers l (names path.now) && is_held (asker_in who.entry) l) locks.now }
+{
+    locks.iter().any(|l| covers(l, path) && is_held(l, who))
+}
+
+// Whether a lock stands in the way, where some covering lock is held or none is.
+fn is_in_the_way(lock: &DavLock, path: &DavPath, who: Asker<'_>, deep: bool, some_held: bool) -> bool
+    ensures { result ≡ (not (is_held (asker_in who.entry) lock.now) && ((covers lock.now (names path.now) && (not lock.now.shared || not some_held)) || (deep && is_at_or_below (names path.now) (names lock.now.path)))) }
+{
+    !is_held(lock, who)
+        && (covers(lock, path) && (!lock.shared || !some_held)
+            || deep && paths::is_at_or_below(path, &lock.path))
+}
+
+// Where the first lock stands that is in the way.
+fn place_in_the_way(locks: &[DavLock], path: &DavPath, who: Asker<'_>, deep: bool, some_held: bool) -> Option<usize>
+    ensures { result ≡ position (λ l. not (is_held (asker_in who.entry) l) && ((covers l (names path.now) && (not l.shared || not some_held)) || (deep && is_at_or_below (names path.now) (names l.path)))) locks.now }
+{
+    locks.iter().position(|l| is_in_the_way(l, path, who, deep, some_held))
+}
+
+// A lock that stands in the way; `None` where the path is free.
+fn conflict_in<'a>(locks: &'a [DavLock], path: &DavPath, who: Asker<'_>, deep: bool) -> Option<&'a DavLock>
+    ensures { MatchOption result (is_free_for deep (asker_in who.entry) (names path.now) locks.now ≡ true) (λ l. Contains locks.now l.now × (is_in_the_way deep (asker_in who.entry) (names path.now) locks.now l.now ≡ true)) }
+{
+    let some_held = any_held(locks, path, who);
+    match place_in_the_way(locks, path, who, deep, some_held) {
+        None => None,
+        Some(i) => Some(&locks[i]),
+    }
 }
 
 impl MemLs {
