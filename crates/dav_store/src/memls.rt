@@ -1,9 +1,11 @@
 //! A list of locks in memory (RFC 4918, sections 6 and 7).
-ghost use Rattle.std.specs.Prelude.{◌≡◌, ◌&&◌, ◌||◌, not, Bool, List, [], map, IfOk, IfSome, IfNone, IsNone, MatchOption, Contains, true, bytes_eq, string_bytes, option_copied, position};
+ghost use Rattle.std.specs.Prelude.{◌≡◌, ◌&&◌, ◌||◌, not, Bool, List, [], map, IfOk, IfSome, IfNone, IsNone, MatchOption, Contains, true, bytes_eq, string_bytes, option_copied, position, take};
 ghost use Rattle.std.specs.List.{list_any, list_all};
 ghost use Rattle.dav_core.specs.Path.{names, is_below, is_at_or_below};
 ghost use Rattle.dav_core.specs.Locks.{Lock, covers, asker_of, is_held, is_of, is_free_for, is_in_the_way, is_grantable, is_named};
-ghost use Rattle.dav_store.specs.Asking.{asker_in};
+ghost use Rattle.dav_core.specs.Path.{is_same_path};
+ghost use Rattle.dav_core.specs.Locks.{deleted};
+ghost use Rattle.dav_store.specs.Asking.{asker_in, IsNamedPlace};
 
 use crate::paths;
 use dav_core::davpath::DavPath;
@@ -106,6 +108,42 @@ fn conflict_in<'a>(locks: &'a [DavLock], path: &DavPath, who: Asker<'_>, deep: b
         None => None,
         Some(i) => Some(&locks[i]),
     }
+}
+
+// Where the first lock stands that has this token and the first so many names of a path.
+fn named_at(locks: &[DavLock], path: &DavPath, token: &str, len: usize) -> Option<usize>
+    ensures { result ≡ position (λ l. bytes_eq l.token token.now && is_same_path (names l.path) (take len (names path.now))) locks.now }
+{
+    locks
+        .iter()
+        .position(|l| l.token.as_str() == token && paths::is_front(&l.path, path, len))
+}
+
+// Where the lock stands that a token and a path mean.
+fn named_place(locks: &[DavLock], path: &DavPath, token: &str) -> Option<usize>
+    ensures { IsNamedPlace token.now (names path.now) locks.now result }
+{
+    for len in 0..=paths::count(path) {
+        if let Some(i) = named_at(locks, path, token, len) {
+            return Some(i);
+        }
+    }
+    None
+}
+
+// Drops the locks at a path and below it.
+fn drop_below(locks: &mut Vec<DavLock>, path: &DavPath)
+    ensures { locks.new.items ≡ deleted (names path.now) locks.old.items }
+{
+    locks.retain(|l| !paths::is_at_or_below(path, &l.path));
+}
+
+// Whether a lock stands in the way of a new one.
+fn any_refuses(locks: &[DavLock], path: &DavPath, shared: bool, deep: bool) -> bool
+    ensures { result ≡ (list_any (λ l. covers l (names path.now) && not (l.shared && shared)) locks.now || (deep && list_any (λ l. is_below (names path.now) (names l.path)) locks.now)) }
+{
+    locks.iter().any(|l| covers(l, path) && !(l.shared && shared))
+        || deep && locks.iter().any(|l| paths::is_below(path, &l.path))
 }
 
 impl MemLs {
