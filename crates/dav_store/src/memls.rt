@@ -84,7 +84,13 @@ fn any_held(locks: &[DavLock], path: &DavPath, who: Asker<'_>) -> bool
 }
 
 // Whether a lock stands in the way, where some covering lock is held or none is.
-fn is_in_the_way(lock: &DavLock, path: &DavPath, who: Asker<'_>, deep: bool, some_held: bool) -> bool
+fn is_in_the_way(
+    lock: &DavLock,
+    path: &DavPath,
+    who: Asker<'_>,
+    deep: bool,
+    some_held: bool,
+) -> bool
     ensures { result ≡ (not (is_held (asker_in who.entry) lock.now) && ((covers lock.now (names path.now) && (not lock.now.shared || not some_held)) || (deep && is_at_or_below (names path.now) (names lock.now.path)))) }
 {
     !is_held(lock, who)
@@ -93,14 +99,27 @@ fn is_in_the_way(lock: &DavLock, path: &DavPath, who: Asker<'_>, deep: bool, som
 }
 
 // Where the first lock stands that is in the way.
-fn place_in_the_way(locks: &[DavLock], path: &DavPath, who: Asker<'_>, deep: bool, some_held: bool) -> Option<usize>
+fn place_in_the_way(
+    locks: &[DavLock],
+    path: &DavPath,
+    who: Asker<'_>,
+    deep: bool,
+    some_held: bool,
+) -> Option<usize>
     ensures { result ≡ position (λ l. not (is_held (asker_in who.entry) l) && ((covers l (names path.now) && (not l.shared || not some_held)) || (deep && is_at_or_below (names path.now) (names l.path)))) locks.now }
 {
-    locks.iter().position(|l| is_in_the_way(l, path, who, deep, some_held))
+    locks
+        .iter()
+        .position(|l| is_in_the_way(l, path, who, deep, some_held))
 }
 
 // A lock that stands in the way; `None` where the path is free.
-fn conflict_in<'a>(locks: &'a [DavLock], path: &DavPath, who: Asker<'_>, deep: bool) -> Option<&'a DavLock>
+fn conflict_in<'a>(
+    locks: &'a [DavLock],
+    path: &DavPath,
+    who: Asker<'_>,
+    deep: bool,
+) -> Option<&'a DavLock>
     ensures { MatchOption result (is_free_for deep (asker_in who.entry) (names path.now) locks.now ≡ true) (λ l. Contains locks.now l.now × (is_in_the_way deep (asker_in who.entry) (names path.now) locks.now l.now ≡ true)) }
 {
     let some_held = any_held(locks, path, who);
@@ -114,9 +133,7 @@ fn conflict_in<'a>(locks: &'a [DavLock], path: &DavPath, who: Asker<'_>, deep: b
 fn named_at(locks: &[DavLock], path: &DavPath, token: &str, len: usize) -> Option<usize>
     ensures { result ≡ position (λ l. bytes_eq l.token token.now && is_same_path (names l.path) (take len (names path.now))) locks.now }
 {
-    locks
-        .iter()
-        .position(|l| l.token.as_str() == token && paths::is_front(&l.path, path, len))
+    locks.iter().position(|l| l.token.as_str() == token && paths::is_front(&l.path, path, len))
 }
 
 // Where the lock stands that a token and a path mean.
@@ -138,12 +155,27 @@ fn drop_below(locks: &mut Vec<DavLock>, path: &DavPath)
     locks.retain(|l| !paths::is_at_or_below(path, &l.path));
 }
 
+// Whether a lock covers a path that a new one, shared or not, can't share it with.
+fn any_excludes(locks: &[DavLock], path: &DavPath, shared: bool) -> bool
+    ensures { result ≡ list_any (λ l. covers l (names path.now) && not (l.shared && shared)) locks.now }
+{
+    locks
+        .iter()
+        .any(|l| covers(l, path) && !(l.shared && shared))
+}
+
+// Whether a lock is below a path.
+fn any_below(locks: &[DavLock], path: &DavPath) -> bool
+    ensures { result ≡ list_any (λ l. is_below (names path.now) (names l.path)) locks.now }
+{
+    locks.iter().any(|l| paths::is_below(path, &l.path))
+}
+
 // Whether a lock stands in the way of a new one.
 fn any_refuses(locks: &[DavLock], path: &DavPath, shared: bool, deep: bool) -> bool
     ensures { result ≡ (list_any (λ l. covers l (names path.now) && not (l.shared && shared)) locks.now || (deep && list_any (λ l. is_below (names path.now) (names l.path)) locks.now)) }
 {
-    locks.iter().any(|l| covers(l, path) && !(l.shared && shared))
-        || deep && locks.iter().any(|l| paths::is_below(path, &l.path))
+    any_excludes(locks, path, shared) || deep && any_below(locks, path)
 }
 
 impl MemLs {
