@@ -1,10 +1,11 @@
 -- Fronts of a path by their lengths.
-use Rattle.std.proofs.Common.{◌≡◌, ℕ, zero, suc, ◌+◌, ◌≤◌, ◌<◌, ◌==◌, ◌||◌, Bool, true, false, cond, List, [], ◌∷◌, ◌++◌, length, take, map, bytes_eq, Option, Some, None, refl, sym, ap, subst, ◌∙◌, arith}
-use Rattle.std.specs.List.{filter, flat_map, list_any, position, slice_split, onto_first, find as first}
+use Rattle.std.proofs.Common.{◌≡◌, ℕ, zero, suc, ◌+◌, ◌≤◌, ◌<◌, ◌==◌, Bool, true, false, cond, List, [], ◌∷◌, ◌++◌, length, take, map, bytes_eq, Some, None, refl, sym, ap, subst, ◌∙◌, arith, append-nil, add-one}
+use Rattle.std.proofs.lemmas.List.{length-map, take-map, map-append, take_all}
+use Rattle.std.proofs.lemmas.Grind.{flat_map-append}
+use Rattle.std.specs.List.{filter, flat_map, slice_split, onto_first, find as first}
 use Rattle.std.specs.Option.{option_map}
 use Rattle.std.proofs.lemmas.List.Splits.{slice_split-cons_yes, slice_split-cons_no}
 use Rattle.dav_core.specs.Path.{Path, fronts, star, is_nonempty, names_in, names_of}
-use Rattle.dav_store.proofs.Place.{NonePasses, none_passes}
 
 abbrev pieces : List ℕ → List (List ℕ)
 pieces bytes = slice_split (λ b. b == 47) bytes
@@ -60,3 +61,25 @@ no_front test (x ∷ p) none =
     let rest = no_front (λ q. test (x ∷ q)) p (λ k h. none (suc k) (omega arith)) in
     ap (λ b. cond b (Some []) (first test (map (λ q. x ∷ q) (fronts p)))) (none 0 (omega arith))
     ∙ first_mapped (λ q. x ∷ q) test (fronts p) ∙ ap (option_map (λ q. x ∷ q)) rest
+
+more_names : (p : Path) (n : ℕ) → n ≤ length p → take (suc n) (fronts p) ≡ take n (fronts p) ++ take n p ∷ []
+more_names [] zero h = refl
+more_names [] (suc n) h = absurd (omega arith)
+more_names (x ∷ p) zero h = refl
+more_names (x ∷ p) (suc n) h =
+    let f = λ (q : Path). x ∷ q in
+    ap (λ (qs : List Path). [] ∷ qs) (take-map f (suc n) (fronts p) ∙ ap (map f) (more_names p n (omega arith)) ∙ map-append f (take n (fronts p)) (take n p ∷ []) ∙ ap (λ (qs : List Path). qs ++ (x ∷ take n p) ∷ []) (sym (take-map f n (fronts p))))
+
+-- what is gathered from the fronts of up to so many names
+pub gathered_more : {A : Type 0} (f : Path → List A) (p : Path) (n : ℕ) → n ≤ length p → flat_map f (take (n + 1) (fronts p)) ≡ flat_map f (take n (fronts p)) ++ f (take n p)
+gathered_more f p n h =
+    ap (λ k. flat_map f (take k (fronts p))) (add-one n) ∙ ap (flat_map f) (more_names p n h) ∙ flat_map-append f (take n (fronts p)) (take n p ∷ [])
+    ∙ ap (λ ys. flat_map f (take n (fronts p)) ++ ys) (append-nil (f (take n p)))
+
+length_fronts : (p : Path) → length (fronts p) ≡ length p + 1
+length_fronts [] = refl
+length_fronts (x ∷ p) = let h = length_fronts p in let k = length-map (fronts p) (λ (q : Path). x ∷ q) in omega (arith, h, k)
+
+-- and from all
+pub gathered : {A : Type 0} (f : Path → List A) (p : Path) (n : ℕ) → length p ≤ n → flat_map f (take (n + 1) (fronts p)) ≡ flat_map f (fronts p)
+gathered f p n h = ap (flat_map f) (take_all (n + 1) (fronts p) (let k = length_fronts p in omega (arith, h, k)))

@@ -1,7 +1,6 @@
 -- Lists of locks in memory.
-use Rattle.std.proofs.Common.{◌≡◌, ℕ, ◌<◌, ◌&&◌, ◌||◌, Bool, true, false, not, List, [], ◌∷◌, map, bytes_eq, string_bytes, Contains, length, get_or, Some, None, refl, sym, ap, subst, ◌∙◌}
+use Rattle.std.proofs.Common.{◌≡◌, ℕ, ◌&&◌, ◌||◌, Bool, true, false, not, List, [], ◌∷◌, map, Contains, get_or, Some, None, refl, sym, ap, subst, ◌∙◌}
 use Rattle.std.specs.List.{list_any, list_all, position}
-use Rattle.std.specs.declared.string.String.{String}
 use Rattle.std.proofs.lemmas.List.Quantifiers.{position-Some}
 use Rattle.dav_core.specs.Path.{Path, names, is_at_or_below}
 use Rattle.dav_core.specs.Locks.{Lock, Asker, covers, is_held, is_free_for, is_in_the_way}
@@ -39,3 +38,8 @@ stands_if_some deep who p ls some i l held found is =
     let here : position (is_in_the_way deep who p ls) ls ≡ Some i = subst (λ b. position (way deep who p b) ls ≡ Some i) held found in
     let at = position-Some (is_in_the_way deep who p ls) ls i l here in
     ((i, at.0, sym is), subst (λ (m : Lock). is_in_the_way deep who p ls m ≡ true) (sym is) at.1)
+
+-- what no lock refuses may be granted
+pub grantable_if_none : (a deep b : Bool) → (a || (deep && b)) ≡ false → (not a && not (deep && b)) ≡ true
+grantable_if_none true deep b h = cc
+grantable_if_none false deep b h = ap not h

@@ -1,4 +1,4 @@
-use Rattle.std.proofs.Common.{◌∙◌, sym}
+use Rattle.std.proofs.Common.{sym}
 use Rattle.dav_core.specs.Path.{names}
 use Rattle.dav_store.specs.Asking.{asker_in}
 use Rattle.dav_store.proofs.LockLemmas.{free_if_none, stands_if_some}
