@@ -1,5 +1,5 @@
 //! A list of locks in memory (RFC 4918, sections 6 and 7).
-ghost use Rattle.std.specs.Prelude.{◌≡◌, ◌&&◌, ◌||◌, ◌+◌, ◌++◌, ◌∷◌, ◌<◌, ◌≤◌, not, [], map, length, get_or, set, IfOk, IfErr, OnOk, OnErr, IfSome, MatchOption, Some, None, Contains, true, bytes_eq, string_bytes, option_copied, position, take};
+ghost use Rattle.std.specs.Prelude.{◌≡◌, ◌&&◌, ◌||◌, ◌+◌, ◌++◌, ◌∷◌, ◌≤◌, not, [], map, IfOk, IfErr, OnOk, OnErr, IfSome, MatchOption, Some, None, Contains, true, bytes_eq, string_bytes, option_copied, position, take};
 ghost use Rattle.std.specs.List.{list_any, filter};
 ghost use Rattle.std.specs.Option.{option_map};
 ghost use Rattle.dav_core.specs.Path.{names, is_same_path, is_below, is_at_or_below};
@@ -7,6 +7,9 @@ ghost use Rattle.dav_core.specs.Locks.{Lock, Checks, lent, covers, asker_of, is_
 ghost use Rattle.dav_core.specs.LockRefusals.{IsRefusedRefresh};
 ghost use Rattle.dav_core.specs.Numbers.{max_u64};
 ghost use Rattle.dav_store.specs.Asking.{asker_in, IsNamedPlace};
+
+#[cfg(test)]
+mod tests;
 
 use crate::paths;
 use dav_core::davpath::DavPath;
