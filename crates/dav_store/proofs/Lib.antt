@@ -4,3 +4,6 @@ pub mod PropertyLemmas
 pub mod MemberLemmas
 pub mod CopyLemmas
 pub mod AskingLemmas
+pub mod FrontLemmas
+pub mod LockLemmas
+pub mod NamedLemmas

@@ -3,3 +3,4 @@ pub mod NodeCode
 pub mod KindOf
 pub mod Answered
 pub mod Listing
+pub mod Asking

@@ -3,6 +3,7 @@
 
 mod entries;
 pub mod memfs;
+pub mod memls;
 mod names;
 mod node;
 mod paths;
