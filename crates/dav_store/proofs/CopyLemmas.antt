@@ -1,8 +1,7 @@
 -- A copy over a file that is there.
-use Rattle.std.proofs.Common.{◌≡◌, ℕ, ◌+◌, Option, Some, refl, sym, ap, subst, ◌∙◌}
-use Rattle.std.specs.FinMap.{find}
-use Rattle.dav_core.specs.Path.{Path, path_cmp}
-use Rattle.dav_core.specs.World.{World, Node, Nodes, adjust, node_at}
+use Rattle.std.proofs.Common.{◌≡◌, ℕ, ◌+◌, Option, Some, sym, ap, ◌∙◌}
+use Rattle.dav_core.specs.Path.{Path}
+use Rattle.dav_core.specs.World.{Node, Nodes, adjust, node_at}
 use Rattle.dav_core.specs.Calls.{with_copy, copied_over}
 use Rattle.dav_store.specs.Store.{Store}
 

@@ -1,9 +1,9 @@
 -- Members of a folder.
-use Rattle.std.proofs.Common.{◌≡◌, ℕ, zero, suc, ◌<◌, ◌||◌, Bool, true, List, [], ◌∷◌, All, map, length, get_or, drop, Option, Some, None, refl, ap, arith}
+use Rattle.std.proofs.Common.{◌≡◌, ℕ, zero, suc, ◌<◌, ◌||◌, Bool, List, [], ◌∷◌, All, map, length, get_or, drop, Option, Some, None, refl, ap, arith}
 use Rattle.std.specs.List.{list_any, cons_option}
 use Rattle.std.specs.Option.{is_some, option_map}
 use Rattle.dav_core.specs.Path.{Path, only_name, rest_after, is_nonempty}
-use Rattle.dav_core.specs.World.{Node, Nodes, members, is_folder_kind}
+use Rattle.dav_core.specs.World.{Nodes, members, is_folder_kind}
 
 some_step : (o : Option (List ℕ)) (dir rest : Bool) (ms : List (List ℕ × Bool)) → rest ≡ is_nonempty ms
     → (is_some o || rest) ≡ is_nonempty (cons_option (option_map (λ name. (name, dir)) o) ms)

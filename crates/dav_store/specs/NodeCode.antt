@@ -1,10 +1,9 @@
 -- How the logic stores what a store in memory holds: as tuples of the parts.
 use Rattle.std.specs.Prelude.{◌≡◌, ℕ, Bool, List, Option, Some, None, refl}
 use Rattle.std.specs.Coded.{Coded, code_by, coded_ℕ, coded_bool, coded_list, coded_option, coded×}
-use Rattle.dav_core.specs.Path.{Path}
 use Rattle.dav_core.specs.Property.{Properties}
 use Rattle.dav_core.specs.PropertyCode.{coded_properties}
-use Rattle.dav_core.specs.World.{World, Node, Nodes, Kind, Folder, File}
+use Rattle.dav_core.specs.World.{Node, Nodes, Kind, Folder, File}
 use Rattle.dav_store.specs.Store.{Store}
 
 abbrev bytes_code : Coded (List ℕ)

@@ -1,9 +1,8 @@
 use Rattle.std.proofs.Common.{◌≡◌, Some, inl, refl, arith}
 use Rattle.std.proofs.lemmas.Grind.{common_steps}
 use Rattle.dav_core.specs.Path.{names}
-use Rattle.dav_core.specs.World.{Nodes, adjust, node_at}
+use Rattle.dav_core.specs.World.{adjust, node_at}
 use Rattle.dav_core.specs.Calls.{copied_over}
-use Rattle.dav_store.specs.Store.{Store}
 use Rattle.dav_store.proofs.CopyLemmas.{copied_in}
 use Rattle.dav_store.proofs.memfs.MemFs.put_copy.Goals as goal
 

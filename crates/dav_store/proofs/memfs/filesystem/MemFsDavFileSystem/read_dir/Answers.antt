@@ -1,4 +1,3 @@
-use Rattle.std.proofs.Common.{◌≡◌, map}
 use Rattle.std.proofs.lemmas.Result.{IfOk-weaker}
 use Rattle.dav_core.specs.Path.{names}
 use Rattle.dav_store.proofs.MemberLemmas.{all_same}
