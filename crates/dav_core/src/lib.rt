@@ -1,4 +1,4 @@
-//! Paths, and what a file store means (RFC 4918, section 5; RFC 3986).
+//! Paths, errors, elements and methods, and what file stores and lists of locks are (RFC 3986; RFC 4918, sections 4 to 7).
 #![tactic(auto)]
 
 pub mod davpath;
