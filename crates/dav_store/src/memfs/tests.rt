@@ -173,3 +173,15 @@ fn bounds_files(rt: HostRuntime) -> Result<(), Fail> {
     );
     Ok(())
 }
+
+#[test]
+fn tells_what_it_has(rt: HostRuntime) -> Result<(), Fail> {
+    let mut fs = MemFs::new(rt.alloc())?;
+    let root = path(rt.alloc(), "/")?;
+    assert!(rt; fs.have_props(&root));
+    assert_eq!(rt; fs.get_quota().err(), Some(FsError::NotImplemented));
+    assert_eq!(rt; fs.set_accessed(&root, 1), Err(FsError::NotImplemented));
+    assert_eq!(rt; fs.set_modified(&root, 1), Err(FsError::NotImplemented));
+    assert_eq!(rt; fs.symlink_metadata(&root)?.number, Some(0));
+    Ok(())
+}
