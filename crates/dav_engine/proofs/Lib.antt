@@ -1,0 +1,6 @@
+pub mod DateLemmas
+pub mod Following
+pub mod PlanLemmas
+pub mod PutLemmas
+pub mod HeaderLemmas
+pub mod PlanAnswers

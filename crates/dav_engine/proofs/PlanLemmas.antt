@@ -1,0 +1,138 @@
+-- The laws over plans, each by recursion on what was done.
+use Rattle.std.proofs.Common.{◌≡◌, ◌⊎◌, inl, inr, false, true≢false, List, [], ◌∷◌, Option, Some, None, Result, Err, refl, sym, subst, ap, ◌∙◌}
+use Rattle.dav_core.specs.declared.errors.FsError.{FsError}
+use Rattle.dav_core.specs.declared.errors.FsError.TheVariants.{GeneralFailure, InsufficientStorage}
+use Rattle.dav_core.specs.Asking.{Call, Answer, StoreState, Asks, asked, ran_short, ask, rest_of}
+use Rattle.dav_core.specs.World.{World}
+use Rattle.dav_engine.specs.Plan.{Plan, Done, Ask, Look, Keep, Locks, kept, Ran, ran_done, ran_ask, ran_look, ran_keep, Cut, cut_first, cut_refused, cut_ask, cut_look, cut_keep, Refused, refused_done, refused_ask, refused_look, refused_keep}
+use Rattle.dav_engine.specs.PlanLaws.{ample}
+
+-- the flag is never taken back
+asks_unset : {c : Call} {old new : StoreState} {answer : Result (Answer c) FsError} → Asks c old answer new → new.short ≡ false → old.short ≡ false
+asks_unset (asked is left flag) u = sym flag ∙ u
+asks_unset (ran_short takes ready is same left flag) u = absurd (true≢false (sym flag ∙ u))
+
+pub ran_unset : {A : Type 0} {plan : Plan A} {old new : StoreState} {ls ms : Locks} {a : A} → Ran Asks plan old ls a new ms → new.short ≡ false → old.short ≡ false
+ran_unset ran_done u = u
+ran_unset (ran_ask one rest) u = asks_unset one (ran_unset rest u)
+ran_unset (ran_look rest) u = ran_unset rest u
+ran_unset (ran_keep rest) u = ran_unset rest u
+
+-- where memory was not wanted, an answer and what is left are determined
+asks_same : {c : Call} {old s t : StoreState} {a b : Result (Answer c) FsError} → Asks c old a s → s.short ≡ false → Asks c old b t → t.short ≡ false → (a ≡ b) × (s ≡ t)
+asks_same (asked is left flag) u (asked is' left' flag') u' =
+    let both = is ∙ sym is' in
+    (ap (λ p. p.0) both, λ i. record { world = (both i).1; refusals = (left ∙ sym left') i; short = (flag ∙ sym flag') i })
+asks_same (ran_short takes ready is same left flag) u other u' = absurd (true≢false (sym flag ∙ u))
+asks_same (asked is left flag) u (ran_short takes ready is' same left' flag') u' = absurd (true≢false (sym flag' ∙ u'))
+
+pub ran_same : {A : Type 0} {plan : Plan A} {old s t : StoreState} {ls ks ms : Locks} {a b : A}
+    → Ran Asks plan old ls a s ks → s.short ≡ false → Ran Asks plan old ls b t ms → t.short ≡ false → (a ≡ b) × (s ≡ t) × (ks ≡ ms)
+ran_same ran_done u ran_done u' = (refl, refl, refl)
+ran_same (ran_ask {go = go} {mid = mid} {ls = ls} {answer = x} one rest) u (ran_ask {mid = mid'} {new = t} {ms = ms} {answer = y} {a = b} one' rest') u' =
+    let (same, left) = asks_same one (ran_unset rest u) one' (ran_unset rest' u') in
+    ran_same rest u (subst (λ z. Ran Asks (go z) mid ls b t ms) (sym same) (subst (λ s. Ran Asks (go y) s ls b t ms) (sym left) rest')) u'
+ran_same (ran_look rest) u (ran_look rest') u' = ran_same rest u rest' u'
+ran_same (ran_keep rest) u (ran_keep rest') u' = ran_same rest u rest' u'
+
+-- what a plan comes to where memory is not wanted
+pub record Comes {A : Type 0} (plan : Plan A) (old : StoreState) (ls : Locks) : Type 0 where
+  pub outcome : A
+  pub new : StoreState
+  pub locks : Locks
+  pub ran : Ran Asks plan old ls outcome new locks
+  pub flag : new.short ≡ old.short
+
+pub comes : {A : Type 0} (plan : Plan A) (old : StoreState) (ls : Locks) → Comes plan old ls
+comes (Done a) old ls = record { outcome = a; new = old; locks = ls; ran = ran_done; flag = refl }
+comes (Ask c go) old ls =
+    let both = ask c old.world old.refusals in
+    let mid : StoreState = record { world = both.1; refusals = rest_of old.refusals; short = old.short } in
+    let rest = comes (go both.0) mid ls in
+    record { outcome = rest.outcome; new = rest.new; locks = rest.locks; ran = ran_ask (asked refl refl refl) rest.ran; flag = rest.flag }
+comes (Look go) old ls = let rest = comes (go ls) old ls in
+    record { outcome = rest.outcome; new = rest.new; locks = rest.locks; ran = ran_look rest.ran; flag = rest.flag }
+comes (Keep locks more) old ls = let rest = comes more old (kept ls locks) in
+    record { outcome = rest.outcome; new = rest.new; locks = rest.locks; ran = ran_keep rest.ran; flag = rest.flag }
+
+-- the entry of a list of refusals under which a call goes as it went
+pub record Met (c : Call) (old : World) (answer : Result (Answer c) FsError) (new : World) : Type 0 where
+  pub entry : Option FsError
+  pub again : (more : List (Option FsError)) → Asks c (ample old (entry ∷ more)) answer (ample new more)
+
+met_at : {c : Call} {answer : Result (Answer c) FsError} (w v : World) (refusals : List (Option FsError)) → (answer, v) ≡ ask c w refusals → Met c w answer v
+met_at w v [] is = record { entry = None; again = λ more. asked is refl refl }
+met_at w v (None ∷ rs) is = record { entry = None; again = λ more. asked is refl refl }
+met_at w v (Some e ∷ rs) is = record { entry = Some e; again = λ more. asked is refl refl }
+
+pub asks_met : {c : Call} {old new : StoreState} {answer : Result (Answer c) FsError} → Asks c old answer new → Met c old.world answer new.world
+asks_met {old = old} {new = new} (asked is left flag) = met_at old.world new.world old.refusals is
+asks_met (ran_short takes ready is same left flag) = record {
+  entry = Some InsufficientStorage;
+  again = λ more. asked (λ i. (is i, same i)) refl refl;
+}
+
+pub record Again {A : Type 0} (plan : Plan A) (old new : World) (ls ms : Locks) (a : A) : Type 0 where
+  pub refusals : List (Option FsError)
+  pub ran : Ran Asks plan (ample old refusals) ls a (ample new []) ms
+
+pub ran_again : {A : Type 0} {plan : Plan A} {old new : StoreState} {ls ms : Locks} {a : A} → Ran Asks plan old ls a new ms → Again plan old.world new.world ls ms a
+ran_again ran_done = record { refusals = []; ran = ran_done }
+ran_again (ran_ask one rest) =
+    let met = asks_met one in
+    let more = ran_again rest in
+    record { refusals = met.entry ∷ more.refusals; ran = ran_ask (met.again more.refusals) more.ran }
+ran_again (ran_look rest) = let more = ran_again rest in record { refusals = more.refusals; ran = ran_look more.ran }
+ran_again (ran_keep rest) = let more = ran_again rest in record { refusals = more.refusals; ran = ran_keep more.ran }
+
+-- a plan of which each call is refused
+pub record Stopped {A : Type 0} (plan : Plan A) (ls : Locks) : Type 0 where
+  pub refusals : List (Option FsError)
+  pub outcome : A
+  pub locks : Locks
+  pub ran : (w : World) → Ran Asks plan (ample w refusals) ls outcome (ample w []) locks
+
+stopped : {A : Type 0} (plan : Plan A) (ls : Locks) → Stopped plan ls
+stopped (Done a) ls = record { refusals = []; outcome = a; locks = ls; ran = λ w. ran_done }
+stopped (Ask c go) ls = let rest = stopped (go (Err GeneralFailure)) ls in
+    record { refusals = Some GeneralFailure ∷ rest.refusals; outcome = rest.outcome; locks = rest.locks; ran = λ w. ran_ask (asked refl refl refl) (rest.ran w) }
+stopped (Look go) ls = let rest = stopped (go ls) ls in
+    record { refusals = rest.refusals; outcome = rest.outcome; locks = rest.locks; ran = λ w. ran_look (rest.ran w) }
+stopped (Keep locks more) ls = let rest = stopped more (kept ls locks) in
+    record { refusals = rest.refusals; outcome = rest.outcome; locks = rest.locks; ran = λ w. ran_keep (rest.ran w) }
+
+-- the same, where the list that it leaves is known
+pub record StoppedAt {A : Type 0} (plan : Plan A) (ls ms : Locks) : Type 0 where
+  pub refusals : List (Option FsError)
+  pub outcome : A
+  pub ran : (w : World) → Ran Asks plan (ample w refusals) ls outcome (ample w []) ms
+
+stopped_at : {A : Type 0} {plan : Plan A} {ls ms : Locks} → Refused plan ls ms → StoppedAt plan ls ms
+stopped_at (refused_done {a = a}) = record { refusals = []; outcome = a; ran = λ w. ran_done }
+stopped_at (refused_ask e left) = let rest = stopped_at left in
+    record { refusals = Some e ∷ rest.refusals; outcome = rest.outcome; ran = λ w. ran_ask (asked refl refl refl) (rest.ran w) }
+stopped_at (refused_look left) = let rest = stopped_at left in
+    record { refusals = rest.refusals; outcome = rest.outcome; ran = λ w. ran_look (rest.ran w) }
+stopped_at (refused_keep left) = let rest = stopped_at left in
+    record { refusals = rest.refusals; outcome = rest.outcome; ran = λ w. ran_keep (rest.ran w) }
+
+pub record CutAgain {A : Type 0} (plan : Plan A) (old new : World) (first ls ms : Locks) : Type 0 where
+  pub refusals : List (Option FsError)
+  pub outcome : A
+  pub locks : Locks
+  pub ran : Ran Asks plan (ample old refusals) ls outcome (ample new []) locks
+  pub list : (ms ≡ first) ⊎ (ms ≡ locks)
+
+pub cut_again : {A : Type 0} {first : Locks} {plan : Plan A} {old new : StoreState} {ls ms : Locks} → Cut Asks first plan old ls new ms → CutAgain plan old.world new.world first ls ms
+cut_again (cut_first {plan = plan} {s = s} {ls = ls}) = let rest = stopped plan ls in
+    record { refusals = rest.refusals; outcome = rest.outcome; locks = rest.locks; ran = rest.ran s.world; list = inl refl }
+cut_again (cut_refused {s = s} {ms = ms} left) = let rest = stopped_at left in
+    record { refusals = rest.refusals; outcome = rest.outcome; locks = ms; ran = rest.ran s.world; list = inr refl }
+cut_again (cut_ask one rest) =
+    let met = asks_met one in
+    let more = cut_again rest in
+    record { refusals = met.entry ∷ more.refusals; outcome = more.outcome; locks = more.locks; ran = ran_ask (met.again more.refusals) more.ran; list = more.list }
+cut_again (cut_look rest) = let more = cut_again rest in
+    record { refusals = more.refusals; outcome = more.outcome; locks = more.locks; ran = ran_look more.ran; list = more.list }
+cut_again (cut_keep rest) = let more = cut_again rest in
+    record { refusals = more.refusals; outcome = more.outcome; locks = more.locks; ran = ran_keep more.ran; list = more.list }

@@ -1,0 +1,29 @@
+-- What contracts say of code that carries out a plan.
+use Rattle.std.specs.Prelude.{◌≡◌, Result, Ok, Err}
+use Rattle.dav_core.specs.declared.errors.DavError.{DavError}
+use Rattle.dav_core.specs.declared.errors.DavError.TheVariants as dav
+use Rattle.dav_core.specs.Asking.{StoreState, Asks}
+use Rattle.dav_engine.specs.Plan.{Locks, Ran, Cut}
+use Rattle.dav_engine.specs.Method.{Method}
+use Rattle.dav_engine.specs.Response.{Response, response_of}
+use Rattle.dav_engine.specs.declared.reply.Reply.{Reply}
+
+-- a result, by what its value stands for
+abbrev pub viewed : {A X : Type 0} → (X → A) → Result X DavError → Result A DavError
+viewed view (Ok x) = Ok (view x)
+viewed view (Err e) = Err e
+
+-- The plan was carried out, on any lawful store, and came to this result; or the result is want of memory, the first calls of
+-- the plan were made, and the list of locks is as before, or as the plan leaves it where each later call is refused.
+pub data Follows {A X : Type 0} (view : X → A) (plan : Method A) (old : StoreState) (ls : Locks) (result : Result X DavError) (new : StoreState) (ms : Locks) : Type 0 where
+  followed : Ran Asks plan old ls (viewed view result) new ms → Follows view plan old ls result new ms
+  gave_up : result ≡ Err dav.Memory → Cut Asks ls plan old ls new ms → Follows view plan old ls result new ms
+
+-- The same of code that has the store alone: whatever the list of locks is, it stays.
+abbrev pub Makes : {A X : Type 0} → (X → A) → Method A → StoreState → Result X DavError → StoreState → Type 0
+Makes view plan old result new = (ls : Locks) → Follows view plan old ls result new ls
+
+-- A request was answered as a plan of this kind says; or memory ran out before its plan was known, and nothing was done.
+pub data Serves (kind : Method Response → Type 0) (old : StoreState) (ls : Locks) (result : Result Reply DavError) (new : StoreState) (ms : Locks) : Type 0 where
+  served : {plan : Method Response} → kind plan → Follows response_of plan old ls result new ms → Serves kind old ls result new ms
+  not_begun : result ≡ Err dav.Memory → new ≡ old → ms ≡ ls → Serves kind old ls result new ms

@@ -1,0 +1,54 @@
+-- Methods: plans that an error may end, and the words that they are written with.
+use Rattle.std.specs.Prelude.{Bool, true, false, Result, Ok, Err}
+use Rattle.dav_core.specs.declared.errors.FsError.{FsError}
+use Rattle.dav_core.specs.declared.errors.DavError.{DavError}
+use Rattle.dav_core.specs.declared.errors.DavError.TheVariants as dav
+use Rattle.dav_core.specs.Asking.{Call, Answer}
+use Rattle.dav_engine.specs.Plan.{Plan, Done, Ask, Look, Keep}
+
+-- a plan that an error may end
+abbrev pub Method : Type 0 → Type 0
+Method A = Plan (Result A DavError)
+
+-- what follows a part that came to an end; an error is the end of all
+abbrev pub then : {A B : Type 0} → Result A DavError → (A → Method B) → Method B
+then (Ok a) f = f a
+then (Err e) f = Done (Err e)
+
+infixl 10 ◌>>=◌
+-- one part after another
+abbrev pub ◌>>=◌ : {A B : Type 0} → Method A → (A → Method B) → Method B
+(Done r) >>= f = then r f
+(Ask c go) >>= f = Ask c (λ answer. go answer >>= f)
+(Look go) >>= f = Look (λ locks. go locks >>= f)
+(Keep locks rest) >>= f = Keep locks (rest >>= f)
+
+-- the end, with this outcome
+abbrev pub gives : {A : Type 0} → A → Method A
+gives a = Done (Ok a)
+
+-- the end, with this error
+abbrev pub fails : {A : Type 0} → DavError → Method A
+fails e = Done (Err e)
+
+-- goes on where the test holds; else this error is the end
+abbrev pub require : Bool → DavError → Method (Unit {0})
+require true e = Done (Ok tt)
+require false e = Done (Err e)
+
+-- makes a call, and goes on by its answer, which may be a refusal
+abbrev pub answer_of : (c : Call) → Method (Result (Answer c) FsError)
+answer_of c = Ask c (λ answer. Done (Ok answer))
+
+-- an answer; a refusal as an error of the method
+abbrev pub refused_as : {A : Type 0} → (FsError → DavError) → Result A FsError → Result A DavError
+refused_as f (Ok a) = Ok a
+refused_as f (Err e) = Err (f e)
+
+-- makes a call; where it is refused, this error is the end
+abbrev pub ask_or : (FsError → DavError) → (c : Call) → Method (Answer c)
+ask_or f c = Ask c (λ answer. Done (refused_as f answer))
+
+-- makes a call; where it is refused, its refusal is the end
+abbrev pub ask_for : (c : Call) → Method (Answer c)
+ask_for = ask_or dav.FsError

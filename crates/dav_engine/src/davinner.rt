@@ -1,0 +1,28 @@
+//! One request at work.
+use dav_core::fs::DavFileSystem;
+use dav_core::ls::DavLockSystem;
+use dav_core::method::DavMethodSet;
+
+/// Who asks, and when.
+#[derive(Clone, Copy)]
+pub struct Caller<'c> {
+    /// Who makes the request, where that is known.
+    pub principal: Option<&'c str>,
+    /// When it is made, in seconds since 1970; at most 253402300799, which is the end of the year 9999.
+    pub moment: u64,
+    /// The token that a lock takes which the request makes.
+    pub token: Option<&'c str>,
+}
+
+/// One request at work, on a store and locks that are lent to it. The methods of a server are its calls.
+#[derive(Drop)]
+pub struct DavInner<'a, 'b, 'c, F, L> {
+    /// The store.
+    pub fs: &'a mut F,
+    /// The locks, where there is a lock system.
+    pub ls: &'a mut Option<L>,
+    /// The methods that are allowed.
+    pub allow: DavMethodSet,
+    /// Who asks.
+    pub caller: &'b Caller<'c>,
+}

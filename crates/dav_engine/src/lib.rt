@@ -1,0 +1,15 @@
+//! The methods of a WebDAV server, over any store and any locks (RFC 4918, RFC 9110).
+#![tactic(auto)]
+
+mod conditional;
+mod date;
+pub mod davinner;
+mod handle_put;
+mod headers;
+pub mod laws;
+pub mod reply;
+pub mod request;
+
+pub use davinner::{Caller, DavInner};
+pub use reply::{Reply, ReplyBody};
+pub use request::{Body, DavRequest};

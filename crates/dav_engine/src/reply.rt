@@ -1,0 +1,114 @@
+//! Replies (RFC 9110, sections 8 and 15).
+ghost use Rattle.std.specs.Prelude.{◌≡◌, ◌≤◌, codes, decimal, IfOk, OnOk};
+ghost use Rattle.http_header.specs.HeaderMap.{insert};
+ghost use Rattle.http_header.specs.FieldValue.{plain_value};
+ghost use Rattle.dav_core.specs.Metadata.{tag_of};
+ghost use Rattle.dav_core.specs.World.{last_moment};
+ghost use Rattle.dav_engine.specs.Response.{response_of, error_reply, with_tag, with_validators};
+
+use crate::date::date_value;
+use bytes::Bytes;
+use dav_core::element::Element;
+use dav_core::errors::{DavError, NoMemory};
+use dav_core::fs::DavMetaData;
+use http::StatusCode;
+use http_header::{HeaderMap, HeaderName, HeaderValue};
+use std::alloc::Global;
+
+/// The body of a reply.
+#[derive(Drop)]
+pub enum ReplyBody {
+    /// No body.
+    Nothing,
+    /// These bytes.
+    Bytes(Bytes),
+    /// An element tree, which is sent as XML (RFC 4918, section 8.2).
+    Tree(Element),
+}
+
+/// A reply: its status, its headers and its body.
+#[derive(Drop)]
+pub struct Reply {
+    /// The status (RFC 9110, section 15).
+    pub status: StatusCode,
+    /// The headers.
+    pub headers: HeaderMap,
+    /// The body.
+    pub body: ReplyBody,
+}
+
+/// Sets a header, in the place of those that it had.
+pub fn set_header(
+    headers: &mut HeaderMap,
+    name: HeaderName,
+    value: HeaderValue,
+) -> Result<(), NoMemory>
+    ensures { OnOk result (headers.new ≡ insert headers.old name value) }
+{
+    match headers.insert(name, value) {
+        Ok(_) => Ok(()),
+        Err(_) => Err(NoMemory),
+    }
+}
+
+// The tag of a change number, in quotes (RFC 9110, section 8.8.3).
+fn tag_value(alloc: Global, number: u64) -> Result<HeaderValue, NoMemory>
+    ensures { IfOk result (λ v. v ≡ plain_value (tag_of number)) }
+{
+    let tag = format!(in alloc; "\"{number:x}\"")?;
+    HeaderValue::from_string(tag).map_err(|_| NoMemory)
+}
+
+// Sets the tag of what has a number.
+fn set_tag(alloc: Global, headers: &mut HeaderMap, number: Option<u64>) -> Result<(), NoMemory>
+    ensures { OnOk result (headers.new ≡ with_tag headers.old number) }
+{
+    let Some(number) = number else {
+        return Ok(());
+    };
+    let tag = tag_value(alloc, number)?;
+    set_header(headers, HeaderName::from_static("etag"), tag)
+}
+
+/// Sets what a file is known by later: its tag (RFC 9110, section 8.8.3), where it has a number, and when it was last
+/// changed (section 8.8.2).
+pub fn set_validators(
+    alloc: Global,
+    headers: &mut HeaderMap,
+    file: &DavMetaData,
+) -> Result<(), NoMemory>
+    requires { file.now.modified ≤ last_moment }
+    ensures { OnOk result (headers.new ≡ with_validators headers.old file.now) }
+{
+    set_tag(alloc, headers, file.number)?;
+    let date = date_value(alloc, file.modified)?;
+    set_header(headers, HeaderName::from_static("last-modified"), date)
+}
+
+/// Sets how many bytes the body has (RFC 9110, section 8.6).
+pub fn set_length(alloc: Global, headers: &mut HeaderMap, len: u64) -> Result<(), NoMemory>
+    ensures { OnOk result (headers.new ≡ insert headers.old (codes "content-length") (plain_value (decimal len))) }
+{
+    let value = HeaderValue::from_u64(alloc, len)?;
+    set_header(headers, HeaderName::from_static("content-length"), value)
+}
+
+impl Reply {
+    /// The reply to a request that an error ended: its status without a body, and where it says so the connection closes
+    /// behind it (RFC 9110, section 7.6.1).
+    pub fn of_error(alloc: Global, error: DavError) -> Result<Reply, NoMemory>
+        ensures { IfOk result (λ r. response_of r ≡ error_reply error) }
+    {
+        let mut headers = HeaderMap::new(alloc);
+        if error.must_close() {
+            let close = HeaderValue::from_static("close");
+            set_header(&mut headers, HeaderName::from_static("connection"), close)?;
+        }
+        set_length(alloc, &mut headers, 0)?;
+        Ok(Reply {
+            status: error.statuscode(),
+            headers,
+            body: ReplyBody::Nothing,
+        })
+    }
+}
