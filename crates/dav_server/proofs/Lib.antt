@@ -1,1 +1,3 @@
+pub mod HeadLemmas
 pub mod RefusalLemmas
+pub mod HeaderLemmas

@@ -1,4 +1,8 @@
 //! A WebDAV server: from the bytes of a request to what its method is handed (RFC 9112; RFC 4918, section 8).
 #![tactic(auto)]
 
+pub mod head;
+pub mod laws;
+pub mod method;
 pub mod refusing;
+pub mod target;

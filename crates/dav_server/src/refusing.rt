@@ -1,6 +1,9 @@
 //! A file store that refuses calls by a list.
 ghost use Rattle.std.specs.Prelude.{◌≡◌, []};
 
+#[cfg(test)]
+mod tests;
+
 use bytes::{Buf, Bytes};
 use dav_core::davpath::DavPath;
 use dav_core::element::Element;
