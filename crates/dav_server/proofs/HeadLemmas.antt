@@ -1,5 +1,5 @@
 -- What is known of heads from their definition alone.
-use Rattle.std.proofs.Common.{◌≡◌, ℕ, ◌≤◌, IsTrue, List, [], ◌∷◌, length, map, take, All, sym, ap, ◌∙◌, refl, subst, arith, length-append}
+use Rattle.std.proofs.Common.{◌≡◌, ℕ, ◌≤◌, List, [], ◌∷◌, length, map, take, All, sym, ap, ◌∙◌, refl, arith, length-append}
 use Rattle.std.proofs.lemmas.List.Elements.{All-nil, All-cons, All-head, All-tail}
 use Rattle.std.specs.List.{flat_map}
 use Rattle.httparse.specs.Grammar.{Field, IsField, RequestHead, ReadsRequest, print_field, print_request, is_token_byte, is_value_byte, field_value}
@@ -12,7 +12,7 @@ use Rattle.http_header.specs.FieldName.{IsFieldName}
 use Rattle.http_header.specs.FieldValue.{IsFieldValue}
 use Rattle.http_header.specs.Token as header
 use Rattle.dav_server.specs.HeadInside.{AreHeadersOf}
-use Rattle.dav_server.specs.Head.{Request, IsHead, AreFields, OneHead, request_of_head}
+use Rattle.dav_server.specs.Head.{AreFields, OneHead, request_of_head}
 
 -- bytes are a head in one way
 pub one_head : OneHead

@@ -6,3 +6,5 @@ pub mod Refusals
 pub mod RefusalList
 pub mod Target
 pub mod TargetCode
+pub mod GrantToken
+pub mod Token

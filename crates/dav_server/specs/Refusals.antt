@@ -5,7 +5,7 @@ use Rattle.dav_core.specs.Asking.{StoreState}
 
 -- What contracts see of a store with a list before it: the store, and the entries of the list that are left, one for each
 -- call to come, an error where that call is refused.
-pub record Guarded (F : Type 0) : Type 0 where
+pub record BehindList (F : Type 0) : Type 0 where
   pub inner : F
   pub coming : List (Option FsError)
 

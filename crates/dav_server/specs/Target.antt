@@ -1,6 +1,6 @@
 -- What the target of a request names (RFC 9112, section 3.2).
-use Rattle.std.specs.Prelude.{◌≡◌, ◌≢◌, ◌⊎◌, ℕ, List, [], ◌∷◌, Contains, Option, Some, None, Result, Ok, Err}
-use Rattle.http_uri.specs.Grammar.{IsUriText}
+use Rattle.std.specs.Prelude.{◌≡◌, ◌≢◌, ◌⊎◌, ℕ, List, [], ◌∷◌, Contains, Some, None, Result, Ok, Err}
+use Rattle.http_uri.specs.Grammar.{IsUriText, or_slash}
 use Rattle.dav_core.specs.declared.errors.ParseError.TheVariants as parse
 use Rattle.dav_core.specs.declared.errors.DavError.{DavError}
 use Rattle.dav_core.specs.declared.errors.DavError.TheVariants as dav
@@ -13,11 +13,13 @@ use Rattle.dav_core.specs.Target.{Reads, IsRefused}
 abbrev pub BeginsWithSlash : List ℕ → Type 0
 BeginsWithSlash target = (rest : List ℕ) × (target ≡ 47 ∷ rest)
 
--- The absolute form (RFC 9112, section 3.2.2): a URI with a scheme and an authority and without `#`. Behind the authority
--- stands this text, or nothing, which counts as a slash.
+-- The absolute form (RFC 9112, section 3.2.2): a URI with a scheme and an authority and without `#`. What stands
+-- behind the authority is the text; nothing counts as a slash.
 abbrev pub IsAbsolute : List ℕ → List ℕ → Type 0
 IsAbsolute target text =
-    ¬ Contains target 35 × (scheme : List ℕ) × (authority : List ℕ) × IsUriText target (Some scheme) (Some authority) text
+    ¬ Contains target 35
+    × (scheme : List ℕ) × (authority : List ℕ) × (behind : List ℕ)
+    × IsUriText target (Some scheme) (Some authority) behind × (text ≡ or_slash behind)
 
 -- the text in the target that is to name a path: in origin form all of it
 abbrev pub HasPathText : List ℕ → List ℕ → Type 0

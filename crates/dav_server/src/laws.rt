@@ -1,6 +1,7 @@
-//! Laws of heads and their headers. Each function does nothing: its contract is a theorem on the definitions.
+//! Laws of heads, their headers and targets. Each function does nothing: its contract is a theorem on the definitions.
 ghost use Rattle.dav_server.specs.Head.{OneHead};
 ghost use Rattle.dav_server.specs.Headers.{KeepsValues};
+ghost use Rattle.dav_server.specs.Target.{OneOutcome};
 
 /// Bytes are a head in one way.
 pub fn heads_say_one_thing()
@@ -12,4 +13,9 @@ pub fn heads_say_one_thing()
 #[tactic(auto, using(crate::proofs::HeaderLemmas::keeps_values))]
 pub fn headers_keep_values()
     ensures { KeepsValues }
+{}
+
+/// The target of a request comes to one path, or to one error.
+pub fn targets_name_one_thing()
+    ensures { OneOutcome }
 {}

@@ -25,8 +25,9 @@ pub struct Refusing<F> {
 
 impl<F> Model for Refusing<F> {
     ghost use Rattle.std.specs.Prelude.{drop};
-    ghost use Rattle.dav_server.specs.Refusals.{Guarded};
-    ghost Value = { Guarded F };
+    ghost use Rattle.dav_server.specs.Refusals.{BehindList};
+
+    ghost Value = { BehindList F };
 
     ghost use Rattle.dav_server.specs.RefusalList.{left};
 
@@ -83,13 +84,7 @@ impl<F: DavFileSystem> Refusing<F> {
     }
 }
 
-#[tactic(
-    auto,
-    using(
-        crate::proofs::RefusalLemmas::over_refused,
-        crate::proofs::RefusalLemmas::over_passed
-    )
-)]
+#[tactic(auto, using(crate::proofs::RefusalLemmas::over_refused, crate::proofs::RefusalLemmas::over_passed))]
 impl<F: DavFileSystem> DavFileSystem for Refusing<F> {
     type File = F::File;
 
@@ -201,7 +196,12 @@ impl<F: DavFileSystem> DavFileSystem for Refusing<F> {
         }
     }
 
-    fn get_props(&mut self, alloc: Global, path: &DavPath, content: bool) -> FsResult<Vec<DavProp>> {
+    fn get_props(
+        &mut self,
+        alloc: Global,
+        path: &DavPath,
+        content: bool,
+    ) -> FsResult<Vec<DavProp>> {
         match self.take() {
             Some(error) => Err(error),
             None => self.inner.get_props(alloc, path, content),

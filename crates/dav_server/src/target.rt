@@ -1,9 +1,9 @@
 //! The target of a request (RFC 9112, section 3.2).
 ghost use Rattle.std.specs.Prelude.{◌≡◌, ◌↔◌, ℕ, List, Contains, IsTrue};
 ghost use Rattle.std.specs.Option.{option_copied};
-ghost use Rattle.dav_core.specs.Path.{star};
+ghost use Rattle.dav_core.specs.Path.{star, full_bytes, prefix_cut, without_slash};
 ghost use Rattle.dav_server.specs.Target.{BeginsWithSlash};
-ghost use Rattle.dav_server.specs.TargetCode.{GivesPath, GivesRead, GivesTail};
+ghost use Rattle.dav_server.specs.TargetCode.{GivesPath, GivesRead, GivesNamed, GivesCut, GivesTail};
 
 #[cfg(test)]
 mod tests;
@@ -28,9 +28,8 @@ pub fn path_of(alloc: Global, method: DavMethod, target: &str, prefix: &str) -> 
     if is_star(target) {
         return server_path(alloc, method, target);
     }
-    let mut path = read(alloc, target)?;
-    path.set_prefix(prefix)?;
-    Ok(path)
+    let path = read(alloc, target)?;
+    cut(path, prefix)
 }
 
 // The path of the whole server, for OPTIONS.
@@ -38,10 +37,10 @@ fn server_path(alloc: Global, method: DavMethod, target: &str) -> DavResult<DavP
     requires { target.now ≡ star }
     ensures { (prefix : List ℕ) → GivesPath prefix method target.now result }
 {
-    if method != DavMethod::Options {
-        return Err(DavError::Status(StatusCode::BAD_REQUEST));
+    match method {
+        DavMethod::Options => named(alloc, target),
+        _ => Err(DavError::Status(StatusCode::BAD_REQUEST)),
     }
-    Ok(DavPath::new(alloc, target)?)
 }
 
 // The path in a target, without a prefix.
@@ -49,7 +48,7 @@ fn read(alloc: Global, target: &str) -> DavResult<DavPath>
     ensures { GivesRead target.now result }
 {
     if begins_with_slash(target) {
-        return Ok(DavPath::new(alloc, target)?);
+        return named(alloc, target);
     }
     if has_fragment(target) {
         return Err(DavError::Status(StatusCode::BAD_REQUEST));
@@ -60,9 +59,24 @@ fn read(alloc: Global, target: &str) -> DavResult<DavPath>
         Err(UriError::Invalid(_)) => return Err(DavError::Status(StatusCode::BAD_REQUEST)),
     };
     match tail(&uri) {
-        Some(text) => Ok(DavPath::new(alloc, text)?),
+        Some(text) => named(alloc, text),
         None => Err(DavError::Status(StatusCode::BAD_REQUEST)),
     }
+}
+
+// The path that a text names.
+fn named(alloc: Global, text: &str) -> DavResult<DavPath>
+    ensures { GivesNamed text.now result }
+{
+    Ok(DavPath::new(alloc, text)?)
+}
+
+// The path behind a prefix.
+fn cut(mut path: DavPath, prefix: &str) -> DavResult<DavPath>
+    ensures { GivesCut (prefix_cut (without_slash prefix.now) (full_bytes path)) result }
+{
+    path.set_prefix(prefix)?;
+    Ok(path)
 }
 
 fn is_star(target: &str) -> bool

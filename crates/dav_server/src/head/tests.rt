@@ -103,8 +103,14 @@ fn collects_headers(rt: HostRuntime) -> Result<(), Fail> {
         Some(b"b\xff".as_slice())
     );
     assert!(rt; values.next().is_none());
-    assert_eq!(rt; headers.get("x").map(|v| v.as_bytes()), Some(b"y".as_slice()));
-    assert_eq!(rt; headers.get("z").map(|v| v.as_bytes()), Some(b"".as_slice()));
+    assert_eq!(rt;
+        headers.get("x").map(|v| v.as_bytes()),
+        Some(b"y".as_slice())
+    );
+    assert_eq!(rt;
+        headers.get("z").map(|v| v.as_bytes()),
+        Some(b"".as_slice())
+    );
     assert!(rt; headers.get("i").is_none());
     Ok(())
 }

@@ -24,7 +24,16 @@ fn knows_what_is_served(rt: HostRuntime) {
 
 #[test]
 fn refuses_other_methods(rt: HostRuntime) {
-    for name in ["", "FOO", "get", "Get", "GETS", "REPORT", "MKCALENDAR", "MKADDRESSBOOK"] {
+    for name in [
+        "",
+        "FOO",
+        "get",
+        "Get",
+        "GETS",
+        "REPORT",
+        "MKCALENDAR",
+        "MKADDRESSBOOK",
+    ] {
         assert_eq!(rt; method_of(name.as_bytes()), Err(DavError::UnknownDavMethod));
     }
 }

@@ -12,12 +12,24 @@ fn takes_the_next_entry_at_each_call(rt: HostRuntime) -> Result<(), Fail> {
     let mut fs = Refusing::new(MemFs::new(rt.alloc())?);
     let root = DavPath::new(rt.alloc(), "/")?;
     let d = DavPath::new(rt.alloc(), "/d")?;
-    fs.load(vec![in rt.alloc(); None, Some(FsError::Forbidden), Some(FsError::LoopDetected), None]?);
+    fs.load(vec![in rt.alloc();
+        None,
+        Some(FsError::Forbidden),
+        Some(FsError::LoopDetected),
+        None,
+    ]?);
     fs.create_dir(rt.alloc(), &d, 1)?;
     assert_eq!(rt; error_of(fs.metadata(&d)), Some(FsError::Forbidden));
-    assert_eq!(rt; error_of(fs.symlink_metadata(&d)), Some(FsError::LoopDetected));
+    assert_eq!(rt;
+        error_of(fs.symlink_metadata(&d)),
+        Some(FsError::LoopDetected)
+    );
     assert_eq!(rt; fs.symlink_metadata(&d).map(|m| m.dir), Ok(true));
-    assert_eq!(rt; fs.read_dir(rt.alloc(), &root, ReadDirMeta::DataSymlink)?.len(), 1);
+    assert_eq!(rt;
+        fs.read_dir(rt.alloc(), &root, ReadDirMeta::DataSymlink)?
+            .len(),
+        1
+    );
     Ok(())
 }
 
@@ -29,7 +41,14 @@ fn counts_all_calls_of_the_store(rt: HostRuntime) -> Result<(), Fail> {
         create: true,
         ..OpenOptions::write()
     };
-    fs.load(vec![in rt.alloc(); None, Some(FsError::TooLarge), None, Some(FsError::IsRemote), Some(FsError::Exists), None]?);
+    fs.load(vec![in rt.alloc();
+        None,
+        Some(FsError::TooLarge),
+        None,
+        Some(FsError::IsRemote),
+        Some(FsError::Exists),
+        None,
+    ]?);
     let mut file = fs.open(rt.alloc(), &f, &options, 1)?;
     assert!(rt; !fs.was_short());
     let refused = fs.write_bytes(rt.alloc(), &mut file, Bytes::from_static(b"ab"), 1);

@@ -49,11 +49,26 @@ fn refuses_targets(rt: HostRuntime) {
 #[test]
 fn cuts_the_prefix(rt: HostRuntime) -> Result<(), Fail> {
     for prefix in ["/dav", "/dav/"] {
-        assert_eq!(rt; named(rt.alloc(), "/dav/a", prefix)?.as_slice(), b"/a".as_slice());
-        assert_eq!(rt; named(rt.alloc(), "/dav", prefix)?.as_slice(), b"/".as_slice());
-        assert_eq!(rt; named(rt.alloc(), "http://h/dav/a", prefix)?.as_slice(), b"/a".as_slice());
-        assert_eq!(rt; named(rt.alloc(), "/davx", prefix).err(), Some(DavError::IllegalPath));
-        assert_eq!(rt; named(rt.alloc(), "/other", prefix).err(), Some(DavError::IllegalPath));
+        assert_eq!(rt;
+            named(rt.alloc(), "/dav/a", prefix)?.as_slice(),
+            b"/a".as_slice()
+        );
+        assert_eq!(rt;
+            named(rt.alloc(), "/dav", prefix)?.as_slice(),
+            b"/".as_slice()
+        );
+        assert_eq!(rt;
+            named(rt.alloc(), "http://h/dav/a", prefix)?.as_slice(),
+            b"/a".as_slice()
+        );
+        assert_eq!(rt;
+            named(rt.alloc(), "/davx", prefix).err(),
+            Some(DavError::IllegalPath)
+        );
+        assert_eq!(rt;
+            named(rt.alloc(), "/other", prefix).err(),
+            Some(DavError::IllegalPath)
+        );
     }
     Ok(())
 }
