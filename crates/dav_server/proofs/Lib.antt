@@ -1,0 +1,4 @@
+pub mod HeadLemmas
+pub mod RefusalLemmas
+pub mod HeaderLemmas
+pub mod TargetLemmas

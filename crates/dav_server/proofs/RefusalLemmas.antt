@@ -1,0 +1,18 @@
+-- What a list of refusals before a store does at the next call.
+use Rattle.std.proofs.Common.{◌≡◌, List, [], ◌∷◌, Option, Some, None, refl}
+use Rattle.dav_core.specs.declared.errors.FsError.{FsError}
+use Rattle.dav_core.specs.Asking.{rest_of, next_refusal}
+use Rattle.dav_server.specs.Refusals.{over}
+
+-- an error at its head refuses the call, and the store's own refusals stay
+pub over_refused : (list inner : List (Option FsError)) (e : FsError) → next_refusal list ≡ Some e → (next_refusal (over list inner) ≡ Some e) × (rest_of (over list inner) ≡ over (rest_of list) inner)
+over_refused [] inner e h = cc
+over_refused (Some x ∷ list) inner e h = (h, refl)
+over_refused (None ∷ list) inner e h = cc
+
+-- without one the call is the store's to refuse
+pub over_passed : (list inner : List (Option FsError)) → next_refusal list ≡ None → (next_refusal (over list inner) ≡ next_refusal inner) × (rest_of (over list inner) ≡ over (rest_of list) (rest_of inner))
+over_passed [] inner h = (refl, refl)
+over_passed (Some x ∷ list) inner h = cc
+over_passed (None ∷ list) [] h = (refl, refl)
+over_passed (None ∷ list) (r ∷ inner) h = (refl, refl)

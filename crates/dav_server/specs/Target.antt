@@ -1,0 +1,49 @@
+-- What the target of a request names (RFC 9112, section 3.2).
+use Rattle.std.specs.Prelude.{◌≡◌, ◌≢◌, ◌⊎◌, ℕ, List, [], ◌∷◌, Contains, Some, None, Result, Ok, Err}
+use Rattle.http_uri.specs.Grammar.{IsUriText, or_slash}
+use Rattle.dav_core.specs.declared.errors.ParseError.TheVariants as parse
+use Rattle.dav_core.specs.declared.errors.DavError.{DavError}
+use Rattle.dav_core.specs.declared.errors.DavError.TheVariants as dav
+use Rattle.dav_core.specs.declared.method.DavMethod.{DavMethod}
+use Rattle.dav_core.specs.declared.method.DavMethod.TheVariants.{Options}
+use Rattle.dav_core.specs.Path.{PathText, prefix_cut, star, without_slash}
+use Rattle.dav_core.specs.Target.{Reads, IsRefused}
+
+-- a slash in front: the origin form (RFC 9112, section 3.2.1)
+abbrev pub BeginsWithSlash : List ℕ → Type 0
+BeginsWithSlash target = (rest : List ℕ) × (target ≡ 47 ∷ rest)
+
+-- The absolute form (RFC 9112, section 3.2.2): a URI with a scheme and an authority and without `#`. What stands
+-- behind the authority is the text; nothing counts as a slash.
+abbrev pub IsAbsolute : List ℕ → List ℕ → Type 0
+IsAbsolute target text =
+    ¬ Contains target 35
+    × (scheme : List ℕ) × (authority : List ℕ) × (behind : List ℕ)
+    × IsUriText target (Some scheme) (Some authority) behind × (text ≡ or_slash behind)
+
+-- the text in the target that is to name a path: in origin form all of it
+abbrev pub HasPathText : List ℕ → List ℕ → Type 0
+HasPathText target text =
+    (BeginsWithSlash target × (text ≡ target)) ⊎ (¬ BeginsWithSlash target × IsAbsolute target text)
+
+-- why no path is read in a target: it has neither form, or its text names no path, or climbs above the root
+pub data IsUnreadable (target : List ℕ) : DavError → Type 0 where
+  formless : ((text : List ℕ) → ¬ HasPathText target text) → IsUnreadable target (dav.Status 400)
+  invalid : {text : List ℕ} → HasPathText target text → IsRefused text parse.InvalidPath → IsUnreadable target dav.InvalidPath
+  climbing : {text : List ℕ} → HasPathText target text → IsRefused text parse.ForbiddenPath → IsUnreadable target dav.ForbiddenPath
+
+-- What the target of a request with this method names, below a prefix: a path, cut behind the prefix without the slash at
+-- its end, or the error that answers the request. `*` names the server, whatever the prefix, and is for OPTIONS alone
+-- (RFC 9110, section 9.3.7).
+pub data TargetNames (prefix : List ℕ) (method : DavMethod) (target : List ℕ) : Result PathText DavError → Type 0 where
+  server : target ≡ star → method ≡ Options → TargetNames prefix method target (Ok (record { prefix = []; bytes = star }))
+  reserved : target ≡ star → method ≢ Options → TargetNames prefix method target (Err (dav.Status 400))
+  unreadable : {e : DavError} → target ≢ star → IsUnreadable target e → TargetNames prefix method target (Err e)
+  outside : {text bytes : List ℕ} → HasPathText target text → Reads text bytes → prefix_cut (without_slash prefix) bytes ≡ None → TargetNames prefix method target (Err dav.IllegalPath)
+  path : {text bytes : List ℕ} {p : PathText} → HasPathText target text → Reads text bytes → prefix_cut (without_slash prefix) bytes ≡ Some p → TargetNames prefix method target (Ok p)
+
+-- one target comes to one outcome
+abbrev pub OneOutcome : Type 0
+OneOutcome =
+    (prefix : List ℕ) (method : DavMethod) (target : List ℕ) (a b : Result PathText DavError)
+    → TargetNames prefix method target a → TargetNames prefix method target b → a ≡ b

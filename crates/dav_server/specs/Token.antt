@@ -1,0 +1,15 @@
+-- What is answered to a text that is to be a token.
+use Rattle.std.specs.Prelude.{◌≡◌, ℕ, List, codes, Result, Ok, Err}
+use Rattle.dav_server.specs.declared.exchange.TokenError.{TokenError}
+use Rattle.dav_server.specs.declared.exchange.TokenError.TheVariants.{Refused, Memory}
+use Rattle.dav_server.specs.GrantToken.{IsGrantToken}
+
+-- the token of the text, which is refused exactly where it is none
+abbrev pub GivesToken : List ℕ → Result (List ℕ) TokenError → Type 0
+GivesToken text (Ok token) = IsGrantToken text × (token ≡ text)
+GivesToken text (Err Refused) = ¬ IsGrantToken text
+GivesToken text (Err Memory) = IsGrantToken text
+
+abbrev pub token_error_name : TokenError → List ℕ
+token_error_name Refused = codes "Refused"
+token_error_name Memory = codes "Memory"

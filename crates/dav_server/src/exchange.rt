@@ -1,0 +1,127 @@
+//! What comes in with a request: the token that a lock is granted with, and the moment.
+ghost use Rattle.std.specs.Prelude.{◌≡◌, ◌≢◌, ◌↔◌, [], IsTrue, All, Contains};
+ghost use Rattle.dav_server.specs.GrantToken.{IsTokenByte, IsReserved, IsGrantToken};
+
+#[cfg(test)]
+mod tests;
+
+pub use crate::moment::{BadMoment, LAST_MOMENT};
+use dav_core::errors::NoMemory;
+use std::alloc::Global;
+use std::error::Error;
+use std::fmt;
+use std::marker::Model;
+
+// A quote and the brackets.
+const BARRED: &[u8] = b"\"()<>[]{}";
+
+/// The token that a lock is granted with, if the request is granted one (RFC 4918, section 6.5).
+#[derive(Debug, Drop)]
+pub struct GrantToken {
+    text: String,
+}
+
+impl Model for GrantToken {
+    ghost use Rattle.std.specs.Prelude.{ℕ, List, string_bytes};
+    ghost use Rattle.dav_server.specs.GrantToken.{IsGrantToken};
+
+    ghost Value = { List ℕ };
+
+    ghost view = { λ t. string_bytes t.text };
+
+    ghost invariant = { λ t. IsGrantToken (string_bytes t.text) };
+}
+
+impl GrantToken {
+    ghost use Rattle.std.specs.Prelude.{◌≡◌};
+    ghost use Rattle.dav_server.specs.GrantToken.{IsGrantToken};
+    ghost use Rattle.dav_server.specs.Token.{GivesToken};
+
+    /// The token of a text. `Refused` where the text is empty, begins with `DAV:`, or has another byte than printable
+    /// ASCII without blanks, quotes `"` and the brackets `()<>[]{}`; `Memory` for want of memory.
+    pub fn new(alloc: Global, text: &str) -> Result<GrantToken, TokenError>
+        ensures { GivesToken text.now result }
+    {
+        if !is_grant_token(text) {
+            return Err(TokenError::Refused);
+        }
+        Ok(GrantToken {
+            text: String::from_str(alloc, text)?,
+        })
+    }
+
+    /// The token's text.
+    pub fn as_str(&self) -> &str
+        ensures text { result.now ≡ self.now }
+        ensures token { IsGrantToken self.now }
+    {
+        self.text.as_str()
+    }
+}
+
+/// Why a text is no token to grant a lock with.
+#[derive(Clone, Copy, Debug, PartialEq, Eq)]
+pub enum TokenError {
+    /// It is empty or reserved, or a byte isn't allowed in it.
+    Refused,
+    /// Memory ran out.
+    Memory,
+}
+
+/// Writes the variant's name.
+impl fmt::Display for TokenError {
+    ghost use Rattle.std.specs.Prelude.{Some};
+    ghost use Rattle.dav_server.specs.Token.{token_error_name};
+
+    ghost output = { λ e. Some (token_error_name e) };
+
+    fn fmt<W: fmt::Write>(&self, f: &mut fmt::Formatter<W>) -> fmt::Result {
+        match self {
+            TokenError::Refused => write!(f, "Refused"),
+            TokenError::Memory => write!(f, "Memory"),
+        }
+    }
+}
+
+impl Error for TokenError {}
+
+impl From<NoMemory> for TokenError {
+    ghost use Rattle.std.specs.Prelude.{◌≡◌};
+    ghost use Rattle.dav_server.specs.declared.exchange.TokenError.TheVariants.{Memory};
+
+    ghost from_gives = { λ _ e. e ≡ Memory };
+
+    fn from(_error: NoMemory) -> TokenError {
+        TokenError::Memory
+    }
+}
+
+fn is_grant_token(text: &str) -> bool
+    ensures { IsTrue result ↔ IsGrantToken text.now }
+{
+    !text.is_empty() && are_token_bytes(text.as_bytes()) && !is_reserved(text)
+}
+
+fn are_token_bytes(text: &[u8]) -> bool
+    ensures { IsTrue result ↔ All IsTokenByte text.now }
+{
+    text.iter().all(|byte| is_token_byte(*byte))
+}
+
+fn is_token_byte(byte: u8) -> bool
+    ensures { IsTrue result ↔ IsTokenByte byte }
+{
+    byte.is_ascii_graphic() && !is_among(byte, BARRED)
+}
+
+fn is_among(byte: u8, bytes: &[u8]) -> bool
+    ensures { IsTrue result ↔ Contains bytes.now byte }
+{
+    bytes.contains(&byte)
+}
+
+fn is_reserved(text: &str) -> bool
+    ensures { IsTrue result ↔ IsReserved text.now }
+{
+    text.as_bytes().starts_with(b"DAV:")
+}

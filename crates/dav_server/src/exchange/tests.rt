@@ -1,0 +1,59 @@
+use super::*;
+use crate::moment::Moment;
+use std::test::Fail;
+
+fn refused(alloc: Global, text: &str) -> bool {
+    matches!(GrantToken::new(alloc, text), Err(TokenError::Refused))
+}
+
+#[test]
+fn takes_tokens(rt: HostRuntime) -> Result<(), Fail> {
+    for text in [
+        "urn:t:1",
+        "opaquelocktoken:a-b",
+        "!",
+        "~",
+        "dav:x",
+        "xDAV:",
+        "DAV",
+        "*'\\",
+    ] {
+        assert_eq!(rt; GrantToken::new(rt.alloc(), text)?.as_str(), text);
+    }
+    Ok(())
+}
+
+#[test]
+fn refuses_other_texts(rt: HostRuntime) {
+    for text in [
+        "", "DAV:x", "DAV:", "a b", " a", "a\t", "a\"b", "(a", "a)", "<a>", "[", "]", "{", "}",
+        "a\u{7f}", "\u{e9}",
+    ] {
+        assert!(rt; refused(rt.alloc(), text));
+    }
+}
+
+#[test]
+fn shows_errors(rt: HostRuntime) -> Result<(), Fail> {
+    assert_eq!(rt;
+        format!(in rt.alloc(); "{}", TokenError::Refused)?.as_str(),
+        "Refused"
+    );
+    assert_eq!(rt;
+        format!(in rt.alloc(); "{}", TokenError::Memory)?.as_str(),
+        "Memory"
+    );
+    assert_eq!(rt;
+        format!(in rt.alloc(); "{BadMoment}")?.as_str(),
+        "BadMoment"
+    );
+    Ok(())
+}
+
+#[test]
+fn ends_with_the_year_9999(rt: HostRuntime) -> Result<(), Fail> {
+    assert_eq!(rt; LAST_MOMENT, 253_402_300_799);
+    assert_eq!(rt; Moment::new(LAST_MOMENT)?.seconds, LAST_MOMENT);
+    assert_eq!(rt; Moment::new(LAST_MOMENT + 1).err(), Some(BadMoment));
+    Ok(())
+}

@@ -1,0 +1,123 @@
+//! Heads whose meaning was worked out by hand from RFC 9110 and RFC 9112.
+
+use super::{MOST_BYTES, MOST_FIELDS, headers_of, read_head};
+use std::alloc::{AllocError, Global};
+use std::test::Fail;
+
+const START: &[u8] = b"GET / HTTP/1.1\r\n";
+
+fn is_refused(head: &[u8]) -> bool {
+    match read_head(head) {
+        Ok(_) => false,
+        Err(status) => status.as_u16() == 400,
+    }
+}
+
+/// A head of this many bytes, whose one field has a long value.
+fn long_head(alloc: Global, bytes: usize) -> Result<Vec<u8>, AllocError> {
+    let mut head = Vec::from_slice(alloc, START)?;
+    head.extend_from_slice(b"a:")?;
+    for _ in 0..bytes.saturating_sub(START.len() + 6) {
+        head.push(b'x')?;
+    }
+    head.extend_from_slice(b"\r\n\r\n")?;
+    Ok(head)
+}
+
+/// A head of this many fields.
+fn wide_head(alloc: Global, fields: usize) -> Result<Vec<u8>, AllocError> {
+    let mut head = Vec::from_slice(alloc, START)?;
+    for _ in 0..fields {
+        head.extend_from_slice(b"a: b\r\n")?;
+    }
+    head.extend_from_slice(b"\r\n")?;
+    Ok(head)
+}
+
+#[test]
+fn reads_a_put_and_a_get(rt: HostRuntime) -> Result<(), Fail> {
+    let put = read_head(b"PUT /a HTTP/1.1\r\nContent-Length: 3\r\n\r\n")?;
+    assert_eq!(rt; put.method(), b"PUT".as_slice());
+    assert_eq!(rt; put.target(), "/a");
+    let get = read_head(b"GET /a HTTP/1.1\r\n\r\n")?;
+    assert_eq!(rt; get.method(), b"GET".as_slice());
+    assert_eq!(rt; get.target(), "/a");
+    Ok(())
+}
+
+#[test]
+fn refuses_what_is_no_head(rt: HostRuntime) {
+    let heads: [&[u8]; 9] = [
+        b"",
+        b"GET / HTTP/1.1\r\n",
+        b"GET / HTTP/1.1\r\n\r\nx",
+        b"GET / HTTP/1.1\r\n\r\n\r\n",
+        b"GET / HTTP/2.0\r\n\r\n",
+        b"GET /\xff HTTP/1.1\r\n\r\n",
+        b"GET / HTTP/1.1\r\na b: c\r\n\r\n",
+        b"GET / HTTP/1.1\r\na: \x7f\r\n\r\n",
+        b"GET / HTTP/1.1\r\na: \x01\r\n\r\n",
+    ];
+    for head in heads {
+        assert!(rt; is_refused(head));
+    }
+}
+
+#[test]
+fn counts_bytes_and_fields(rt: HostRuntime) -> Result<(), Fail> {
+    let longest = long_head(rt.alloc(), MOST_BYTES)?;
+    assert_eq!(rt; longest.len(), 65_536);
+    assert!(rt; read_head(&longest).is_ok());
+    let too_long = long_head(rt.alloc(), MOST_BYTES + 1)?;
+    assert_eq!(rt; too_long.len(), 65_537);
+    assert!(rt; is_refused(&too_long));
+    assert!(rt; read_head(&wide_head(rt.alloc(), MOST_FIELDS)?).is_ok());
+    assert!(rt; is_refused(&wide_head(rt.alloc(), MOST_FIELDS + 1)?));
+    Ok(())
+}
+
+#[test]
+fn finds_values(rt: HostRuntime) -> Result<(), Fail> {
+    let view = read_head(b"GET / HTTP/1.1\r\nif:  a\tb \t\r\nx: y\r\nIF:\r\niF: c\r\n\r\n")?;
+    let mut values = view.values("If");
+    assert_eq!(rt; values.next(), Some(b"a\tb".as_slice()));
+    assert_eq!(rt; values.next(), Some(b"".as_slice()));
+    assert_eq!(rt; values.next(), Some(b"c".as_slice()));
+    assert_eq!(rt; values.next(), None);
+    assert_eq!(rt; view.values("X").next(), Some(b"y".as_slice()));
+    assert_eq!(rt; view.values("i").next(), None);
+    assert_eq!(rt; view.values("iff").next(), None);
+    Ok(())
+}
+
+#[test]
+fn collects_headers(rt: HostRuntime) -> Result<(), Fail> {
+    let view = read_head(b"GET / HTTP/1.1\r\nIf:  a\r\nX: y\r\niF: b\xff \r\nZ:\r\n\r\n")?;
+    let headers = headers_of(rt.alloc(), &view)?;
+    assert_eq!(rt; headers.len(), 4);
+    assert_eq!(rt; headers.keys_len(), 3);
+    let mut values = headers.get_all("if").iter();
+    assert_eq!(rt; values.next().map(|v| v.as_bytes()), Some(b"a".as_slice()));
+    assert_eq!(rt;
+        values.next().map(|v| v.as_bytes()),
+        Some(b"b\xff".as_slice())
+    );
+    assert!(rt; values.next().is_none());
+    assert_eq!(rt;
+        headers.get("x").map(|v| v.as_bytes()),
+        Some(b"y".as_slice())
+    );
+    assert_eq!(rt;
+        headers.get("z").map(|v| v.as_bytes()),
+        Some(b"".as_slice())
+    );
+    assert!(rt; headers.get("i").is_none());
+    Ok(())
+}
+
+#[test]
+fn collects_no_headers(rt: HostRuntime) -> Result<(), Fail> {
+    let view = read_head(b"GET / HTTP/1.1\r\n\r\n")?;
+    assert!(rt; headers_of(rt.alloc(), &view)?.is_empty());
+    Ok(())
+}

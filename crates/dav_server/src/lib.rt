@@ -1,0 +1,10 @@
+//! A WebDAV server: from the bytes of a request to what its method is handed (RFC 9112; RFC 4918, section 8).
+#![tactic(auto)]
+
+pub mod exchange;
+pub mod head;
+pub mod laws;
+pub mod method;
+mod moment;
+pub mod refusing;
+pub mod target;

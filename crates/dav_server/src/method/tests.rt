@@ -1,0 +1,39 @@
+use super::*;
+
+#[test]
+fn knows_what_is_served(rt: HostRuntime) {
+    let methods: [(&str, DavMethod); 13] = [
+        ("GET", DavMethod::Get),
+        ("HEAD", DavMethod::Head),
+        ("PUT", DavMethod::Put),
+        ("PATCH", DavMethod::Patch),
+        ("OPTIONS", DavMethod::Options),
+        ("PROPFIND", DavMethod::PropFind),
+        ("PROPPATCH", DavMethod::PropPatch),
+        ("MKCOL", DavMethod::MkCol),
+        ("COPY", DavMethod::Copy),
+        ("MOVE", DavMethod::Move),
+        ("DELETE", DavMethod::Delete),
+        ("LOCK", DavMethod::Lock),
+        ("UNLOCK", DavMethod::Unlock),
+    ];
+    for (name, method) in methods {
+        assert_eq!(rt; method_of(name.as_bytes()), Ok(method));
+    }
+}
+
+#[test]
+fn refuses_other_methods(rt: HostRuntime) {
+    for name in [
+        "",
+        "FOO",
+        "get",
+        "Get",
+        "GETS",
+        "REPORT",
+        "MKCALENDAR",
+        "MKADDRESSBOOK",
+    ] {
+        assert_eq!(rt; method_of(name.as_bytes()), Err(DavError::UnknownDavMethod));
+    }
+}

@@ -1,0 +1,50 @@
+//! Moments that HTTP can show.
+ghost use Rattle.std.specs.Prelude.{◌≡◌, ◌≤◌, ◌<◌, ◌↔◌, IsOk, IfOk};
+
+use std::error::Error;
+use std::fmt;
+
+/// A moment, in seconds since 1970, up to the end of the year 9999 (RFC 9110, section 5.6.7).
+#[derive(Clone, Copy, Debug)]
+pub struct Moment {
+    /// Seconds since 1970.
+    pub seconds: u64,
+    ghost in_range: { seconds ≤ 253_402_300_799 },
+}
+
+/// The last moment that HTTP can show.
+pub const LAST_MOMENT: u64 = 253_402_300_799;
+
+/// The moment is past the year 9999.
+#[derive(Clone, Copy, Debug, PartialEq, Eq)]
+pub struct BadMoment;
+
+/// Writes the error's name.
+impl fmt::Display for BadMoment {
+    ghost use Rattle.std.specs.Prelude.{Some, codes};
+
+    ghost output = { λ _. Some (codes "BadMoment") };
+
+    fn fmt<W: fmt::Write>(&self, f: &mut fmt::Formatter<W>) -> fmt::Result {
+        write!(f, "BadMoment")
+    }
+}
+
+impl Error for BadMoment {}
+
+impl Moment {
+    /// The beginning of 1970.
+    pub const START: Moment = Moment { seconds: 0 };
+
+    /// The moment so many seconds after 1970 begins; `BadMoment` past the year 9999.
+    pub fn new(seconds: u64) -> Result<Moment, BadMoment>
+        ensures ok { IsOk result ↔ (seconds ≤ 253_402_300_799) }
+        ensures value { IfOk result (λ m. m.seconds ≡ seconds) }
+    {
+        if seconds <= LAST_MOMENT {
+            Ok(Moment { seconds })
+        } else {
+            Err(BadMoment)
+        }
+    }
+}
