@@ -25,5 +25,5 @@ Makes view plan old result new = (ls : Locks) → Follows view plan old ls resul
 
 -- A request was answered as a plan of this kind says; or memory ran out before its plan was known, and nothing was done.
 pub data Serves (kind : Method Response → Type 0) (old : StoreState) (ls : Locks) (result : Result Reply DavError) (new : StoreState) (ms : Locks) : Type 0 where
-  served : {plan : Method Response} → kind plan → Follows response_of plan old ls result new ms → Serves kind old ls result new ms
+  served : (plan : Method Response) → kind plan → Follows response_of plan old ls result new ms → Serves kind old ls result new ms
   not_begun : result ≡ Err dav.Memory → new ≡ old → ms ≡ ls → Serves kind old ls result new ms

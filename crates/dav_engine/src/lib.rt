@@ -1,7 +1,7 @@
 //! The methods of a WebDAV server, over any store and any locks (RFC 4918, RFC 9110).
 #![tactic(auto)]
 
-mod conditional;
+pub mod conditional;
 mod date;
 pub mod davinner;
 mod handle_put;

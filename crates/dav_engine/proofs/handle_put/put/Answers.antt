@@ -17,7 +17,7 @@ returns-in_err-checksum g c ls =
     not_begun (p.1 ∙ ap Err p.2) refl refl
 
 pub returns-then-has_conditions : goal.returns-then-has_conditions
-returns-then-has_conditions g c ls = served (is_put _ c.in_ok-announced.ensures) (put_refused c.args.request.now.headers c.in_ok-announced.announced (names c.args.request.now.path) c.args.body.now c.args.now (sym c.if-has_conditions.ensures))
+returns-then-has_conditions g c ls = served _ (is_put _ c.in_ok-announced.ensures) (put_refused c.args.request.now.headers c.in_ok-announced.announced (names c.args.request.now.path) c.args.body.now c.args.now (sym c.if-has_conditions.ensures))
 
 pub returns : goal.returns
-returns g c ls = served (is_put _ c.in_ok-announced.ensures) (put_goes c.args.request.now.headers c.in_ok-announced.announced (names c.args.request.now.path) c.args.body.now c.args.now (sym c.if-has_conditions.ensures) c.in_ok-checksum.ensures c.put_opening-options.ensures (c.put_body.ensures ls))
+returns g c ls = served _ (is_put _ c.in_ok-announced.ensures) (put_goes c.args.request.now.headers c.in_ok-announced.announced (names c.args.request.now.path) c.args.body.now c.args.now (sym c.if-has_conditions.ensures) c.in_ok-checksum.ensures c.put_opening-options.ensures (c.put_body.ensures ls))
