@@ -8,3 +8,9 @@ pub mod Target
 pub mod TargetCode
 pub mod GrantToken
 pub mod Token
+pub mod Get
+pub mod Machine
+pub mod Run
+pub mod Setup
+pub mod GivenBody
+pub mod Turns

@@ -5,8 +5,10 @@ ghost use Rattle.dav_server.specs.GrantToken.{IsTokenByte, IsReserved, IsGrantTo
 #[cfg(test)]
 mod tests;
 
+use crate::moment::Moment;
 pub use crate::moment::{BadMoment, LAST_MOMENT};
 use dav_core::errors::NoMemory;
+use dav_engine::Body;
 use std::alloc::Global;
 use std::error::Error;
 use std::fmt;
@@ -124,4 +126,42 @@ fn is_reserved(text: &str) -> bool
     ensures { IsTrue result ↔ IsReserved text.now }
 {
     text.as_bytes().starts_with(b"DAV:")
+}
+
+/// A request as it comes in. It borrows its head.
+#[derive(Drop)]
+pub struct Exchange<'a> {
+    pub(crate) head: &'a [u8],
+    pub(crate) body: Body,
+    pub(crate) principal: Option<&'a str>,
+    pub(crate) moment: Moment,
+    pub(crate) token: Option<GrantToken>,
+}
+
+impl<'a> Exchange<'a> {
+    ghost use Rattle.std.specs.Prelude.{◌≡◌, ◌≤◌, ◌↔◌, IsOk, IfOk};
+    ghost use Rattle.std.specs.Option.{option_copied};
+    ghost use Rattle.dav_server.specs.Setup.{asked};
+
+    /// A request: the bytes of its head, its body, who makes it, when, in seconds since 1970, and the token that a lock takes
+    /// which it makes. `BadMoment` past 253402300799, the end of the year 9999. Takes no memory.
+    pub fn new(
+        head: &'a [u8],
+        body: Body,
+        principal: Option<&'a str>,
+        moment: u64,
+        token: Option<GrantToken>,
+    ) -> Result<Exchange<'a>, BadMoment>
+        ensures ok { IsOk result ↔ (moment ≤ 253402300799) }
+        ensures value { IfOk result (λ x. asked x ≡ record { head = head.now; body = body; principal = option_copied principal.entry; moment = moment; token = token }) }
+    {
+        let moment = Moment::new(moment)?;
+        Ok(Exchange {
+            head,
+            body,
+            principal,
+            moment,
+            token,
+        })
+    }
 }

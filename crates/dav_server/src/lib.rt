@@ -1,10 +1,14 @@
 //! A WebDAV server: from the bytes of a request to what its method is handed (RFC 9112; RFC 4918, section 8).
 #![tactic(auto)]
 
+mod body;
+pub mod davhandler;
 pub mod exchange;
+mod handle_gethead;
 pub mod head;
 pub mod laws;
 pub mod method;
 mod moment;
 pub mod refusing;
+pub mod run;
 pub mod target;

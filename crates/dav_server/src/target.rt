@@ -85,7 +85,7 @@ fn is_star(target: &str) -> bool
     matches!(target.as_bytes(), [b'*'])
 }
 
-fn begins_with_slash(target: &str) -> bool
+pub(crate) fn begins_with_slash(target: &str) -> bool
     ensures { IsTrue result ↔ BeginsWithSlash target.now }
 {
     matches!(target.as_bytes(), [b'/', ..])

@@ -1,0 +1,29 @@
+use Rattle.std.proofs.Common.{◌∙◌, [], ◌+◌, map, take, drop, refl}
+use Rattle.std.specs.Option.{option_map}
+use Rattle.dav_server.specs.Run.{no_more}
+use Rattle.dav_server.specs.Turns.{turn_of}
+use Rattle.dav_server.proofs.RunLemmas.{run_further, parts_of, steps_at, cut_at, ran_to}
+use Rattle.dav_server.proofs.davhandler.DavHandler.run.Goals as goal
+
+pub loop-exchange-init : goal.loop-exchange-init
+loop-exchange-init g c = (refl, ran_to [] _ c.new-replies.ensures.items no_more)
+
+pub loop-exchange-preserved : goal.loop-exchange-preserved
+loop-exchange-preserved g c =
+    let added = c.in-Ok.ensures.ok in (
+      c.in-Ok.ensures.same ∙ c.loop-exchange.invariant.0,
+      run_further turn_of c.args.exchanges.now c.loop-exchange.exchange-index c.exchange-item.result c.loop-exchange.replies.items c.answer_next.new.replies.items added.0
+          c.loop-exchange-test.true c.exchange-item.is c.loop-exchange.invariant.1 added.1 (steps_at c.loop-exchange.invariant.0 added.2),
+    )
+
+pub returns-in-Err-clause-fault : goal.returns-in-Err-clause-fault
+returns-in-Err-clause-fault g c = (
+  map turn_of (take c.loop-exchange.exchange-index c.args.exchanges.now),
+  turn_of c.exchange-item.result,
+  map turn_of (drop (c.loop-exchange.exchange-index + 1) c.args.exchanges.now),
+  g.F.DavFileSystem.state c.loop-exchange.self.fs,
+  option_map g.L.DavLockSystem.locks c.loop-exchange.self.ls,
+  parts_of turn_of c.args.exchanges.now c.loop-exchange.exchange-index c.exchange-item.result c.loop-exchange-test.true c.exchange-item.is,
+  ran_to c.loop-exchange.replies.items c.answer_next.new.replies.items c.in-Err.ensures.replies c.loop-exchange.invariant.1,
+  cut_at c.loop-exchange.invariant.0 c.in-Err.ensures.cut,
+)

@@ -1,0 +1,107 @@
+-- The machine: what each request is answered, from the bytes of its head on, and what it leaves.
+use Rattle.std.specs.Prelude.{◌≡◌, ℕ, ◌⊎◌, List, [], ◌∷◌, nat_lt, if◌then◌else◌, Option, Result, Ok, Err}
+use Rattle.dav_core.specs.declared.errors.DavError.{DavError}
+use Rattle.dav_core.specs.declared.errors.DavError.TheVariants as dav
+use Rattle.dav_core.specs.declared.method.DavMethod.{DavMethod}
+use Rattle.dav_core.specs.declared.method.DavMethod.TheVariants.{Get, Put, Patch, PropFind, PropPatch, Lock}
+use Rattle.dav_core.specs.Asking.{StoreState, Asks}
+use Rattle.dav_core.specs.Element.{ElementTree, depth_of}
+use Rattle.dav_core.specs.Method.{Has}
+use Rattle.dav_core.specs.Path.{Path, PathText, names}
+use Rattle.dav_engine.specs.declared.request.Body.{Body}
+use Rattle.dav_engine.specs.declared.request.Body.TheVariants as body
+use Rattle.dav_engine.specs.Headers.{Headers}
+use Rattle.dav_engine.specs.Method.{Method, fails}
+use Rattle.dav_engine.specs.Plan.{Locks, Ran, Cut}
+use Rattle.dav_engine.specs.Put.{IsPut}
+use Rattle.dav_engine.specs.Response.{Response, reply_to}
+use Rattle.dav_server.specs.Get.{get}
+use Rattle.dav_server.specs.Head.{Request, IsHead}
+use Rattle.dav_server.specs.Headers.{headers_of}
+use Rattle.dav_server.specs.Method.{GivesServed}
+use Rattle.dav_server.specs.Target.{TargetNames}
+
+-- A request as it comes in: the bytes of its head, its body, who makes it, when, and the token that a lock takes which it
+-- makes.
+pub record Asked : Type 0 where
+  pub head : List ℕ
+  pub body : Body
+  pub principal : Option (List ℕ)
+  pub moment : ℕ
+  pub token : Option (List ℕ)
+
+-- How a server is set up: the prefix of the paths that it serves, and the set of the methods that it allows.
+pub record Settings : Type 0 where
+  pub prefix : List ℕ
+  pub allowed : ℕ
+
+-- what a method takes as body: bytes, an element tree, or none
+pub data Taken : Type 0 where
+  TakesBytes : Taken
+  TakesTree : Taken
+  TakesNone : Taken
+
+abbrev pub taken_by : DavMethod → Taken
+taken_by Put = TakesBytes
+taken_by Patch = TakesBytes
+taken_by PropFind = TakesTree
+taken_by PropPatch = TakesTree
+taken_by Lock = TakesTree
+taken_by _ = TakesNone
+
+-- a tree that isn't too deep: 400 for one of more than 64 elements, each in the one before
+abbrev pub given_tree : ElementTree → Result Body DavError
+given_tree tree = if nat_lt 64 (depth_of tree) then Err (dav.Status 400) else Ok (body.Tree tree)
+
+-- The body that a method is handed, or the error that answers the request: 415 for one that the method doesn't take (RFC 9110,
+-- section 15.5.16). No bytes are no body; other bytes are no element tree.
+abbrev pub body_for : Taken → Body → Result Body DavError
+body_for taken body.None = Ok body.None
+body_for taken (body.Bytes []) = Ok body.None
+body_for TakesBytes (body.Bytes (b ∷ bytes)) = Ok (body.Bytes (b ∷ bytes))
+body_for TakesTree (body.Bytes (b ∷ bytes)) = Ok body.Malformed
+body_for TakesNone (body.Bytes (b ∷ bytes)) = Err (dav.Status 415)
+body_for TakesTree (body.Tree tree) = given_tree tree
+body_for TakesBytes (body.Tree tree) = Err (dav.Status 415)
+body_for TakesNone (body.Tree tree) = Err (dav.Status 415)
+body_for TakesTree body.Malformed = Ok body.Malformed
+body_for TakesBytes body.Malformed = Err (dav.Status 415)
+body_for TakesNone body.Malformed = Err (dav.Status 415)
+
+-- the methods that are served by now
+abbrev pub IsDone : DavMethod → Type 0
+IsDone m = (m ≡ Get) ⊎ (m ≡ Put)
+
+-- The plan of a method, with its headers, its path and its body. All but GET and PUT aren't served yet: 501.
+pub data PlanOf (headers : Headers) (p : Path) (body : Body) (now : ℕ) : DavMethod → Method Response → Type 0 where
+  gets : PlanOf headers p body now Get (get headers p now)
+  puts : {plan : Method Response} → IsPut headers p body now plan → PlanOf headers p body now Put plan
+  not_yet : {m : DavMethod} → ¬ IsDone m → PlanOf headers p body now m (fails (dav.Status 501))
+
+-- The plan that a request comes to whose head says this, with this method. It is refused, before anything is asked of the store,
+-- for the first of these: 405 for a method that isn't allowed, and the connection closes; then what its target comes to, below
+-- the prefix; then what its body comes to.
+pub data MeansOf (s : Settings) (x : Asked) (r : Request) (m : DavMethod) : Method Response → Type 0 where
+  not_allowed : ¬ Has s.allowed m → MeansOf s x r m (fails (dav.StatusClose 405))
+  no_path : (e : DavError) → Has s.allowed m → TargetNames s.prefix m r.target (Err e) → MeansOf s x r m (fails e)
+  no_body : (p : PathText) (e : DavError) → Has s.allowed m → TargetNames s.prefix m r.target (Ok p) → body_for (taken_by m) x.body ≡ Err e → MeansOf s x r m (fails e)
+  method : (p : PathText) (body : Body) {plan : Method Response} → Has s.allowed m → TargetNames s.prefix m r.target (Ok p) → body_for (taken_by m) x.body ≡ Ok body
+      → PlanOf (headers_of r.fields) (names p) body x.moment m plan → MeansOf s x r m plan
+
+-- The plan that a request comes to. 400 for bytes that are no head, and 501 for a method that isn't known; then what its method
+-- comes to.
+pub data Means (s : Settings) (x : Asked) : Method Response → Type 0 where
+  no_head : ((r : Request) → ¬ IsHead x.head r) → Means s x (fails (dav.Status 400))
+  no_method : (r : Request) (e : DavError) → IsHead x.head r → GivesServed r.method (Err e) → Means s x (fails e)
+  known : (r : Request) (m : DavMethod) {plan : Method Response} → IsHead x.head r → GivesServed r.method (Ok m) → MeansOf s x r m plan → Means s x plan
+
+-- One step of the machine: the reply to a request, and the store and the list of locks that it leaves.
+pub data Steps (s : Settings) (x : Asked) (old : StoreState) (ls : Locks) : Response → StoreState → Locks → Type 0 where
+  steps : (plan : Method Response) (outcome : Result Response DavError) {new : StoreState} {ms : Locks}
+      → Means s x plan → Ran Asks plan old ls outcome new ms → Steps s x old ls (reply_to outcome) new ms
+
+-- Memory ran out in a step: nothing was done, or the first calls of its plan were made, each of them whole. The list of locks is
+-- as before, or as the plan leaves it where each later call is refused.
+pub data StepCut (s : Settings) (x : Asked) (old : StoreState) (ls : Locks) : StoreState → Locks → Type 0 where
+  untouched : StepCut s x old ls old ls
+  cut : (plan : Method Response) {new : StoreState} {ms : Locks} → Means s x plan → Cut Asks ls plan old ls new ms → StepCut s x old ls new ms

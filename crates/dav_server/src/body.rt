@@ -1,0 +1,79 @@
+//! The body of a request, as its method takes it (RFC 9110, section 6.4).
+ghost use Rattle.dav_server.specs.Machine.{taken_by, body_for, TakesBytes, TakesTree, TakesNone, given_tree};
+ghost use Rattle.dav_server.specs.GivenBody.{GivesBody};
+
+use dav_core::element::Element;
+use dav_core::errors::{DavError, DavResult};
+use dav_core::method::DavMethod;
+use dav_engine::Body;
+use http::StatusCode;
+
+/// The most elements, each in the one before, that a tree may have.
+pub const MOST_DEPTH: usize = 64;
+
+/// The body that a method is handed.
+#[derive(Clone, Copy)]
+pub enum Given {
+    /// The one that came in.
+    Whole,
+    /// None.
+    None,
+    /// Bytes that stand for no element tree.
+    Malformed,
+}
+
+/// The body that a method is handed: no bytes are none, and other bytes are no element tree. 415 for one that the method
+/// doesn't take (RFC 9110, section 15.5.16); 400 for a tree that is deeper than [`MOST_DEPTH`].
+pub fn body_for(method: DavMethod, body: &Body) -> DavResult<Given>
+    ensures { GivesBody (body_for (taken_by method) body.now) body.now result }
+{
+    match method {
+        DavMethod::Put => bytes_for(body),
+        DavMethod::Patch => bytes_for(body),
+        DavMethod::PropFind => tree_for(body),
+        DavMethod::PropPatch => tree_for(body),
+        DavMethod::Lock => tree_for(body),
+        _ => none_for(body),
+    }
+}
+
+const REFUSED: DavError = DavError::Status(StatusCode::UNSUPPORTED_MEDIA_TYPE);
+
+// The body of a method that takes bytes.
+fn bytes_for(body: &Body) -> DavResult<Given>
+    ensures { GivesBody (body_for TakesBytes body.now) body.now result }
+{
+    match body {
+        Body::None => Ok(Given::None),
+        Body::Bytes(bytes) if bytes.is_empty() => Ok(Given::None),
+        Body::Bytes(_) => Ok(Given::Whole),
+        _ => Err(REFUSED),
+    }
+}
+
+// The body of a method that takes an element tree.
+fn tree_for(body: &Body) -> DavResult<Given>
+    ensures { GivesBody (body_for TakesTree body.now) body.now result }
+{
+    match body {
+        Body::None => Ok(Given::None),
+        Body::Bytes(bytes) if bytes.is_empty() => Ok(Given::None),
+        Body::Bytes(_) => Ok(Given::Malformed),
+        Body::Tree(tree) if tree.depth() > MOST_DEPTH => {
+            Err(DavError::Status(StatusCode::BAD_REQUEST))
+        }
+        Body::Tree(_) => Ok(Given::Whole),
+        Body::Malformed => Ok(Given::Malformed),
+    }
+}
+
+// The body of a method that takes none.
+fn none_for(body: &Body) -> DavResult<Given>
+    ensures { GivesBody (body_for TakesNone body.now) body.now result }
+{
+    match body {
+        Body::None => Ok(Given::None),
+        Body::Bytes(bytes) if bytes.is_empty() => Ok(Given::None),
+        _ => Err(REFUSED),
+    }
+}
