@@ -43,8 +43,8 @@ fn told(answer: FsResult<DavMetaData>) -> Told {
     Some((m.len, m.dir, m.created, m.modified, m.number))
 }
 
-// What is seen of a store: of the root and of other paths, of an open file and its place, how many members and
-// properties the root has, and whether memory was short.
+// What is seen of a store: what is at the root and at other paths, an open file and its place, and how many members and
+// properties the root has.
 #[derive(Debug, Drop, PartialEq)]
 struct Sight {
     nodes: [Told; 4],
@@ -54,12 +54,13 @@ struct Sight {
     properties: Option<usize>,
 }
 
-// A store, one of its open files, and the paths that are looked at, the root first.
+// A store, one of its open files, the paths that are looked at, the root first, and whether a call was refused.
 #[derive(Drop)]
 struct Watched<'a, F: DavFileSystem> {
     fs: F,
     file: F::File,
     paths: &'a [DavPath; 4],
+    refused: bool,
 }
 
 impl<'a, F: DavFileSystem> Watched<'a, F> {
@@ -99,6 +100,7 @@ impl<'a, F: DavFileSystem> Watched<'a, F> {
         if !matches!(&answer, Err(FsError::InsufficientStorage)) {
             return answer;
         }
+        self.refused = true;
         assert!(rt; self.seen(alloc) == before);
         call(&mut self.fs, &mut self.file)
     }
@@ -132,13 +134,13 @@ fn to_empty() -> OpenOptions {
     }
 }
 
-// The calls that make and change files and folders.
-fn change<F: DavFileSystem>(
+// The calls that make folders, write and read.
+fn write<F: DavFileSystem>(
     rt: &impl Abort,
     alloc: Global,
     store: &mut Watched<'_, F>,
 ) -> Result<(), Fail> {
-    let [_, d, f, g] = store.paths;
+    let [_, d, _, _] = store.paths;
     store.call(rt, alloc, |fs, _| fs.create_dir(alloc, d, 2))?;
     store.call(rt, alloc, |fs, file| {
         fs.write_bytes(alloc, file, Bytes::from_static(b"ab"), 3)
@@ -149,11 +151,24 @@ fn change<F: DavFileSystem>(
     assert_eq!(rt; store.fs.seek(&mut store.file, SeekFrom::Start(1)), Ok(1));
     let bytes = store.call(rt, alloc, |fs, file| fs.read_bytes(alloc, file, 10))?;
     assert_eq!(rt; bytes.as_slice(), b"bc".as_slice());
+    Ok(())
+}
+
+// The calls that move, copy and empty files.
+fn replace<F: DavFileSystem>(
+    rt: &impl Abort,
+    alloc: Global,
+    store: &mut Watched<'_, F>,
+) -> Result<(), Fail> {
+    let [_, _, f, g] = store.paths;
     store.call(rt, alloc, |fs, _| fs.rename(alloc, f, g, 4))?;
     store.call(rt, alloc, |fs, _| fs.copy(alloc, g, f, 5))?;
     assert_eq!(rt; told(store.fs.metadata(f)), Some((3, false, 5, 5, Some(5))));
     store.call(rt, alloc, |fs, _| fs.open(alloc, g, &to_empty(), 6))?;
-    assert_eq!(rt; told(store.fs.file_metadata(&store.file)), Some((0, false, 1, 6, Some(6))));
+    assert_eq!(rt;
+        told(store.fs.file_metadata(&store.file)),
+        Some((0, false, 1, 6, Some(6)))
+    );
     Ok(())
 }
 
@@ -173,10 +188,17 @@ fn show<F: DavFileSystem>(
     assert_eq!(rt; properties.len(), 1);
     let xml = store.call(rt, alloc, |fs, _| fs.get_prop(alloc, root, property))?;
     assert!(rt; property.xml.as_ref() == Some(&xml));
-    let list = store.call(rt, alloc, |fs, _| fs.read_dir(alloc, root, ReadDirMeta::Data))?;
+    let list = store.call(
+        rt,
+        alloc,
+        |fs, _| fs.read_dir(alloc, root, ReadDirMeta::Data),
+    )?;
     assert_eq!(rt; list.len(), 2);
     assert_eq!(rt; list[1].name(), b"f".as_slice());
-    assert_eq!(rt; told(store.fs.entry_metadata(&list[1])), Some((3, false, 5, 5, Some(5))));
+    assert_eq!(rt;
+        told(store.fs.entry_metadata(&list[1])),
+        Some((3, false, 5, 5, Some(5)))
+    );
     Ok(())
 }
 
@@ -193,7 +215,10 @@ fn remove<F: DavFileSystem>(rt: &impl Abort, store: &mut Watched<'_, F>) {
 fn store_goes_on_after_a_refusal(rt: HostRuntime) -> Result<(), Fail> {
     let alloc = rt.alloc();
     let mut refused = false;
-    let foo = again(&mut refused, || DavProp::new(alloc, "foo", "n", "urn:n", "v"))?;
+    let foo = again(
+        &mut refused,
+        || DavProp::new(alloc, "foo", "n", "urn:n", "v"),
+    )?;
     let paths = [
         again(&mut refused, || DavPath::new(alloc, "/"))?,
         again(&mut refused, || DavPath::new(alloc, "/d"))?,
@@ -202,14 +227,22 @@ fn store_goes_on_after_a_refusal(rt: HostRuntime) -> Result<(), Fail> {
     ];
     let mut fs = again(&mut refused, || MemFs::new(alloc))?;
     let file = again(&mut refused, || fs.open(alloc, &paths[2], &to_make(), 1))?;
-    let paths = &paths;
-    let mut store = Watched { fs, file, paths };
-    change(&rt, alloc, &mut store)?;
+    let mut store = Watched {
+        fs,
+        file,
+        paths: &paths,
+        refused,
+    };
+    write(&rt, alloc, &mut store)?;
+    replace(&rt, alloc, &mut store)?;
     show(&rt, alloc, &mut store, &foo)?;
-    let mut copy = again(&mut refused, || store.fs.clone())?;
+    let mut copy = again(&mut store.refused, || store.fs.clone())?;
     remove(&rt, &mut store);
-    assert_eq!(rt; told(copy.metadata(&paths[3])), Some((0, false, 1, 6, Some(6))));
-    println!(rt; "{}", outcome(refused || store.fs.was_short()))?;
+    assert_eq!(rt;
+        told(copy.metadata(&paths[3])),
+        Some((0, false, 1, 6, Some(6)))
+    );
+    println!(rt; "{}", outcome(store.refused || store.fs.was_short()))?;
     Ok(())
 }
 
@@ -260,12 +293,28 @@ fn lock_and_unlock<L: DavLockSystem>(
     let mut refused = false;
     let [d, f] = paths;
     let lock = call(rt, ls, paths, &mut refused, |ls| {
-        ls.lock(alloc, d, Some("anna"), None, Some(60), false, true, "t1", 100)
+        ls.lock(
+            alloc,
+            d,
+            Some("anna"),
+            None,
+            Some(60),
+            false,
+            true,
+            "t1",
+            100,
+        )
     })?;
     assert_eq!(rt; lock.timeout_at, Some(160));
     let locks = call(rt, ls, paths, &mut refused, |ls| ls.discover(alloc, f))?;
     assert_eq!(rt; locks.len(), 1);
-    let lock = call(rt, ls, paths, &mut refused, |ls| ls.refresh(alloc, f, "t1", Some(30), 150))?;
+    let lock = call(
+        rt,
+        ls,
+        paths,
+        &mut refused,
+        |ls| ls.refresh(alloc, f, "t1", Some(30), 150),
+    )?;
     assert_eq!(rt; lock.timeout_at, Some(180));
     assert!(rt; held(ls, paths) == [Some((Some(180), false)), Some((Some(180), false))]);
     assert!(rt; ls.unlock(f, "t1").is_ok());
