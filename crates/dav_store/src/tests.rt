@@ -231,18 +231,21 @@ fn store_goes_on_after_a_refusal(rt: HostRuntime) -> Result<(), Fail> {
         fs,
         file,
         paths: &paths,
-        refused,
+        refused: false,
     };
     write(&rt, alloc, &mut store)?;
     replace(&rt, alloc, &mut store)?;
     show(&rt, alloc, &mut store, &foo)?;
-    let mut copy = again(&mut store.refused, || store.fs.clone())?;
+    let mut copy = again(&mut refused, || store.fs.clone())?;
     remove(&rt, &mut store);
     assert_eq!(rt;
         told(copy.metadata(&paths[3])),
         Some((0, false, 1, 6, Some(6)))
     );
-    println!(rt; "{}", outcome(store.refused || store.fs.was_short()))?;
+    println!(rt;
+        "{}",
+        outcome(refused || store.refused || store.fs.was_short())
+    )?;
     Ok(())
 }
 
