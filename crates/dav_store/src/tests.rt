@@ -7,7 +7,7 @@ use bytes::Bytes;
 use dav_core::davpath::DavPath;
 use dav_core::errors::{FsError, FsResult, NoMemory};
 use dav_core::fs::{DavDirEntry, DavFileSystem, DavMetaData, DavProp, OpenOptions, ReadDirMeta};
-use dav_core::ls::{DavLock, DavLockSystem, LockRefusal, RefreshRefusal};
+use dav_core::ls::DavLockSystem;
 use std::alloc::Global;
 use std::io::SeekFrom;
 use std::process::Abort;
