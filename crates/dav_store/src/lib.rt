@@ -8,3 +8,5 @@ mod names;
 mod node;
 mod paths;
 mod properties;
+#[cfg(test)]
+mod tests;
