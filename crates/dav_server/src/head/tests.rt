@@ -1,6 +1,7 @@
 //! Heads whose meaning was worked out by hand from RFC 9110 and RFC 9112.
 
 use super::{MOST_BYTES, MOST_FIELDS, headers_of, read_head};
+use http_header::HeaderMap;
 use std::alloc::{AllocError, Global};
 use std::test::Fail;
 
@@ -90,28 +91,38 @@ fn finds_values(rt: HostRuntime) -> Result<(), Fail> {
     Ok(())
 }
 
+// The values of a header, each with a semicolon behind it.
+fn joined(alloc: Global, headers: &HeaderMap, name: &str) -> Result<Vec<u8>, AllocError> {
+    let mut all = Vec::new(alloc);
+    for value in headers.get_all(name) {
+        all.extend_from_slice(value.as_bytes())?;
+        all.push(b';')?;
+    }
+    Ok(all)
+}
+
 #[test]
 fn collects_headers(rt: HostRuntime) -> Result<(), Fail> {
     let view = read_head(b"GET / HTTP/1.1\r\nIf:  a\r\nX: y\r\niF: b\xff \r\nZ:\r\n\r\n")?;
     let headers = headers_of(rt.alloc(), &view)?;
     assert_eq!(rt; headers.len(), 4);
     assert_eq!(rt; headers.keys_len(), 3);
-    let mut values = headers.get_all("if").iter();
-    assert_eq!(rt; values.next().map(|v| v.as_bytes()), Some(b"a".as_slice()));
     assert_eq!(rt;
-        values.next().map(|v| v.as_bytes()),
-        Some(b"b\xff".as_slice())
-    );
-    assert!(rt; values.next().is_none());
-    assert_eq!(rt;
-        headers.get("x").map(|v| v.as_bytes()),
-        Some(b"y".as_slice())
+        joined(rt.alloc(), &headers, "if")?.as_slice(),
+        b"a;b\xff;".as_slice()
     );
     assert_eq!(rt;
-        headers.get("z").map(|v| v.as_bytes()),
-        Some(b"".as_slice())
+        joined(rt.alloc(), &headers, "x")?.as_slice(),
+        b"y;".as_slice()
     );
-    assert!(rt; headers.get("i").is_none());
+    assert_eq!(rt;
+        joined(rt.alloc(), &headers, "z")?.as_slice(),
+        b";".as_slice()
+    );
+    assert_eq!(rt;
+        joined(rt.alloc(), &headers, "i")?.as_slice(),
+        b"".as_slice()
+    );
     Ok(())
 }
 

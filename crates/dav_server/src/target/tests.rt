@@ -28,21 +28,17 @@ fn reads_targets(rt: HostRuntime) -> Result<(), Fail> {
 
 #[test]
 fn refuses_targets(rt: HostRuntime) {
-    let bad = DavError::Status(StatusCode::BAD_REQUEST);
-    let cases: [(&str, DavError); 10] = [
-        ("*", bad),
-        ("a", bad),
-        ("h:80", bad),
-        ("http://h/a#b", bad),
-        ("http:///a", bad),
-        ("http://h?q", DavError::InvalidPath),
-        ("/a#b", DavError::InvalidPath),
-        ("/a%2Fb", DavError::InvalidPath),
-        ("/%2e%2e/x", DavError::ForbiddenPath),
-        ("http://h/..", DavError::ForbiddenPath),
-    ];
-    for (target, error) in cases {
-        assert_eq!(rt; named(rt.alloc(), target, "").err(), Some(error));
+    for target in ["*", "a", "h:80", "http://h/a#b", "http:///a"] {
+        let bad = DavError::Status(StatusCode::BAD_REQUEST);
+        assert_eq!(rt; named(rt.alloc(), target, "").err(), Some(bad));
+    }
+    for target in ["http://h?q", "/a#b", "/a%2Fb", "http://h/a%00"] {
+        let refused = named(rt.alloc(), target, "").err();
+        assert_eq!(rt; refused, Some(DavError::InvalidPath));
+    }
+    for target in ["/%2e%2e/x", "http://h/.."] {
+        let refused = named(rt.alloc(), target, "").err();
+        assert_eq!(rt; refused, Some(DavError::ForbiddenPath));
     }
 }
 
