@@ -14,12 +14,11 @@ use Rattle.dav_run.specs.declared.script.Script as script
 use Rattle.dav_run.specs.declared.script.Form.{Form}
 use Rattle.dav_run.specs.declared.script.Form.TheVariants.{Script, Request, Digits, Bytes}
 
--- A request that a script asks for: the bytes of its head, those of its body, if it has one, its moment in seconds
--- since 1970, and what is done to the store's calls, the first call first: none lets a call through, and an error is
--- its answer.
+-- A request that a script asks for: the bytes of its head, its body, its moment in seconds since 1970, and what is done
+-- to the store's calls, the first call first: none lets a call through, and an error is its answer.
 pub record ScriptRequest : Type 0 where
   pub head : List ℕ
-  pub body : Option (List ℕ)
+  pub body : Body
   pub moment : ℕ
   pub refusals : List (Option FsError)
 
@@ -86,9 +85,10 @@ IsBodyBytes d bytes =
     ⊎ ((get (codes "hex") d ≡ None) × IsSomeAnd (get (codes "text") d) (λ text. IsText text bytes)))
 
 -- a body that is absent or null is none; each other one has bytes
-abbrev pub IsBody : Option Data → Option (List ℕ) → Type 0
-IsBody None body = body ≡ None
-IsBody (Some d) body = ((d ≡ null) × (body ≡ None)) ⊎ IsSomeAnd body (IsBodyBytes d)
+abbrev pub IsBody : Option Data → Body → Type 0
+IsBody None b = b ≡ body.None
+IsBody (Some d) b =
+    ((d ≡ null) × (b ≡ body.None)) ⊎ ((bytes : List ℕ) × (b ≡ body.Bytes bytes) × IsBodyBytes d bytes)
 
 -- a moment is a whole number, at most the last second of the year 9999; where there is none, it is 0
 abbrev pub IsMoment : Option Data → ℕ → Type 0
@@ -155,15 +155,10 @@ IsPlayable text = IsShort text × ((s : ScriptContent) × IsScript text s)
 
 -- ---- what was read
 
--- the bytes of a body, if there is one
-abbrev pub given_body : Body → Option (List ℕ)
-given_body body.None = None
-given_body (body.Bytes bytes) = Some bytes
-
 -- what a request asks for
 abbrev pub script_request : request.Request → ScriptRequest
 script_request r =
-    record { head = r.head.items; body = given_body r.body; moment = r.moment; refusals = r.refusals.items }
+    record { head = r.head.items; body = r.body; moment = r.moment; refusals = r.refusals.items }
 
 -- what a script asks for
 abbrev pub script_content : script.Script → ScriptContent

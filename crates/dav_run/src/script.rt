@@ -14,7 +14,8 @@ ghost use Rattle.hex.specs.declared.error.FromHexError.TheVariants.{OutOfMemory}
 ghost use Rattle.dav_core.specs.ErrorNames.{fs_error_name};
 ghost use Rattle.dav_core.specs.declared.errors.FsError.{FsError};
 ghost use Rattle.dav_core.specs.Method.{texts_of};
-ghost use Rattle.dav_run.specs.Script.{IsMemberOf, IsObjectOf, AreItems, IsText, IsDigits, IsHeadText, IsBodyBytes, IsBody, IsMoment, IsRefusal, AreRefusals, IsPrefix, AreMethods, IsMethods, IsNext, IsRequest, IsScriptValue, IsScript, ScriptRequest, ScriptContent, script_request, script_content, given_body};
+ghost use Rattle.dav_run.specs.Script.{IsMemberOf, IsObjectOf, AreItems, IsText, IsDigits, IsHeadText, IsBodyBytes, IsBody, IsMoment, IsRefusal, AreRefusals, IsPrefix, AreMethods, IsMethods, IsNext, IsRequest, IsScriptValue, IsScript, ScriptRequest, ScriptContent, script_request, script_content};
+ghost use Rattle.dav_run.specs.declared.server.Body.{Body};
 ghost use Rattle.dav_run.specs.declared.script.ScriptError.TheVariants.{NotScript, Memory};
 
 use crate::moment::LAST_MOMENT;
@@ -159,7 +160,12 @@ fn read_script(alloc: Global, value: &Value) -> Result<Script, ScriptError>
     let prefix = read_prefix(alloc, value.get("prefix"))?;
     let methods = read_methods(alloc, value.get("methods"))?;
     let next = read_next(value.get("next"))?;
-    Ok(Script { prefix, methods, next, requests })
+    Ok(Script {
+        prefix,
+        methods,
+        next,
+        requests,
+    })
 }
 
 // The prefix of a script; empty where the member is not there.
@@ -273,9 +279,9 @@ fn read_head(alloc: Global, value: &Value) -> Result<Vec<u8>, ScriptError>
 // The body of a request; none where the member is not there or null.
 fn read_body(alloc: Global, value: Option<&Value>) -> Result<Body, ScriptError>
     ensures ok { IfOk result
-        (λ body. IsBody (option_map (λ v. view v.now) value.entry) (given_body body)) }
+        (IsBody (option_map (λ v. view v.now) value.entry)) }
     ensures none { IsErrOf result NotScript
-        → (body : Option (List ℕ)) → ¬ IsBody (option_map (λ v. view v.now) value.entry) body }
+        → (body : Body) → ¬ IsBody (option_map (λ v. view v.now) value.entry) body }
 {
     let Some(form) = value else {
         return Ok(Body::None);
@@ -319,10 +325,7 @@ fn read_moment(value: Option<&Value>) -> Result<u64, ScriptError>
 }
 
 // The refusals of a request's store calls; none where the member is not there.
-fn read_refusals(
-    alloc: Global,
-    value: Option<&Value>,
-) -> Result<Vec<Option<FsError>>, ScriptError>
+fn read_refusals(alloc: Global, value: Option<&Value>) -> Result<Vec<Option<FsError>>, ScriptError>
     ensures ok { IfOk result
         (λ refusals. AreRefusals (option_map (λ v. view v.now) value.entry) refusals.items) }
     ensures none { IsErrOf result NotScript → (refusals : List (Option FsError))
@@ -434,3 +437,6 @@ fn check_members(value: &Value, form: Form) -> Result<(), ScriptError>
         Err(ScriptError::NotScript)
     }
 }
+
+#[cfg(test)]
+mod tests;

@@ -1,4 +1,4 @@
-use Rattle.std.proofs.Common.{List, All, ℕ, ap, subst, sym, ◌∙◌}
+use Rattle.std.proofs.Common.{All, ap, subst, sym, ◌∙◌}
 use Rattle.serde_json.specs.View.{items_view}
 use Rattle.dav_core.specs.Method.{IsMethodName, texts_of}
 use Rattle.dav_run.proofs.Items.{texts_same}
