@@ -7,7 +7,7 @@ pub mod RunLemmas
 pub mod Determined
 pub mod Worlds
 pub mod Members
-pub mod Requests
+pub mod Items
 pub mod Refusals
 pub mod Shown
 pub mod Headers

@@ -1,21 +1,34 @@
--- Scripts: which JSON texts (RFC 8259) are lists of requests, and which requests those are.
-use Rattle.std.specs.Prelude.{◌≡◌, ◌≤◌, ◌⊎◌, ⊤, ℕ, List, [], ◌∷◌, length, codes, Option, Some, None, Ok, IsUtf8, All, IsSomeAnd, option_and_then}
+-- Scripts: which JSON texts (RFC 8259) are a server and a list of requests, and which ones.
+use Rattle.std.specs.Prelude.{◌≡◌, ◌≤◌, ◌<◌, ◌^◌, ◌⊎◌, ⊤, ℕ, List, [], ◌∷◌, length, map, codes, Option, Some, None, Ok, IsUtf8, All, IsSomeAnd, option_and_then, string_bytes}
 use Rattle.hex.specs.Hex.{decode_of}
 use Rattle.serde_json.specs.Data.{Data, null, Items, no_items, item, Members, no_members, member}
 use Rattle.serde_json.specs.Find.{get, as_str, as_number, as_array, as_object, as_u64}
 use Rattle.serde_json.specs.Read.{read}
+use Rattle.dav_core.specs.ErrorNames.{fs_error_name}
+use Rattle.dav_core.specs.Method.{IsNamedSet}
+use Rattle.dav_core.specs.declared.errors.FsError.{FsError}
 use Rattle.dav_run.specs.declared.server.Body.{Body}
 use Rattle.dav_run.specs.declared.server.Body.TheVariants as body
 use Rattle.dav_run.specs.declared.request.Request as request
+use Rattle.dav_run.specs.declared.script.Script as script
 use Rattle.dav_run.specs.declared.script.Form.{Form}
 use Rattle.dav_run.specs.declared.script.Form.TheVariants.{Script, Request, Digits, Bytes}
 
--- the request that a script asks for: the bytes of its head, those of its body, if it has one, and
--- its moment in seconds since 1970
+-- A request that a script asks for: the bytes of its head, its body, its moment in seconds since 1970, and what is done
+-- to the store's calls, the first call first: none lets a call through, and an error is its answer.
 pub record ScriptRequest : Type 0 where
   pub head : List ℕ
-  pub body : Option (List ℕ)
+  pub body : Body
   pub moment : ℕ
+  pub refusals : List (Option FsError)
+
+-- What a script asks for: the prefix of the server's paths, the set of the methods that it allows, the change number
+-- that comes next in its store, and the requests, in order.
+pub record ScriptContent : Type 0 where
+  pub prefix : List ℕ
+  pub methods : ℕ
+  pub next : ℕ
+  pub requests : List ScriptRequest
 
 -- the names of an object's members
 abbrev pub member_names : Members → List (List ℕ)
@@ -24,14 +37,31 @@ member_names (member name value more) = name ∷ member_names more
 
 -- the names that the members of an object of this form may have
 abbrev pub IsMemberOf : Form → List ℕ → Type 0
-IsMemberOf Script name = name ≡ codes "requests"
-IsMemberOf Request name = (name ≡ codes "body") ⊎ ((name ≡ codes "head") ⊎ (name ≡ codes "moment"))
+IsMemberOf Script name =
+    (name ≡ codes "methods") ⊎ ((name ≡ codes "next") ⊎ ((name ≡ codes "prefix") ⊎ (name ≡ codes "requests")))
+IsMemberOf Request name =
+    (name ≡ codes "body") ⊎ ((name ≡ codes "head") ⊎ ((name ≡ codes "moment") ⊎ (name ≡ codes "refuse")))
 IsMemberOf Digits name = name ≡ codes "hex"
 IsMemberOf Bytes name = (name ≡ codes "hex") ⊎ (name ≡ codes "text")
 
 -- an object that has no other members than those of its form
 abbrev pub IsObjectOf : Form → Data → Type 0
 IsObjectOf form d = IsSomeAnd (as_object d) (λ members. All (IsMemberOf form) (member_names members))
+
+-- the items are these, one by one, in order
+abbrev pub AreItems : {X : Type 0} → (Data → X → Type 0) → Items → List X → Type 0
+AreItems Is no_items [] = ⊤
+AreItems Is no_items (x ∷ xs) = ⊥
+AreItems Is (item d ds) [] = ⊥
+AreItems Is (item d ds) (x ∷ xs) = Is d x × AreItems Is ds xs
+
+-- a list whose items are these, in order
+abbrev pub IsListOf : {X : Type 0} → (Data → X → Type 0) → Data → List X → Type 0
+IsListOf Is d xs = IsSomeAnd (as_array d) (λ ds. AreItems Is ds xs)
+
+-- a whole number below 2^64
+abbrev pub IsWholeNumber : Data → ℕ → Type 0
+IsWholeNumber d n = option_and_then as_u64 (as_number d) ≡ Some n
 
 -- a text of these bytes
 abbrev pub IsText : Data → List ℕ → Type 0
@@ -55,38 +85,65 @@ IsBodyBytes d bytes =
     ⊎ ((get (codes "hex") d ≡ None) × IsSomeAnd (get (codes "text") d) (λ text. IsText text bytes)))
 
 -- a body that is absent or null is none; each other one has bytes
-abbrev pub IsBody : Option Data → Option (List ℕ) → Type 0
-IsBody None body = body ≡ None
-IsBody (Some d) body = ((d ≡ null) × (body ≡ None)) ⊎ IsSomeAnd body (IsBodyBytes d)
+abbrev pub IsBody : Option Data → Body → Type 0
+IsBody None b = b ≡ body.None
+IsBody (Some d) b =
+    ((d ≡ null) × (b ≡ body.None)) ⊎ ((bytes : List ℕ) × (b ≡ body.Bytes bytes) × IsBodyBytes d bytes)
 
--- a moment is a number, at most the last second of the year 9999; where there is none, it is 0
+-- a moment is a whole number, at most the last second of the year 9999; where there is none, it is 0
 abbrev pub IsMoment : Option Data → ℕ → Type 0
 IsMoment None moment = moment ≡ 0
-IsMoment (Some d) moment = (option_and_then as_u64 (as_number d) ≡ Some moment) × (moment ≤ 253402300799)
+IsMoment (Some d) moment = IsWholeNumber d moment × (moment ≤ 253402300799)
 
--- a request has a head, and where it says so a body and a moment
+-- null is no refusal; a text is the name of the error that a call is refused with
+abbrev pub IsRefusal : Data → Option FsError → Type 0
+IsRefusal d None = d ≡ null
+IsRefusal d (Some e) = IsText d (fs_error_name e)
+
+-- refusals are a list of them; where there is none, nothing is refused
+abbrev pub AreRefusals : Option Data → List (Option FsError) → Type 0
+AreRefusals None refusals = refusals ≡ []
+AreRefusals (Some d) refusals = IsListOf IsRefusal d refusals
+
+-- a request has a head, and where it says so a body, a moment and refusals
 pub record IsRequest (d : Data) (r : ScriptRequest) : Type 0 where
   pub members : IsObjectOf Request d
   pub head : IsSomeAnd (get (codes "head") d) (λ head. IsHeadText head r.head)
   pub body : IsBody (get (codes "body") d) r.body
   pub moment : IsMoment (get (codes "moment") d) r.moment
+  pub refusals : AreRefusals (get (codes "refuse") d) r.refusals
 
--- the items of a list are these requests, in order
-abbrev pub AreRequests : Items → List ScriptRequest → Type 0
-AreRequests no_items [] = ⊤
-AreRequests no_items (r ∷ rs) = ⊥
-AreRequests (item d ds) [] = ⊥
-AreRequests (item d ds) (r ∷ rs) = IsRequest d r × AreRequests ds rs
+-- a prefix is a text; where there is none, it is empty
+abbrev pub IsPrefix : Option Data → List ℕ → Type 0
+IsPrefix None prefix = prefix ≡ []
+IsPrefix (Some d) prefix = IsText d prefix
 
--- a value is a script of these requests: an object with the list of them as its one member
-abbrev pub IsScriptValue : Data → List ScriptRequest → Type 0
-IsScriptValue d rs =
-    IsObjectOf Script d
-    × IsSomeAnd (get (codes "requests") d) (λ list. IsSomeAnd (as_array list) (λ ds. AreRequests ds rs))
+-- the items are names of methods, ASCII case ignored, and the set has these methods and no others
+pub record AreMethods (ds : Items) (set : ℕ) : Type 0 where
+  pub below : set < 2 ^ 16
+  pub named : (names : List (List ℕ)) × AreItems IsText ds names × IsNamedSet names set
 
--- bytes are a script of these requests: UTF-8, and the JSON text of such a value
-abbrev pub IsScript : List ℕ → List ScriptRequest → Type 0
-IsScript text rs = IsUtf8 text × IsSomeAnd (read text) (λ d. IsScriptValue d rs)
+-- methods are a list of their names; where there is none, they are all methods
+abbrev pub IsMethods : Option Data → ℕ → Type 0
+IsMethods None set = set ≡ 65535
+IsMethods (Some d) set = IsSomeAnd (as_array d) (λ ds. AreMethods ds set)
+
+-- the change number that comes next is a whole number; where there is none, it is 1
+abbrev pub IsNext : Option Data → ℕ → Type 0
+IsNext None next = next ≡ 1
+IsNext (Some d) next = IsWholeNumber d next
+
+-- a value is a script: it has a list of requests, and where it says so a prefix, methods and a next change number
+pub record IsScriptValue (d : Data) (s : ScriptContent) : Type 0 where
+  pub members : IsObjectOf Script d
+  pub prefix : IsPrefix (get (codes "prefix") d) s.prefix
+  pub methods : IsMethods (get (codes "methods") d) s.methods
+  pub next : IsNext (get (codes "next") d) s.next
+  pub requests : IsSomeAnd (get (codes "requests") d) (λ list. IsListOf IsRequest list s.requests)
+
+-- bytes are a script: UTF-8, and the JSON text of such a value; of a member that comes twice the last one counts
+abbrev pub IsScript : List ℕ → ScriptContent → Type 0
+IsScript text s = IsUtf8 text × IsSomeAnd (read text) (λ d. IsScriptValue d s)
 
 -- no more bytes than a script may have
 abbrev pub IsShort : List ℕ → Type 0
@@ -94,15 +151,20 @@ IsShort text = length text ≤ 16777216
 
 -- bytes that can be played: a script, and short
 abbrev pub IsPlayable : List ℕ → Type 0
-IsPlayable text = IsShort text × ((rs : List ScriptRequest) × IsScript text rs)
+IsPlayable text = IsShort text × ((s : ScriptContent) × IsScript text s)
 
 -- ---- what was read
 
--- the bytes of a body, if there is one
-abbrev pub given_body : Body → Option (List ℕ)
-given_body body.None = None
-given_body (body.Bytes bytes) = Some bytes
-
 -- what a request asks for
 abbrev pub script_request : request.Request → ScriptRequest
-script_request r = record { head = r.head.items; body = given_body r.body; moment = r.moment }
+script_request r =
+    record { head = r.head.items; body = r.body; moment = r.moment; refusals = r.refusals.items }
+
+-- what a script asks for
+abbrev pub script_content : script.Script → ScriptContent
+script_content s = record {
+  prefix = string_bytes s.prefix;
+  methods = s.methods;
+  next = s.next;
+  requests = map script_request s.requests.items;
+}

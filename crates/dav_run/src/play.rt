@@ -1,8 +1,8 @@
 //! Playing a script: from the bytes of a reader to the lines of a writer.
-ghost use Rattle.std.specs.Prelude.{◌≡◌, ◌≢◌, ◌↔◌, ◌≤◌, map, ℕ, List, [], unwrap_or, IfSome, IfOk, IfErr, OnOk, IsErrOf};
+ghost use Rattle.std.specs.Prelude.{◌≡◌, ◌≢◌, ◌↔◌, ◌≤◌, map, ℕ, List, IfSome, IfOk, IfErr, OnOk, IsErrOf};
 ghost use Rattle.std.specs.Io.KnownBytes.{Appends};
 ghost use Rattle.dav_run.specs.Print.{lines_of};
-ghost use Rattle.dav_run.specs.Script.{IsScript, IsShort, IsPlayable, script_request, given_body};
+ghost use Rattle.dav_run.specs.Script.{IsScript, IsShort, IsPlayable, script_request, script_content};
 ghost use Rattle.dav_run.specs.Exchange.{asked, body_bytes};
 ghost use Rattle.dav_run.specs.Play.{Plays, exchange_asked};
 ghost use Rattle.dav_run.specs.declared.play.Fault.TheVariants.{NotScript, Io, Memory};
@@ -120,7 +120,7 @@ fn play_through<R: Read, W: Write>(
 // The script that a reader gives.
 fn read_script<R: Read>(alloc: Global, reader: &mut R) -> Result<Script, Fault>
     ensures ok { IfOk result (λ script. IfSome (R.remaining reader.old) (λ text.
-        IsShort text × IsScript text (map script_request script.requests.items))) }
+        IsShort text × IsScript text (script_content script))) }
     ensures not_script { IsErrOf result NotScript
         → IfSome (R.remaining reader.old) (λ text. ¬ IsPlayable text) }
 {
@@ -172,7 +172,7 @@ fn exchange_of(request: &Request) -> Result<Exchange<'_>, AllocError>
 
 // The same body, which shares its bytes.
 fn body_of(body: &Body) -> Result<Body, AllocError>
-    ensures { IfOk result (λ copy. body_bytes copy ≡ unwrap_or (given_body body.now) []) }
+    ensures { IfOk result (λ copy. body_bytes copy ≡ body_bytes body.now) }
 {
     match body {
         Body::None => Ok(Body::None),

@@ -2,6 +2,7 @@
 ghost use Rattle.std.specs.Prelude.{◌≤◌};
 
 use crate::server::Body;
+use dav_core::errors::FsError;
 
 /// A request of a script, to be made at a moment.
 #[derive(Drop)]
@@ -12,5 +13,8 @@ pub struct Request {
     pub body: Body,
     /// When the request is made, in seconds since 1970; at most [`crate::moment::LAST_MOMENT`].
     pub moment: u64,
+    /// What is done to the store's calls, the first call first: `None` lets a call through, and an error is its
+    /// answer. Calls past the end are let through.
+    pub refusals: Vec<Option<FsError>>,
     ghost in_time: { moment ≤ 253402300799 },
 }

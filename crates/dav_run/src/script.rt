@@ -1,20 +1,29 @@
-//! Scripts: lists of requests, written as JSON (RFC 8259).
+//! Scripts: a server and the requests that are made to it, written as JSON (RFC 8259).
 //!
-//! A script is an object with the one member `requests`, a list. A request is an object with a
-//! `head` (a text, or an object with the one member `hex`), and where it has them a `body` (null, or
-//! an object with one of the members `text` and `hex`) and a `moment`, a whole number of seconds.
-ghost use Rattle.std.specs.Prelude.{◌≡◌, ◌≢◌, ◌↔◌, ◌≤◌, ℕ, List, Option, All, map, option_map, string_bytes, IsTrue, OnOk, OnErr, IfOk, IsErrOf, IsOkUnless};
+//! A script is an object with a list `requests`, and where it has them a `prefix` (a text), `methods`
+//! (a list of the names of those that are allowed) and `next` (a whole number). A request is an object
+//! with a `head` (a text, or an object with the one member `hex`), and where it has them a `body`
+//! (null, or an object with one of the members `text` and `hex`), a `moment`, a whole number of
+//! seconds, and `refuse` (a list of null and names of errors).
+ghost use Rattle.std.specs.Prelude.{◌≡◌, ◌≢◌, ◌↔◌, ◌≤◌, ℕ, List, Option, All, map, option_map, string_bytes, IsTrue, OnOk, OnErr, IfOk, IsErrOf, IsOkUnless, MatchOption};
 ghost use Rattle.std.specs.Map.{keys_of};
 ghost use Rattle.serde_json.specs.View.{view, items_view};
 ghost use Rattle.serde_json.specs.Errors.{IsMemory};
+ghost use Rattle.serde_json.specs.Find.{as_array};
 ghost use Rattle.hex.specs.declared.error.FromHexError.TheVariants.{OutOfMemory};
-ghost use Rattle.dav_run.specs.Script.{IsMemberOf, IsObjectOf, IsText, IsDigits, IsHeadText, IsBodyBytes, IsBody, IsMoment, IsRequest, AreRequests, IsScriptValue, IsScript, ScriptRequest, script_request, given_body};
+ghost use Rattle.dav_core.specs.ErrorNames.{fs_error_name};
+ghost use Rattle.dav_core.specs.declared.errors.FsError.{FsError};
+ghost use Rattle.dav_core.specs.Method.{texts_of};
+ghost use Rattle.dav_run.specs.Script.{IsMemberOf, IsObjectOf, AreItems, IsText, IsDigits, IsHeadText, IsBodyBytes, IsBody, IsMoment, IsRefusal, AreRefusals, IsPrefix, AreMethods, IsMethods, IsNext, IsRequest, IsScriptValue, IsScript, ScriptRequest, ScriptContent, script_request, script_content};
+ghost use Rattle.dav_run.specs.declared.server.Body.{Body};
 ghost use Rattle.dav_run.specs.declared.script.ScriptError.TheVariants.{NotScript, Memory};
 
 use crate::moment::LAST_MOMENT;
 use crate::request::Request;
 use crate::server::Body;
 use bytes::Bytes;
+use dav_core::errors::FsError;
+use dav_core::method::{DavMethodSet, InvalidMethod};
 use hex::FromHexError;
 use serde_json::{Map, Value};
 use std::alloc::{AllocError, AllocFailed, Global};
@@ -67,9 +76,24 @@ impl From<FromHexError> for ScriptError {
     }
 }
 
-/// The requests to be played, in order.
+impl From<InvalidMethod> for ScriptError {
+    ghost from_gives = { λ _ e. e ≡ NotScript };
+
+    fn from(_error: InvalidMethod) -> ScriptError {
+        ScriptError::NotScript
+    }
+}
+
+/// A server, and the requests to be played on it, in order.
 #[derive(Drop)]
 pub struct Script {
+    /// What stands in front of each path that the server serves; empty for none. Whether a server takes
+    /// this prefix isn't looked at.
+    pub prefix: String,
+    /// The methods that the server allows.
+    pub methods: DavMethodSet,
+    /// The change number that comes next in the server's store, as the script says it.
+    pub next: u64,
     /// The requests, the first one first.
     pub requests: Vec<Request>,
 }
@@ -78,9 +102,9 @@ impl Script {
     /// The script that bytes spell. Fails with `NotScript` where they spell none, and with `Memory`
     /// for want of memory.
     pub fn from_bytes(alloc: Global, bytes: &[u8]) -> Result<Script, ScriptError>
-        ensures ok { IfOk result (λ script. IsScript bytes.now (map script_request script.requests.items)) }
+        ensures ok { IfOk result (λ script. IsScript bytes.now (script_content script)) }
         ensures none { IsErrOf result NotScript
-            → (requests : List ScriptRequest) → ¬ IsScript bytes.now requests }
+            → (content : ScriptContent) → ¬ IsScript bytes.now content }
     {
         let value = Value::from_slice(alloc, bytes)?;
         read_script(alloc, &value)
@@ -106,8 +130,8 @@ impl Form {
         ensures { IsTrue result ↔ IsMemberOf self name.now }
     {
         match self {
-            Form::Script => matches!(name, "requests"),
-            Form::Request => matches!(name, "body" | "head" | "moment"),
+            Form::Script => matches!(name, "methods" | "next" | "prefix" | "requests"),
+            Form::Request => matches!(name, "body" | "head" | "moment" | "refuse"),
             Form::Digits => matches!(name, "hex"),
             Form::Bytes => matches!(name, "hex" | "text"),
         }
@@ -124,25 +148,92 @@ impl Form {
 
 // The script that a value stands for.
 fn read_script(alloc: Global, value: &Value) -> Result<Script, ScriptError>
-    ensures ok { IfOk result
-        (λ script. IsScriptValue (view value.now) (map script_request script.requests.items)) }
+    ensures ok { IfOk result (λ script. IsScriptValue (view value.now) (script_content script)) }
     ensures none { IsErrOf result NotScript
-        → (requests : List ScriptRequest) → ¬ IsScriptValue (view value.now) requests }
+        → (content : ScriptContent) → ¬ IsScriptValue (view value.now) content }
 {
     check_members(value, Form::Script)?;
     let Some(list) = value.get("requests").and_then(Value::as_array) else {
         return Err(ScriptError::NotScript);
     };
     let requests = read_requests(alloc, list)?;
-    Ok(Script { requests })
+    let prefix = read_prefix(alloc, value.get("prefix"))?;
+    let methods = read_methods(alloc, value.get("methods"))?;
+    let next = read_next(value.get("next"))?;
+    Ok(Script {
+        prefix,
+        methods,
+        next,
+        requests,
+    })
+}
+
+// The prefix of a script; empty where the member is not there.
+fn read_prefix(alloc: Global, value: Option<&Value>) -> Result<String, ScriptError>
+    ensures ok { IfOk result
+        (λ prefix. IsPrefix (option_map (λ v. view v.now) value.entry) (string_bytes prefix)) }
+    ensures none { IsErrOf result NotScript
+        → (prefix : List ℕ) → ¬ IsPrefix (option_map (λ v. view v.now) value.entry) prefix }
+{
+    let Some(value) = value else {
+        return Ok(String::new(alloc));
+    };
+    Ok(String::from_str(alloc, text_of(value)?)?)
+}
+
+// The methods that a script allows; all where the member is not there.
+fn read_methods(alloc: Global, value: Option<&Value>) -> Result<DavMethodSet, ScriptError>
+    ensures ok { IfOk result (IsMethods (option_map (λ v. view v.now) value.entry)) }
+    ensures none { IsErrOf result NotScript
+        → (set : ℕ) → ¬ IsMethods (option_map (λ v. view v.now) value.entry) set }
+{
+    match value {
+        None => Ok(DavMethodSet::all()),
+        Some(value) => read_method_list(alloc, list_of(value)?),
+    }
+}
+
+// The set of the methods that the items of a list name.
+fn read_method_list(alloc: Global, list: &[Value]) -> Result<DavMethodSet, ScriptError>
+    ensures ok { IfOk result (AreMethods (items_view list.now)) }
+    ensures none { IsErrOf result NotScript → (set : ℕ) → ¬ AreMethods (items_view list.now) set }
+{
+    let names = read_names(alloc, list)?;
+    Ok(DavMethodSet::from_vec(&names)?)
+}
+
+// The texts that the items of a list are.
+fn read_names(alloc: Global, list: &[Value]) -> Result<Vec<&str>, ScriptError>
+    ensures ok { IfOk result (λ names. AreItems IsText (items_view list.now) (texts_of names.items)) }
+    ensures none { IsErrOf result NotScript
+        → (names : List (List ℕ)) → ¬ AreItems IsText (items_view list.now) names }
+{
+    let mut names = Vec::new(alloc);
+    for item in list {
+        names.push(text_of(item)?)?;
+    }
+    Ok(names)
+}
+
+// The change number that comes next; 1 where the member is not there.
+fn read_next(value: Option<&Value>) -> Result<u64, ScriptError>
+    ensures ok { IfOk result (IsNext (option_map (λ v. view v.now) value.entry)) }
+    ensures none { OnErr result ((next : ℕ)
+        → ¬ IsNext (option_map (λ v. view v.now) value.entry) next) }
+    ensures err { IsOkUnless result NotScript }
+{
+    let Some(value) = value else {
+        return Ok(1);
+    };
+    value.as_u64().ok_or(ScriptError::NotScript)
 }
 
 // The requests that the items of a list stand for.
 fn read_requests(alloc: Global, list: &[Value]) -> Result<Vec<Request>, ScriptError>
     ensures ok { IfOk result
-        (λ requests. AreRequests (items_view list.now) (map script_request requests.items)) }
+        (λ requests. AreItems IsRequest (items_view list.now) (map script_request requests.items)) }
     ensures none { IsErrOf result NotScript
-        → (requests : List ScriptRequest) → ¬ AreRequests (items_view list.now) requests }
+        → (requests : List ScriptRequest) → ¬ AreItems IsRequest (items_view list.now) requests }
 {
     let mut requests = Vec::new(alloc);
     for item in list {
@@ -164,7 +255,13 @@ fn read_request(alloc: Global, value: &Value) -> Result<Request, ScriptError>
     let head = read_head(alloc, head)?;
     let body = read_body(alloc, value.get("body"))?;
     let moment = read_moment(value.get("moment"))?;
-    Ok(Request { head, body, moment })
+    let refusals = read_refusals(alloc, value.get("refuse"))?;
+    Ok(Request {
+        head,
+        body,
+        moment,
+        refusals,
+    })
 }
 
 // The bytes of a head: those of a text, or of the digits of the one member `hex`.
@@ -182,9 +279,9 @@ fn read_head(alloc: Global, value: &Value) -> Result<Vec<u8>, ScriptError>
 // The body of a request; none where the member is not there or null.
 fn read_body(alloc: Global, value: Option<&Value>) -> Result<Body, ScriptError>
     ensures ok { IfOk result
-        (λ body. IsBody (option_map (λ v. view v.now) value.entry) (given_body body)) }
+        (IsBody (option_map (λ v. view v.now) value.entry)) }
     ensures none { IsErrOf result NotScript
-        → (body : Option (List ℕ)) → ¬ IsBody (option_map (λ v. view v.now) value.entry) body }
+        → (body : Body) → ¬ IsBody (option_map (λ v. view v.now) value.entry) body }
 {
     let Some(form) = value else {
         return Ok(Body::None);
@@ -227,13 +324,73 @@ fn read_moment(value: Option<&Value>) -> Result<u64, ScriptError>
     }
 }
 
+// The refusals of a request's store calls; none where the member is not there.
+fn read_refusals(alloc: Global, value: Option<&Value>) -> Result<Vec<Option<FsError>>, ScriptError>
+    ensures ok { IfOk result
+        (λ refusals. AreRefusals (option_map (λ v. view v.now) value.entry) refusals.items) }
+    ensures none { IsErrOf result NotScript → (refusals : List (Option FsError))
+        → ¬ AreRefusals (option_map (λ v. view v.now) value.entry) refusals }
+{
+    match value {
+        None => Ok(Vec::new(alloc)),
+        Some(value) => read_refusal_list(alloc, list_of(value)?),
+    }
+}
+
+// The refusals that the items of a list stand for.
+fn read_refusal_list(alloc: Global, list: &[Value]) -> Result<Vec<Option<FsError>>, ScriptError>
+    ensures ok { IfOk result (λ refusals. AreItems IsRefusal (items_view list.now) refusals.items) }
+    ensures none { IsErrOf result NotScript → (refusals : List (Option FsError))
+        → ¬ AreItems IsRefusal (items_view list.now) refusals }
+{
+    let mut refusals = Vec::new(alloc);
+    for item in list {
+        refusals.push(read_refusal(item)?)?;
+    }
+    Ok(refusals)
+}
+
+// What is done to one store call: null is no refusal, and a name is the error that it refuses with.
+fn read_refusal(value: &Value) -> Result<Option<FsError>, ScriptError>
+    ensures ok { IfOk result (IsRefusal (view value.now)) }
+    ensures none { OnErr result ((refusal : Option FsError) → ¬ IsRefusal (view value.now) refusal) }
+    ensures err { IsOkUnless result NotScript }
+{
+    if value.is_null() {
+        return Ok(None);
+    }
+    match error_named(text_of(value)?) {
+        Some(error) => Ok(Some(error)),
+        None => Err(ScriptError::NotScript),
+    }
+}
+
+// The error that has this name.
+fn error_named(name: &str) -> Option<FsError>
+    ensures { MatchOption result ((e : FsError) → name.now ≢ fs_error_name e)
+        (λ e. name.now ≡ fs_error_name e) }
+{
+    match name {
+        "NotImplemented" => Some(FsError::NotImplemented),
+        "GeneralFailure" => Some(FsError::GeneralFailure),
+        "Exists" => Some(FsError::Exists),
+        "NotFound" => Some(FsError::NotFound),
+        "Forbidden" => Some(FsError::Forbidden),
+        "InsufficientStorage" => Some(FsError::InsufficientStorage),
+        "LoopDetected" => Some(FsError::LoopDetected),
+        "PathTooLong" => Some(FsError::PathTooLong),
+        "TooLarge" => Some(FsError::TooLarge),
+        "IsRemote" => Some(FsError::IsRemote),
+        _ => None,
+    }
+}
+
 // The bytes of a text.
 fn read_text(alloc: Global, value: &Value) -> Result<Vec<u8>, ScriptError>
     ensures ok { IfOk result (λ bytes. IsText (view value.now) bytes.items) }
     ensures none { IsErrOf result NotScript → (bytes : List ℕ) → ¬ IsText (view value.now) bytes }
 {
-    let text = value.as_str().ok_or(ScriptError::NotScript)?;
-    Ok(Vec::from_slice(alloc, text.as_bytes())?)
+    Ok(Vec::from_slice(alloc, text_of(value)?.as_bytes())?)
 }
 
 // The bytes whose hexadecimal digits, in either case, are a text.
@@ -241,8 +398,28 @@ fn read_hex(alloc: Global, value: &Value) -> Result<Vec<u8>, ScriptError>
     ensures ok { IfOk result (λ bytes. IsDigits (view value.now) bytes.items) }
     ensures none { IsErrOf result NotScript → (bytes : List ℕ) → ¬ IsDigits (view value.now) bytes }
 {
-    let digits = value.as_str().ok_or(ScriptError::NotScript)?;
-    Ok(hex::decode(alloc, digits)?)
+    Ok(hex::decode(alloc, text_of(value)?)?)
+}
+
+// The items of the list that a value is.
+fn list_of(value: &Value) -> Result<&[Value], ScriptError>
+    ensures ok { IfOk result (λ list. as_array (view value.now) ≡ Some (items_view list.now)) }
+    ensures none { OnErr result (as_array (view value.now) ≡ None) }
+    ensures err { IsOkUnless result NotScript }
+{
+    match value.as_array() {
+        Some(list) => Ok(list),
+        None => Err(ScriptError::NotScript),
+    }
+}
+
+// The text that a value is.
+fn text_of(value: &Value) -> Result<&str, ScriptError>
+    ensures ok { IfOk result (λ text. IsText (view value.now) text.now) }
+    ensures none { OnErr result ((bytes : List ℕ) → ¬ IsText (view value.now) bytes) }
+    ensures err { IsOkUnless result NotScript }
+{
+    value.as_str().ok_or(ScriptError::NotScript)
 }
 
 // Sees that a value is an object of a form: that it has no other members than that form's.
@@ -260,3 +437,6 @@ fn check_members(value: &Value, form: Form) -> Result<(), ScriptError>
         Err(ScriptError::NotScript)
     }
 }
+
+#[cfg(test)]
+mod tests;

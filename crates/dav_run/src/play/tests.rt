@@ -64,7 +64,7 @@ fn refuses_what_is_no_script(rt: HostRuntime) {
         "{}",
         r#"{"requests":null}"#,
         r#"{"requests":{}}"#,
-        r#"{"requests":[],"prefix":""}"#,
+        r#"{"requests":[],"locks":true}"#,
         r#"{"requests":[],"Requests":[]}"#,
         r#"{"requests":[null]}"#,
         r#"{"requests":[[]]}"#,
