@@ -2,6 +2,9 @@
 ghost use Rattle.std.specs.Prelude.{◌≡◌};
 ghost use Rattle.dav_engine.specs.Headers.{has_field, has_conditions};
 
+#[cfg(test)]
+mod tests;
+
 use http_header::{HeaderMap, HeaderName};
 
 // Whether there is a field of this name.

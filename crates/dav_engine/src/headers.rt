@@ -6,6 +6,9 @@ ghost use Rattle.dav_headers.specs.Length.{IsContentLength};
 ghost use Rattle.dav_engine.specs.Headers.{Decodes, text_in};
 ghost use Rattle.dav_engine.specs.Put.{checksum_in};
 
+#[cfg(test)]
+mod tests;
+
 use dav_core::errors::NoMemory;
 use dav_headers::{ContentLength, HeaderError};
 use http_header::{HeaderMap, HeaderName, HeaderValue};

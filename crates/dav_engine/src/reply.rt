@@ -6,6 +6,9 @@ ghost use Rattle.dav_core.specs.Metadata.{tag_of};
 ghost use Rattle.dav_core.specs.World.{last_moment};
 ghost use Rattle.dav_engine.specs.Response.{response_of, error_reply, with_tag, with_validators};
 
+#[cfg(test)]
+mod tests;
+
 use crate::date::date_value;
 use bytes::Bytes;
 use dav_core::element::Element;
