@@ -9,9 +9,10 @@ use Rattle.http_header.specs.HeaderMap.{pairs}
 use Rattle.serde_json.specs.Data.{string, Members, no_members, member, put}
 use Rattle.serde_json.specs.Written.{has_float, members_have_float}
 use Rattle.dav_run.specs.Print.{headers_over, body_data, reply_data}
-use Rattle.dav_run.specs.declared.reply.Reply.{Reply}
-use Rattle.dav_run.specs.declared.reply.ReplyBody.{ReplyBody}
-use Rattle.dav_run.specs.declared.reply.ReplyBody.TheVariants.{Nothing, Bytes}
+use Rattle.dav_engine.specs.declared.reply.Reply.{Reply}
+use Rattle.dav_engine.specs.declared.reply.ReplyBody.{ReplyBody}
+use Rattle.dav_engine.specs.declared.reply.ReplyBody.TheVariants.{Nothing, Bytes, Tree}
+use Rattle.dav_run.proofs.TreeLemmas.{tree_body_plain}
 
 neither : (a b : Bool) → (a || b) ≡ false → (a ≡ false) × (b ≡ false)
 neither false b h = (refl, h)
@@ -42,6 +43,7 @@ headers_plain (x ∷ hs) found h = headers_plain hs (put x.0 (string (utf8_lossy
 body_plain : (b : ReplyBody) → has_float (body_data b) ≡ false
 body_plain Nothing = refl
 body_plain (Bytes bytes) = refl
+body_plain (Tree tree) = tree_body_plain tree
 
 -- a reply's JSON has no fraction
 pub reply_plain : (r : Reply) → has_float (reply_data r) ≡ false

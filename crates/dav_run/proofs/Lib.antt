@@ -1,15 +1,7 @@
-pub mod PathLemmas
-pub mod Place
-pub mod DateLemmas
-pub mod Splice
-pub mod HeadLemmas
-pub mod RunLemmas
-pub mod Determined
-pub mod Worlds
 pub mod Members
 pub mod Items
 pub mod Refusals
-pub mod Shown
 pub mod Headers
 pub mod Lines
 pub mod Played
+pub mod TreeLemmas

@@ -1,22 +1,53 @@
 -- From the bytes of a script to the lines that are written.
-use Rattle.std.proofs.Common.{◌≡◌, ℕ, List, [], ◌∷◌, map, Option, Some, None, Result, Ok, Err, OnOk, IfSome, refl, ap}
-use Rattle.dav_core.specs.World.{World, empty_from}
-use Rattle.dav_run.specs.declared.reply.Reply.{Reply}
+use Rattle.std.proofs.Common.{◌≡◌, ℕ, List, [], ◌∷◌, map, Option, Some, None, Result, Ok, Err, OnOk, IfSome, IsSomeAnd, refl, sym, ap, subst, ◌∙◌}
+use Rattle.serde_json.specs.Data.{Data}
+use Rattle.serde_json.specs.Find.{get}
+use Rattle.serde_json.specs.Read.{read}
+use Rattle.dav_core.specs.Asking.{StoreState}
+use Rattle.dav_engine.specs.declared.reply.Reply.{Reply}
+use Rattle.dav_engine.specs.Plan.{Locks}
+use Rattle.dav_engine.specs.Response.{response_of}
+use Rattle.dav_server.specs.Machine.{Settings}
+use Rattle.dav_server.specs.Run.{Turn, Runs}
+use Rattle.dav_server.specs.Setup.{IsPrefix}
 use Rattle.dav_run.specs.Print.{lines_of}
-use Rattle.dav_run.specs.Script.{ScriptRequest, IsShort, IsScript}
-use Rattle.dav_run.specs.Reply.{response_of}
-use Rattle.dav_run.specs.Run.{Runs}
-use Rattle.dav_run.specs.Play.{Plays, exchange_asked}
-
--- what the parts of a request ask, one after the other
-pub map_through : {X Y Z : Type 0} (f : X → Y) (g : Y → Z) (xs : List X) → map (λ x. g (f x)) xs ≡ map g (map f xs)
-map_through f g [] = refl
-map_through {Z = Z} f g (x ∷ xs) = ap (λ (l : List Z). g (f x) ∷ l) (map_through f g xs)
+use Rattle.dav_run.specs.Script as script
+use Rattle.dav_run.specs.Script.{ScriptContent, IsShort, IsScript, IsScriptValue}
+use Rattle.dav_run.specs.Play.{Plays, IsPlayable, settings_for, new_store, turn_for}
 
 -- a script that was read, the run of its requests and the lines of the replies are a play
-pub together : {E : Type 0} (result : Result (Unit {0}) E) (o : Option (List ℕ)) (Wrote : List ℕ → Type 0) (rs : List ScriptRequest) (replies : List Reply) (left : World)
-    → IfSome o (λ text. IsShort text × IsScript text rs) → Runs (map exchange_asked rs) (empty_from 1) (map response_of replies) left
+pub together : {E : Type 0} (result : Result (Unit {0}) E) (o : Option (List ℕ)) (Wrote : List ℕ → Type 0) (s : ScriptContent) (replies : List Reply) (left : StoreState) (locks : Locks)
+    → IfSome o (λ text. IsShort text × IsScript text s) → IsPrefix s.prefix
+    → Runs (settings_for s) (map turn_for s.requests) (new_store s) (Some []) (map response_of replies) left locks
     → OnOk result (Wrote (lines_of replies)) → OnOk result (IfSome o (λ text. (lines : List ℕ) × Plays text lines × Wrote lines))
-together (Ok x) (Some text) Wrote rs replies left script run wrote = (lines_of replies, (rs, replies, left, script.0, script.1, run, refl), wrote)
-together (Ok x) None Wrote rs replies left script run wrote = tt
-together (Err e) o Wrote rs replies left script run wrote = tt
+together (Ok x) (Some text) Wrote s replies left locks read prefix run wrote = (lines_of replies, (s, replies, left, locks, read.0, read.1, prefix, run, refl), wrote)
+together (Ok x) None Wrote s replies left locks read prefix run wrote = tt
+together (Err e) o Wrote s replies left locks read prefix run wrote = tt
+
+-- a member says one text
+one_text : (o : Option Data) (a b : List ℕ) → script.IsPrefix o a → script.IsPrefix o b → a ≡ b
+one_text None a b one two = one ∙ sym two
+one_text (Some d) a b one two = let same : Some a ≡ Some b = sym one ∙ two in cc
+
+-- a value says one prefix
+in_value : (o : Option Data) (s t : ScriptContent) → IsSomeAnd o (λ d. IsScriptValue d s) → IsSomeAnd o (λ d. IsScriptValue d t) → s.prefix ≡ t.prefix
+in_value (Some d) s t one two = one_text _ _ _ one.prefix two.prefix
+in_value None s t one two = absurd one
+
+-- bytes say one prefix
+one_prefix : (text : List ℕ) (s t : ScriptContent) → IsScript text s → IsScript text t → s.prefix ≡ t.prefix
+one_prefix text s t one two = in_value (read text) s t one.1 two.1
+
+-- a script whose prefix is none can't be played
+pub unplayable : (o : Option (List ℕ)) (s : ScriptContent) → IfSome o (λ text. IsShort text × IsScript text s) → ¬ IsPrefix s.prefix → IfSome o (λ text. ¬ IsPlayable text)
+unplayable None s read bad = tt
+unplayable (Some text) s read bad = λ can. bad (subst IsPrefix (one_prefix text can.0 s can.2 read.1) can.3)
+
+-- the run of a server that was set up so
+pub run_set_up : {s t : Settings} {ts us : List Turn} {old from left : StoreState} {ls ks locks : Locks} {replies : List Reply} → s ≡ t → ts ≡ us → old ≡ from → ls ≡ ks
+    → Runs s ts old ls (map response_of replies) left locks → Runs t us from ks (map response_of replies) left locks
+run_set_up {s} {t} {ts} {us} {old} {from} {left} {ls} {ks} {locks} {replies} one two three four run =
+    subst (λ (k : Locks). Runs t us from k (map response_of replies) left locks) four
+    (subst (λ (o : StoreState). Runs t us o ls (map response_of replies) left locks) three
+    (subst (λ (l : List Turn). Runs t l old ls (map response_of replies) left locks) two
+    (subst (λ (c : Settings). Runs c ts old ls (map response_of replies) left locks) one run)))

@@ -1,12 +1,4 @@
-pub mod Head
-pub mod Length
-pub mod Date
-pub mod Response
-pub mod Methods
-pub mod Run
-pub mod Reply
-pub mod Store
-pub mod Exchange
 pub mod Print
 pub mod Script
 pub mod Play
+pub mod TreeData

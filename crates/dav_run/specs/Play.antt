@@ -1,26 +1,40 @@
 -- What playing a script writes.
-use Rattle.std.specs.Prelude.{◌≡◌, ℕ, List, [], map, All}
-use Rattle.dav_core.specs.World.{World, empty_from}
-use Rattle.dav_run.specs.declared.reply.Reply.{Reply}
-use Rattle.dav_run.specs.Exchange.{body_bytes}
-use Rattle.dav_run.specs.Run.{Asked, Runs}
-use Rattle.dav_run.specs.Reply.{response_of}
+use Rattle.std.specs.Prelude.{◌≡◌, ℕ, max, false, List, [], map, Option, Some, None}
+use Rattle.dav_core.specs.Asking.{StoreState}
+use Rattle.dav_core.specs.World.{empty_from}
+use Rattle.dav_engine.specs.declared.reply.Reply.{Reply}
+use Rattle.dav_engine.specs.Plan.{Locks}
+use Rattle.dav_engine.specs.Response.{response_of}
+use Rattle.dav_server.specs.Machine.{Settings}
+use Rattle.dav_server.specs.Run.{Turn, Runs}
+use Rattle.dav_server.specs.Setup.{IsPrefix}
 use Rattle.dav_run.specs.Script.{ScriptRequest, ScriptContent, IsShort, IsScript}
 use Rattle.dav_run.specs.Print.{lines_of}
 
--- a request of a script as an exchange: no body is one of no bytes
-abbrev pub exchange_asked : ScriptRequest → Asked
-exchange_asked r = record { head = r.head; body = body_bytes r.body; moment = r.moment }
+-- a request of a script, with the calls of the store that are refused while it is answered; nobody is said to make it
+abbrev pub turn_for : ScriptRequest → Turn
+turn_for r = record {
+  asked = record { head = r.head; body = r.body; principal = None; moment = r.moment; token = None };
+  refusals = Some r.refusals;
+}
 
--- a script that says nothing but its requests: no prefix, all methods, and the first number
-abbrev pub plain : List ScriptRequest → ScriptContent
-plain requests = record { prefix = []; methods = 65535; next = 1; requests = requests }
+-- how the server of a script is set up
+abbrev pub settings_for : ScriptContent → Settings
+settings_for s = record { prefix = s.prefix; allowed = s.methods }
 
--- The text is a script that says nothing but its requests, none of which has refusals, and the lines are those of the
--- replies of the machine's run of them on an empty store.
+-- its store: a root alone, and the change number that comes next, where 0 counts as 1
+abbrev pub new_store : ScriptContent → StoreState
+new_store s = record { world = empty_from (max s.next 1); refusals = []; short = false }
+
+-- bytes that can be played: a script, which is short, and whose prefix is one
+abbrev pub IsPlayable : List ℕ → Type 0
+IsPlayable text = (s : ScriptContent) × IsShort text × IsScript text s × IsPrefix s.prefix
+
+-- The text is a script, and the lines are those of the replies of the machine's run of its requests on a new server, with an empty
+-- list of locks.
 abbrev pub Plays : List ℕ → List ℕ → Type 0
 Plays text lines =
-    (requests : List ScriptRequest) × (replies : List Reply) × (left : World)
-    × IsShort text × IsScript text (plain requests) × All (λ r. r.refusals ≡ []) requests
-    × Runs (map exchange_asked requests) (empty_from 1) (map response_of replies) left
+    (s : ScriptContent) × (replies : List Reply) × (left : StoreState) × (locks : Locks)
+    × IsShort text × IsScript text s × IsPrefix s.prefix
+    × Runs (settings_for s) (map turn_for s.requests) (new_store s) (Some []) (map response_of replies) left locks
     × (lines ≡ lines_of replies)

@@ -7,14 +7,16 @@ use Rattle.http_header.specs.FieldValue.{FieldValue}
 use Rattle.http_header.specs.HeaderMap.{Entries, pairs}
 use Rattle.serde_json.specs.Data.{Data, null, number, string, object, unsigned, Members, no_members, member, put}
 use Rattle.serde_json.specs.Written.{compact_text}
-use Rattle.dav_run.specs.declared.reply.Reply.{Reply}
-use Rattle.dav_run.specs.declared.reply.ReplyBody.{ReplyBody}
-use Rattle.dav_run.specs.declared.reply.ReplyBody.TheVariants.{Nothing, Bytes}
+use Rattle.dav_engine.specs.declared.reply.Reply.{Reply}
+use Rattle.dav_engine.specs.declared.reply.ReplyBody.{ReplyBody}
+use Rattle.dav_engine.specs.declared.reply.ReplyBody.TheVariants.{Nothing, Bytes, Tree}
+use Rattle.dav_run.specs.TreeData.{tree_body}
 
--- a body's bytes as the member `hex`, in lower-case digits
+-- a body's bytes as the member `hex`, in lower-case digits; a tree as the member `element`
 abbrev pub body_data : ReplyBody → Data
 body_data Nothing = null
 body_data (Bytes bytes) = object (member (codes "hex") (string (encode_lower bytes)) no_members)
+body_data (Tree tree) = tree_body tree
 
 -- headers as members, each put in over those before it: of a name with several values the last
 -- one counts

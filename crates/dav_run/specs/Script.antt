@@ -7,8 +7,8 @@ use Rattle.serde_json.specs.Read.{read}
 use Rattle.dav_core.specs.ErrorNames.{fs_error_name}
 use Rattle.dav_core.specs.Method.{IsNamedSet}
 use Rattle.dav_core.specs.declared.errors.FsError.{FsError}
-use Rattle.dav_run.specs.declared.server.Body.{Body}
-use Rattle.dav_run.specs.declared.server.Body.TheVariants as body
+use Rattle.dav_engine.specs.declared.request.Body.{Body}
+use Rattle.dav_engine.specs.declared.request.Body.TheVariants as body
 use Rattle.dav_run.specs.declared.request.Request as request
 use Rattle.dav_run.specs.declared.script.Script as script
 use Rattle.dav_run.specs.declared.script.Form.{Form}
@@ -148,10 +148,6 @@ IsScript text s = IsUtf8 text × IsSomeAnd (read text) (λ d. IsScriptValue d s)
 -- no more bytes than a script may have
 abbrev pub IsShort : List ℕ → Type 0
 IsShort text = length text ≤ 16777216
-
--- bytes that can be played: a script, and short
-abbrev pub IsPlayable : List ℕ → Type 0
-IsPlayable text = IsShort text × ((s : ScriptContent) × IsScript text s)
 
 -- ---- what was read
 

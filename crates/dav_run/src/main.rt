@@ -1,22 +1,14 @@
-//! The program `dav-run`: plays a script of WebDAV requests, read from standard input as JSON, on an
-//! empty store, and writes each reply to standard output as one line of JSON. It ignores its
+//! The program `dav-run`: plays a script of WebDAV requests, read from standard input as JSON, on a
+//! new server, and writes each reply to standard output as one line of JSON. It ignores its
 //! arguments. Its exit status is that of [`play::play`], and a status that is not 0 is told on
 //! standard error.
 #![tactic(auto)]
 
-mod head;
-mod laws;
-mod methods;
-mod moment;
-mod names;
-mod node;
 mod play;
 mod print;
-mod reply;
 mod request;
 mod script;
-mod server;
-mod store;
+mod tree;
 
 use play::{IO_FAILED, NOT_SCRIPT, OUT_OF_MEMORY, play};
 use std::io;

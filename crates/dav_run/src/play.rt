@@ -1,16 +1,24 @@
 //! Playing a script: from the bytes of a reader to the lines of a writer.
-ghost use Rattle.std.specs.Prelude.{◌≡◌, ◌≢◌, ◌↔◌, ◌≤◌, map, ℕ, List, IfSome, IfOk, IfErr, OnOk, IsErrOf};
+ghost use Rattle.std.specs.Prelude.{◌≡◌, ◌≢◌, ◌↔◌, ◌≤◌, map, ℕ, List, [], Some, IfSome, IfOk, IfErr, OnOk, IsErrOf};
 ghost use Rattle.std.specs.Io.KnownBytes.{Appends};
 ghost use Rattle.dav_run.specs.Print.{lines_of};
-ghost use Rattle.dav_run.specs.Script.{IsScript, IsShort, IsPlayable, script_request, script_content};
-ghost use Rattle.dav_run.specs.Exchange.{asked, body_bytes};
-ghost use Rattle.dav_run.specs.Play.{Plays, exchange_asked};
+ghost use Rattle.dav_run.specs.Script.{IsScript, IsShort, script_request, script_content};
+ghost use Rattle.dav_server.specs.Setup.{IsPrefix, settings};
+ghost use Rattle.dav_server.specs.Turns.{step_turn, memory_state};
+ghost use Rattle.dav_run.specs.Play.{Plays, IsPlayable, settings_for, new_store, turn_for};
 ghost use Rattle.dav_run.specs.declared.play.Fault.TheVariants.{NotScript, Io, Memory};
 
 use crate::print::reply_line;
 use crate::request::Request;
 use crate::script::{Script, ScriptError};
-use crate::server::{Body, Exchange, Reply, Store, run};
+use dav_core::errors::NoMemory;
+use dav_engine::{Body, Reply};
+use dav_server::davhandler::{DavHandler, HandlerError};
+use dav_server::exchange::Exchange;
+use dav_server::refusing::Refusing;
+use dav_server::run::{Step, run_refused};
+use dav_store::memfs::MemFs;
+use dav_store::memls::MemLs;
 use std::alloc::{AllocError, AllocFailed, Global};
 use std::io;
 use std::io::{Read, Write};
@@ -62,6 +70,19 @@ impl<T: Drop> From<AllocFailed<T>> for Fault {
     }
 }
 
+impl From<HandlerError> for Fault {
+    ghost use Rattle.dav_server.specs.declared.davhandler.HandlerError.{HandlerError};
+
+    ghost from_gives = { λ error e. (e ≢ Io) × (e ≡ NotScript ↔ error ≡ HandlerError.BadPrefix) };
+
+    fn from(error: HandlerError) -> Fault {
+        match error {
+            HandlerError::BadPrefix => Fault::NotScript,
+            HandlerError::Memory => Fault::Memory,
+        }
+    }
+}
+
 impl From<ScriptError> for Fault {
     ghost use Rattle.dav_run.specs.declared.script.ScriptError.{ScriptError};
 
@@ -75,7 +96,7 @@ impl From<ScriptError> for Fault {
     }
 }
 
-/// Reads a script to its end, plays it on a new store, and writes one line of JSON per reply.
+/// Reads a script to its end, plays it on a new server, and writes one line of JSON per reply.
 /// Answers [`PLAYED`], or the status of the first fault met; where memory ran out, but writing the
 /// replies given before fails, that is [`IO_FAILED`].
 pub fn play<R: Read, W: Write>(alloc: Global, reader: &mut R, writer: &mut W) -> u8
@@ -106,9 +127,9 @@ fn play_through<R: Read, W: Write>(
     ensures untouched { IsErrOf result NotScript → writer.new ≡ writer.old }
 {
     let script = read_script(alloc, reader)?;
-    let exchanges = exchanges_of(alloc, &script)?;
-    let mut store = Store::new(alloc)?;
-    match run(&mut store, alloc, &exchanges) {
+    let mut handler = server_of(alloc, &script)?;
+    let steps = steps_of(alloc, &script)?;
+    match run_refused(&mut handler, alloc, steps) {
         Ok(replies) => write_replies(alloc, &replies, writer),
         Err(fault) => {
             write_replies(alloc, &fault.replies, writer)?;
@@ -151,32 +172,56 @@ fn read_bytes<R: Read>(alloc: Global, reader: &mut R) -> Result<Vec<u8>, Fault>
     Err(Fault::NotScript)
 }
 
-// The exchanges of a script.
-fn exchanges_of(alloc: Global, script: &Script) -> Result<Vec<Exchange<'_>>, AllocError>
-    ensures { IfOk result (λ exchanges. map asked exchanges.items ≡ map (λ r. exchange_asked (script_request r)) script.now.requests.items) }
+// The server that a script asks for.
+fn server_of(
+    alloc: Global,
+    script: &Script,
+) -> Result<DavHandler<Refusing<MemFs>, MemLs>, Fault>
+    ensures ok { IfOk result (λ h. IsPrefix (script_content script.now).prefix × (settings h ≡ settings_for (script_content script.now))
+        × (memory_state h.fs ≡ new_store (script_content script.now)) × (h.ls ≡ Some [])) }
+    ensures bad { IsErrOf result NotScript → ¬ IsPrefix (script_content script.now).prefix }
 {
-    let mut exchanges = Vec::new(alloc);
-    for request in &script.requests {
-        exchanges.push(exchange_of(request)?)?;
-    }
-    Ok(exchanges)
+    let fs = Refusing::new(MemFs::new_at(alloc, script.next)?);
+    let ls = MemLs::new(alloc)?;
+    Ok(DavHandler::new(
+        alloc,
+        &script.prefix,
+        script.methods,
+        fs,
+        Some(ls),
+    )?)
 }
 
-// The exchange of a request. Its moment is none that an exchange refuses.
-fn exchange_of(request: &Request) -> Result<Exchange<'_>, AllocError>
-    ensures { IfOk result (λ exchange. asked exchange ≡ exchange_asked (script_request request.now)) }
+// The steps of a script.
+fn steps_of(alloc: Global, script: &Script) -> Result<Vec<Step<'_>>, NoMemory>
+    ensures { IfOk result (λ steps. map step_turn steps.items ≡ map turn_for (map script_request script.now.requests.items)) }
+{
+    let mut steps = Vec::new(alloc);
+    for request in &script.requests {
+        steps.push(step_of(request)?)?;
+    }
+    Ok(steps)
+}
+
+// The step of a request. Its moment is none that an exchange refuses.
+fn step_of(request: &Request) -> Result<Step<'_>, NoMemory>
+    ensures { IfOk result (λ step. step_turn step ≡ turn_for (script_request request.now)) }
 {
     let body = body_of(&request.body)?;
-    Ok(Exchange::new(&request.head, body, request.moment).unwrap())
+    let refusals = request.refusals.clone()?;
+    let exchange = Exchange::new(&request.head, body, None, request.moment, None).unwrap();
+    Ok(Step { exchange, refusals })
 }
 
 // The same body, which shares its bytes.
-fn body_of(body: &Body) -> Result<Body, AllocError>
-    ensures { IfOk result (λ copy. body_bytes copy ≡ body_bytes body.now) }
+fn body_of(body: &Body) -> Result<Body, NoMemory>
+    ensures { IfOk result (λ copy. copy ≡ body.now) }
 {
     match body {
         Body::None => Ok(Body::None),
         Body::Bytes(bytes) => Ok(Body::Bytes(bytes.clone()?)),
+        Body::Tree(tree) => Ok(Body::Tree(tree.clone()?)),
+        Body::Malformed => Ok(Body::Malformed),
     }
 }
 

@@ -3,13 +3,15 @@ ghost use Rattle.std.specs.Prelude.{◌≡◌, IfOk, string_bytes};
 ghost use Rattle.serde_json.specs.View.{view};
 ghost use Rattle.dav_run.specs.Print.{body_data, headers_data, reply_data, line_of};
 
-use crate::server::{Reply, ReplyBody};
+use crate::tree::tree_value;
+use dav_engine::{Reply, ReplyBody};
 use http_header::HeaderMap;
 use serde_json::{Map, Value, json};
 use std::alloc::{AllocError, Global};
 
 /// The line of a reply: an object with the members `body`, `headers` and `status`, and a newline.
-/// The body is null, or the lower-case hexadecimal digits of its bytes as the member `hex`. The
+/// The body is null, or the lower-case hexadecimal digits of its bytes as the member `hex`, or the tree as the
+/// member `element`. The
 /// headers are an object, in byte order of their names: of a name with several values the last one
 /// counts, and what is not UTF-8 is printed as U+FFFD.
 #[tactic(auto, using(crate::proofs::Headers::reply_plain))]
@@ -40,6 +42,10 @@ fn body_value(alloc: Global, body: &ReplyBody) -> Result<Value, AllocError>
         ReplyBody::Bytes(bytes) => {
             let digits = hex::encode(alloc, bytes.as_slice())?;
             json!(in alloc; {"hex": digits})
+        }
+        ReplyBody::Tree(tree) => {
+            let element = tree_value(alloc, tree)?;
+            json!(in alloc; {"element": element})
         }
     }
 }

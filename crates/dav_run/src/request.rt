@@ -1,7 +1,7 @@
 //! A request that is still to be made.
 ghost use Rattle.std.specs.Prelude.{◌≤◌};
 
-use crate::server::Body;
+use dav_engine::Body;
 use dav_core::errors::FsError;
 
 /// A request of a script, to be made at a moment.
@@ -11,7 +11,7 @@ pub struct Request {
     pub head: Vec<u8>,
     /// What follows the head.
     pub body: Body,
-    /// When the request is made, in seconds since 1970; at most [`crate::moment::LAST_MOMENT`].
+    /// When the request is made, in seconds since 1970; at most [`dav_server::exchange::LAST_MOMENT`].
     pub moment: u64,
     /// What is done to the store's calls, the first call first: `None` lets a call through, and an error is its
     /// answer. Calls past the end are let through.

@@ -15,12 +15,12 @@ ghost use Rattle.dav_core.specs.ErrorNames.{fs_error_name};
 ghost use Rattle.dav_core.specs.declared.errors.FsError.{FsError};
 ghost use Rattle.dav_core.specs.Method.{texts_of};
 ghost use Rattle.dav_run.specs.Script.{IsMemberOf, IsObjectOf, AreItems, IsText, IsDigits, IsHeadText, IsBodyBytes, IsBody, IsMoment, IsRefusal, AreRefusals, IsPrefix, AreMethods, IsMethods, IsNext, IsRequest, IsScriptValue, IsScript, ScriptRequest, ScriptContent, script_request, script_content};
-ghost use Rattle.dav_run.specs.declared.server.Body.{Body};
+ghost use Rattle.dav_engine.specs.declared.request.Body.{Body};
 ghost use Rattle.dav_run.specs.declared.script.ScriptError.TheVariants.{NotScript, Memory};
 
-use crate::moment::LAST_MOMENT;
+use dav_server::exchange::LAST_MOMENT;
 use crate::request::Request;
-use crate::server::Body;
+use dav_engine::Body;
 use bytes::Bytes;
 use dav_core::errors::FsError;
 use dav_core::method::{DavMethodSet, InvalidMethod};

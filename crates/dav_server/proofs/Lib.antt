@@ -6,3 +6,4 @@ pub mod RunLemmas
 pub mod StepLemmas
 pub mod GetLemmas
 pub mod PrefixLemmas
+pub mod MeansLemmas

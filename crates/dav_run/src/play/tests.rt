@@ -104,6 +104,10 @@ fn refuses_what_is_no_script(rt: HostRuntime) {
         r#"{"requests":[{"head":"","moment":01}]}"#,
         r#"{"requests":[{"head":"","moment":18446744073709551616}]}"#,
         r#"{"requests":[{"head":"","moment":253402300800}]}"#,
+        // Prefixes.
+        r#"{"requests":[],"prefix":"dav"}"#,
+        r#"{"requests":[],"prefix":"/a%20b"}"#,
+        r#"{"requests":[],"prefix":"/a//b"}"#,
         // A fault behind good requests.
         r#"{"requests":[{"head":"FOO / HTTP/1.1\r\n\r\n"},{"head":"","moment":1.5}]}"#,
     ];

@@ -1,4 +1,4 @@
-//! Whole scripts over an empty store, and the lines that they write.
+//! Whole scripts over a new server, and the lines that they write.
 use super::tests::played;
 use super::*;
 use std::process::Abort;
@@ -31,13 +31,34 @@ const UNSUPPORTED_TYPE: &str = r#"{"body":null,"headers":{"content-length":"0"},
 
 const NOT_IMPLEMENTED: &str = r#"{"body":null,"headers":{"content-length":"0"},"status":501}"#;
 
+const NOT_ALLOWED_CLOSED: &str =
+    r#"{"body":null,"headers":{"connection":"close","content-length":"0"},"status":405}"#;
+
+const FAILED: &str = r#"{"body":null,"headers":{"content-length":"0"},"status":500}"#;
+
+const BAD_GATEWAY: &str = r#"{"body":null,"headers":{"content-length":"0"},"status":502}"#;
+
+const NO_ROOM: &str = r#"{"body":null,"headers":{"content-length":"0"},"status":507}"#;
+
 // Sees that the requests, played in order, are answered by the lines.
 fn assert_answers<R: Abort + AllocGlobal>(
     rt: &R,
     requests: &[&str],
     lines: &[&str],
 ) -> Result<(), AllocError> {
-    let mut script = String::from_str(rt.alloc(), r#"{"requests":["#)?;
+    assert_answers_of(rt, "", requests, lines)
+}
+
+// The same on a server that is set up by other members of the script.
+fn assert_answers_of<R: Abort + AllocGlobal>(
+    rt: &R,
+    members: &str,
+    requests: &[&str],
+    lines: &[&str],
+) -> Result<(), AllocError> {
+    let mut script = String::from_str(rt.alloc(), "{")?;
+    script.push_str(members)?;
+    script.push_str(r#""requests":["#)?;
     script.push_str(requests.join(rt.alloc(), ",")?.as_str())?;
     script.push_str("]}")?;
     let mut expected = String::new(rt.alloc());
@@ -146,4 +167,87 @@ fn reads_heads_and_bodies_in_digits(rt: HostRuntime) -> Result<(), AllocError> {
     let got =
         r#"{"body":{"hex":"00ff"},"headers":{"content-length":"2","content-type":"application/octet-stream","etag":"\"2\"","last-modified":"Thu, 01 Jan 1970 00:00:01 GMT"},"status":200}"#;
     assert_answers(&rt, &[put, GET_F], &[PUT_F_LINE, got])
+}
+
+#[test]
+fn empties_a_file_before_a_refused_write(rt: HostRuntime) -> Result<(), AllocError> {
+    let put =
+        r#"{"head":"PUT /f HTTP/1.1\r\nContent-Length: 3\r\n\r\n","body":{"text":"two"},"moment":1,"refuse":[null,null,"InsufficientStorage"]}"#;
+    let got =
+        r#"{"body":{"hex":""},"headers":{"content-length":"0","content-type":"application/octet-stream","etag":"\"3\"","last-modified":"Thu, 01 Jan 1970 00:00:01 GMT"},"status":200}"#;
+    assert_answers(&rt, &[PUT_F, put, GET_F], &[PUT_F_LINE, NO_ROOM, got])
+}
+
+#[test]
+fn refuses_the_first_call_of_each_request_by_itself(rt: HostRuntime) -> Result<(), AllocError> {
+    let refused = r#"{"head":"GET /f HTTP/1.1\r\n\r\n","refuse":["Forbidden"]}"#;
+    let found =
+        r#"{"head":"PUT /f HTTP/1.1\r\nContent-Length: 3\r\n\r\n","body":{"text":"one"},"moment":1,"refuse":["Forbidden"]}"#;
+    let made =
+        r#"{"body":null,"headers":{"accept-ranges":"bytes","content-length":"0","etag":"\"4\"","last-modified":"Thu, 01 Jan 1970 00:00:01 GMT"},"status":201}"#;
+    let got =
+        r#"{"body":{"hex":"6f6e65"},"headers":{"content-length":"3","content-type":"application/octet-stream","etag":"\"4\"","last-modified":"Thu, 01 Jan 1970 00:00:01 GMT"},"status":200}"#;
+    assert_answers(
+        &rt,
+        &[PUT_F, refused, found, GET_F],
+        &[PUT_F_LINE, FORBIDDEN, made, got],
+    )
+}
+
+#[test]
+fn fails_where_numbers_are_used_up(rt: HostRuntime) -> Result<(), AllocError> {
+    assert_answers_of(
+        &rt,
+        r#""next":18446744073709551615,"#,
+        &[PUT_F, GET_F],
+        &[FAILED, NOT_FOUND],
+    )?;
+    let got =
+        r#"{"body":{"hex":""},"headers":{"content-length":"0","content-type":"application/octet-stream","etag":"\"fffffffffffffffe\"","last-modified":"Thu, 01 Jan 1970 00:00:01 GMT"},"status":200}"#;
+    assert_answers_of(
+        &rt,
+        r#""next":18446744073709551614,"#,
+        &[PUT_F, GET_F],
+        &[FAILED, got],
+    )
+}
+
+#[test]
+fn serves_below_a_prefix(rt: HostRuntime) -> Result<(), AllocError> {
+    let put =
+        r#"{"head":"PUT /dav/f HTTP/1.1\r\nContent-Length: 3\r\n\r\n","body":{"text":"one"},"moment":1}"#;
+    let other = r#"{"head":"GET /other/f HTTP/1.1\r\n\r\n"}"#;
+    let longer = r#"{"head":"GET /davx HTTP/1.1\r\n\r\n"}"#;
+    let top = r#"{"head":"GET /dav HTTP/1.1\r\n\r\n"}"#;
+    assert_answers_of(
+        &rt,
+        r#""prefix":"/dav","#,
+        &[put, GET_F, other, longer, top],
+        &[
+            PUT_F_LINE,
+            BAD_GATEWAY,
+            BAD_GATEWAY,
+            BAD_GATEWAY,
+            NOT_ALLOWED,
+        ],
+    )
+}
+
+#[test]
+fn allows_some_methods(rt: HostRuntime) -> Result<(), AllocError> {
+    assert_answers_of(
+        &rt,
+        r#""methods":["get"],"#,
+        &[PUT_F, GET_F],
+        &[NOT_ALLOWED_CLOSED, NOT_FOUND],
+    )
+}
+
+#[test]
+fn takes_absolute_targets(rt: HostRuntime) -> Result<(), AllocError> {
+    let get = r#"{"head":"GET http://h/q/../f HTTP/1.1\r\n\r\n"}"#;
+    let got =
+        r#"{"body":{"hex":"6f6e65"},"headers":{"content-length":"3","content-type":"application/octet-stream","etag":"\"2\"","last-modified":"Thu, 01 Jan 1970 00:00:01 GMT"},"status":200}"#;
+    let top = r#"{"head":"GET http://h HTTP/1.1\r\n\r\n"}"#;
+    assert_answers(&rt, &[PUT_F, get, top], &[PUT_F_LINE, got, NOT_ALLOWED])
 }

@@ -1,8 +1,0 @@
-use Rattle.std.proofs.Common.{◌≡◌, ◌++◌}
-use Rattle.dav_core.specs.Path.{names_of}
-use Rattle.dav_core.specs.PathRef.{ref_bytes, names_left}
-use Rattle.dav_run.proofs.names.Names.of.Given as goal
-
--- the names so far and those that are left are all
-abbrev pub invariant-loop-segment : goal.invariant-loop-segment
-invariant-loop-segment l = l.names.items ++ names_left l.segment-iterator ≡ names_of (ref_bytes l.fn.path)

@@ -1,0 +1,142 @@
+-- A request has one plan, and a run is determined.
+use Rattle.std.proofs.Common.{◌≡◌, inl, inr, ℕ, false, List, ◌∷◌, map, get_or, bytes_eq, Option, Some, None, Result, Ok, Err, refl, sym, ap, subst, ◌∙◌}
+use Rattle.std.specs.List.{position_or_len}
+use Rattle.dav_core.specs.declared.errors.FsError.{FsError}
+use Rattle.dav_core.specs.declared.errors.DavError.{DavError}
+use Rattle.dav_core.specs.declared.method.DavMethod.{DavMethod}
+use Rattle.dav_core.specs.declared.method.DavMethod.TheVariants.{Head, Get, Put, Patch, Options, PropFind, PropPatch, MkCol, Copy, Move, Delete, Lock, Unlock, Report, MkCalendar, MkAddressbook}
+use Rattle.dav_core.specs.Asking.{StoreState, Asks}
+use Rattle.dav_core.specs.Method.{method_name, all_methods}
+use Rattle.dav_core.specs.Path.{Path, PathText, names}
+use Rattle.dav_engine.specs.declared.request.Body.{Body}
+use Rattle.dav_engine.specs.Headers.{Headers}
+use Rattle.dav_engine.specs.Method.{Method, fails}
+use Rattle.dav_engine.specs.Plan.{Locks, Ran}
+use Rattle.dav_engine.specs.Response.{Response, reply_to}
+use Rattle.dav_engine.proofs.PlanLemmas.{ran_same, ran_unset}
+use Rattle.dav_engine.proofs.PutOnce.{one_put}
+use Rattle.dav_server.specs.Head.{Request}
+use Rattle.dav_server.specs.Headers.{headers_of}
+use Rattle.dav_server.specs.Machine.{Settings, Asked, PlanOf, gets, puts, not_yet, MeansOf, not_allowed, no_path, no_body, method, Means, no_head, no_method, known, Steps, steps}
+use Rattle.dav_server.specs.Method.{GivesServed}
+use Rattle.dav_server.specs.Run.{Turn, begun, Runs, no_more, one_more, RunsAreDetermined}
+use Rattle.dav_server.proofs.HeadLemmas.{one_head}
+use Rattle.dav_server.proofs.TargetLemmas.{one_outcome}
+
+abbrev place_of_name : List ℕ → ℕ
+place_of_name text = position_or_len (bytes_eq text) (map method_name all_methods)
+
+back : (m : DavMethod) → get_or all_methods (place_of_name (method_name m)) Head ≡ m
+back Head = refl
+back Get = refl
+back Put = refl
+back Patch = refl
+back Options = refl
+back PropFind = refl
+back PropPatch = refl
+back MkCol = refl
+back Copy = refl
+back Move = refl
+back Delete = refl
+back Lock = refl
+back Unlock = refl
+back Report = refl
+back MkCalendar = refl
+back MkAddressbook = refl
+
+one_name : (m n : DavMethod) → method_name m ≡ method_name n → m ≡ n
+one_name m n same = sym (back m) ∙ ap (λ t. get_or all_methods (place_of_name t) Head) same ∙ back n
+
+-- a name is that of one method
+one_method : (text : List ℕ) (m n : DavMethod) → GivesServed text (Ok m) → GivesServed text (Ok n) → m ≡ n
+one_method text m n one two = one_name m n (sym one.1 ∙ two.1)
+
+served_or_not : {A : Type 0} (text : List ℕ) (m : DavMethod) (e : DavError) → GivesServed text (Ok m) → GivesServed text (Err e) → A
+served_or_not text m e one two = absurd (two.1 m one.0 one.1)
+
+one_plan : {headers : Headers} {p : Path} {body : Body} {now : ℕ} {m : DavMethod} {plan other : Method Response} → PlanOf headers p body now m plan → PlanOf headers p body now m other → plan ≡ other
+one_plan gets gets = refl
+one_plan gets (not_yet out) = absurd (out (inl refl))
+one_plan (puts one) (puts two) = one_put one two
+one_plan (puts one) (not_yet out) = absurd (out (inr refl))
+one_plan (not_yet out) gets = absurd (out (inl refl))
+one_plan (not_yet out) (puts two) = absurd (out (inr refl))
+one_plan (not_yet out) (not_yet also) = refl
+
+one_error : {A : Type 0} {e f : DavError} → ◌≡◌ {A = Result A DavError} (Err e) (Err f) → e ≡ f
+one_error same = cc
+
+one_value : {A : Type 0} {a b : A} → ◌≡◌ {A = Result A DavError} (Ok a) (Ok b) → a ≡ b
+one_value same = cc
+
+not_both : {A B : Type 0} {a : A} {e : DavError} → ◌≡◌ {A = Result A DavError} (Ok a) (Err e) → B
+not_both same = absurd (cc)
+
+one_of : {s : Settings} {x : Asked} {r : Request} {m : DavMethod} {plan other : Method Response} → MeansOf s x r m plan → MeansOf s x r m other → plan ≡ other
+one_of (not_allowed out) (not_allowed also) = refl
+one_of (not_allowed out) (no_path f has none) = absurd (out has)
+one_of (not_allowed out) (no_body q f has named bad) = absurd (out has)
+one_of (not_allowed out) (method q body has named good is) = absurd (out has)
+one_of (no_path e has none) (not_allowed out) = absurd (out has)
+one_of {s} {r = r} {m} (no_path e has none) (no_path f _ also) = ap fails (one_error (one_outcome s.prefix m r.target _ _ none also))
+one_of {s} {r = r} {m} (no_path e has none) (no_body q f _ named bad) = not_both (one_outcome s.prefix m r.target _ _ named none)
+one_of {s} {r = r} {m} (no_path e has none) (method q body _ named good is) = not_both (one_outcome s.prefix m r.target _ _ named none)
+one_of (no_body p e has named bad) (not_allowed out) = absurd (out has)
+one_of {s} {r = r} {m} (no_body p e has named bad) (no_path f _ none) = not_both (one_outcome s.prefix m r.target _ _ named none)
+one_of (no_body p e has named bad) (no_body q f _ also worse) = ap fails (one_error (sym bad ∙ worse))
+one_of (no_body p e has named bad) (method q body _ also good is) = not_both (sym good ∙ bad)
+one_of (method p body has named good is) (not_allowed out) = absurd (out has)
+one_of {s} {r = r} {m} (method p body has named good is) (no_path f _ none) = not_both (one_outcome s.prefix m r.target _ _ named none)
+one_of (method p body has named good is) (no_body q f _ also bad) = not_both (sym good ∙ bad)
+one_of {s} {x} {r} {m} {other = other} (method p body has named good is) (method q given _ also better too) =
+    let path : p ≡ q = one_value (one_outcome s.prefix m r.target _ _ named also) in
+    let same : body ≡ given = one_value (sym good ∙ better) in
+    one_plan is (subst (λ (t : PathText). PlanOf (headers_of r.fields) (names t) body x.moment m other) (sym path)
+    (subst (λ (b : Body). PlanOf (headers_of r.fields) (names q) b x.moment m other) (sym same) too))
+
+-- a request comes to one plan
+pub one_means : {s : Settings} {x : Asked} {plan other : Method Response} → Means s x plan → Means s x other → plan ≡ other
+one_means (no_head out) (no_head also) = refl
+one_means (no_head out) (no_method r e is gives) = absurd (out r is)
+one_means (no_head out) (known r m is gives means) = absurd (out r is)
+one_means (no_method r e is gives) (no_head out) = absurd (out r is)
+one_means (no_method r e is gives) (no_method q f is' gives') = ap fails (gives.0 ∙ sym gives'.0)
+one_means {x = x} (no_method r e is gives) (known q m is' gives' means) =
+    served_or_not q.method m e gives' (subst (λ (h : Request). GivesServed h.method (Err e)) (one_head x.head r q is is') gives)
+one_means (known r m is gives means) (no_head out) = absurd (out r is)
+one_means {x = x} (known r m is gives means) (no_method q e is' gives') =
+    served_or_not q.method m e (subst (λ (h : Request). GivesServed h.method (Ok m)) (one_head x.head r q is is') gives) gives'
+one_means {s} {x} {plan} {other} (known r m is gives means) (known q n is' gives' means') =
+    let head : q ≡ r = one_head x.head q r is' is in
+    let same : n ≡ m = one_method r.method n m (subst (λ (h : Request). GivesServed h.method (Ok n)) head gives') gives in
+    one_of means (subst (λ (k : DavMethod). MeansOf s x r k other) same (subst (λ (h : Request). MeansOf s x h n other) head means'))
+
+-- the flag is never taken back
+steps_unset : {s : Settings} {x : Asked} {old new : StoreState} {ls ms : Locks} {reply : Response} → Steps s x old ls reply new ms → new.short ≡ false → old.short ≡ false
+steps_unset (steps plan outcome means ran) u = ran_unset ran u
+
+begun_flag : (refusals : Option (List (Option FsError))) (old : StoreState) → (begun refusals old).short ≡ old.short
+begun_flag None old = refl
+begun_flag (Some list) old = refl
+
+runs_unset : {s : Settings} {ts : List Turn} {old new : StoreState} {ls ms : Locks} {replies : List Response} → Runs s ts old ls replies new ms → new.short ≡ false → old.short ≡ false
+runs_unset no_more u = u
+runs_unset {old = old} (one_more {t = t} step rest) u = sym (begun_flag t.refusals old) ∙ steps_unset step (runs_unset rest u)
+
+steps_same : {s : Settings} {x : Asked} {old new other : StoreState} {ls ks ms : Locks} {reply answer : Response} → Steps s x old ls reply new ks → new.short ≡ false → Steps s x old ls answer other ms → other.short ≡ false
+    → (reply ≡ answer) × (new ≡ other) × (ks ≡ ms)
+steps_same {old = old} {other = other} {ls} {ms = ms} (steps plan outcome means ran) u (steps plan' outcome' means' ran') u' =
+    let same : plan' ≡ plan = one_means means' means in
+    let both = ran_same ran u (subst (λ (p : Method Response). Ran Asks p old ls outcome' other ms) same ran') u' in
+    (ap reply_to both.0, both.1, both.2)
+
+pub runs_same : {s : Settings} {ts : List Turn} {old new other : StoreState} {ls ks ms : Locks} {replies others : List Response}
+    → Runs s ts old ls replies new ks → new.short ≡ false → Runs s ts old ls others other ms → other.short ≡ false → (replies ≡ others) × (new ≡ other) × (ks ≡ ms)
+runs_same no_more u no_more u' = (refl, refl, refl)
+runs_same {s} (one_more {ts = ts} {mid = mid} {new = new} {ks = ks} {reply = reply} {replies = replies} step rest) u (one_more {mid = mid'} {new = other} {ks = ks'} {ms = ms} {reply = answer} {replies = others} step' rest') u' =
+    let both = steps_same step (runs_unset rest u) step' (runs_unset rest' u') in
+    let more = runs_same rest u (subst (λ (l : Locks). Runs s ts mid l others other ms) (sym both.2) (subst (λ (w : StoreState). Runs s ts w ks' others other ms) (sym both.1) rest')) u' in
+    (ap (λ (r : Response). r ∷ replies) both.0 ∙ ap (λ (rs : List Response). answer ∷ rs) more.0, more.1, more.2)
+
+pub runs_are_determined : RunsAreDetermined
+runs_are_determined s ts old new other ls ks ms replies others one u two u' = runs_same one u two u'
