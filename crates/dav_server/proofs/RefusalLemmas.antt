@@ -1,5 +1,5 @@
 -- What a list of refusals before a store does at the next call.
-use Rattle.std.proofs.Common.{◌≡◌, List, [], ◌∷◌, Option, Some, None, refl}
+use Rattle.std.proofs.Common.{◌≡◌, List, [], ◌∷◌, Option, Some, None, refl, ap}
 use Rattle.dav_core.specs.declared.errors.FsError.{FsError}
 use Rattle.dav_core.specs.Asking.{rest_of, next_refusal}
 use Rattle.dav_server.specs.Refusals.{over}
@@ -16,3 +16,9 @@ over_passed [] inner h = (refl, refl)
 over_passed (Some x ∷ list) inner h = cc
 over_passed (None ∷ list) [] h = (refl, refl)
 over_passed (None ∷ list) (r ∷ inner) h = (refl, refl)
+
+-- before a store that has no refusals of its own, the list is all of them
+pub over_none : (list : List (Option FsError)) → over list [] ≡ list
+over_none [] = refl
+over_none (Some e ∷ list) = ap (λ (rest : List (Option FsError)). Some e ∷ rest) (over_none list)
+over_none (None ∷ list) = ap (λ (rest : List (Option FsError)). None ∷ rest) (over_none list)
