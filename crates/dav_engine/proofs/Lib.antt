@@ -5,3 +5,4 @@ pub mod PutLemmas
 pub mod HeaderLemmas
 pub mod PlanAnswers
 pub mod PutOnce
+pub mod PutLawLemmas

@@ -6,3 +6,4 @@ pub mod Response
 pub mod Headers
 pub mod Put
 pub mod PlanLaws
+pub mod PutLaws
