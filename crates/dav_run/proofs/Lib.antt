@@ -13,3 +13,4 @@ pub mod Shown
 pub mod Headers
 pub mod Lines
 pub mod Played
+pub mod TreeLemmas

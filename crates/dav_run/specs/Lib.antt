@@ -10,3 +10,4 @@ pub mod Exchange
 pub mod Print
 pub mod Script
 pub mod Play
+pub mod TreeData

@@ -17,6 +17,7 @@ mod request;
 mod script;
 mod server;
 mod store;
+mod tree;
 
 use play::{IO_FAILED, NOT_SCRIPT, OUT_OF_MEMORY, play};
 use std::io;

@@ -1,0 +1,35 @@
+-- What is printed of an element tree: JSON (RFC 8259).
+use Rattle.std.specs.Prelude.{ℕ, List, map, codes, Option, Some, None}
+use Rattle.serde_json.specs.Data.{Data, null, string, array, object, Items, no_items, item, no_members, member}
+use Rattle.serde_json.specs.View.{items_of}
+use Rattle.dav_core.specs.Element.{ElementTree, element, text, ElementTrees, no_trees, tree_then}
+
+-- a text, or null where there is none
+abbrev pub text_or_null : Option (List ℕ) → Data
+text_or_null None = null
+text_or_null (Some bytes) = string bytes
+
+-- an attribute as a list of two texts, its name and its value
+abbrev pub attribute_data : List ℕ × List ℕ → Data
+attribute_data a = array (item (string a.0) (item (string a.1) no_items))
+
+abbrev mutual
+  -- An element as an object with these five members; a text among its children as a text.
+  pub tree_data : ElementTree → Data
+  tree_data (element name prefix namespace attributes children) =
+      object
+      (member (codes "attributes") (array (items_of (map attribute_data attributes)))
+      (member (codes "children") (array (children_data children))
+      (member (codes "name") (string name)
+      (member (codes "namespace") (text_or_null namespace)
+      (member (codes "prefix") (text_or_null prefix) no_members)))))
+  tree_data (text bytes) = string bytes
+
+  -- children, in order
+  pub children_data : ElementTrees → Items
+  children_data no_trees = no_items
+  children_data (tree_then t ts) = item (tree_data t) (children_data ts)
+
+-- a body that is a tree, as an object with the one member `element`
+abbrev pub tree_body : ElementTree → Data
+tree_body tree = object (member (codes "element") (tree_data tree) no_members)
