@@ -4,5 +4,4 @@ pub mod PlanLemmas
 pub mod PutLemmas
 pub mod HeaderLemmas
 pub mod PlanAnswers
-pub mod PutOnce
 pub mod PutLawLemmas

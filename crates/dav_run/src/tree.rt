@@ -1,8 +1,9 @@
 //! Element trees as JSON.
 ghost use Rattle.std.specs.Prelude.{◌≡◌, map, option_map, string_bytes, IfOk};
-ghost use Rattle.serde_json.specs.View.{view};
+ghost use Rattle.serde_json.specs.View.{items_view, view};
+ghost use Rattle.dav_core.specs.Element.{trees};
 ghost use Rattle.dav_core.specs.ElementView.{attribute_bytes, node_tree};
-ghost use Rattle.dav_run.specs.TreeData.{attribute_data, text_or_null, tree_data};
+ghost use Rattle.dav_run.specs.TreeData.{attribute_data, children_data, text_or_null, tree_data};
 
 #[cfg(test)]
 mod tests;
@@ -15,7 +16,6 @@ use std::alloc::{AllocError, Global};
 /// value; `children`, a list in which a text is a JSON text and an element such an object; `name`; `namespace` and
 /// `prefix`, each null where the element has none.
 #[cycle(trees)]
-#[tactic(auto, using(crate::proofs::TreeLemmas::children_data_of))]
 pub(crate) fn tree_value(alloc: Global, tree: &Element) -> Result<Value, AllocError>
     ensures { IfOk result (λ value. view value ≡ tree_data tree.now) }
 {
@@ -59,7 +59,7 @@ fn attribute_values(
 // Children, in order.
 #[cycle(trees)]
 fn child_values(alloc: Global, children: &[XmlNode]) -> Result<Vec<Value>, AllocError>
-    ensures { IfOk result (λ values. map view values.items ≡ map tree_data (map node_tree children.now)) }
+    ensures { IfOk result (λ values. items_view values.items ≡ children_data (trees (map node_tree children.now))) }
 {
     let mut values = Vec::with_capacity(alloc, children.len())?;
     for child in children {
