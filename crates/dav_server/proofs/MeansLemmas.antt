@@ -14,7 +14,7 @@ use Rattle.dav_engine.specs.Method.{Method, fails}
 use Rattle.dav_engine.specs.Plan.{Locks, Ran}
 use Rattle.dav_engine.specs.Response.{Response, reply_to}
 use Rattle.dav_engine.proofs.PlanLemmas.{ran_same, ran_unset}
-use Rattle.dav_engine.proofs.PutOnce.{one_put}
+use Rattle.dav_engine.proofs.PutLawLemmas.{one_put_plan}
 use Rattle.dav_server.specs.Head.{Request}
 use Rattle.dav_server.specs.Headers.{headers_of}
 use Rattle.dav_server.specs.Machine.{Settings, Asked, PlanOf, gets, puts, not_yet, MeansOf, not_allowed, no_path, no_body, method, Means, no_head, no_method, known, Steps, steps}
@@ -57,7 +57,7 @@ served_or_not text m e one two = absurd (two.1 m one.0 one.1)
 one_plan : {headers : Headers} {p : Path} {body : Body} {now : ℕ} {m : DavMethod} {plan other : Method Response} → PlanOf headers p body now m plan → PlanOf headers p body now m other → plan ≡ other
 one_plan gets gets = refl
 one_plan gets (not_yet out) = absurd (out (inl refl))
-one_plan (puts one) (puts two) = one_put one two
+one_plan {headers} {p} {body} {now} {plan = plan} {other = other} (puts one) (puts two) = one_put_plan headers p body now plan other one two
 one_plan (puts one) (not_yet out) = absurd (out (inr refl))
 one_plan (not_yet out) gets = absurd (out (inl refl))
 one_plan (not_yet out) (puts two) = absurd (out (inr refl))
