@@ -4,7 +4,7 @@ use Rattle.std.proofs.lemmas.List.{take_more}
 use Rattle.std.proofs.lemmas.Grind.{flat_map-append}
 use Rattle.std.specs.Io.KnownBytes.{Appends, Keeps}
 use Rattle.dav_run.specs.Print.{line_of, lines_of}
-use Rattle.dav_run.specs.declared.reply.Reply.{Reply}
+use Rattle.dav_engine.specs.declared.reply.Reply.{Reply}
 
 -- one more reply is one more line
 lines_more : (rs : List Reply) (i : ℕ) (r : Reply) → i < length rs → r ≡ get_or rs i r

@@ -1,7 +1,6 @@
 -- From the bytes of a script to the lines that are written.
-use Rattle.std.proofs.Common.{◌≡◌, ℕ, List, [], ◌∷◌, map, Option, Some, None, Result, Ok, Err, OnOk, IfSome, IsSomeAnd, refl, sym, ap, subst, ◌∙◌}
+use Rattle.std.proofs.Common.{◌≡◌, ℕ, List, [], map, Option, Some, None, Result, Ok, Err, OnOk, IfSome, IsSomeAnd, refl, sym, subst, ◌∙◌}
 use Rattle.serde_json.specs.Data.{Data}
-use Rattle.serde_json.specs.Find.{get}
 use Rattle.serde_json.specs.Read.{read}
 use Rattle.dav_core.specs.Asking.{StoreState}
 use Rattle.dav_engine.specs.declared.reply.Reply.{Reply}
@@ -10,6 +9,7 @@ use Rattle.dav_engine.specs.Response.{response_of}
 use Rattle.dav_server.specs.Machine.{Settings}
 use Rattle.dav_server.specs.Run.{Turn, Runs}
 use Rattle.dav_server.specs.Setup.{IsPrefix}
+use Rattle.dav_run.specs.declared.play.Fault.{Fault}
 use Rattle.dav_run.specs.Print.{lines_of}
 use Rattle.dav_run.specs.Script as script
 use Rattle.dav_run.specs.Script.{ScriptContent, IsShort, IsScript, IsScriptValue}
@@ -44,10 +44,14 @@ unplayable None s read bad = tt
 unplayable (Some text) s read bad = λ can. bad (subst IsPrefix (one_prefix text can.0 s can.2 read.1) can.3)
 
 -- the run of a server that was set up so
-pub run_set_up : {s t : Settings} {ts us : List Turn} {old from left : StoreState} {ls ks locks : Locks} {replies : List Reply} → s ≡ t → ts ≡ us → old ≡ from → ls ≡ ks
+pub run_set_up : {s t : Settings} {ts us : List Turn} {old from left : StoreState} {ls ks locks : Locks} (replies : List Reply) → s ≡ t → ts ≡ us → old ≡ from → ls ≡ ks
     → Runs s ts old ls (map response_of replies) left locks → Runs t us from ks (map response_of replies) left locks
-run_set_up {s} {t} {ts} {us} {old} {from} {left} {ls} {ks} {locks} {replies} one two three four run =
+run_set_up {s} {t} {ts} {us} {old} {from} {left} {ls} {ks} {locks} replies one two three four run =
     subst (λ (k : Locks). Runs t us from k (map response_of replies) left locks) four
     (subst (λ (o : StoreState). Runs t us o ls (map response_of replies) left locks) three
     (subst (λ (l : List Turn). Runs t l old ls (map response_of replies) left locks) two
     (subst (λ (c : Settings). Runs c ts old ls (map response_of replies) left locks) one run)))
+
+-- of two results that fail alike, the errors are the same
+pub same_error : {A : Type 0} {a b : Fault} → ◌≡◌ {A = Result A Fault} (Err a) (Err b) → a ≡ b
+same_error is = cc

@@ -1,5 +1,5 @@
 -- What playing a script writes.
-use Rattle.std.specs.Prelude.{◌≡◌, ℕ, max, false, List, [], map, Option, Some, None}
+use Rattle.std.specs.Prelude.{◌≡◌, ℕ, max, false, List, [], map, Some, None}
 use Rattle.dav_core.specs.Asking.{StoreState}
 use Rattle.dav_core.specs.World.{empty_from}
 use Rattle.dav_engine.specs.declared.reply.Reply.{Reply}

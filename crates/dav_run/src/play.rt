@@ -173,23 +173,14 @@ fn read_bytes<R: Read>(alloc: Global, reader: &mut R) -> Result<Vec<u8>, Fault>
 }
 
 // The server that a script asks for.
-fn server_of(
-    alloc: Global,
-    script: &Script,
-) -> Result<DavHandler<Refusing<MemFs>, MemLs>, Fault>
+fn server_of(alloc: Global, script: &Script) -> Result<DavHandler<Refusing<MemFs>, MemLs>, Fault>
     ensures ok { IfOk result (λ h. IsPrefix (script_content script.now).prefix × (settings h ≡ settings_for (script_content script.now))
         × (memory_state h.fs ≡ new_store (script_content script.now)) × (h.ls ≡ Some [])) }
     ensures bad { IsErrOf result NotScript → ¬ IsPrefix (script_content script.now).prefix }
 {
     let fs = Refusing::new(MemFs::new_at(alloc, script.next)?);
     let ls = MemLs::new(alloc)?;
-    Ok(DavHandler::new(
-        alloc,
-        &script.prefix,
-        script.methods,
-        fs,
-        Some(ls),
-    )?)
+    Ok(DavHandler::new(alloc, &script.prefix, script.methods, fs, Some(ls))?)
 }
 
 // The steps of a script.

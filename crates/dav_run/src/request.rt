@@ -1,8 +1,8 @@
 //! A request that is still to be made.
 ghost use Rattle.std.specs.Prelude.{◌≤◌};
 
-use dav_engine::Body;
 use dav_core::errors::FsError;
+use dav_engine::Body;
 
 /// A request of a script, to be made at a moment.
 #[derive(Drop)]

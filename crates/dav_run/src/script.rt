@@ -18,12 +18,12 @@ ghost use Rattle.dav_run.specs.Script.{IsMemberOf, IsObjectOf, AreItems, IsText,
 ghost use Rattle.dav_engine.specs.declared.request.Body.{Body};
 ghost use Rattle.dav_run.specs.declared.script.ScriptError.TheVariants.{NotScript, Memory};
 
-use dav_server::exchange::LAST_MOMENT;
 use crate::request::Request;
-use dav_engine::Body;
 use bytes::Bytes;
 use dav_core::errors::FsError;
 use dav_core::method::{DavMethodSet, InvalidMethod};
+use dav_engine::Body;
+use dav_server::exchange::LAST_MOMENT;
 use hex::FromHexError;
 use serde_json::{Map, Value};
 use std::alloc::{AllocError, AllocFailed, Global};
