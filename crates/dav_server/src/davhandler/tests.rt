@@ -200,25 +200,21 @@ fn serves_below_its_prefix(rt: HostRuntime) -> Result<(), Fail> {
     Ok(())
 }
 
+// Why a prefix is refused; `None` for one that is taken.
+fn prefix_error(alloc: Global, prefix: &str) -> Result<Option<HandlerError>, NoMemory> {
+    let fs = MemFs::new(alloc)?;
+    let ls = MemLs::new(alloc)?;
+    Ok(DavHandler::new(alloc, prefix, DavMethodSet::all(), fs, Some(ls)).err())
+}
+
 #[test]
 fn takes_prefixes(rt: HostRuntime) -> Result<(), Fail> {
     for prefix in ["", "/dav", "/dav/"] {
-        let fs = MemFs::new(rt.alloc())?;
-        assert!(rt;
-            server(rt.alloc(), prefix, DavMethodSet::all(), fs).is_ok(),
-            "{prefix}"
-        );
+        assert_eq!(rt; prefix_error(rt.alloc(), prefix)?, None, "{prefix}");
     }
     for prefix in ["dav", "/a%20b", "/a//b"] {
-        let fs = MemFs::new(rt.alloc())?;
-        let made: Result<DavHandler<MemFs, MemLs>, HandlerError> = DavHandler::new(
-            rt.alloc(),
-            prefix,
-            DavMethodSet::all(),
-            fs,
-            None,
-        );
-        assert_eq!(rt; made.err(), Some(HandlerError::BadPrefix), "{prefix}");
+        let bad = Some(HandlerError::BadPrefix);
+        assert_eq!(rt; prefix_error(rt.alloc(), prefix)?, bad, "{prefix}");
     }
     Ok(())
 }
