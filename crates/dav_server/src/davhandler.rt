@@ -13,6 +13,9 @@ ghost use Rattle.dav_core.specs.Target.{Reads};
 ghost use Rattle.dav_server.specs.Setup.{IsPrefix, settings, asked};
 ghost use Rattle.std.specs.Result.{IsErrOf};
 
+#[cfg(test)]
+pub(crate) mod tests;
+
 use crate::body::{Given, body_for};
 use crate::exchange::Exchange;
 use crate::handle_gethead::handle_get;

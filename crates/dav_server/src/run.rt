@@ -8,6 +8,9 @@ ghost use Rattle.dav_server.specs.Run.{Runs, RanInPart, begun};
 ghost use Rattle.dav_server.specs.Setup.{asked, settings};
 ghost use Rattle.dav_server.specs.Turns.{turn_of, step_turn, memory_state, AddsReply};
 
+#[cfg(test)]
+mod tests;
+
 use crate::davhandler::DavHandler;
 use crate::exchange::Exchange;
 use crate::refusing::Refusing;

@@ -57,3 +57,15 @@ fn ends_with_the_year_9999(rt: HostRuntime) -> Result<(), Fail> {
     assert_eq!(rt; Moment::new(LAST_MOMENT + 1).err(), Some(BadMoment));
     Ok(())
 }
+
+// Whether a request is taken at a moment.
+fn is_taken(moment: u64) -> bool {
+    Exchange::new(b"", Body::None, None, moment, None).is_ok()
+}
+
+#[test]
+fn takes_requests_up_to_the_year_9999(rt: HostRuntime) {
+    assert!(rt; is_taken(0));
+    assert!(rt; is_taken(253_402_300_799));
+    assert!(rt; !is_taken(253_402_300_800));
+}
