@@ -1,22 +1,23 @@
 -- What PUT's parts come to.
-use Rattle.std.proofs.Common.{◌≡◌, if◌then◌else◌, ℕ, ◌==◌, Bool, true, false, List, length, Option, Some, Result, Ok, Err, refl, sym, subst, ap, ◌∙◌}
+use Rattle.std.proofs.Common.{◌≡◌, if◌then◌else◌, ℕ, ◌==◌, Bool, true, false, List, length, Option, Some, None, Result, Ok, Err, refl, sym, subst, ap, ◌∙◌}
 use Rattle.dav_core.specs.declared.errors.FsError.{FsError}
 use Rattle.dav_core.specs.declared.errors.DavError.{DavError}
 use Rattle.dav_core.specs.declared.errors.DavError.TheVariants as dav
 use Rattle.dav_core.specs.Asking.{StoreState, Asks, Write, FileMetadata}
 use Rattle.dav_core.specs.Handle.{Handle, Opening}
-use Rattle.dav_engine.specs.Plan.{Locks}
-use Rattle.dav_engine.specs.Method.{refused_as, ask_for, gives, fails}
-use Rattle.dav_engine.specs.Follows.{Follows, viewed}
-use Rattle.dav_engine.specs.Put.{written, stored, put, put_body, put_bytes, put_opening, checksum_in, bytes_of_body}
-use Rattle.dav_engine.specs.Headers.{Headers, has_conditions}
 use Rattle.dav_core.specs.Path.{Path}
-use Rattle.dav_engine.specs.declared.request.Body.{Body}
+use Rattle.dav_core.specs.declared.method.DavMethod.{DavMethod}
+use Rattle.dav_engine.specs.declared.put_headers.Writing.{Writing}
 use Rattle.dav_engine.specs.declared.reply.Reply.{Reply}
+use Rattle.dav_engine.specs.Client.{Client}
+use Rattle.dav_engine.specs.Plan.{Locks}
+use Rattle.dav_engine.specs.Method.{refused_as, ask_for, gives}
+use Rattle.dav_engine.specs.Follows.{Follows, viewed}
+use Rattle.dav_engine.specs.Put.{PutHeaders, written, stored, store, put_opening, put_allowed, put, put_body}
 use Rattle.dav_engine.specs.Response.{Response, response_of}
 use Rattle.dav_core.specs.declared.fs.DavMetaData.{DavMetaData}
-use Rattle.std.specs.Result.{is_ok, result_ok}
-use Rattle.dav_engine.proofs.Following.{follows_done, follows_ask}
+use Rattle.std.specs.Result.{result_ok}
+use Rattle.dav_engine.proofs.Following.{follows_done, follows_ask, follows_then, follows_err, follows_up_to}
 
 -- nothing was to be written
 pub written_none : {X : Type 0} {view : X → Handle} {s : StoreState} {ls : Locks} {r : Result X DavError} (file : Handle) (bytes : List ℕ) (now : ℕ)
@@ -37,27 +38,34 @@ pub told_same : {h k : Handle} {old new : StoreState} {answer : Result DavMetaDa
 told_same {old = old} {new} {answer} same one = subst (λ f. Asks (FileMetadata f) old answer new) same one
 
 -- the reply, by what the store told
-pub stored_as : {r : Response} {found : Bool} (file : Option DavMetaData) (before after : Result DavMetaData FsError)
-    → r ≡ stored found file → found ≡ is_ok before → file ≡ result_ok after → r ≡ stored (is_ok before) (result_ok after)
-stored_as file before after is one two = is ∙ ap (λ b. stored b file) one ∙ ap (stored (is_ok before)) two
+pub stored_as : {r : Response} (found : Bool) (file : Option DavMetaData) (after : Result DavMetaData FsError)
+    → r ≡ stored found file → file ≡ result_ok after → r ≡ stored found (result_ok after)
+stored_as found file after is two = is ∙ ap (stored found) two
 
--- conditions aren't served yet
-pub put_refused : (headers : Headers) (announced : Option ℕ) (p : Path) (body : Body) (now : ℕ) {s : StoreState} {ls : Locks}
-    → has_conditions headers ≡ true → Follows response_of (put headers announced p body now) s ls (Err (dav.Status 501)) s ls
-put_refused headers announced p body now {s} {ls} is =
-    subst (λ b. Follows response_of (if b then fails (dav.Status 501) else put_body announced (put_opening announced (checksum_in headers)) p (bytes_of_body body) now) s ls (Err (dav.Status 501)) s ls)
-    (sym is) (follows_done refl)
+-- the file isn't opened
+pub put_ends : (m : DavMethod) (h : PutHeaders) (p : Path) (who : Client) (bytes : List ℕ) (e : DavError) {old new : StoreState} {ls : Locks}
+    → Follows (λ (x : Writing × Bool). x) (put_allowed m h p who bytes) old ls (Err e) new ls → Follows response_of (put m h p who bytes) old ls (Err e) new ls
+put_ends m h p who bytes e one = follows_err (λ (a : Writing × Bool). store (put_opening h a.0) a.0.from p bytes who.moment a.1) e one
 
--- a PUT without conditions, by how the file was opened
-pub put_goes : (headers : Headers) (announced : Option ℕ) (p : Path) (body : Body) (now : ℕ) {how : Opening} {checksum : Option (List ℕ)} {old new : StoreState} {ls : Locks} {r : Result Reply DavError}
-    → has_conditions headers ≡ false → checksum ≡ checksum_in headers → how ≡ put_opening announced checksum
-    → Follows response_of (put_body announced how p (bytes_of_body body) now) old ls r new ls → Follows response_of (put headers announced p body now) old ls r new ls
-put_goes headers announced p body now {how} {checksum} {old} {new} {ls} {r} is text opened goes =
-    let asked = opened ∙ ap (put_opening announced) text in
-    subst (λ b. Follows response_of (if b then fails (dav.Status 501) else put_body announced (put_opening announced (checksum_in headers)) p (bytes_of_body body) now) old ls r new ls)
-    (sym is) (subst (λ o. Follows response_of (put_body announced o p (bytes_of_body body) now) old ls r new ls) asked goes)
+-- memory runs out before it is
+pub put_wants : (m : DavMethod) (h : PutHeaders) (p : Path) (who : Client) (bytes : List ℕ) (x : Writing × Bool) {old new : StoreState} {ls : Locks}
+    → Follows (λ (x : Writing × Bool). x) (put_allowed m h p who bytes) old ls (Ok x) new ls → Follows response_of (put m h p who bytes) old ls (Err dav.Memory) new ls
+put_wants m h p who bytes x one = follows_then (λ (a : Writing × Bool). store (put_opening h a.0) a.0.from p bytes who.moment a.1) one follows_up_to
+
+-- the bytes are stored
+pub put_stores : (m : DavMethod) (h : PutHeaders) (p : Path) (who : Client) (bytes : List ℕ) (x : Writing × Bool) (how : Opening) {old mid new : StoreState} {ls : Locks} {r : Result Reply DavError}
+    → Follows (λ (x : Writing × Bool). x) (put_allowed m h p who bytes) old ls (Ok x) mid ls → how ≡ put_opening h x.0
+    → Follows response_of (store how x.0.from p bytes who.moment x.1) mid ls r new ls → Follows response_of (put m h p who bytes) old ls r new ls
+put_stores m h p who bytes x how {mid = mid} {new} {ls} {r} one opened stores =
+    follows_then (λ (a : Writing × Bool). store (put_opening h a.0) a.0.from p bytes who.moment a.1) one
+    (subst (λ o. Follows response_of (store o x.0.from p bytes who.moment x.1) mid ls r new ls) opened stores)
 
 -- the bytes of a body are stored
-pub put_body_goes : (announced : Option ℕ) (how : Opening) (p : Path) (body : Option (List ℕ)) (bytes : List ℕ) (now : ℕ) {old new : StoreState} {ls : Locks} {r : Result Reply DavError}
-    → body ≡ Some bytes → Follows response_of (put_bytes announced how p bytes now) old ls r new ls → Follows response_of (put_body announced how p body now) old ls r new ls
-put_body_goes announced how p body bytes now {old} {new} {ls} {r} is goes = subst (λ b. Follows response_of (put_body announced how p b now) old ls r new ls) (sym is) goes
+pub put_body_goes : (m : DavMethod) (h : PutHeaders) (p : Path) (who : Client) (body : Option (List ℕ)) (bytes : List ℕ) {old new : StoreState} {ls : Locks} {r : Result Reply DavError}
+    → body ≡ Some bytes → Follows response_of (put m h p who bytes) old ls r new ls → Follows response_of (put_body m h p who body) old ls r new ls
+put_body_goes m h p who body bytes {old} {new} {ls} {r} is goes = subst (λ b. Follows response_of (put_body m h p who b) old ls r new ls) (sym is) goes
+
+-- an element tree brings no bytes
+pub put_body_ends : (m : DavMethod) (h : PutHeaders) (p : Path) (who : Client) (body : Option (List ℕ)) {s : StoreState} {ls : Locks}
+    → body ≡ None → Follows response_of (put_body m h p who body) s ls (Err (dav.Status 415)) s ls
+put_body_ends m h p who body {s} {ls} is = subst (λ b. Follows response_of (put_body m h p who b) s ls (Err (dav.Status 415)) s ls) (sym is) (follows_done refl)

@@ -23,7 +23,16 @@ pub data Follows {A X : Type 0} (view : X → A) (plan : Method A) (old : StoreS
 abbrev pub Makes : {A X : Type 0} → (X → A) → Method A → StoreState → Result X DavError → StoreState → Type 0
 Makes view plan old result new = (ls : Locks) → Follows view plan old ls result new ls
 
--- A request was answered as a plan of this kind says; or memory ran out before its plan was known, and nothing was done.
-pub data Serves (kind : Method Response → Type 0) (old : StoreState) (ls : Locks) (result : Result Reply DavError) (new : StoreState) (ms : Locks) : Type 0 where
-  served : (plan : Method Response) → kind plan → Follows response_of plan old ls result new ms → Serves kind old ls result new ms
-  not_begun : result ≡ Err dav.Memory → new ≡ old → ms ≡ ls → Serves kind old ls result new ms
+-- A result was come to as a plan of this kind says; or memory ran out before its plan was known, and nothing was done.
+pub data Carries {A X : Type 0} (view : X → A) (kind : Method A → Type 0) (old : StoreState) (ls : Locks) (result : Result X DavError) (new : StoreState) (ms : Locks) : Type 0 where
+  served : (plan : Method A) → kind plan → Follows view plan old ls result new ms → Carries view kind old ls result new ms
+  not_begun : result ≡ Err dav.Memory → new ≡ old → ms ≡ ls → Carries view kind old ls result new ms
+
+-- the same of a request that is answered
+abbrev pub Serves : (Method Response → Type 0) → StoreState → Locks → Result Reply DavError → StoreState → Locks → Type 0
+Serves = Carries response_of
+
+-- a result that want of memory alone may end, as one of a method
+abbrev pub or_memory : {X E : Type 0} → Result X E → Result X DavError
+or_memory (Ok x) = Ok x
+or_memory (Err e) = Err dav.Memory

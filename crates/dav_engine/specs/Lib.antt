@@ -4,6 +4,12 @@ pub mod Follows
 pub mod Date
 pub mod Response
 pub mod Headers
+pub mod Client
+pub mod Conditions
+pub mod ConditionView
 pub mod Put
+pub mod PutView
+pub mod Mkcol
+pub mod OnePlan
 pub mod PlanLaws
-pub mod PutLaws
+pub mod WorldLaws

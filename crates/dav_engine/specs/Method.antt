@@ -1,10 +1,12 @@
 -- Methods: plans that an error may end, and the words that they are written with.
-use Rattle.std.specs.Prelude.{Bool, true, false, Result, Ok, Err}
+use Rattle.std.specs.Prelude.{Bool, true, false, Some, None, Result, Ok, Err}
 use Rattle.dav_core.specs.declared.errors.FsError.{FsError}
 use Rattle.dav_core.specs.declared.errors.DavError.{DavError}
 use Rattle.dav_core.specs.declared.errors.DavError.TheVariants as dav
 use Rattle.dav_core.specs.Asking.{Call, Answer}
-use Rattle.dav_engine.specs.Plan.{Plan, Done, Ask, Look, Keep}
+use Rattle.dav_core.specs.Locks.{Asker, is_free_for}
+use Rattle.dav_core.specs.Path.{Path}
+use Rattle.dav_engine.specs.Plan.{Plan, Locks, Done, Ask, Look, Keep}
 
 -- a plan that an error may end
 abbrev pub Method : Type 0 → Type 0
@@ -40,6 +42,10 @@ require false e = Done (Err e)
 abbrev pub answer_of : (c : Call) → Method (Result (Answer c) FsError)
 answer_of c = Ask c (λ answer. Done (Ok answer))
 
+-- looks at the list of locks
+abbrev pub look : Method Locks
+look = Look (λ locks. Done (Ok locks))
+
 -- an answer; a refusal as an error of the method
 abbrev pub refused_as : {A : Type 0} → (FsError → DavError) → Result A FsError → Result A DavError
 refused_as f (Ok a) = Ok a
@@ -52,3 +58,14 @@ ask_or f c = Ask c (λ answer. Done (refused_as f answer))
 -- makes a call; where it is refused, its refusal is the end
 abbrev pub ask_for : (c : Call) → Method (Answer c)
 ask_for = ask_or dav.FsError
+
+-- a path is free for who asks (RFC 4918, section 7.5); without locks each is
+abbrev pub is_open : Bool → Asker → Path → Locks → Bool
+is_open deep who p None = true
+is_open deep who p (Some ls) = is_free_for deep who p ls
+
+-- goes on where the path is free, for a deep question with all below it; else this error is the end
+abbrev pub require_free : Bool → Asker → Path → DavError → Method (Unit {0})
+require_free deep who p e = do
+  locks ← look
+  require (is_open deep who p locks) e

@@ -1,49 +1,199 @@
--- PUT (RFC 9110, section 9.3.4; RFC 4918, section 9.7).
-use Rattle.std.specs.Prelude.{ℕ, ◌++◌, ◌==◌, Bool, true, List, [], ◌∷◌, length, codes, if◌then◌else◌, Option, Some, None}
+-- PUT (RFC 9110, section 9.3.4; RFC 4918, section 9.7) and PATCH (RFC 5789, with SabreDAV's partial updates).
+use Rattle.std.specs.Prelude.{◌≡◌, ◌⊎◌, ℕ, ◌+◌, ◌-◌, ◌++◌, ◌==◌, ◌||◌, ◌&&◌, nat_lt, bytes_eq, Bool, true, false, not, List, [], ◌∷◌, length, codes, if◌then◌else◌, Option, Some, None, Result, Ok, Err}
+use Rattle.std.specs.declared.io.traits.SeekFrom.TheVariants.{Start}
+use Rattle.std.specs.Option.{is_none, option_or}
 use Rattle.std.specs.Result.{is_ok, result_ok}
+use Rattle.http_header.specs.FieldValue.{FieldValue}
 use Rattle.http_header.specs.HeaderMap.{get, get_all}
 use Rattle.dav_core.specs.declared.errors.FsError.{FsError}
 use Rattle.dav_core.specs.declared.errors.FsError.TheVariants as fs
 use Rattle.dav_core.specs.declared.errors.DavError.{DavError}
 use Rattle.dav_core.specs.declared.errors.DavError.TheVariants as dav
 use Rattle.dav_core.specs.declared.fs.DavMetaData.{DavMetaData}
-use Rattle.dav_core.specs.Asking.{Metadata, Open, Write, Flush, FileMetadata}
+use Rattle.dav_core.specs.declared.method.DavMethod.{DavMethod}
+use Rattle.dav_core.specs.declared.method.DavMethod.TheVariants.{Patch}
+use Rattle.dav_core.specs.Asking.{Metadata, Open, Write, Seek, Flush, FileMetadata}
 use Rattle.dav_core.specs.Handle.{Handle, Opening}
 use Rattle.dav_core.specs.Metadata.{no_opening}
-use Rattle.dav_core.specs.Path.{Path}
+use Rattle.dav_core.specs.Numbers.{max_u64}
+use Rattle.dav_core.specs.Path.{Path, PathText, names}
+use Rattle.dav_headers.specs.ContentRange.{IsContentRange, NoContentRange}
 use Rattle.dav_headers.specs.Length.{IsContentLength}
+use Rattle.dav_headers.specs.UpdateRange.{IsUpdateRange}
+use Rattle.dav_headers.specs.Value.{only_text, IsNumber}
+use Rattle.dav_headers.specs.declared.range.XUpdateRange.{XUpdateRange}
+use Rattle.dav_headers.specs.declared.range.XUpdateRange.TheVariants.{FromTo, AllFrom, Last, Append}
+use Rattle.dav_engine.specs.declared.put_headers.Bounds.{Bounds}
+use Rattle.dav_engine.specs.declared.put_headers.Bounds.TheVariants.{Unread, Whole, Within}
+use Rattle.dav_engine.specs.declared.put_headers.Writing.{Writing}
 use Rattle.dav_engine.specs.declared.reply.ReplyBody.TheVariants as reply
 use Rattle.dav_engine.specs.declared.request.Body.{Body}
 use Rattle.dav_engine.specs.declared.request.Body.TheVariants as body
-use Rattle.dav_engine.specs.Method.{Method, ◌>>=◌, require, answer_of, ask_or, ask_for, gives, fails}
-use Rattle.dav_engine.specs.Headers.{Headers, Decodes, has_conditions, text_in}
+use Rattle.dav_engine.specs.Client.{Client, asker}
+use Rattle.dav_engine.specs.Conditions.{Conditions, AreConditions, is_star, guarded}
+use Rattle.dav_engine.specs.Method.{Method, ◌>>=◌, require, require_free, answer_of, ask_or, ask_for, gives, fails}
+use Rattle.dav_engine.specs.Plan.{Done}
+use Rattle.dav_engine.specs.Headers.{Headers, Decodes, text_in}
 use Rattle.dav_engine.specs.Response.{Response, content_length, validators}
 
--- the bytes that a body brings; an element tree brings none
-abbrev pub bytes_of_body : Body → Option (List ℕ)
-bytes_of_body body.None = Some []
-bytes_of_body (body.Bytes bytes) = Some bytes
-bytes_of_body (body.Tree tree) = None
-bytes_of_body body.Malformed = None
+-- ---- what the headers say
+
+-- What the headers of a PUT or PATCH say: its conditions; the length that is announced for the body; the part of the file that
+-- Content-Range tells; whether the body is a partial update, and of which bytes; and the checksum that comes with it.
+pub record PutHeaders : Type 0 where
+  pub conditions : Conditions
+  pub announced : Option ℕ
+  pub range : Bounds
+  pub is_partial : Bool
+  pub update : Option XUpdateRange
+  pub checksum : Option (List ℕ)
+
+-- X-Expected-Entity-Length: its first value is a number
+abbrev pub IsExpectedLength : List FieldValue → ℕ → Type 0
+IsExpectedLength values n = (v : FieldValue) × (vs : List FieldValue) × (values ≡ v ∷ vs) × IsNumber v.bytes n
+
+-- The length that is announced: that of Content-Length (RFC 9110, section 8.6), else that of X-Expected-Entity-Length.
+abbrev pub IsAnnounced : Headers → Option ℕ → Type 0
+IsAnnounced headers announced =
+    (length : Option ℕ) × (expected : Option ℕ)
+    × Decodes IsContentLength (get_all headers (codes "content-length")) length
+    × Decodes IsExpectedLength (get_all headers (codes "x-expected-entity-length")) expected
+    × (announced ≡ option_or length expected)
+
+-- What Content-Range says (RFC 9110, section 14.4): unread where it stands in the head and is no range; the whole where it doesn't
+-- stand there, or tells no bounds; else the bytes from one place to another.
+abbrev pub TellsBounds : List FieldValue → Bounds → Type 0
+TellsBounds values Unread = ((values ≡ []) → ⊥) × NoContentRange values
+TellsBounds values Whole = (values ≡ []) ⊎ ((length : Option ℕ) × IsContentRange values None length)
+TellsBounds values (Within a b) = (length : Option ℕ) × IsContentRange values (Some (a, b)) length
+
+-- the part that a range tells
+abbrev pub bounds_of : Option (ℕ × ℕ) → Bounds
+bounds_of None = Whole
+bounds_of (Some (a, b)) = Within a b
+
+-- the media type of a partial update
+abbrev pub partial_update : List ℕ
+partial_update = codes "application/x-sabredav-partialupdate"
+
+abbrev pub is_text : Option (List ℕ) → List ℕ → Bool
+is_text None wanted = false
+is_text (Some text) wanted = bytes_eq text wanted
+
+-- the only value of Content-Type is that of a partial update
+abbrev pub is_partial_update : List FieldValue → Bool
+is_partial_update values = is_text (only_text values) partial_update
 
 -- the checksum that comes with a body
 abbrev pub checksum_in : Headers → Option (List ℕ)
 checksum_in headers = text_in (get headers (codes "oc-checksum"))
 
+-- what the headers of a PUT or PATCH to p say; what doesn't decode counts as absent, but for Content-Range
+pub record ArePutHeaders (headers : Headers) (p : PathText) (h : PutHeaders) : Type 0 where
+  pub conditions : AreConditions headers p.prefix (names p) h.conditions
+  pub announced : IsAnnounced headers h.announced
+  pub range : TellsBounds (get_all headers (codes "content-range")) h.range
+  pub is_partial : h.is_partial ≡ is_partial_update (get_all headers (codes "content-type"))
+  pub update : Decodes IsUpdateRange (get_all headers (codes "x-update-range")) h.update
+  pub checksum : h.checksum ≡ checksum_in headers
+
+-- ---- where the bytes go
+
+-- the range isn't satisfiable (RFC 9110, section 15.5.17)
+abbrev pub unsatisfiable : DavError
+unsatisfiable = dav.StatusClose 416
+
+-- from the first of two places to the second there are so many bytes
+abbrev pub spans : ℕ → ℕ → ℕ → Bool
+spans first last n = not (nat_lt last first) && (last - first + 1 == n)
+
+-- the place that n bytes before the end of what was found have; 0 where nothing was
+abbrev pub from_end : ℕ → Option DavMetaData → Result ℕ DavError
+from_end n None = Ok 0
+from_end n (Some m) = if nat_lt m.len n then Err unsatisfiable else Ok (m.len - n)
+
+-- where a partial update of so many bytes begins
+abbrev pub update_from : XUpdateRange → ℕ → Option DavMetaData → Result ℕ DavError
+update_from (FromTo first last) n found = if spans first last n then Ok first else Err unsatisfiable
+update_from (AllFrom first) n found = Ok first
+update_from (Last k) n found = from_end k found
+update_from Append n found = Ok 0
+
+abbrev pub is_append : XUpdateRange → Bool
+is_append Append = true
+is_append _ = false
+
+-- a place as that of a partial update
+abbrev pub update_at : XUpdateRange → ℕ → Result ℕ DavError → Result Writing DavError
+update_at range n (Ok first) = Ok (record { from = Some first; appends = is_append range; announced = Some n })
+update_at range n (Err e) = Err e
+
+-- 411 where no length is announced, 400 without X-Update-Range
+abbrev pub updates : Option ℕ → Option XUpdateRange → Option DavMetaData → Result Writing DavError
+updates None range found = Err (dav.StatusClose 411)
+updates (Some n) None found = Err (dav.StatusClose 400)
+updates (Some n) (Some range) found = update_at range n (update_from range n found)
+
+-- what a method writes by itself: PATCH a partial update, 415 for any other body; PUT the whole file
+abbrev pub written_by : DavMethod → PutHeaders → Option DavMetaData → Result Writing DavError
+written_by Patch h found = if h.is_partial then updates h.announced h.update found else Err (dav.StatusClose 415)
+written_by _ h found = Ok (record { from = None; appends = false; announced = h.announced })
+
+-- n bytes from a place on: as many as were announced, where that was done; a length announces them where it is below 2^64
+abbrev pub placed : ℕ → ℕ → Writing → Option ℕ → Result Writing DavError
+placed first n w None = if nat_lt max_u64 n then Err unsatisfiable else Ok (record w { from = Some first; announced = Some n })
+placed first n w (Some k) = if n == k then Ok (record w { from = Some first }) else Err unsatisfiable
+
+-- what Content-Range makes of it
+abbrev pub bounded : Bounds → Writing → Result Writing DavError
+bounded Unread w = Err (dav.StatusClose 400)
+bounded Whole w = Ok w
+bounded (Within first last) w = if nat_lt last first then Err unsatisfiable else placed first (last - first + 1) w w.announced
+
+abbrev pub bounded_by : Bounds → Result Writing DavError → Result Writing DavError
+bounded_by range (Ok w) = bounded range w
+bounded_by range (Err e) = Err e
+
+-- where the bytes of a PUT or PATCH go, and how many are announced
+abbrev pub writing_of : DavMethod → PutHeaders → Option DavMetaData → Result Writing DavError
+writing_of m h found = bounded_by h.range (written_by m h found)
+
+-- ---- the file
+
+-- The file is emptied, unless bytes go to a place in it. It is made where nothing is there, unless If-Match is `*`; and with
+-- If-None-Match `*` nothing may be there.
+abbrev pub put_opening : PutHeaders → Writing → Opening
+put_opening h w = record no_opening {
+  write = true;
+  append = w.appends;
+  truncate = is_none w.from;
+  create = not (is_star h.conditions.if_match);
+  create_new = is_star h.conditions.if_none_match;
+  size = h.announced;
+  checksum = h.checksum;
+}
+
+-- what is missing or in the way: what a condition asked for, or a folder above the path
+abbrev pub missing_status : Opening → ℕ
+missing_status how = if not how.create || how.create_new then 412 else 409
+
+-- a file isn't opened; other refusals are as they are
+abbrev pub open_error : Opening → FsError → DavError
+open_error how fs.NotFound = dav.StatusClose (missing_status how)
+open_error how fs.Exists = dav.StatusClose (missing_status how)
+open_error how e = dav.FsError e
+
+-- the place is sought, where there is one
+abbrev pub sought : Option ℕ → Handle → Method Handle
+sought None file = gives file
+sought (Some place) file = do
+  moved ← ask_or (λ _. unsatisfiable) (Seek file (Start place))
+  gives moved.1
+
 -- the body has the length that is announced for it, where one is
 abbrev pub is_announced : Option ℕ → List ℕ → Bool
 is_announced None bytes = true
 is_announced (Some n) bytes = n == length bytes
-
--- The file is made where nothing is there, and emptied where one is.
-abbrev pub put_opening : Option ℕ → Option (List ℕ) → Opening
-put_opening announced checksum = record no_opening { write = true; create = true; truncate = true; size = announced; checksum = checksum }
-
--- a file isn't opened: 409 where there is no folder above it; other refusals are as they are
-abbrev pub open_error : FsError → DavError
-open_error fs.NotFound = dav.StatusClose 409
-open_error fs.Exists = dav.StatusClose 409
-open_error e = dav.FsError e
 
 -- bytes are written, where there are any
 abbrev pub written : Handle → List ℕ → ℕ → Method Handle
@@ -57,29 +207,48 @@ stored found file = record {
   body = reply.Nothing;
 }
 
--- The bytes are stored at p: 400 where they aren't of the announced length; then the file is opened, which makes or empties
--- it, written, flushed, and asked for its tag and time.
-abbrev pub put_bytes : Option ℕ → Opening → Path → List ℕ → ℕ → Method Response
-put_bytes announced how p bytes now = do
-  found ← answer_of (Metadata p)
-  _ ← require (is_announced announced bytes) (dav.StatusClose 400)
-  file ← ask_or open_error (Open p how now)
+-- The bytes are stored: the file is opened, the place is sought, the bytes are written and flushed, and the file is asked for its
+-- tag and time.
+abbrev pub store : Opening → Option ℕ → Path → List ℕ → ℕ → Bool → Method Response
+store how place p bytes now found = do
+  file ← ask_or (open_error how) (Open p how now)
+  file ← sought place file
   file ← written file bytes now
   _ ← ask_for (Flush file)
   after ← answer_of (FileMetadata file)
-  gives (stored (is_ok found) (result_ok after))
+  gives (stored found (result_ok after))
+
+-- ---- the method
+
+-- What is judged before the file is opened: where the bytes go; 412 where a condition fails; 423 where a lock is in the way; 400
+-- where the body isn't of the announced length. With where they go comes whether something was found at the path.
+abbrev pub put_allowed : DavMethod → PutHeaders → Path → Client → List ℕ → Method (Writing × Bool)
+put_allowed m h p who bytes = do
+  found ← answer_of (Metadata p)
+  w ← Done (writing_of m h (result_ok found))
+  tokens ← guarded dav.StatusClose m h.conditions (result_ok found)
+  _ ← require_free false (asker who tokens) p (dav.StatusClose 423)
+  _ ← require (is_announced w.announced bytes) (dav.StatusClose 400)
+  gives (w, is_ok found)
+
+-- PUT and PATCH, with what their headers say
+abbrev pub put : DavMethod → PutHeaders → Path → Client → List ℕ → Method Response
+put m h p who bytes = do
+  allowed ← put_allowed m h p who bytes
+  store (put_opening h allowed.0) allowed.0.from p bytes who.moment allowed.1
+
+-- the bytes that a body brings; an element tree brings none
+abbrev pub bytes_of_body : Body → Option (List ℕ)
+bytes_of_body body.None = Some []
+bytes_of_body (body.Bytes bytes) = Some bytes
+bytes_of_body (body.Tree tree) = None
+bytes_of_body body.Malformed = None
 
 -- 415 for a body that isn't bytes
-abbrev pub put_body : Option ℕ → Opening → Path → Option (List ℕ) → ℕ → Method Response
-put_body announced how p None now = fails (dav.Status 415)
-put_body announced how p (Some bytes) now = put_bytes announced how p bytes now
+abbrev pub put_body : DavMethod → PutHeaders → Path → Client → Option (List ℕ) → Method Response
+put_body m h p who None = fails (dav.Status 415)
+put_body m h p who (Some bytes) = put m h p who bytes
 
--- PUT; conditions and ranges aren't served yet: 501.
-abbrev pub put : Headers → Option ℕ → Path → Body → ℕ → Method Response
-put headers announced p body now =
-    if has_conditions headers then fails (dav.Status 501)
-    else put_body announced (put_opening announced (checksum_in headers)) p (bytes_of_body body) now
-
--- The plan is that of a PUT with these headers and this body, to a path, at a moment.
-pub data IsPut (headers : Headers) (p : Path) (body : Body) (now : ℕ) : Method Response → Type 0 where
-  is_put : (announced : Option ℕ) → Decodes IsContentLength (get_all headers (codes "content-length")) announced → IsPut headers p body now (put headers announced p body now)
+-- The plan is that of a PUT or PATCH with these headers and this body, to a path.
+pub data IsPut (m : DavMethod) (headers : Headers) (p : PathText) (body : Body) (who : Client) : Method Response → Type 0 where
+  is_put : (h : PutHeaders) → ArePutHeaders headers p h → IsPut m headers p body who (put_body m h (names p) who (bytes_of_body body))

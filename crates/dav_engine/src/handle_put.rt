@@ -1,16 +1,20 @@
-//! PUT (RFC 9110, section 9.3.4; RFC 4918, section 9.7).
-ghost use Rattle.std.specs.Prelude.{◌≡◌, ◌≤◌, Bool, Option, option_map, string_bytes, IfOk, IfSome};
+//! PUT (RFC 9110, section 9.3.4; RFC 4918, section 9.7) and PATCH (RFC 5789, with SabreDAV's partial updates).
+ghost use Rattle.std.specs.Prelude.{◌≡◌, ◌≤◌, Bool, Option, option_map, string_bytes, IfOk, IfSome, List};
+ghost use Rattle.std.specs.Option.{option_copied};
 ghost use Rattle.dav_core.specs.World.{last_moment};
 ghost use Rattle.dav_core.specs.Metadata.{opening_of};
 ghost use Rattle.dav_core.specs.Path.{names};
-ghost use Rattle.dav_engine.specs.Follows.{Makes, Serves};
+ghost use Rattle.dav_engine.specs.Client.{client_of, asker};
+ghost use Rattle.dav_engine.specs.ConditionView.{locks_in};
+ghost use Rattle.dav_engine.specs.Follows.{Follows, Makes, Serves};
 ghost use Rattle.dav_engine.specs.Plan.{Locks};
 ghost use Rattle.dav_engine.specs.Put as spec;
+ghost use Rattle.dav_engine.specs.PutView.{put_headers_of};
 ghost use Rattle.dav_engine.specs.Response.{response_of};
 
-use crate::conditional::has_conditions;
-use crate::davinner::DavInner;
-use crate::headers::{announced_length, checksum_in};
+use crate::check::is_open;
+use crate::davinner::{Caller, DavInner};
+use crate::put_headers::{Bounds, PutHeaders, Writing};
 use crate::reply::{Reply, ReplyBody, set_header, set_length, set_validators};
 use crate::request::{Body, DavRequest};
 use bytes::Bytes;
@@ -18,9 +22,141 @@ use dav_core::davpath::DavPath;
 use dav_core::errors::{DavError, DavResult, FsError, NoMemory};
 use dav_core::fs::{DavFileSystem, DavMetaData, OpenOptions};
 use dav_core::ls::DavLockSystem;
+use dav_core::method::DavMethod;
+use dav_headers::XUpdateRange;
 use http::StatusCode;
 use http_header::{HeaderMap, HeaderName, HeaderValue};
 use std::alloc::Global;
+use std::io::SeekFrom;
+
+const UNSATISFIABLE: DavError = DavError::StatusClose(StatusCode::RANGE_NOT_SATISFIABLE);
+
+// Whether from the first of two places to the second there are so many bytes.
+fn spans(first: u64, last: u64, n: u64) -> bool
+    ensures { result ≡ spec.spans first last n }
+{
+    last >= first && (last - first).checked_add(1) == Some(n)
+}
+
+// The place that n bytes before the end of what was found have; 0 where nothing was.
+fn from_end(n: u64, found: Option<&DavMetaData>) -> DavResult<u64>
+    ensures { result ≡ spec.from_end n (option_copied found.entry) }
+{
+    match found {
+        None => Ok(0),
+        Some(meta) if meta.len < n => Err(UNSATISFIABLE),
+        Some(meta) => Ok(meta.len - n),
+    }
+}
+
+// Where a partial update of so many bytes begins.
+fn update_from(range: &XUpdateRange, n: u64, found: Option<&DavMetaData>) -> DavResult<u64>
+    ensures { result ≡ spec.update_from range.now n (option_copied found.entry) }
+{
+    match range {
+        XUpdateRange::FromTo(first, last) => {
+            if spans(*first, *last, n) {
+                Ok(*first)
+            } else {
+                Err(UNSATISFIABLE)
+            }
+        }
+        XUpdateRange::AllFrom(first) => Ok(*first),
+        XUpdateRange::Last(k) => from_end(*k, found),
+        XUpdateRange::Append => Ok(0),
+    }
+}
+
+fn is_append(range: &XUpdateRange) -> bool
+    ensures { result ≡ spec.is_append range.now }
+{
+    matches!(range, XUpdateRange::Append)
+}
+
+// What a partial update writes.
+fn updates(
+    announced: Option<u64>,
+    range: &Option<XUpdateRange>,
+    found: Option<&DavMetaData>,
+) -> DavResult<Writing>
+    ensures { result ≡ spec.updates announced range.now (option_copied found.entry) }
+{
+    let Some(n) = announced else {
+        return Err(DavError::StatusClose(StatusCode::LENGTH_REQUIRED));
+    };
+    let Some(range) = range else {
+        return Err(DavError::StatusClose(StatusCode::BAD_REQUEST));
+    };
+    Ok(Writing {
+        from: Some(update_from(range, n, found)?),
+        appends: is_append(range),
+        announced,
+    })
+}
+
+// What a method writes by itself.
+fn written_by(
+    method: DavMethod,
+    headers: &PutHeaders,
+    found: Option<&DavMetaData>,
+) -> DavResult<Writing>
+    ensures { result ≡ spec.written_by method (put_headers_of headers.now) (option_copied found.entry) }
+{
+    match method {
+        DavMethod::Patch if headers.is_partial => {
+            updates(headers.announced, &headers.update, found)
+        }
+        DavMethod::Patch => Err(DavError::StatusClose(StatusCode::UNSUPPORTED_MEDIA_TYPE)),
+        _ => Ok(Writing {
+            from: None,
+            appends: false,
+            announced: headers.announced,
+        }),
+    }
+}
+
+// The bytes between two places.
+fn bounded(range: Bounds, writing: Writing) -> DavResult<Writing>
+    ensures { result ≡ spec.bounded range writing }
+{
+    match range {
+        Bounds::Unread => Err(DavError::StatusClose(StatusCode::BAD_REQUEST)),
+        Bounds::Whole => Ok(writing),
+        Bounds::Within(first, last) => within(first, last, writing),
+    }
+}
+
+fn within(first: u64, last: u64, writing: Writing) -> DavResult<Writing>
+    ensures { result ≡ spec.bounded (Bounds.Within first last) writing }
+{
+    if last < first {
+        return Err(UNSATISFIABLE);
+    }
+    let Some(n) = (last - first).checked_add(1) else {
+        return Err(UNSATISFIABLE);
+    };
+    if let Some(announced) = writing.announced {
+        if announced != n {
+            return Err(UNSATISFIABLE);
+        }
+    }
+    Ok(Writing {
+        from: Some(first),
+        appends: writing.appends,
+        announced: Some(n),
+    })
+}
+
+// Where the bytes go, and how many are announced.
+fn writing_of(
+    method: DavMethod,
+    headers: &PutHeaders,
+    found: Option<&DavMetaData>,
+) -> DavResult<Writing>
+    ensures { result ≡ spec.writing_of method (put_headers_of headers.now) (option_copied found.entry) }
+{
+    bounded(headers.range, written_by(method, headers, found)?)
+}
 
 // Whether the body has the length that is announced for it, where one is.
 fn is_announced(announced: Option<u64>, bytes: &Bytes) -> bool
@@ -33,28 +169,41 @@ fn is_announced(announced: Option<u64>, bytes: &Bytes) -> bool
 }
 
 // What a file that isn't opened is answered.
-fn open_error(error: FsError) -> DavError
-    ensures { result ≡ spec.open_error error }
+fn open_error(options: &OpenOptions, error: FsError) -> DavError
+    ensures { result ≡ spec.open_error (opening_of options.now) error }
 {
     match error {
-        FsError::NotFound => DavError::StatusClose(StatusCode::CONFLICT),
-        FsError::Exists => DavError::StatusClose(StatusCode::CONFLICT),
+        FsError::NotFound => DavError::StatusClose(missing_status(options)),
+        FsError::Exists => DavError::StatusClose(missing_status(options)),
         other => DavError::FsError(other),
     }
 }
 
-// How the file is opened.
-fn put_opening(announced: Option<u64>, checksum: Option<String>) -> OpenOptions
-    ensures { opening_of result ≡ spec.put_opening announced (option_map string_bytes checksum) }
+// What is missing or in the way: what a condition asked for, or a folder above the path.
+fn missing_status(options: &OpenOptions) -> StatusCode
+    ensures { result ≡ spec.missing_status (opening_of options.now) }
 {
-    OpenOptions {
-        write: true,
-        create: true,
-        truncate: true,
-        size: announced,
-        checksum,
-        ..OpenOptions::default()
+    if !options.create || options.create_new {
+        StatusCode::PRECONDITION_FAILED
+    } else {
+        StatusCode::CONFLICT
     }
+}
+
+// How the file is opened.
+fn put_opening(headers: &PutHeaders, writing: Writing) -> Result<OpenOptions, NoMemory>
+    ensures { IfOk result (λ options. opening_of options ≡ spec.put_opening (put_headers_of headers.now) writing) }
+{
+    Ok(OpenOptions {
+        write: true,
+        append: writing.appends,
+        truncate: writing.from.is_none(),
+        create: !headers.conditions.wants_something(),
+        create_new: headers.conditions.wants_nothing(),
+        size: headers.announced,
+        checksum: headers.checksum.clone()?,
+        ..OpenOptions::default()
+    })
 }
 
 // The reply to a file that was stored.
@@ -87,6 +236,19 @@ fn stored(alloc: Global, found: bool, file: Option<DavMetaData>) -> Result<Reply
     })
 }
 
+// Seeks a place in an open file, where there is one.
+fn seek<F: DavFileSystem>(fs: &mut F, file: &mut F::File, place: Option<u64>) -> DavResult<()>
+    ensures { Makes (λ _. F.handle file.new) (spec.sought place (F.handle file.old)) (F.state fs.old) result (F.state fs.new) }
+{
+    let Some(place) = place else {
+        return Ok(());
+    };
+    match fs.seek(file, SeekFrom::Start(place)) {
+        Ok(_) => Ok(()),
+        Err(_) => Err(UNSATISFIABLE),
+    }
+}
+
 // Writes bytes to an open file, where there are any.
 fn write<F: DavFileSystem>(
     fs: &mut F,
@@ -108,83 +270,132 @@ fn write<F: DavFileSystem>(
 }
 
 // Stores bytes at a path.
-fn put_bytes<F: DavFileSystem>(
+fn store<F: DavFileSystem>(
     fs: &mut F,
     alloc: Global,
     path: &DavPath,
-    bytes: &Bytes,
-    announced: Option<u64>,
     options: &OpenOptions,
+    place: Option<u64>,
+    bytes: &Bytes,
     now: u64,
+    found: bool,
 ) -> DavResult<Reply>
     requires { now ≤ last_moment }
-    ensures { Makes response_of (spec.put_bytes announced (opening_of options.now) (names path.now) bytes.now now) (F.state fs.old) result (F.state fs.new) }
+    ensures { Makes response_of (spec.store (opening_of options.now) place (names path.now) bytes.now now found) (F.state fs.old) result (F.state fs.new) }
 {
-    let found = fs.metadata(path);
-    if !is_announced(announced, bytes) {
-        return Err(DavError::StatusClose(StatusCode::BAD_REQUEST));
-    }
     let mut file = match fs.open(alloc, path, options, now) {
         Ok(file) => file,
-        Err(e) => return Err(open_error(e)),
+        Err(e) => return Err(open_error(options, e)),
     };
+    seek(fs, &mut file, place)?;
     write(fs, alloc, &mut file, bytes, now)?;
     match fs.flush(&mut file) {
         Ok(()) => {}
         Err(e) => return Err(DavError::FsError(e)),
     }
     let after = fs.file_metadata(&file);
-    Ok(stored(alloc, found.is_ok(), after.ok())?)
+    Ok(stored(alloc, found, after.ok())?)
+}
+
+// Where the bytes go, and whether something was found there, where they may be stored.
+fn allowed<F: DavFileSystem, L: DavLockSystem>(
+    fs: &mut F,
+    ls: Option<&L>,
+    alloc: Global,
+    method: DavMethod,
+    headers: &PutHeaders,
+    path: &DavPath,
+    caller: &Caller<'_>,
+    bytes: &Bytes,
+) -> DavResult<(Writing, bool)>
+    ensures { Follows (λ r. r) (spec.put_allowed method (put_headers_of headers.now) (names path.now) (client_of caller.now) bytes.now) (F.state fs.old) (locks_in L.locks ls.entry) result (F.state fs.new) (locks_in L.locks ls.entry) }
+{
+    let found = fs.metadata(path).ok();
+    let writing = writing_of(method, headers, found.as_ref())?;
+    let conditions = &headers.conditions;
+    let tokens = match conditions.if_match_get_tokens(alloc, method, found.as_ref(), fs, ls)? {
+        Ok(tokens) => tokens,
+        Err(status) => return Err(DavError::StatusClose(status)),
+    };
+    if !is_open(ls, path, caller.principal, false, &tokens) {
+        return Err(DavError::StatusClose(StatusCode::LOCKED));
+    }
+    if !is_announced(writing.announced, bytes) {
+        return Err(DavError::StatusClose(StatusCode::BAD_REQUEST));
+    }
+    Ok((writing, found.is_some()))
+}
+
+// Stores bytes at a path, where they may be stored.
+fn put<F: DavFileSystem, L: DavLockSystem>(
+    fs: &mut F,
+    ls: Option<&L>,
+    alloc: Global,
+    method: DavMethod,
+    headers: &PutHeaders,
+    path: &DavPath,
+    caller: &Caller<'_>,
+    bytes: &Bytes,
+) -> DavResult<Reply>
+    requires { caller.now.moment ≤ last_moment }
+    ensures { Follows response_of (spec.put method (put_headers_of headers.now) (names path.now) (client_of caller.now) bytes.now) (F.state fs.old) (locks_in L.locks ls.entry) result (F.state fs.new) (locks_in L.locks ls.entry) }
+{
+    let (writing, found) = allowed(fs, ls, alloc, method, headers, path, caller, bytes)?;
+    let options = put_opening(headers, writing)?;
+    store(
+        fs,
+        alloc,
+        path,
+        &options,
+        writing.from,
+        bytes,
+        caller.moment,
+        found,
+    )
 }
 
 // Stores the bytes of a body at a path.
-fn put_body<F: DavFileSystem>(
+fn put_body<F: DavFileSystem, L: DavLockSystem>(
     fs: &mut F,
+    ls: Option<&L>,
     alloc: Global,
-    path: &DavPath,
+    request: &DavRequest,
+    headers: &PutHeaders,
+    caller: &Caller<'_>,
     body: &Body,
-    announced: Option<u64>,
-    options: &OpenOptions,
-    now: u64,
 ) -> DavResult<Reply>
-    requires { now ≤ last_moment }
-    ensures { Makes response_of (spec.put_body announced (opening_of options.now) (names path.now) (spec.bytes_of_body body.now) now) (F.state fs.old) result (F.state fs.new) }
+    requires { caller.now.moment ≤ last_moment }
+    ensures { Follows response_of (spec.put_body request.now.method (put_headers_of headers.now) (names request.now.path) (client_of caller.now) (spec.bytes_of_body body.now)) (F.state fs.old) (locks_in L.locks ls.entry) result (F.state fs.new) (locks_in L.locks ls.entry) }
 {
+    let path = &request.path;
     match body {
-        Body::None => put_bytes(fs, alloc, path, &Bytes::new(), announced, options, now),
-        Body::Bytes(bytes) => put_bytes(fs, alloc, path, bytes, announced, options, now),
+        Body::None => put(
+            fs,
+            ls,
+            alloc,
+            request.method,
+            headers,
+            path,
+            caller,
+            &Bytes::new(),
+        ),
+        Body::Bytes(bytes) => put(fs, ls, alloc, request.method, headers, path, caller, bytes),
         Body::Tree(_) => Err(DavError::Status(StatusCode::UNSUPPORTED_MEDIA_TYPE)),
         Body::Malformed => Err(DavError::Status(StatusCode::UNSUPPORTED_MEDIA_TYPE)),
     }
 }
 
-// Stores the body of a request at its path.
-fn put<F: DavFileSystem>(
-    fs: &mut F,
-    alloc: Global,
-    request: &DavRequest,
-    body: &Body,
-    now: u64,
-) -> DavResult<Reply>
-    requires { now ≤ last_moment }
-    ensures { (ls : Locks) → Serves (spec.IsPut request.now.headers (names request.now.path) body.now now) (F.state fs.old) ls result (F.state fs.new) ls }
-{
-    let announced = announced_length(alloc, &request.headers)?;
-    if has_conditions(&request.headers) {
-        return Err(DavError::Status(StatusCode::NOT_IMPLEMENTED));
-    }
-    let checksum = checksum_in(alloc, &request.headers)?;
-    let options = put_opening(announced, checksum);
-    put_body(fs, alloc, &request.path, body, announced, &options, now)
-}
-
 impl<'a, 'b, 'c, F: DavFileSystem, L: DavLockSystem> DavInner<'a, 'b, 'c, F, L> {
-    /// Stores a body at the path of a request (RFC 9110, section 9.3.4; RFC 4918, section 9.7): 201 where nothing was found
-    /// there before, else 204, with the tag and the time of the file where the store tells them.
+    /// Stores a body at the path of a request: PUT all of a file (RFC 9110, section 9.3.4; RFC 4918, section 9.7), or the part that
+    /// Content-Range tells (RFC 9110, section 14.4); PATCH the part that X-Update-Range tells. 201 where nothing was found there
+    /// before, else 204, with the tag and the time of the file where the store tells them.
     ///
-    /// 501 where conditions or a range stand in the head, which aren't served yet; 415 for an element tree; 400 for a body
-    /// that isn't of the announced length; 409 where no folder is above the path; each other refusal of the store is its
-    /// own status. 400 and 409 close the connection.
+    /// Each of these closes the connection, and the first that applies is answered: for PATCH 415 where the body isn't
+    /// `application/x-sabredav-partialupdate`, 411 without a length, 400 without X-Update-Range, 416 for one that isn't as long as
+    /// the body or begins before the file; 400 for a Content-Range that isn't one, 416 for one that isn't as long as the body; 412
+    /// where a condition fails; 423 where a lock is in the way; 400 for a body that isn't of the announced length; 412 or 409 where
+    /// the file isn't there or is, or no folder is above it; 416 where the place isn't found. Each other refusal of the store is
+    /// its own status. 415 for an element tree, before anything else.
     pub fn handle_put(
         &mut self,
         alloc: Global,
@@ -194,8 +405,17 @@ impl<'a, 'b, 'c, F: DavFileSystem, L: DavLockSystem> DavInner<'a, 'b, 'c, F, L> 
         requires { self.old.caller.now.moment ≤ last_moment }
         ensures same_fs { self.new.fs.ghost_name ≡ self.old.fs.ghost_name }
         ensures same_ls { self.new.ls.ghost_name ≡ self.old.ls.ghost_name }
-        ensures serves { Serves (spec.IsPut request.now.headers (names request.now.path) body.now self.old.caller.now.moment) (F.state self.old.fs.now) (option_map L.locks self.old.ls.now) result (F.state self.new.fs.now) (option_map L.locks self.new.ls.now) }
+        ensures serves { Serves (spec.IsPut request.now.method request.now.headers request.now.path body.now (client_of self.old.caller.now)) (F.state self.old.fs.now) (option_map L.locks self.old.ls.now) result (F.state self.new.fs.now) (option_map L.locks self.new.ls.now) }
     {
-        put(self.fs, alloc, request, body, self.caller.moment)
+        let headers = PutHeaders::decode(alloc, request)?;
+        put_body(
+            self.fs,
+            self.ls.as_ref(),
+            alloc,
+            request,
+            &headers,
+            self.caller,
+            body,
+        )
     }
 }

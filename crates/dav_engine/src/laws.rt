@@ -1,7 +1,8 @@
 //! Laws over what methods do. Each function does nothing: its contract is a theorem on the definitions.
 ghost use Rattle.dav_engine.specs.Date.{DatesOfMoments};
+ghost use Rattle.dav_engine.specs.OnePlan.{OneReadingOfConditions, OnePutPlan, OneMkcolPlan};
 ghost use Rattle.dav_engine.specs.PlanLaws.{PlansAreDetermined, PlansEnd, WantIsLikeRefusals, CutsAreLikeRefusals};
-ghost use Rattle.dav_engine.specs.PutLaws.{OnePutPlan};
+ghost use Rattle.dav_engine.specs.WorldLaws.{ReadingLeavesAll, ProperPlansKeepWorlds, PutIsProper, MkcolIsProper, RefusedPutLeavesAll, RefusedMkcolLeavesAll, CreatesOnly, PlansRemember};
 
 /// Where memory was never wanted, what a plan comes to is determined: its outcome, the store and the list of locks.
 #[tactic(auto, using(crate::proofs::PlanAnswers::plans_are_determined))]
@@ -27,11 +28,12 @@ pub fn cuts_are_like_refusals()
     ensures { CutsAreLikeRefusals }
 {}
 
-/// A PUT has one plan at most: its headers, its path, its body and its moment determine what it does (RFC 9110, section
-/// 9.3.4).
-#[tactic(auto, using(crate::proofs::PutLawLemmas::one_put_plan))]
-pub fn puts_have_one_plan()
-    ensures { OnePutPlan }
+/// Headers say one thing as conditions, and a PUT, PATCH or MKCOL has one plan at most: its headers, its path, its body and its
+/// client determine what it does (RFC 9110, section 9.3.4; RFC 4918, sections 9.3 and 10.4).
+pub fn requests_have_one_plan()
+    ensures conditions { OneReadingOfConditions }
+    ensures put { OnePutPlan }
+    ensures mkcol { OneMkcolPlan }
 {}
 
 /// The date that is written for a moment is the one of the calendar with so many seconds since 1970 (RFC 9110, section
@@ -39,4 +41,40 @@ pub fn puts_have_one_plan()
 #[tactic(auto, using(crate::proofs::DateLemmas::dates_of_moments))]
 pub fn dates_are_those_of_moments()
     ensures { DatesOfMoments }
+{}
+
+/// A plan that only reads leaves the world and the list of locks, whatever the store refuses: safe methods are
+/// read-only (RFC 9110, section 9.2.1).
+#[tactic(auto, using(crate::proofs::WorldAnswers::reading_leaves_all))]
+pub fn reading_leaves_all()
+    ensures { ReadingLeavesAll }
+{}
+
+/// A plan of calls that a caller may make keeps what makes a world a world (RFC 4918, section 5.1), and change numbers
+/// never fall. Of a path of names, at a moment until the end of the year 9999, PUT, PATCH and MKCOL are such plans.
+#[tactic(auto, using(crate::proofs::WorldAnswers::proper_plans_keep_worlds, crate::proofs::PutWorld::put_is_proper, crate::proofs::PutWorld::mkcol_is_proper))]
+pub fn proper_plans_keep_worlds()
+    ensures kept { ProperPlansKeepWorlds }
+    ensures put { PutIsProper }
+    ensures mkcol { MkcolIsProper }
+{}
+
+/// Where what is judged before PUT, PATCH or MKCOL changes anything ends in an error, this error is the answer, and the
+/// world and the list of locks stay: a condition that fails, or a lock that is in the way (RFC 9110, section 13.2.1;
+/// RFC 4918, section 7).
+pub fn refused_writes_leave_all()
+    ensures put { RefusedPutLeavesAll }
+    ensures mkcol { RefusedMkcolLeavesAll }
+{}
+
+/// A PUT or PATCH with If-None-Match `*` that succeeds found nothing at its path, whatever the store refused: what is
+/// there is never overwritten (RFC 9110, section 13.1.2).
+pub fn creates_only()
+    ensures { CreatesOnly }
+{}
+
+/// What once holds of an entity tag holds from then on: whatever carries its number is a file of the same bytes, so a
+/// strong tag is never used for other bytes (RFC 9110, section 8.8.1).
+pub fn numbers_tell_bytes()
+    ensures { PlansRemember }
 {}

@@ -1,12 +1,15 @@
 //! The methods of a WebDAV server, over any store and any locks (RFC 4918, RFC 9110).
 #![tactic(auto)]
 
+mod check;
 pub mod conditional;
 mod date;
 pub mod davinner;
+mod handle_mkcol;
 mod handle_put;
 mod headers;
 pub mod laws;
+mod put_headers;
 pub mod reply;
 pub mod request;
 

@@ -3,6 +3,8 @@ ghost use Rattle.std.specs.Prelude.{◌≡◌, ◌≤◌, codes, decimal, IfOk, 
 ghost use Rattle.http_header.specs.HeaderMap.{insert};
 ghost use Rattle.http_header.specs.FieldValue.{plain_value};
 ghost use Rattle.dav_core.specs.Metadata.{tag_of};
+ghost use Rattle.dav_core.specs.Path.{full_bytes};
+ghost use Rattle.dav_core.specs.UrlText.{path_text};
 ghost use Rattle.dav_core.specs.World.{last_moment};
 ghost use Rattle.dav_engine.specs.Response.{response_of, error_reply, with_tag, with_validators};
 
@@ -11,6 +13,7 @@ mod tests;
 
 use crate::date::date_value;
 use bytes::Bytes;
+use dav_core::davpath::DavPath;
 use dav_core::element::Element;
 use dav_core::errors::{DavError, NoMemory};
 use dav_core::fs::DavMetaData;
@@ -62,8 +65,8 @@ fn tag_value(alloc: Global, number: u64) -> Result<HeaderValue, NoMemory>
     HeaderValue::from_string(tag).map_err(|_| NoMemory)
 }
 
-// Sets the tag of what has a number.
-fn set_tag(alloc: Global, headers: &mut HeaderMap, number: Option<u64>) -> Result<(), NoMemory>
+/// Sets the tag of what has a number (RFC 9110, section 8.8.3).
+pub fn set_tag(alloc: Global, headers: &mut HeaderMap, number: Option<u64>) -> Result<(), NoMemory>
     ensures { OnOk result (headers.new ≡ with_tag headers.old number) }
 {
     let Some(number) = number else {
@@ -94,6 +97,15 @@ pub fn set_length(alloc: Global, headers: &mut HeaderMap, len: u64) -> Result<()
 {
     let value = HeaderValue::from_u64(alloc, len)?;
     set_header(headers, HeaderName::from_static("content-length"), value)
+}
+
+/// Sets where something is: the text of its path in a URL, with the prefix (RFC 9110, section 8.7).
+pub fn set_location(alloc: Global, headers: &mut HeaderMap, path: &DavPath) -> Result<(), NoMemory>
+    ensures { OnOk result (headers.new ≡ insert headers.old (codes "content-location") (plain_value (path_text (full_bytes path.now)))) }
+{
+    let text = path.with_prefix().as_url_string(alloc)?;
+    let value = HeaderValue::from_string(text).map_err(|_| NoMemory)?;
+    set_header(headers, HeaderName::from_static("content-location"), value)
 }
 
 impl Reply {

@@ -39,7 +39,7 @@ same_text false false s t e = (refl, same_inner s t e)
 same_text true false s t e = absurd (never_both s t e)
 same_text false true s t e = absurd (never_both t s (sym e))
 
-entity_tag_one : (text : List ℕ) (d e : EntityTag) → IsEntityTag text d.weak d.tag → IsEntityTag text e.weak e.tag → d ≡ e
+pub entity_tag_one : (text : List ℕ) (d e : EntityTag) → IsEntityTag text d.weak d.tag → IsEntityTag text e.weak e.tag → d ≡ e
 entity_tag_one text d e h k =
     let same = same_text d.weak e.weak d.tag e.tag (sym h.1 ∙ k.1) in
     let first : Bool → EntityTag = λ x. record { weak = x; tag = d.tag } in

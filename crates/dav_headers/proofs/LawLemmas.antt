@@ -93,10 +93,10 @@ range_again Append p = inl (refl, refl)
 pub update_range_again : (r : XUpdateRange) → AreBelow r → IsUpdateRange (written (update_range_text r)) r
 update_range_again r below = one_reads (update_range_text r) (λ t. IsUpdateRangeText t r) (update_range_shown r) (range_again r below)
 
-same_number : (t : List ℕ) (m n : ℕ) → IsNumber t m → IsNumber t n → m ≡ n
+pub same_number : (t : List ℕ) (m n : ℕ) → IsNumber t m → IsNumber t n → m ≡ n
 same_number t m n p q = sym p.1 ∙ q.1
 
-not_empty : (t : List ℕ) (n : ℕ) → IsNumber t n → t ≡ [] → ⊥
+pub not_empty : (t : List ℕ) (n : ℕ) → IsNumber t n → t ≡ [] → ⊥
 not_empty t n p e = absurd (omega (arith, p.0.0, ap length e))
 
 ends_one : (x y : List ℕ) (a b : XUpdateRange) → IsEnds x y a → IsEnds x y b → a ≡ b

@@ -8,6 +8,7 @@ pub mod IfLawLemmas
 pub mod ETagListLemmas
 pub mod LanguageLemmas
 pub mod LawLemmas
+pub mod OneReading
 pub mod LoopLemmas
 pub mod NumberLemmas
 pub mod RangeLemmas

@@ -57,7 +57,7 @@ bounds_at_cut text x y (Some (m, n)) cut other (first, last, e, a, b) =
     let parts = parts_one 45 text x y first last cut (number_without 45 first m (omega arith) a) e in
     (m, n, subst (λ t. IsNumber t m) (sym parts.0) a, subst (λ t. IsNumber t n) (sym parts.1) b)
 
-bounds_without : (text : List ℕ) (b : Option (ℕ × ℕ)) → IsBounds text b → IsWithout 47 text
+pub bounds_without : (text : List ℕ) (b : Option (ℕ × ℕ)) → IsBounds text b → IsWithout 47 text
 bounds_without text None h = subst (IsWithout 47) (sym h) (IsWithout-cons 47 42 [] (λ e. omega (arith, e)) (IsWithout-nil 47))
 bounds_without text (Some (m, n)) (first, last, e, a, b) =
     subst (IsWithout 47) (sym e)

@@ -1,7 +1,10 @@
 -- Laws of headers, which are stated over their grammars.
-use Rattle.std.specs.Prelude.{ℕ, ◌<◌, ◌^◌, Bool, false, List, [], ◌∷◌, ◌≡◌, ◌↔◌, ⊤, Some, All}
+use Rattle.std.specs.Prelude.{ℕ, ◌<◌, ◌^◌, Bool, false, List, [], ◌∷◌, ◌≡◌, ◌↔◌, ⊤, Option, Some, All}
 use Rattle.http_header.specs.FieldValue.{FieldValue, plain_value}
 use Rattle.dav_headers.specs.ETag.{EntityTag, IsStrongMatch}
+use Rattle.dav_headers.specs.ContentRange.{IsContentRange}
+use Rattle.dav_headers.specs.ETagList.{TagList, IsTagList}
+use Rattle.dav_headers.specs.Length.{IsContentLength}
 use Rattle.dav_headers.specs.Overwrite.{overwrite_text, IsOverwrite}
 use Rattle.dav_headers.specs.Depth.{depth_text, IsDepth}
 use Rattle.dav_headers.specs.Timeout.{timeout_text, IsTimeout}
@@ -66,3 +69,14 @@ OneUpdateRange =
 abbrev pub OneTimeout : Type 0
 OneTimeout =
     (values : List FieldValue) → (a b : List DavTimeout) → IsTimeout values a → IsTimeout values b → a ≡ b
+
+abbrev pub OneTagList : Type 0
+OneTagList = (values : List FieldValue) → (a b : TagList) → IsTagList values a → IsTagList values b → a ≡ b
+
+abbrev pub OneContentRange : Type 0
+OneContentRange =
+    (values : List FieldValue) → (a b : Option (ℕ × ℕ)) → (l m : Option ℕ)
+    → IsContentRange values a l → IsContentRange values b m → (a ≡ b) × (l ≡ m)
+
+abbrev pub OneContentLength : Type 0
+OneContentLength = (values : List FieldValue) → (m n : ℕ) → IsContentLength values m → IsContentLength values n → m ≡ n

@@ -1,5 +1,5 @@
 //! Laws of headers. Each function does nothing: its contract is a theorem on the grammars.
-ghost use Rattle.dav_headers.specs.Laws.{StrongIsSymmetric, StrongIsTransitive, StrongMatchesItself, OverwriteReadsAgain, OneOverwrite, DepthReadsAgain, OneDepth, UpdateRangeReadsAgain, OneUpdateRange, OneTimeout, TimeoutReadsAgain};
+ghost use Rattle.dav_headers.specs.Laws.{StrongIsSymmetric, StrongIsTransitive, StrongMatchesItself, OverwriteReadsAgain, OneOverwrite, DepthReadsAgain, OneDepth, UpdateRangeReadsAgain, OneUpdateRange, OneTimeout, TimeoutReadsAgain, OneTagList, OneContentRange, OneContentLength};
 
 /// The strong comparison of entity tags (RFC 9110, section 8.8.3.2) is symmetric and transitive, and a tag matches itself
 /// exactly where it is strong.
@@ -31,4 +31,16 @@ pub fn update_range_is_read_again()
 pub fn timeout_is_read_again()
     ensures again { TimeoutReadsAgain }
     ensures one { OneTimeout }
+{}
+
+/// The values of If-Match and If-None-Match are read as one list at most.
+#[tactic(auto, using(crate::proofs::OneReading::one_tag_list))]
+pub fn tag_lists_have_one_reading()
+    ensures { OneTagList }
+{}
+
+/// The values of Content-Range and of Content-Length are read in one way at most.
+pub fn lengths_have_one_reading()
+    ensures range { OneContentRange }
+    ensures length { OneContentLength }
 {}

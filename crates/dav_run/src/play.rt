@@ -230,6 +230,8 @@ fn write_replies<W: Write>(alloc: Global, replies: &[Reply], writer: &mut W) -> 
 }
 
 #[cfg(test)]
+mod publishing;
+#[cfg(test)]
 mod tests;
 #[cfg(test)]
 mod whole_scripts;

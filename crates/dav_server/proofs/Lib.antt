@@ -6,4 +6,11 @@ pub mod RunLemmas
 pub mod StepLemmas
 pub mod GetLemmas
 pub mod PrefixLemmas
+pub mod MethodLemmas
 pub mod MeansLemmas
+pub mod GetWorld
+pub mod MeansWorld
+pub mod TagLemmas
+pub mod PlanStatuses
+pub mod NotModified
+pub mod TurnLemmas

@@ -1,5 +1,5 @@
 -- A request has one plan, and a run is determined.
-use Rattle.std.proofs.Common.{◌≡◌, inl, inr, ℕ, false, List, ◌∷◌, map, get_or, bytes_eq, Option, Some, None, Result, Ok, Err, refl, sym, ap, subst, ◌∙◌}
+use Rattle.std.proofs.Common.{◌≡◌, ℕ, Bool, true, false, true≢false, List, ◌∷◌, map, get_or, bytes_eq, Option, Some, None, Result, Ok, Err, refl, sym, ap, subst, ◌∙◌}
 use Rattle.std.specs.List.{position_or_len}
 use Rattle.dav_core.specs.declared.errors.FsError.{FsError}
 use Rattle.dav_core.specs.declared.errors.DavError.{DavError}
@@ -7,17 +7,20 @@ use Rattle.dav_core.specs.declared.method.DavMethod.{DavMethod}
 use Rattle.dav_core.specs.declared.method.DavMethod.TheVariants.{Head, Get, Put, Patch, Options, PropFind, PropPatch, MkCol, Copy, Move, Delete, Lock, Unlock, Report, MkCalendar, MkAddressbook}
 use Rattle.dav_core.specs.Asking.{StoreState, Asks}
 use Rattle.dav_core.specs.Method.{method_name, all_methods}
-use Rattle.dav_core.specs.Path.{Path, PathText, names}
+use Rattle.dav_core.specs.Path.{PathText, names}
 use Rattle.dav_engine.specs.declared.request.Body.{Body}
+use Rattle.dav_engine.specs.Client.{Client}
+use Rattle.dav_engine.specs.Conditions.{Conditions}
 use Rattle.dav_engine.specs.Headers.{Headers}
 use Rattle.dav_engine.specs.Method.{Method, fails}
 use Rattle.dav_engine.specs.Plan.{Locks, Ran}
 use Rattle.dav_engine.specs.Response.{Response, reply_to}
 use Rattle.dav_engine.proofs.PlanLemmas.{ran_same, ran_unset}
-use Rattle.dav_engine.proofs.PutLawLemmas.{one_put_plan}
+use Rattle.dav_engine.proofs.OnePlanLemmas.{one_conditions, one_put_plan, one_mkcol_plan}
+use Rattle.dav_server.specs.Get.{get, IsGet, is_get}
 use Rattle.dav_server.specs.Head.{Request}
 use Rattle.dav_server.specs.Headers.{headers_of}
-use Rattle.dav_server.specs.Machine.{Settings, Asked, PlanOf, gets, puts, not_yet, MeansOf, not_allowed, no_path, no_body, method, Means, no_head, no_method, known, Steps, steps}
+use Rattle.dav_server.specs.Machine.{Settings, Asked, client, PlanOf, gets, heads, puts, patches, makes, not_yet, MeansOf, not_allowed, no_path, no_body, method, Means, no_head, no_method, known, Steps, steps}
 use Rattle.dav_server.specs.Method.{GivesServed}
 use Rattle.dav_server.specs.Run.{Turn, begun, Runs, no_more, one_more, RunsAreDetermined}
 use Rattle.dav_server.proofs.HeadLemmas.{one_head}
@@ -54,13 +57,29 @@ one_method text m n one two = one_name m n (sym one.1 ∙ two.1)
 served_or_not : {A : Type 0} (text : List ℕ) (m : DavMethod) (e : DavError) → GivesServed text (Ok m) → GivesServed text (Err e) → A
 served_or_not text m e one two = absurd (two.1 m one.0 one.1)
 
-one_plan : {headers : Headers} {p : Path} {body : Body} {now : ℕ} {m : DavMethod} {plan other : Method Response} → PlanOf headers p body now m plan → PlanOf headers p body now m other → plan ≡ other
-one_plan gets gets = refl
-one_plan gets (not_yet out) = absurd (out (inl refl))
-one_plan {headers} {p} {body} {now} {plan = plan} {other = other} (puts one) (puts two) = one_put_plan headers p body now plan other one two
-one_plan (puts one) (not_yet out) = absurd (out (inr refl))
-one_plan (not_yet out) gets = absurd (out (inl refl))
-one_plan (not_yet out) (puts two) = absurd (out (inr refl))
+one_get : {m : DavMethod} {headers : Headers} {p : PathText} {now : ℕ} {plan other : Method Response} → IsGet m headers p now plan → IsGet m headers p now other → plan ≡ other
+one_get {m} {headers} {p} {now} (is_get a h) (is_get b k) = ap (λ (c : Conditions). get m c (names p) now) (one_conditions headers p.prefix (names p) a b h k)
+
+-- a method that is served is
+never : {A : Type 0} → ◌≡◌ {A = Bool} true false → A
+never same = absurd (true≢false same)
+
+one_plan : {headers : Headers} {p : PathText} {body : Body} {who : Client} {m : DavMethod} {plan other : Method Response} → PlanOf headers p body who m plan → PlanOf headers p body who m other → plan ≡ other
+one_plan (gets one) (gets two) = one_get one two
+one_plan (gets one) (not_yet out) = never out
+one_plan (heads one) (heads two) = one_get one two
+one_plan (heads one) (not_yet out) = never out
+one_plan {headers} {p} {body} {who} {plan = plan} {other = other} (puts one) (puts two) = one_put_plan Put headers p body who plan other one two
+one_plan (puts one) (not_yet out) = never out
+one_plan {headers} {p} {body} {who} {plan = plan} {other = other} (patches one) (patches two) = one_put_plan Patch headers p body who plan other one two
+one_plan (patches one) (not_yet out) = never out
+one_plan {headers} {p} {who = who} {plan = plan} {other = other} (makes one) (makes two) = one_mkcol_plan headers p who plan other one two
+one_plan (makes one) (not_yet out) = never out
+one_plan (not_yet out) (gets two) = never out
+one_plan (not_yet out) (heads two) = never out
+one_plan (not_yet out) (puts two) = never out
+one_plan (not_yet out) (patches two) = never out
+one_plan (not_yet out) (makes two) = never out
 one_plan (not_yet out) (not_yet also) = refl
 
 one_error : {A : Type 0} {e f : DavError} → ◌≡◌ {A = Result A DavError} (Err e) (Err f) → e ≡ f
@@ -91,8 +110,8 @@ one_of (method p body has named good is) (no_body q f _ also bad) = not_both (sy
 one_of {s} {x} {r} {m} {other = other} (method p body has named good is) (method q given _ also better too) =
     let path : p ≡ q = one_value (one_outcome s.prefix m r.target _ _ named also) in
     let same : body ≡ given = one_value (sym good ∙ better) in
-    one_plan is (subst (λ (t : PathText). PlanOf (headers_of r.fields) (names t) body x.moment m other) (sym path)
-    (subst (λ (b : Body). PlanOf (headers_of r.fields) (names q) b x.moment m other) (sym same) too))
+    one_plan is (subst (λ (t : PathText). PlanOf (headers_of r.fields) t body (client x) m other) (sym path)
+    (subst (λ (b : Body). PlanOf (headers_of r.fields) q b (client x) m other) (sym same) too))
 
 -- a request comes to one plan
 pub one_means : {s : Settings} {x : Asked} {plan other : Method Response} → Means s x plan → Means s x other → plan ≡ other

@@ -1,5 +1,8 @@
 -- What the handler does is a step of the machine.
-use Rattle.std.proofs.Common.{◌≡◌, ℕ, List, OnErr, Result, Ok, Err, refl, sym, subst, ap, ◌∙◌}
+use Rattle.std.proofs.Common.{◌≡◌, ℕ, List, OnErr, Bor, Option, Result, Ok, Err, refl, sym, subst, ap, ◌∙◌}
+use Rattle.std.specs.Option.{option_map, option_copied}
+use Rattle.dav_core.specs.Locks.{Lock}
+use Rattle.dav_engine.specs.ConditionView.{locks_in}
 use Rattle.dav_core.specs.declared.errors.DavError.{DavError}
 use Rattle.dav_core.specs.declared.errors.DavError.TheVariants as dav
 use Rattle.dav_core.specs.Asking.{StoreState, Asks}
@@ -10,8 +13,9 @@ use Rattle.dav_engine.specs.Plan.{Plan, Locks, Ran, ran_done, ran_ask, ran_look,
 use Rattle.dav_engine.specs.Response.{Response, response_of, error_reply}
 use Rattle.dav_engine.proofs.Following.{follows_done}
 use Rattle.dav_core.specs.declared.method.DavMethod.{DavMethod}
-use Rattle.dav_core.specs.Path.{Path, PathText, names}
+use Rattle.dav_core.specs.Path.{PathText}
 use Rattle.dav_engine.specs.declared.request.Body.{Body}
+use Rattle.dav_engine.specs.Client.{Client}
 use Rattle.dav_engine.specs.Headers.{Headers}
 use Rattle.dav_core.specs.Method.{Has}
 use Rattle.dav_server.specs.declared.body.Given.{Given}
@@ -21,7 +25,7 @@ use Rattle.dav_server.specs.Headers.{headers_of}
 use Rattle.dav_server.specs.Target.{TargetNames}
 use Rattle.dav_server.specs.Method.{GivesServed}
 use Rattle.dav_server.specs.TargetCode.{GivesPath}
-use Rattle.dav_server.specs.Machine.{PlanOf, MeansOf, method, body_for, taken_by, Asked, Settings, Means, Steps, steps, StepCut, untouched, cut}
+use Rattle.dav_server.specs.Machine.{client, PlanOf, MeansOf, method, body_for, taken_by, Asked, Settings, Means, Steps, steps, StepCut, untouched, cut}
 
 -- what is served as one kind of plan is served as another that has each of its plans
 pub serves_as : {K J : Method Response → Type 0} {old new : StoreState} {ls ms : Locks} {r : Result Reply DavError} → ((plan : Method Response) → K plan → J plan) → Serves K old ls r new ms → Serves J old ls r new ms
@@ -59,16 +63,16 @@ served_err (served plan means (gave_up is' front)) is other = absurd (other (cc)
 served_err (not_begun is' same kept) is other = absurd (other (cc))
 
 -- a plan of a method, by what the method is
-pub plan_at : {headers : Headers} {p : Path} {body : Body} {now : ℕ} {m n : DavMethod} {plan : Method Response} → m ≡ n → PlanOf headers p body now n plan → PlanOf headers p body now m plan
-plan_at {headers} {p} {body} {now} {plan = plan} same is = subst (λ k. PlanOf headers p body now k plan) (sym same) is
+pub plan_at : {headers : Headers} {p : PathText} {body : Body} {who : Client} {m n : DavMethod} {plan : Method Response} → m ≡ n → PlanOf headers p body who n plan → PlanOf headers p body who m plan
+plan_at {headers} {p} {body} {who} {plan = plan} same is = subst (λ k. PlanOf headers p body who k plan) (sym same) is
 
 -- a method, by the bytes of its name
 pub served_at : {text name : List ℕ} (result : Result DavMethod DavError) → text ≡ name → GivesServed text result → GivesServed name result
 served_at result same is = subst (λ t. GivesServed t result) same is
 
 -- the same for its headers
-pub plan_with : {headers others : Headers} {p : Path} {body : Body} {now : ℕ} {m : DavMethod} {plan : Method Response} → others ≡ headers → PlanOf others p body now m plan → PlanOf headers p body now m plan
-plan_with {p = p} {body} {now} {m} {plan} same is = subst (λ h. PlanOf h p body now m plan) same is
+pub plan_with : {headers others : Headers} {p : PathText} {body : Body} {who : Client} {m : DavMethod} {plan : Method Response} → others ≡ headers → PlanOf others p body who m plan → PlanOf headers p body who m plan
+plan_with {p = p} {body} {who} {m} {plan} same is = subst (λ h. PlanOf h p body who m plan) same is
 
 -- a target, by its bytes and those of the prefix
 pub path_at : {prefix given target text : List ℕ} (m : DavMethod) (result : Result PathText DavError) → given ≡ prefix → text ≡ target → GivesPath given m text result → GivesPath prefix m target result
@@ -77,10 +81,19 @@ path_at {prefix} {text = text} m result one two is = subst (λ t. GivesPath pref
 -- a body, by which one is handed on
 pub handed_at : {s : Settings} {x : Asked} {r : Request} {m : DavMethod} {p : PathText} (g k : Given) {old new : StoreState} {ls ms : Locks} {result : Result Reply DavError}
     → Has s.allowed m → TargetNames s.prefix m r.target (Ok p) → body_for (taken_by m) x.body ≡ Ok (handed g x.body) → g ≡ k
-    → Serves (PlanOf (headers_of r.fields) (names p) (handed k x.body) x.moment m) old ls result new ms → Serves (MeansOf s x r m) old ls result new ms
+    → Serves (PlanOf (headers_of r.fields) p (handed k x.body) (client x) m) old ls result new ms → Serves (MeansOf s x r m) old ls result new ms
 handed_at {x = x} {p = p} g k has named is same done = serves_as (λ plan one. method p (handed k x.body) has named (is ∙ ap (λ h. Ok (handed h x.body)) same) one) done
 
 -- what holds anyway holds where there is an error
 pub any_err : {A E P : Type 0} (r : Result A E) → P → OnErr r P
 any_err (Ok a) p = tt
 any_err (Err e) p = p
+
+-- a kind of plan, by what its method is
+pub serves_by : {K J : Method Response → Type 0} {old new : StoreState} {ls ms : Locks} {r : Result Reply DavError} → K ≡ J → Serves K old ls r new ms → Serves J old ls r new ms
+serves_by {old = old} {new} {ls} {ms} {r} same done = subst (λ (k : Method Response → Type 0). Serves k old ls r new ms) same done
+
+-- what was answered with the locks that a borrow lends, with the locks themselves
+pub serves_held : {L : Type 0} {K : Method Response → Type 0} (locks : L → List Lock) (lent : Option (Bor L)) (held : Option L) {old new : StoreState} {r : Result Reply DavError}
+    → option_copied lent ≡ held → Serves K old (locks_in locks lent) r new (locks_in locks lent) → Serves K old (option_map locks held) r new (option_map locks held)
+serves_held {K = K} locks lent held {old} {new} {r} same done = subst (λ l. Serves K old (option_map locks l) r new (option_map locks l)) same done

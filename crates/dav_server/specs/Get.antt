@@ -1,37 +1,64 @@
--- GET (RFC 9110, section 9.3.1).
-use Rattle.std.specs.Prelude.{ℕ, ◌++◌, not, true, List, [], ◌∷◌, length, codes, if◌then◌else◌}
+-- GET and HEAD (RFC 9110, sections 9.3.1 and 9.3.2).
+use Rattle.std.specs.Prelude.{ℕ, ◌==◌, ◌++◌, not, true, List, [], ◌∷◌, length, codes, if◌then◌else◌, Option, Some, None}
 use Rattle.dav_core.specs.declared.errors.DavError.TheVariants as dav
 use Rattle.dav_core.specs.declared.fs.DavMetaData.{DavMetaData}
+use Rattle.dav_core.specs.declared.method.DavMethod.{DavMethod}
+use Rattle.dav_core.specs.declared.method.DavMethod.TheVariants.{Head}
 use Rattle.dav_core.specs.Asking.{Metadata, Open, Read}
 use Rattle.dav_core.specs.Handle.{Opening}
 use Rattle.dav_core.specs.Metadata.{no_opening}
-use Rattle.dav_core.specs.Path.{Path}
+use Rattle.dav_core.specs.Path.{Path, PathText, names}
 use Rattle.dav_engine.specs.declared.reply.ReplyBody.TheVariants as reply
+use Rattle.dav_engine.specs.Conditions.{Conditions, AreConditions, if_match}
+use Rattle.dav_engine.specs.Headers.{Headers}
 use Rattle.dav_engine.specs.Method.{Method, ◌>>=◌, require, ask_for, gives, fails}
-use Rattle.dav_engine.specs.Headers.{Headers, has_conditions}
-use Rattle.dav_engine.specs.Response.{Response, content_length, tag_headers, last_modified}
+use Rattle.dav_engine.specs.Response.{Response, Header, content_length, tag_headers, last_modified}
+
+-- what is told of a file that has so many bytes
+abbrev pub file_headers : ℕ → DavMetaData → List Header
+file_headers len file = content_length len ∷ (codes "content-type", codes "application/octet-stream") ∷ (tag_headers file.number ++ last_modified file.modified ∷ [])
 
 -- a file that is shown
 abbrev pub shown : DavMetaData → List ℕ → Response
-shown file bytes = record {
-  status = 200;
-  headers = content_length (length bytes) ∷ (codes "content-type", codes "application/octet-stream") ∷ (tag_headers file.number ++ last_modified file.modified ∷ []);
-  body = reply.Bytes bytes;
-}
+shown file bytes = record { status = 200; headers = file_headers (length bytes) file; body = reply.Bytes bytes }
+
+-- a file that is told of
+abbrev pub told : DavMetaData → Response
+told file = record { status = 200; headers = file_headers file.len file; body = reply.Nothing }
+
+-- a file that its client has already: the tag alone (RFC 9110, section 15.4.5)
+abbrev pub not_modified : DavMetaData → Response
+not_modified file = record { status = 304; headers = tag_headers file.number; body = reply.Nothing }
 
 -- opened for reading alone
 abbrev pub reading : Opening
 reading = record no_opening { read = true }
 
--- The file at p is shown: 405 for a folder. It is opened for reading, and as many bytes are read as it was said to have.
-abbrev pub show : Path → ℕ → Method Response
-show p now = do
-  found ← ask_for (Metadata p)
-  _ ← require (not found.dir) (dav.Status 405)
+-- A file is shown: it is opened for reading, and as many bytes are read as it was said to have.
+abbrev pub show : Path → ℕ → DavMetaData → Method Response
+show p now found = do
   file ← ask_for (Open p reading now)
   bytes ← ask_for (Read file found.len)
   gives (shown found bytes.0)
 
--- GET; conditions and ranges aren't served yet: 501.
-abbrev pub get : Headers → Path → ℕ → Method Response
-get headers p now = if has_conditions headers then fails (dav.Status 501) else show p now
+-- HEAD tells of the file, and GET shows it
+abbrev pub show_or_tell : DavMethod → Path → ℕ → DavMetaData → Method Response
+show_or_tell Head p now found = gives (told found)
+show_or_tell _ p now found = show p now found
+
+-- goes on, unless the conditions answer a status
+abbrev pub judged : Option ℕ → DavMetaData → Method Response → Method Response
+judged None found next = next
+judged (Some status) found next = if status == 304 then gives (not_modified found) else fails (dav.Status status)
+
+-- GET and HEAD of p, with what the headers say: 405 for a folder; then the status of the conditions, if they answer one.
+abbrev pub get : DavMethod → Conditions → Path → ℕ → Method Response
+get m c p now = do
+  found ← ask_for (Metadata p)
+  _ ← require (not found.dir) (dav.Status 405)
+  verdict ← if_match m c (Some found)
+  judged verdict found (show_or_tell m p now found)
+
+-- The plan is that of a GET or HEAD with these headers, of a path, at a moment.
+pub data IsGet (m : DavMethod) (headers : Headers) (p : PathText) (now : ℕ) : Method Response → Type 0 where
+  is_get : (c : Conditions) → AreConditions headers p.prefix (names p) c → IsGet m headers p now (get m c (names p) now)

@@ -14,3 +14,4 @@ pub mod Run
 pub mod Setup
 pub mod GivenBody
 pub mod Turns
+pub mod TagLaws

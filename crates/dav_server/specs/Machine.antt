@@ -1,21 +1,23 @@
 -- The machine: what each request is answered, from the bytes of its head on, and what it leaves.
-use Rattle.std.specs.Prelude.{◌≡◌, ℕ, ◌⊎◌, List, [], ◌∷◌, nat_lt, if◌then◌else◌, Option, Result, Ok, Err}
+use Rattle.std.specs.Prelude.{◌≡◌, ℕ, Bool, true, false, List, [], ◌∷◌, nat_lt, if◌then◌else◌, Option, Result, Ok, Err}
 use Rattle.dav_core.specs.declared.errors.DavError.{DavError}
 use Rattle.dav_core.specs.declared.errors.DavError.TheVariants as dav
 use Rattle.dav_core.specs.declared.method.DavMethod.{DavMethod}
-use Rattle.dav_core.specs.declared.method.DavMethod.TheVariants.{Get, Put, Patch, PropFind, PropPatch, Lock}
+use Rattle.dav_core.specs.declared.method.DavMethod.TheVariants.{Get, Head, Put, Patch, MkCol, PropFind, PropPatch, Lock}
 use Rattle.dav_core.specs.Asking.{StoreState, Asks}
 use Rattle.dav_core.specs.Element.{ElementTree, depth_of}
 use Rattle.dav_core.specs.Method.{Has}
-use Rattle.dav_core.specs.Path.{Path, PathText, names}
+use Rattle.dav_core.specs.Path.{PathText}
 use Rattle.dav_engine.specs.declared.request.Body.{Body}
 use Rattle.dav_engine.specs.declared.request.Body.TheVariants as body
 use Rattle.dav_engine.specs.Headers.{Headers}
 use Rattle.dav_engine.specs.Method.{Method, fails}
 use Rattle.dav_engine.specs.Plan.{Locks, Ran, Cut}
+use Rattle.dav_engine.specs.Client.{Client}
+use Rattle.dav_engine.specs.Mkcol.{IsMkcol}
 use Rattle.dav_engine.specs.Put.{IsPut}
 use Rattle.dav_engine.specs.Response.{Response, reply_to}
-use Rattle.dav_server.specs.Get.{get}
+use Rattle.dav_server.specs.Get.{IsGet}
 use Rattle.dav_server.specs.Head.{Request, IsHead}
 use Rattle.dav_server.specs.Headers.{headers_of}
 use Rattle.dav_server.specs.Method.{GivesServed}
@@ -68,15 +70,27 @@ body_for TakesTree body.Malformed = Ok body.Malformed
 body_for TakesBytes body.Malformed = Err (dav.Status 415)
 body_for TakesNone body.Malformed = Err (dav.Status 415)
 
--- the methods that are served by now
-abbrev pub IsDone : DavMethod → Type 0
-IsDone m = (m ≡ Get) ⊎ (m ≡ Put)
+-- who makes the request
+abbrev pub client : Asked → Client
+client x = record { principal = x.principal; moment = x.moment; token = x.token }
 
--- The plan of a method, with its headers, its path and its body. All but GET and PUT aren't served yet: 501.
-pub data PlanOf (headers : Headers) (p : Path) (body : Body) (now : ℕ) : DavMethod → Method Response → Type 0 where
-  gets : PlanOf headers p body now Get (get headers p now)
-  puts : {plan : Method Response} → IsPut headers p body now plan → PlanOf headers p body now Put plan
-  not_yet : {m : DavMethod} → ¬ IsDone m → PlanOf headers p body now m (fails (dav.Status 501))
+-- the methods that are served by now
+abbrev pub is_done : DavMethod → Bool
+is_done Get = true
+is_done Head = true
+is_done Put = true
+is_done Patch = true
+is_done MkCol = true
+is_done _ = false
+
+-- The plan of a method, with its headers, its path and its body. The methods that aren't served yet: 501.
+pub data PlanOf (headers : Headers) (p : PathText) (body : Body) (who : Client) : DavMethod → Method Response → Type 0 where
+  gets : {plan : Method Response} → IsGet Get headers p who.moment plan → PlanOf headers p body who Get plan
+  heads : {plan : Method Response} → IsGet Head headers p who.moment plan → PlanOf headers p body who Head plan
+  puts : {plan : Method Response} → IsPut Put headers p body who plan → PlanOf headers p body who Put plan
+  patches : {plan : Method Response} → IsPut Patch headers p body who plan → PlanOf headers p body who Patch plan
+  makes : {plan : Method Response} → IsMkcol headers p who plan → PlanOf headers p body who MkCol plan
+  not_yet : {m : DavMethod} → is_done m ≡ false → PlanOf headers p body who m (fails (dav.Status 501))
 
 -- The plan that a request comes to whose head says this, with this method. It is refused, before anything is asked of the store,
 -- for the first of these: 405 for a method that isn't allowed, and the connection closes; then what its target comes to, below
@@ -86,7 +100,7 @@ pub data MeansOf (s : Settings) (x : Asked) (r : Request) (m : DavMethod) : Meth
   no_path : (e : DavError) → Has s.allowed m → TargetNames s.prefix m r.target (Err e) → MeansOf s x r m (fails e)
   no_body : (p : PathText) (e : DavError) → Has s.allowed m → TargetNames s.prefix m r.target (Ok p) → body_for (taken_by m) x.body ≡ Err e → MeansOf s x r m (fails e)
   method : (p : PathText) (body : Body) {plan : Method Response} → Has s.allowed m → TargetNames s.prefix m r.target (Ok p) → body_for (taken_by m) x.body ≡ Ok body
-      → PlanOf (headers_of r.fields) (names p) body x.moment m plan → MeansOf s x r m plan
+      → PlanOf (headers_of r.fields) p body (client x) m plan → MeansOf s x r m plan
 
 -- The plan that a request comes to. 400 for bytes that are no head, and 501 for a method that isn't known; then what its method
 -- comes to.

@@ -1,24 +1,29 @@
 //! The handler: from a request to its reply (RFC 9110; RFC 4918).
-ghost use Rattle.std.specs.Prelude.{◌≡◌, ◌≢◌, ◌↔◌, IsTrue, Ok, IfOk, OnErr};
+ghost use Rattle.std.specs.Prelude.{◌≡◌, ◌≢◌, ◌≤◌, ◌↔◌, IsTrue, Ok, IfOk, OnErr};
 ghost use Rattle.dav_core.specs.Method.{Has};
 ghost use Rattle.std.specs.Option.{option_map, option_copied};
 ghost use Rattle.dav_core.specs.declared.errors.DavError.TheVariants.{Memory};
-ghost use Rattle.dav_core.specs.Path.{names};
 ghost use Rattle.dav_engine.specs.Follows.{Serves};
+ghost use Rattle.dav_core.specs.World.{last_moment};
+ghost use Rattle.dav_engine.specs.Client.{client_of};
+ghost use Rattle.dav_engine.specs.Mkcol.{IsMkcol};
 ghost use Rattle.dav_engine.specs.Put.{IsPut};
+ghost use Rattle.dav_server.specs.Get.{IsGet};
 ghost use Rattle.dav_engine.specs.Response.{response_of, error_reply};
-ghost use Rattle.dav_server.specs.Machine.{PlanOf, Means, MeansOf, Steps, StepCut};
+ghost use Rattle.dav_server.specs.Machine.{client, PlanOf, Means, MeansOf, Steps, StepCut};
 ghost use Rattle.dav_server.specs.Headers.{headers_of};
 ghost use Rattle.dav_core.specs.Target.{Reads};
 ghost use Rattle.dav_server.specs.Setup.{IsPrefix, settings, asked};
 ghost use Rattle.std.specs.Result.{IsErrOf};
 
 #[cfg(test)]
+mod engine_calls;
+#[cfg(test)]
 pub(crate) mod tests;
 
 use crate::body::{Given, body_for};
-use crate::exchange::Exchange;
-use crate::handle_gethead::handle_get;
+use crate::exchange::{Exchange, GrantToken};
+use crate::handle_gethead::handle_gethead;
 use crate::head::{RequestView, headers_of, read_head};
 use crate::method::method_of;
 use crate::target::{begins_with_slash, path_of};
@@ -139,6 +144,28 @@ impl<F: DavFileSystem + Drop, L: DavLockSystem + Drop> DavHandler<F, L> {
     }
 }
 
+// The token that a lock takes which a request makes.
+fn token_of(token: &Option<GrantToken>) -> Option<&str>
+    ensures { option_copied result ≡ token.now }
+{
+    match token {
+        Some(token) => Some(token.as_str()),
+        None => None,
+    }
+}
+
+// Who makes a request.
+fn caller_of<'c>(exchange: &'c Exchange<'_>) -> Caller<'c>
+    ensures client { client_of result ≡ client (asked exchange.now) }
+    ensures moment { result.moment ≤ last_moment }
+{
+    Caller {
+        principal: exchange.principal,
+        moment: exchange.moment.seconds,
+        token: token_of(&exchange.token),
+    }
+}
+
 // Stores the body of a request.
 fn put<F: DavFileSystem, L: DavLockSystem>(
     handler: &mut DavHandler<F, L>,
@@ -148,13 +175,9 @@ fn put<F: DavFileSystem, L: DavLockSystem>(
     exchange: &Exchange<'_>,
 ) -> DavResult<Reply>
     ensures same { settings handler.new ≡ settings handler.old }
-    ensures serves { Serves (IsPut request.now.headers (names request.now.path) body.now exchange.now.moment.seconds) (F.state handler.old.fs) (option_map L.locks handler.old.ls) result (F.state handler.new.fs) (option_map L.locks handler.new.ls) }
+    ensures serves { Serves (IsPut request.now.method request.now.headers request.now.path body.now (client (asked exchange.now))) (F.state handler.old.fs) (option_map L.locks handler.old.ls) result (F.state handler.new.fs) (option_map L.locks handler.new.ls) }
 {
-    let caller = Caller {
-        principal: exchange.principal,
-        moment: exchange.moment.seconds,
-        token: exchange.token.as_ref().map(|token| token.as_str()),
-    };
+    let caller = caller_of(exchange);
     let mut inner = DavInner {
         fs: &mut handler.fs,
         ls: &mut handler.ls,
@@ -162,6 +185,41 @@ fn put<F: DavFileSystem, L: DavLockSystem>(
         caller: &caller,
     };
     inner.handle_put(alloc, request, body)
+}
+
+// Makes a folder.
+fn mkcol<F: DavFileSystem, L: DavLockSystem>(
+    handler: &mut DavHandler<F, L>,
+    alloc: Global,
+    request: &DavRequest,
+    body: &Body,
+    exchange: &Exchange<'_>,
+) -> DavResult<Reply>
+    ensures same { settings handler.new ≡ settings handler.old }
+    ensures serves { Serves (IsMkcol request.now.headers request.now.path (client (asked exchange.now))) (F.state handler.old.fs) (option_map L.locks handler.old.ls) result (F.state handler.new.fs) (option_map L.locks handler.new.ls) }
+{
+    let caller = caller_of(exchange);
+    let mut inner = DavInner {
+        fs: &mut handler.fs,
+        ls: &mut handler.ls,
+        allow: handler.allowed,
+        caller: &caller,
+    };
+    inner.handle_mkcol(alloc, request, body)
+}
+
+// Shows a file, or tells of it.
+fn show<F: DavFileSystem, L: DavLockSystem>(
+    handler: &mut DavHandler<F, L>,
+    alloc: Global,
+    request: &DavRequest,
+    exchange: &Exchange<'_>,
+) -> DavResult<Reply>
+    ensures same { settings handler.new ≡ settings handler.old }
+    ensures serves { Serves (IsGet request.now.method request.now.headers request.now.path exchange.now.moment.seconds) (F.state handler.old.fs) (option_map L.locks handler.old.ls) result (F.state handler.new.fs) (option_map L.locks handler.new.ls) }
+{
+    let now = exchange.moment.seconds;
+    handle_gethead(&mut handler.fs, handler.ls.as_ref(), alloc, request, now)
 }
 
 // Hands a request to its method.
@@ -173,11 +231,14 @@ fn serve<F: DavFileSystem, L: DavLockSystem>(
     exchange: &Exchange<'_>,
 ) -> DavResult<Reply>
     ensures same { settings handler.new ≡ settings handler.old }
-    ensures serves { Serves (PlanOf request.now.headers (names request.now.path) body.now exchange.now.moment.seconds request.now.method) (F.state handler.old.fs) (option_map L.locks handler.old.ls) result (F.state handler.new.fs) (option_map L.locks handler.new.ls) }
+    ensures serves { Serves (PlanOf request.now.headers request.now.path body.now (client (asked exchange.now)) request.now.method) (F.state handler.old.fs) (option_map L.locks handler.old.ls) result (F.state handler.new.fs) (option_map L.locks handler.new.ls) }
 {
     match request.method {
-        DavMethod::Get => handle_get(&mut handler.fs, alloc, request, exchange.moment.seconds),
+        DavMethod::Get => show(handler, alloc, request, exchange),
+        DavMethod::Head => show(handler, alloc, request, exchange),
         DavMethod::Put => put(handler, alloc, request, body, exchange),
+        DavMethod::Patch => put(handler, alloc, request, body, exchange),
+        DavMethod::MkCol => mkcol(handler, alloc, request, body, exchange),
         _ => Err(DavError::Status(StatusCode::NOT_IMPLEMENTED)),
     }
 }
@@ -193,7 +254,7 @@ fn answer_with<F: DavFileSystem, L: DavLockSystem>(
     exchange: &Exchange<'_>,
 ) -> DavResult<Reply>
     ensures same { settings handler.new ≡ settings handler.old }
-    ensures serves { Serves (PlanOf (headers_of view.now.fields) (names path) body.now exchange.now.moment.seconds method) (F.state handler.old.fs) (option_map L.locks handler.old.ls) result (F.state handler.new.fs) (option_map L.locks handler.new.ls) }
+    ensures serves { Serves (PlanOf (headers_of view.now.fields) path body.now (client (asked exchange.now)) method) (F.state handler.old.fs) (option_map L.locks handler.old.ls) result (F.state handler.new.fs) (option_map L.locks handler.new.ls) }
 {
     let headers = headers_of(alloc, view)?;
     let request = DavRequest {

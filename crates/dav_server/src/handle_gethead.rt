@@ -1,39 +1,76 @@
-//! GET (RFC 9110, section 9.3.1).
-ghost use Rattle.std.specs.Prelude.{◌≡◌, ◌≤◌, codes, decimal, length, IfOk, OnOk};
-ghost use Rattle.http_header.specs.HeaderMap.{insert};
-ghost use Rattle.http_header.specs.FieldValue.{plain_value};
-ghost use Rattle.dav_core.specs.Asking.{Asks, Open, seen};
+//! GET and HEAD (RFC 9110, sections 9.3.1 and 9.3.2).
+ghost use Rattle.std.specs.Prelude.{◌≡◌, ◌≤◌, Some, IfOk};
+ghost use Rattle.dav_core.specs.Asking.{Asks, Open, StoreState, seen};
 ghost use Rattle.dav_core.specs.Path.{names};
 ghost use Rattle.dav_core.specs.World.{last_moment};
-ghost use Rattle.dav_engine.specs.Follows.{Makes};
-ghost use Rattle.dav_engine.specs.Response.{response_of};
+ghost use Rattle.dav_engine.specs.ConditionView.{conditions_of, locks_in};
+ghost use Rattle.dav_engine.specs.Follows.{Follows, Makes, Serves};
+ghost use Rattle.dav_engine.specs.Method.{Method};
+ghost use Rattle.dav_engine.specs.Response.{Response, response_of, headers_in};
 ghost use Rattle.dav_server.specs.Get as spec;
 
 use bytes::Bytes;
 use dav_core::davpath::DavPath;
 use dav_core::errors::{DavError, DavResult, FsResult, NoMemory};
 use dav_core::fs::{DavFileSystem, DavMetaData, OpenOptions};
-use dav_engine::conditional::has_conditions;
-use dav_engine::reply::{set_header, set_length, set_validators};
+use dav_core::ls::DavLockSystem;
+use dav_core::method::DavMethod;
+use dav_engine::conditional::Conditions;
+use dav_engine::reply::{set_header, set_length, set_tag, set_validators};
 use dav_engine::{DavRequest, Reply, ReplyBody};
 use http::StatusCode;
 use http_header::{HeaderMap, HeaderName, HeaderValue};
 use std::alloc::Global;
+
+// What is told of a file that has so many bytes.
+fn file_headers(alloc: Global, len: u64, file: &DavMetaData) -> Result<HeaderMap, NoMemory>
+    requires { file.now.modified ≤ last_moment }
+    ensures { IfOk result (λ headers. headers_in headers ≡ spec.file_headers len file.now) }
+{
+    let mut headers = HeaderMap::new(alloc);
+    set_length(alloc, &mut headers, len)?;
+    let kind = HeaderValue::from_static("application/octet-stream");
+    set_header(&mut headers, HeaderName::from_static("content-type"), kind)?;
+    set_validators(alloc, &mut headers, file)?;
+    Ok(headers)
+}
 
 // The reply that shows a file.
 fn shown(alloc: Global, file: &DavMetaData, bytes: Bytes) -> Result<Reply, NoMemory>
     requires { file.now.modified ≤ last_moment }
     ensures { IfOk result (λ r. response_of r ≡ spec.shown file.now bytes) }
 {
-    let mut headers = HeaderMap::new(alloc);
-    set_length(alloc, &mut headers, bytes.len() as u64)?;
-    let kind = HeaderValue::from_static("application/octet-stream");
-    set_header(&mut headers, HeaderName::from_static("content-type"), kind)?;
-    set_validators(alloc, &mut headers, file)?;
+    let headers = file_headers(alloc, bytes.len() as u64, file)?;
     Ok(Reply {
         status: StatusCode::OK,
         headers,
         body: ReplyBody::Bytes(bytes),
+    })
+}
+
+// The reply that tells of a file.
+fn told(alloc: Global, file: &DavMetaData) -> Result<Reply, NoMemory>
+    requires { file.now.modified ≤ last_moment }
+    ensures { IfOk result (λ r. response_of r ≡ spec.told file.now) }
+{
+    let headers = file_headers(alloc, file.len, file)?;
+    Ok(Reply {
+        status: StatusCode::OK,
+        headers,
+        body: ReplyBody::Nothing,
+    })
+}
+
+// The reply for a file that its client has already.
+fn not_modified(alloc: Global, file: &DavMetaData) -> Result<Reply, NoMemory>
+    ensures { IfOk result (λ r. response_of r ≡ spec.not_modified file.now) }
+{
+    let mut headers = HeaderMap::new(alloc);
+    set_tag(alloc, &mut headers, file.number)?;
+    Ok(Reply {
+        status: StatusCode::NOT_MODIFIED,
+        headers,
+        body: ReplyBody::Nothing,
     })
 }
 
@@ -46,18 +83,18 @@ fn open<F: DavFileSystem>(fs: &mut F, alloc: Global, path: &DavPath, now: u64) -
     fs.open(alloc, path, &options, now)
 }
 
-// Shows the file at a path.
-fn show<F: DavFileSystem>(fs: &mut F, alloc: Global, path: &DavPath, now: u64) -> DavResult<Reply>
-    requires { now ≤ last_moment }
-    ensures { Makes response_of (spec.show (names path.now) now) (F.state fs.old) result (F.state fs.new) }
+// Shows a file.
+fn show<F: DavFileSystem>(
+    fs: &mut F,
+    alloc: Global,
+    path: &DavPath,
+    now: u64,
+    found: &DavMetaData,
+) -> DavResult<Reply>
+    requires at { now ≤ last_moment }
+    requires shown { found.now.modified ≤ last_moment }
+    ensures { Makes response_of (spec.show (names path.now) now found.now) (F.state fs.old) result (F.state fs.new) }
 {
-    let found = match fs.metadata(path) {
-        Ok(found) => found,
-        Err(e) => return Err(DavError::FsError(e)),
-    };
-    if found.is_dir() {
-        return Err(DavError::Status(StatusCode::METHOD_NOT_ALLOWED));
-    }
     let mut file = match open(fs, alloc, path, now) {
         Ok(file) => file,
         Err(e) => return Err(DavError::FsError(e)),
@@ -66,23 +103,81 @@ fn show<F: DavFileSystem>(fs: &mut F, alloc: Global, path: &DavPath, now: u64) -
         Ok(bytes) => bytes,
         Err(e) => return Err(DavError::FsError(e)),
     };
-    Ok(shown(alloc, &found, bytes)?)
+    Ok(shown(alloc, found, bytes)?)
 }
 
-/// Shows the file at the path of a request (RFC 9110, section 9.3.1): 200 with its bytes, its tag and its time. 501 where
-/// conditions or a range stand in the head, which aren't served yet; 405 for a folder; each refusal of the store is its
-/// own status.
-pub fn handle_get<F: DavFileSystem>(
+// Tells of a file for HEAD, and shows it for GET.
+fn show_or_tell<F: DavFileSystem>(
     fs: &mut F,
+    alloc: Global,
+    method: DavMethod,
+    path: &DavPath,
+    now: u64,
+    found: &DavMetaData,
+) -> DavResult<Reply>
+    requires at { now ≤ last_moment }
+    requires shown { found.now.modified ≤ last_moment }
+    ensures { Makes response_of (spec.show_or_tell method (names path.now) now found.now) (F.state fs.old) result (F.state fs.new) }
+{
+    match method {
+        DavMethod::Head => Ok(told(alloc, found)?),
+        _ => show(fs, alloc, path, now, found),
+    }
+}
+
+// What the conditions answer.
+fn judged(alloc: Global, status: StatusCode, found: &DavMetaData) -> DavResult<Reply>
+    ensures { (next : Method Response) (s : StoreState) → Makes response_of (spec.judged (Some status) found.now next) s result s }
+{
+    if status.as_u16() == 304 {
+        Ok(not_modified(alloc, found)?)
+    } else {
+        Err(DavError::Status(status))
+    }
+}
+
+// Shows or tells of the file at a path, where the conditions allow it.
+fn get<F: DavFileSystem, L: DavLockSystem>(
+    fs: &mut F,
+    ls: Option<&L>,
+    alloc: Global,
+    request: &DavRequest,
+    conditions: &Conditions,
+    now: u64,
+) -> DavResult<Reply>
+    requires { now ≤ last_moment }
+    ensures { Follows response_of (spec.get request.now.method (conditions_of conditions.now) (names request.now.path) now) (F.state fs.old) (locks_in L.locks ls.entry) result (F.state fs.new) (locks_in L.locks ls.entry) }
+{
+    let path = &request.path;
+    let found = match fs.metadata(path) {
+        Ok(found) => found,
+        Err(e) => return Err(DavError::FsError(e)),
+    };
+    if found.is_dir() {
+        return Err(DavError::Status(StatusCode::METHOD_NOT_ALLOWED));
+    }
+    match conditions.if_match(alloc, request.method, Some(&found), fs, ls)? {
+        Some(status) => judged(alloc, status, &found),
+        None => show_or_tell(fs, alloc, request.method, path, now, &found),
+    }
+}
+
+/// Shows the file at the path of a GET (RFC 9110, section 9.3.1), and tells of that of a HEAD (section 9.3.2): 200 with its length,
+/// its tag and its time, and for GET with its bytes.
+///
+/// The first of these that applies is answered: the refusal of a store that doesn't tell what is there; 405 for a folder; 412 where
+/// If or If-Match doesn't hold, and 304 with the tag alone where If-None-Match doesn't (section 13.2); each other refusal of the
+/// store is its own status.
+pub fn handle_gethead<F: DavFileSystem, L: DavLockSystem>(
+    fs: &mut F,
+    ls: Option<&L>,
     alloc: Global,
     request: &DavRequest,
     now: u64,
 ) -> DavResult<Reply>
     requires { now ≤ last_moment }
-    ensures { Makes response_of (spec.get request.now.headers (names request.now.path) now) (F.state fs.old) result (F.state fs.new) }
+    ensures { Serves (spec.IsGet request.now.method request.now.headers request.now.path now) (F.state fs.old) (locks_in L.locks ls.entry) result (F.state fs.new) (locks_in L.locks ls.entry) }
 {
-    if has_conditions(&request.headers) {
-        return Err(DavError::Status(StatusCode::NOT_IMPLEMENTED));
-    }
-    show(fs, alloc, &request.path, now)
+    let conditions = Conditions::decode(alloc, request, &request.path)?;
+    get(fs, ls, alloc, request, &conditions, now)
 }

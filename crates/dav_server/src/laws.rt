@@ -2,6 +2,7 @@
 ghost use Rattle.dav_server.specs.Head.{OneHead};
 ghost use Rattle.dav_server.specs.Headers.{KeepsValues};
 ghost use Rattle.dav_server.specs.Run.{RunsAreDetermined};
+ghost use Rattle.dav_server.specs.TagLaws.{TagsTellBytes, NotModifiedIsTrue, ReadingLeaves, RunsKeepWorlds};
 ghost use Rattle.dav_server.specs.Target.{OneOutcome};
 
 /// Bytes are a head in one way.
@@ -26,4 +27,28 @@ pub fn targets_name_one_thing()
 #[tactic(auto, using(crate::proofs::MeansLemmas::runs_are_determined))]
 pub fn runs_are_determined()
     ensures { RunsAreDetermined }
+{}
+
+/// Equal entity tags show equal bytes: from a world, in whatever run, under whatever refusals, where two GETs are answered with
+/// one tag, at any paths and moments, they are answered with the same bytes (RFC 9110, section 8.8.1).
+pub fn tags_tell_bytes()
+    ensures { TagsTellBytes }
+{}
+
+/// A 304 tells the truth: where If-None-Match said one tag, the file has the bytes that any GET of the run shows with that tag,
+/// before or behind it (RFC 9110, section 15.4.5).
+pub fn not_modified_is_true()
+    ensures { NotModifiedIsTrue }
+{}
+
+/// GET and HEAD leave the world and the list of locks, whatever the store refuses (RFC 9110, section 9.2.1).
+#[tactic(auto, using(crate::proofs::MeansWorld::reads_leave_all))]
+pub fn reading_leaves_all()
+    ensures { ReadingLeaves }
+{}
+
+/// A run that begins with a world ends with one, whatever the store refuses (RFC 4918, section 5.1).
+#[tactic(auto, using(crate::proofs::MeansWorld::runs_keep_worlds))]
+pub fn runs_keep_worlds()
+    ensures { RunsKeepWorlds }
 {}

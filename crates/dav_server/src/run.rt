@@ -2,10 +2,12 @@
 ghost use Rattle.std.specs.Prelude.{◌≡◌, ◌<◌, ◌++◌, ◌∷◌, [], vec_len, map, IfOk, IfErr, OnOk, OnErr};
 ghost use Rattle.std.specs.Option.{option_map};
 ghost use Rattle.std.specs.Vec.{vec_capacity};
+ghost use Rattle.dav_core.specs.World.{IsWorld};
 ghost use Rattle.dav_engine.specs.Response.{response_of};
 ghost use Rattle.dav_server.specs.Machine.{StepCut};
 ghost use Rattle.dav_server.specs.Run.{Runs, RanInPart, begun};
 ghost use Rattle.dav_server.specs.Setup.{asked, settings};
+ghost use Rattle.dav_server.specs.TagLaws.{EqualTagsShowEqualBytes};
 ghost use Rattle.dav_server.specs.Turns.{turn_of, step_turn, memory_state, AddsReply};
 
 #[cfg(test)]
@@ -66,13 +68,15 @@ fn answer_next<F: DavFileSystem, L: DavLockSystem>(
 }
 
 impl<F: DavFileSystem, L: DavLockSystem> DavHandler<F, L> {
-    /// Answers requests, one after another: the replies, the store and the locks are those of the machine's run.
+    /// Answers requests, one after another: the replies, the store and the locks are those of the machine's run. From a world,
+    /// equal entity tags show equal bytes.
     ///
     /// `RunFault` where memory ran out outside the store, with the replies that were given before; they are a run of the machine,
     /// and of the request that met it some first calls of the store were made, each of them whole.
     pub fn run(&mut self, alloc: Global, exchanges: &[Exchange<'_>]) -> Result<Vec<Reply>, RunFault>
         ensures same { settings self.new ≡ settings self.old }
         ensures run { IfOk result (λ replies. Runs (settings self.old) (map turn_of exchanges.now) (F.state self.old.fs) (option_map L.locks self.old.ls) (map response_of replies.items) (F.state self.new.fs) (option_map L.locks self.new.ls)) }
+        ensures tags { IfOk result (λ replies. IsWorld (F.state self.old.fs).world → EqualTagsShowEqualBytes (map turn_of exchanges.now) (map response_of replies.items)) }
         ensures fault { IfErr result (λ fault. RanInPart (settings self.old) (map turn_of exchanges.now) (F.state self.old.fs) (option_map L.locks self.old.ls) (map response_of fault.replies.items) (F.state self.new.fs) (option_map L.locks self.new.ls)) }
     {
         let mut replies = Vec::new(alloc);
@@ -105,7 +109,7 @@ fn answer_step(
 
 /// Answers requests, one after another, on a store in memory that refuses the calls which each step names: the replies, the
 /// store and the locks are those of the machine's run. With the store's flag unset at the end, `was_short`, that run is the only
-/// one.
+/// one. From a world, equal entity tags show equal bytes, whatever is refused.
 ///
 /// `RunFault` where memory ran out outside the store, with the replies that were given before; they are a run of the machine,
 /// and of the request that met it some first calls of the store were made, each of them whole.
@@ -116,6 +120,7 @@ pub fn run_refused(
 ) -> Result<Vec<Reply>, RunFault>
     ensures same { settings handler.new ≡ settings handler.old }
     ensures run { IfOk result (λ replies. Runs (settings handler.old) (map step_turn steps.entry.items) (memory_state handler.old.fs) handler.old.ls (map response_of replies.items) (memory_state handler.new.fs) handler.new.ls) }
+    ensures tags { IfOk result (λ replies. IsWorld (memory_state handler.old.fs).world → EqualTagsShowEqualBytes (map step_turn steps.entry.items) (map response_of replies.items)) }
     ensures fault { IfErr result (λ fault. RanInPart (settings handler.old) (map step_turn steps.entry.items) (memory_state handler.old.fs) handler.old.ls (map response_of fault.replies.items) (memory_state handler.new.fs) handler.new.ls) }
 {
     let mut replies = Vec::new(alloc);

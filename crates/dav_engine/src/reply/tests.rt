@@ -95,3 +95,20 @@ fn sets_a_header_in_the_place_of_others(rt: HostRuntime) -> Result<(), Fail> {
     );
     Ok(())
 }
+
+#[test]
+fn sets_the_location(rt: HostRuntime) -> Result<(), Fail> {
+    let cases = [
+        ("/a/", "", "content-location: /a/; "),
+        ("/p/a%20b/", "/p", "content-location: /p/a%20b/; "),
+        ("/p/%c3%a9", "/p", "content-location: /p/%C3%A9; "),
+    ];
+    for (target, prefix, wanted) in cases {
+        let mut path = DavPath::new(rt.alloc(), target)?;
+        path.set_prefix(prefix)?;
+        let mut headers = HeaderMap::new(rt.alloc());
+        set_location(rt.alloc(), &mut headers, &path)?;
+        assert_eq!(rt; shown(rt.alloc(), &headers)?.as_str(), wanted);
+    }
+    Ok(())
+}

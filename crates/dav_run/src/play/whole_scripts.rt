@@ -15,21 +15,24 @@ const GET_F: &str = r#"{"head":"GET /f HTTP/1.1\r\n\r\n"}"#;
 
 const BAD_REQUEST: &str = r#"{"body":null,"headers":{"content-length":"0"},"status":400}"#;
 
-const BAD_REQUEST_CLOSED: &str =
+pub(super) const BAD_REQUEST_CLOSED: &str =
     r#"{"body":null,"headers":{"connection":"close","content-length":"0"},"status":400}"#;
 
 const FORBIDDEN: &str = r#"{"body":null,"headers":{"content-length":"0"},"status":403}"#;
 
 const NOT_FOUND: &str = r#"{"body":null,"headers":{"content-length":"0"},"status":404}"#;
 
-const NOT_ALLOWED: &str = r#"{"body":null,"headers":{"content-length":"0"},"status":405}"#;
+pub(super) const NOT_ALLOWED: &str =
+    r#"{"body":null,"headers":{"content-length":"0"},"status":405}"#;
 
 const CONFLICT_CLOSED: &str =
     r#"{"body":null,"headers":{"connection":"close","content-length":"0"},"status":409}"#;
 
-const UNSUPPORTED_TYPE: &str = r#"{"body":null,"headers":{"content-length":"0"},"status":415}"#;
+pub(super) const UNSUPPORTED_TYPE: &str =
+    r#"{"body":null,"headers":{"content-length":"0"},"status":415}"#;
 
-const NOT_IMPLEMENTED: &str = r#"{"body":null,"headers":{"content-length":"0"},"status":501}"#;
+pub(super) const NOT_IMPLEMENTED: &str =
+    r#"{"body":null,"headers":{"content-length":"0"},"status":501}"#;
 
 const NOT_ALLOWED_CLOSED: &str =
     r#"{"body":null,"headers":{"connection":"close","content-length":"0"},"status":405}"#;
@@ -41,7 +44,7 @@ const BAD_GATEWAY: &str = r#"{"body":null,"headers":{"content-length":"0"},"stat
 const NO_ROOM: &str = r#"{"body":null,"headers":{"content-length":"0"},"status":507}"#;
 
 // Sees that the requests, played in order, are answered by the lines.
-fn assert_answers<R: Abort + AllocGlobal>(
+pub(super) fn assert_answers<R: Abort + AllocGlobal>(
     rt: &R,
     requests: &[&str],
     lines: &[&str],
@@ -118,11 +121,6 @@ fn refuses_one_request(rt: HostRuntime) -> Result<(), AllocError> {
         (
             r#"{"head":"PUT / HTTP/1.1\r\nContent-Length: 1\r\n\r\n","body":{"text":"x"}}"#,
             FORBIDDEN,
-        ),
-        // Conditions.
-        (
-            r#"{"head":"PUT /f HTTP/1.1\r\nContent-Length: 1\r\nIf-Match: \"2\"\r\n\r\n","body":{"text":"x"}}"#,
-            NOT_IMPLEMENTED,
         ),
     ];
     for (request, line) in rows {

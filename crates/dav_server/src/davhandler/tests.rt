@@ -38,12 +38,12 @@ pub(crate) const ONE: &str =
     "200\ncontent-length: 3\ncontent-type: application/octet-stream\netag: \"2\"\nlast-modified: Thu, 01 Jan 1970 00:00:01 GMT\n\none";
 
 // The reply to a request that is refused, with the connection left open.
-fn refused(alloc: Global, status: u16) -> Result<String, NoMemory> {
+pub(super) fn refused(alloc: Global, status: u16) -> Result<String, NoMemory> {
     format!(in alloc; "{status}\ncontent-length: 0\n")
 }
 
 // The same, and the connection closes.
-fn closed(alloc: Global, status: u16) -> Result<String, NoMemory> {
+pub(super) fn closed(alloc: Global, status: u16) -> Result<String, NoMemory> {
     format!(in alloc; "{status}\nconnection: close\ncontent-length: 0\n")
 }
 
@@ -59,12 +59,12 @@ fn server(
 }
 
 // The one of a new store, below no prefix, that allows every method.
-fn new_server(alloc: Global) -> Result<DavHandler<MemFs, MemLs>, Fail> {
+pub(super) fn new_server(alloc: Global) -> Result<DavHandler<MemFs, MemLs>, Fail> {
     server(alloc, "", DavMethodSet::all(), MemFs::new(alloc)?)
 }
 
 // What a request one second after 1970 began is answered.
-fn answered(
+pub(super) fn answered(
     alloc: Global,
     server: &mut DavHandler<MemFs, MemLs>,
     head: &[u8],
@@ -75,7 +75,7 @@ fn answered(
 }
 
 // A body of these bytes.
-fn bytes(bytes: &'static [u8]) -> Body {
+pub(super) fn bytes(bytes: &'static [u8]) -> Body {
     Body::Bytes(Bytes::from_static(bytes))
 }
 

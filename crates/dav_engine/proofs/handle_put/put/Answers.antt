@@ -1,23 +1,19 @@
-use Rattle.std.proofs.Common.{refl, sym, ap, ◌∙◌, Err}
 use Rattle.std.proofs.lemmas.Result.{err_from_is_err_and}
 use Rattle.dav_core.specs.Path.{names}
-use Rattle.dav_engine.specs.Follows.{served, not_begun}
-use Rattle.dav_engine.specs.Put.{is_put}
-use Rattle.dav_engine.proofs.PutLemmas.{put_refused, put_goes}
+use Rattle.dav_engine.specs.Client.{client_of}
+use Rattle.dav_engine.specs.PutView.{put_headers_of}
+use Rattle.dav_engine.proofs.PutLemmas.{put_ends, put_wants, put_stores}
 use Rattle.dav_engine.proofs.handle_put.put.Goals as goal
 
-pub returns-in_err-announced : goal.returns-in_err-announced
-returns-in_err-announced g c ls =
+pub returns-in_err-writing : goal.returns-in_err-writing
+returns-in_err-writing g c =
     let p = err_from_is_err_and c.from_residual.result c.from_residual.ensures.1 in
-    not_begun (p.1 ∙ ap Err p.2) refl refl
+    rw (p.1, p.2) (put_ends c.args.method (put_headers_of c.args.headers.now) (names c.args.path.now) (client_of c.args.caller.now) c.args.bytes.now _ c.in_err-writing.ensures)
 
-pub returns-in_err-checksum : goal.returns-in_err-checksum
-returns-in_err-checksum g c ls =
-    let p = err_from_is_err_and c.from_residual-in_err-checksum.result c.from_residual-in_err-checksum.ensures.1 in
-    not_begun (p.1 ∙ ap Err p.2) refl refl
-
-pub returns-then-has_conditions : goal.returns-then-has_conditions
-returns-then-has_conditions g c ls = served _ (is_put _ c.in_ok-announced.ensures) (put_refused c.args.request.now.headers c.in_ok-announced.announced (names c.args.request.now.path) c.args.body.now c.args.now (sym c.if-has_conditions.ensures))
+pub returns-in_err-options : goal.returns-in_err-options
+returns-in_err-options g c =
+    let p = err_from_is_err_and c.from_residual-in_err-options.result c.from_residual-in_err-options.ensures.1 in
+    rw (p.1, p.2) (put_wants c.args.method (put_headers_of c.args.headers.now) (names c.args.path.now) (client_of c.args.caller.now) c.args.bytes.now _ c.in_ok-writing.ensures)
 
 pub returns : goal.returns
-returns g c ls = served _ (is_put _ c.in_ok-announced.ensures) (put_goes c.args.request.now.headers c.in_ok-announced.announced (names c.args.request.now.path) c.args.body.now c.args.now (sym c.if-has_conditions.ensures) c.in_ok-checksum.ensures c.put_opening-options.ensures (c.put_body.ensures ls))
+returns g c = put_stores c.args.method (put_headers_of c.args.headers.now) (names c.args.path.now) (client_of c.args.caller.now) c.args.bytes.now (c.in_ok-writing.writing, c.in_ok-writing.found) _ c.in_ok-writing.ensures c.in_ok-options.ensures (c.store.ensures _)

@@ -1,8 +1,9 @@
-use Rattle.std.proofs.Common.{◌∙◌, [], map, refl, sym}
+use Rattle.std.proofs.Common.{◌∙◌, [], map, refl, sym, ap}
 use Rattle.std.proofs.lemmas.List.{map_push}
 use Rattle.dav_server.specs.Run.{no_more}
 use Rattle.dav_server.specs.Turns.{step_turn, memory_state}
 use Rattle.dav_server.proofs.RunLemmas.{run_added, steps_at, cut_at, ran_to, ran_for, rest_after_one, turns_of}
+use Rattle.dav_server.proofs.TurnLemmas.{all_yielded, steps_tell}
 use Rattle.dav_server.proofs.run.run_refused.Goals as goal
 
 pub loop-step-init : goal.loop-step-init
@@ -28,3 +29,9 @@ returns-in-Err-clause-fault c = (
   ran_to c.loop-step.replies.items c.answer_step.new.replies.items c.in-Err.ensures.replies c.loop-step.invariant.1,
   cut_at c.loop-step.invariant.0 c.in-Err.ensures.cut,
 )
+
+pub returns-clause-tags : goal.returns-clause-tags
+returns-clause-tags c =
+    let rest = c.loop-step.step-iterator.rest in
+    let whole = all_yielded c.args.steps.items c.loop-step.yielded rest.items rest.len c.loop-step.invariant.2 rest.ok.0 c.in-None.ensures.steps.0 in
+    steps_tell c.args.steps.items (ran_for (ap (map step_turn) whole) c.loop-step.invariant.1)

@@ -3,6 +3,7 @@ use Rattle.std.specs.Option.{option_map}
 use Rattle.dav_server.specs.Run.{no_more}
 use Rattle.dav_server.specs.Turns.{turn_of}
 use Rattle.dav_server.proofs.RunLemmas.{run_further, parts_of, steps_at, cut_at, ran_to}
+use Rattle.dav_server.proofs.TurnLemmas.{ran_all, exchanges_tell}
 use Rattle.dav_server.proofs.davhandler.DavHandler.run.Goals as goal
 
 pub loop-exchange-init : goal.loop-exchange-init
@@ -27,3 +28,6 @@ returns-in-Err-clause-fault g c = (
   ran_to c.loop-exchange.replies.items c.answer_next.new.replies.items c.in-Err.ensures.replies c.loop-exchange.invariant.1,
   cut_at c.loop-exchange.invariant.0 c.in-Err.ensures.cut,
 )
+
+pub returns-clause-tags : goal.returns-clause-tags
+returns-clause-tags g c = exchanges_tell c.args.exchanges.now (ran_all turn_of c.args.exchanges.now c.loop-exchange.exchange-index c.loop-exchange-test.false c.loop-exchange.invariant.1)

@@ -1,0 +1,90 @@
+-- How code follows a MKCOL.
+use Rattle.std.proofs.Common.{◌≡◌, ℕ, Bool, true, false, List, map, string_bytes, String, Option, Result, Ok, Err, refl, ap}
+use Rattle.std.specs.Global.{Vec, Global}
+use Rattle.std.specs.Result.{result_ok}
+use Rattle.dav_core.specs.declared.errors.FsError.{FsError}
+use Rattle.dav_core.specs.declared.errors.DavError.{DavError}
+use Rattle.dav_core.specs.declared.errors.DavError.TheVariants as dav
+use Rattle.dav_core.specs.declared.fs.DavMetaData.{DavMetaData}
+use Rattle.dav_core.specs.declared.method.DavMethod.TheVariants.{MkCol}
+use Rattle.dav_core.specs.Asking.{StoreState, Asks, Metadata, CreateDir}
+use Rattle.dav_core.specs.Locks.{asker_of}
+use Rattle.dav_core.specs.Path.{PathText, names}
+use Rattle.dav_engine.specs.Client.{Client, asker}
+use Rattle.dav_engine.specs.Plan.{Locks}
+use Rattle.dav_engine.specs.Method.{Method, ◌>>=◌, require_free, is_open, ask_or, gives}
+use Rattle.dav_engine.specs.Follows.{Follows, or_memory}
+use Rattle.dav_engine.specs.Conditions.{Conditions, if_match_get_tokens}
+use Rattle.dav_engine.specs.ConditionView.{texts_of, tokens_or_status}
+use Rattle.dav_engine.specs.Mkcol.{mkcol_allowed, mkcol, create_error, made}
+use Rattle.dav_engine.specs.Response.{Response, response_of}
+use Rattle.dav_engine.specs.declared.reply.Reply.{Reply}
+use Rattle.dav_engine.proofs.Following.{follows_done, follows_ask, follows_then, follows_err, follows_up_to}
+use Rattle.dav_engine.proofs.GuardLemmas.{guard_passed, guard_failed, guard_short, open_to, ends_free, ends_locked}
+
+-- what follows the conditions
+abbrev rest : PathText → Client → List (List ℕ) → Method (Unit {0})
+rest p who tokens = require_free false (asker who tokens) (names p) (dav.Status 423)
+
+pub mkcol_short : {E : Type 0} (c : Conditions) (p : PathText) (who : Client) (answer : Result DavMetaData FsError) (before : Option DavMetaData) (r : Result (Result (Vec (String Global)) ℕ) E) (e : E)
+    {old mid new : StoreState} {ls : Locks}
+    → Asks (Metadata (names p)) old answer mid → before ≡ result_ok answer → r ≡ Err e
+    → Follows tokens_or_status (if_match_get_tokens MkCol c before) mid ls (or_memory r) new ls
+    → Follows (λ (u : Unit {0}). u) (mkcol_allowed c p who) old ls (Err dav.Memory) new ls
+mkcol_short c p who answer before r e asks same was one = follows_ask asks (guard_short dav.Status MkCol c before (result_ok answer) (rest p who) r e same was one)
+
+pub mkcol_failed : {E : Type 0} (c : Conditions) (p : PathText) (who : Client) (answer : Result DavMetaData FsError) (before : Option DavMetaData) (r : Result (Result (Vec (String Global)) ℕ) E) (verdict : Result (Vec (String Global)) ℕ) (status : ℕ)
+    {old mid new : StoreState} {ls : Locks}
+    → Asks (Metadata (names p)) old answer mid → before ≡ result_ok answer → r ≡ Ok verdict → verdict ≡ Err status
+    → Follows tokens_or_status (if_match_get_tokens MkCol c before) mid ls (or_memory r) new ls
+    → Follows (λ (u : Unit {0}). u) (mkcol_allowed c p who) old ls (Err (dav.Status status)) new ls
+mkcol_failed c p who answer before r verdict status asks same was is one = follows_ask asks (guard_failed dav.Status MkCol c before (result_ok answer) (rest p who) r verdict status same was is one)
+
+pub mkcol_free : {E : Type 0} (c : Conditions) (p : PathText) (who : Client) (answer : Result DavMetaData FsError) (before : Option DavMetaData) (r : Result (Result (Vec (String Global)) ℕ) E) (verdict : Result (Vec (String Global)) ℕ) (tokens : Vec (String Global))
+    (lent : List (String Global)) (b : Bool) {old mid new : StoreState} {ls : Locks}
+    → Asks (Metadata (names p)) old answer mid → before ≡ result_ok answer → r ≡ Ok verdict → verdict ≡ Ok tokens
+    → Follows tokens_or_status (if_match_get_tokens MkCol c before) mid ls (or_memory r) new ls
+    → lent ≡ tokens.items → b ≡ is_open false (asker_of (map string_bytes lent) false who.principal) (names p) ls → b ≡ true
+    → Follows (λ (u : Unit {0}). u) (mkcol_allowed c p who) old ls (Ok tt) new ls
+mkcol_free c p who answer before r verdict tokens lent b {ls = ls} asks same was is one tells looked freed =
+    follows_ask asks (guard_passed dav.Status MkCol c before (result_ok answer) (rest p who) r verdict tokens same was is one
+    (ends_free false (asker who (texts_of tokens)) (names p) (dav.Status 423) b (open_to tokens lent who.principal false (names p) ls b tells looked) freed refl))
+
+pub mkcol_locked : {E : Type 0} (c : Conditions) (p : PathText) (who : Client) (answer : Result DavMetaData FsError) (before : Option DavMetaData) (r : Result (Result (Vec (String Global)) ℕ) E) (verdict : Result (Vec (String Global)) ℕ) (tokens : Vec (String Global))
+    (lent : List (String Global)) (b : Bool) {old mid new : StoreState} {ls : Locks}
+    → Asks (Metadata (names p)) old answer mid → before ≡ result_ok answer → r ≡ Ok verdict → verdict ≡ Ok tokens
+    → Follows tokens_or_status (if_match_get_tokens MkCol c before) mid ls (or_memory r) new ls
+    → lent ≡ tokens.items → b ≡ is_open false (asker_of (map string_bytes lent) false who.principal) (names p) ls → b ≡ false
+    → Follows (λ (u : Unit {0}). u) (mkcol_allowed c p who) old ls (Err (dav.Status 423)) new ls
+mkcol_locked c p who answer before r verdict tokens lent b {ls = ls} asks same was is one tells looked shut =
+    follows_ask asks (guard_passed dav.Status MkCol c before (result_ok answer) (rest p who) r verdict tokens same was is one
+    (ends_locked false (asker who (texts_of tokens)) (names p) (dav.Status 423) b (open_to tokens lent who.principal false (names p) ls b tells looked) shut refl))
+
+-- what follows it
+abbrev creates : PathText → Client → Unit {0} → Method Response
+creates p who _ = do
+  _ ← ask_or create_error (CreateDir (names p) who.moment)
+  gives (made p)
+
+-- the folder may not be made
+pub mkcol_ends : (c : Conditions) (p : PathText) (who : Client) (e : DavError) {old new : StoreState} {ls : Locks}
+    → Follows (λ (u : Unit {0}). u) (mkcol_allowed c p who) old ls (Err e) new ls → Follows response_of (mkcol c p who) old ls (Err e) new ls
+mkcol_ends c p who e one = follows_err (creates p who) e one
+
+-- the store refuses it
+pub mkcol_refused : (c : Conditions) (p : PathText) (who : Client) (why : FsError) (e : DavError) {old mid new : StoreState} {ls : Locks}
+    → Follows (λ (u : Unit {0}). u) (mkcol_allowed c p who) old ls (Ok tt) mid ls → Asks (CreateDir (names p) who.moment) mid (Err why) new → e ≡ create_error why
+    → Follows response_of (mkcol c p who) old ls (Err e) new ls
+mkcol_refused c p who why e one asks is = follows_then (creates p who) one (follows_ask asks (follows_done (ap Err is)))
+
+-- memory runs out behind it
+pub mkcol_wants : (c : Conditions) (p : PathText) (who : Client) (done : Unit {0}) {old mid new : StoreState} {ls : Locks}
+    → Follows (λ (u : Unit {0}). u) (mkcol_allowed c p who) old ls (Ok tt) mid ls → Asks (CreateDir (names p) who.moment) mid (Ok done) new
+    → Follows response_of (mkcol c p who) old ls (Err dav.Memory) new ls
+mkcol_wants c p who done one asks = follows_then (creates p who) one (follows_ask asks follows_up_to)
+
+-- it is made
+pub mkcol_made : (c : Conditions) (p : PathText) (who : Client) (done : Unit {0}) (reply : Reply) {old mid new : StoreState} {ls : Locks}
+    → Follows (λ (u : Unit {0}). u) (mkcol_allowed c p who) old ls (Ok tt) mid ls → Asks (CreateDir (names p) who.moment) mid (Ok done) new → response_of reply ≡ made p
+    → Follows response_of (mkcol c p who) old ls (Ok reply) new ls
+mkcol_made c p who done reply one asks is = follows_then (creates p who) one (follows_ask asks (follows_done (ap Ok is)))

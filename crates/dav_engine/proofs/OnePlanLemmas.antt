@@ -1,0 +1,135 @@
+-- A request has one plan, since each header is read in one way.
+use Rattle.std.proofs.Common.{◌≡◌, inl, inr, ℕ, List, [], ◌∷◌, Option, Some, None, refl, sym, ap, subst, ◌∙◌}
+use Rattle.std.specs.Option.{option_or}
+use Rattle.std.specs.Prelude.{codes}
+use Rattle.http_header.specs.FieldValue.{FieldValue}
+use Rattle.http_header.specs.HeaderMap.{get_all}
+use Rattle.url.specs.Parts.{Parts}
+use Rattle.dav_core.specs.declared.method.DavMethod.{DavMethod}
+use Rattle.dav_core.specs.Path.{Path, PathText, names, prefix_cut, without_slash}
+use Rattle.dav_core.proofs.TargetLemmas.{Reads-one}
+use Rattle.dav_headers.specs.ContentRange.{IsContentRange}
+use Rattle.dav_headers.specs.ETagList.{IsTagList}
+use Rattle.dav_headers.specs.If.{ConditionList, IsIf, IsIfHeader}
+use Rattle.dav_headers.specs.Length.{IsContentLength}
+use Rattle.dav_headers.specs.UpdateRange.{IsUpdateRange}
+use Rattle.dav_headers.specs.Value.{IsNumber}
+use Rattle.dav_headers.proofs.IfLawLemmas.{says_one}
+use Rattle.dav_headers.proofs.LawLemmas.{one_update_range, same_number}
+use Rattle.dav_headers.proofs.OneReading.{one_tag_list, one_content_range, one_content_length}
+use Rattle.dav_engine.specs.declared.put_headers.Bounds.{Bounds}
+use Rattle.dav_engine.specs.declared.put_headers.Bounds.TheVariants.{Unread, Whole, Within}
+use Rattle.dav_engine.specs.declared.request.Body.{Body}
+use Rattle.dav_engine.specs.Client.{Client}
+use Rattle.dav_engine.specs.Conditions.{Addressed, Conditions, SaysLists, AreAddressed, SpeaksOf, TagNames}
+use Rattle.dav_engine.specs.Headers.{Headers, Decodes}
+use Rattle.dav_engine.specs.Method.{Method}
+use Rattle.dav_engine.specs.Mkcol.{mkcol, IsMkcol, is_mkcol}
+use Rattle.dav_engine.specs.OnePlan.{OneReadingOfConditions, OneReadingOfPut, OnePutPlan, OneMkcolPlan}
+use Rattle.dav_engine.specs.Put.{PutHeaders, IsPut, is_put, put_body, bytes_of_body, IsAnnounced, IsExpectedLength, TellsBounds}
+use Rattle.dav_engine.specs.Response.{Response}
+
+-- what a grammar reads in one way is decoded in one way
+decoded_one : {A : Type 0} (grammar : List FieldValue → A → Type 0) (values : List FieldValue) → ((a b : A) → grammar values a → grammar values b → a ≡ b)
+    → (a b : Option A) → Decodes grammar values a → Decodes grammar values b → a ≡ b
+decoded_one grammar values one None None p q = refl
+decoded_one grammar values one None (Some b) p q = absurd (p b q)
+decoded_one grammar values one (Some a) None p q = absurd (q a p)
+decoded_one grammar values one (Some a) (Some b) p q = ap Some (one a b p q)
+
+-- ---- conditions
+
+some_one : {A : Type 0} {a b : A} → ◌≡◌ {A = Option A} (Some a) (Some b) → a ≡ b
+some_one same = cc
+
+names_one : (prefix : List ℕ) (url : Parts) (q r : Path) → TagNames prefix url q → TagNames prefix url r → q ≡ r
+names_one prefix url q r (a, p, reads, star, cut, is) (b, s, also, _, split, too) =
+    let same : a ≡ b = Reads-one url.path a b reads also in
+    is ∙ ap names (some_one (sym cut ∙ ap (prefix_cut (without_slash prefix)) same ∙ split)) ∙ sym too
+
+speaks_one : (prefix : List ℕ) (own : Path) (url : Option Parts) (q r : Option Path) → SpeaksOf prefix own url q → SpeaksOf prefix own url r → q ≡ r
+speaks_one prefix own None q r h k = h ∙ sym k
+speaks_one prefix own (Some url) None None h k = refl
+speaks_one prefix own (Some url) None (Some r) h k = absurd (h r k)
+speaks_one prefix own (Some url) (Some q) None h k = absurd (k q h)
+speaks_one prefix own (Some url) (Some q) (Some r) h k = ap Some (names_one prefix url q r h k)
+
+addressed_one : (prefix : List ℕ) (own : Path) (ls : List ConditionList) (a b : List Addressed) → AreAddressed prefix own ls a → AreAddressed prefix own ls b → a ≡ b
+addressed_one prefix own [] a b h k = h ∙ sym k
+addressed_one prefix own (l ∷ ls) a b (q, more, speaks, is, h) (r, rest, also, too, k) =
+    let first : Option Path → Addressed = λ x. record { path = x; conditions = l.conditions } in
+    is ∙ ap (λ (x : Option Path). first x ∷ more) (speaks_one prefix own l.resource q r speaks also)
+    ∙ ap (λ (xs : List Addressed). first r ∷ xs) (addressed_one prefix own ls more rest h k) ∙ sym too
+
+header_one : (values : List FieldValue) (ls ms : List ConditionList) → IsIfHeader values ls → IsIfHeader values ms → ls ≡ ms
+header_one values ls ms (v, is, says) (w, also, too) =
+    let same : v ≡ w = let both = sym is ∙ also in cc in
+    says_one w.bytes ls ms (subst (λ (x : FieldValue). IsIf x.bytes ls) same says) too
+
+lists_one : (prefix : List ℕ) (own : Path) (values : List FieldValue) (a b : List Addressed) → SaysLists prefix own values a → SaysLists prefix own values b → a ≡ b
+lists_one prefix own values a b (ls, header, are) (ms, also, too) =
+    addressed_one prefix own ms a b (subst (λ (x : List ConditionList). AreAddressed prefix own x a) (header_one values ls ms header also) are) too
+
+pub one_conditions : OneReadingOfConditions
+one_conditions headers prefix own a b h k =
+    let match = decoded_one IsTagList (get_all headers (codes "if-match")) (one_tag_list _) a.if_match b.if_match h.match k.match in
+    let none_match = decoded_one IsTagList (get_all headers (codes "if-none-match")) (one_tag_list _) a.if_none_match b.if_none_match h.none_match k.none_match in
+    let lists = decoded_one (SaysLists prefix own) (get_all headers (codes "if")) (lists_one prefix own _) a.lists b.lists h.lists k.lists in
+    λ i. record { if_match = match i; if_none_match = none_match i; lists = lists i }
+
+-- ---- PUT and PATCH
+
+expected_one : (values : List FieldValue) (m n : ℕ) → IsExpectedLength values m → IsExpectedLength values n → m ≡ n
+expected_one values m n (v, vs, is, number) (w, ws, also, other) =
+    let same : v ≡ w = let both = sym is ∙ also in cc in
+    same_number w.bytes m n (subst (λ (x : FieldValue). IsNumber x.bytes m) same number) other
+
+announced_one : (headers : Headers) (a b : Option ℕ) → IsAnnounced headers a → IsAnnounced headers b → a ≡ b
+announced_one headers a b (length, expected, one, two, is) (size, hoped, three, four, also) =
+    let first = decoded_one IsContentLength (get_all headers (codes "content-length")) (one_content_length _) length size one three in
+    let second = decoded_one IsExpectedLength (get_all headers (codes "x-expected-entity-length")) (expected_one _) expected hoped two four in
+    is ∙ ap (λ (x : Option ℕ). option_or x expected) first ∙ ap (option_or size) second ∙ sym also
+
+no_values : (values : List FieldValue) (a : Option (ℕ × ℕ)) (l : Option ℕ) → values ≡ [] → IsContentRange values a l → ⊥
+no_values values a l is h = subst (λ (x : List FieldValue). IsContentRange x a l) is h
+
+bounds_one : (values : List FieldValue) (a b : Bounds) → TellsBounds values a → TellsBounds values b → a ≡ b
+bounds_one values Unread Unread h k = refl
+bounds_one values Unread Whole (some, none) (inl is) = absurd (some is)
+bounds_one values Unread Whole (some, none) (inr (l, h)) = absurd (none None l h)
+bounds_one values Unread (Within m n) (some, none) (l, h) = absurd (none (Some (m, n)) l h)
+bounds_one values Whole Unread (inl is) (some, none) = absurd (some is)
+bounds_one values Whole Unread (inr (l, h)) (some, none) = absurd (none None l h)
+bounds_one values Whole Whole h k = refl
+bounds_one values Whole (Within m n) (inl is) (l, k) = absurd (no_values values (Some (m, n)) l is k)
+bounds_one values Whole (Within m n) (inr (l, h)) (k, j) = let same : ◌≡◌ {A = Option (ℕ × ℕ)} None (Some (m, n)) = (one_content_range values None (Some (m, n)) l k h j).0 in absurd (cc)
+bounds_one values (Within m n) Unread (l, h) (some, none) = absurd (none (Some (m, n)) l h)
+bounds_one values (Within m n) Whole (l, h) (inl is) = absurd (no_values values (Some (m, n)) l is h)
+bounds_one values (Within m n) Whole (l, h) (inr (k, j)) = let same : ◌≡◌ {A = Option (ℕ × ℕ)} None (Some (m, n)) = (one_content_range values None (Some (m, n)) k l j h).0 in absurd (cc)
+bounds_one values (Within m n) (Within r s) (l, h) (k, j) =
+    let same : ◌≡◌ {A = ℕ × ℕ} (m, n) (r, s) = some_one (one_content_range values (Some (m, n)) (Some (r, s)) l k h j).0 in
+    ap (λ (x : ℕ × ℕ). Within x.0 x.1) same
+
+pub one_put_headers : OneReadingOfPut
+one_put_headers headers p a b h k =
+    let conditions = one_conditions headers p.prefix (names p) a.conditions b.conditions h.conditions k.conditions in
+    let announced = announced_one headers a.announced b.announced h.announced k.announced in
+    let range = bounds_one (get_all headers (codes "content-range")) a.range b.range h.range k.range in
+    let partial : a.is_partial ≡ b.is_partial = h.is_partial ∙ sym k.is_partial in
+    let update = decoded_one IsUpdateRange (get_all headers (codes "x-update-range")) (one_update_range (get_all headers (codes "x-update-range"))) a.update b.update h.update k.update in
+    let checksum : a.checksum ≡ b.checksum = h.checksum ∙ sym k.checksum in
+    λ i. record { conditions = conditions i; announced = announced i; range = range i; is_partial = partial i; update = update i; checksum = checksum i }
+
+same_put : {m : DavMethod} {headers : Headers} {p : PathText} {body : Body} {who : Client} {one other : Method Response} → IsPut m headers p body who one → IsPut m headers p body who other → one ≡ other
+same_put {m} {headers} {p} {body} {who} (is_put a h) (is_put b k) = ap (λ (x : PutHeaders). put_body m x (names p) who (bytes_of_body body)) (one_put_headers headers p a b h k)
+
+pub one_put_plan : OnePutPlan
+one_put_plan m headers p body who one other h k = same_put h k
+
+-- ---- MKCOL
+
+same_mkcol : {headers : Headers} {p : PathText} {who : Client} {one other : Method Response} → IsMkcol headers p who one → IsMkcol headers p who other → one ≡ other
+same_mkcol {headers} {p} {who} (is_mkcol a h) (is_mkcol b k) = ap (λ (x : Conditions). mkcol x p who) (one_conditions headers p.prefix (names p) a b h k)
+
+pub one_mkcol_plan : OneMkcolPlan
+one_mkcol_plan headers p who one other h k = same_mkcol h k

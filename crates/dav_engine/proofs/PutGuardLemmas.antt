@@ -1,0 +1,140 @@
+-- How code follows what is judged before the file of a PUT or PATCH is opened.
+use Rattle.std.proofs.Common.{◌≡◌, ℕ, Bool, true, false, List, map, string_bytes, String, Option, Result, Ok, Err, refl, sym, ap, ◌∙◌}
+use Rattle.std.specs.Global.{Vec, Global}
+use Rattle.std.specs.Option.{is_some}
+use Rattle.std.specs.Result.{is_ok, result_ok}
+use Rattle.dav_core.specs.declared.errors.FsError.{FsError}
+use Rattle.dav_core.specs.declared.errors.DavError.{DavError}
+use Rattle.dav_core.specs.declared.errors.DavError.TheVariants as dav
+use Rattle.dav_core.specs.declared.fs.DavMetaData.{DavMetaData}
+use Rattle.dav_core.specs.declared.method.DavMethod.{DavMethod}
+use Rattle.dav_core.specs.Asking.{StoreState, Asks, Metadata}
+use Rattle.dav_core.specs.Locks.{asker_of}
+use Rattle.dav_core.specs.Path.{Path}
+use Rattle.dav_engine.specs.declared.put_headers.Writing.{Writing}
+use Rattle.dav_engine.specs.Client.{Client, asker}
+use Rattle.dav_engine.specs.Plan.{Locks}
+use Rattle.dav_engine.specs.Method.{Method, ◌>>=◌, gives, require, require_free, is_open}
+use Rattle.dav_engine.specs.Follows.{Follows, or_memory}
+use Rattle.dav_engine.specs.Conditions.{if_match_get_tokens, guarded}
+use Rattle.dav_engine.specs.ConditionView.{texts_of, tokens_or_status}
+use Rattle.dav_engine.specs.Put.{PutHeaders, writing_of, is_announced, put_allowed}
+use Rattle.dav_engine.proofs.Following.{follows_done, follows_ask, follows_on, follows_out}
+use Rattle.dav_engine.proofs.GuardLemmas.{follows_ok, follows_fails, guard_passed, guard_failed, guard_short, open_to, free_goes, locked_out}
+
+-- whether something was found
+some_ok : (answer : Result DavMetaData FsError) → is_some (result_ok answer) ≡ is_ok answer
+some_ok (Ok m) = refl
+some_ok (Err e) = refl
+
+-- what follows the look at the locks
+abbrev length_next : Writing → Bool → List ℕ → Unit {0} → Method (Writing × Bool)
+length_next w exists bytes _ = do
+  _ ← require (is_announced w.announced bytes) (dav.StatusClose 400)
+  gives (w, exists)
+
+-- what follows the conditions
+abbrev locks_next : Path → Client → List ℕ → Bool → Writing → List (List ℕ) → Method (Writing × Bool)
+locks_next p who bytes exists w tokens = require_free false (asker who tokens) p (dav.StatusClose 423) >>= length_next w exists bytes
+
+-- what follows the place
+abbrev conditions_next : DavMethod → PutHeaders → Path → Client → List ℕ → Result DavMetaData FsError → Writing → Method (Writing × Bool)
+conditions_next m h p who bytes answer w = guarded dav.StatusClose m h.conditions (result_ok answer) >>= locks_next p who bytes (is_ok answer) w
+
+-- what was found has no such place
+pub put_unplaced : (m : DavMethod) (h : PutHeaders) (p : Path) (who : Client) (bytes : List ℕ) (answer : Result DavMetaData FsError) (before : Option DavMetaData) (placed : Result Writing DavError) (e : DavError)
+    {old mid : StoreState} {ls : Locks}
+    → Asks (Metadata p) old answer mid → before ≡ result_ok answer → placed ≡ writing_of m h before → placed ≡ Err e
+    → Follows (λ (r : Writing × Bool). r) (put_allowed m h p who bytes) old ls (Err e) mid ls
+put_unplaced m h p who bytes answer before placed e asks same there is =
+    follows_ask asks (follows_fails (writing_of m h (result_ok answer)) e (conditions_next m h p who bytes answer) (ap (writing_of m h) (sym same) ∙ sym there ∙ is) refl)
+
+-- the bytes have a place, and the rest was followed
+put_placed : (m : DavMethod) (h : PutHeaders) (p : Path) (who : Client) (bytes : List ℕ) (answer : Result DavMetaData FsError) (before : Option DavMetaData) (placed : Result Writing DavError) (w : Writing)
+    {old mid new : StoreState} {ls : Locks} {end : Result (Writing × Bool) DavError}
+    → Asks (Metadata p) old answer mid → before ≡ result_ok answer → placed ≡ writing_of m h before → placed ≡ Ok w
+    → Follows (λ (r : Writing × Bool). r) (conditions_next m h p who bytes answer w) mid ls end new ls
+    → Follows (λ (r : Writing × Bool). r) (put_allowed m h p who bytes) old ls end new ls
+put_placed m h p who bytes answer before placed w asks same there is rest =
+    follows_ask asks (follows_ok (writing_of m h (result_ok answer)) w (conditions_next m h p who bytes answer) (ap (writing_of m h) (sym same) ∙ sym there ∙ is) rest)
+
+-- memory ran out while conditions were judged
+pub put_short : {E : Type 0} (m : DavMethod) (h : PutHeaders) (p : Path) (who : Client) (bytes : List ℕ) (answer : Result DavMetaData FsError) (before : Option DavMetaData) (placed : Result Writing DavError) (w : Writing)
+    (seen : Option DavMetaData) (r : Result (Result (Vec (String Global)) ℕ) E) (e : E) {old mid new : StoreState} {ls : Locks}
+    → Asks (Metadata p) old answer mid → before ≡ result_ok answer → placed ≡ writing_of m h before → placed ≡ Ok w
+    → seen ≡ result_ok answer → r ≡ Err e → Follows tokens_or_status (if_match_get_tokens m h.conditions seen) mid ls (or_memory r) new ls
+    → Follows (λ (x : Writing × Bool). x) (put_allowed m h p who bytes) old ls (Err dav.Memory) new ls
+put_short m h p who bytes answer before placed w seen r e asks same there is found was one =
+    put_placed m h p who bytes answer before placed w asks same there is
+    (guard_short dav.StatusClose m h.conditions seen (result_ok answer) (locks_next p who bytes (is_ok answer) w) r e found was one)
+
+-- a condition fails
+pub put_failed : {E : Type 0} (m : DavMethod) (h : PutHeaders) (p : Path) (who : Client) (bytes : List ℕ) (answer : Result DavMetaData FsError) (before : Option DavMetaData) (placed : Result Writing DavError) (w : Writing)
+    (seen : Option DavMetaData) (r : Result (Result (Vec (String Global)) ℕ) E) (verdict : Result (Vec (String Global)) ℕ) (status : ℕ) {old mid new : StoreState} {ls : Locks}
+    → Asks (Metadata p) old answer mid → before ≡ result_ok answer → placed ≡ writing_of m h before → placed ≡ Ok w
+    → seen ≡ result_ok answer → r ≡ Ok verdict → verdict ≡ Err status → Follows tokens_or_status (if_match_get_tokens m h.conditions seen) mid ls (or_memory r) new ls
+    → Follows (λ (x : Writing × Bool). x) (put_allowed m h p who bytes) old ls (Err (dav.StatusClose status)) new ls
+put_failed m h p who bytes answer before placed w seen r verdict status asks same there is found was fails one =
+    put_placed m h p who bytes answer before placed w asks same there is
+    (guard_failed dav.StatusClose m h.conditions seen (result_ok answer) (locks_next p who bytes (is_ok answer) w) r verdict status found was fails one)
+
+-- the conditions hold, and the rest was followed
+put_passed : {E : Type 0} (m : DavMethod) (h : PutHeaders) (p : Path) (who : Client) (bytes : List ℕ) (answer : Result DavMetaData FsError) (before : Option DavMetaData) (placed : Result Writing DavError) (w : Writing)
+    (seen : Option DavMetaData) (r : Result (Result (Vec (String Global)) ℕ) E) (verdict : Result (Vec (String Global)) ℕ) (tokens : Vec (String Global)) {old mid new : StoreState} {ls : Locks} {end : Result (Writing × Bool) DavError}
+    → Asks (Metadata p) old answer mid → before ≡ result_ok answer → placed ≡ writing_of m h before → placed ≡ Ok w
+    → seen ≡ result_ok answer → r ≡ Ok verdict → verdict ≡ Ok tokens → Follows tokens_or_status (if_match_get_tokens m h.conditions seen) mid ls (or_memory r) new ls
+    → Follows (λ (x : Writing × Bool). x) (locks_next p who bytes (is_ok answer) w (texts_of tokens)) new ls end new ls
+    → Follows (λ (x : Writing × Bool). x) (put_allowed m h p who bytes) old ls end new ls
+put_passed m h p who bytes answer before placed w seen r verdict tokens asks same there is found was holds one rest =
+    put_placed m h p who bytes answer before placed w asks same there is
+    (guard_passed dav.StatusClose m h.conditions seen (result_ok answer) (locks_next p who bytes (is_ok answer) w) r verdict tokens found was holds one rest)
+
+-- a lock is in the way
+pub put_locked : {E : Type 0} (m : DavMethod) (h : PutHeaders) (p : Path) (who : Client) (bytes : List ℕ) (answer : Result DavMetaData FsError) (before : Option DavMetaData) (placed : Result Writing DavError) (w : Writing)
+    (seen : Option DavMetaData) (r : Result (Result (Vec (String Global)) ℕ) E) (verdict : Result (Vec (String Global)) ℕ) (tokens : Vec (String Global)) (lent : List (String Global)) (b : Bool) {old mid new : StoreState} {ls : Locks}
+    → Asks (Metadata p) old answer mid → before ≡ result_ok answer → placed ≡ writing_of m h before → placed ≡ Ok w
+    → seen ≡ result_ok answer → r ≡ Ok verdict → verdict ≡ Ok tokens → Follows tokens_or_status (if_match_get_tokens m h.conditions seen) mid ls (or_memory r) new ls
+    → lent ≡ tokens.items → b ≡ is_open false (asker_of (map string_bytes lent) false who.principal) p ls → b ≡ false
+    → Follows (λ (x : Writing × Bool). x) (put_allowed m h p who bytes) old ls (Err (dav.StatusClose 423)) new ls
+put_locked m h p who bytes answer before placed w seen r verdict tokens lent b {ls = ls} asks same there is found was holds one tells looked shut =
+    put_passed m h p who bytes answer before placed w seen r verdict tokens asks same there is found was holds one
+    (locked_out false (asker who (texts_of tokens)) p (dav.StatusClose 423) (length_next w (is_ok answer) bytes) b (open_to tokens lent who.principal false p ls b tells looked) shut refl)
+
+-- the path is free, and the rest was followed
+put_free : {E : Type 0} (m : DavMethod) (h : PutHeaders) (p : Path) (who : Client) (bytes : List ℕ) (answer : Result DavMetaData FsError) (before : Option DavMetaData) (placed : Result Writing DavError) (w : Writing)
+    (seen : Option DavMetaData) (r : Result (Result (Vec (String Global)) ℕ) E) (verdict : Result (Vec (String Global)) ℕ) (tokens : Vec (String Global)) (lent : List (String Global)) (b : Bool) {old mid new : StoreState} {ls : Locks}
+    {end : Result (Writing × Bool) DavError}
+    → Asks (Metadata p) old answer mid → before ≡ result_ok answer → placed ≡ writing_of m h before → placed ≡ Ok w
+    → seen ≡ result_ok answer → r ≡ Ok verdict → verdict ≡ Ok tokens → Follows tokens_or_status (if_match_get_tokens m h.conditions seen) mid ls (or_memory r) new ls
+    → lent ≡ tokens.items → b ≡ is_open false (asker_of (map string_bytes lent) false who.principal) p ls → b ≡ true
+    → Follows (λ (x : Writing × Bool). x) (length_next w (is_ok answer) bytes tt) new ls end new ls
+    → Follows (λ (x : Writing × Bool). x) (put_allowed m h p who bytes) old ls end new ls
+put_free m h p who bytes answer before placed w seen r verdict tokens lent b {ls = ls} asks same there is found was holds one tells looked freed rest =
+    put_passed m h p who bytes answer before placed w seen r verdict tokens asks same there is found was holds one
+    (free_goes false (asker who (texts_of tokens)) p (dav.StatusClose 423) (length_next w (is_ok answer) bytes) b (open_to tokens lent who.principal false p ls b tells looked) freed rest)
+
+-- the body isn't of the announced length
+pub put_other_length : {E : Type 0} (m : DavMethod) (h : PutHeaders) (p : Path) (who : Client) (bytes : List ℕ) (answer : Result DavMetaData FsError) (before : Option DavMetaData) (placed : Result Writing DavError) (w : Writing)
+    (seen : Option DavMetaData) (r : Result (Result (Vec (String Global)) ℕ) E) (verdict : Result (Vec (String Global)) ℕ) (tokens : Vec (String Global)) (lent : List (String Global)) (b fits : Bool) {old mid new : StoreState} {ls : Locks}
+    → Asks (Metadata p) old answer mid → before ≡ result_ok answer → placed ≡ writing_of m h before → placed ≡ Ok w
+    → seen ≡ result_ok answer → r ≡ Ok verdict → verdict ≡ Ok tokens → Follows tokens_or_status (if_match_get_tokens m h.conditions seen) mid ls (or_memory r) new ls
+    → lent ≡ tokens.items → b ≡ is_open false (asker_of (map string_bytes lent) false who.principal) p ls → b ≡ true
+    → fits ≡ is_announced w.announced bytes → fits ≡ false
+    → Follows (λ (x : Writing × Bool). x) (put_allowed m h p who bytes) old ls (Err (dav.StatusClose 400)) new ls
+put_other_length m h p who bytes answer before placed w seen r verdict tokens lent b fits asks same there is found was holds one tells looked freed compared differs =
+    put_free m h p who bytes answer before placed w seen r verdict tokens lent b asks same there is found was holds one tells looked freed
+    (follows_out (is_announced w.announced bytes) (dav.StatusClose 400) (λ _. gives (w, is_ok answer)) (sym compared ∙ differs) refl)
+
+-- the bytes may be stored
+pub put_agreed : {E : Type 0} (m : DavMethod) (h : PutHeaders) (p : Path) (who : Client) (bytes : List ℕ) (answer : Result DavMetaData FsError) (before : Option DavMetaData) (placed : Result Writing DavError) (w : Writing)
+    (seen : Option DavMetaData) (r : Result (Result (Vec (String Global)) ℕ) E) (verdict : Result (Vec (String Global)) ℕ) (tokens : Vec (String Global)) (lent : List (String Global)) (b fits exists : Bool) (file : Option DavMetaData)
+    {old mid new : StoreState} {ls : Locks}
+    → Asks (Metadata p) old answer mid → before ≡ result_ok answer → placed ≡ writing_of m h before → placed ≡ Ok w
+    → seen ≡ result_ok answer → r ≡ Ok verdict → verdict ≡ Ok tokens → Follows tokens_or_status (if_match_get_tokens m h.conditions seen) mid ls (or_memory r) new ls
+    → lent ≡ tokens.items → b ≡ is_open false (asker_of (map string_bytes lent) false who.principal) p ls → b ≡ true
+    → fits ≡ is_announced w.announced bytes → fits ≡ true → exists ≡ is_some file → file ≡ result_ok answer
+    → Follows (λ (x : Writing × Bool). x) (put_allowed m h p who bytes) old ls (Ok (w, exists)) new ls
+put_agreed m h p who bytes answer before placed w seen r verdict tokens lent b fits exists file asks same there is found was holds one tells looked freed compared agrees told kept =
+    put_free m h p who bytes answer before placed w seen r verdict tokens lent b asks same there is found was holds one tells looked freed
+    (follows_on (is_announced w.announced bytes) (dav.StatusClose 400) (λ _. gives (w, is_ok answer)) (sym compared ∙ agrees)
+    (follows_done (ap (λ (t : Bool). Ok (w, t)) (told ∙ ap is_some kept ∙ some_ok answer))))

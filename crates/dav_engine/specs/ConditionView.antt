@@ -1,0 +1,59 @@
+-- What contracts see of conditions, and of the calls that judge them.
+use Rattle.std.specs.Prelude.{◌≡◌, ℕ, Bool, List, map, codes, string_bytes, String, Option, Result, Ok, Err}
+use Rattle.std.specs.Option.{option_map, option_copied}
+use Rattle.std.specs.Global.{Global, Vec}
+use denote.Ref.{Bor}
+use Rattle.http_header.specs.HeaderMap.{get_all}
+use Rattle.dav_core.specs.declared.fs.DavMetaData.{DavMetaData}
+use Rattle.dav_core.specs.declared.method.DavMethod.{DavMethod}
+use Rattle.dav_core.specs.Locks.{Lock}
+use Rattle.dav_core.specs.Path.{Path, names}
+use Rattle.dav_headers.specs.ETagList.{TagList, IsTagList, tag_list}
+use Rattle.dav_headers.specs.IfView.{condition_value}
+use Rattle.dav_engine.specs.declared.conditional.Addressed as declared_list
+use Rattle.dav_engine.specs.declared.conditional.Conditions as declared
+use Rattle.dav_engine.specs.Conditions.{Addressed, Conditions, AreConditions, SaysLists, http_conditions, if_holds, submitted, if_match, if_match_get_tokens}
+use Rattle.dav_engine.specs.Headers.{Headers, Decodes}
+use Rattle.dav_engine.specs.Method.{Method, ◌>>=◌, gives}
+use Rattle.dav_engine.specs.Plan.{Locks}
+
+abbrev pub list_of : declared_list.Addressed → Addressed
+list_of l = record { path = option_map names l.path; conditions = map condition_value l.conditions.items }
+
+abbrev pub conditions_of : declared.Conditions → Conditions
+conditions_of c = record { if_match = option_map tag_list c.if_match; if_none_match = option_map tag_list c.if_none_match; lists = option_map (λ ls. map list_of ls.items) c.lists }
+
+-- the list of locks of a lock system that is lent, where there is one
+abbrev pub locks_in : {L : Type 0} → (L → List Lock) → Option (Bor L) → Locks
+locks_in locks ls = option_map locks (option_copied ls)
+
+-- texts by their bytes
+abbrev pub texts_of : Vec (String Global) → List (List ℕ)
+texts_of v = map string_bytes v.items
+
+abbrev pub tokens_or_status : Result (Vec (String Global)) ℕ → Result (List (List ℕ)) ℕ
+tokens_or_status (Ok v) = Ok (texts_of v)
+tokens_or_status (Err status) = Err status
+
+-- the status that If-Match and If-None-Match answer
+abbrev pub IsHttpVerdict : DavMethod → Headers → Option DavMetaData → Option ℕ → Type 0
+IsHttpVerdict m headers found status =
+    (match : Option TagList) × (none_match : Option TagList)
+    × Decodes IsTagList (get_all headers (codes "if-match")) match
+    × Decodes IsTagList (get_all headers (codes "if-none-match")) none_match
+    × (status ≡ http_conditions m match none_match found)
+
+-- whether If holds, and the tokens that it submits
+pub data IsDavIf (headers : Headers) (prefix : List ℕ) (own : Path) : Method (Bool × List (List ℕ)) → Type 0 where
+  is_dav_if : (lists : Option (List Addressed)) → Decodes (SaysLists prefix own) (get_all headers (codes "if")) lists
+      → IsDavIf headers prefix own (do
+        holds ← if_holds lists
+        gives (holds, submitted lists))
+
+-- the status that all conditions answer, If first
+pub data IsIfMatch (m : DavMethod) (headers : Headers) (prefix : List ℕ) (own : Path) (found : Option DavMetaData) : Method (Option ℕ) → Type 0 where
+  is_if_match : (c : Conditions) → AreConditions headers prefix own c → IsIfMatch m headers prefix own found (if_match m c found)
+
+-- and with If last the tokens, or that status
+pub data IsIfMatchGetTokens (m : DavMethod) (headers : Headers) (prefix : List ℕ) (own : Path) (found : Option DavMetaData) : Method (Result (List (List ℕ)) ℕ) → Type 0 where
+  is_if_match_get_tokens : (c : Conditions) → AreConditions headers prefix own c → IsIfMatchGetTokens m headers prefix own found (if_match_get_tokens m c found)

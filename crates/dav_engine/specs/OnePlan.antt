@@ -1,0 +1,34 @@
+-- A request has one plan at most: the laws.
+use Rattle.std.specs.Prelude.{◌≡◌, List, ℕ}
+use Rattle.dav_core.specs.declared.method.DavMethod.{DavMethod}
+use Rattle.dav_core.specs.Path.{Path, PathText}
+use Rattle.dav_engine.specs.declared.request.Body.{Body}
+use Rattle.dav_engine.specs.Client.{Client}
+use Rattle.dav_engine.specs.Conditions.{Conditions, AreConditions}
+use Rattle.dav_engine.specs.Headers.{Headers}
+use Rattle.dav_engine.specs.Method.{Method}
+use Rattle.dav_engine.specs.Mkcol.{IsMkcol}
+use Rattle.dav_engine.specs.Put.{PutHeaders, ArePutHeaders, IsPut}
+use Rattle.dav_engine.specs.Response.{Response}
+
+-- headers say one thing of a path, as conditions
+abbrev pub OneReadingOfConditions : Type 0
+OneReadingOfConditions =
+    (headers : Headers) (prefix : List ℕ) (own : Path) (a b : Conditions)
+    → AreConditions headers prefix own a → AreConditions headers prefix own b → a ≡ b
+
+-- and as those of a PUT or PATCH
+abbrev pub OneReadingOfPut : Type 0
+OneReadingOfPut = (headers : Headers) (p : PathText) (a b : PutHeaders) → ArePutHeaders headers p a → ArePutHeaders headers p b → a ≡ b
+
+-- A PUT or PATCH has one plan at most: its headers, its path, its body and its client determine what it does.
+abbrev pub OnePutPlan : Type 0
+OnePutPlan =
+    (m : DavMethod) (headers : Headers) (p : PathText) (body : Body) (who : Client) (one other : Method Response)
+    → IsPut m headers p body who one → IsPut m headers p body who other → one ≡ other
+
+-- so has a MKCOL
+abbrev pub OneMkcolPlan : Type 0
+OneMkcolPlan =
+    (headers : Headers) (p : PathText) (who : Client) (one other : Method Response)
+    → IsMkcol headers p who one → IsMkcol headers p who other → one ≡ other

@@ -1,0 +1,122 @@
+//! MKCOL (RFC 4918, section 9.3).
+ghost use Rattle.std.specs.Prelude.{◌≡◌, ◌≤◌, option_map, IfOk};
+ghost use Rattle.dav_core.specs.World.{last_moment};
+ghost use Rattle.dav_core.specs.Path.{names};
+ghost use Rattle.dav_engine.specs.Client.{client_of};
+ghost use Rattle.dav_engine.specs.ConditionView.{conditions_of, locks_in};
+ghost use Rattle.dav_engine.specs.Follows.{Follows, Serves};
+ghost use Rattle.dav_engine.specs.Mkcol as spec;
+ghost use Rattle.dav_engine.specs.Response.{response_of};
+
+use crate::check::is_open;
+use crate::conditional::Conditions;
+use crate::davinner::{Caller, DavInner};
+use crate::reply::{Reply, ReplyBody, set_location};
+use crate::request::{Body, DavRequest};
+use dav_core::davpath::DavPath;
+use dav_core::errors::{DavError, DavResult, FsError, NoMemory};
+use dav_core::fs::DavFileSystem;
+use dav_core::ls::DavLockSystem;
+use dav_core::method::DavMethod;
+use http::StatusCode;
+use http_header::HeaderMap;
+use std::alloc::Global;
+
+// What a folder that isn't made is answered.
+fn create_error(error: FsError) -> DavError
+    ensures { result ≡ spec.create_error error }
+{
+    match error {
+        FsError::Exists => DavError::Status(StatusCode::METHOD_NOT_ALLOWED),
+        FsError::NotFound => DavError::Status(StatusCode::CONFLICT),
+        other => DavError::FsError(other),
+    }
+}
+
+// The reply to a folder that was made.
+fn made(alloc: Global, path: &DavPath) -> Result<Reply, NoMemory>
+    ensures { IfOk result (λ r. response_of r ≡ spec.made path.now) }
+{
+    let mut headers = HeaderMap::new(alloc);
+    if path.is_collection() {
+        set_location(alloc, &mut headers, path)?;
+    }
+    Ok(Reply {
+        status: StatusCode::CREATED,
+        headers,
+        body: ReplyBody::Nothing,
+    })
+}
+
+// Whether a folder may be made at a path; else the error that says why not.
+fn allowed<F: DavFileSystem, L: DavLockSystem>(
+    fs: &mut F,
+    ls: Option<&L>,
+    alloc: Global,
+    conditions: &Conditions,
+    path: &DavPath,
+    caller: &Caller<'_>,
+) -> DavResult<()>
+    ensures { Follows (λ u. u) (spec.mkcol_allowed (conditions_of conditions.now) path.now (client_of caller.now)) (F.state fs.old) (locks_in L.locks ls.entry) result (F.state fs.new) (locks_in L.locks ls.entry) }
+{
+    let found = fs.metadata(path).ok();
+    let verdict = conditions.if_match_get_tokens(alloc, DavMethod::MkCol, found.as_ref(), fs, ls)?;
+    let tokens = match verdict {
+        Ok(tokens) => tokens,
+        Err(status) => return Err(DavError::Status(status)),
+    };
+    if is_open(ls, path, caller.principal, false, &tokens) {
+        Ok(())
+    } else {
+        Err(DavError::Status(StatusCode::LOCKED))
+    }
+}
+
+// Makes a folder at a path, where it may be made.
+fn mkcol<F: DavFileSystem, L: DavLockSystem>(
+    fs: &mut F,
+    ls: Option<&L>,
+    alloc: Global,
+    conditions: &Conditions,
+    path: &DavPath,
+    caller: &Caller<'_>,
+) -> DavResult<Reply>
+    requires { caller.now.moment ≤ last_moment }
+    ensures { Follows response_of (spec.mkcol (conditions_of conditions.now) path.now (client_of caller.now)) (F.state fs.old) (locks_in L.locks ls.entry) result (F.state fs.new) (locks_in L.locks ls.entry) }
+{
+    allowed(fs, ls, alloc, conditions, path, caller)?;
+    match fs.create_dir(alloc, path, caller.moment) {
+        Ok(()) => {}
+        Err(e) => return Err(create_error(e)),
+    }
+    Ok(made(alloc, path)?)
+}
+
+impl<'a, 'b, 'c, F: DavFileSystem, L: DavLockSystem> DavInner<'a, 'b, 'c, F, L> {
+    /// Makes a folder at the path of a request (RFC 4918, section 9.3): 201, with `content-location` where the target ends in a
+    /// slash.
+    ///
+    /// The first of these that applies is answered: 412 where a condition fails; 423 where a lock is in the way; 405 where something
+    /// is there; 409 where no folder is above it; each other refusal of the store is its own status. The body isn't looked at.
+    pub fn handle_mkcol(
+        &mut self,
+        alloc: Global,
+        request: &DavRequest,
+        _body: &Body,
+    ) -> DavResult<Reply>
+        requires { self.old.caller.now.moment ≤ last_moment }
+        ensures same_fs { self.new.fs.ghost_name ≡ self.old.fs.ghost_name }
+        ensures same_ls { self.new.ls.ghost_name ≡ self.old.ls.ghost_name }
+        ensures serves { Serves (spec.IsMkcol request.now.headers request.now.path (client_of self.old.caller.now)) (F.state self.old.fs.now) (option_map L.locks self.old.ls.now) result (F.state self.new.fs.now) (option_map L.locks self.new.ls.now) }
+    {
+        let conditions = Conditions::decode(alloc, request, &request.path)?;
+        mkcol(
+            self.fs,
+            self.ls.as_ref(),
+            alloc,
+            &conditions,
+            &request.path,
+            self.caller,
+        )
+    }
+}

@@ -1,0 +1,183 @@
+//! What the headers of a PUT or PATCH say (RFC 9110, sections 8.6 and 14.4; RFC 5789).
+ghost use Rattle.std.specs.Prelude.{◌≡◌, codes, option_map, string_bytes, IfOk, Some};
+ghost use Rattle.http_header.specs.HeaderMap.{get, get_all};
+ghost use Rattle.dav_core.specs.Path.{names};
+ghost use Rattle.dav_headers.specs.Length.{IsContentLength};
+ghost use Rattle.dav_headers.specs.UpdateRange.{IsUpdateRange};
+ghost use Rattle.dav_engine.specs.Headers.{Decodes, text_in};
+ghost use Rattle.dav_engine.specs.Put as spec;
+ghost use Rattle.dav_engine.specs.PutView.{put_headers_of};
+
+#[cfg(test)]
+mod tests;
+
+use crate::conditional::Conditions;
+use crate::headers::values_of;
+use crate::request::DavRequest;
+use dav_core::errors::NoMemory;
+use dav_headers::{ContentLength, ContentRange, ContentType, HeaderError, XUpdateRange};
+use http_header::{HeaderMap, HeaderName, HeaderValue};
+use std::alloc::Global;
+
+/// The part of a file that Content-Range tells.
+#[derive(Clone, Copy)]
+pub enum Bounds {
+    /// The header stands there, and is no range.
+    Unread,
+    /// All of the file: there is no such header, or it tells no bounds.
+    Whole,
+    /// From the first of these bytes to the second.
+    Within(u64, u64),
+}
+
+/// What the headers say.
+#[derive(Drop)]
+pub struct PutHeaders {
+    pub conditions: Conditions,
+    pub announced: Option<u64>,
+    pub range: Bounds,
+    pub is_partial: bool,
+    pub update: Option<XUpdateRange>,
+    pub checksum: Option<String>,
+}
+
+/// Where the bytes go, and how many are announced.
+#[derive(Clone, Copy)]
+pub struct Writing {
+    /// The place that they begin at; none where all of the file is replaced.
+    pub from: Option<u64>,
+    /// Whether they go to the end.
+    pub appends: bool,
+    /// How many there are to be.
+    pub announced: Option<u64>,
+}
+
+// The length that Content-Length announces.
+fn content_length(alloc: Global, headers: &HeaderMap) -> Result<Option<u64>, NoMemory>
+    ensures { IfOk result (λ length. Decodes IsContentLength (get_all headers.now (codes "content-length")) length) }
+{
+    let values = values_of(alloc, headers, HeaderName::from_static("content-length"))?;
+    decoded(alloc, &values)
+}
+
+// The length that X-Expected-Entity-Length announces.
+fn expected_length(alloc: Global, headers: &HeaderMap) -> Result<Option<u64>, NoMemory>
+    ensures { IfOk result (λ length. Decodes spec.IsExpectedLength (get_all headers.now (codes "x-expected-entity-length")) length) }
+{
+    let values = values_of(
+        alloc,
+        headers,
+        HeaderName::from_static("x-expected-entity-length"),
+    )?;
+    match values.as_slice() {
+        [first, ..] => decoded(alloc, std::slice::from_ref(first)),
+        [] => Ok(None),
+    }
+}
+
+// The number that all of these values are.
+fn decoded(alloc: Global, values: &[HeaderValue]) -> Result<Option<u64>, NoMemory>
+    ensures { IfOk result (λ length. Decodes IsContentLength values.now length) }
+{
+    match ContentLength::decode(alloc, values) {
+        Ok(length) => Ok(Some(length.0)),
+        Err(HeaderError::Invalid) => Ok(None),
+        Err(HeaderError::Memory) => Err(NoMemory),
+    }
+}
+
+// The length that is announced for the body.
+fn announced_length(alloc: Global, headers: &HeaderMap) -> Result<Option<u64>, NoMemory>
+    ensures { IfOk result (λ length. spec.IsAnnounced headers.now length) }
+{
+    let length = content_length(alloc, headers)?;
+    let expected = expected_length(alloc, headers)?;
+    Ok(length.or(expected))
+}
+
+// What Content-Range says.
+fn bounds_in(alloc: Global, headers: &HeaderMap) -> Result<Bounds, NoMemory>
+    ensures { IfOk result (λ bounds. spec.TellsBounds (get_all headers.now (codes "content-range")) bounds) }
+{
+    let values = values_of(alloc, headers, HeaderName::from_static("content-range"))?;
+    if values.is_empty() {
+        return Ok(Bounds::Whole);
+    }
+    match ContentRange::decode(alloc, &values) {
+        Ok(range) => Ok(bounds_of(&range)),
+        Err(_) => Ok(Bounds::Unread),
+    }
+}
+
+// The bounds of a range.
+fn bounds_of(range: &ContentRange) -> Bounds
+    ensures { result ≡ spec.bounds_of range.now.bounds }
+{
+    match range.bounds {
+        Some((first, last)) => Bounds::Within(first, last),
+        None => Bounds::Whole,
+    }
+}
+
+// Whether the body is a partial update.
+fn is_partial_update(alloc: Global, headers: &HeaderMap) -> Result<bool, NoMemory>
+    ensures { IfOk result (λ it. it ≡ spec.is_partial_update (get_all headers.now (codes "content-type"))) }
+{
+    let values = values_of(alloc, headers, HeaderName::from_static("content-type"))?;
+    match ContentType::decode(alloc, &values) {
+        Ok(kind) => Ok(kind.0.as_str() == "application/x-sabredav-partialupdate"),
+        Err(HeaderError::Invalid) => Ok(false),
+        Err(HeaderError::Memory) => Err(NoMemory),
+    }
+}
+
+// The bytes that a partial update replaces.
+fn update_in(alloc: Global, headers: &HeaderMap) -> Result<Option<XUpdateRange>, NoMemory>
+    ensures { IfOk result (λ range. Decodes IsUpdateRange (get_all headers.now (codes "x-update-range")) range) }
+{
+    let values = values_of(alloc, headers, HeaderName::from_static("x-update-range"))?;
+    match XUpdateRange::decode(alloc, &values) {
+        Ok(range) => Ok(Some(range)),
+        Err(_) => Ok(None),
+    }
+}
+
+// The text that a value is, where it is text.
+fn text_of(value: &HeaderValue) -> Option<&str>
+    ensures { option_map (λ t. t.now) result ≡ text_in (Some value.now) }
+{
+    match value.to_str() {
+        Ok(text) => Some(text),
+        Err(_) => None,
+    }
+}
+
+// The checksum that comes with a body, where it is text.
+fn checksum_in(alloc: Global, headers: &HeaderMap) -> Result<Option<String>, NoMemory>
+    ensures { IfOk result (λ checksum. option_map string_bytes checksum ≡ spec.checksum_in headers.now) }
+{
+    let Some(value) = headers.get(HeaderName::from_static("oc-checksum")) else {
+        return Ok(None);
+    };
+    match text_of(value) {
+        Some(text) => Ok(Some(String::from_str(alloc, text)?)),
+        None => Ok(None),
+    }
+}
+
+impl PutHeaders {
+    /// What the headers of a request say of its path; what doesn't decode counts as absent, but for Content-Range.
+    pub fn decode(alloc: Global, request: &DavRequest) -> Result<PutHeaders, NoMemory>
+        ensures { IfOk result (λ h. spec.ArePutHeaders request.now.headers request.now.path (put_headers_of h)) }
+    {
+        let headers = &request.headers;
+        Ok(PutHeaders {
+            conditions: Conditions::decode(alloc, request, &request.path)?,
+            announced: announced_length(alloc, headers)?,
+            range: bounds_in(alloc, headers)?,
+            is_partial: is_partial_update(alloc, headers)?,
+            update: update_in(alloc, headers)?,
+            checksum: checksum_in(alloc, headers)?,
+        })
+    }
+}

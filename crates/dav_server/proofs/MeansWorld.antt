@@ -1,0 +1,169 @@
+-- What the plans of requests do to worlds.
+use Rattle.std.proofs.Common.{◌≡◌, ℕ, ◌<◌, ◌≤◌, ◌==◌, Bool, true, false, true≢false, if◌then◌else◌, List, [], ◌∷◌, ◌++◌, map, All, Option, Some, None, Ok, inl, inr, refl, sym, ap, subst, ◌∙◌}
+use Rattle.std.proofs.lemmas.List.Elements.{All-nil, All-cons, All-head, All-tail}
+use Rattle.std.specs.Char.{to_ascii_lowercase}
+use Rattle.dav_core.specs.declared.errors.FsError.{FsError}
+use Rattle.dav_core.specs.declared.method.DavMethod.{DavMethod}
+use Rattle.dav_core.specs.declared.method.DavMethod.TheVariants.{Get, Head, Put, Patch}
+use Rattle.dav_core.specs.Asking.{StoreState}
+use Rattle.dav_core.specs.CallLaws.{IsStorable}
+use Rattle.dav_core.specs.Path.{Path, PathText, IsName, names, names_of, path_bytes, prefix_cut, cut_at, without_slash, star}
+use Rattle.dav_core.specs.Target.{Reads}
+use Rattle.dav_core.specs.World.{IsWorld, last_moment}
+use Rattle.dav_core.proofs.TargetLemmas.{Leaves-names, names_kept}
+use Rattle.dav_core.proofs.CutLemmas.{cut_keeps_names}
+use Rattle.dav_core.proofs.NamedLemmas.{named_once}
+use Rattle.dav_core.proofs.UrlLemmas.{Reads-bytes}
+use Rattle.dav_engine.specs.declared.request.Body.{Body}
+use Rattle.dav_engine.specs.Client.{Client}
+use Rattle.dav_engine.specs.Conditions.{is_reading}
+use Rattle.dav_engine.specs.Headers.{Headers}
+use Rattle.dav_engine.specs.Method.{Method}
+use Rattle.dav_engine.specs.Plan.{Locks}
+use Rattle.dav_engine.specs.Response.{Response}
+use Rattle.dav_engine.specs.WorldLaws.{IsReading, reads_done, IsProperPlan, proper_done}
+use Rattle.dav_engine.proofs.CallWorlds.{Kept, kept_same, kept_on}
+use Rattle.dav_engine.proofs.PutWorld.{put_is_proper, mkcol_is_proper}
+use Rattle.dav_engine.proofs.WorldPlans.{reading_leaves, proper_keeps}
+use Rattle.dav_server.specs.Get.{IsGet, is_get}
+use Rattle.dav_server.specs.Head.{Request, IsHead}
+use Rattle.dav_server.specs.Machine.{Settings, Asked, PlanOf, gets, heads, puts, patches, makes, not_yet, MeansOf, not_allowed, no_path, no_body, method, Means, no_head, no_method, known, Steps, steps}
+use Rattle.dav_server.specs.Method.{GivesServed}
+use Rattle.dav_server.specs.Run.{Turn, begun, Runs, no_more, one_more}
+use Rattle.dav_server.specs.TagLaws.{Asks, AreShowable, ReadingLeaves, RunsKeepWorlds}
+use Rattle.dav_server.specs.Target.{TargetNames, server, path}
+use Rattle.dav_server.proofs.GetWorld.{get_is_reading, get_is_proper}
+use Rattle.dav_server.proofs.HeadLemmas.{one_head}
+
+-- ---- the paths that targets name
+
+pub all_front : {X : Type 0} (P : X → Type 0) (xs ys : List X) → All P (xs ++ ys) → All P xs
+all_front P [] ys h = All-nil P
+all_front P (x ∷ xs) ys h = All-cons P x xs (All-head P x (xs ++ ys) h) (all_front P xs ys (All-tail P x (xs ++ ys) h))
+
+pub all_back : {X : Type 0} (P : X → Type 0) (xs ys : List X) → All P (xs ++ ys) → All P ys
+all_back P [] ys h = h
+all_back P (x ∷ xs) ys h = all_back P xs ys (All-tail P x (xs ++ ys) h)
+
+some_same : {A : Type 0} {a b : A} → ◌≡◌ {A = Option A} (Some a) (Some b) → a ≡ b
+some_same same = cc
+
+storable_root : IsStorable []
+storable_root = (All-nil IsName, All-nil (All (λ b. b < 256)))
+
+cut_short : (b : ℕ) (t : Bool) (p : PathText) → cut_at (b ∷ []) (if t then Some [] else None) ≡ Some p → names p ≡ []
+cut_short b true p h = ap names (sym (some_same h))
+cut_short b false p h = cc
+
+cut_long : (q : List ℕ) (t : Bool) (p : PathText) → cut_at q (if t then None else None) ≡ Some p → names p ≡ []
+cut_long q true p h = cc
+cut_long q false p h = cc
+
+-- behind a prefix of the star path are no names
+star_cut : (q : List ℕ) (p : PathText) → prefix_cut q star ≡ Some p → names p ≡ []
+star_cut [] p h = ap names (sym (some_same h))
+star_cut (b ∷ []) p h = cut_short b (b == 42) p h
+star_cut (b ∷ c ∷ q) p h = cut_long (b ∷ c ∷ q) (b == 42) p h
+
+-- behind a prefix of a path of names are names of it
+named_cut : (ns : Path) (closed : Bool) (q : List ℕ) (p : PathText) → All IsName ns → All (All (λ b. b < 256)) ns → prefix_cut q (path_bytes ns closed) ≡ Some p → IsStorable (names p)
+named_cut ns closed q p are small cut =
+    let (rest, end, split, behind) = cut_keeps_names ns closed q p are cut in
+    let kept : All IsName rest = all_back IsName (names_of q) rest (subst (All IsName) split are) in
+    let below : All (All (λ b. b < 256)) rest = all_back (All (λ b. b < 256)) (names_of q) rest (subst (All (All (λ b. b < 256))) split small) in
+    subst IsStorable (sym (ap names_of behind ∙ names_kept rest end kept)) (kept, below)
+
+read_cut : (text bytes q : List ℕ) (p : PathText) → Reads text bytes → prefix_cut q bytes ≡ Some p → IsStorable (names p)
+read_cut text bytes q p (inl (is, star_is)) cut =
+    subst IsStorable (sym (star_cut q p (subst (λ (b : List ℕ). prefix_cut q b ≡ Some p) star_is cut))) storable_root
+read_cut text bytes q p (inr (ns, closed, named, is)) cut =
+    let are : All IsName ns = Leaves-names _ ns named.leaves in
+    let small : All (All (λ b. b < 256)) ns = subst (All (All (λ b. b < 256))) (ap names_of is ∙ names_kept ns closed are) (Reads-bytes text bytes (inr (ns, closed, named, is))) in
+    named_cut ns closed q p are small (subst (λ (b : List ℕ). prefix_cut q b ≡ Some p) is cut)
+
+-- a node may stand at the path that a target names
+pub target_storable : {prefix target : List ℕ} {m : DavMethod} {p : PathText} → TargetNames prefix m target (Ok p) → IsStorable (names p)
+target_storable (server is options) = storable_root
+target_storable {prefix} (path {text} {bytes} {p} has reads cut) = read_cut text bytes (without_slash prefix) p reads cut
+
+-- ---- plans of calls that a caller may make
+
+proper_get : {m : DavMethod} {headers : Headers} {p : PathText} {now : ℕ} {plan : Method Response} → IsStorable (names p) → now ≤ last_moment → IsGet m headers p now plan → IsProperPlan plan
+proper_get {m} {p = p} {now} storable small (is_get c are) = get_is_proper m c (names p) now storable small
+
+plan_proper : {headers : Headers} {p : PathText} {body : Body} {who : Client} {m : DavMethod} {plan : Method Response} → IsStorable (names p) → who.moment ≤ last_moment → PlanOf headers p body who m plan → IsProperPlan plan
+plan_proper storable small (gets is) = proper_get storable small is
+plan_proper storable small (heads is) = proper_get storable small is
+plan_proper {headers} {p} {body} {who} {plan = plan} storable small (puts is) = put_is_proper Put headers p body who plan storable small is
+plan_proper {headers} {p} {body} {who} {plan = plan} storable small (patches is) = put_is_proper Patch headers p body who plan storable small is
+plan_proper {headers} {p} {who = who} {plan = plan} storable small (makes is) = mkcol_is_proper headers p who plan storable small is
+plan_proper storable small (not_yet out) = proper_done
+
+of_proper : {s : Settings} {x : Asked} {r : Request} {m : DavMethod} {plan : Method Response} → x.moment ≤ last_moment → MeansOf s x r m plan → IsProperPlan plan
+of_proper small (not_allowed out) = proper_done
+of_proper small (no_path e has none) = proper_done
+of_proper small (no_body p e has named bad) = proper_done
+of_proper small (method p body has named good is) = plan_proper (target_storable named) small is
+
+pub means_proper : {s : Settings} {x : Asked} {plan : Method Response} → x.moment ≤ last_moment → Means s x plan → IsProperPlan plan
+means_proper small (no_head out) = proper_done
+means_proper small (no_method r e is gives) = proper_done
+means_proper small (known r m is gives means) = of_proper small means
+
+-- ---- what steps and runs keep
+
+pub begun_world : (refusals : Option (List (Option FsError))) (old : StoreState) → (begun refusals old).world ≡ old.world
+begun_world None old = refl
+begun_world (Some list) old = refl
+
+step_keeps : {s : Settings} {x : Asked} {old new : StoreState} {ls ms : Locks} {reply : Response} → x.moment ≤ last_moment → IsWorld old.world → Steps s x old ls reply new ms → Kept old.world new.world
+step_keeps small world (steps plan outcome means ran) = proper_keeps (means_proper small means) world ran
+
+-- a turn keeps worlds, their numbers, and what is remembered of these
+pub turn_keeps : {s : Settings} (t : Turn) (old : StoreState) {new : StoreState} {ls ms : Locks} {reply : Response} → t.asked.moment ≤ last_moment → IsWorld old.world → Steps s t.asked (begun t.refusals old) ls reply new ms → Kept old.world new.world
+turn_keeps t old {new} small world step =
+    let same = begun_world t.refusals old in
+    subst (λ w. Kept w new.world) same (step_keeps small (subst IsWorld (sym same) world) step)
+
+-- and so does a run
+pub run_keeps : {s : Settings} {ts : List Turn} {old new : StoreState} {ls ms : Locks} {replies : List Response} → IsWorld old.world → AreShowable ts → Runs s ts old ls replies new ms → Kept old.world new.world
+run_keeps world small (no_more {old}) = kept_same old.world old.world world refl
+run_keeps world small (one_more {t} {ts} {old} {mid} {new} step rest) =
+    let first = turn_keeps t old (All-head (λ t. t.asked.moment ≤ last_moment) t ts small) world step in
+    kept_on old.world mid.world new.world first (run_keeps first.world (All-tail (λ t. t.asked.moment ≤ last_moment) t ts small) rest)
+
+pub runs_keep_worlds : RunsKeepWorlds
+runs_keep_worlds s ts old new ls ms replies world small ran = (run_keeps world small ran).world
+
+-- ---- reading
+
+-- a name is that of one method
+pub one_method : (text : List ℕ) (m n : DavMethod) → GivesServed text (Ok m) → GivesServed text (Ok n) → m ≡ n
+one_method text m n one two = named_once text m n (ap (map to_ascii_lowercase) one.1) (ap (map to_ascii_lowercase) two.1)
+
+-- a request has one method
+pub asks_one : (x : Asked) {r : Request} (m : DavMethod) {n : DavMethod} → Asks m x → IsHead x.head r → GivesServed r.method (Ok n) → n ≡ m
+asks_one x {r} m {n} (q, head, gives) also too =
+    one_method r.method n m too (subst (λ (h : Request). GivesServed h.method (Ok m)) (one_head x.head q r head also) gives)
+
+plan_reads : {headers : Headers} {p : PathText} {body : Body} {who : Client} {m : DavMethod} {plan : Method Response} → is_reading m ≡ true → PlanOf headers p body who m plan → IsReading plan
+plan_reads {p = p} {who = who} is (gets (is_get c are)) = get_is_reading Get c (names p) who.moment
+plan_reads {p = p} {who = who} is (heads (is_get c are)) = get_is_reading Head c (names p) who.moment
+plan_reads is (puts out) = absurd (true≢false (sym is))
+plan_reads is (patches out) = absurd (true≢false (sym is))
+plan_reads is (makes out) = absurd (true≢false (sym is))
+plan_reads is (not_yet out) = reads_done
+
+of_reads : {s : Settings} {x : Asked} {r : Request} {m : DavMethod} {plan : Method Response} → is_reading m ≡ true → MeansOf s x r m plan → IsReading plan
+of_reads is (not_allowed out) = reads_done
+of_reads is (no_path e has none) = reads_done
+of_reads is (no_body p e has named bad) = reads_done
+of_reads is (method p body has named good plan) = plan_reads is plan
+
+means_reads : {s : Settings} (x : Asked) (m : DavMethod) {plan : Method Response} → Asks m x → is_reading m ≡ true → Means s x plan → IsReading plan
+means_reads x m asks is (no_head out) = reads_done
+means_reads x m asks is (no_method r e head gives) = reads_done
+means_reads x m asks is (known r n head gives means) = of_reads (ap is_reading (asks_one x m asks head gives) ∙ is) means
+
+pub reads_leave_all : ReadingLeaves
+reads_leave_all s x old new ls ms reply m asks is (steps plan outcome means ran) = reading_leaves (means_reads x m asks is means) ran

@@ -1,0 +1,81 @@
+-- Entity tags over whole runs (RFC 9110, sections 8.8.1 and 13), and what reading leaves.
+use Rattle.std.specs.Prelude.{◌≡◌, ℕ, ◌≤◌, ◌++◌, true, List, [], ◌∷◌, All, Contains, codes, Some, Ok}
+use Rattle.std.specs.List.{zip}
+use Rattle.http_header.specs.HeaderMap.{get_all}
+use Rattle.dav_core.specs.declared.method.DavMethod.{DavMethod}
+use Rattle.dav_core.specs.declared.method.DavMethod.TheVariants.{Get}
+use Rattle.dav_core.specs.Asking.{StoreState}
+use Rattle.dav_core.specs.Path.{PathText, names}
+use Rattle.dav_core.specs.World.{Node, File, node_at, last_moment, IsWorld}
+use Rattle.dav_headers.specs.ETag.{EntityTag, tag_text}
+use Rattle.dav_headers.specs.ETagList.{tags, IsTagList}
+use Rattle.dav_engine.specs.declared.reply.ReplyBody.TheVariants as body
+use Rattle.dav_engine.specs.Conditions.{is_reading}
+use Rattle.dav_engine.specs.Plan.{Locks}
+use Rattle.dav_engine.specs.Response.{Response}
+use Rattle.dav_server.specs.Head.{Request, IsHead}
+use Rattle.dav_server.specs.Headers.{headers_of}
+use Rattle.dav_server.specs.Machine.{Asked, Settings, Steps}
+use Rattle.dav_server.specs.Method.{GivesServed}
+use Rattle.dav_server.specs.Run.{Turn, begun, Runs}
+use Rattle.dav_server.specs.Target.{TargetNames}
+
+-- a request has this method, by its head
+abbrev pub Asks : DavMethod → Asked → Type 0
+Asks m x = (r : Request) × IsHead x.head r × GivesServed r.method (Ok m)
+
+-- the reply shows these bytes with this entity tag
+pub record Shows (tag bytes : List ℕ) (reply : Response) : Type 0 where
+  pub status : reply.status ≡ 200
+  pub tag_is : Contains reply.headers (codes "etag", tag)
+  pub bytes_are : reply.body ≡ body.Bytes bytes
+
+-- a GET among these requests was answered so
+abbrev pub ShownIn : List Turn → List Response → List ℕ → List ℕ → Type 0
+ShownIn ts replies tag bytes =
+    (t : Turn) × (reply : Response) × Contains (zip ts replies) (t, reply) × Asks Get t.asked × Shows tag bytes reply
+
+-- equal tags show equal bytes, at any paths and moments
+abbrev pub EqualTagsShowEqualBytes : List Turn → List Response → Type 0
+EqualTagsShowEqualBytes ts replies =
+    (tag bytes others : List ℕ) → ShownIn ts replies tag bytes → ShownIn ts replies tag others → bytes ≡ others
+
+-- the moments of the requests can be shown
+abbrev pub AreShowable : List Turn → Type 0
+AreShowable ts = All (λ t. t.asked.moment ≤ last_moment) ts
+
+-- In a run that begins with a world, under any refusals, equal tags show equal bytes.
+abbrev pub TagsTellBytes : Type 0
+TagsTellBytes =
+    (s : Settings) (ts : List Turn) (old new : StoreState) (ls ms : Locks) (replies : List Response)
+    → IsWorld old.world → AreShowable ts → Runs s ts old ls replies new ms → EqualTagsShowEqualBytes ts replies
+
+-- the target of a request names this path, and its If-None-Match says this one tag
+abbrev pub LacksTag : Settings → Asked → PathText → EntityTag → Type 0
+LacksTag s x p tag =
+    (r : Request) × (m : DavMethod)
+    × IsHead x.head r × GivesServed r.method (Ok m) × TargetNames s.prefix m r.target (Ok p)
+    × IsTagList (get_all (headers_of r.fields) (codes "if-none-match")) (tags (tag ∷ []))
+
+-- A 304 to an If-None-Match of one tag means that the file has the bytes that any GET of the run shows with that tag.
+abbrev pub NotModifiedIsTrue : Type 0
+NotModifiedIsTrue =
+    (s : Settings) (front back : List Turn) (t : Turn) (old mid end new : StoreState) (ls ks js ms : Locks)
+    (replies more : List Response) (reply : Response) (p : PathText) (tag : EntityTag) (bytes : List ℕ)
+    → IsWorld old.world → AreShowable (front ++ t ∷ back)
+    → Runs s front old ls replies mid ks → Steps s t.asked (begun t.refusals mid) ks reply end js → Runs s back end js more new ms
+    → reply.status ≡ 304 → LacksTag s t.asked p tag
+    → ShownIn (front ++ t ∷ back) (replies ++ reply ∷ more) (tag_text tag.weak tag.tag) bytes
+    → (n : Node) × (node_at mid.world (names p) ≡ Some n) × (n.kind ≡ File bytes)
+
+-- GET and HEAD leave the world and the list of locks as they were.
+abbrev pub ReadingLeaves : Type 0
+ReadingLeaves =
+    (s : Settings) (x : Asked) (old new : StoreState) (ls ms : Locks) (reply : Response) (m : DavMethod)
+    → Asks m x → is_reading m ≡ true → Steps s x old ls reply new ms → (new.world ≡ old.world) × (ms ≡ ls)
+
+-- A run that begins with a world ends with one (RFC 4918, section 5.1).
+abbrev pub RunsKeepWorlds : Type 0
+RunsKeepWorlds =
+    (s : Settings) (ts : List Turn) (old new : StoreState) (ls ms : Locks) (replies : List Response)
+    → IsWorld old.world → AreShowable ts → Runs s ts old ls replies new ms → IsWorld new.world
