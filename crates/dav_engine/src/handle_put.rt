@@ -405,6 +405,8 @@ impl<'a, 'b, 'c, F: DavFileSystem, L: DavLockSystem> DavInner<'a, 'b, 'c, F, L> 
         requires { self.old.caller.now.moment ≤ last_moment }
         ensures same_fs { self.new.fs.ghost_name ≡ self.old.fs.ghost_name }
         ensures same_ls { self.new.ls.ghost_name ≡ self.old.ls.ghost_name }
+        ensures same_allow { self.new.allow ≡ self.old.allow }
+        ensures same_caller { self.new.caller ≡ self.old.caller }
         ensures serves { Serves (spec.IsPut request.now.method request.now.headers request.now.path body.now (client_of self.old.caller.now)) (F.state self.old.fs.now) (option_map L.locks self.old.ls.now) result (F.state self.new.fs.now) (option_map L.locks self.new.ls.now) }
     {
         let headers = PutHeaders::decode(alloc, request)?;
