@@ -32,8 +32,8 @@ WantIsLikeRefusals =
     → Ran Asks plan old ls a new ms
     → (refusals : List (Option FsError)) × Ran Asks plan (ample old.world refusals) ls a (ample new.world []) ms
 
--- Want of memory in the midst of a plan leaves the store as some refusals leave it, of all calls that were to come among them;
--- the list of locks is as they leave it, or as it was before the request.
+-- Want of memory in the midst of a plan leaves the store as some list of refusals leaves it with memory enough; the list of locks
+-- is as they leave it, or as it was before the request.
 abbrev pub CutsAreLikeRefusals : Type 0
 CutsAreLikeRefusals =
     (plan : Method Response) (old new : StoreState) (first ls ms : Locks)

@@ -109,6 +109,7 @@ impl<'a, 'b, 'c, F: DavFileSystem, L: DavLockSystem> DavInner<'a, 'b, 'c, F, L> 
         ensures same_ls { self.new.ls.ghost_name ≡ self.old.ls.ghost_name }
         ensures same_allow { self.new.allow ≡ self.old.allow }
         ensures same_caller { self.new.caller ≡ self.old.caller }
+        ensures same_locks { option_map L.locks self.new.ls.now ≡ option_map L.locks self.old.ls.now }
         ensures serves { Serves (spec.IsMkcol request.now.headers request.now.path (client_of self.old.caller.now)) (F.state self.old.fs.now) (option_map L.locks self.old.ls.now) result (F.state self.new.fs.now) (option_map L.locks self.new.ls.now) }
     {
         let conditions = Conditions::decode(alloc, request, &request.path)?;

@@ -392,7 +392,7 @@ impl<'a, 'b, 'c, F: DavFileSystem, L: DavLockSystem> DavInner<'a, 'b, 'c, F, L> 
     ///
     /// Each of these closes the connection, and the first that applies is answered: for PATCH 415 where the body isn't
     /// `application/x-sabredav-partialupdate`, 411 without a length, 400 without X-Update-Range, 416 for one that isn't as long as
-    /// the body or begins before the file; 400 for a Content-Range that isn't one, 416 for one that isn't as long as the body; 412
+    /// announced or begins before the file; 400 for a Content-Range that isn't one, 416 for one that isn't as long as announced; 412
     /// where a condition fails; 423 where a lock is in the way; 400 for a body that isn't of the announced length; 412 or 409 where
     /// the file isn't there or is, or no folder is above it; 416 where the place isn't found. Each other refusal of the store is
     /// its own status. 415 for an element tree, before anything else.
@@ -407,6 +407,7 @@ impl<'a, 'b, 'c, F: DavFileSystem, L: DavLockSystem> DavInner<'a, 'b, 'c, F, L> 
         ensures same_ls { self.new.ls.ghost_name ≡ self.old.ls.ghost_name }
         ensures same_allow { self.new.allow ≡ self.old.allow }
         ensures same_caller { self.new.caller ≡ self.old.caller }
+        ensures same_locks { option_map L.locks self.new.ls.now ≡ option_map L.locks self.old.ls.now }
         ensures serves { Serves (spec.IsPut request.now.method request.now.headers request.now.path body.now (client_of self.old.caller.now)) (F.state self.old.fs.now) (option_map L.locks self.old.ls.now) result (F.state self.new.fs.now) (option_map L.locks self.new.ls.now) }
     {
         let headers = PutHeaders::decode(alloc, request)?;

@@ -22,7 +22,7 @@ pub fn want_is_like_refusals()
     ensures { WantIsLikeRefusals }
 {}
 
-/// Want of memory in the midst of a plan is like refusals of all calls that were to come.
+/// Want of memory in the midst of a plan leaves the store as some refusals of its calls leave it.
 #[tactic(auto, using(crate::proofs::PlanAnswers::cuts_are_like_refusals))]
 pub fn cuts_are_like_refusals()
     ensures { CutsAreLikeRefusals }

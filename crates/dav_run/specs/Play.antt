@@ -10,6 +10,8 @@ use Rattle.dav_server.specs.Run.{Turn, Runs}
 use Rattle.dav_server.specs.Setup.{IsPrefix}
 use Rattle.dav_run.specs.Script.{ScriptRequest, ScriptContent, IsShort, IsScript}
 use Rattle.dav_run.specs.Print.{lines_of}
+use Rattle.dav_run.specs.declared.play.Fault.{Fault}
+use Rattle.dav_run.specs.declared.play.Fault.TheVariants.{NotScript, Io, Memory}
 
 -- a request of a script, with the calls of the store that are refused while it is answered; nobody is said to make it
 abbrev pub turn_for : ScriptRequest → Turn
@@ -38,3 +40,9 @@ Plays text lines =
     × IsShort text × IsScript text s × IsPrefix s.prefix
     × Runs (settings_for s) (map turn_for s.requests) (new_store s) (Some []) (map response_of replies) left locks
     × (lines ≡ lines_of replies)
+
+-- the status that the program ends with where it meets a fault
+abbrev pub fault_status : Fault → ℕ
+fault_status NotScript = 1
+fault_status Io = 2
+fault_status Memory = 3

@@ -5,7 +5,7 @@ ghost use Rattle.dav_run.specs.Print.{lines_of};
 ghost use Rattle.dav_run.specs.Script.{IsScript, IsShort, script_request, script_content};
 ghost use Rattle.dav_server.specs.Setup.{IsPrefix, settings};
 ghost use Rattle.dav_server.specs.Turns.{step_turn, memory_state};
-ghost use Rattle.dav_run.specs.Play.{Plays, IsPlayable, settings_for, new_store, turn_for};
+ghost use Rattle.dav_run.specs.Play.{Plays, IsPlayable, settings_for, new_store, turn_for, fault_status};
 ghost use Rattle.dav_run.specs.declared.play.Fault.TheVariants.{NotScript, Io, Memory};
 
 use crate::print::reply_line;
@@ -108,9 +108,18 @@ pub fn play<R: Read, W: Write>(alloc: Global, reader: &mut R, writer: &mut W) ->
 {
     match play_through(alloc, reader, writer) {
         Ok(()) => PLAYED,
-        Err(Fault::NotScript) => NOT_SCRIPT,
-        Err(Fault::Io) => IO_FAILED,
-        Err(Fault::Memory) => OUT_OF_MEMORY,
+        Err(fault) => status_of(fault),
+    }
+}
+
+// The status of a fault.
+fn status_of(fault: Fault) -> u8
+    ensures { result ≡ fault_status fault }
+{
+    match fault {
+        Fault::NotScript => NOT_SCRIPT,
+        Fault::Io => IO_FAILED,
+        Fault::Memory => OUT_OF_MEMORY,
     }
 }
 
@@ -231,6 +240,8 @@ fn write_replies<W: Write>(alloc: Global, replies: &[Reply], writer: &mut W) -> 
 
 #[cfg(test)]
 mod publishing;
+#[cfg(test)]
+mod refused_steps;
 #[cfg(test)]
 mod tests;
 #[cfg(test)]

@@ -1,5 +1,5 @@
 //! The handler: from a request to its reply (RFC 9110; RFC 4918).
-ghost use Rattle.std.specs.Prelude.{◌≡◌, ◌≢◌, ◌≤◌, ◌↔◌, IsTrue, Ok, IfOk, OnErr};
+ghost use Rattle.std.specs.Prelude.{◌≡◌, ◌≢◌, ◌≤◌, ◌↔◌, ◌⊎◌, [], IsTrue, Ok, IfOk, OnErr};
 ghost use Rattle.dav_core.specs.Method.{Has};
 ghost use Rattle.std.specs.Option.{option_map, option_copied};
 ghost use Rattle.dav_core.specs.declared.errors.DavError.TheVariants.{Memory};
@@ -14,10 +14,13 @@ ghost use Rattle.dav_server.specs.Machine.{client, PlanOf, Means, MeansOf, Steps
 ghost use Rattle.dav_server.specs.Headers.{headers_of};
 ghost use Rattle.dav_core.specs.Target.{Reads};
 ghost use Rattle.dav_server.specs.Setup.{IsPrefix, settings, asked};
+ghost use Rattle.dav_server.specs.Target.{BeginsWithSlash};
 ghost use Rattle.std.specs.Result.{IsErrOf};
 
 #[cfg(test)]
 mod engine_calls;
+#[cfg(test)]
+mod held;
 #[cfg(test)]
 pub(crate) mod tests;
 
@@ -106,7 +109,8 @@ fn is_kept(alloc: Global, text: &str) -> Result<bool, NoMemory>
 
 // Whether a text is a prefix.
 fn is_prefix(alloc: Global, text: &str) -> Result<bool, NoMemory>
-    ensures { IfOk result (λ it. IsTrue it ↔ IsPrefix text.now) }
+    ensures ok { IfOk result (λ it. IsTrue it ↔ IsPrefix text.now) }
+    ensures memory { OnErr result (BeginsWithSlash text.now) }
 {
     if text.is_empty() {
         return Ok(true);
@@ -120,7 +124,8 @@ fn is_prefix(alloc: Global, text: &str) -> Result<bool, NoMemory>
 impl<F: DavFileSystem + Drop, L: DavLockSystem + Drop> DavHandler<F, L> {
     /// A handler of a store, and of locks where there is a lock system, for the paths below a prefix and the methods that are
     /// allowed. `BadPrefix` for a prefix that isn't empty and isn't a text that begins with a slash and that `DavPath::new`
-    /// keeps byte for byte. A refusal drops the store and the locks.
+    /// keeps byte for byte; `Memory` for want of memory, and not for a text that begins with another byte. A refusal drops the
+    /// store and the locks.
     pub fn new(
         alloc: Global,
         prefix: &str,
@@ -130,6 +135,7 @@ impl<F: DavFileSystem + Drop, L: DavLockSystem + Drop> DavHandler<F, L> {
     ) -> Result<DavHandler<F, L>, HandlerError>
         ensures ok { IfOk result (λ h. IsPrefix prefix.now × (settings h ≡ record { prefix = prefix.now; allowed = allowed }) × (h.fs ≡ fs) × (h.ls ≡ ls)) }
         ensures bad { IsErrOf result HandlerError.BadPrefix → ¬ IsPrefix prefix.now }
+        ensures memory { IsErrOf result HandlerError.Memory → (prefix.now ≡ []) ⊎ BeginsWithSlash prefix.now }
     {
         if !is_prefix(alloc, prefix)? {
             return Err(HandlerError::BadPrefix);

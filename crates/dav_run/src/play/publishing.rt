@@ -4,40 +4,40 @@ use super::whole_scripts::{
 };
 use super::*;
 
-const MKCOL_D: &str = r#"{"head":"MKCOL /d HTTP/1.1\r\n\r\n","moment":1}"#;
+pub(super) const MKCOL_D: &str = r#"{"head":"MKCOL /d HTTP/1.1\r\n\r\n","moment":1}"#;
 
-const FOLDER_MADE: &str = r#"{"body":null,"headers":{},"status":201}"#;
+pub(super) const FOLDER_MADE: &str = r#"{"body":null,"headers":{},"status":201}"#;
 
-const PUT_F: &str =
+pub(super) const PUT_F: &str =
     r#"{"head":"PUT /f HTTP/1.1\r\nContent-Length: 1\r\n\r\n","body":{"text":"x"},"moment":1}"#;
 
-const F_MADE: &str =
+pub(super) const F_MADE: &str =
     r#"{"body":null,"headers":{"accept-ranges":"bytes","content-length":"0","etag":"\"2\"","last-modified":"Thu, 01 Jan 1970 00:00:01 GMT"},"status":201}"#;
 
-const GET_F: &str = r#"{"head":"GET /f HTTP/1.1\r\n\r\n","moment":1}"#;
+pub(super) const GET_F: &str = r#"{"head":"GET /f HTTP/1.1\r\n\r\n","moment":1}"#;
 
-const F_SHOWN: &str =
+pub(super) const F_SHOWN: &str =
     r#"{"body":{"hex":"78"},"headers":{"content-length":"1","content-type":"application/octet-stream","etag":"\"2\"","last-modified":"Thu, 01 Jan 1970 00:00:01 GMT"},"status":200}"#;
 
 const CONFLICT: &str = r#"{"body":null,"headers":{"content-length":"0"},"status":409}"#;
 
-const FAILED_CLOSED: &str =
+pub(super) const FAILED_CLOSED: &str =
     r#"{"body":null,"headers":{"connection":"close","content-length":"0"},"status":412}"#;
 
 const TOO_LARGE: &str = r#"{"body":null,"headers":{"content-length":"0"},"status":413}"#;
 
-const NO_RANGE_CLOSED: &str =
+pub(super) const NO_RANGE_CLOSED: &str =
     r#"{"body":null,"headers":{"connection":"close","content-length":"0"},"status":416}"#;
 
 // The line of a file that was replaced, by the number that it then has.
-fn replaced(alloc: Global, number: &str) -> Result<String, AllocError> {
+pub(super) fn replaced(alloc: Global, number: &str) -> Result<String, AllocError> {
     format!(in alloc;
         "{{\"body\":null,\"headers\":{{\"accept-ranges\":\"bytes\",\"etag\":\"\\\"{number}\\\"\",\"last-modified\":\"Thu, 01 Jan 1970 00:00:01 GMT\"}},\"status\":204}}"
     )
 }
 
 // The line of a file that is shown.
-fn got(alloc: Global, hex: &str, len: u32, number: &str) -> Result<String, AllocError> {
+pub(super) fn got(alloc: Global, hex: &str, len: u32, number: &str) -> Result<String, AllocError> {
     format!(in alloc;
         "{{\"body\":{{\"hex\":\"{hex}\"}},\"headers\":{{\"content-length\":\"{len}\",\"content-type\":\"application/octet-stream\",\"etag\":\"\\\"{number}\\\"\",\"last-modified\":\"Thu, 01 Jan 1970 00:00:01 GMT\"}},\"status\":200}}"
     )
@@ -207,7 +207,7 @@ fn replaces_parts(rt: HostRuntime) -> Result<(), AllocError> {
 }
 
 // A PUT under an If header, one after another on one file: the numbers rise by two with each that succeeds.
-fn put_under(alloc: Global, value: &str) -> Result<String, AllocError> {
+pub(super) fn put_under(alloc: Global, value: &str) -> Result<String, AllocError> {
     format!(in alloc;
         "{{\"head\":\"PUT /f HTTP/1.1\\r\\nContent-Length: 1\\r\\nIf: {value}\\r\\n\\r\\n\",\"body\":{{\"text\":\"x\"}},\"moment\":1}}"
     )

@@ -18,9 +18,9 @@ const BAD_REQUEST: &str = r#"{"body":null,"headers":{"content-length":"0"},"stat
 pub(super) const BAD_REQUEST_CLOSED: &str =
     r#"{"body":null,"headers":{"connection":"close","content-length":"0"},"status":400}"#;
 
-const FORBIDDEN: &str = r#"{"body":null,"headers":{"content-length":"0"},"status":403}"#;
+pub(super) const FORBIDDEN: &str = r#"{"body":null,"headers":{"content-length":"0"},"status":403}"#;
 
-const NOT_FOUND: &str = r#"{"body":null,"headers":{"content-length":"0"},"status":404}"#;
+pub(super) const NOT_FOUND: &str = r#"{"body":null,"headers":{"content-length":"0"},"status":404}"#;
 
 pub(super) const NOT_ALLOWED: &str =
     r#"{"body":null,"headers":{"content-length":"0"},"status":405}"#;
@@ -41,7 +41,7 @@ const FAILED: &str = r#"{"body":null,"headers":{"content-length":"0"},"status":5
 
 const BAD_GATEWAY: &str = r#"{"body":null,"headers":{"content-length":"0"},"status":502}"#;
 
-const NO_ROOM: &str = r#"{"body":null,"headers":{"content-length":"0"},"status":507}"#;
+pub(super) const NO_ROOM: &str = r#"{"body":null,"headers":{"content-length":"0"},"status":507}"#;
 
 // Sees that the requests, played in order, are answered by the lines.
 pub(super) fn assert_answers<R: Abort + AllocGlobal>(

@@ -186,12 +186,6 @@ fn makes_a_folder_by_the_engine_alone(rt: HostRuntime) -> Result<(), Fail> {
     let mkcol = request(rt.alloc(), DavMethod::MkCol, &[])?;
     let reply = inner.handle_mkcol(rt.alloc(), &mkcol, &Body::None)?;
     assert_eq!(rt; shown(rt.alloc(), &reply)?.as_str(), "201\n");
-    let mut inner = DavInner {
-        fs: &mut fs,
-        ls: &mut ls,
-        allow: DavMethodSet::all(),
-        caller: &caller,
-    };
     let again = inner.handle_mkcol(rt.alloc(), &mkcol, &Body::None);
     assert_eq!(rt;
         again.err().map(|e| e.statuscode()),

@@ -61,6 +61,36 @@ fn runs_requests_in_order(rt: HostRuntime) -> Result<(), Fail> {
     Ok(())
 }
 
+// A file in a folder: the folder took the number 1, and the file 2 and 3.
+#[test]
+fn runs_a_folder_with_a_file(rt: HostRuntime) -> Result<(), Fail> {
+    let fs = MemFs::new(rt.alloc())?;
+    let mut server: DavHandler<MemFs, MemLs> = DavHandler::new(
+        rt.alloc(),
+        "",
+        DavMethodSet::all(),
+        fs,
+        None,
+    )?;
+    let exchanges = [
+        exchange(b"MKCOL /d HTTP/1.1\r\n\r\n", b"")?,
+        exchange(b"PUT /d/a HTTP/1.1\r\nContent-Length: 3\r\n\r\n", b"one")?,
+        exchange(b"GET /d/a HTTP/1.1\r\n\r\n", b"")?,
+    ];
+    let replies = server.run(rt.alloc(), &exchanges).map_err(|_| NoMemory)?;
+    assert_eq!(rt; replies.len(), 3);
+    assert_eq!(rt; shown(rt.alloc(), &replies[0])?.as_str(), "201\n");
+    assert_eq!(rt;
+        shown(rt.alloc(), &replies[1])?.as_str(),
+        "201\naccept-ranges: bytes\ncontent-length: 0\netag: \"3\"\nlast-modified: Thu, 01 Jan 1970 00:00:01 GMT\n"
+    );
+    assert_eq!(rt;
+        shown(rt.alloc(), &replies[2])?.as_str(),
+        "200\ncontent-length: 3\ncontent-type: application/octet-stream\netag: \"3\"\nlast-modified: Thu, 01 Jan 1970 00:00:01 GMT\n\none"
+    );
+    Ok(())
+}
+
 #[test]
 fn runs_requests_without_refusals(rt: HostRuntime) -> Result<(), Fail> {
     let mut server = server(rt.alloc())?;
