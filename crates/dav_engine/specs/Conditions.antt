@@ -72,7 +72,7 @@ abbrev pub tag_found : Option DavMetaData → Option EntityTag
 tag_found None = None
 tag_found (Some m) = option_map (λ number. record { weak = false; tag = digits 16 false number }) m.number
 
--- the strong comparison (RFC 9110, section 8.8.3.2)
+-- the strong comparison (RFC 9110, section 8.8.3.2), in If-None-Match too, where the standard takes the weak one
 abbrev pub is_strong_match : EntityTag → EntityTag → Bool
 is_strong_match e f = not e.weak && not f.weak && bytes_eq e.tag f.tag
 

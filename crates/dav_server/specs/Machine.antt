@@ -12,7 +12,7 @@ use Rattle.dav_engine.specs.declared.request.Body.{Body}
 use Rattle.dav_engine.specs.declared.request.Body.TheVariants as body
 use Rattle.dav_engine.specs.Headers.{Headers}
 use Rattle.dav_engine.specs.Method.{Method, fails}
-use Rattle.dav_engine.specs.Plan.{Locks, Ran, Cut}
+use Rattle.dav_engine.specs.Plan.{Locks, Step, Ran, Cut}
 use Rattle.dav_engine.specs.Client.{Client}
 use Rattle.dav_engine.specs.Mkcol.{IsMkcol}
 use Rattle.dav_engine.specs.Put.{IsPut}
@@ -109,13 +109,22 @@ pub data Means (s : Settings) (x : Asked) : Method Response → Type 0 where
   no_method : (r : Request) (e : DavError) → IsHead x.head r → GivesServed r.method (Err e) → Means s x (fails e)
   known : (r : Request) (m : DavMethod) {plan : Method Response} → IsHead x.head r → GivesServed r.method (Ok m) → MeansOf s x r m plan → Means s x plan
 
--- One step of the machine: the reply to a request, and the store and the list of locks that it leaves.
-pub data Steps (s : Settings) (x : Asked) (old : StoreState) (ls : Locks) : Response → StoreState → Locks → Type 0 where
+-- One step of the machine over stores that answer each call by this relation: the reply to a request, and the store and the list of
+-- locks that it leaves.
+pub data StepsBy (step : Step) (s : Settings) (x : Asked) (old : StoreState) (ls : Locks) : Response → StoreState → Locks → Type 0 where
   steps : (plan : Method Response) (outcome : Result Response DavError) {new : StoreState} {ms : Locks}
-      → Means s x plan → Ran Asks plan old ls outcome new ms → Steps s x old ls (reply_to outcome) new ms
+      → Means s x plan → Ran step plan old ls outcome new ms → StepsBy step s x old ls (reply_to outcome) new ms
+
+-- one step of the machine over any lawful store
+abbrev pub Steps : Settings → Asked → StoreState → Locks → Response → StoreState → Locks → Type 0
+Steps = StepsBy Asks
 
 -- Memory ran out in a step: nothing was done, or the first calls of its plan were made, each of them whole. The list of locks is
 -- as before, or as the plan leaves it where each later call is refused.
-pub data StepCut (s : Settings) (x : Asked) (old : StoreState) (ls : Locks) : StoreState → Locks → Type 0 where
-  untouched : StepCut s x old ls old ls
-  cut : (plan : Method Response) {new : StoreState} {ms : Locks} → Means s x plan → Cut Asks ls plan old ls new ms → StepCut s x old ls new ms
+pub data StepCutBy (step : Step) (s : Settings) (x : Asked) (old : StoreState) (ls : Locks) : StoreState → Locks → Type 0 where
+  untouched : StepCutBy step s x old ls old ls
+  cut : (plan : Method Response) {new : StoreState} {ms : Locks} → Means s x plan → Cut step ls plan old ls new ms → StepCutBy step s x old ls new ms
+
+-- the same over any lawful store
+abbrev pub StepCut : Settings → Asked → StoreState → Locks → StoreState → Locks → Type 0
+StepCut = StepCutBy Asks

@@ -1,10 +1,10 @@
 -- Runs of the machine.
 use Rattle.std.specs.Prelude.{◌≡◌, ◌++◌, false, List, [], ◌∷◌, Option, Some, None}
 use Rattle.dav_core.specs.declared.errors.FsError.{FsError}
-use Rattle.dav_core.specs.Asking.{StoreState}
-use Rattle.dav_engine.specs.Plan.{Locks}
+use Rattle.dav_core.specs.Asking.{StoreState, Asks}
+use Rattle.dav_engine.specs.Plan.{Locks, Step}
 use Rattle.dav_engine.specs.Response.{Response}
-use Rattle.dav_server.specs.Machine.{Asked, Settings, Steps, StepCut}
+use Rattle.dav_server.specs.Machine.{Asked, Settings, StepsBy, StepCutBy}
 
 -- A turn: a request, and where it says so the list of the calls that the store will refuse from then on.
 pub record Turn : Type 0 where
@@ -16,17 +16,27 @@ abbrev pub begun : Option (List (Option FsError)) → StoreState → StoreState
 begun None s = s
 begun (Some refusals) s = record s { refusals = refusals }
 
--- A run of the machine: the replies to the requests, one step after another, and the store and the list of locks that are left.
-pub data Runs (s : Settings) : List Turn → StoreState → Locks → List Response → StoreState → Locks → Type 0 where
-  no_more : {old : StoreState} {ls : Locks} → Runs s [] old ls [] old ls
+-- A run of the machine over stores that answer each call by this relation: the replies to the requests, one step after another, and
+-- the store and the list of locks that are left.
+pub data RunsBy (step : Step) (s : Settings) : List Turn → StoreState → Locks → List Response → StoreState → Locks → Type 0 where
+  no_more : {old : StoreState} {ls : Locks} → RunsBy step s [] old ls [] old ls
   one_more : {t : Turn} {ts : List Turn} {old mid new : StoreState} {ls ks ms : Locks} {reply : Response} {replies : List Response}
-      → Steps s t.asked (begun t.refusals old) ls reply mid ks → Runs s ts mid ks replies new ms → Runs s (t ∷ ts) old ls (reply ∷ replies) new ms
+      → StepsBy step s t.asked (begun t.refusals old) ls reply mid ks → RunsBy step s ts mid ks replies new ms
+      → RunsBy step s (t ∷ ts) old ls (reply ∷ replies) new ms
+
+-- a run of the machine over any lawful store
+abbrev pub Runs : Settings → List Turn → StoreState → Locks → List Response → StoreState → Locks → Type 0
+Runs = RunsBy Asks
 
 -- These replies, perhaps none, are those of a run of the first requests; in the next one memory ran out, and this is left.
-abbrev pub RanInPart : Settings → List Turn → StoreState → Locks → List Response → StoreState → Locks → Type 0
-RanInPart s ts old ls replies new ms =
+abbrev pub RanInPartBy : Step → Settings → List Turn → StoreState → Locks → List Response → StoreState → Locks → Type 0
+RanInPartBy step s ts old ls replies new ms =
     (front : List Turn) × (t : Turn) × (rest : List Turn) × (mid : StoreState) × (ks : Locks)
-    × (ts ≡ front ++ t ∷ rest) × Runs s front old ls replies mid ks × StepCut s t.asked (begun t.refusals mid) ks new ms
+    × (ts ≡ front ++ t ∷ rest) × RunsBy step s front old ls replies mid ks × StepCutBy step s t.asked (begun t.refusals mid) ks new ms
+
+-- the same over any lawful store
+abbrev pub RanInPart : Settings → List Turn → StoreState → Locks → List Response → StoreState → Locks → Type 0
+RanInPart = RanInPartBy Asks
 
 -- Where memory was never wanted, a run is determined: its replies, and what it leaves.
 abbrev pub RunsAreDetermined : Type 0

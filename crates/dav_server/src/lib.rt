@@ -1,4 +1,4 @@
-//! A WebDAV server: from the bytes of a request to what its method is handed (RFC 9112; RFC 4918, section 8).
+//! A WebDAV server: from the bytes of a request to its reply, and whole runs (RFC 9112; RFC 4918, section 8).
 #![tactic(auto)]
 
 mod body;

@@ -108,8 +108,8 @@ fn answer_step(
 }
 
 /// Answers requests, one after another, on a store in memory that refuses the calls which each step names: the replies, the
-/// store and the locks are those of the machine's run. With the store's flag unset at the end, `was_short`, that run is the only
-/// one. From a world, equal entity tags show equal bytes, whatever is refused.
+/// store and the locks are those of a run of the machine, the only one that leaves the store's flag unset, where `was_short` says
+/// that it is. From a world, equal entity tags show equal bytes, whatever is refused.
 ///
 /// `RunFault` where memory ran out outside the store, with the replies that were given before; they are a run of the machine,
 /// and of the request that met it some first calls of the store were made, each of them whole.

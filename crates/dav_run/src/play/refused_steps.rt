@@ -67,7 +67,13 @@ fn asks_a_patch_for_its_headers(rt: HostRuntime) -> Result<(), AllocError> {
     )?;
     assert_answers(
         &rt,
-        &[PUT_F, other.as_str(), endless.as_str(), nowhere.as_str(), GET_F],
+        &[
+            PUT_F,
+            other.as_str(),
+            endless.as_str(),
+            nowhere.as_str(),
+            GET_F,
+        ],
         &[
             F_MADE,
             WRONG_TYPE_CLOSED,
@@ -92,7 +98,13 @@ fn refuses_places_outside_the_file(rt: HostRuntime) -> Result<(), AllocError> {
     )?;
     assert_answers(
         &rt,
-        &[PUT_F, turned.as_str(), before.as_str(), longer.as_str(), GET_F],
+        &[
+            PUT_F,
+            turned.as_str(),
+            before.as_str(),
+            longer.as_str(),
+            GET_F,
+        ],
         &[
             F_MADE,
             NO_RANGE_CLOSED,
@@ -146,9 +158,9 @@ fn keeps_a_file_that_is_not_opened(rt: HostRuntime) -> Result<(), AllocError> {
 fn tells_what_was_written(rt: HostRuntime) -> Result<(), AllocError> {
     let unflushed = put(rt.alloc(), r#"null,null,null,"Forbidden""#)?;
     let untold = put(rt.alloc(), r#"null,null,null,null,"Forbidden""#)?;
-    let bare = r#"{"body":null,"headers":{"accept-ranges":"bytes"},"status":204}"#;
     let four = got(rt.alloc(), "79", 1, "4")?;
     let six = got(rt.alloc(), "79", 1, "6")?;
+    let bare = r#"{"body":null,"headers":{"accept-ranges":"bytes"},"status":204}"#;
     assert_answers(
         &rt,
         &[PUT_F, unflushed.as_str(), GET_F, untold.as_str(), GET_F],
@@ -180,13 +192,11 @@ fn asks_one_list_after_another(rt: HostRuntime) -> Result<(), AllocError> {
 // HEAD asks the store once; GET opens the file and reads it.
 #[test]
 fn tells_of_a_file_by_one_call(rt: HostRuntime) -> Result<(), AllocError> {
-    let head =
-        r#"{"head":"HEAD /f HTTP/1.1\r\n\r\n","moment":1,"refuse":[null,"Forbidden"]}"#;
+    let head = r#"{"head":"HEAD /f HTTP/1.1\r\n\r\n","moment":1,"refuse":[null,"Forbidden"]}"#;
     let same = r#"{"head":"HEAD /f HTTP/1.1\r\nIf-None-Match: \"2\"\r\n\r\n","moment":1}"#;
     let missing = r#"{"head":"HEAD /x HTTP/1.1\r\n\r\n","moment":1}"#;
     let folder = r#"{"head":"HEAD / HTTP/1.1\r\n\r\n","moment":1}"#;
-    let unopened =
-        r#"{"head":"GET /f HTTP/1.1\r\n\r\n","moment":1,"refuse":[null,"Forbidden"]}"#;
+    let unopened = r#"{"head":"GET /f HTTP/1.1\r\n\r\n","moment":1,"refuse":[null,"Forbidden"]}"#;
     let unread =
         r#"{"head":"GET /f HTTP/1.1\r\n\r\n","moment":1,"refuse":[null,null,"InsufficientStorage"]}"#;
     let told =

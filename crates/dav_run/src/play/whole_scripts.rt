@@ -214,15 +214,19 @@ fn fails_where_numbers_are_used_up(rt: HostRuntime) -> Result<(), AllocError> {
 fn serves_below_a_prefix(rt: HostRuntime) -> Result<(), AllocError> {
     let put =
         r#"{"head":"PUT /dav/f HTTP/1.1\r\nContent-Length: 3\r\n\r\n","body":{"text":"one"},"moment":1}"#;
+    let get = r#"{"head":"GET /dav/f HTTP/1.1\r\n\r\n"}"#;
+    let got =
+        r#"{"body":{"hex":"6f6e65"},"headers":{"content-length":"3","content-type":"application/octet-stream","etag":"\"2\"","last-modified":"Thu, 01 Jan 1970 00:00:01 GMT"},"status":200}"#;
     let other = r#"{"head":"GET /other/f HTTP/1.1\r\n\r\n"}"#;
     let longer = r#"{"head":"GET /davx HTTP/1.1\r\n\r\n"}"#;
     let top = r#"{"head":"GET /dav HTTP/1.1\r\n\r\n"}"#;
     assert_answers_of(
         &rt,
         r#""prefix":"/dav","#,
-        &[put, GET_F, other, longer, top],
+        &[put, get, GET_F, other, longer, top],
         &[
             PUT_F_LINE,
+            got,
             BAD_GATEWAY,
             BAD_GATEWAY,
             BAD_GATEWAY,
@@ -231,13 +235,15 @@ fn serves_below_a_prefix(rt: HostRuntime) -> Result<(), AllocError> {
     )
 }
 
+// The method is looked at before the target: `*` is no target of PUT.
 #[test]
 fn allows_some_methods(rt: HostRuntime) -> Result<(), AllocError> {
+    let star = r#"{"head":"PUT * HTTP/1.1\r\n\r\n"}"#;
     assert_answers_of(
         &rt,
         r#""methods":["get"],"#,
-        &[PUT_F, GET_F],
-        &[NOT_ALLOWED_CLOSED, NOT_FOUND],
+        &[PUT_F, star, GET_F],
+        &[NOT_ALLOWED_CLOSED, NOT_ALLOWED_CLOSED, NOT_FOUND],
     )
 }
 

@@ -1,6 +1,6 @@
 //! Each call of the engine by itself, over a store and locks in memory; and a folder with a file through the handler.
 //! What is expected was worked out by hand from RFC 9110 and RFC 4918.
-use super::tests::{MADE, answered, bytes, closed, new_server, refused, shown};
+use super::tests::{answered, bytes, new_server, shown};
 use super::*;
 use dav_core::fs::{DavMetaData, OpenOptions};
 use dav_engine::conditional::{dav_if_match, http_if_match, if_match, if_match_get_tokens};
@@ -219,23 +219,5 @@ fn serves_a_folder_with_a_file(rt: HostRuntime) -> Result<(), Fail> {
         reply.as_str(),
         "200\ncontent-length: 3\ncontent-type: application/octet-stream\netag: \"3\"\nlast-modified: Thu, 01 Jan 1970 00:00:01 GMT\n"
     );
-    Ok(())
-}
-
-#[test]
-fn serves_conditions(rt: HostRuntime) -> Result<(), Fail> {
-    let mut server = new_server(rt.alloc())?;
-    let put = b"PUT /a HTTP/1.1\r\nContent-Length: 3\r\n\r\n";
-    let reply = answered(rt.alloc(), &mut server, put, bytes(b"one"))?;
-    assert_eq!(rt; reply.as_str(), MADE);
-    let get = b"GET /a HTTP/1.1\r\nIf-None-Match: \"2\"\r\n\r\n";
-    let reply = answered(rt.alloc(), &mut server, get, Body::None)?;
-    assert_eq!(rt; reply.as_str(), "304\netag: \"2\"\n");
-    let get = b"GET /a HTTP/1.1\r\nIf-Match: \"1\"\r\n\r\n";
-    let reply = answered(rt.alloc(), &mut server, get, Body::None)?;
-    assert_eq!(rt; reply.as_str(), refused(rt.alloc(), 412)?.as_str());
-    let put = b"PUT /a HTTP/1.1\r\nIf-Match: \"1\"\r\n\r\n";
-    let reply = answered(rt.alloc(), &mut server, put, bytes(b"two"))?;
-    assert_eq!(rt; reply.as_str(), closed(rt.alloc(), 412)?.as_str());
     Ok(())
 }

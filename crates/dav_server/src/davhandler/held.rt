@@ -11,7 +11,17 @@ fn server(alloc: Global) -> Result<DavHandler<MemFs, MemLs>, Fail> {
     let mut ls = MemLs::new(alloc)?;
     let folder = DavPath::new(alloc, "/d")?;
     fs.create_dir(alloc, &folder, 1)?;
-    let granted = ls.lock(alloc, &folder, Some("anna"), None, None, false, true, "urn:t:1", 1);
+    let granted = ls.lock(
+        alloc,
+        &folder,
+        Some("anna"),
+        None,
+        None,
+        false,
+        true,
+        "urn:t:1",
+        1,
+    );
     if granted.is_err() {
         return Err(NoMemory)?;
     }
@@ -32,20 +42,24 @@ fn answered(
 
 const PUT: &[u8] = b"PUT /d/a HTTP/1.1\r\nContent-Length: 1\r\n\r\n";
 
-const PUT_WITH_TOKEN: &[u8] =
-    b"PUT /d/a HTTP/1.1\r\nContent-Length: 1\r\nIf: (<urn:t:1>)\r\n\r\n";
+const PUT_WITH_TOKEN: &[u8] = b"PUT /d/a HTTP/1.1\r\nContent-Length: 1\r\nIf: (<urn:t:1>)\r\n\r\n";
 
 // Without the token nobody passes, and with it nobody but the holder.
 #[test]
 fn locks_others_out(rt: HostRuntime) -> Result<(), Fail> {
     let mut server = server(rt.alloc())?;
+    let cases = [("ben", PUT), ("anna", PUT), ("ben", PUT_WITH_TOKEN)];
     let locked = closed(rt.alloc(), 423)?;
-    let reply = answered(rt.alloc(), &mut server, "ben", PUT, bytes(b"x"))?;
-    assert_eq!(rt; reply.as_str(), locked.as_str());
-    let reply = answered(rt.alloc(), &mut server, "anna", PUT, bytes(b"x"))?;
-    assert_eq!(rt; reply.as_str(), locked.as_str());
-    let reply = answered(rt.alloc(), &mut server, "ben", PUT_WITH_TOKEN, bytes(b"x"))?;
-    assert_eq!(rt; reply.as_str(), locked.as_str());
+    for (principal, head) in cases {
+        let reply = answered(rt.alloc(), &mut server, principal, head, bytes(b"x"))?;
+        assert_eq!(rt; reply.as_str(), locked.as_str());
+    }
+    Ok(())
+}
+
+#[test]
+fn makes_no_folder_for_others(rt: HostRuntime) -> Result<(), Fail> {
+    let mut server = server(rt.alloc())?;
     let mkcol = b"MKCOL /d/x HTTP/1.1\r\n\r\n";
     let reply = answered(rt.alloc(), &mut server, "ben", mkcol, Body::None)?;
     assert_eq!(rt; reply.as_str(), refused(rt.alloc(), 423)?.as_str());

@@ -47,20 +47,11 @@ pub(super) fn closed(alloc: Global, status: u16) -> Result<String, NoMemory> {
     format!(in alloc; "{status}\nconnection: close\ncontent-length: 0\n")
 }
 
-// A server of a store in memory, with locks.
-fn server(
-    alloc: Global,
-    prefix: &str,
-    allowed: DavMethodSet,
-    fs: MemFs,
-) -> Result<DavHandler<MemFs, MemLs>, Fail> {
-    let ls = MemLs::new(alloc)?;
-    Ok(DavHandler::new(alloc, prefix, allowed, fs, Some(ls))?)
-}
-
-// The one of a new store, below no prefix, that allows every method.
+// A server of a new store in memory, with locks, below no prefix, that allows every method.
 pub(super) fn new_server(alloc: Global) -> Result<DavHandler<MemFs, MemLs>, Fail> {
-    server(alloc, "", DavMethodSet::all(), MemFs::new(alloc)?)
+    let fs = MemFs::new(alloc)?;
+    let ls = MemLs::new(alloc)?;
+    Ok(DavHandler::new(alloc, "", DavMethodSet::all(), fs, Some(ls))?)
 }
 
 // What a request one second after 1970 began is answered.
@@ -151,55 +142,6 @@ fn refuses_by_the_head(rt: HostRuntime) -> Result<(), Fail> {
     Ok(())
 }
 
-#[test]
-fn reads_absolute_targets(rt: HostRuntime) -> Result<(), Fail> {
-    let mut server = new_server(rt.alloc())?;
-    let put = b"PUT /f HTTP/1.1\r\n\r\n";
-    let reply = answered(rt.alloc(), &mut server, put, bytes(b"one"))?;
-    assert_eq!(rt; reply.as_str(), MADE);
-    let file = b"GET http://h/q/../f HTTP/1.1\r\n\r\n";
-    let reply = answered(rt.alloc(), &mut server, file, Body::None)?;
-    assert_eq!(rt; reply.as_str(), ONE);
-    let root = b"GET http://h HTTP/1.1\r\n\r\n";
-    let reply = answered(rt.alloc(), &mut server, root, Body::None)?;
-    assert_eq!(rt; reply.as_str(), refused(rt.alloc(), 405)?.as_str());
-    Ok(())
-}
-
-// The method is looked at before the target: `*` is no target of PUT.
-#[test]
-fn closes_behind_a_method_that_is_not_allowed(rt: HostRuntime) -> Result<(), Fail> {
-    let fs = MemFs::new(rt.alloc())?;
-    let mut server = server(rt.alloc(), "", DavMethodSet::HTTP_RO, fs)?;
-    let heads: [&[u8]; 2] = [b"PUT /f HTTP/1.1\r\n\r\n", b"PUT * HTTP/1.1\r\n\r\n"];
-    for head in heads {
-        let reply = answered(rt.alloc(), &mut server, head, bytes(b"x"))?;
-        assert_eq!(rt; reply.as_str(), closed(rt.alloc(), 405)?.as_str());
-    }
-    let get = b"GET /f HTTP/1.1\r\n\r\n";
-    let reply = answered(rt.alloc(), &mut server, get, Body::None)?;
-    assert_eq!(rt; reply.as_str(), refused(rt.alloc(), 404)?.as_str());
-    Ok(())
-}
-
-#[test]
-fn serves_below_its_prefix(rt: HostRuntime) -> Result<(), Fail> {
-    let fs = MemFs::new(rt.alloc())?;
-    let mut server = server(rt.alloc(), "/dav", DavMethodSet::all(), fs)?;
-    let put = b"PUT /dav/a HTTP/1.1\r\n\r\n";
-    let reply = answered(rt.alloc(), &mut server, put, bytes(b"one"))?;
-    assert_eq!(rt; reply.as_str(), MADE);
-    let get = b"GET /dav/a HTTP/1.1\r\n\r\n";
-    let reply = answered(rt.alloc(), &mut server, get, Body::None)?;
-    assert_eq!(rt; reply.as_str(), ONE);
-    let outside: [&[u8]; 2] = [b"GET /a HTTP/1.1\r\n\r\n", b"GET /davx HTTP/1.1\r\n\r\n"];
-    for head in outside {
-        let reply = answered(rt.alloc(), &mut server, head, Body::None)?;
-        assert_eq!(rt; reply.as_str(), refused(rt.alloc(), 502)?.as_str());
-    }
-    Ok(())
-}
-
 // Why a prefix is refused; `None` for one that is taken.
 fn prefix_error(alloc: Global, prefix: &str) -> Result<Option<HandlerError>, NoMemory> {
     let fs = MemFs::new(alloc)?;
@@ -249,40 +191,6 @@ fn refuses_deep_trees(rt: HostRuntime) -> Result<(), Fail> {
     }
     let reply = answered(rt.alloc(), &mut server, find, bytes(b"x"))?;
     assert_eq!(rt; reply.as_str(), refused(rt.alloc(), 501)?.as_str());
-    Ok(())
-}
-
-#[test]
-fn refuses_bodies_of_another_length(rt: HostRuntime) -> Result<(), Fail> {
-    let mut server = new_server(rt.alloc())?;
-    let put = b"PUT /f HTTP/1.1\r\nContent-Length: 2\r\n\r\n";
-    let reply = answered(rt.alloc(), &mut server, put, bytes(b"abc"))?;
-    assert_eq!(rt; reply.as_str(), closed(rt.alloc(), 400)?.as_str());
-    let get = b"GET /f HTTP/1.1\r\n\r\n";
-    let reply = answered(rt.alloc(), &mut server, get, Body::None)?;
-    assert_eq!(rt; reply.as_str(), refused(rt.alloc(), 404)?.as_str());
-    Ok(())
-}
-
-// Making the file takes one number, and writing to it another; the last one isn't given.
-#[test]
-fn uses_up_the_numbers(rt: HostRuntime) -> Result<(), Fail> {
-    let empty =
-        "200\ncontent-length: 0\ncontent-type: application/octet-stream\netag: \"fffffffffffffffe\"\nlast-modified: Thu, 01 Jan 1970 00:00:01 GMT\n\n";
-    let cases = [
-        (18446744073709551615, "404\ncontent-length: 0\n"),
-        (18446744073709551614, empty),
-    ];
-    for (next, wanted) in cases {
-        let fs = MemFs::new_at(rt.alloc(), next)?;
-        let mut server = server(rt.alloc(), "", DavMethodSet::all(), fs)?;
-        let put = b"PUT /f HTTP/1.1\r\n\r\n";
-        let reply = answered(rt.alloc(), &mut server, put, bytes(b"x"))?;
-        assert_eq!(rt; reply.as_str(), refused(rt.alloc(), 500)?.as_str());
-        let get = b"GET /f HTTP/1.1\r\n\r\n";
-        let reply = answered(rt.alloc(), &mut server, get, Body::None)?;
-        assert_eq!(rt; reply.as_str(), wanted);
-    }
     Ok(())
 }
 
