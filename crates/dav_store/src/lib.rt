@@ -1,6 +1,8 @@
 //! Files, folders and locks in memory (RFC 4918, sections 5 to 7).
 #![tactic(auto)]
 
+#[cfg(test)]
+mod asserting;
 mod entries;
 pub mod memfs;
 pub mod memls;

@@ -1,7 +1,8 @@
 //! Calls of which one may be refused for memory: `./fail-alloc dav_store` runs these tests with each allocation failing
 //! in turn. They pass either way, and say whether a call was refused. A refused call leaves all as it was, and is granted
 //! when it is made once more.
-use crate::memfs::MemFs;
+use crate::asserting::same;
+use crate::memfs::{MemFile, MemFs};
 use crate::memls::MemLs;
 use bytes::Bytes;
 use dav_core::davpath::DavPath;
@@ -12,19 +13,6 @@ use std::alloc::Global;
 use std::io::SeekFrom;
 use std::process::Abort;
 use std::test::Fail;
-
-// What a call answers; one that is refused is made once more.
-fn again<T, E: Drop, C: FnMut() -> Result<T, E>>(refused: &mut bool, mut call: C) -> Result<T, E>
-    requires { C.IsAlwaysCallable call }
-{
-    match call() {
-        Ok(value) => Ok(value),
-        Err(_) => {
-            *refused = true;
-            call()
-        }
-    }
-}
 
 // What a run says of itself at its end.
 fn outcome(refused: bool) -> &'static str {
@@ -54,12 +42,30 @@ struct Sight {
     properties: Option<usize>,
 }
 
-// A store, one of its open files, the paths that are looked at, the root first, and whether a call was refused.
+// A call that takes memory, or one between such calls.
+#[derive(Clone, Copy, Debug)]
+enum Asked {
+    MakeFolder,
+    WriteBytes,
+    WriteBuffer,
+    GoBack,
+    ReadBytes,
+    Rename,
+    CopyFile,
+    Empty,
+    SetProperty,
+    ListProperties,
+    ShowProperty,
+    ListMembers,
+}
+
+// A store, one of its open files, the paths that are looked at, the root first, a property, and whether a call was refused.
 #[derive(Drop)]
 struct Watched<'a, F: DavFileSystem> {
     fs: F,
     file: F::File,
     paths: &'a [DavPath; 4],
+    property: &'a DavProp,
     refused: bool,
 }
 
@@ -86,23 +92,99 @@ impl<'a, F: DavFileSystem> Watched<'a, F> {
         }
     }
 
-    // What a call answers; one that is refused for memory changes nothing, and is made once more.
-    fn call<T: Drop, C: FnMut(&mut F, &mut F::File) -> FsResult<T>>(
-        &mut self,
-        rt: &impl Abort,
-        alloc: Global,
-        mut call: C,
-    ) -> FsResult<T>
-        requires { C.IsAlwaysCallable call }
-    {
+    // Whether a call answers what it should; one that is refused for memory changes nothing, and is made once more.
+    fn call(&mut self, rt: &impl Abort, alloc: Global, asked: Asked) -> FsResult<bool> {
         let before = self.seen(alloc);
-        let answer = call(&mut self.fs, &mut self.file);
-        if !matches!(&answer, Err(FsError::InsufficientStorage)) {
+        let answer = self.made(alloc, asked);
+        if answer != Err(FsError::InsufficientStorage) {
             return answer;
         }
         self.refused = true;
         assert!(rt; self.seen(alloc) == before);
-        call(&mut self.fs, &mut self.file)
+        self.made(alloc, asked)
+    }
+
+    // Makes a call: whether it answers what it should.
+    fn made(&mut self, alloc: Global, asked: Asked) -> FsResult<bool> {
+        match asked {
+            Asked::MakeFolder | Asked::Rename | Asked::CopyFile => self.placed(alloc, asked),
+            Asked::Empty => self.emptied(alloc),
+            Asked::WriteBytes | Asked::WriteBuffer | Asked::GoBack => self.written(alloc, asked),
+            Asked::ReadBytes => self.read(alloc),
+            Asked::SetProperty => self.set(alloc),
+            Asked::ListProperties => self.listed(alloc),
+            Asked::ShowProperty => self.shown(alloc),
+            Asked::ListMembers => self.members(alloc),
+        }
+    }
+
+    fn placed(&mut self, alloc: Global, asked: Asked) -> FsResult<bool> {
+        let [_, d, f, g] = self.paths;
+        match asked {
+            Asked::MakeFolder => self.fs.create_dir(alloc, d, 2)?,
+            Asked::Rename => self.fs.rename(alloc, f, g, 4)?,
+            _ => {
+                self.fs.copy(alloc, g, f, 5)?;
+                return Ok(told(self.fs.metadata(f)) == Some((3, false, 5, 5, Some(5))));
+            }
+        }
+        Ok(true)
+    }
+
+    fn emptied(&mut self, alloc: Global) -> FsResult<bool> {
+        let [_, _, _, g] = self.paths;
+        self.fs.open(alloc, g, &to_empty(), 6)?;
+        Ok(told(self.fs.file_metadata(&self.file)) == Some((0, false, 1, 6, Some(6))))
+    }
+
+    fn written(&mut self, alloc: Global, asked: Asked) -> FsResult<bool> {
+        match asked {
+            Asked::WriteBytes => {
+                let bytes = Bytes::from_static(b"ab");
+                self.fs.write_bytes(alloc, &mut self.file, bytes, 3)?;
+            }
+            Asked::WriteBuffer => {
+                self.fs
+                    .write_buf(alloc, &mut self.file, b"c".as_slice(), 3)?;
+            }
+            _ => return Ok(self.fs.seek(&mut self.file, SeekFrom::Start(1))? == 1),
+        }
+        Ok(true)
+    }
+
+    fn read(&mut self, alloc: Global) -> FsResult<bool> {
+        let bytes = self.fs.read_bytes(alloc, &mut self.file, 10)?;
+        Ok(bytes.as_slice() == b"bc".as_slice())
+    }
+
+    fn set(&mut self, alloc: Global) -> FsResult<bool> {
+        let [root, _, _, _] = self.paths;
+        let patches = to_set(alloc, self.property)?;
+        Ok(self.fs.patch_props(alloc, root, patches)?.len() == 1)
+    }
+
+    fn listed(&mut self, alloc: Global) -> FsResult<bool> {
+        let [root, _, _, _] = self.paths;
+        Ok(self.fs.get_props(alloc, root, true)?.len() == 1)
+    }
+
+    fn shown(&mut self, alloc: Global) -> FsResult<bool> {
+        let [root, _, _, _] = self.paths;
+        let property = self.property;
+        let xml = self.fs.get_prop(alloc, root, property)?;
+        let is_set = property.xml.as_ref() == Some(&xml);
+        Ok(is_set)
+    }
+
+    fn members(&mut self, alloc: Global) -> FsResult<bool> {
+        let [root, _, _, _] = self.paths;
+        let list = self.fs.read_dir(alloc, root, ReadDirMeta::Data)?;
+        let Some(last) = list.last() else {
+            return Ok(false);
+        };
+        let is_f = last.name() == b"f".as_slice();
+        let meta = told(self.fs.entry_metadata(last));
+        Ok(list.len() == 2 && is_f && meta == Some((3, false, 5, 5, Some(5))))
     }
 }
 
@@ -134,118 +216,97 @@ fn to_empty() -> OpenOptions {
     }
 }
 
-// The calls that make folders, write and read.
-fn write<F: DavFileSystem>(
-    rt: &impl Abort,
-    alloc: Global,
-    store: &mut Watched<'_, F>,
-) -> Result<(), Fail> {
-    let [_, d, _, _] = store.paths;
-    store.call(rt, alloc, |fs, _| fs.create_dir(alloc, d, 2))?;
-    store.call(rt, alloc, |fs, file| {
-        fs.write_bytes(alloc, file, Bytes::from_static(b"ab"), 3)
-    })?;
-    store.call(rt, alloc, |fs, file| {
-        fs.write_buf(alloc, file, b"c".as_slice(), 3)
-    })?;
-    assert_eq!(rt; store.fs.seek(&mut store.file, SeekFrom::Start(1)), Ok(1));
-    let bytes = store.call(rt, alloc, |fs, file| fs.read_bytes(alloc, file, 10))?;
-    assert_eq!(rt; bytes.as_slice(), b"bc".as_slice());
-    Ok(())
+// The paths /, /d, /f and /d/g, and a property.
+fn names(alloc: Global) -> Option<([DavPath; 4], DavProp)> {
+    let paths = [
+        DavPath::new(alloc, "/").ok()?,
+        DavPath::new(alloc, "/d").ok()?,
+        DavPath::new(alloc, "/f").ok()?,
+        DavPath::new(alloc, "/d/g").ok()?,
+    ];
+    let property = DavProp::new(alloc, "foo", "n", "urn:n", "v").ok()?;
+    Some((paths, property))
 }
 
-// The calls that move, copy and empty files.
-fn replace<F: DavFileSystem>(
-    rt: &impl Abort,
-    alloc: Global,
-    store: &mut Watched<'_, F>,
-) -> Result<(), Fail> {
-    let [_, _, f, g] = store.paths;
-    store.call(rt, alloc, |fs, _| fs.rename(alloc, f, g, 4))?;
-    store.call(rt, alloc, |fs, _| fs.copy(alloc, g, f, 5))?;
-    assert_eq!(rt; told(store.fs.metadata(f)), Some((3, false, 5, 5, Some(5))));
-    store.call(rt, alloc, |fs, _| fs.open(alloc, g, &to_empty(), 6))?;
-    assert_eq!(rt;
-        told(store.fs.file_metadata(&store.file)),
-        Some((0, false, 1, 6, Some(6)))
-    );
-    Ok(())
-}
-
-// The calls that store and show properties, and list members.
-fn show<F: DavFileSystem>(
-    rt: &impl Abort,
-    alloc: Global,
-    store: &mut Watched<'_, F>,
-    property: &DavProp,
-) -> Result<(), Fail> {
-    let [root, _, _, _] = store.paths;
-    let answers = store.call(rt, alloc, |fs, _| {
-        fs.patch_props(alloc, root, to_set(alloc, property)?)
-    })?;
-    assert_eq!(rt; answers.len(), 1);
-    let properties = store.call(rt, alloc, |fs, _| fs.get_props(alloc, root, true))?;
-    assert_eq!(rt; properties.len(), 1);
-    let xml = store.call(rt, alloc, |fs, _| fs.get_prop(alloc, root, property))?;
-    assert!(rt; property.xml.as_ref() == Some(&xml));
-    let list = store.call(
-        rt,
-        alloc,
-        |fs, _| fs.read_dir(alloc, root, ReadDirMeta::Data),
-    )?;
-    assert_eq!(rt; list.len(), 2);
-    assert_eq!(rt; list[1].name(), b"f".as_slice());
-    assert_eq!(rt;
-        told(store.fs.entry_metadata(&list[1])),
-        Some((3, false, 5, 5, Some(5)))
-    );
-    Ok(())
+// A store with an open file.
+fn store(alloc: Global, path: &DavPath) -> Option<(MemFs, MemFile)> {
+    let mut fs = MemFs::new(alloc).ok()?;
+    let file = fs.open(alloc, path, &to_make(), 1).ok()?;
+    Some((fs, file))
 }
 
 // The calls that remove.
 fn remove<F: DavFileSystem>(rt: &impl Abort, store: &mut Watched<'_, F>) {
     let [_, d, _, g] = store.paths;
-    assert_eq!(rt; store.fs.remove_dir(d, 7), Err(FsError::Exists));
-    assert_eq!(rt; store.fs.remove_file(g, 7), Ok(()));
-    assert_eq!(rt; store.fs.remove_dir(d, 8), Ok(()));
-    assert_eq!(rt; store.fs.flush(&mut store.file), Err(FsError::NotFound));
+    same(rt, &store.fs.remove_dir(d, 7), &Err(FsError::Exists));
+    same(rt, &store.fs.remove_file(g, 7), &Ok(()));
+    same(rt, &store.fs.remove_dir(d, 8), &Ok(()));
+    same(
+        rt,
+        &store.fs.flush(&mut store.file),
+        &Err(FsError::NotFound),
+    );
 }
 
 #[test]
 fn store_goes_on_after_a_refusal(rt: HostRuntime) -> Result<(), Fail> {
     let alloc = rt.alloc();
     let mut refused = false;
-    let foo = again(
-        &mut refused,
-        || DavProp::new(alloc, "foo", "n", "urn:n", "v"),
-    )?;
-    let paths = [
-        again(&mut refused, || DavPath::new(alloc, "/"))?,
-        again(&mut refused, || DavPath::new(alloc, "/d"))?,
-        again(&mut refused, || DavPath::new(alloc, "/f"))?,
-        again(&mut refused, || DavPath::new(alloc, "/d/g"))?,
-    ];
-    let mut fs = again(&mut refused, || MemFs::new(alloc))?;
-    let file = again(&mut refused, || fs.open(alloc, &paths[2], &to_make(), 1))?;
-    let mut store = Watched {
+    let (paths, property) = match names(alloc) {
+        Some(made) => made,
+        None => {
+            refused = true;
+            names(alloc).ok_or("no names")?
+        }
+    };
+    let [_, _, f, g] = &paths;
+    let (fs, file) = match store(alloc, f) {
+        Some(made) => made,
+        None => {
+            refused = true;
+            store(alloc, f).ok_or("no store")?
+        }
+    };
+    let mut watched = Watched {
         fs,
         file,
         paths: &paths,
-        refused: false,
+        property: &property,
+        refused,
     };
-    write(&rt, alloc, &mut store)?;
-    replace(&rt, alloc, &mut store)?;
-    show(&rt, alloc, &mut store, &foo)?;
-    let mut copy = again(&mut refused, || store.fs.clone())?;
-    remove(&rt, &mut store);
-    assert_eq!(rt;
-        told(copy.metadata(&paths[3])),
-        Some((0, false, 1, 6, Some(6)))
+    let calls = [
+        Asked::MakeFolder,
+        Asked::WriteBytes,
+        Asked::WriteBuffer,
+        Asked::GoBack,
+        Asked::ReadBytes,
+        Asked::Rename,
+        Asked::CopyFile,
+        Asked::Empty,
+        Asked::SetProperty,
+        Asked::ListProperties,
+        Asked::ShowProperty,
+        Asked::ListMembers,
+    ];
+    for asked in calls {
+        let answer = watched.call(&rt, alloc, asked);
+        assert_eq!(rt; answer, Ok(true), "{asked:?}");
+    }
+    let mut copy = match watched.fs.clone() {
+        Ok(copy) => copy,
+        Err(_) => {
+            watched.refused = true;
+            watched.fs.clone()?
+        }
+    };
+    remove(&rt, &mut watched);
+    same(
+        &rt,
+        &told(copy.metadata(g)),
+        &Some((0, false, 1, 6, Some(6))),
     );
-    println!(rt;
-        "{}",
-        outcome(refused || store.refused || store.fs.was_short())
-    )?;
+    let refused = watched.refused || watched.fs.was_short();
+    println!(rt; "{}", outcome(refused))?;
     Ok(())
 }
 
@@ -265,81 +326,89 @@ fn held_at<L: DavLockSystem>(ls: &L, path: &DavPath) -> Held {
     }
 }
 
-// What a call answers; one that is refused for memory changes nothing, and is made once more.
-fn call<L: DavLockSystem, T: Drop, E: Drop, C: FnMut(&mut L) -> Result<T, E>>(
-    rt: &impl Abort,
+// A call of a list of locks that takes memory: an exclusive lock, the locks on a path, a lock that is to last longer, a shared
+// lock.
+#[derive(Clone, Copy, Debug)]
+enum LockCall {
+    Lock,
+    Discover,
+    Refresh,
+    Share,
+}
+
+// Makes a call: when the lock that it gives ends, or how many locks it lists. None where the call is refused.
+fn made<L: DavLockSystem>(
+    alloc: Global,
     ls: &mut L,
     paths: &[DavPath; 2],
-    refused: &mut bool,
-    mut call: C,
-) -> Result<T, E>
-    requires { C.IsAlwaysCallable call }
-{
-    let before = held(ls, paths);
-    match call(ls) {
-        Ok(value) => Ok(value),
-        Err(_) => {
-            *refused = true;
-            assert!(rt; held(ls, paths) == before);
-            call(ls)
+    asked: LockCall,
+) -> Option<Option<u64>> {
+    let [d, f] = paths;
+    match asked {
+        LockCall::Lock => {
+            let who = Some("anna");
+            let lock = ls.lock(alloc, d, who, None, Some(60), false, true, "t1", 100);
+            Some(lock.ok()?.timeout_at)
+        }
+        LockCall::Discover => Some(Some(ls.discover(alloc, f).ok()?.len() as u64)),
+        LockCall::Refresh => Some(ls.refresh(alloc, f, "t1", Some(30), 150).ok()?.timeout_at),
+        LockCall::Share => {
+            let lock = ls.lock(alloc, f, None, None, None, true, false, "t2", 200);
+            Some(lock.ok()?.timeout_at)
         }
     }
 }
 
-// The calls of a list of locks: whether one was refused.
-fn lock_and_unlock<L: DavLockSystem>(
+// Whether a call is refused at first, and that it answers this then. One that is refused changes nothing.
+fn call<L: DavLockSystem>(
     rt: &impl Abort,
     alloc: Global,
     ls: &mut L,
     paths: &[DavPath; 2],
-) -> Result<bool, Fail> {
-    let mut refused = false;
-    let [d, f] = paths;
-    let lock = call(rt, ls, paths, &mut refused, |ls| {
-        ls.lock(
-            alloc,
-            d,
-            Some("anna"),
-            None,
-            Some(60),
-            false,
-            true,
-            "t1",
-            100,
-        )
-    })?;
-    assert_eq!(rt; lock.timeout_at, Some(160));
-    let locks = call(rt, ls, paths, &mut refused, |ls| ls.discover(alloc, f))?;
-    assert_eq!(rt; locks.len(), 1);
-    let lock = call(
-        rt,
-        ls,
-        paths,
-        &mut refused,
-        |ls| ls.refresh(alloc, f, "t1", Some(30), 150),
-    )?;
-    assert_eq!(rt; lock.timeout_at, Some(180));
-    assert!(rt; held(ls, paths) == [Some((Some(180), false)), Some((Some(180), false))]);
-    assert!(rt; ls.unlock(f, "t1").is_ok());
-    call(rt, ls, paths, &mut refused, |ls| {
-        ls.lock(alloc, f, None, None, None, true, false, "t2", 200)
-    })?;
-    assert!(rt; held(ls, paths) == [Some((None, true)), Some((None, true))]);
-    assert!(rt; ls.delete(d).is_ok());
-    assert!(rt; held(ls, paths) == [None, None]);
-    Ok(refused)
+    asked: LockCall,
+    wanted: Option<u64>,
+) -> bool {
+    let before = held(ls, paths);
+    let first = made(alloc, ls, paths, asked);
+    if first == Some(wanted) {
+        return false;
+    }
+    assert!(rt; held(ls, paths) == before);
+    assert_eq!(rt; made(alloc, ls, paths, asked), Some(wanted), "{asked:?}");
+    true
 }
 
 #[test]
 fn locks_go_on_after_a_refusal(rt: HostRuntime) -> Result<(), Fail> {
     let alloc = rt.alloc();
     let mut refused = false;
-    let paths = [
-        again(&mut refused, || DavPath::new(alloc, "/d"))?,
-        again(&mut refused, || DavPath::new(alloc, "/d/f"))?,
-    ];
-    let mut ls = again(&mut refused, || MemLs::new(alloc))?;
-    let later = lock_and_unlock(&rt, alloc, &mut ls, &paths)?;
-    println!(rt; "{}", outcome(refused || later))?;
+    let (paths, mut ls) = match no_locks(alloc) {
+        Some(made) => made,
+        None => {
+            refused = true;
+            no_locks(alloc).ok_or("no locks")?
+        }
+    };
+    let [d, f] = &paths;
+    refused |= call(&rt, alloc, &mut ls, &paths, LockCall::Lock, Some(160));
+    refused |= call(&rt, alloc, &mut ls, &paths, LockCall::Discover, Some(1));
+    refused |= call(&rt, alloc, &mut ls, &paths, LockCall::Refresh, Some(180));
+    let until = Some((Some(180), false));
+    same(&rt, &held(&ls, &paths), &[until, until]);
+    assert!(rt; ls.unlock(f, "t1").is_ok());
+    refused |= call(&rt, alloc, &mut ls, &paths, LockCall::Share, None);
+    let shared = Some((None, true));
+    same(&rt, &held(&ls, &paths), &[shared, shared]);
+    assert!(rt; ls.delete(d).is_ok());
+    same(&rt, &held(&ls, &paths), &[None, None]);
+    println!(rt; "{}", outcome(refused))?;
     Ok(())
+}
+
+// The paths /d and /d/f, and no locks.
+fn no_locks(alloc: Global) -> Option<([DavPath; 2], MemLs)> {
+    let d = DavPath::new(alloc, "/d").ok()?;
+    let f = DavPath::new(alloc, "/d/f").ok()?;
+    let ls = MemLs::new(alloc).ok()?;
+    Some(([d, f], ls))
 }

@@ -1,4 +1,5 @@
 use super::*;
+use crate::asserting::same;
 use dav_core::fs::{DavDirEntry, DavFileSystem, ReadDirMeta};
 use std::test::Fail;
 
@@ -30,23 +31,26 @@ fn follows_an_open_file(rt: HostRuntime) -> Result<(), Fail> {
     fs.write_bytes(rt.alloc(), &mut file, b"ab", 1)?;
     fs.rename(rt.alloc(), &f, &g, 2)?;
     fs.write_bytes(rt.alloc(), &mut file, b"c", 3)?;
-    assert_eq!(rt; fs.metadata(&f).err(), Some(FsError::NotFound));
+    same(&rt, &fs.metadata(&f).err(), &Some(FsError::NotFound));
     let meta = fs.metadata(&g)?;
-    assert_eq!(rt;
-        (meta.len, meta.number, meta.created, meta.modified),
-        (3, Some(3), 1, 3)
+    same(
+        &rt,
+        &(meta.len, meta.number, meta.created, meta.modified),
+        &(3, Some(3), 1, 3),
     );
     let mut copy = fs.clone()?;
-    assert_eq!(rt;
-        read_all(&mut copy, rt.alloc(), &g)?.as_slice(),
-        b"abc".as_slice()
+    same(
+        &rt,
+        &read_all(&mut copy, rt.alloc(), &g)?.as_slice(),
+        &b"abc".as_slice(),
     );
     fs.remove_file(&g, 4)?;
-    assert_eq!(rt;
-        fs.write_bytes(rt.alloc(), &mut file, b"d", 5),
-        Err(FsError::NotFound)
+    same(
+        &rt,
+        &fs.write_bytes(rt.alloc(), &mut file, b"d", 5),
+        &Err(FsError::NotFound),
     );
-    assert_eq!(rt; copy.metadata(&g)?.len, 3);
+    same(&rt, &copy.metadata(&g)?.len, &3);
     assert!(rt; !DavFileSystem::was_short(&fs));
     Ok(())
 }
@@ -57,18 +61,30 @@ fn keeps_folders(rt: HostRuntime) -> Result<(), Fail> {
     let root = path(rt.alloc(), "/")?;
     let d = path(rt.alloc(), "/d")?;
     let e = path(rt.alloc(), "/d/e")?;
-    assert_eq!(rt; fs.create_dir(rt.alloc(), &e, 1), Err(FsError::NotFound));
+    same(
+        &rt,
+        &fs.create_dir(rt.alloc(), &e, 1),
+        &Err(FsError::NotFound),
+    );
     fs.create_dir(rt.alloc(), &d, 1)?;
-    assert_eq!(rt; fs.create_dir(rt.alloc(), &d, 1), Err(FsError::Exists));
+    same(
+        &rt,
+        &fs.create_dir(rt.alloc(), &d, 1),
+        &Err(FsError::Exists),
+    );
     fs.create_dir(rt.alloc(), &e, 2)?;
-    assert_eq!(rt; fs.remove_dir(&d, 3), Err(FsError::Exists));
-    assert_eq!(rt; fs.remove_file(&d, 3), Err(FsError::Forbidden));
-    assert_eq!(rt; fs.remove_dir(&root, 3), Err(FsError::Forbidden));
-    assert_eq!(rt; fs.rename(rt.alloc(), &d, &e, 3), Err(FsError::Forbidden));
+    same(&rt, &fs.remove_dir(&d, 3), &Err(FsError::Exists));
+    same(&rt, &fs.remove_file(&d, 3), &Err(FsError::Forbidden));
+    same(&rt, &fs.remove_dir(&root, 3), &Err(FsError::Forbidden));
+    same(
+        &rt,
+        &fs.rename(rt.alloc(), &d, &e, 3),
+        &Err(FsError::Forbidden),
+    );
     fs.remove_dir(&e, 3)?;
-    assert_eq!(rt; fs.metadata(&d)?.modified, 3);
+    same(&rt, &fs.metadata(&d)?.modified, &3);
     fs.remove_dir(&d, 4)?;
-    assert_eq!(rt; fs.read_dir(rt.alloc(), &root)?.len(), 0);
+    same(&rt, &fs.read_dir(rt.alloc(), &root)?.len(), &0);
     Ok(())
 }
 
@@ -82,13 +98,17 @@ fn lists_in_order(rt: HostRuntime) -> Result<(), Fail> {
     let root = path(rt.alloc(), "/")?;
     let list = DavFileSystem::read_dir(&mut fs, rt.alloc(), &root, ReadDirMeta::DataSymlink)?;
     assert_eq!(rt; list.len(), 3);
-    assert_eq!(rt; list[0].name(), b"f".as_slice());
-    assert_eq!(rt; list[1].name(), b"f-x".as_slice());
-    assert_eq!(rt; list[2].name(), b"g".as_slice());
+    same(&rt, &list[0].name(), &b"f".as_slice());
+    same(&rt, &list[1].name(), &b"f-x".as_slice());
+    same(&rt, &list[2].name(), &b"g".as_slice());
     assert!(rt; list[0].is_dir() && !list[0].is_file());
-    assert_eq!(rt; fs.entry_metadata(&list[2])?.number, Some(1));
+    same(&rt, &fs.entry_metadata(&list[2])?.number, &Some(1));
     fs.remove_dir(&path(rt.alloc(), "/g")?, 2)?;
-    assert_eq!(rt; fs.entry_metadata(&list[2]).err(), Some(FsError::NotFound));
+    same(
+        &rt,
+        &fs.entry_metadata(&list[2]).err(),
+        &Some(FsError::NotFound),
+    );
     Ok(())
 }
 
@@ -104,21 +124,26 @@ fn copies_files(rt: HostRuntime) -> Result<(), Fail> {
     patches.push((true, foo.clone()?))?;
     let answers = fs.patch_props(rt.alloc(), &f, patches)?;
     assert_eq!(rt; answers.len(), 1);
-    assert_eq!(rt; answers[0].0.as_u16(), 200);
+    same(&rt, &answers[0].0.as_u16(), &200);
     assert!(rt; answers[0].1.xml.is_none());
-    assert_eq!(rt; fs.get_props(rt.alloc(), &f, true)?.len(), 1);
+    same(&rt, &fs.get_props(rt.alloc(), &f, true)?.len(), &1);
     fs.copy(rt.alloc(), &f, &g, 2)?;
-    assert_eq!(rt; Some(fs.get_prop(&g, &foo)?), foo.xml);
-    assert_eq!(rt; fs.metadata(&g)?.number, Some(3));
+    same(&rt, &Some(fs.get_prop(&g, &foo)?), &foo.xml);
+    same(&rt, &fs.metadata(&g)?.number, &Some(3));
     let mut patches = Vec::new(rt.alloc());
     patches.push((false, foo.clone()?))?;
     fs.patch_props(rt.alloc(), &f, patches)?;
-    assert_eq!(rt; fs.get_prop(&f, &foo).err(), Some(FsError::NotFound));
-    assert_eq!(rt;
-        read_all(&mut fs, rt.alloc(), &g)?.as_slice(),
-        b"one".as_slice()
+    same(&rt, &fs.get_prop(&f, &foo).err(), &Some(FsError::NotFound));
+    same(
+        &rt,
+        &read_all(&mut fs, rt.alloc(), &g)?.as_slice(),
+        &b"one".as_slice(),
     );
-    assert_eq!(rt; fs.copy(rt.alloc(), &f, &f, 3), Err(FsError::Forbidden));
+    same(
+        &rt,
+        &fs.copy(rt.alloc(), &f, &f, 3),
+        &Err(FsError::Forbidden),
+    );
     Ok(())
 }
 
@@ -126,17 +151,19 @@ fn copies_files(rt: HostRuntime) -> Result<(), Fail> {
 fn uses_numbers_up(rt: HostRuntime) -> Result<(), Fail> {
     let f = path(rt.alloc(), "/f")?;
     let mut none = MemFs::new_at(rt.alloc(), u64::MAX)?;
-    assert_eq!(rt;
-        none.open(rt.alloc(), &f, &to_make(), 1).err(),
-        Some(FsError::GeneralFailure)
+    same(
+        &rt,
+        &none.open(rt.alloc(), &f, &to_make(), 1).err(),
+        &Some(FsError::GeneralFailure),
     );
     let mut one = MemFs::new_at(rt.alloc(), u64::MAX - 1)?;
     let mut file = one.open(rt.alloc(), &f, &to_make(), 1)?;
-    assert_eq!(rt;
-        one.write_bytes(rt.alloc(), &mut file, b"x", 1),
-        Err(FsError::GeneralFailure)
+    same(
+        &rt,
+        &one.write_bytes(rt.alloc(), &mut file, b"x", 1),
+        &Err(FsError::GeneralFailure),
     );
-    assert_eq!(rt; one.metadata(&f)?.len, 0);
+    same(&rt, &one.metadata(&f)?.len, &0);
     Ok(())
 }
 
@@ -145,31 +172,36 @@ fn bounds_files(rt: HostRuntime) -> Result<(), Fail> {
     let mut fs = MemFs::new(rt.alloc())?;
     let f = path(rt.alloc(), "/f")?;
     let mut file = fs.open(rt.alloc(), &f, &to_make(), 1)?;
-    assert_eq!(rt;
-        fs.seek(&mut file, SeekFrom::Start(2_147_483_647))?,
-        2_147_483_647
+    same(
+        &rt,
+        &fs.seek(&mut file, SeekFrom::Start(2_147_483_647))?,
+        &2_147_483_647,
     );
-    assert_eq!(rt;
-        fs.write_bytes(rt.alloc(), &mut file, b"x", 1),
-        Err(FsError::TooLarge)
+    same(
+        &rt,
+        &fs.write_bytes(rt.alloc(), &mut file, b"x", 1),
+        &Err(FsError::TooLarge),
     );
-    assert_eq!(rt; fs.metadata(&f)?.len, 0);
-    assert_eq!(rt;
-        fs.seek(&mut file, SeekFrom::Current(-2_147_483_648)),
-        Err(FsError::GeneralFailure)
+    same(&rt, &fs.metadata(&f)?.len, &0);
+    same(
+        &rt,
+        &fs.seek(&mut file, SeekFrom::Current(-2_147_483_648)),
+        &Err(FsError::GeneralFailure),
     );
     fs.seek(&mut file, SeekFrom::Start(2))?;
     fs.write_buf(rt.alloc(), &mut file, b"x".as_slice(), 1)?;
     fs.flush(&mut file)?;
-    assert_eq!(rt; fs.file_metadata(&file)?.len, 3);
-    assert_eq!(rt;
-        read_all(&mut fs, rt.alloc(), &f)?.as_slice(),
-        b"\0\0x".as_slice()
+    same(&rt, &fs.file_metadata(&file)?.len, &3);
+    same(
+        &rt,
+        &read_all(&mut fs, rt.alloc(), &f)?.as_slice(),
+        &b"\0\0x".as_slice(),
     );
     let mut reader = fs.open(rt.alloc(), &f, &OpenOptions::read(), 1)?;
-    assert_eq!(rt;
-        fs.write_bytes(rt.alloc(), &mut reader, b"x", 1),
-        Err(FsError::Forbidden)
+    same(
+        &rt,
+        &fs.write_bytes(rt.alloc(), &mut reader, b"x", 1),
+        &Err(FsError::Forbidden),
     );
     Ok(())
 }
@@ -179,9 +211,17 @@ fn tells_what_it_has(rt: HostRuntime) -> Result<(), Fail> {
     let mut fs = MemFs::new(rt.alloc())?;
     let root = path(rt.alloc(), "/")?;
     assert!(rt; fs.have_props(&root));
-    assert_eq!(rt; fs.get_quota().err(), Some(FsError::NotImplemented));
-    assert_eq!(rt; fs.set_accessed(&root, 1), Err(FsError::NotImplemented));
-    assert_eq!(rt; fs.set_modified(&root, 1), Err(FsError::NotImplemented));
-    assert_eq!(rt; fs.symlink_metadata(&root)?.number, Some(0));
+    same(&rt, &fs.get_quota().err(), &Some(FsError::NotImplemented));
+    same(
+        &rt,
+        &fs.set_accessed(&root, 1),
+        &Err(FsError::NotImplemented),
+    );
+    same(
+        &rt,
+        &fs.set_modified(&root, 1),
+        &Err(FsError::NotImplemented),
+    );
+    same(&rt, &fs.symlink_metadata(&root)?.number, &Some(0));
     Ok(())
 }

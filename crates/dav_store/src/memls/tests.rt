@@ -1,4 +1,5 @@
 use super::*;
+use crate::asserting::same;
 use std::test::Fail;
 
 // Asks for an exclusive lock in anna's name, at second 100, for 60 seconds.
@@ -56,32 +57,47 @@ fn grants_and_ends_locks(rt: HostRuntime) -> Result<(), Fail> {
     let path = DavPath::new(rt.alloc(), "/a/b")?;
     let below = DavPath::new(rt.alloc(), "/a/b/c")?;
     let granted = lock(&mut ls, rt.alloc(), "/a/b", true, "t1")?;
-    assert_eq!(rt; granted.map(|l| l.timeout_at).ok(), Some(Some(160)));
-    assert_eq!(rt;
-        lock(&mut ls, rt.alloc(), "/a", true, "t3")?.err(),
-        Some(LockRefusal::Conflict)
+    same(&rt, &granted.map(|l| l.timeout_at).ok(), &Some(Some(160)));
+    same(
+        &rt,
+        &lock(&mut ls, rt.alloc(), "/a", true, "t3")?.err(),
+        &Some(LockRefusal::Conflict),
     );
     assert!(rt; lock(&mut ls, rt.alloc(), "/a", false, "t2")?.is_ok());
     let tokens = tokens_at(&ls, rt.alloc(), "/a/b/c")?;
     assert_eq!(rt; tokens.len(), 1);
-    assert_eq!(rt; tokens[0].as_str(), "t1");
+    same(&rt, &tokens[0].as_str(), &"t1");
     let refreshed = ls.refresh(rt.alloc(), &path, "t1", Some(30), 150);
-    assert_eq!(rt;
-        refreshed.map(|l| (l.timeout_at, l.timeout)).ok(),
-        Some((Some(180), Some(30)))
+    same(
+        &rt,
+        &refreshed.map(|l| (l.timeout_at, l.timeout)).ok(),
+        &Some((Some(180), Some(30))),
     );
-    assert_eq!(rt;
-        ls.refresh(rt.alloc(), &above, "t1", None, 150).err(),
-        Some(RefreshRefusal::NotThere)
+    same(
+        &rt,
+        &ls.refresh(rt.alloc(), &above, "t1", None, 150).err(),
+        &Some(RefreshRefusal::NotThere),
     );
-    assert_eq!(rt; in_the_way(&ls, rt.alloc(), &below, "ben", false)?, "t1");
-    assert_eq!(rt; in_the_way(&ls, rt.alloc(), &below, "anna", false)?, "");
-    assert_eq!(rt; in_the_way(&ls, rt.alloc(), &above, "anna", true)?, "t2");
+    same(
+        &rt,
+        &in_the_way(&ls, rt.alloc(), &below, "ben", false)?,
+        &"t1",
+    );
+    same(
+        &rt,
+        &in_the_way(&ls, rt.alloc(), &below, "anna", false)?,
+        &"",
+    );
+    same(
+        &rt,
+        &in_the_way(&ls, rt.alloc(), &above, "anna", true)?,
+        &"t2",
+    );
     assert!(rt; ls.unlock(&below, "t1").is_ok());
     assert!(rt; ls.unlock(&below, "t1").is_err());
-    assert_eq!(rt; tokens_at(&ls, rt.alloc(), "/a")?.len(), 1);
+    same(&rt, &tokens_at(&ls, rt.alloc(), "/a")?.len(), &1);
     assert!(rt; ls.delete(&above).is_ok());
-    assert_eq!(rt; tokens_at(&ls, rt.alloc(), "/a")?.len(), 0);
+    same(&rt, &tokens_at(&ls, rt.alloc(), "/a")?.len(), &0);
     Ok(())
 }
 
@@ -95,8 +111,8 @@ fn lists_shared_locks_in_order(rt: HostRuntime) -> Result<(), Fail> {
     }
     let tokens = tokens_at(&ls, rt.alloc(), "/a/b/c")?;
     assert_eq!(rt; tokens.len(), 3);
-    assert_eq!(rt; tokens[0].as_str(), "t2");
-    assert_eq!(rt; tokens[1].as_str(), "t1");
-    assert_eq!(rt; tokens[2].as_str(), "t3");
+    same(&rt, &tokens[0].as_str(), &"t2");
+    same(&rt, &tokens[1].as_str(), &"t1");
+    same(&rt, &tokens[2].as_str(), &"t3");
     Ok(())
 }
