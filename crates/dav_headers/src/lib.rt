@@ -1,6 +1,8 @@
 //! Typed headers: what their values say, and how they are written (RFC 9110, RFC 4918).
 #![tactic(auto)]
 
+#[cfg(test)]
+mod asserting;
 pub mod content;
 pub mod depth;
 pub mod destination;

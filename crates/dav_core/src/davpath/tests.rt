@@ -2,6 +2,7 @@ ghost use Rattle.std.specs.Prelude.{◌≡◌, IfOk, map};
 ghost use Rattle.dav_core.specs.Path.{names};
 
 use super::*;
+use crate::asserting::same;
 use crate::errors::NoMemory;
 use std::test::Fail;
 
@@ -67,18 +68,18 @@ fn gives_names(rt: HostRuntime) -> Result<(), Fail> {
     let path = DavPath::new(alloc, "/a/./b//c/../d%20e/")?;
     let names = copied_names(alloc, &path)?;
     assert_eq!(rt; names.len(), 3);
-    assert_eq!(rt; names[0].as_slice(), b"a".as_slice());
-    assert_eq!(rt; names[1].as_slice(), b"b".as_slice());
-    assert_eq!(rt; names[2].as_slice(), b"d e".as_slice());
+    same(&rt, &names[0].as_slice(), &b"a".as_slice());
+    same(&rt, &names[1].as_slice(), &b"b".as_slice());
+    same(&rt, &names[2].as_slice(), &b"d e".as_slice());
     let server = DavPath::new(alloc, "*")?;
-    assert_eq!(rt; server.as_ref().segments().count(), 0);
+    same(&rt, &server.as_ref().segments().count(), &0);
     Ok(())
 }
 
 #[test]
 fn names_errors(rt: HostRuntime) -> Result<(), Fail> {
     let text = format!(in rt.alloc(); "{}", ParseError::PrefixMismatch)?;
-    assert_eq!(rt; text.as_str(), "PrefixMismatch");
+    same(&rt, &text.as_str(), &"PrefixMismatch");
     Ok(())
 }
 
@@ -100,19 +101,43 @@ fn writes_url_texts(rt: HostRuntime) -> Result<(), Fail> {
 }
 
 #[test]
-fn cuts_prefixes(rt: HostRuntime) -> Result<(), Fail> {
-    let alloc = rt.alloc();
-    let mut path = DavPath::new(alloc, "/dav/x/y/")?;
+fn keeps_a_path_whose_prefix_is_refused(rt: HostRuntime) -> Result<(), Fail> {
+    let mut path = DavPath::new(rt.alloc(), "/dav/x/y/")?;
     let refused = path.set_prefix("/da").err();
-    assert_eq!(rt; refused, Some(ParseError::PrefixMismatch));
-    assert_eq!(rt; path.as_bytes(), b"/dav/x/y/".as_slice());
+    same(&rt, &refused, &Some(ParseError::PrefixMismatch));
+    same(&rt, &path.as_bytes(), &b"/dav/x/y/".as_slice());
+    Ok(())
+}
+
+// The path /dav/x/y/ below the prefix /dav.
+fn below_dav(alloc: Global) -> Result<DavPath, Fail> {
+    let mut path = DavPath::new(alloc, "/dav/x/y/")?;
     path.set_prefix("/dav")?;
-    assert_eq!(rt; path.as_bytes(), b"/x/y/".as_slice());
-    assert_eq!(rt; path.with_prefix().as_bytes(), b"/dav/x/y/".as_slice());
-    assert_eq!(rt; path.prefix(), "/dav");
+    Ok(path)
+}
+
+#[test]
+fn keeps_the_prefix_of_a_path(rt: HostRuntime) -> Result<(), Fail> {
+    let path = below_dav(rt.alloc())?;
+    same(&rt, &path.prefix(), &"/dav");
+    same(&rt, &path.as_bytes(), &b"/x/y/".as_slice());
+    let whole = path.with_prefix();
+    same(&rt, &whole.as_bytes(), &b"/dav/x/y/".as_slice());
+    Ok(())
+}
+
+#[test]
+fn keeps_the_prefix_of_a_parent(rt: HostRuntime) -> Result<(), Fail> {
+    let path = below_dav(rt.alloc())?;
     let parent = path.parent()?;
-    assert_eq!(rt; parent.as_bytes(), b"/x/".as_slice());
-    assert_eq!(rt; parent.with_prefix().as_bytes(), b"/dav/x/".as_slice());
+    same(&rt, &parent.as_bytes(), &b"/x/".as_slice());
+    let whole = parent.with_prefix();
+    same(&rt, &whole.as_bytes(), &b"/dav/x/".as_slice());
+    Ok(())
+}
+
+#[test]
+fn cuts_prefixes(rt: HostRuntime) -> Result<(), Fail> {
     let cases = [
         ("/dav", "/dav", "/dav", "/"),
         ("/dav", "/dav/", "/dav", "/"),
@@ -123,11 +148,11 @@ fn cuts_prefixes(rt: HostRuntime) -> Result<(), Fail> {
         ("/%c3%a9/a", "/\u{e9}/", "/\u{e9}", "/a"),
     ];
     for (text, prefix, kept, bytes) in cases {
-        let mut path = DavPath::new(alloc, text)?;
-        assert_eq!(rt; path.prefix(), "");
+        let mut path = DavPath::new(rt.alloc(), text)?;
+        same(&rt, &path.prefix(), &"");
         path.set_prefix(prefix)?;
-        assert_eq!(rt; path.prefix(), kept, "{text} {prefix}");
-        assert_eq!(rt; path.as_bytes(), bytes.as_bytes(), "{text} {prefix}");
+        same(&rt, &path.prefix(), &kept);
+        same(&rt, &path.as_bytes(), &bytes.as_bytes());
     }
     Ok(())
 }
@@ -158,33 +183,62 @@ fn refuses_prefixes(rt: HostRuntime) -> Result<(), Fail> {
 }
 
 #[test]
-fn adds_names_and_slashes(rt: HostRuntime) -> Result<(), Fail> {
-    let alloc = rt.alloc();
-    let path = DavPath::new(alloc, "/d")?;
-    assert!(rt; !path.is_collection());
+fn adds_slashes(rt: HostRuntime) -> Result<(), Fail> {
+    for (text, bytes) in [("/d", "/d/"), ("/d/", "/d/"), ("/", "/")] {
+        let path = DavPath::new(rt.alloc(), text)?;
+        let mut copy = path.clone()?;
+        copy.add_slash_if(false)?;
+        same(&rt, &copy.as_bytes(), &text.as_bytes());
+        copy.add_slash_if(true)?;
+        same(&rt, &copy.as_bytes(), &bytes.as_bytes());
+        assert!(rt; copy.is_collection() && copy == path);
+    }
+    Ok(())
+}
+
+#[test]
+fn adds_a_slash_once(rt: HostRuntime) -> Result<(), Fail> {
+    let path = DavPath::new(rt.alloc(), "/d")?;
     let mut copy = path.clone()?;
-    copy.add_slash_if(false)?;
-    assert_eq!(rt; copy.as_bytes(), b"/d".as_slice());
-    copy.add_slash_if(true)?;
-    assert_eq!(rt; copy.as_bytes(), b"/d/".as_slice());
-    assert!(rt; copy.is_collection());
-    assert!(rt; copy == path);
-    copy.push_segment(b"a b")?;
-    assert_eq!(rt; copy.as_bytes(), b"/d/a b".as_slice());
-    assert!(rt; copy != path);
     copy.add_slash()?;
     copy.add_slash()?;
-    assert_eq!(rt; copy.as_bytes(), b"/d/a b/".as_slice());
-    let url = copy.as_url_string()?;
-    assert_eq!(rt; url.as_str(), "/d/a%20b/");
-    assert_eq!(rt; copy.segments().count(), 2);
-    assert_eq!(rt; path.as_bytes(), b"/d".as_slice());
+    same(&rt, &copy.as_bytes(), &b"/d/".as_slice());
+    same(&rt, &path.as_bytes(), &b"/d".as_slice());
+    Ok(())
+}
+
+#[test]
+fn adds_names(rt: HostRuntime) -> Result<(), Fail> {
+    for text in ["/d", "/d/"] {
+        let mut path = DavPath::new(rt.alloc(), text)?;
+        path.push_segment(b"a b")?;
+        same(&rt, &path.as_bytes(), &b"/d/a b".as_slice());
+        let url = path.as_url_string()?;
+        same(&rt, &url.as_str(), &"/d/a%20b");
+    }
+    Ok(())
+}
+
+#[test]
+fn counts_names(rt: HostRuntime) -> Result<(), Fail> {
+    let mut path = DavPath::new(rt.alloc(), "/d")?;
+    path.push_segment(b"a b")?;
+    assert_eq!(rt; path.as_bytes(), b"/d/a b".as_slice());
+    assert_eq!(rt; path.segments().count(), 2);
+    Ok(())
+}
+
+#[test]
+fn knows_folders_and_other_paths(rt: HostRuntime) -> Result<(), Fail> {
+    let path = DavPath::new(rt.alloc(), "/d")?;
+    let other = DavPath::new(rt.alloc(), "/d/a")?;
+    assert!(rt; !path.is_collection());
+    assert!(rt; path != other);
     Ok(())
 }
 
 #[test]
 fn gives_last_names(rt: HostRuntime) -> Result<(), Fail> {
-    let alloc = rt.alloc();
     let cases = [
         ("/a/b%20c/", "b c", "/a/"),
         ("/a", "a", "/"),
@@ -192,27 +246,40 @@ fn gives_last_names(rt: HostRuntime) -> Result<(), Fail> {
         ("*", "", "*"),
     ];
     for (text, bytes, parent) in cases {
-        let path = DavPath::new(alloc, text)?;
-        assert_eq!(rt; path.file_name_bytes(), bytes.as_bytes());
+        let path = DavPath::new(rt.alloc(), text)?;
+        same(&rt, &path.file_name_bytes(), &bytes.as_bytes());
         let lent = path.as_ref().parent();
-        assert_eq!(rt; lent.as_bytes(), parent.as_bytes());
-        assert_eq!(rt; path.is_star(), text == "*");
-        assert_eq!(rt; lent.is_collection(), text != "*");
+        same(&rt, &lent.as_bytes(), &parent.as_bytes());
+        same(&rt, &path.is_star(), &(text == "*"));
+        same(&rt, &lent.is_collection(), &(text != "*"));
     }
-    let spaced = DavPath::new(alloc, "/a/b%20c/")?;
-    assert_eq!(rt; spaced.file_name(), Some("b c"));
-    let root = DavPath::new(alloc, "/")?;
-    assert_eq!(rt; root.file_name(), None);
-    let star = DavPath::new(alloc, "*")?;
-    assert_eq!(rt; star.file_name(), None);
-    let raw = DavPath::new(alloc, "/a/%ff")?;
-    assert_eq!(rt; raw.file_name(), None);
-    assert_eq!(rt; raw.file_name_bytes(), b"\xff".as_slice());
-    assert_eq!(rt; raw.as_pathbuf(), None);
-    assert_eq!(rt; raw.as_rel_ospath(), None);
-    let text = DavPath::new(alloc, "/a/b")?;
-    assert_eq!(rt; text.as_pathbuf(), Some("/a/b"));
-    assert_eq!(rt; text.as_rel_ospath(), Some("a/b"));
+    Ok(())
+}
+
+#[test]
+fn gives_names_that_are_text(rt: HostRuntime) -> Result<(), Fail> {
+    let cases = [
+        ("/a/b%20c/", Some("b c"), Some("/a/b c/"), Some("a/b c/")),
+        ("/a/b", Some("b"), Some("/a/b"), Some("a/b")),
+        ("/a/%ff", None, None, None),
+    ];
+    for (text, name, whole, inside) in cases {
+        let path = DavPath::new(rt.alloc(), text)?;
+        same(&rt, &path.file_name(), &name);
+        same(&rt, &path.as_pathbuf(), &whole);
+        same(&rt, &path.as_rel_ospath(), &inside);
+    }
+    Ok(())
+}
+
+#[test]
+fn gives_no_name_of_the_root_or_the_star(rt: HostRuntime) -> Result<(), Fail> {
+    for text in ["/", "*"] {
+        let path = DavPath::new(rt.alloc(), text)?;
+        same(&rt, &path.file_name(), &None);
+    }
+    let raw = DavPath::new(rt.alloc(), "/a/%ff")?;
+    same(&rt, &raw.file_name_bytes(), &b"\xff".as_slice());
     Ok(())
 }
 
@@ -222,9 +289,9 @@ fn shows_paths(rt: HostRuntime) -> Result<(), Fail> {
     let mut path = DavPath::new(alloc, "/dav/a%20b/")?;
     path.set_prefix("/dav")?;
     let text = format!(in alloc; "{path} {path:?}")?;
-    assert_eq!(rt; text.as_str(), "/dav/a%20b/ /dav/a%20b/");
+    same(&rt, &text.as_str(), &"/dav/a%20b/ /dav/a%20b/");
     let server = DavPath::new(alloc, "*")?;
     let text = format!(in alloc; "{server}")?;
-    assert_eq!(rt; text.as_str(), "*");
+    same(&rt, &text.as_str(), &"*");
     Ok(())
 }

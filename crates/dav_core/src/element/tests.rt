@@ -1,4 +1,5 @@
 use super::*;
+use crate::asserting::same;
 use crate::errors::NoMemory;
 use std::test::Fail;
 
@@ -21,13 +22,14 @@ fn makes_elements(rt: HostRuntime) -> Result<(), Fail> {
     let alloc = rt.alloc();
     let element = sample(alloc)?.clone()?;
     let parts = shown(alloc, &element)?;
-    assert_eq!(rt;
-        parts.as_str(),
-        "Element { name: \"x\", prefix: Some(\"D\"), namespace: None, attributes: [(\"xmlns\", \"urn:q\")], children: [Element(Element { name: \"y\", prefix: None, namespace: None, attributes: [], children: [] }), Text(\"t\")] }"
+    same(
+        &rt,
+        &parts.as_str(),
+        &"Element { name: \"x\", prefix: Some(\"D\"), namespace: None, attributes: [(\"xmlns\", \"urn:q\")], children: [Element(Element { name: \"y\", prefix: None, namespace: None, attributes: [], children: [] }), Text(\"t\")] }",
     );
-    assert_eq!(rt; element.depth(), 2);
+    same(&rt, &element.depth(), &2);
     let text = element.get_text(alloc)?;
-    assert_eq!(rt; text.as_deref(), Some("t"));
+    same(&rt, &text.as_deref(), &Some("t"));
     Ok(())
 }
 
@@ -55,9 +57,10 @@ fn sets_namespaces(rt: HostRuntime) -> Result<(), Fail> {
         element.ns(prefix, uri)?;
     }
     let parts = shown(rt.alloc(), &element)?;
-    assert_eq!(rt;
-        parts.as_str(),
-        "Element { name: \"x:y\", prefix: None, namespace: None, attributes: [(\"xmlns:a\", \"urn:3\"), (\"xmlns\", \"urn:2\")], children: [] }"
+    same(
+        &rt,
+        &parts.as_str(),
+        &"Element { name: \"x:y\", prefix: None, namespace: None, attributes: [(\"xmlns:a\", \"urn:3\"), (\"xmlns\", \"urn:2\")], children: [] }",
     );
     Ok(())
 }
@@ -79,7 +82,7 @@ fn joins_texts(rt: HostRuntime) -> Result<(), Fail> {
         element.text(text)?;
     }
     let text = element.get_text(rt.alloc())?;
-    assert_eq!(rt; text.as_deref(), Some("ab"));
+    same(&rt, &text.as_deref(), &Some("ab"));
     Ok(())
 }
 
@@ -92,7 +95,7 @@ fn yields_child_elements(rt: HostRuntime) -> Result<(), Fail> {
     for child in element.child_elems() {
         names.push_str(&child.name)?;
     }
-    assert_eq!(rt; names.as_str(), "bc");
+    same(&rt, &names.as_str(), &"bc");
     Ok(())
 }
 

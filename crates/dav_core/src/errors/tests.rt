@@ -1,4 +1,5 @@
 use super::*;
+use crate::asserting::same;
 use std::test::Fail;
 
 #[test]
@@ -23,7 +24,7 @@ fn shows_errors_of_stores(rt: HostRuntime) -> Result<(), Fail> {
             "{name}"
         );
         let text = format!(in rt.alloc(); "{error}")?;
-        assert_eq!(rt; text.as_str(), name);
+        same(&rt, &text.as_str(), &name);
     }
     Ok(())
 }
@@ -51,7 +52,7 @@ fn shows_errors_of_methods(rt: HostRuntime) -> Result<(), Fail> {
         assert_eq!(rt; error.statuscode().as_u16(), status, "{name}");
         assert_eq!(rt; error.must_close(), closes, "{name}");
         let text = format!(in rt.alloc(); "{error}")?;
-        assert_eq!(rt; text.as_str(), name);
+        same(&rt, &text.as_str(), &name);
     }
     Ok(())
 }
@@ -84,6 +85,6 @@ fn becomes_errors_of_methods(rt: HostRuntime) {
         (DavError::from(AllocFailed { value: 1u8 }), DavError::Memory),
     ];
     for (found, wanted) in cases {
-        assert_eq!(rt; found, wanted);
+        same(&rt, &found, &wanted);
     }
 }

@@ -3,6 +3,7 @@ ghost use Rattle.std.specs.Result.{IsErrOf};
 ghost use Rattle.dav_core.specs.Path.{names, is_root};
 
 use super::*;
+use crate::asserting::same;
 use std::test::Fail;
 
 #[test]
@@ -14,12 +15,12 @@ fn shows_tags(rt: HostRuntime) -> Result<(), Fail> {
         modified: 2,
         number: Some(255),
     };
-    assert_eq!(rt; meta.tag(rt.alloc())?.as_deref(), Some("\"ff\""));
+    same(&rt, &meta.tag(rt.alloc())?.as_deref(), &Some("\"ff\""));
     let without = DavMetaData {
         number: None,
         ..meta
     };
-    assert_eq!(rt; without.tag(rt.alloc())?.as_deref(), None);
+    same(&rt, &without.tag(rt.alloc())?.as_deref(), &None);
     Ok(())
 }
 
@@ -39,9 +40,9 @@ fn tells_what_it_is(rt: HostRuntime) {
         ..file
     };
     assert!(rt; folder.is_dir() && !folder.is_file() && !folder.is_symlink() && folder.is_empty());
-    assert_eq!(rt; file.accessed(), Err(FsError::NotImplemented));
-    assert_eq!(rt; file.status_changed(), Err(FsError::NotImplemented));
-    assert_eq!(rt; file.executable(), Err(FsError::NotImplemented));
+    same(&rt, &file.accessed(), &Err(FsError::NotImplemented));
+    same(&rt, &file.status_changed(), &Err(FsError::NotImplemented));
+    same(&rt, &file.executable(), &Err(FsError::NotImplemented));
 }
 
 #[test]
@@ -80,8 +81,8 @@ fn opens_for_one_thing(rt: HostRuntime) -> Result<(), Fail> {
         ..write
     };
     let copy = sum.clone()?;
-    assert_eq!(rt; copy.checksum.as_deref(), Some("SHA1:ab"));
-    assert_eq!(rt; copy.size, Some(7));
+    same(&rt, &copy.checksum.as_deref(), &Some("SHA1:ab"));
+    same(&rt, &copy.size, &Some(7));
     assert!(rt; copy.write && !copy.read);
     Ok(())
 }
@@ -323,21 +324,24 @@ fn asks_a_store(rt: HostRuntime) -> Result<(), Fail> {
     let mut fs = EmptyFs { short: false };
     let root = DavPath::new(rt.alloc(), "/")?;
     let missing = DavPath::new(rt.alloc(), "/a")?;
-    assert_eq!(rt; members_of(&mut fs, rt.alloc(), &root), Ok(0));
-    assert_eq!(rt;
-        members_of(&mut fs, rt.alloc(), &missing),
-        Err(FsError::NotFound)
+    same(&rt, &members_of(&mut fs, rt.alloc(), &root), &Ok(0));
+    same(
+        &rt,
+        &members_of(&mut fs, rt.alloc(), &missing),
+        &Err(FsError::NotFound),
     );
-    assert_eq!(rt; fs.metadata(&root).map(|m| m.dir), Ok(true));
-    assert_eq!(rt;
-        fs.symlink_metadata(&missing).map(|m| m.dir),
-        Err(FsError::NotFound)
+    same(&rt, &fs.metadata(&root).map(|m| m.dir), &Ok(true));
+    same(
+        &rt,
+        &fs.symlink_metadata(&missing).map(|m| m.dir),
+        &Err(FsError::NotFound),
     );
-    assert_eq!(rt; fs.remove_dir(&root, 1), Err(FsError::Forbidden));
+    same(&rt, &fs.remove_dir(&root, 1), &Err(FsError::Forbidden));
     assert!(rt; !fs.was_short());
-    assert_eq!(rt;
-        fs.create_dir(rt.alloc(), &missing, 1),
-        Err(FsError::InsufficientStorage)
+    same(
+        &rt,
+        &fs.create_dir(rt.alloc(), &missing, 1),
+        &Err(FsError::InsufficientStorage),
     );
     assert!(rt; fs.was_short());
     Ok(())

@@ -1,4 +1,5 @@
 use super::*;
+use crate::asserting::same;
 use std::test::Fail;
 
 // A list that stays empty: there is no memory for a lock.
@@ -84,33 +85,38 @@ fn asks_a_list(rt: HostRuntime) -> Result<(), Fail> {
         "urn:t:1",
         1,
     );
-    assert_eq!(rt; granted.err(), Some(LockRefusal::Memory));
+    same(&rt, &granted.err(), &Some(LockRefusal::Memory));
     assert!(rt; ls.unlock(&path, "urn:t:1").is_err());
     let refreshed = ls.refresh(rt.alloc(), &path, "urn:t:1", None, 1);
-    assert_eq!(rt; refreshed.err(), Some(RefreshRefusal::NotThere));
-    assert_eq!(rt; ls.discover(rt.alloc(), &path)?.len(), 0);
+    same(&rt, &refreshed.err(), &Some(RefreshRefusal::NotThere));
+    same(&rt, &ls.discover(rt.alloc(), &path)?.len(), &0);
     assert!(rt; ls.delete(&path).is_ok());
     Ok(())
 }
 
-#[test]
-fn copies_a_lock(rt: HostRuntime) -> Result<(), Fail> {
-    let lock = DavLock {
-        token: String::from_str(rt.alloc(), "urn:t:1")?,
-        path: DavPath::new(rt.alloc(), "/a/")?,
-        principal: Some(String::from_str(rt.alloc(), "anna")?),
-        owner: Some(Element::new(rt.alloc(), "owner")?),
+// A deep lock of anna's on /a/.
+fn sample(alloc: Global) -> Result<DavLock, Fail> {
+    Ok(DavLock {
+        token: String::from_str(alloc, "urn:t:1")?,
+        path: DavPath::new(alloc, "/a/")?,
+        principal: Some(String::from_str(alloc, "anna")?),
+        owner: Some(Element::new(alloc, "owner")?),
         timeout_at: Some(61),
         timeout: Some(60),
         shared: false,
         deep: true,
-    };
+    })
+}
+
+#[test]
+fn copies_a_lock(rt: HostRuntime) -> Result<(), Fail> {
+    let lock = sample(rt.alloc())?;
     let copy = lock.clone()?;
-    assert_eq!(rt; copy.token.as_str(), "urn:t:1");
-    assert_eq!(rt; copy.path.as_bytes(), b"/a/".as_slice());
-    assert_eq!(rt; copy.principal.as_deref(), Some("anna"));
-    assert_eq!(rt; copy.owner, lock.owner);
-    assert_eq!(rt; (copy.timeout_at, copy.timeout), (Some(61), Some(60)));
+    same(&rt, &copy.token.as_str(), &"urn:t:1");
+    same(&rt, &copy.path.as_bytes(), &b"/a/".as_slice());
+    same(&rt, &copy.principal.as_deref(), &Some("anna"));
+    same(&rt, &copy.owner, &lock.owner);
+    same(&rt, &(copy.timeout_at, copy.timeout), &(Some(61), Some(60)));
     assert!(rt; !copy.shared && copy.deep);
     Ok(())
 }

@@ -1,4 +1,5 @@
 use super::*;
+use crate::asserting::same;
 use crate::laws;
 use std::test::Fail;
 
@@ -40,11 +41,11 @@ fn knows_methods(rt: HostRuntime) -> Result<(), Fail> {
 fn changes_sets(rt: HostRuntime) {
     let mut set = DavMethodSet::HTTP_RO;
     set.add(DavMethod::Put);
-    assert_eq!(rt; set, DavMethodSet::HTTP_RW);
+    same(&rt, &set, &DavMethodSet::HTTP_RW);
     set.remove(DavMethod::Put);
     set.add(DavMethod::PropFind);
     set.add(DavMethod::PropFind);
-    assert_eq!(rt; set, DavMethodSet::WEBDAV_RO);
+    same(&rt, &set, &DavMethodSet::WEBDAV_RO);
     set.remove(DavMethod::Get);
     assert!(rt; !set.contains(DavMethod::Get));
     assert!(rt; set.contains(DavMethod::Head));
@@ -53,24 +54,25 @@ fn changes_sets(rt: HostRuntime) {
 #[test]
 fn reads_sets(rt: HostRuntime) -> Result<(), Fail> {
     let set = DavMethodSet::from_vec(&["Get", "lock"]);
-    assert_eq!(rt; set, Ok(DavMethodSet(2050)));
-    assert_eq!(rt; DavMethodSet::from_vec(&[]), Ok(DavMethodSet::none()));
-    assert_eq!(rt; DavMethodSet::from_vec(&["x"]), Err(InvalidMethod));
-    assert_eq!(rt;
-        DavMethodSet::from_vec(&["GET", "HTTP_RO"]),
-        Err(InvalidMethod)
+    same(&rt, &set, &Ok(DavMethodSet(2050)));
+    same(&rt, &DavMethodSet::from_vec(&[]), &Ok(DavMethodSet::none()));
+    same(&rt, &DavMethodSet::from_vec(&["x"]), &Err(InvalidMethod));
+    same(
+        &rt,
+        &DavMethodSet::from_vec(&["GET", "HTTP_RO"]),
+        &Err(InvalidMethod),
     );
     let text = format!(in rt.alloc(); "{InvalidMethod}")?;
-    assert_eq!(rt; text.as_str(), "InvalidMethod");
+    same(&rt, &text.as_str(), &"InvalidMethod");
     Ok(())
 }
 
 #[test]
 fn keeps_constant_sets(rt: HostRuntime) {
     let (http_ro, http_rw, webdav_ro, webdav_rw) = laws::constant_sets();
-    assert_eq!(rt; http_ro, DavMethodSet(19));
-    assert_eq!(rt; http_rw, DavMethodSet(23));
-    assert_eq!(rt; webdav_ro, DavMethodSet(51));
-    assert_eq!(rt; webdav_rw, DavMethodSet(65535));
-    assert_eq!(rt; webdav_rw, DavMethodSet::all());
+    same(&rt, &http_ro, &DavMethodSet(19));
+    same(&rt, &http_rw, &DavMethodSet(23));
+    same(&rt, &webdav_ro, &DavMethodSet(51));
+    same(&rt, &webdav_rw, &DavMethodSet(65535));
+    same(&rt, &webdav_rw, &DavMethodSet::all());
 }

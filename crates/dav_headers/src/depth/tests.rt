@@ -1,4 +1,5 @@
 use super::*;
+use crate::asserting::same;
 use std::test::Fail;
 
 #[test]
@@ -12,12 +13,17 @@ fn reads_and_writes_depths(rt: HostRuntime) -> Result<(), Fail> {
     for (text, depth, written) in cases {
         let values = [HeaderValue::from_static(text)];
         let read = Depth::decode(rt.alloc(), &values)?;
-        assert_eq!(rt; read, depth);
-        assert_eq!(rt; read.encode(rt.alloc())?.as_bytes(), written.as_bytes());
+        same(&rt, &read, &depth);
+        same(
+            &rt,
+            &read.encode(rt.alloc())?.as_bytes(),
+            &written.as_bytes(),
+        );
     }
-    assert_eq!(rt;
-        Depth::Default.encode(rt.alloc()).err(),
-        Some(HeaderError::Invalid)
+    same(
+        &rt,
+        &Depth::Default.encode(rt.alloc()).err(),
+        &Some(HeaderError::Invalid),
     );
     Ok(())
 }
@@ -33,6 +39,14 @@ fn refuses_depths(rt: HostRuntime) {
         );
     }
     let two = [HeaderValue::from_static("0"), HeaderValue::from_static("0")];
-    assert_eq!(rt; Depth::decode(rt.alloc(), &two), Err(HeaderError::Invalid));
-    assert_eq!(rt; Depth::decode(rt.alloc(), &[]), Err(HeaderError::Invalid));
+    same(
+        &rt,
+        &Depth::decode(rt.alloc(), &two),
+        &Err(HeaderError::Invalid),
+    );
+    same(
+        &rt,
+        &Depth::decode(rt.alloc(), &[]),
+        &Err(HeaderError::Invalid),
+    );
 }

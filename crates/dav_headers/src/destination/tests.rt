@@ -1,4 +1,5 @@
 use super::*;
+use crate::asserting::same;
 use std::test::Fail;
 
 #[test]
@@ -23,7 +24,7 @@ fn reads_destinations(rt: HostRuntime) -> Result<(), Fail> {
         assert_eq!(rt; destination.0.as_str(), path, "{text}");
         let copy = destination.clone()?;
         assert!(rt; copy == destination, "{text}");
-        assert_eq!(rt; copy.encode(rt.alloc())?.as_bytes(), path.as_bytes());
+        same(&rt, &copy.encode(rt.alloc())?.as_bytes(), &path.as_bytes());
     }
     Ok(())
 }
@@ -56,15 +57,17 @@ fn refuses_destinations(rt: HostRuntime) -> Result<(), Fail> {
     ];
     let latin = [HeaderValue::from_bytes(rt.alloc(), b"/\xe9")?];
     for values in [&[], latin.as_slice(), two.as_slice()] {
-        assert_eq!(rt;
-            Destination::decode(rt.alloc(), values).err(),
-            Some(HeaderError::Invalid)
+        same(
+            &rt,
+            &Destination::decode(rt.alloc(), values).err(),
+            &Some(HeaderError::Invalid),
         );
     }
     let accented = Destination(String::from_str(rt.alloc(), "/\u{e9}")?);
-    assert_eq!(rt;
-        accented.encode(rt.alloc()).err(),
-        Some(HeaderError::Invalid)
+    same(
+        &rt,
+        &accented.encode(rt.alloc()).err(),
+        &Some(HeaderError::Invalid),
     );
     Ok(())
 }

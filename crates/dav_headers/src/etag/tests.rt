@@ -1,18 +1,19 @@
 use super::*;
+use crate::asserting::same;
 use std::test::Fail;
 
 #[test]
 fn makes_tags(rt: HostRuntime) -> Result<(), Fail> {
     let tag = ETag::new(rt.alloc(), true, "12345")?;
     let text = format!(in rt.alloc(); "{tag}")?;
-    assert_eq!(rt; text.as_str(), "W/\"12345\"");
+    same(&rt, &text.as_str(), &"W/\"12345\"");
     assert!(rt; tag.is_weak());
     let strong = ETag::new(rt.alloc(), false, "")?;
     let text = format!(in rt.alloc(); "{strong}")?;
-    assert_eq!(rt; text.as_str(), "\"\"");
+    same(&rt, &text.as_str(), &"\"\"");
     assert!(rt; !strong.is_weak());
     let refused = ETag::new(rt.alloc(), false, "a\"b").err();
-    assert_eq!(rt; refused, Some(HeaderError::Invalid));
+    same(&rt, &refused, &Some(HeaderError::Invalid));
     Ok(())
 }
 
@@ -29,7 +30,7 @@ fn reads_tags(rt: HostRuntime) -> Result<(), Fail> {
     ] {
         let tag = ETag::from_str(rt.alloc(), text)?;
         let written = format!(in rt.alloc(); "{tag}")?;
-        assert_eq!(rt; written.as_str(), text);
+        same(&rt, &written.as_str(), &text);
         assert_eq!(rt; tag.is_weak(), text.starts_with('W'), "{text}");
     }
     Ok(())
@@ -80,25 +81,27 @@ fn decodes_and_encodes(rt: HostRuntime) -> Result<(), Fail> {
     let value = HeaderValue::from_static("W/\"a\"");
     let values = [value];
     let tag = ETag::decode(rt.alloc(), &values)?;
-    assert_eq!(rt;
-        tag.clone()?.encode(rt.alloc())?.as_bytes(),
-        b"W/\"a\"".as_slice()
+    same(
+        &rt,
+        &tag.clone()?.encode(rt.alloc())?.as_bytes(),
+        &b"W/\"a\"".as_slice(),
     );
     let none = ETag::decode(rt.alloc(), &[]).err();
-    assert_eq!(rt; none, Some(HeaderError::Invalid));
+    same(&rt, &none, &Some(HeaderError::Invalid));
     let two = [
         HeaderValue::from_static("\"a\""),
         HeaderValue::from_static("\"a\""),
     ];
     let refused = ETag::decode(rt.alloc(), &two).err();
-    assert_eq!(rt; refused, Some(HeaderError::Invalid));
+    same(&rt, &refused, &Some(HeaderError::Invalid));
     let latin = [HeaderValue::from_bytes(rt.alloc(), b"\"\xe9\"")?];
     let refused = ETag::decode(rt.alloc(), &latin).err();
-    assert_eq!(rt; refused, Some(HeaderError::Invalid));
+    same(&rt, &refused, &Some(HeaderError::Invalid));
     let accented = ETag::new(rt.alloc(), false, "\u{e9}")?;
-    assert_eq!(rt;
-        accented.encode(rt.alloc()).err(),
-        Some(HeaderError::Invalid)
+    same(
+        &rt,
+        &accented.encode(rt.alloc()).err(),
+        &Some(HeaderError::Invalid),
     );
     Ok(())
 }

@@ -1,4 +1,5 @@
 use super::*;
+use crate::asserting::same;
 use std::test::Fail;
 
 // The values between bars.
@@ -29,9 +30,17 @@ fn reads_lists_of_tags(rt: HostRuntime) -> Result<(), Fail> {
     for (texts, written) in cases {
         let values = values_of(rt.alloc(), texts)?;
         let one = IfMatch::decode(rt.alloc(), &values)?.clone()?;
-        assert_eq!(rt; one.encode(rt.alloc())?.as_bytes(), written.as_bytes());
+        same(
+            &rt,
+            &one.encode(rt.alloc())?.as_bytes(),
+            &written.as_bytes(),
+        );
         let other = IfNoneMatch::decode(rt.alloc(), &values)?.clone()?;
-        assert_eq!(rt; other.encode(rt.alloc())?.as_bytes(), written.as_bytes());
+        same(
+            &rt,
+            &other.encode(rt.alloc())?.as_bytes(),
+            &written.as_bytes(),
+        );
     }
     Ok(())
 }
@@ -40,29 +49,34 @@ fn reads_lists_of_tags(rt: HostRuntime) -> Result<(), Fail> {
 fn refuses_lists_of_tags(rt: HostRuntime) -> Result<(), Fail> {
     for texts in ["\u{e9}", "\"a\"|\"\u{e9}\"", "\u{e9}|*"] {
         let values = values_of(rt.alloc(), texts)?;
-        assert_eq!(rt;
-            IfMatch::decode(rt.alloc(), &values).err(),
-            Some(HeaderError::Invalid)
+        same(
+            &rt,
+            &IfMatch::decode(rt.alloc(), &values).err(),
+            &Some(HeaderError::Invalid),
         );
-        assert_eq!(rt;
-            IfNoneMatch::decode(rt.alloc(), &values).err(),
-            Some(HeaderError::Invalid)
+        same(
+            &rt,
+            &IfNoneMatch::decode(rt.alloc(), &values).err(),
+            &Some(HeaderError::Invalid),
         );
     }
-    assert_eq!(rt;
-        IfMatch::decode(rt.alloc(), &[]).err(),
-        Some(HeaderError::Invalid)
+    same(
+        &rt,
+        &IfMatch::decode(rt.alloc(), &[]).err(),
+        &Some(HeaderError::Invalid),
     );
-    assert_eq!(rt;
-        IfNoneMatch::decode(rt.alloc(), &[]).err(),
-        Some(HeaderError::Invalid)
+    same(
+        &rt,
+        &IfNoneMatch::decode(rt.alloc(), &[]).err(),
+        &Some(HeaderError::Invalid),
     );
     let mut tags = Vec::new(rt.alloc());
     tags.push(ETag::new(rt.alloc(), false, "\u{e9}")?)?;
     let accented = IfMatch(ETagList::Tags(tags));
-    assert_eq!(rt;
-        accented.encode(rt.alloc()).err(),
-        Some(HeaderError::Invalid)
+    same(
+        &rt,
+        &accented.encode(rt.alloc()).err(),
+        &Some(HeaderError::Invalid),
     );
     Ok(())
 }
@@ -71,7 +85,11 @@ fn refuses_lists_of_tags(rt: HostRuntime) -> Result<(), Fail> {
 fn reads_ranges_of_tags(rt: HostRuntime) -> Result<(), Fail> {
     let values = [HeaderValue::from_static("\"a\"")];
     let range = IfRange::decode(rt.alloc(), &values)?.clone()?;
-    assert_eq!(rt; range.encode(rt.alloc())?.as_bytes(), b"\"a\"".as_slice());
+    same(
+        &rt,
+        &range.encode(rt.alloc())?.as_bytes(),
+        &b"\"a\"".as_slice(),
+    );
     for text in [
         "",
         "*",
@@ -91,9 +109,10 @@ fn reads_ranges_of_tags(rt: HostRuntime) -> Result<(), Fail> {
         HeaderValue::from_static("\"a\""),
     ];
     for values in [&[], two.as_slice()] {
-        assert_eq!(rt;
-            IfRange::decode(rt.alloc(), values).err(),
-            Some(HeaderError::Invalid)
+        same(
+            &rt,
+            &IfRange::decode(rt.alloc(), values).err(),
+            &Some(HeaderError::Invalid),
         );
     }
     Ok(())

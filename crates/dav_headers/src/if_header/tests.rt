@@ -1,4 +1,5 @@
 use super::*;
+use crate::asserting::same;
 use std::test::Fail;
 
 // A list as text: its resource tag, and its conditions with a comma behind each.
@@ -154,9 +155,10 @@ fn refuses_bytes_that_are_no_text(rt: HostRuntime) -> Result<(), Fail> {
         b"<urn:\xff> (<a:b>)",
     ] {
         let values = [value(rt.alloc(), bytes)?];
-        assert_eq!(rt;
-            If::decode(rt.alloc(), &values).err(),
-            Some(HeaderError::Invalid)
+        same(
+            &rt,
+            &If::decode(rt.alloc(), &values).err(),
+            &Some(HeaderError::Invalid),
         );
     }
     Ok(())
@@ -168,13 +170,15 @@ fn takes_one_value(rt: HostRuntime) -> Result<(), Fail> {
         value(rt.alloc(), b"(<a:b>)")?,
         value(rt.alloc(), b"(<c:d>)")?,
     ];
-    assert_eq!(rt;
-        If::decode(rt.alloc(), &two).err(),
-        Some(HeaderError::Invalid)
+    same(
+        &rt,
+        &If::decode(rt.alloc(), &two).err(),
+        &Some(HeaderError::Invalid),
     );
-    assert_eq!(rt;
-        If::decode(rt.alloc(), &[]).err(),
-        Some(HeaderError::Invalid)
+    same(
+        &rt,
+        &If::decode(rt.alloc(), &[]).err(),
+        &Some(HeaderError::Invalid),
     );
     Ok(())
 }
@@ -185,6 +189,6 @@ fn copies_lists(rt: HostRuntime) -> Result<(), Fail> {
     let values = [value(rt.alloc(), text.as_bytes())?];
     let found = If::decode(rt.alloc(), &values)?;
     let copy = found.clone()?;
-    assert_eq!(rt; shown(rt.alloc(), &copy)?, shown(rt.alloc(), &found)?);
+    same(&rt, &shown(rt.alloc(), &copy)?, &shown(rt.alloc(), &found)?);
     Ok(())
 }

@@ -1,4 +1,5 @@
 use super::*;
+use crate::asserting::same;
 use std::test::Fail;
 
 #[test]
@@ -12,14 +13,15 @@ fn reads_languages(rt: HostRuntime) -> Result<(), Fail> {
         let language = ContentLanguage::decode(rt.alloc(), values)?;
         let copy = language.clone()?;
         assert!(rt; copy == language);
-        assert_eq!(rt;
-            copy.encode(rt.alloc())?.as_bytes(),
-            b"en, de-AT".as_slice()
+        same(
+            &rt,
+            &copy.encode(rt.alloc())?.as_bytes(),
+            &b"en, de-AT".as_slice(),
         );
         let mut langs = copy.iter_langs();
-        assert_eq!(rt; langs.next(), Some("en"));
-        assert_eq!(rt; langs.next(), Some("de-AT"));
-        assert_eq!(rt; langs.next(), None);
+        same(&rt, &langs.next(), &Some("en"));
+        same(&rt, &langs.next(), &Some("de-AT"));
+        same(&rt, &langs.next(), &None);
     }
     Ok(())
 }
@@ -36,9 +38,10 @@ fn refuses_languages(rt: HostRuntime) -> Result<(), Fail> {
     }
     let latin = [HeaderValue::from_bytes(rt.alloc(), b"d\xe9")?];
     for values in [&[], latin.as_slice()] {
-        assert_eq!(rt;
-            ContentLanguage::decode(rt.alloc(), values).err(),
-            Some(HeaderError::Invalid)
+        same(
+            &rt,
+            &ContentLanguage::decode(rt.alloc(), values).err(),
+            &Some(HeaderError::Invalid),
         );
     }
     Ok(())

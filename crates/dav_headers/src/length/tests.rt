@@ -1,4 +1,5 @@
 use super::*;
+use crate::asserting::same;
 use std::test::Fail;
 
 // What the values between bars are read as.
@@ -32,10 +33,14 @@ fn reads_lengths(rt: HostRuntime) -> Result<(), Fail> {
     ];
     for (texts, number, written) in cases {
         let length = decoded(rt.alloc(), texts)?;
-        assert_eq!(rt; length.0, number);
+        same(&rt, &length.0, &number);
         let copy = length.clone()?;
         assert!(rt; copy == length, "{written}");
-        assert_eq!(rt; copy.encode(rt.alloc())?.as_bytes(), written.as_bytes());
+        same(
+            &rt,
+            &copy.encode(rt.alloc())?.as_bytes(),
+            &written.as_bytes(),
+        );
     }
     Ok(())
 }
@@ -63,8 +68,9 @@ fn refuses_lengths(rt: HostRuntime) {
             "{texts}"
         );
     }
-    assert_eq!(rt;
-        ContentLength::decode(rt.alloc(), &[]).err(),
-        Some(HeaderError::Invalid)
+    same(
+        &rt,
+        &ContentLength::decode(rt.alloc(), &[]).err(),
+        &Some(HeaderError::Invalid),
     );
 }

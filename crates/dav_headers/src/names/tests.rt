@@ -1,4 +1,5 @@
 use super::*;
+use crate::asserting::same;
 
 #[test]
 fn names_headers(rt: HostRuntime) {
@@ -20,6 +21,6 @@ fn names_headers(rt: HostRuntime) {
         (X_UPDATE_RANGE(), "x-update-range"),
     ];
     for (name, text) in names {
-        assert_eq!(rt; name.as_str(), text);
+        same(&rt, &name.as_str(), &text);
     }
 }

@@ -1,4 +1,5 @@
 use super::*;
+use crate::asserting::same;
 use std::test::Fail;
 
 #[test]
@@ -6,10 +7,10 @@ fn reads_and_writes_overwrite(rt: HostRuntime) -> Result<(), Fail> {
     for (text, overwrite) in [("T", true), ("F", false)] {
         let values = [HeaderValue::from_static(text)];
         let read = Overwrite::decode(rt.alloc(), &values)?;
-        assert_eq!(rt; read.0, overwrite);
+        same(&rt, &read.0, &overwrite);
         let copy = read.clone()?;
         assert!(rt; copy == read, "{text}");
-        assert_eq!(rt; copy.encode(rt.alloc())?.as_bytes(), text.as_bytes());
+        same(&rt, &copy.encode(rt.alloc())?.as_bytes(), &text.as_bytes());
     }
     Ok(())
 }
@@ -25,12 +26,14 @@ fn refuses_overwrite(rt: HostRuntime) {
         );
     }
     let two = [HeaderValue::from_static("T"), HeaderValue::from_static("T")];
-    assert_eq!(rt;
-        Overwrite::decode(rt.alloc(), &two).err(),
-        Some(HeaderError::Invalid)
+    same(
+        &rt,
+        &Overwrite::decode(rt.alloc(), &two).err(),
+        &Some(HeaderError::Invalid),
     );
-    assert_eq!(rt;
-        Overwrite::decode(rt.alloc(), &[]).err(),
-        Some(HeaderError::Invalid)
+    same(
+        &rt,
+        &Overwrite::decode(rt.alloc(), &[]).err(),
+        &Some(HeaderError::Invalid),
     );
 }

@@ -1,4 +1,5 @@
 use super::*;
+use crate::asserting::same;
 use std::test::Fail;
 
 #[test]
@@ -21,7 +22,11 @@ fn reads_and_writes_update_ranges(rt: HostRuntime) -> Result<(), Fail> {
         assert!(rt; read == range, "{text}");
         let copy = read.clone()?;
         assert!(rt; copy == range, "{text}");
-        assert_eq!(rt; copy.encode(rt.alloc())?.as_bytes(), written.as_bytes());
+        same(
+            &rt,
+            &copy.encode(rt.alloc())?.as_bytes(),
+            &written.as_bytes(),
+        );
     }
     Ok(())
 }
@@ -58,9 +63,10 @@ fn refuses_update_ranges(rt: HostRuntime) -> Result<(), Fail> {
         HeaderValue::from_static("append"),
     ];
     for values in [&[], two.as_slice()] {
-        assert_eq!(rt;
-            XUpdateRange::decode(rt.alloc(), values).err(),
-            Some(HeaderError::Invalid)
+        same(
+            &rt,
+            &XUpdateRange::decode(rt.alloc(), values).err(),
+            &Some(HeaderError::Invalid),
         );
     }
     Ok(())
@@ -88,7 +94,11 @@ fn reads_and_writes_content_ranges(rt: HostRuntime) -> Result<(), Fail> {
         assert_eq!(rt; read.length, length, "{text}");
         let copy = read.clone()?;
         assert!(rt; copy == read, "{text}");
-        assert_eq!(rt; copy.encode(rt.alloc())?.as_bytes(), written.as_bytes());
+        same(
+            &rt,
+            &copy.encode(rt.alloc())?.as_bytes(),
+            &written.as_bytes(),
+        );
     }
     Ok(())
 }
@@ -127,9 +137,10 @@ fn refuses_content_ranges(rt: HostRuntime) -> Result<(), Fail> {
         HeaderValue::from_static("bytes */*"),
     ];
     for values in [&[], two.as_slice()] {
-        assert_eq!(rt;
-            ContentRange::decode(rt.alloc(), values).err(),
-            Some(HeaderError::Invalid)
+        same(
+            &rt,
+            &ContentRange::decode(rt.alloc(), values).err(),
+            &Some(HeaderError::Invalid),
         );
     }
     Ok(())

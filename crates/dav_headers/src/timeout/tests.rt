@@ -1,4 +1,5 @@
 use super::*;
+use crate::asserting::same;
 use std::test::Fail;
 
 #[test]
@@ -15,7 +16,11 @@ fn reads_timeouts(rt: HostRuntime) -> Result<(), Fail> {
         let timeout = Timeout::decode(rt.alloc(), &values)?;
         let copy = timeout.clone()?;
         assert!(rt; copy == timeout, "{text}");
-        assert_eq!(rt; copy.encode(rt.alloc())?.as_bytes(), written.as_bytes());
+        same(
+            &rt,
+            &copy.encode(rt.alloc())?.as_bytes(),
+            &written.as_bytes(),
+        );
     }
     let values = [HeaderValue::from_static("Infinite,Second-4100000000")];
     let timeout = Timeout::decode(rt.alloc(), &values)?;
@@ -23,7 +28,7 @@ fn reads_timeouts(rt: HostRuntime) -> Result<(), Fail> {
     assert!(rt; timeout.0[0] == DavTimeout::Infinite);
     assert!(rt; timeout.0[1] == DavTimeout::Seconds(4100000000));
     let none = Timeout(Vec::new(rt.alloc()));
-    assert_eq!(rt; none.encode(rt.alloc())?.as_bytes(), b"".as_slice());
+    same(&rt, &none.encode(rt.alloc())?.as_bytes(), &b"".as_slice());
     Ok(())
 }
 
@@ -55,9 +60,10 @@ fn refuses_timeouts(rt: HostRuntime) -> Result<(), Fail> {
         HeaderValue::from_static("Infinite"),
     ];
     for values in [&[], two.as_slice()] {
-        assert_eq!(rt;
-            Timeout::decode(rt.alloc(), values).err(),
-            Some(HeaderError::Invalid)
+        same(
+            &rt,
+            &Timeout::decode(rt.alloc(), values).err(),
+            &Some(HeaderError::Invalid),
         );
     }
     Ok(())

@@ -1,4 +1,5 @@
 use super::*;
+use crate::asserting::same;
 use std::test::Fail;
 
 #[test]
@@ -6,10 +7,10 @@ fn keeps_lock_token(rt: HostRuntime) -> Result<(), Fail> {
     for text in ["<urn:t:1>", "", " a\tb ", "~"] {
         let values = [HeaderValue::from_str(rt.alloc(), text)?];
         let header = LockToken::decode(rt.alloc(), &values)?;
-        assert_eq!(rt; header.0.as_str(), text);
+        same(&rt, &header.0.as_str(), &text);
         let copy = header.clone()?;
         assert!(rt; copy == header, "{text}");
-        assert_eq!(rt; copy.encode(rt.alloc())?.as_bytes(), text.as_bytes());
+        same(&rt, &copy.encode(rt.alloc())?.as_bytes(), &text.as_bytes());
     }
     Ok(())
 }
@@ -23,11 +24,15 @@ fn refuses_what_is_no_lock_token(rt: HostRuntime) -> Result<(), Fail> {
     ];
     for values in [&[], latin.as_slice(), two.as_slice()] {
         let refused = LockToken::decode(rt.alloc(), values).err();
-        assert_eq!(rt; refused, Some(HeaderError::Invalid));
+        same(&rt, &refused, &Some(HeaderError::Invalid));
     }
     for text in ["\u{e9}", "a\nb", "\u{7f}"] {
         let header = LockToken(String::from_str(rt.alloc(), text)?);
-        assert_eq!(rt; header.encode(rt.alloc()).err(), Some(HeaderError::Invalid));
+        same(
+            &rt,
+            &header.encode(rt.alloc()).err(),
+            &Some(HeaderError::Invalid),
+        );
     }
     Ok(())
 }
@@ -37,10 +42,10 @@ fn keeps_x_litmus(rt: HostRuntime) -> Result<(), Fail> {
     for text in ["a 1", "", " a\tb ", "~"] {
         let values = [HeaderValue::from_str(rt.alloc(), text)?];
         let header = XLitmus::decode(rt.alloc(), &values)?;
-        assert_eq!(rt; header.0.as_str(), text);
+        same(&rt, &header.0.as_str(), &text);
         let copy = header.clone()?;
         assert!(rt; copy == header, "{text}");
-        assert_eq!(rt; copy.encode(rt.alloc())?.as_bytes(), text.as_bytes());
+        same(&rt, &copy.encode(rt.alloc())?.as_bytes(), &text.as_bytes());
     }
     Ok(())
 }
@@ -54,11 +59,15 @@ fn refuses_what_is_no_x_litmus(rt: HostRuntime) -> Result<(), Fail> {
     ];
     for values in [&[], latin.as_slice(), two.as_slice()] {
         let refused = XLitmus::decode(rt.alloc(), values).err();
-        assert_eq!(rt; refused, Some(HeaderError::Invalid));
+        same(&rt, &refused, &Some(HeaderError::Invalid));
     }
     for text in ["\u{e9}", "a\nb", "\u{7f}"] {
         let header = XLitmus(String::from_str(rt.alloc(), text)?);
-        assert_eq!(rt; header.encode(rt.alloc()).err(), Some(HeaderError::Invalid));
+        same(
+            &rt,
+            &header.encode(rt.alloc()).err(),
+            &Some(HeaderError::Invalid),
+        );
     }
     Ok(())
 }
