@@ -1,6 +1,8 @@
 //! A WebDAV server: from the bytes of a request to its reply, and whole runs (RFC 9112; RFC 4918, section 8).
 #![tactic(auto)]
 
+#[cfg(test)]
+mod asserting;
 mod body;
 pub mod davhandler;
 pub mod exchange;

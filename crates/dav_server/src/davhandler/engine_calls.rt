@@ -2,6 +2,7 @@
 //! What is expected was worked out by hand from RFC 9110 and RFC 4918.
 use super::tests::{answered, bytes, new_server, shown};
 use super::*;
+use crate::asserting::same;
 use dav_core::fs::{DavMetaData, OpenOptions};
 use dav_engine::conditional::{dav_if_match, http_if_match, if_match, if_match_get_tokens};
 use dav_store::memfs::MemFs;
@@ -50,14 +51,14 @@ fn judges_tags(rt: HostRuntime) -> Result<(), Fail> {
     let (_, found) = store(rt.alloc())?;
     let get = request(rt.alloc(), DavMethod::Get, &[("if-none-match", "\"2\"")])?;
     let status = http_if_match(rt.alloc(), &get, Some(&found))?;
-    assert_eq!(rt; status, Some(StatusCode::NOT_MODIFIED));
+    same(&rt, &status, &Some(StatusCode::NOT_MODIFIED));
     let put = request(rt.alloc(), DavMethod::Put, &[("if-match", "\"1\"")])?;
     let status = http_if_match(rt.alloc(), &put, Some(&found))?;
-    assert_eq!(rt; status, Some(StatusCode::PRECONDITION_FAILED));
+    same(&rt, &status, &Some(StatusCode::PRECONDITION_FAILED));
     let status = http_if_match(rt.alloc(), &put, None)?;
-    assert_eq!(rt; status, Some(StatusCode::PRECONDITION_FAILED));
+    same(&rt, &status, &Some(StatusCode::PRECONDITION_FAILED));
     let any = request(rt.alloc(), DavMethod::Put, &[("if-match", "*")])?;
-    assert_eq!(rt; http_if_match(rt.alloc(), &any, Some(&found))?, None);
+    same(&rt, &http_if_match(rt.alloc(), &any, Some(&found))?, &None);
     Ok(())
 }
 
@@ -69,7 +70,7 @@ fn judges_tokens(rt: HostRuntime) -> Result<(), Fail> {
     let no_lock = request(rt.alloc(), DavMethod::Put, &[("if", "(<DAV:no-lock>)")])?;
     let (holds, tokens) = dav_if_match(rt.alloc(), &no_lock, &mut fs, Some(&ls), &path)?;
     assert!(rt; !holds);
-    assert_eq!(rt; tokens.len(), 1);
+    same(&rt, &tokens.len(), &1);
     let free = request(
         rt.alloc(),
         DavMethod::Put,
@@ -77,7 +78,7 @@ fn judges_tokens(rt: HostRuntime) -> Result<(), Fail> {
     )?;
     let (holds, tokens) = dav_if_match(rt.alloc(), &free, &mut fs, Some(&ls), &path)?;
     assert!(rt; holds);
-    assert_eq!(rt; tokens.len(), 2);
+    same(&rt, &tokens.len(), &2);
     Ok(())
 }
 
@@ -115,17 +116,17 @@ fn judges_all_conditions(rt: HostRuntime) -> Result<(), Fail> {
     let both = [("if", "(<DAV:no-lock>)"), ("if-none-match", "\"2\"")];
     let get = request(rt.alloc(), DavMethod::Get, &both)?;
     let status = if_match(rt.alloc(), &get, Some(&found), &mut fs, Some(&ls), &path)?;
-    assert_eq!(rt; status, Some(StatusCode::PRECONDITION_FAILED));
+    same(&rt, &status, &Some(StatusCode::PRECONDITION_FAILED));
     let fresh = request(rt.alloc(), DavMethod::Get, &[("if-none-match", "\"2\"")])?;
     let status = if_match(rt.alloc(), &fresh, Some(&found), &mut fs, Some(&ls), &path)?;
-    assert_eq!(rt; status, Some(StatusCode::NOT_MODIFIED));
+    same(&rt, &status, &Some(StatusCode::NOT_MODIFIED));
     let put = request(rt.alloc(), DavMethod::Put, &[("if", "(Not <DAV:no-lock>)")])?;
     let verdict = if_match_get_tokens(rt.alloc(), &put, Some(&found), &mut fs, Some(&ls), &path)?;
     let count = match verdict {
         Ok(tokens) => tokens.len(),
         Err(_) => 0,
     };
-    assert_eq!(rt; count, 1);
+    same(&rt, &count, &1);
     let no_lock = request(rt.alloc(), DavMethod::Put, &[("if", "(<DAV:no-lock>)")])?;
     let verdict = if_match_get_tokens(
         rt.alloc(),
@@ -135,7 +136,7 @@ fn judges_all_conditions(rt: HostRuntime) -> Result<(), Fail> {
         Some(&ls),
         &path,
     )?;
-    assert_eq!(rt; verdict.err(), Some(StatusCode::PRECONDITION_FAILED));
+    same(&rt, &verdict.err(), &Some(StatusCode::PRECONDITION_FAILED));
     Ok(())
 }
 
@@ -161,9 +162,10 @@ fn replaces_a_part_by_the_engine_alone(rt: HostRuntime) -> Result<(), Fail> {
     ];
     let patch = request(rt.alloc(), DavMethod::Patch, &fields)?;
     let reply = inner.handle_put(rt.alloc(), &patch, &bytes(b"y"))?;
-    assert_eq!(rt;
-        shown(rt.alloc(), &reply)?.as_str(),
-        "204\naccept-ranges: bytes\netag: \"3\"\nlast-modified: Thu, 01 Jan 1970 00:00:01 GMT\n"
+    same(
+        &rt,
+        &shown(rt.alloc(), &reply)?.as_str(),
+        &"204\naccept-ranges: bytes\netag: \"3\"\nlast-modified: Thu, 01 Jan 1970 00:00:01 GMT\n",
     );
     Ok(())
 }
@@ -185,11 +187,12 @@ fn makes_a_folder_by_the_engine_alone(rt: HostRuntime) -> Result<(), Fail> {
     };
     let mkcol = request(rt.alloc(), DavMethod::MkCol, &[])?;
     let reply = inner.handle_mkcol(rt.alloc(), &mkcol, &Body::None)?;
-    assert_eq!(rt; shown(rt.alloc(), &reply)?.as_str(), "201\n");
+    same(&rt, &shown(rt.alloc(), &reply)?.as_str(), &"201\n");
     let again = inner.handle_mkcol(rt.alloc(), &mkcol, &Body::None);
-    assert_eq!(rt;
-        again.err().map(|e| e.statuscode()),
-        Some(StatusCode::METHOD_NOT_ALLOWED)
+    same(
+        &rt,
+        &again.err().map(|e| e.statuscode()),
+        &Some(StatusCode::METHOD_NOT_ALLOWED),
     );
     Ok(())
 }
@@ -200,24 +203,27 @@ fn serves_a_folder_with_a_file(rt: HostRuntime) -> Result<(), Fail> {
     let mut server = new_server(rt.alloc())?;
     let mkcol = b"MKCOL /d HTTP/1.1\r\n\r\n";
     let reply = answered(rt.alloc(), &mut server, mkcol, Body::None)?;
-    assert_eq!(rt; reply.as_str(), "201\n");
+    same(&rt, &reply.as_str(), &"201\n");
     let put = b"PUT /d/a HTTP/1.1\r\nContent-Length: 3\r\n\r\n";
     let reply = answered(rt.alloc(), &mut server, put, bytes(b"one"))?;
-    assert_eq!(rt;
-        reply.as_str(),
-        "201\naccept-ranges: bytes\ncontent-length: 0\netag: \"3\"\nlast-modified: Thu, 01 Jan 1970 00:00:01 GMT\n"
+    same(
+        &rt,
+        &reply.as_str(),
+        &"201\naccept-ranges: bytes\ncontent-length: 0\netag: \"3\"\nlast-modified: Thu, 01 Jan 1970 00:00:01 GMT\n",
     );
     let get = b"GET /d/a HTTP/1.1\r\n\r\n";
     let reply = answered(rt.alloc(), &mut server, get, Body::None)?;
-    assert_eq!(rt;
-        reply.as_str(),
-        "200\ncontent-length: 3\ncontent-type: application/octet-stream\netag: \"3\"\nlast-modified: Thu, 01 Jan 1970 00:00:01 GMT\n\none"
+    same(
+        &rt,
+        &reply.as_str(),
+        &"200\ncontent-length: 3\ncontent-type: application/octet-stream\netag: \"3\"\nlast-modified: Thu, 01 Jan 1970 00:00:01 GMT\n\none",
     );
     let head = b"HEAD /d/a HTTP/1.1\r\n\r\n";
     let reply = answered(rt.alloc(), &mut server, head, Body::None)?;
-    assert_eq!(rt;
-        reply.as_str(),
-        "200\ncontent-length: 3\ncontent-type: application/octet-stream\netag: \"3\"\nlast-modified: Thu, 01 Jan 1970 00:00:01 GMT\n"
+    same(
+        &rt,
+        &reply.as_str(),
+        &"200\ncontent-length: 3\ncontent-type: application/octet-stream\netag: \"3\"\nlast-modified: Thu, 01 Jan 1970 00:00:01 GMT\n",
     );
     Ok(())
 }

@@ -1,6 +1,7 @@
 //! Requests for a folder that another holds by a lock. What is answered was worked out by hand from RFC 4918, sections 6 and 7.
 use super::tests::{bytes, closed, refused, shown};
 use super::*;
+use crate::asserting::same;
 use dav_store::memfs::MemFs;
 use dav_store::memls::MemLs;
 use std::test::Fail;
@@ -52,7 +53,7 @@ fn locks_others_out(rt: HostRuntime) -> Result<(), Fail> {
     let locked = closed(rt.alloc(), 423)?;
     for (principal, head) in cases {
         let reply = answered(rt.alloc(), &mut server, principal, head, bytes(b"x"))?;
-        assert_eq!(rt; reply.as_str(), locked.as_str());
+        same(&rt, &reply.as_str(), &locked.as_str());
     }
     Ok(())
 }
@@ -62,7 +63,7 @@ fn makes_no_folder_for_others(rt: HostRuntime) -> Result<(), Fail> {
     let mut server = server(rt.alloc())?;
     let mkcol = b"MKCOL /d/x HTTP/1.1\r\n\r\n";
     let reply = answered(rt.alloc(), &mut server, "ben", mkcol, Body::None)?;
-    assert_eq!(rt; reply.as_str(), refused(rt.alloc(), 423)?.as_str());
+    same(&rt, &reply.as_str(), &refused(rt.alloc(), 423)?.as_str());
     Ok(())
 }
 
@@ -71,9 +72,10 @@ fn makes_no_folder_for_others(rt: HostRuntime) -> Result<(), Fail> {
 fn lets_the_holder_through(rt: HostRuntime) -> Result<(), Fail> {
     let mut server = server(rt.alloc())?;
     let reply = answered(rt.alloc(), &mut server, "anna", PUT_WITH_TOKEN, bytes(b"x"))?;
-    assert_eq!(rt;
-        reply.as_str(),
-        "201\naccept-ranges: bytes\ncontent-length: 0\netag: \"3\"\nlast-modified: Thu, 01 Jan 1970 00:00:01 GMT\n"
+    same(
+        &rt,
+        &reply.as_str(),
+        &"201\naccept-ranges: bytes\ncontent-length: 0\netag: \"3\"\nlast-modified: Thu, 01 Jan 1970 00:00:01 GMT\n",
     );
     Ok(())
 }

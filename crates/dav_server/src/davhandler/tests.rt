@@ -1,6 +1,7 @@
 //! Replies that were worked out by hand from RFC 9110 and RFC 4918.
 
 use super::*;
+use crate::asserting::same;
 use bytes::Bytes;
 use dav_core::element::Element;
 use dav_engine::ReplyBody;
@@ -86,14 +87,14 @@ fn shows_what_was_stored(rt: HostRuntime) -> Result<(), Fail> {
     let mut server = new_server(rt.alloc())?;
     let head = b"PUT /a HTTP/1.1\r\nContent-Length: 3\r\n\r\n";
     let reply = answered(rt.alloc(), &mut server, head, bytes(b"one"))?;
-    assert_eq!(rt; reply.as_str(), MADE);
+    same(&rt, &reply.as_str(), &MADE);
     let reply = answered(
         rt.alloc(),
         &mut server,
         b"GET /a HTTP/1.1\r\n\r\n",
         Body::None,
     )?;
-    assert_eq!(rt; reply.as_str(), ONE);
+    same(&rt, &reply.as_str(), &ONE);
     Ok(())
 }
 
@@ -118,7 +119,7 @@ fn stores_by_the_engine_alone(rt: HostRuntime) -> Result<(), Fail> {
         caller: &caller,
     };
     let reply = inner.handle_put(rt.alloc(), &request, &bytes(b"one"))?;
-    assert_eq!(rt; shown(rt.alloc(), &reply)?.as_str(), MADE);
+    same(&rt, &shown(rt.alloc(), &reply)?.as_str(), &MADE);
     Ok(())
 }
 
@@ -137,7 +138,7 @@ fn refuses_by_the_head(rt: HostRuntime) -> Result<(), Fail> {
     let mut server = new_server(rt.alloc())?;
     for (head, status) in cases {
         let reply = answered(rt.alloc(), &mut server, head, Body::None)?;
-        assert_eq!(rt; reply.as_str(), refused(rt.alloc(), status)?.as_str());
+        same(&rt, &reply.as_str(), &refused(rt.alloc(), status)?.as_str());
     }
     Ok(())
 }
@@ -167,16 +168,16 @@ fn refuses_bodies(rt: HostRuntime) -> Result<(), Fail> {
     let put = b"PUT /f HTTP/1.1\r\n\r\n";
     let tree = Body::Tree(nested(rt.alloc(), 1)?);
     let reply = answered(rt.alloc(), &mut server, put, tree)?;
-    assert_eq!(rt; reply.as_str(), refused(rt.alloc(), 415)?.as_str());
+    same(&rt, &reply.as_str(), &refused(rt.alloc(), 415)?.as_str());
     let reply = answered(rt.alloc(), &mut server, put, Body::Malformed)?;
-    assert_eq!(rt; reply.as_str(), refused(rt.alloc(), 415)?.as_str());
+    same(&rt, &reply.as_str(), &refused(rt.alloc(), 415)?.as_str());
     let delete = b"DELETE /x HTTP/1.1\r\n\r\n";
     let reply = answered(rt.alloc(), &mut server, delete, bytes(b"x"))?;
-    assert_eq!(rt; reply.as_str(), refused(rt.alloc(), 415)?.as_str());
+    same(&rt, &reply.as_str(), &refused(rt.alloc(), 415)?.as_str());
     // The target is looked at before the body.
     let delete = b"DELETE /%2e%2e HTTP/1.1\r\n\r\n";
     let reply = answered(rt.alloc(), &mut server, delete, bytes(b"x"))?;
-    assert_eq!(rt; reply.as_str(), refused(rt.alloc(), 403)?.as_str());
+    same(&rt, &reply.as_str(), &refused(rt.alloc(), 403)?.as_str());
     Ok(())
 }
 
@@ -187,10 +188,10 @@ fn refuses_deep_trees(rt: HostRuntime) -> Result<(), Fail> {
     for (depth, status) in [(64, 501), (65, 400)] {
         let tree = Body::Tree(nested(rt.alloc(), depth)?);
         let reply = answered(rt.alloc(), &mut server, find, tree)?;
-        assert_eq!(rt; reply.as_str(), refused(rt.alloc(), status)?.as_str());
+        same(&rt, &reply.as_str(), &refused(rt.alloc(), status)?.as_str());
     }
     let reply = answered(rt.alloc(), &mut server, find, bytes(b"x"))?;
-    assert_eq!(rt; reply.as_str(), refused(rt.alloc(), 501)?.as_str());
+    same(&rt, &reply.as_str(), &refused(rt.alloc(), 501)?.as_str());
     Ok(())
 }
 
@@ -208,7 +209,7 @@ fn lends_its_store_and_its_locks(rt: HostRuntime) -> Result<(), Fail> {
         Some(locks) => locks.discover(rt.alloc(), &d)?.len(),
         None => 0,
     };
-    assert_eq!(rt; held, 1);
+    same(&rt, &held, &1);
     Ok(())
 }
 
@@ -229,8 +230,8 @@ fn lends_no_locks_where_there_are_none(rt: HostRuntime) -> Result<(), Fail> {
 #[test]
 fn shows_errors(rt: HostRuntime) -> Result<(), Fail> {
     let bad = format!(in rt.alloc(); "{}", HandlerError::BadPrefix)?;
-    assert_eq!(rt; bad.as_str(), "BadPrefix");
+    same(&rt, &bad.as_str(), &"BadPrefix");
     let memory = format!(in rt.alloc(); "{}", HandlerError::Memory)?;
-    assert_eq!(rt; memory.as_str(), "Memory");
+    same(&rt, &memory.as_str(), &"Memory");
     Ok(())
 }

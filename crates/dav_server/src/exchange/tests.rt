@@ -1,4 +1,5 @@
 use super::*;
+use crate::asserting::same;
 use crate::moment::Moment;
 use std::test::Fail;
 
@@ -18,7 +19,7 @@ fn takes_tokens(rt: HostRuntime) -> Result<(), Fail> {
         "DAV",
         "*'\\",
     ] {
-        assert_eq!(rt; GrantToken::new(rt.alloc(), text)?.as_str(), text);
+        same(&rt, &GrantToken::new(rt.alloc(), text)?.as_str(), &text);
     }
     Ok(())
 }
@@ -35,26 +36,29 @@ fn refuses_other_texts(rt: HostRuntime) {
 
 #[test]
 fn shows_errors(rt: HostRuntime) -> Result<(), Fail> {
-    assert_eq!(rt;
-        format!(in rt.alloc(); "{}", TokenError::Refused)?.as_str(),
-        "Refused"
+    same(
+        &rt,
+        &format!(in rt.alloc(); "{}", TokenError::Refused)?.as_str(),
+        &"Refused",
     );
-    assert_eq!(rt;
-        format!(in rt.alloc(); "{}", TokenError::Memory)?.as_str(),
-        "Memory"
+    same(
+        &rt,
+        &format!(in rt.alloc(); "{}", TokenError::Memory)?.as_str(),
+        &"Memory",
     );
-    assert_eq!(rt;
-        format!(in rt.alloc(); "{BadMoment}")?.as_str(),
-        "BadMoment"
+    same(
+        &rt,
+        &format!(in rt.alloc(); "{BadMoment}")?.as_str(),
+        &"BadMoment",
     );
     Ok(())
 }
 
 #[test]
 fn ends_with_the_year_9999(rt: HostRuntime) -> Result<(), Fail> {
-    assert_eq!(rt; LAST_MOMENT, 253_402_300_799);
-    assert_eq!(rt; Moment::new(LAST_MOMENT)?.seconds, LAST_MOMENT);
-    assert_eq!(rt; Moment::new(LAST_MOMENT + 1).err(), Some(BadMoment));
+    same(&rt, &LAST_MOMENT, &253_402_300_799);
+    same(&rt, &Moment::new(LAST_MOMENT)?.seconds, &LAST_MOMENT);
+    same(&rt, &(Moment::new(LAST_MOMENT + 1).err()), &Some(BadMoment));
     Ok(())
 }
 

@@ -1,6 +1,7 @@
 //! Heads whose meaning was worked out by hand from RFC 9110 and RFC 9112.
 
 use super::{MOST_BYTES, MOST_FIELDS, headers_of, read_head};
+use crate::asserting::same;
 use http_header::HeaderMap;
 use std::alloc::{AllocError, Global};
 use std::test::Fail;
@@ -38,11 +39,11 @@ fn wide_head(alloc: Global, fields: usize) -> Result<Vec<u8>, AllocError> {
 #[test]
 fn reads_a_put_and_a_get(rt: HostRuntime) -> Result<(), Fail> {
     let put = read_head(b"PUT /a HTTP/1.1\r\nContent-Length: 3\r\n\r\n")?;
-    assert_eq!(rt; put.method(), b"PUT".as_slice());
-    assert_eq!(rt; put.target(), "/a");
+    same(&rt, &put.method(), &b"PUT".as_slice());
+    same(&rt, &put.target(), &"/a");
     let get = read_head(b"GET /a HTTP/1.1\r\n\r\n")?;
-    assert_eq!(rt; get.method(), b"GET".as_slice());
-    assert_eq!(rt; get.target(), "/a");
+    same(&rt, &get.method(), &b"GET".as_slice());
+    same(&rt, &get.target(), &"/a");
     Ok(())
 }
 
@@ -67,10 +68,10 @@ fn refuses_what_is_no_head(rt: HostRuntime) {
 #[test]
 fn counts_bytes_and_fields(rt: HostRuntime) -> Result<(), Fail> {
     let longest = long_head(rt.alloc(), MOST_BYTES)?;
-    assert_eq!(rt; longest.len(), 65_536);
+    same(&rt, &longest.len(), &65_536);
     assert!(rt; read_head(&longest).is_ok());
     let too_long = long_head(rt.alloc(), MOST_BYTES + 1)?;
-    assert_eq!(rt; too_long.len(), 65_537);
+    same(&rt, &too_long.len(), &65_537);
     assert!(rt; is_refused(&too_long));
     assert!(rt; read_head(&wide_head(rt.alloc(), MOST_FIELDS)?).is_ok());
     assert!(rt; is_refused(&wide_head(rt.alloc(), MOST_FIELDS + 1)?));
@@ -81,13 +82,13 @@ fn counts_bytes_and_fields(rt: HostRuntime) -> Result<(), Fail> {
 fn finds_values(rt: HostRuntime) -> Result<(), Fail> {
     let view = read_head(b"GET / HTTP/1.1\r\nif:  a\tb \t\r\nx: y\r\nIF:\r\niF: c\r\n\r\n")?;
     let mut values = view.values("If");
-    assert_eq!(rt; values.next(), Some(b"a\tb".as_slice()));
-    assert_eq!(rt; values.next(), Some(b"".as_slice()));
-    assert_eq!(rt; values.next(), Some(b"c".as_slice()));
-    assert_eq!(rt; values.next(), None);
-    assert_eq!(rt; view.values("X").next(), Some(b"y".as_slice()));
-    assert_eq!(rt; view.values("i").next(), None);
-    assert_eq!(rt; view.values("iff").next(), None);
+    same(&rt, &values.next(), &Some(b"a\tb".as_slice()));
+    same(&rt, &values.next(), &Some(b"".as_slice()));
+    same(&rt, &values.next(), &Some(b"c".as_slice()));
+    same(&rt, &values.next(), &None);
+    same(&rt, &view.values("X").next(), &Some(b"y".as_slice()));
+    same(&rt, &view.values("i").next(), &None);
+    same(&rt, &view.values("iff").next(), &None);
     Ok(())
 }
 
@@ -105,23 +106,27 @@ fn joined(alloc: Global, headers: &HeaderMap, name: &str) -> Result<Vec<u8>, All
 fn collects_headers(rt: HostRuntime) -> Result<(), Fail> {
     let view = read_head(b"GET / HTTP/1.1\r\nIf:  a\r\nX: y\r\niF: b\xff \r\nZ:\r\n\r\n")?;
     let headers = headers_of(rt.alloc(), &view)?;
-    assert_eq!(rt; headers.len(), 4);
-    assert_eq!(rt; headers.keys_len(), 3);
-    assert_eq!(rt;
-        joined(rt.alloc(), &headers, "if")?.as_slice(),
-        b"a;b\xff;".as_slice()
+    same(&rt, &headers.len(), &4);
+    same(&rt, &headers.keys_len(), &3);
+    same(
+        &rt,
+        &joined(rt.alloc(), &headers, "if")?.as_slice(),
+        &b"a;b\xff;".as_slice(),
     );
-    assert_eq!(rt;
-        joined(rt.alloc(), &headers, "x")?.as_slice(),
-        b"y;".as_slice()
+    same(
+        &rt,
+        &joined(rt.alloc(), &headers, "x")?.as_slice(),
+        &b"y;".as_slice(),
     );
-    assert_eq!(rt;
-        joined(rt.alloc(), &headers, "z")?.as_slice(),
-        b";".as_slice()
+    same(
+        &rt,
+        &joined(rt.alloc(), &headers, "z")?.as_slice(),
+        &b";".as_slice(),
     );
-    assert_eq!(rt;
-        joined(rt.alloc(), &headers, "i")?.as_slice(),
-        b"".as_slice()
+    same(
+        &rt,
+        &joined(rt.alloc(), &headers, "i")?.as_slice(),
+        &b"".as_slice(),
     );
     Ok(())
 }

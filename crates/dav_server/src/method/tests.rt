@@ -1,4 +1,5 @@
 use super::*;
+use crate::asserting::same;
 
 #[test]
 fn knows_what_is_served(rt: HostRuntime) {
@@ -18,7 +19,7 @@ fn knows_what_is_served(rt: HostRuntime) {
         ("UNLOCK", DavMethod::Unlock),
     ];
     for (name, method) in methods {
-        assert_eq!(rt; method_of(name.as_bytes()), Ok(method));
+        same(&rt, &method_of(name.as_bytes()), &Ok(method));
     }
 }
 
@@ -34,6 +35,10 @@ fn refuses_other_methods(rt: HostRuntime) {
         "MKCALENDAR",
         "MKADDRESSBOOK",
     ] {
-        assert_eq!(rt; method_of(name.as_bytes()), Err(DavError::UnknownDavMethod));
+        same(
+            &rt,
+            &method_of(name.as_bytes()),
+            &Err(DavError::UnknownDavMethod),
+        );
     }
 }

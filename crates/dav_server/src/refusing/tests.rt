@@ -1,4 +1,5 @@
 use super::*;
+use crate::asserting::same;
 use dav_store::memfs::MemFs;
 use std::test::Fail;
 
@@ -19,16 +20,18 @@ fn takes_the_next_entry_at_each_call(rt: HostRuntime) -> Result<(), Fail> {
         None,
     ]?);
     fs.create_dir(rt.alloc(), &d, 1)?;
-    assert_eq!(rt; error_of(fs.metadata(&d)), Some(FsError::Forbidden));
-    assert_eq!(rt;
-        error_of(fs.symlink_metadata(&d)),
-        Some(FsError::LoopDetected)
+    same(&rt, &error_of(fs.metadata(&d)), &Some(FsError::Forbidden));
+    same(
+        &rt,
+        &error_of(fs.symlink_metadata(&d)),
+        &Some(FsError::LoopDetected),
     );
-    assert_eq!(rt; fs.symlink_metadata(&d).map(|m| m.dir), Ok(true));
-    assert_eq!(rt;
-        fs.read_dir(rt.alloc(), &root, ReadDirMeta::DataSymlink)?
+    same(&rt, &fs.symlink_metadata(&d).map(|m| m.dir), &Ok(true));
+    same(
+        &rt,
+        &fs.read_dir(rt.alloc(), &root, ReadDirMeta::DataSymlink)?
             .len(),
-        1
+        &1,
     );
     Ok(())
 }
@@ -52,12 +55,16 @@ fn counts_all_calls_of_the_store(rt: HostRuntime) -> Result<(), Fail> {
     let mut file = fs.open(rt.alloc(), &f, &options, 1)?;
     assert!(rt; !fs.was_short());
     let refused = fs.write_bytes(rt.alloc(), &mut file, Bytes::from_static(b"ab"), 1);
-    assert_eq!(rt; refused, Err(FsError::TooLarge));
+    same(&rt, &refused, &Err(FsError::TooLarge));
     assert!(rt; fs.have_props(&f));
     assert!(rt; !fs.have_props(&f));
-    assert_eq!(rt; error_of(fs.get_quota()), Some(FsError::Exists));
-    assert_eq!(rt; error_of(fs.get_quota()), Some(FsError::NotImplemented));
-    assert_eq!(rt; fs.file_metadata(&file)?.len, 0);
+    same(&rt, &error_of(fs.get_quota()), &Some(FsError::Exists));
+    same(
+        &rt,
+        &error_of(fs.get_quota()),
+        &Some(FsError::NotImplemented),
+    );
+    same(&rt, &fs.file_metadata(&file)?.len, &0);
     Ok(())
 }
 
@@ -66,10 +73,10 @@ fn loads_anew(rt: HostRuntime) -> Result<(), Fail> {
     let mut fs = Refusing::new(MemFs::new(rt.alloc())?);
     let root = DavPath::new(rt.alloc(), "/")?;
     fs.load(vec![in rt.alloc(); Some(FsError::NotFound), Some(FsError::NotFound)]?);
-    assert_eq!(rt; error_of(fs.metadata(&root)), Some(FsError::NotFound));
+    same(&rt, &error_of(fs.metadata(&root)), &Some(FsError::NotFound));
     fs.load(vec![in rt.alloc(); None, Some(FsError::Exists)]?);
     assert!(rt; fs.metadata(&root).is_ok());
-    assert_eq!(rt; error_of(fs.metadata(&root)), Some(FsError::Exists));
+    same(&rt, &error_of(fs.metadata(&root)), &Some(FsError::Exists));
     assert!(rt; fs.metadata(&root).is_ok());
     let mut inner = fs.into_inner();
     assert!(rt; inner.metadata(&root).is_ok());

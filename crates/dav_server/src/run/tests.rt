@@ -1,6 +1,7 @@
 //! Runs whose replies were worked out by hand from RFC 9110.
 
 use super::*;
+use crate::asserting::same;
 use crate::davhandler::tests::{MADE, ONE, shown};
 use crate::exchange::BadMoment;
 use bytes::Bytes;
@@ -56,8 +57,8 @@ fn runs_requests_in_order(rt: HostRuntime) -> Result<(), Fail> {
     let exchanges = [exchange(PUT, b"one")?, exchange(GET, b"")?];
     let replies = server.run(rt.alloc(), &exchanges).map_err(|_| NoMemory)?;
     assert_eq!(rt; replies.len(), 2);
-    assert_eq!(rt; shown(rt.alloc(), &replies[0])?.as_str(), MADE);
-    assert_eq!(rt; shown(rt.alloc(), &replies[1])?.as_str(), ONE);
+    same(&rt, &shown(rt.alloc(), &replies[0])?.as_str(), &MADE);
+    same(&rt, &shown(rt.alloc(), &replies[1])?.as_str(), &ONE);
     Ok(())
 }
 
@@ -79,14 +80,16 @@ fn runs_a_folder_with_a_file(rt: HostRuntime) -> Result<(), Fail> {
     ];
     let replies = server.run(rt.alloc(), &exchanges).map_err(|_| NoMemory)?;
     assert_eq!(rt; replies.len(), 3);
-    assert_eq!(rt; shown(rt.alloc(), &replies[0])?.as_str(), "201\n");
-    assert_eq!(rt;
-        shown(rt.alloc(), &replies[1])?.as_str(),
-        "201\naccept-ranges: bytes\ncontent-length: 0\netag: \"3\"\nlast-modified: Thu, 01 Jan 1970 00:00:01 GMT\n"
+    same(&rt, &shown(rt.alloc(), &replies[0])?.as_str(), &"201\n");
+    same(
+        &rt,
+        &shown(rt.alloc(), &replies[1])?.as_str(),
+        &"201\naccept-ranges: bytes\ncontent-length: 0\netag: \"3\"\nlast-modified: Thu, 01 Jan 1970 00:00:01 GMT\n",
     );
-    assert_eq!(rt;
-        shown(rt.alloc(), &replies[2])?.as_str(),
-        "200\ncontent-length: 3\ncontent-type: application/octet-stream\netag: \"3\"\nlast-modified: Thu, 01 Jan 1970 00:00:01 GMT\n\none"
+    same(
+        &rt,
+        &shown(rt.alloc(), &replies[2])?.as_str(),
+        &"200\ncontent-length: 3\ncontent-type: application/octet-stream\netag: \"3\"\nlast-modified: Thu, 01 Jan 1970 00:00:01 GMT\n\none",
     );
     Ok(())
 }
@@ -99,8 +102,8 @@ fn runs_requests_without_refusals(rt: HostRuntime) -> Result<(), Fail> {
     add_step(&mut steps, GET, b"", Vec::new(rt.alloc()))?;
     let replies = run_refused(&mut server, rt.alloc(), steps).map_err(|_| NoMemory)?;
     assert_eq!(rt; replies.len(), 2);
-    assert_eq!(rt; shown(rt.alloc(), &replies[0])?.as_str(), MADE);
-    assert_eq!(rt; shown(rt.alloc(), &replies[1])?.as_str(), ONE);
+    same(&rt, &shown(rt.alloc(), &replies[0])?.as_str(), &MADE);
+    same(&rt, &shown(rt.alloc(), &replies[1])?.as_str(), &ONE);
     Ok(())
 }
 
@@ -120,14 +123,16 @@ fn keeps_what_a_refused_write_left(rt: HostRuntime) -> Result<(), Fail> {
     add_step(&mut steps, GET, b"", Vec::new(rt.alloc()))?;
     let replies = run_refused(&mut server, rt.alloc(), steps).map_err(|_| NoMemory)?;
     assert_eq!(rt; replies.len(), 3);
-    assert_eq!(rt; shown(rt.alloc(), &replies[0])?.as_str(), MADE);
-    assert_eq!(rt;
-        shown(rt.alloc(), &replies[1])?.as_str(),
-        "507\ncontent-length: 0\n"
+    same(&rt, &shown(rt.alloc(), &replies[0])?.as_str(), &MADE);
+    same(
+        &rt,
+        &shown(rt.alloc(), &replies[1])?.as_str(),
+        &"507\ncontent-length: 0\n",
     );
-    assert_eq!(rt;
-        shown(rt.alloc(), &replies[2])?.as_str(),
-        "200\ncontent-length: 0\ncontent-type: application/octet-stream\netag: \"3\"\nlast-modified: Thu, 01 Jan 1970 00:00:01 GMT\n\n"
+    same(
+        &rt,
+        &shown(rt.alloc(), &replies[2])?.as_str(),
+        &"200\ncontent-length: 0\ncontent-type: application/octet-stream\netag: \"3\"\nlast-modified: Thu, 01 Jan 1970 00:00:01 GMT\n\n",
     );
     Ok(())
 }
@@ -147,10 +152,11 @@ fn answers_a_refused_question(rt: HostRuntime) -> Result<(), Fail> {
     add_step(&mut steps, GET, b"", Vec::new(rt.alloc()))?;
     let replies = run_refused(&mut server, rt.alloc(), steps).map_err(|_| NoMemory)?;
     assert_eq!(rt; replies.len(), 3);
-    assert_eq!(rt;
-        shown(rt.alloc(), &replies[1])?.as_str(),
-        "413\ncontent-length: 0\n"
+    same(
+        &rt,
+        &shown(rt.alloc(), &replies[1])?.as_str(),
+        &"413\ncontent-length: 0\n",
     );
-    assert_eq!(rt; shown(rt.alloc(), &replies[2])?.as_str(), ONE);
+    same(&rt, &shown(rt.alloc(), &replies[2])?.as_str(), &ONE);
     Ok(())
 }

@@ -1,6 +1,7 @@
 //! Targets whose paths were worked out by hand from RFC 9112, section 3.2, and RFC 3986, section 5.2.4.
 
 use super::*;
+use crate::asserting::same;
 use std::test::Fail;
 
 // What a target of GET names below a prefix: all of the path's bytes, or the error.
@@ -21,7 +22,11 @@ fn reads_targets(rt: HostRuntime) -> Result<(), Fail> {
         ("://h/a", "/a"),
     ];
     for (target, path) in cases {
-        assert_eq!(rt; named(rt.alloc(), target, "")?.as_slice(), path.as_bytes());
+        same(
+            &rt,
+            &named(rt.alloc(), target, "")?.as_slice(),
+            &path.as_bytes(),
+        );
     }
     Ok(())
 }
@@ -30,40 +35,45 @@ fn reads_targets(rt: HostRuntime) -> Result<(), Fail> {
 fn refuses_targets(rt: HostRuntime) {
     for target in ["*", "a", "h:80", "http://h/a#b", "http:///a"] {
         let bad = DavError::Status(StatusCode::BAD_REQUEST);
-        assert_eq!(rt; named(rt.alloc(), target, "").err(), Some(bad));
+        same(&rt, &named(rt.alloc(), target, "").err(), &Some(bad));
     }
     for target in ["http://h?q", "/a#b", "/a%2Fb", "http://h/a%00"] {
         let refused = named(rt.alloc(), target, "").err();
-        assert_eq!(rt; refused, Some(DavError::InvalidPath));
+        same(&rt, &refused, &Some(DavError::InvalidPath));
     }
     for target in ["/%2e%2e/x", "http://h/.."] {
         let refused = named(rt.alloc(), target, "").err();
-        assert_eq!(rt; refused, Some(DavError::ForbiddenPath));
+        same(&rt, &refused, &Some(DavError::ForbiddenPath));
     }
 }
 
 #[test]
 fn cuts_the_prefix(rt: HostRuntime) -> Result<(), Fail> {
     for prefix in ["/dav", "/dav/"] {
-        assert_eq!(rt;
-            named(rt.alloc(), "/dav/a", prefix)?.as_slice(),
-            b"/a".as_slice()
+        same(
+            &rt,
+            &named(rt.alloc(), "/dav/a", prefix)?.as_slice(),
+            &b"/a".as_slice(),
         );
-        assert_eq!(rt;
-            named(rt.alloc(), "/dav", prefix)?.as_slice(),
-            b"/".as_slice()
+        same(
+            &rt,
+            &named(rt.alloc(), "/dav", prefix)?.as_slice(),
+            &b"/".as_slice(),
         );
-        assert_eq!(rt;
-            named(rt.alloc(), "http://h/dav/a", prefix)?.as_slice(),
-            b"/a".as_slice()
+        same(
+            &rt,
+            &named(rt.alloc(), "http://h/dav/a", prefix)?.as_slice(),
+            &b"/a".as_slice(),
         );
-        assert_eq!(rt;
-            named(rt.alloc(), "/davx", prefix).err(),
-            Some(DavError::IllegalPath)
+        same(
+            &rt,
+            &named(rt.alloc(), "/davx", prefix).err(),
+            &Some(DavError::IllegalPath),
         );
-        assert_eq!(rt;
-            named(rt.alloc(), "/other", prefix).err(),
-            Some(DavError::IllegalPath)
+        same(
+            &rt,
+            &named(rt.alloc(), "/other", prefix).err(),
+            &Some(DavError::IllegalPath),
         );
     }
     Ok(())
@@ -73,8 +83,12 @@ fn cuts_the_prefix(rt: HostRuntime) -> Result<(), Fail> {
 fn keeps_the_star_for_options(rt: HostRuntime) -> Result<(), Fail> {
     let path = path_of(rt.alloc(), DavMethod::Options, "*", "/dav")?;
     assert!(rt; path.is_star());
-    assert_eq!(rt; path.prefix(), "");
+    same(&rt, &path.prefix(), &"");
     let refused = path_of(rt.alloc(), DavMethod::PropFind, "*", "/dav").err();
-    assert_eq!(rt; refused, Some(DavError::Status(StatusCode::BAD_REQUEST)));
+    same(
+        &rt,
+        &refused,
+        &Some(DavError::Status(StatusCode::BAD_REQUEST)),
+    );
     Ok(())
 }
