@@ -1,227 +1,437 @@
+//! Calls of a store as rows. What each answers was worked out by hand from RFC 4918 and the docstrings of the calls.
+//!
+//! A line `# title` begins a new store. Each other line is a call and, after ` -> `, its answer: `ok`, the name of an error, or what the
+//! call gives. `open` opens the one file that `write`, `read` and the like speak of; a folder in a listing ends in a slash.
+ghost use Rattle.std.specs.Prelude.{◌<◌};
+
 use super::*;
-use crate::asserting::same;
 use dav_core::fs::{DavDirEntry, DavFileSystem, ReadDirMeta};
+use std::mem;
+use std::process::Abort;
 use std::test::Fail;
 
-fn path(alloc: Global, text: &str) -> Result<DavPath, Fail> {
-    Ok(DavPath::new(alloc, text)?)
+const ROWS: &str = r##"
+# an open file follows its node through a rename, and ends with it
+open /f read,create,write 1 -> ok
+write ab 1 -> ok
+rename /f /g 2 -> ok
+write c 3 -> ok
+metadata /f -> NotFound
+metadata /g -> len 3, number 3, created 1, modified 3
+clone -> ok
+other -> ok
+bytes /g -> abc
+other -> ok
+remove /g 4 -> ok
+write d 5 -> NotFound
+flush -> NotFound
+short -> no
+other -> ok
+metadata /g -> len 3, number 3, created 1, modified 3
+# folders
+mkdir /d/e 1 -> NotFound
+mkdir /d 1 -> ok
+mkdir /d 1 -> Exists
+mkdir /d/e 2 -> ok
+rmdir /d 3 -> Exists
+remove /d 3 -> Forbidden
+rmdir / 3 -> Forbidden
+rename /d /d/e 3 -> Forbidden
+rmdir /d/e 3 -> ok
+metadata /d -> folder, number 1, created 1, modified 3
+rmdir /d 4 -> ok
+list / ->
+# a listing is in the order of the names' bytes
+mkdir /g 1 -> ok
+mkdir /f 1 -> ok
+mkdir /f-x 1 -> ok
+open /f/a read,create,write 1 -> ok
+list / -> f/ f-x/ g/
+entry 2 -> folder, number 1, created 1, modified 1
+rmdir /g 2 -> ok
+entry 2 -> NotFound
+list /f -> a
+# a copy has the bytes and the dead properties
+open /f read,create,write 1 -> ok
+write one 1 -> ok
+set /f -> 200 foo without xml
+properties /f -> foo
+copy /f /g 2 -> ok
+property /g -> as it was set
+metadata /g -> len 3, number 3, created 2, modified 2
+unset /f -> 200 foo without xml
+property /f -> NotFound
+bytes /g -> one
+copy /f /f 3 -> Forbidden
+# no number is left for the file
+next 18446744073709551615 -> ok
+open /f read,create,write 1 -> GeneralFailure
+# no number is left for its bytes
+next 18446744073709551614 -> ok
+open /f read,create,write 1 -> ok
+write x 1 -> GeneralFailure
+metadata /f -> len 0, number 18446744073709551614, created 1, modified 1
+# the most bytes of a file, places of a seek, and a gap
+open /f read,create,write 1 -> ok
+seek start 2147483647 -> 2147483647
+write x 1 -> TooLarge
+metadata /f -> len 0, number 1, created 1, modified 1
+seek here -2147483648 -> GeneralFailure
+seek start 2 -> 2
+buffer x 1 -> ok
+flush -> ok
+told -> len 3, number 2, created 1, modified 1
+bytes /f -> \0\0x
+open /f read 1 -> ok
+write x 1 -> Forbidden
+# what a store says of itself
+has_properties / -> yes
+quota -> NotImplemented
+set_accessed / 1 -> NotImplemented
+set_modified / 1 -> NotImplemented
+link / -> folder, number 0, created 0, modified 0
+"##;
+
+// A store on which rows are played, with one open file, the entries that were listed last, and a property.
+#[derive(Drop)]
+struct Played<F: DavFileSystem> {
+    fs: F,
+    file: Option<F::File>,
+    entries: Vec<F::Entry>,
+    property: DavProp,
 }
 
-// For reading and writing; made where nothing is there.
-fn to_make() -> OpenOptions {
-    OpenOptions {
-        read: true,
-        create: true,
-        ..OpenOptions::write()
+// A row: the name of a call and what it is handed.
+type Row<'a> = [&'a str; 4];
+
+fn row(line: &str) -> Row<'_> {
+    let (call, rest) = line.split_once(' ').unwrap_or((line, ""));
+    let (first, rest) = rest.split_once(' ').unwrap_or((rest, ""));
+    let (second, third) = rest.split_once(' ').unwrap_or((rest, ""));
+    [call, first, second, third]
+}
+
+// A text of one's own; no row asks for one that memory has no room for.
+fn text(alloc: Global, text: &str) -> FsResult<String> {
+    String::from_str(alloc, text).map_err(|_| FsError::InsufficientStorage)
+}
+
+fn path(alloc: Global, text: &str) -> FsResult<DavPath> {
+    DavPath::new(alloc, text).map_err(|_| FsError::PathTooLong)
+}
+
+fn moment(text: &str) -> u64
+    ensures { result < 1000 }
+{
+    match text.parse::<u64>() {
+        Ok(moment) if moment < 1000 => moment,
+        _ => 0,
     }
 }
 
-// All bytes of a file, of any store.
-fn read_all<F: DavFileSystem>(fs: &mut F, alloc: Global, path: &DavPath) -> FsResult<Bytes> {
-    let mut file = fs.open(alloc, path, &OpenOptions::read(), 1)?;
-    fs.read_bytes(alloc, &mut file, 100)
-}
-
-#[test]
-fn follows_an_open_file(rt: HostRuntime) -> Result<(), Fail> {
-    let mut fs = MemFs::new(rt.alloc())?;
-    let f = path(rt.alloc(), "/f")?;
-    let g = path(rt.alloc(), "/g")?;
-    let mut file = fs.open(rt.alloc(), &f, &to_make(), 1)?;
-    fs.write_bytes(rt.alloc(), &mut file, b"ab", 1)?;
-    fs.rename(rt.alloc(), &f, &g, 2)?;
-    fs.write_bytes(rt.alloc(), &mut file, b"c", 3)?;
-    same(&rt, &fs.metadata(&f).err(), &Some(FsError::NotFound));
-    let meta = fs.metadata(&g)?;
-    same(
-        &rt,
-        &(meta.len, meta.number, meta.created, meta.modified),
-        &(3, Some(3), 1, 3),
-    );
-    let mut copy = fs.clone()?;
-    same(
-        &rt,
-        &read_all(&mut copy, rt.alloc(), &g)?.as_slice(),
-        &b"abc".as_slice(),
-    );
-    fs.remove_file(&g, 4)?;
-    same(
-        &rt,
-        &fs.write_bytes(rt.alloc(), &mut file, b"d", 5),
-        &Err(FsError::NotFound),
-    );
-    same(&rt, &copy.metadata(&g)?.len, &3);
-    assert!(rt; !DavFileSystem::was_short(&fs));
-    Ok(())
-}
-
-#[test]
-fn keeps_folders(rt: HostRuntime) -> Result<(), Fail> {
-    let mut fs = MemFs::new(rt.alloc())?;
-    let root = path(rt.alloc(), "/")?;
-    let d = path(rt.alloc(), "/d")?;
-    let e = path(rt.alloc(), "/d/e")?;
-    same(
-        &rt,
-        &fs.create_dir(rt.alloc(), &e, 1),
-        &Err(FsError::NotFound),
-    );
-    fs.create_dir(rt.alloc(), &d, 1)?;
-    same(
-        &rt,
-        &fs.create_dir(rt.alloc(), &d, 1),
-        &Err(FsError::Exists),
-    );
-    fs.create_dir(rt.alloc(), &e, 2)?;
-    same(&rt, &fs.remove_dir(&d, 3), &Err(FsError::Exists));
-    same(&rt, &fs.remove_file(&d, 3), &Err(FsError::Forbidden));
-    same(&rt, &fs.remove_dir(&root, 3), &Err(FsError::Forbidden));
-    same(
-        &rt,
-        &fs.rename(rt.alloc(), &d, &e, 3),
-        &Err(FsError::Forbidden),
-    );
-    fs.remove_dir(&e, 3)?;
-    same(&rt, &fs.metadata(&d)?.modified, &3);
-    fs.remove_dir(&d, 4)?;
-    same(&rt, &fs.read_dir(rt.alloc(), &root)?.len(), &0);
-    Ok(())
-}
-
-#[test]
-fn lists_in_order(rt: HostRuntime) -> Result<(), Fail> {
-    let mut fs = MemFs::new(rt.alloc())?;
-    for text in ["/g", "/f", "/f-x"] {
-        fs.create_dir(rt.alloc(), &path(rt.alloc(), text)?, 1)?;
+fn options(words: &str) -> OpenOptions {
+    let mut options = OpenOptions::default();
+    for word in words.split(',') {
+        match word {
+            "read" => options.read = true,
+            "write" => options.write = true,
+            "create" => options.create = true,
+            _ => options.create_new = true,
+        }
     }
-    fs.open(rt.alloc(), &path(rt.alloc(), "/f/a")?, &to_make(), 1)?;
-    let root = path(rt.alloc(), "/")?;
-    let list = DavFileSystem::read_dir(&mut fs, rt.alloc(), &root, ReadDirMeta::DataSymlink)?;
-    assert_eq!(rt; list.len(), 3);
-    same(&rt, &list[0].name(), &b"f".as_slice());
-    same(&rt, &list[1].name(), &b"f-x".as_slice());
-    same(&rt, &list[2].name(), &b"g".as_slice());
-    assert!(rt; list[0].is_dir() && !list[0].is_file());
-    same(&rt, &fs.entry_metadata(&list[2])?.number, &Some(1));
-    fs.remove_dir(&path(rt.alloc(), "/g")?, 2)?;
-    same(
-        &rt,
-        &fs.entry_metadata(&list[2]).err(),
-        &Some(FsError::NotFound),
-    );
+    options
+}
+
+// What is said of a file or folder.
+fn shown(alloc: Global, found: &DavMetaData) -> FsResult<String> {
+    let number = found.number.unwrap_or(u64::MAX);
+    let (created, modified) = (found.created, found.modified);
+    let text = if found.dir {
+        format!(in alloc; "folder, number {number}, created {created}, modified {modified}")
+    } else {
+        let len = found.len;
+        format!(in alloc; "len {len}, number {number}, created {created}, modified {modified}")
+    };
+    text.map_err(|_| FsError::InsufficientStorage)
+}
+
+fn push(text: &mut String, part: &str) -> FsResult<()> {
+    text.push_str(part)
+        .map_err(|_| FsError::InsufficientStorage)
+}
+
+// Bytes as a text: a zero byte is `\0`.
+fn readable(alloc: Global, bytes: &[u8]) -> FsResult<String> {
+    let mut text = String::new(alloc);
+    for byte in bytes {
+        let pushed = if *byte == 0 {
+            text.push_str("\\0")
+        } else {
+            text.push(*byte as char)
+        };
+        pushed.map_err(|_| FsError::InsufficientStorage)?;
+    }
+    Ok(text)
+}
+
+impl<F: DavFileSystem> Played<F> {
+    // Makes the call of a row, and says what it answers.
+    fn play(&mut self, alloc: Global, row: Row<'_>) -> FsResult<String> {
+        match row[0] {
+            "mkdir" | "rmdir" | "remove" | "rename" | "copy" => self.change(alloc, row),
+            "open" | "told" | "flush" | "seek" => self.handle(alloc, row),
+            "write" | "buffer" => self.write(alloc, row),
+            "bytes" => self.bytes(alloc, row),
+            "metadata" | "link" | "entry" => self.metadata(alloc, row),
+            "list" => self.list(alloc, row),
+            "set" | "unset" => self.patch(alloc, row),
+            "properties" | "property" => self.properties(alloc, row),
+            _ => self.ask(alloc, row),
+        }
+    }
+
+    fn change(&mut self, alloc: Global, row: Row<'_>) -> FsResult<String> {
+        let [call, first, second, third] = row;
+        let at = path(alloc, first)?;
+        match call {
+            "mkdir" => self.fs.create_dir(alloc, &at, moment(second))?,
+            "rmdir" => self.fs.remove_dir(&at, moment(second))?,
+            "remove" => self.fs.remove_file(&at, moment(second))?,
+            _ => self.bring(alloc, call, &at, &path(alloc, second)?, moment(third))?,
+        }
+        text(alloc, "ok")
+    }
+
+    fn bring(
+        &mut self,
+        alloc: Global,
+        call: &str,
+        from: &DavPath,
+        to: &DavPath,
+        now: u64,
+    ) -> FsResult<()>
+        requires { now < 1000 }
+    {
+        match call {
+            "rename" => self.fs.rename(alloc, from, to, now),
+            _ => self.fs.copy(alloc, from, to, now),
+        }
+    }
+
+    fn handle(&mut self, alloc: Global, row: Row<'_>) -> FsResult<String> {
+        let [call, first, second, third] = row;
+        if call == "open" {
+            let at = path(alloc, first)?;
+            self.file = Some(self.fs.open(alloc, &at, &options(second), moment(third))?);
+            return text(alloc, "ok");
+        }
+        let Some(file) = &mut self.file else {
+            return Err(FsError::IsRemote);
+        };
+        match call {
+            "told" => shown(alloc, &self.fs.file_metadata(file)?),
+            "flush" => {
+                self.fs.flush(file)?;
+                text(alloc, "ok")
+            }
+            _ => {
+                let place = self.fs.seek(file, place(first, second))?;
+                format!(in alloc; "{place}").map_err(|_| FsError::InsufficientStorage)
+            }
+        }
+    }
+
+    fn write(&mut self, alloc: Global, row: Row<'_>) -> FsResult<String> {
+        let [call, first, second, _] = row;
+        let Some(file) = &mut self.file else {
+            return Err(FsError::IsRemote);
+        };
+        let now = moment(second);
+        if call == "buffer" {
+            self.fs.write_buf(alloc, file, first.as_bytes(), now)?;
+        } else {
+            let bytes = Bytes::copy_from_slice(alloc, first.as_bytes());
+            let bytes = bytes.map_err(|_| FsError::InsufficientStorage)?;
+            self.fs.write_bytes(alloc, file, bytes, now)?;
+        }
+        text(alloc, "ok")
+    }
+
+    // All bytes of a file that is opened for it.
+    fn bytes(&mut self, alloc: Global, row: Row<'_>) -> FsResult<String> {
+        let at = path(alloc, row[1])?;
+        let mut file = self.fs.open(alloc, &at, &OpenOptions::read(), 1)?;
+        let bytes = self.fs.read_bytes(alloc, &mut file, 100)?;
+        readable(alloc, &bytes)
+    }
+
+    fn metadata(&mut self, alloc: Global, row: Row<'_>) -> FsResult<String> {
+        let [call, first, _, _] = row;
+        if call == "entry" {
+            let place = first.parse::<usize>().unwrap_or(usize::MAX);
+            let Some(entry) = self.entries.get(place) else {
+                return Err(FsError::IsRemote);
+            };
+            return shown(alloc, &self.fs.entry_metadata(entry)?);
+        }
+        let at = path(alloc, first)?;
+        let found = match call {
+            "link" => self.fs.symlink_metadata(&at)?,
+            _ => self.fs.metadata(&at)?,
+        };
+        shown(alloc, &found)
+    }
+
+    fn list(&mut self, alloc: Global, row: Row<'_>) -> FsResult<String> {
+        let at = path(alloc, row[1])?;
+        self.entries = self.fs.read_dir(alloc, &at, ReadDirMeta::DataSymlink)?;
+        let mut names = String::new(alloc);
+        for entry in &self.entries {
+            if !names.is_empty() {
+                push(&mut names, " ")?;
+            }
+            push(&mut names, readable(alloc, entry.name())?.as_str())?;
+            if entry.is_dir() && !entry.is_file() {
+                push(&mut names, "/")?;
+            }
+        }
+        Ok(names)
+    }
+
+    fn patch(&mut self, alloc: Global, row: Row<'_>) -> FsResult<String> {
+        let at = path(alloc, row[1])?;
+        let patches = patches(alloc, row[0] == "set", &self.property);
+        let patches = patches.map_err(|_| FsError::InsufficientStorage)?;
+        let answers = self.fs.patch_props(alloc, &at, patches)?;
+        match answers.as_slice() {
+            [(status, property)] => answered(alloc, *status, property),
+            _ => Err(FsError::IsRemote),
+        }
+    }
+
+    fn properties(&mut self, alloc: Global, row: Row<'_>) -> FsResult<String> {
+        let at = path(alloc, row[1])?;
+        if row[0] == "properties" {
+            let list = self.fs.get_props(alloc, &at, true)?;
+            return match list.as_slice() {
+                [property] => text(alloc, &property.name),
+                _ => Err(FsError::IsRemote),
+            };
+        }
+        let found = self.fs.get_prop(alloc, &at, &self.property)?;
+        let is_same = self.property.xml.as_ref() == Some(&found);
+        text(alloc, if is_same { "as it was set" } else { "another" })
+    }
+
+    fn ask(&mut self, alloc: Global, row: Row<'_>) -> FsResult<String> {
+        let [call, first, second, _] = row;
+        let answer = match call {
+            "short" => self.fs.was_short(),
+            "quota" => self.fs.get_quota()?.0 > 0,
+            _ => {
+                let at = path(alloc, first)?;
+                match call {
+                    "has_properties" => self.fs.have_props(&at),
+                    "set_accessed" => self.fs.set_accessed(&at, moment(second)).map(|_| true)?,
+                    "set_modified" => self.fs.set_modified(&at, moment(second)).map(|_| true)?,
+                    _ => return text(alloc, "no such call"),
+                }
+            }
+        };
+        text(alloc, if answer { "yes" } else { "no" })
+    }
+}
+
+fn place(from: &str, count: &str) -> SeekFrom {
+    match from {
+        "start" => SeekFrom::Start(count.parse::<u64>().unwrap_or(0)),
+        "end" => SeekFrom::End(count.parse::<i64>().unwrap_or(0)),
+        _ => SeekFrom::Current(count.parse::<i64>().unwrap_or(0)),
+    }
+}
+
+// One change of a property.
+fn patches(
+    alloc: Global,
+    is_set: bool,
+    property: &DavProp,
+) -> Result<Vec<(bool, DavProp)>, NoMemory> {
+    let mut patches = Vec::new(alloc);
+    patches.push((is_set, property.clone()?))?;
+    Ok(patches)
+}
+
+// What a change of a property is answered.
+fn answered(alloc: Global, status: StatusCode, property: &DavProp) -> FsResult<String> {
+    let xml = if property.xml.is_none() {
+        "without xml"
+    } else {
+        "with xml"
+    };
+    let (status, name) = (status.as_u16(), property.name.as_str());
+    format!(in alloc; "{status} {name} {xml}").map_err(|_| FsError::InsufficientStorage)
+}
+
+// A new store, whose next change takes this number.
+fn begun(alloc: Global, next: u64) -> Result<Played<MemFs>, Fail> {
+    Ok(Played {
+        fs: MemFs::new_at(alloc, next)?,
+        file: None,
+        entries: Vec::new(alloc),
+        property: DavProp::new(alloc, "foo", "n", "urn:n", "v")?,
+    })
+}
+
+// Sees that a call answers what its row says.
+fn check(rt: &impl Abort, alloc: Global, line: &str, answer: FsResult<String>) -> Result<(), Fail> {
+    let (_, wanted) = line.split_once(" ->").unwrap_or((line, " no answer"));
+    let found = match answer {
+        Ok(found) => found,
+        Err(error) => format!(in alloc; "{error}")?,
+    };
+    assert!(*rt; found.as_str() == wanted.trim(), "{line}: {found}");
     Ok(())
 }
 
-#[test]
-fn copies_files(rt: HostRuntime) -> Result<(), Fail> {
-    let mut fs = MemFs::new(rt.alloc())?;
-    let f = path(rt.alloc(), "/f")?;
-    let g = path(rt.alloc(), "/g")?;
-    let mut file = fs.open(rt.alloc(), &f, &to_make(), 1)?;
-    fs.write_bytes(rt.alloc(), &mut file, b"one", 1)?;
-    let foo = DavProp::new(rt.alloc(), "foo", "n", "urn:n", "v")?;
-    let mut patches = Vec::new(rt.alloc());
-    patches.push((true, foo.clone()?))?;
-    let answers = fs.patch_props(rt.alloc(), &f, patches)?;
-    assert_eq!(rt; answers.len(), 1);
-    same(&rt, &answers[0].0.as_u16(), &200);
-    assert!(rt; answers[0].1.xml.is_none());
-    same(&rt, &fs.get_props(rt.alloc(), &f, true)?.len(), &1);
-    fs.copy(rt.alloc(), &f, &g, 2)?;
-    same(&rt, &Some(fs.get_prop(&g, &foo)?), &foo.xml);
-    same(&rt, &fs.metadata(&g)?.number, &Some(3));
-    let mut patches = Vec::new(rt.alloc());
-    patches.push((false, foo.clone()?))?;
-    fs.patch_props(rt.alloc(), &f, patches)?;
-    same(&rt, &fs.get_prop(&f, &foo).err(), &Some(FsError::NotFound));
-    same(
-        &rt,
-        &read_all(&mut fs, rt.alloc(), &g)?.as_slice(),
-        &b"one".as_slice(),
-    );
-    same(
-        &rt,
-        &fs.copy(rt.alloc(), &f, &f, 3),
-        &Err(FsError::Forbidden),
-    );
-    Ok(())
+// Makes the call of a row that is about whole stores, or has the store make it.
+fn play(
+    alloc: Global,
+    played: &mut Played<MemFs>,
+    other: &mut MemFs,
+    row: Row<'_>,
+) -> Result<FsResult<String>, Fail> {
+    match row[0] {
+        "next" => *played = begun(alloc, row[1].parse::<u64>()?)?,
+        "clone" => *other = played.fs.clone()?,
+        "other" => mem::swap(&mut played.fs, other),
+        _ => return Ok(played.play(alloc, row)),
+    }
+    Ok(text(alloc, "ok"))
+}
+
+// Plays a line: a title, which begins a new store, or a row.
+fn play_line(
+    rt: &impl Abort,
+    alloc: Global,
+    played: &mut Played<MemFs>,
+    other: &mut MemFs,
+    line: &str,
+) -> Result<(), Fail> {
+    if line.starts_with('#') {
+        *played = begun(alloc, 1)?;
+        return Ok(());
+    }
+    let (asked, _) = line.split_once(" ->").unwrap_or((line, ""));
+    let answer = play(alloc, played, other, row(asked))?;
+    check(rt, alloc, line, answer)
 }
 
 #[test]
-fn uses_numbers_up(rt: HostRuntime) -> Result<(), Fail> {
-    let f = path(rt.alloc(), "/f")?;
-    let mut none = MemFs::new_at(rt.alloc(), u64::MAX)?;
-    same(
-        &rt,
-        &none.open(rt.alloc(), &f, &to_make(), 1).err(),
-        &Some(FsError::GeneralFailure),
-    );
-    let mut one = MemFs::new_at(rt.alloc(), u64::MAX - 1)?;
-    let mut file = one.open(rt.alloc(), &f, &to_make(), 1)?;
-    same(
-        &rt,
-        &one.write_bytes(rt.alloc(), &mut file, b"x", 1),
-        &Err(FsError::GeneralFailure),
-    );
-    same(&rt, &one.metadata(&f)?.len, &0);
-    Ok(())
-}
-
-#[test]
-fn bounds_files(rt: HostRuntime) -> Result<(), Fail> {
-    let mut fs = MemFs::new(rt.alloc())?;
-    let f = path(rt.alloc(), "/f")?;
-    let mut file = fs.open(rt.alloc(), &f, &to_make(), 1)?;
-    same(
-        &rt,
-        &fs.seek(&mut file, SeekFrom::Start(2_147_483_647))?,
-        &2_147_483_647,
-    );
-    same(
-        &rt,
-        &fs.write_bytes(rt.alloc(), &mut file, b"x", 1),
-        &Err(FsError::TooLarge),
-    );
-    same(&rt, &fs.metadata(&f)?.len, &0);
-    same(
-        &rt,
-        &fs.seek(&mut file, SeekFrom::Current(-2_147_483_648)),
-        &Err(FsError::GeneralFailure),
-    );
-    fs.seek(&mut file, SeekFrom::Start(2))?;
-    fs.write_buf(rt.alloc(), &mut file, b"x".as_slice(), 1)?;
-    fs.flush(&mut file)?;
-    same(&rt, &fs.file_metadata(&file)?.len, &3);
-    same(
-        &rt,
-        &read_all(&mut fs, rt.alloc(), &f)?.as_slice(),
-        &b"\0\0x".as_slice(),
-    );
-    let mut reader = fs.open(rt.alloc(), &f, &OpenOptions::read(), 1)?;
-    same(
-        &rt,
-        &fs.write_bytes(rt.alloc(), &mut reader, b"x", 1),
-        &Err(FsError::Forbidden),
-    );
-    Ok(())
-}
-
-#[test]
-fn tells_what_it_has(rt: HostRuntime) -> Result<(), Fail> {
-    let mut fs = MemFs::new(rt.alloc())?;
-    let root = path(rt.alloc(), "/")?;
-    assert!(rt; fs.have_props(&root));
-    same(&rt, &fs.get_quota().err(), &Some(FsError::NotImplemented));
-    same(
-        &rt,
-        &fs.set_accessed(&root, 1),
-        &Err(FsError::NotImplemented),
-    );
-    same(
-        &rt,
-        &fs.set_modified(&root, 1),
-        &Err(FsError::NotImplemented),
-    );
-    same(&rt, &fs.symlink_metadata(&root)?.number, &Some(0));
+fn plays_rows(rt: HostRuntime) -> Result<(), Fail> {
+    let mut played = begun(rt.alloc(), 1)?;
+    let mut other = MemFs::new(rt.alloc())?;
+    for line in ROWS.lines().skip(1) {
+        play_line(&rt, rt.alloc(), &mut played, &mut other, line)?;
+    }
     Ok(())
 }

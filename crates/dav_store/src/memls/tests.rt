@@ -1,118 +1,138 @@
+//! Calls of a list of locks as rows. What each answers was worked out by hand from RFC 4918, sections 6, 7 and 9.10.
+//!
+//! A line `# title` begins a new list. Each other line is a call and, after ` -> `, its answer: `ok`, a refusal, or what the call gives.
+//! A lock is asked for at second 100, for 60 seconds where it is timed.
 use super::*;
-use crate::asserting::same;
 use std::test::Fail;
 
-// Asks for an exclusive lock in anna's name, at second 100, for 60 seconds.
-fn lock(
-    ls: &mut MemLs,
-    alloc: Global,
-    at: &str,
-    deep: bool,
-    token: &str,
-) -> Result<Result<DavLock, LockRefusal>, Fail> {
-    let path = DavPath::new(alloc, at)?;
-    Ok(ls.lock(
-        alloc,
-        &path,
-        Some("anna"),
-        None,
-        Some(60),
-        false,
-        deep,
-        token,
-        100,
-    ))
+const ROWS: &str = r##"
+# exclusive locks of anna, asked for, refreshed, checked and ended
+lock /a/b exclusive,infinite,timed t1 anna -> ends 160
+lock /a exclusive,infinite,timed t3 anna -> Conflict
+lock /a exclusive,timed t2 anna -> ends 160
+discover /a/b/c -> t1
+refresh /a/b t1 30 -> ends 180 after 30
+refresh /a t1 -> NotThere
+check /a/b/c ben -> t1
+check /a/b/c anna -> free
+check /a anna infinite -> t2
+unlock /a/b/c t1 -> ok
+unlock /a/b/c t1 -> refused
+discover /a -> t2
+delete /a -> ok
+discover /a ->
+# shared locks, listed with the shortest path first
+lock /a shared,infinite t2 -> never ends
+lock /a/b shared,infinite t1 -> never ends
+lock /a/b shared,infinite t3 -> never ends
+discover /a/b/c -> t2 t1 t3
+"##;
+
+// A row: the name of a call and what it is handed.
+type Row<'a> = [&'a str; 5];
+
+fn row(line: &str) -> Row<'_> {
+    let (call, rest) = line.split_once(' ').unwrap_or((line, ""));
+    let (first, rest) = rest.split_once(' ').unwrap_or((rest, ""));
+    let (second, rest) = rest.split_once(' ').unwrap_or((rest, ""));
+    let (third, fourth) = rest.split_once(' ').unwrap_or((rest, ""));
+    [call, first, second, third, fourth]
 }
 
-// The tokens of the locks that cover a path.
-fn tokens_at(ls: &MemLs, alloc: Global, at: &str) -> Result<Vec<String>, Fail> {
-    let path = DavPath::new(alloc, at)?;
+fn has_word(words: &str, sought: &str) -> bool {
+    words.split(',').any(|word| word == sought)
+}
+
+// Makes the call of a row, and says what it answers.
+fn play(alloc: Global, ls: &mut MemLs, row: Row<'_>) -> Result<String, Fail> {
+    let at = DavPath::new(alloc, row[1])?;
+    let done = match row[0] {
+        "lock" => return lock(alloc, ls, &at, row),
+        "refresh" => return refresh(alloc, ls, &at, row),
+        "check" => return check(alloc, ls, &at, row),
+        "discover" => return discover(alloc, ls, &at),
+        "unlock" => ls.unlock(&at, row[2]).is_ok(),
+        _ => ls.delete(&at).is_ok(),
+    };
+    Ok(String::from_str(alloc, if done { "ok" } else { "refused" })?)
+}
+
+fn lock(alloc: Global, ls: &mut MemLs, at: &DavPath, row: Row<'_>) -> Result<String, Fail> {
+    let [_, _, kind, token, who] = row;
+    let principal = if who.is_empty() { None } else { Some(who) };
+    let timeout = if has_word(kind, "timed") {
+        Some(60)
+    } else {
+        None
+    };
+    let (shared, deep) = (has_word(kind, "shared"), has_word(kind, "infinite"));
+    let answer = ls.lock(
+        alloc, at, principal, None, timeout, shared, deep, token, 100,
+    );
+    Ok(match answer {
+        Ok(lock) => match lock.timeout_at {
+            Some(second) => format!(in alloc; "ends {second}")?,
+            None => String::from_str(alloc, "never ends")?,
+        },
+        Err(LockRefusal::Conflict) => String::from_str(alloc, "Conflict")?,
+        Err(LockRefusal::Memory) => String::from_str(alloc, "Memory")?,
+    })
+}
+
+// A refresh at second 150.
+fn refresh(alloc: Global, ls: &mut MemLs, at: &DavPath, row: Row<'_>) -> Result<String, Fail> {
+    let timeout = match row[3].parse::<u64>() {
+        Ok(seconds) if seconds < 1000 => Some(seconds),
+        _ => None,
+    };
+    Ok(match ls.refresh(alloc, at, row[2], timeout, 150) {
+        Ok(lock) => {
+            let (second, seconds) = (lock.timeout_at.unwrap_or(0), lock.timeout.unwrap_or(0));
+            format!(in alloc; "ends {second} after {seconds}")?
+        }
+        Err(RefreshRefusal::NotThere) => String::from_str(alloc, "NotThere")?,
+        Err(RefreshRefusal::Memory) => String::from_str(alloc, "Memory")?,
+    })
+}
+
+// What a check by someone who submits t1 answers: the token of the lock that conflicts, if one does.
+fn check(alloc: Global, ls: &MemLs, at: &DavPath, row: Row<'_>) -> Result<String, Fail> {
     let mut tokens = Vec::new(alloc);
-    for lock in ls.discover(alloc, &path)? {
-        tokens.push(lock.token)?;
+    tokens.push(String::from_str(alloc, "t1")?)?;
+    let deep = row[3] == "infinite";
+    let token = match ls.check(at, Some(row[2]), false, deep, &tokens) {
+        Ok(()) => "free",
+        Err(lock) => lock.token.as_str(),
+    };
+    Ok(String::from_str(alloc, token)?)
+}
+
+fn discover(alloc: Global, ls: &MemLs, at: &DavPath) -> Result<String, Fail> {
+    let mut tokens = String::new(alloc);
+    for lock in ls.discover(alloc, at)? {
+        if !tokens.is_empty() {
+            tokens.push(' ')?;
+        }
+        tokens.push_str(&lock.token)?;
     }
     Ok(tokens)
 }
 
-// The token of the lock that stands in the way of who submits t1; empty where none does.
-fn in_the_way<'a>(
-    ls: &'a MemLs,
-    alloc: Global,
-    path: &DavPath,
-    who: &str,
-    deep: bool,
-) -> Result<&'a str, Fail> {
-    let mut tokens = Vec::new(alloc);
-    tokens.push(String::from_str(alloc, "t1")?)?;
-    Ok(match ls.check(path, Some(who), false, deep, &tokens) {
-        Ok(()) => "",
-        Err(lock) => &lock.token,
-    })
-}
-
 #[test]
-fn grants_and_ends_locks(rt: HostRuntime) -> Result<(), Fail> {
-    let mut ls = MemLs::new(rt.alloc())?;
-    let above = DavPath::new(rt.alloc(), "/a")?;
-    let path = DavPath::new(rt.alloc(), "/a/b")?;
-    let below = DavPath::new(rt.alloc(), "/a/b/c")?;
-    let granted = lock(&mut ls, rt.alloc(), "/a/b", true, "t1")?;
-    same(&rt, &granted.map(|l| l.timeout_at).ok(), &Some(Some(160)));
-    same(
-        &rt,
-        &lock(&mut ls, rt.alloc(), "/a", true, "t3")?.err(),
-        &Some(LockRefusal::Conflict),
-    );
-    assert!(rt; lock(&mut ls, rt.alloc(), "/a", false, "t2")?.is_ok());
-    let tokens = tokens_at(&ls, rt.alloc(), "/a/b/c")?;
-    assert_eq!(rt; tokens.len(), 1);
-    same(&rt, &tokens[0].as_str(), &"t1");
-    let refreshed = ls.refresh(rt.alloc(), &path, "t1", Some(30), 150);
-    same(
-        &rt,
-        &refreshed.map(|l| (l.timeout_at, l.timeout)).ok(),
-        &Some((Some(180), Some(30))),
-    );
-    same(
-        &rt,
-        &ls.refresh(rt.alloc(), &above, "t1", None, 150).err(),
-        &Some(RefreshRefusal::NotThere),
-    );
-    same(
-        &rt,
-        &in_the_way(&ls, rt.alloc(), &below, "ben", false)?,
-        &"t1",
-    );
-    same(
-        &rt,
-        &in_the_way(&ls, rt.alloc(), &below, "anna", false)?,
-        &"",
-    );
-    same(
-        &rt,
-        &in_the_way(&ls, rt.alloc(), &above, "anna", true)?,
-        &"t2",
-    );
-    assert!(rt; ls.unlock(&below, "t1").is_ok());
-    assert!(rt; ls.unlock(&below, "t1").is_err());
-    same(&rt, &tokens_at(&ls, rt.alloc(), "/a")?.len(), &1);
-    assert!(rt; ls.delete(&above).is_ok());
-    same(&rt, &tokens_at(&ls, rt.alloc(), "/a")?.len(), &0);
-    Ok(())
-}
-
-#[test]
-fn lists_shared_locks_in_order(rt: HostRuntime) -> Result<(), Fail> {
-    let mut ls = MemLs::new(rt.alloc())?;
-    for (at, token) in [("/a", "t2"), ("/a/b", "t1"), ("/a/b", "t3")] {
-        let path = DavPath::new(rt.alloc(), at)?;
-        let granted = ls.lock(rt.alloc(), &path, None, None, None, true, true, token, 100);
-        assert!(rt; granted.is_ok());
+fn plays_rows(rt: HostRuntime) -> Result<(), Fail> {
+    let alloc = rt.alloc();
+    let mut ls = MemLs::new(alloc)?;
+    let mut count = 0usize;
+    for line in ROWS.lines().skip(1) {
+        if line.starts_with('#') {
+            ls = MemLs::new(alloc)?;
+            continue;
+        }
+        let (asked, wanted) = line.split_once(" ->").unwrap_or((line, " no answer"));
+        let found = play(alloc, &mut ls, row(asked))?;
+        assert!(rt; found.as_str() == wanted.trim(), "{line}: {found}");
+        count = count.saturating_add(1);
     }
-    let tokens = tokens_at(&ls, rt.alloc(), "/a/b/c")?;
-    assert_eq!(rt; tokens.len(), 3);
-    same(&rt, &tokens[0].as_str(), &"t2");
-    same(&rt, &tokens[1].as_str(), &"t1");
-    same(&rt, &tokens[2].as_str(), &"t3");
+    assert!(rt; count > 15);
     Ok(())
 }
