@@ -181,12 +181,21 @@ fn with_slashes(alloc: Global, path: &DavPath) -> Result<String, NoMemory> {
     between_bars(alloc, &[copy.as_bytes(), path.as_bytes()])
 }
 
+// How many names a path has.
+fn count_names(path: &DavPath) -> u32 {
+    let mut count = 0u32;
+    for _ in path.segments() {
+        count = count.wrapping_add(1);
+    }
+    count
+}
+
 // A path with a name added.
 fn with_name(alloc: Global, mut path: DavPath, name: &str) -> Result<String, NoMemory> {
     path.push_segment(name.as_bytes())?;
     let url = path.as_url_string()?;
     let shown = between_bars(alloc, &[path.as_bytes(), url.as_bytes()])?;
-    format!(in alloc; "{shown} {}", path.segments().count())
+    format!(in alloc; "{shown} {}", count_names(&path))
 }
 
 // The last name and the parent of a path.
