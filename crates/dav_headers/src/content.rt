@@ -52,6 +52,3 @@ impl ContentLocation {
         written(alloc, location)
     }
 }
-
-#[cfg(test)]
-mod tests;

@@ -49,6 +49,3 @@ impl Depth {
         }
     }
 }
-
-#[cfg(test)]
-mod tests;

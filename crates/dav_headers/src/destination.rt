@@ -76,6 +76,3 @@ fn path_behind(authority: &str) -> &str
         None => "/",
     }
 }
-
-#[cfg(test)]
-mod tests;

@@ -141,6 +141,3 @@ impl Clone for ETag {
         })
     }
 }
-
-#[cfg(test)]
-mod tests;

@@ -216,6 +216,3 @@ impl Clone for IfRange {
         }
     }
 }
-
-#[cfg(test)]
-mod tests;

@@ -5,8 +5,6 @@ ghost use Rattle.dav_headers.specs.IfView.{if_lists};
 
 pub mod laws;
 mod meaning;
-#[cfg(test)]
-mod tests;
 mod tokens;
 mod written;
 

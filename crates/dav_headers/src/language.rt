@@ -157,6 +157,3 @@ impl<'a> Iterator for Langs<'a> {
         Some(first.as_str())
     }
 }
-
-#[cfg(test)]
-mod tests;

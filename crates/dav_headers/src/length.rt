@@ -48,6 +48,3 @@ fn length_of(value: &HeaderValue) -> Option<u64>
         Err(_) => None,
     }
 }
-
-#[cfg(test)]
-mod tests;

@@ -17,6 +17,8 @@ pub mod names;
 pub mod overwrite;
 mod pieces;
 pub mod range;
+#[cfg(test)]
+mod tests;
 pub mod timeout;
 pub mod tokens;
 mod values;

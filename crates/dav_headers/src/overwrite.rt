@@ -33,6 +33,3 @@ impl Overwrite {
         written(alloc, if self.0 { "T" } else { "F" })
     }
 }
-
-#[cfg(test)]
-mod tests;

@@ -176,6 +176,3 @@ fn length(text: &str) -> Option<Option<u64>>
     }
     Some(Some(number(text)?))
 }
-
-#[cfg(test)]
-mod tests;

@@ -101,6 +101,3 @@ impl DavTimeout {
         }
     }
 }
-
-#[cfg(test)]
-mod tests;

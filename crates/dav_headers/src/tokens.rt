@@ -52,6 +52,3 @@ impl XLitmus {
         written(alloc, test)
     }
 }
-
-#[cfg(test)]
-mod tests;

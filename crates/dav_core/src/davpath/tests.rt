@@ -1,297 +1,280 @@
-ghost use Rattle.std.specs.Prelude.{◌≡◌, IfOk, map};
-ghost use Rattle.dav_core.specs.Path.{names};
-
 use super::*;
-use crate::asserting::same;
-use crate::errors::NoMemory;
+use crate::asserting::{is_row, parts, same};
+use std::process::Abort;
+use std::str;
 use std::test::Fail;
 
-#[test]
-fn reads_paths(rt: HostRuntime) -> Result<(), Fail> {
-    let cases = [
-        ("/a/./b//c/../d%20e/?q=1", "/a/b/d e/"),
-        ("*", "*"),
-        ("/", "/"),
-        ("/a/", "/a/"),
-        ("/a", "/a"),
-        ("/a/..", "/"),
-        ("/a/.", "/a"),
-        ("/%4", "/%4"),
-        ("/%zz", "/%zz"),
-        ("/a?/..", "/a"),
-        ("//", "/"),
-        ("/%c3%A9", "/\u{e9}"),
-    ];
-    for (text, bytes) in cases {
-        let path = DavPath::new(rt.alloc(), text)?;
-        assert_eq!(rt; path.as_ref().as_bytes(), bytes.as_bytes(), "{text}");
+// A row: what is done, one or two texts between bars, ` -> `, and the outcome: what is given between bars, or an error's name.
+const ROWS: &str = "
+# The bytes of a path
+new |/a/./b//c/../d%20e/?q=1| -> |/a/b/d e/|
+new |*| -> |*|
+new |/| -> |/|
+new |/a/| -> |/a/|
+new |/a| -> |/a|
+new |/a/..| -> |/|
+new |/a/.| -> |/a|
+new |/%4| -> |/%4|
+new |/%zz| -> |/%zz|
+new |/a?/..| -> |/a|
+new |//| -> |/|
+new |/%c3%A9| -> |/é|
+new || -> InvalidPath
+new |a| -> InvalidPath
+new |**| -> InvalidPath
+new |/a#b| -> InvalidPath
+new |/a\tb| -> InvalidPath
+new |/a%2Fb| -> InvalidPath
+new |/a%00/..| -> InvalidPath
+new |/%2F/..| -> InvalidPath
+new |/..| -> ForbiddenPath
+new |/../%2F| -> ForbiddenPath
+new |/%2e%2e/x| -> ForbiddenPath
+new |/a/../..| -> ForbiddenPath
+
+# Its names
+names |/a/./b//c/../d%20e/| -> |a|b|d e|
+names |*| -> |
+
+# Its text in a URL
+url |/a/b/d%20e/| -> |/a/b/d%20e/|
+url |/%7e-_.%41| -> |/~-_.A|
+url |/%c3%a9!| -> |/%C3%A9%21|
+url |*| -> |*|
+url |/%2A| -> |/%2A|
+
+# The prefix, the path after it, and the whole path, after a prefix was set
+prefix |/dav|/dav| -> |/dav|/|/dav/|
+prefix |/dav|/dav/| -> |/dav|/|/dav/|
+prefix |/dav/|/dav/| -> |/dav|/|/dav/|
+prefix |/dav/a|/dav/| -> |/dav|/a|/dav/a|
+prefix |/dav/a|| -> ||/dav/a|/dav/a|
+prefix |/dav/a|/| -> ||/dav/a|/dav/a|
+prefix |/%c3%a9/a|/é/| -> |/é|/a|/é/a|
+prefix |/dav/x/y/|/dav| -> |/dav|/x/y/|/dav/x/y/|
+prefix |/dav/a|/d| -> PrefixMismatch ||/dav/a|/dav/a|
+prefix |/dav/a|dav| -> PrefixMismatch ||/dav/a|/dav/a|
+prefix |/dav/a|/dav//| -> PrefixMismatch ||/dav/a|/dav/a|
+prefix |/dav/a|/dav/a/b| -> PrefixMismatch ||/dav/a|/dav/a|
+prefix |/dav/a|/x| -> PrefixMismatch ||/dav/a|/dav/a|
+prefix |/dav/x/y/|/da| -> PrefixMismatch ||/dav/x/y/|/dav/x/y/|
+
+# The same of the parent of a path with a prefix
+parent |/dav/x/y/|/dav| -> |/dav|/x/|/dav/x/|
+
+# The same of a URI's path
+uri |/%64/./a| -> ||/%64/./a|/%64/./a|
+uri |http://host:80/x/../%2F?q| -> ||/x/../%2F|/x/../%2F|
+
+# A path without and with a slash added where none ends it, which are equal
+slash |/d| -> |/d|/d/|
+slash |/d/| -> |/d/|/d/|
+slash |/| -> |/|/|
+
+# With a slash added twice, and the path it is a copy of
+slashes |/d| -> |/d/|/d|
+
+# With a name added: its bytes, its text in a URL, how many names it has
+push |/d|a b| -> |/d/a b|/d/a%20b| 2
+push |/d/|a b| -> |/d/a b|/d/a%20b| 2
+
+# Whether two paths are equal, and whether a path ends in a slash
+equal |/d|/d/a| -> false
+collection |/d| -> false
+
+# The last name and the parent; whether the path is that of the server, and whether its parent ends in a slash
+last |/a/b%20c/| -> |b c|/a/| false true
+last |/a| -> |a|/| false true
+last |/| -> ||/| false true
+last |*| -> ||*| true false
+
+# The last name as text
+name |/| -> None
+name |*| -> None
+
+# The last name, the path, and the path without its first slash as texts
+texts |/a/b%20c/| -> Some(\"b c\") Some(\"/a/b c/\") Some(\"a/b c/\")
+texts |/a/b| -> Some(\"b\") Some(\"/a/b\") Some(\"a/b\")
+texts |/a/%ff| -> None None None
+
+# A path with a prefix, as it is displayed and debugged
+display |/dav/a%20b/|/dav| -> /dav/a%20b/ /dav/a%20b/
+display |*|| -> * *
+";
+
+// Texts, with a bar before, between and after them.
+fn between_bars(alloc: Global, texts: &[&[u8]]) -> Result<String, NoMemory> {
+    let mut shown = String::from_str(alloc, "|")?;
+    for text in texts {
+        shown.push_str(str::from_utf8(text).unwrap_or("?"))?;
+        shown.push('|')?;
     }
-    Ok(())
+    Ok(shown)
 }
 
-#[test]
-fn refuses_texts(rt: HostRuntime) {
-    let cases = [
-        ("", ParseError::InvalidPath),
-        ("a", ParseError::InvalidPath),
-        ("**", ParseError::InvalidPath),
-        ("/a#b", ParseError::InvalidPath),
-        ("/a\tb", ParseError::InvalidPath),
-        ("/a%2Fb", ParseError::InvalidPath),
-        ("/a%00/..", ParseError::InvalidPath),
-        ("/%2F/..", ParseError::InvalidPath),
-        ("/..", ParseError::ForbiddenPath),
-        ("/../%2F", ParseError::ForbiddenPath),
-        ("/%2e%2e/x", ParseError::ForbiddenPath),
-        ("/a/../..", ParseError::ForbiddenPath),
-    ];
-    for (text, error) in cases {
-        let found = DavPath::new(rt.alloc(), text).err();
-        assert_eq!(rt; found, Some(error), "{text}");
-    }
-}
-
-// Copies of the names, in order.
-fn copied_names(alloc: Global, path: &DavPath) -> Result<Vec<Vec<u8>>, NoMemory>
-    ensures { IfOk result (λ v. map (λ n. n.items) v.items ≡ names path.now) }
-{
-    let mut names = Vec::new(alloc);
+// The names of a path between bars.
+fn names_between_bars(alloc: Global, path: &DavPath) -> Result<String, NoMemory> {
+    let mut shown = String::from_str(alloc, "|")?;
     for name in path.as_ref().segments() {
-        names.push(Vec::from_slice(alloc, name)?)?;
+        shown.push_str(str::from_utf8(name).unwrap_or("?"))?;
+        shown.push('|')?;
     }
-    Ok(names)
+    Ok(shown)
 }
 
-#[test]
-fn gives_names(rt: HostRuntime) -> Result<(), Fail> {
-    let alloc = rt.alloc();
-    let path = DavPath::new(alloc, "/a/./b//c/../d%20e/")?;
-    let names = copied_names(alloc, &path)?;
-    assert_eq!(rt; names.len(), 3);
-    same(&rt, &names[0].as_slice(), &b"a".as_slice());
-    same(&rt, &names[1].as_slice(), &b"b".as_slice());
-    same(&rt, &names[2].as_slice(), &b"d e".as_slice());
-    let server = DavPath::new(alloc, "*")?;
-    same(&rt, &server.as_ref().segments().count(), &0);
-    Ok(())
+// The prefix of a path, the path after it, and the whole path.
+fn placed(alloc: Global, path: &DavPath) -> Result<String, NoMemory> {
+    let whole = path.with_prefix();
+    between_bars(
+        alloc,
+        &[path.prefix().as_bytes(), path.as_bytes(), whole.as_bytes()],
+    )
 }
 
-#[test]
-fn names_errors(rt: HostRuntime) -> Result<(), Fail> {
-    let text = format!(in rt.alloc(); "{}", ParseError::PrefixMismatch)?;
-    same(&rt, &text.as_str(), &"PrefixMismatch");
-    Ok(())
-}
-
-#[test]
-fn writes_url_texts(rt: HostRuntime) -> Result<(), Fail> {
-    let alloc = rt.alloc();
-    let cases = [
-        ("/a/b/d%20e/", "/a/b/d%20e/"),
-        ("/%7e-_.%41", "/~-_.A"),
-        ("/%c3%a9!", "/%C3%A9%21"),
-        ("*", "*"),
-        ("/%2A", "/%2A"),
-    ];
-    for (text, written) in cases {
-        let url = DavPath::new(alloc, text)?.as_ref().as_url_string(alloc)?;
-        assert_eq!(rt; url.as_str(), written, "{text}");
+// A path and what it is after a prefix is set.
+fn with_prefix(alloc: Global, text: &str, prefix: &str) -> Result<String, ParseError> {
+    let mut path = DavPath::new(alloc, text)?;
+    if !path.prefix().is_empty() {
+        return Ok(String::from_str(alloc, "a new path has a prefix")?);
     }
-    Ok(())
+    let refused = path.set_prefix(prefix).err();
+    let placed = placed(alloc, &path)?;
+    match refused {
+        Some(error) => Ok(format!(in alloc; "{error} {placed}")?),
+        None => Ok(placed),
+    }
 }
 
-#[test]
-fn keeps_a_path_whose_prefix_is_refused(rt: HostRuntime) -> Result<(), Fail> {
-    let mut path = DavPath::new(rt.alloc(), "/dav/x/y/")?;
-    let refused = path.set_prefix("/da").err();
-    same(&rt, &refused, &Some(ParseError::PrefixMismatch));
-    same(&rt, &path.as_bytes(), &b"/dav/x/y/".as_slice());
-    Ok(())
-}
-
-// The path /dav/x/y/ below the prefix /dav.
-fn below_dav(alloc: Global) -> Result<DavPath, Fail> {
-    let mut path = DavPath::new(alloc, "/dav/x/y/")?;
-    path.set_prefix("/dav")?;
+// The path of a text below a prefix.
+fn below(alloc: Global, text: &str, prefix: &str) -> Result<DavPath, ParseError> {
+    let mut path = DavPath::new(alloc, text)?;
+    path.set_prefix(prefix)?;
     Ok(path)
 }
 
-#[test]
-fn keeps_the_prefix_of_a_path(rt: HostRuntime) -> Result<(), Fail> {
-    let path = below_dav(rt.alloc())?;
-    same(&rt, &path.prefix(), &"/dav");
-    same(&rt, &path.as_bytes(), &b"/x/y/".as_slice());
-    let whole = path.with_prefix();
-    same(&rt, &whole.as_bytes(), &b"/dav/x/y/".as_slice());
-    Ok(())
+// The path of a URI.
+fn uri_path(alloc: Global, text: &str) -> Result<String, ParseError> {
+    let Ok(uri) = Uri::from_bytes(alloc, text.as_bytes()) else {
+        return Ok(String::from_str(alloc, "no URI")?);
+    };
+    Ok(placed(alloc, &DavPath::from_uri(alloc, &uri)?)?)
 }
 
-#[test]
-fn keeps_the_prefix_of_a_parent(rt: HostRuntime) -> Result<(), Fail> {
-    let path = below_dav(rt.alloc())?;
-    let parent = path.parent()?;
-    same(&rt, &parent.as_bytes(), &b"/x/".as_slice());
-    let whole = parent.with_prefix();
-    same(&rt, &whole.as_bytes(), &b"/dav/x/".as_slice());
-    Ok(())
-}
-
-#[test]
-fn cuts_prefixes(rt: HostRuntime) -> Result<(), Fail> {
-    let cases = [
-        ("/dav", "/dav", "/dav", "/"),
-        ("/dav", "/dav/", "/dav", "/"),
-        ("/dav/", "/dav/", "/dav", "/"),
-        ("/dav/a", "/dav/", "/dav", "/a"),
-        ("/dav/a", "", "", "/dav/a"),
-        ("/dav/a", "/", "", "/dav/a"),
-        ("/%c3%a9/a", "/\u{e9}/", "/\u{e9}", "/a"),
-    ];
-    for (text, prefix, kept, bytes) in cases {
-        let mut path = DavPath::new(rt.alloc(), text)?;
-        same(&rt, &path.prefix(), &"");
-        path.set_prefix(prefix)?;
-        same(&rt, &path.prefix(), &kept);
-        same(&rt, &path.as_bytes(), &bytes.as_bytes());
+// Copies of a path to which a slash isn't added, and is.
+fn with_slash(alloc: Global, path: &DavPath) -> Result<String, NoMemory> {
+    let mut copy = path.clone()?;
+    copy.add_slash_if(false)?;
+    let before = between_bars(alloc, &[copy.as_bytes()])?;
+    copy.add_slash_if(true)?;
+    if copy.is_collection() && copy == *path {
+        format!(in alloc; "{before}{}|", copy.as_pathbuf().unwrap_or("?"))
+    } else {
+        String::from_str(alloc, "another path")
     }
-    Ok(())
 }
 
-#[test]
-fn takes_paths_of_uris(rt: HostRuntime) -> Result<(), Fail> {
-    let alloc = rt.alloc();
-    for (text, bytes) in [
-        ("/%64/./a", "/%64/./a"),
-        ("http://host:80/x/../%2F?q", "/x/../%2F"),
-    ] {
-        let path = DavPath::from_uri(alloc, &Uri::from_bytes(alloc, text.as_bytes())?)?;
-        assert_eq!(rt; path.as_bytes(), bytes.as_bytes(), "{text}");
-        assert_eq!(rt; path.prefix(), "", "{text}");
-    }
-    Ok(())
-}
-
-#[test]
-fn refuses_prefixes(rt: HostRuntime) -> Result<(), Fail> {
-    for prefix in ["/d", "dav", "/dav//", "/dav/a/b", "/x"] {
-        let mut path = DavPath::new(rt.alloc(), "/dav/a")?;
-        let refused = path.set_prefix(prefix).err();
-        assert_eq!(rt; refused, Some(ParseError::PrefixMismatch), "{prefix}");
-        assert_eq!(rt; path.as_bytes(), b"/dav/a".as_slice(), "{prefix}");
-    }
-    Ok(())
-}
-
-#[test]
-fn adds_slashes(rt: HostRuntime) -> Result<(), Fail> {
-    for (text, bytes) in [("/d", "/d/"), ("/d/", "/d/"), ("/", "/")] {
-        let path = DavPath::new(rt.alloc(), text)?;
-        let mut copy = path.clone()?;
-        copy.add_slash_if(false)?;
-        same(&rt, &copy.as_bytes(), &text.as_bytes());
-        copy.add_slash_if(true)?;
-        same(&rt, &copy.as_bytes(), &bytes.as_bytes());
-        assert!(rt; copy.is_collection() && copy == path);
-    }
-    Ok(())
-}
-
-#[test]
-fn adds_a_slash_once(rt: HostRuntime) -> Result<(), Fail> {
-    let path = DavPath::new(rt.alloc(), "/d")?;
+// A copy of a path to which a slash is added twice, and the path.
+fn with_slashes(alloc: Global, path: &DavPath) -> Result<String, NoMemory> {
     let mut copy = path.clone()?;
     copy.add_slash()?;
     copy.add_slash()?;
-    same(&rt, &copy.as_bytes(), &b"/d/".as_slice());
-    same(&rt, &path.as_bytes(), &b"/d".as_slice());
-    Ok(())
+    between_bars(alloc, &[copy.as_bytes(), path.as_bytes()])
 }
 
-#[test]
-fn adds_names(rt: HostRuntime) -> Result<(), Fail> {
-    for text in ["/d", "/d/"] {
-        let mut path = DavPath::new(rt.alloc(), text)?;
-        path.push_segment(b"a b")?;
-        same(&rt, &path.as_bytes(), &b"/d/a b".as_slice());
-        let url = path.as_url_string()?;
-        same(&rt, &url.as_str(), &"/d/a%20b");
+// How many names a path has.
+fn count_names(path: &DavPath) -> u32 {
+    let mut count = 0u32;
+    for _ in path.segments() {
+        count = count.wrapping_add(1);
     }
-    Ok(())
+    count
 }
 
-#[test]
-fn counts_names(rt: HostRuntime) -> Result<(), Fail> {
-    let mut path = DavPath::new(rt.alloc(), "/d")?;
-    path.push_segment(b"a b")?;
-    assert_eq!(rt; path.as_bytes(), b"/d/a b".as_slice());
-    assert_eq!(rt; path.segments().count(), 2);
-    Ok(())
+// A path with a name added.
+fn with_name(alloc: Global, mut path: DavPath, name: &str) -> Result<String, NoMemory> {
+    path.push_segment(name.as_bytes())?;
+    let url = path.as_url_string()?;
+    let shown = between_bars(alloc, &[path.as_bytes(), url.as_bytes()])?;
+    format!(in alloc; "{shown} {}", count_names(&path))
 }
 
-#[test]
-fn knows_folders_and_other_paths(rt: HostRuntime) -> Result<(), Fail> {
-    let path = DavPath::new(rt.alloc(), "/d")?;
-    let other = DavPath::new(rt.alloc(), "/d/a")?;
-    assert!(rt; !path.is_collection());
-    assert!(rt; path != other);
-    Ok(())
+// The last name and the parent of a path.
+fn last(alloc: Global, path: &DavPath) -> Result<String, NoMemory> {
+    let parent = path.as_ref().parent();
+    let shown = between_bars(alloc, &[path.file_name_bytes(), parent.as_bytes()])?;
+    format!(in alloc; "{shown} {} {}", path.is_star(), parent.is_collection())
 }
 
-#[test]
-fn gives_last_names(rt: HostRuntime) -> Result<(), Fail> {
-    let cases = [
-        ("/a/b%20c/", "b c", "/a/"),
-        ("/a", "a", "/"),
-        ("/", "", "/"),
-        ("*", "", "*"),
-    ];
-    for (text, bytes, parent) in cases {
-        let path = DavPath::new(rt.alloc(), text)?;
-        same(&rt, &path.file_name_bytes(), &bytes.as_bytes());
-        let lent = path.as_ref().parent();
-        same(&rt, &lent.as_bytes(), &parent.as_bytes());
-        same(&rt, &path.is_star(), &(text == "*"));
-        same(&rt, &lent.is_collection(), &(text != "*"));
+// What a path gives as text.
+fn texts(alloc: Global, path: &DavPath) -> Result<String, NoMemory> {
+    let (name, whole, inside) = (path.file_name(), path.as_pathbuf(), path.as_rel_ospath());
+    format!(in alloc; "{name:?} {whole:?} {inside:?}")
+}
+
+// What is given of one path.
+fn outcome_of_path(alloc: Global, name: &str, path: &DavPath) -> Result<String, NoMemory> {
+    match name {
+        "new" => between_bars(alloc, &[path.as_ref().as_bytes()]),
+        "names" => names_between_bars(alloc, path),
+        "url" => between_bars(alloc, &[path.as_ref().as_url_string(alloc)?.as_bytes()]),
+        "slash" => with_slash(alloc, path),
+        "slashes" => with_slashes(alloc, path),
+        "collection" => format!(in alloc; "{}", path.is_collection()),
+        "last" => last(alloc, path),
+        "name" => format!(in alloc; "{:?}", path.file_name()),
+        "texts" => texts(alloc, path),
+        _ => String::from_str(alloc, "nothing has this name"),
     }
-    Ok(())
 }
 
-#[test]
-fn gives_names_that_are_text(rt: HostRuntime) -> Result<(), Fail> {
-    let cases = [
-        ("/a/b%20c/", Some("b c"), Some("/a/b c/"), Some("a/b c/")),
-        ("/a/b", Some("b"), Some("/a/b"), Some("a/b")),
-        ("/a/%ff", None, None, None),
-    ];
-    for (text, name, whole, inside) in cases {
-        let path = DavPath::new(rt.alloc(), text)?;
-        same(&rt, &path.file_name(), &name);
-        same(&rt, &path.as_pathbuf(), &whole);
-        same(&rt, &path.as_rel_ospath(), &inside);
+// What is given of the texts of a row.
+fn outcome(alloc: Global, name: &str, text: &str, second: &str) -> Result<String, ParseError> {
+    match name {
+        "uri" => uri_path(alloc, text),
+        "prefix" => with_prefix(alloc, text, second),
+        "parent" => Ok(placed(alloc, &below(alloc, text, second)?.parent()?)?),
+        "display" => {
+            let path = below(alloc, text, second)?;
+            Ok(format!(in alloc; "{path} {path:?}")?)
+        }
+        "push" => Ok(with_name(alloc, DavPath::new(alloc, text)?, second)?),
+        "equal" => {
+            let is_equal = DavPath::new(alloc, text)? == DavPath::new(alloc, second)?;
+            Ok(format!(in alloc; "{is_equal}")?)
+        }
+        _ if second.is_empty() => { Ok(outcome_of_path(alloc, name, &DavPath::new(alloc, text)?)?) }
+        _ => Ok(String::from_str(alloc, "one text is wanted")?),
     }
+}
+
+// Plays a row; the test fails where the outcome isn't the wanted one.
+fn play(rt: &impl Abort, alloc: Global, row: &str) -> Result<(), Fail> {
+    let (name, texts, wanted) = parts(row).ok_or("a line is no row")?;
+    let (text, second) = texts.split_once('|').unwrap_or((texts, ""));
+    let outcome = match outcome(alloc, name, text, second) {
+        Ok(outcome) => outcome,
+        Err(error) => format!(in alloc; "{error}")?,
+    };
+    assert!(rt; outcome.as_str() == wanted, "{row}\ngives: {outcome}");
     Ok(())
 }
 
 #[test]
-fn gives_no_name_of_the_root_or_the_star(rt: HostRuntime) -> Result<(), Fail> {
-    for text in ["/", "*"] {
-        let path = DavPath::new(rt.alloc(), text)?;
-        same(&rt, &path.file_name(), &None);
+fn gives_paths(rt: HostRuntime) -> Result<(), Fail> {
+    let mut count = 0u32;
+    for line in ROWS.lines() {
+        if is_row(line) {
+            play(&rt, rt.alloc(), line)?;
+            count = count.wrapping_add(1);
+        }
     }
-    let raw = DavPath::new(rt.alloc(), "/a/%ff")?;
-    same(&rt, &raw.file_name_bytes(), &b"\xff".as_slice());
+    same(&rt, &count, &67);
     Ok(())
 }
 
 #[test]
-fn shows_paths(rt: HostRuntime) -> Result<(), Fail> {
-    let alloc = rt.alloc();
-    let mut path = DavPath::new(alloc, "/dav/a%20b/")?;
-    path.set_prefix("/dav")?;
-    let text = format!(in alloc; "{path} {path:?}")?;
-    same(&rt, &text.as_str(), &"/dav/a%20b/ /dav/a%20b/");
-    let server = DavPath::new(alloc, "*")?;
-    let text = format!(in alloc; "{server}")?;
-    same(&rt, &text.as_str(), &"*");
+fn gives_a_name_that_is_no_text(rt: HostRuntime) -> Result<(), Fail> {
+    let path = DavPath::new(rt.alloc(), "/a/%ff")?;
+    same(&rt, &path.file_name_bytes(), &b"\xff".as_slice());
     Ok(())
 }

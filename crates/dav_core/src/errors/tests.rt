@@ -2,89 +2,112 @@ use super::*;
 use crate::asserting::same;
 use std::test::Fail;
 
+// Each error of a store, its status, and the status that a method answers with for it.
+const STORE_ROWS: &str = "
+NotImplemented 501 501
+GeneralFailure 500 500
+Exists 405 405
+NotFound 404 404
+Forbidden 403 403
+InsufficientStorage 507 507
+LoopDetected 508 508
+PathTooLong 414 414
+TooLarge 413 413
+IsRemote 502 502
+";
+
+// Adds a row of an error of a store.
+fn push_store_row(rows: &mut String, error: FsError) -> Result<(), NoMemory> {
+    let status = StatusCode::from(error).as_u16();
+    let answer = DavError::from(error).statuscode().as_u16();
+    let row = format!(in *rows.allocator(); "{error} {status} {answer}\n")?;
+    rows.push_str(&row)
+}
+
 #[test]
 fn shows_errors_of_stores(rt: HostRuntime) -> Result<(), Fail> {
-    let cases = [
-        (FsError::NotImplemented, 501, "NotImplemented"),
-        (FsError::GeneralFailure, 500, "GeneralFailure"),
-        (FsError::Exists, 405, "Exists"),
-        (FsError::NotFound, 404, "NotFound"),
-        (FsError::Forbidden, 403, "Forbidden"),
-        (FsError::InsufficientStorage, 507, "InsufficientStorage"),
-        (FsError::LoopDetected, 508, "LoopDetected"),
-        (FsError::PathTooLong, 414, "PathTooLong"),
-        (FsError::TooLarge, 413, "TooLarge"),
-        (FsError::IsRemote, 502, "IsRemote"),
-    ];
-    for (error, status, name) in cases {
-        assert_eq!(rt; StatusCode::from(error).as_u16(), status, "{name}");
-        assert_eq!(rt;
-            DavError::from(error).statuscode().as_u16(),
-            status,
-            "{name}"
-        );
-        let text = format!(in rt.alloc(); "{error}")?;
-        same(&rt, &text.as_str(), &name);
+    let mut rows = String::from_str(rt.alloc(), "\n")?;
+    for error in [
+        FsError::NotImplemented,
+        FsError::GeneralFailure,
+        FsError::Exists,
+        FsError::NotFound,
+        FsError::Forbidden,
+        FsError::InsufficientStorage,
+        FsError::LoopDetected,
+        FsError::PathTooLong,
+        FsError::TooLarge,
+        FsError::IsRemote,
+    ] {
+        push_store_row(&mut rows, error)?;
     }
+    same(&rt, &rows.as_str(), &STORE_ROWS);
     Ok(())
+}
+
+// Each error of a method, its status, and whether the connection is to be closed.
+const METHOD_ROWS: &str = "
+XmlParseError 400 false
+InvalidPath 400 false
+ForbiddenPath 403 false
+IllegalPath 502 false
+UnknownDavMethod 501 false
+ChanError 500 false
+Status 423 false
+StatusClose 409 true
+FsError 405 false
+Memory 507 false
+";
+
+// Adds a row of an error of a method.
+fn push_method_row(rows: &mut String, error: DavError) -> Result<(), NoMemory> {
+    let status = error.statuscode().as_u16();
+    let row = format!(in *rows.allocator(); "{error} {status} {}\n", error.must_close())?;
+    rows.push_str(&row)
 }
 
 #[test]
 fn shows_errors_of_methods(rt: HostRuntime) -> Result<(), Fail> {
-    let cases = [
-        (DavError::XmlParseError, 400, false, "XmlParseError"),
-        (DavError::InvalidPath, 400, false, "InvalidPath"),
-        (DavError::ForbiddenPath, 403, false, "ForbiddenPath"),
-        (DavError::IllegalPath, 502, false, "IllegalPath"),
-        (DavError::UnknownDavMethod, 501, false, "UnknownDavMethod"),
-        (DavError::ChanError, 500, false, "ChanError"),
-        (DavError::Status(StatusCode::LOCKED), 423, false, "Status"),
-        (
-            DavError::StatusClose(StatusCode::CONFLICT),
-            409,
-            true,
-            "StatusClose",
-        ),
-        (DavError::FsError(FsError::Exists), 405, false, "FsError"),
-        (DavError::Memory, 507, false, "Memory"),
-    ];
-    for (error, status, closes, name) in cases {
-        assert_eq!(rt; error.statuscode().as_u16(), status, "{name}");
-        assert_eq!(rt; error.must_close(), closes, "{name}");
-        let text = format!(in rt.alloc(); "{error}")?;
-        same(&rt, &text.as_str(), &name);
+    let mut rows = String::from_str(rt.alloc(), "\n")?;
+    for error in [
+        DavError::XmlParseError,
+        DavError::InvalidPath,
+        DavError::ForbiddenPath,
+        DavError::IllegalPath,
+        DavError::UnknownDavMethod,
+        DavError::ChanError,
+        DavError::Status(StatusCode::LOCKED),
+        DavError::StatusClose(StatusCode::CONFLICT),
+        DavError::FsError(FsError::Exists),
+        DavError::Memory,
+    ] {
+        push_method_row(&mut rows, error)?;
     }
+    same(&rt, &rows.as_str(), &METHOD_ROWS);
     Ok(())
 }
 
 #[test]
 fn becomes_errors_of_methods(rt: HostRuntime) {
-    let cases = [
-        (
-            DavError::from(FsError::NotFound),
-            DavError::FsError(FsError::NotFound),
-        ),
-        (
-            DavError::from(StatusCode::LOCKED),
-            DavError::Status(StatusCode::LOCKED),
-        ),
-        (
-            DavError::from(ParseError::InvalidPath),
-            DavError::InvalidPath,
-        ),
-        (
-            DavError::from(ParseError::PrefixMismatch),
-            DavError::IllegalPath,
-        ),
-        (
-            DavError::from(ParseError::ForbiddenPath),
-            DavError::ForbiddenPath,
-        ),
-        (DavError::from(ParseError::Memory), DavError::Memory),
-        (DavError::from(NoMemory), DavError::Memory),
-        (DavError::from(AllocFailed { value: 1u8 }), DavError::Memory),
+    let found = [
+        DavError::from(FsError::NotFound),
+        DavError::from(StatusCode::LOCKED),
+        DavError::from(ParseError::InvalidPath),
+        DavError::from(ParseError::PrefixMismatch),
+        DavError::from(ParseError::ForbiddenPath),
+        DavError::from(ParseError::Memory),
+        DavError::from(NoMemory),
+        DavError::from(AllocFailed { value: 1u8 }),
     ];
-    for (found, wanted) in cases {
-        same(&rt, &found, &wanted);
-    }
+    let wanted = [
+        DavError::FsError(FsError::NotFound),
+        DavError::Status(StatusCode::LOCKED),
+        DavError::InvalidPath,
+        DavError::IllegalPath,
+        DavError::ForbiddenPath,
+        DavError::Memory,
+        DavError::Memory,
+        DavError::Memory,
+    ];
+    same(&rt, &found, &wanted);
 }

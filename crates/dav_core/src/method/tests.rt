@@ -1,39 +1,56 @@
 use super::*;
-use crate::asserting::same;
+use crate::asserting::{is_row, parts, same};
 use crate::laws;
+use std::alloc::Global;
+use std::process::Abort;
 use std::test::Fail;
+
+// A row: the method of a request between bars, ` -> `, and what it is known as.
+const ROWS: &str = "
+method |HEAD| -> Ok(Head)
+method |GET| -> Ok(Get)
+method |PUT| -> Ok(Put)
+method |PATCH| -> Ok(Patch)
+method |OPTIONS| -> Ok(Options)
+method |PROPFIND| -> Ok(PropFind)
+method |PROPPATCH| -> Ok(PropPatch)
+method |MKCOL| -> Ok(MkCol)
+method |COPY| -> Ok(Copy)
+method |MOVE| -> Ok(Move)
+method |DELETE| -> Ok(Delete)
+method |LOCK| -> Ok(Lock)
+method |UNLOCK| -> Ok(Unlock)
+method |REPORT| -> Ok(Report)
+method |MKCALENDAR| -> Ok(MkCalendar)
+method |MKADDRESSBOOK| -> Ok(MkAddressbook)
+method |get| -> Err(UnknownDavMethod)
+method |POST| -> Err(UnknownDavMethod)
+method |PROPFINDS| -> Err(UnknownDavMethod)
+";
+
+// Plays a row; the test fails where the method is known as something else, or isn't in the set of all methods alone.
+fn play(rt: &impl Abort, alloc: Global, row: &str) -> Result<(), Fail> {
+    let (_, text, wanted) = parts(row).ok_or("a line is no row")?;
+    let found = DavMethod::try_from(&Method::from_bytes(alloc, text.as_bytes())?);
+    if let Ok(method) = found {
+        let (all, none) = (DavMethodSet::all(), DavMethodSet::none());
+        assert!(rt; all.contains(method) && !none.contains(method), "{row}");
+    }
+    let outcome = format!(in alloc; "{found:?}")?;
+    assert!(rt; outcome.as_str() == wanted, "{row}\ngives: {outcome}");
+    Ok(())
+}
 
 #[test]
 fn knows_methods(rt: HostRuntime) -> Result<(), Fail> {
-    let alloc = rt.alloc();
-    let cases = [
-        ("HEAD", DavMethod::Head),
-        ("GET", DavMethod::Get),
-        ("PUT", DavMethod::Put),
-        ("PATCH", DavMethod::Patch),
-        ("OPTIONS", DavMethod::Options),
-        ("PROPFIND", DavMethod::PropFind),
-        ("PROPPATCH", DavMethod::PropPatch),
-        ("MKCOL", DavMethod::MkCol),
-        ("COPY", DavMethod::Copy),
-        ("MOVE", DavMethod::Move),
-        ("DELETE", DavMethod::Delete),
-        ("LOCK", DavMethod::Lock),
-        ("UNLOCK", DavMethod::Unlock),
-        ("REPORT", DavMethod::Report),
-        ("MKCALENDAR", DavMethod::MkCalendar),
-        ("MKADDRESSBOOK", DavMethod::MkAddressbook),
-    ];
-    for (text, method) in cases {
-        let found = DavMethod::try_from(&Method::from_bytes(alloc, text.as_bytes())?);
-        assert_eq!(rt; found, Ok(method), "{text}");
-        assert!(rt; DavMethodSet::all().contains(method), "{text}");
-        assert!(rt; !DavMethodSet::none().contains(method), "{text}");
+    let mut count = 0u32;
+    for line in ROWS.lines() {
+        if is_row(line) {
+            play(&rt, rt.alloc(), line)?;
+            count = count.wrapping_add(1);
+        }
     }
-    for text in ["get", "POST", "PROPFINDS"] {
-        let found = DavMethod::try_from(&Method::from_bytes(alloc, text.as_bytes())?);
-        assert_eq!(rt; found, Err(DavError::UnknownDavMethod), "{text}");
-    }
+    same(&rt, &count, &19);
     Ok(())
 }
 
@@ -41,27 +58,37 @@ fn knows_methods(rt: HostRuntime) -> Result<(), Fail> {
 fn changes_sets(rt: HostRuntime) {
     let mut set = DavMethodSet::HTTP_RO;
     set.add(DavMethod::Put);
-    same(&rt, &set, &DavMethodSet::HTTP_RW);
+    let with_put = set;
     set.remove(DavMethod::Put);
     set.add(DavMethod::PropFind);
     set.add(DavMethod::PropFind);
-    same(&rt, &set, &DavMethodSet::WEBDAV_RO);
+    let with_propfind = set;
     set.remove(DavMethod::Get);
-    assert!(rt; !set.contains(DavMethod::Get));
-    assert!(rt; set.contains(DavMethod::Head));
+    let without_get = [set.contains(DavMethod::Get), set.contains(DavMethod::Head)];
+    let wanted = [DavMethodSet::HTTP_RW, DavMethodSet::WEBDAV_RO];
+    same(&rt, &[with_put, with_propfind], &wanted);
+    same(&rt, &without_get, &[false, true]);
 }
 
 #[test]
-fn reads_sets(rt: HostRuntime) -> Result<(), Fail> {
-    let set = DavMethodSet::from_vec(&["Get", "lock"]);
-    same(&rt, &set, &Ok(DavMethodSet(2050)));
-    same(&rt, &DavMethodSet::from_vec(&[]), &Ok(DavMethodSet::none()));
-    same(&rt, &DavMethodSet::from_vec(&["x"]), &Err(InvalidMethod));
-    same(
-        &rt,
-        &DavMethodSet::from_vec(&["GET", "HTTP_RO"]),
-        &Err(InvalidMethod),
-    );
+fn reads_sets(rt: HostRuntime) {
+    let found = [
+        DavMethodSet::from_vec(&["Get", "lock"]),
+        DavMethodSet::from_vec(&[]),
+        DavMethodSet::from_vec(&["x"]),
+        DavMethodSet::from_vec(&["GET", "HTTP_RO"]),
+    ];
+    let wanted = [
+        Ok(DavMethodSet(2050)),
+        Ok(DavMethodSet::none()),
+        Err(InvalidMethod),
+        Err(InvalidMethod),
+    ];
+    same(&rt, &found, &wanted);
+}
+
+#[test]
+fn displays_what_is_no_method(rt: HostRuntime) -> Result<(), Fail> {
     let text = format!(in rt.alloc(); "{InvalidMethod}")?;
     same(&rt, &text.as_str(), &"InvalidMethod");
     Ok(())
@@ -70,9 +97,13 @@ fn reads_sets(rt: HostRuntime) -> Result<(), Fail> {
 #[test]
 fn keeps_constant_sets(rt: HostRuntime) {
     let (http_ro, http_rw, webdav_ro, webdav_rw) = laws::constant_sets();
-    same(&rt, &http_ro, &DavMethodSet(19));
-    same(&rt, &http_rw, &DavMethodSet(23));
-    same(&rt, &webdav_ro, &DavMethodSet(51));
-    same(&rt, &webdav_rw, &DavMethodSet(65535));
-    same(&rt, &webdav_rw, &DavMethodSet::all());
+    let found = [http_ro, http_rw, webdav_ro, webdav_rw, DavMethodSet::all()];
+    let wanted = [
+        DavMethodSet(19),
+        DavMethodSet(23),
+        DavMethodSet(51),
+        DavMethodSet(65535),
+        DavMethodSet(65535),
+    ];
+    same(&rt, &found, &wanted);
 }
