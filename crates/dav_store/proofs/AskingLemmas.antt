@@ -18,7 +18,7 @@ step call takes old new r (Err e) means h =
 step call takes old new r (Ok (a, w)) means (inl h) =
     asked (ap (λ x. (x, new.world)) h.0 ∙ ap (λ (s : Store). (Ok a, s.world)) h.1 ∙ ap (answered old.world) means) refl (ap (λ (s : Store). s.short) h.1)
 step call takes old new r (Ok (a, w)) means (inr h) =
-    ran_short takes refl h.0 (ap (λ (s : Store). s.world) h.1) refl (ap (λ (s : Store). s.short) h.1)
+    ran_short takes refl (subst IsAnswered means tt) h.0 (ap (λ (s : Store). s.world) h.1) refl (ap (λ (s : Store). s.short) h.1)
 
 exact_step : (call : Call) (old new : Store) (r : Result (Answer call) FsError) (m : Meaning (Answer call))
     → m ≡ meaning call old.world → AnswersExactly m r old new → Asks call (state_of old) r (state_of new)
