@@ -1,14 +1,14 @@
 -- Asking a store.
-use Rattle.std.proofs.Common.{◌≡◌, Bool, true, false, List, [], ◌∷◌, Option, Some, None, Result, Ok, Err, refl, sym, ap, ◌∙◌}
+use Rattle.std.proofs.Common.{◌≡◌, Bool, true, false, List, [], ◌∷◌, Option, Some, None, Result, Ok, Err, refl, sym, ap, subst, ◌∙◌}
 use Rattle.dav_core.specs.declared.errors.FsError.{FsError}
 use Rattle.dav_core.specs.World.{World}
 use Rattle.dav_core.specs.Meaning.{Meaning}
-use Rattle.dav_core.specs.Asking.{Call, meaning, asked, ran_short, ask, answered, rest_of}
-use Rattle.dav_core.specs.CallLaws.{AskingIsDetermined, ErrorsLeaveWorlds, RefusalsAreUsedUp, RefusalIsAnswered, CanBeAsked}
+use Rattle.dav_core.specs.Asking.{Call, Answer, IsAnswered, meaning, asked, ran_short, ask, answered, rest_of, next_refusal}
+use Rattle.dav_core.specs.CallLaws.{AskingIsDetermined, ErrorsLeaveWorlds, RulesComeFirst, RefusalsAreUsedUp, RefusalIsAnswered, CanBeAsked}
 
 pub asking_is_determined : AskingIsDetermined
 asking_is_determined call old answer new (asked is used flag) unset = (sym flag ∙ unset, is)
-asking_is_determined call old answer new (ran_short takes head is same used flag) unset = cc
+asking_is_determined call old answer new (ran_short takes head allowed is same used flag) unset = cc
 
 is_error : {A : Type 0} → Result A FsError → Bool
 is_error (Ok a) = false
@@ -26,11 +26,21 @@ error_asked call w new (Some f ∷ rs) e h = ap (λ x. x.1) h
 
 pub errors_leave_worlds : ErrorsLeaveWorlds
 errors_leave_worlds call old e new (asked is used flag) = error_asked call old.world new.world old.refusals e is
-errors_leave_worlds call old e new (ran_short takes head is same used flag) = same
+errors_leave_worlds call old e new (ran_short takes head allowed is same used flag) = same
 
 pub refusals_are_used_up : RefusalsAreUsedUp
 refusals_are_used_up call old answer new (asked is used flag) = used
-refusals_are_used_up call old answer new (ran_short takes head is same used flag) = used
+refusals_are_used_up call old answer new (ran_short takes head allowed is same used flag) = used
+
+rules_answer : (call : Call) (w new : World) (refusals : List (Option FsError)) (answer : Result (Answer call) FsError) (e : FsError)
+    → next_refusal refusals ≡ None → meaning call w ≡ Err e → (answer, new) ≡ ask call w refusals → answer ≡ Err e
+rules_answer call w new [] answer e head rule is = ap (λ x. x.0) (is ∙ ap (answered w) rule)
+rules_answer call w new (None ∷ rs) answer e head rule is = ap (λ x. x.0) (is ∙ ap (answered w) rule)
+rules_answer call w new (Some f ∷ rs) answer e head rule is = cc
+
+pub rules_come_first : RulesComeFirst
+rules_come_first call old answer new e (asked is used flag) head rule = rules_answer call old.world new.world old.refusals answer e head rule is
+rules_come_first call old answer new e (ran_short takes head allowed is same used flag) free rule = absurd (subst IsAnswered rule allowed)
 
 pub refusal_is_answered : RefusalIsAnswered
 refusal_is_answered call w e refusals = refl

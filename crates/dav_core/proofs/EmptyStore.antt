@@ -1,16 +1,22 @@
 -- A store that holds the root alone: what its calls answer.
-use Rattle.std.proofs.Common.{◌≡◌, ℕ, Bool, true, false, [], ◌∷◌, Some, Result, Ok, Err, refl, List}
+use Rattle.std.proofs.Common.{◌≡◌, ℕ, ◌||◌, not, Bool, true, false, [], ◌∷◌, Some, Result, Ok, Err, refl, ap, List}
 use Rattle.dav_core.specs.declared.errors.FsError.{FsError}
-use Rattle.dav_core.specs.declared.errors.FsError.TheVariants.{NotImplemented, NotFound, Forbidden}
-use Rattle.dav_core.specs.Path.{Path, is_root}
+use Rattle.dav_core.specs.declared.errors.FsError.TheVariants.{NotImplemented, NotFound, Forbidden, Exists, InsufficientStorage}
+use Rattle.dav_core.specs.Path.{Path, is_root, parent_of}
 use Rattle.std.specs.declared.io.traits.SeekFrom.{SeekFrom}
 use Rattle.dav_core.specs.World.{empty_from}
-use Rattle.dav_core.specs.Handle.{Handle}
-use Rattle.dav_core.specs.Asking.{Call, Answer, Metadata, ReadDir, RemoveDir, RemoveFile, HaveProps, GetQuota, SetAccessed, SetModified, EntryMetadata, Read, Write, Seek, Flush, FileMetadata, StoreState, Asks, asked, answered, meaning}
+use Rattle.dav_core.specs.Handle.{Handle, Opening}
+use Rattle.dav_core.specs.Meaning.{Meaning, refuse_if}
+use Rattle.dav_core.specs.Property.{Patch, PropertyKey}
+use Rattle.dav_core.specs.Asking.{Call, Answer, Metadata, ReadDir, RemoveDir, RemoveFile, HaveProps, GetQuota, SetAccessed, SetModified, EntryMetadata, Read, Write, Seek, Flush, FileMetadata, CreateDir, Open, Rename, Copy, PatchProps, GetProps, GetProp, StoreState, TakesMemory, IsAnswered, Asks, asked, ran_short, answered, meaning}
 
 -- the store, short of memory at some time or not
 abbrev pub empty_store : Bool → StoreState
 empty_store short = record { world = empty_from 1; refusals = []; short = short }
+
+-- a call that no rule refuses, in a store without memory
+short_of : (call : Call) (short : Bool) (new : StoreState) → TakesMemory call → IsAnswered (meaning call (empty_from 1)) → new ≡ empty_store true → Asks call (empty_store short) (Err InsufficientStorage) new
+short_of call short new takes allowed is = ran_short takes refl allowed refl (ap (λ (s : StoreState). s.world) is) (ap (λ (s : StoreState). s.refusals) is) (ap (λ (s : StoreState). s.short) is)
 
 -- a call that changes nothing is answered as it means
 told : (call : Call) (short : Bool) (answer : Result (Answer call) FsError) → (answer, empty_from 1) ≡ answered (empty_from 1) (meaning call (empty_from 1)) → Asks call (empty_store short) answer (empty_store short)
@@ -85,3 +91,97 @@ gone_file_is_not_told_of short = told (FileMetadata gone_file) short _ refl
 pub gone_entry_is_missing : (short : Bool) → Asks (EntryMetadata ((120 ∷ []) ∷ [])) (empty_store short) (Err NotFound) (empty_store short)
 unfolding meaning
 gone_entry_is_missing short = told (EntryMetadata ((120 ∷ []) ∷ [])) short _ refl
+
+pub root_is_there : (p : Path) (now : ℕ) (short : Bool) → is_root p ≡ true → Asks (CreateDir p now) (empty_store short) (Err Exists) (empty_store short)
+unfolding meaning
+root_is_there [] now short h = told (CreateDir [] now) short _ refl
+root_is_there (x ∷ p) now short h = cc
+
+pub folder_has_no_parent : (p : Path) (now : ℕ) (short : Bool) → is_root (parent_of p) ≡ false → Asks (CreateDir p now) (empty_store short) (Err NotFound) (empty_store short)
+unfolding meaning
+folder_has_no_parent [] now short h = cc
+folder_has_no_parent (x ∷ []) now short h = cc
+folder_has_no_parent (x ∷ y ∷ p) now short h = told (CreateDir (x ∷ y ∷ p) now) short _ refl
+
+pub folder_needs_memory : (p : Path) (now : ℕ) (short : Bool) (new : StoreState) → is_root p ≡ false → is_root (parent_of p) ≡ true → new ≡ empty_store true → Asks (CreateDir p now) (empty_store short) (Err InsufficientStorage) new
+unfolding meaning
+folder_needs_memory [] now short new h in_root is = cc
+folder_needs_memory (x ∷ []) now short new h in_root is = short_of (CreateDir (x ∷ []) now) short new tt tt is
+folder_needs_memory (x ∷ y ∷ p) now short new h in_root is = cc
+
+-- a test that refuses, and one that doesn't
+refused : {A : Type 0} (b : Bool) (e : FsError) (m : Meaning A) → b ≡ false → Err e ≡ refuse_if (not b) e m
+refused true e m h = cc
+refused false e m h = refl
+
+let_through : {A : Type 0} (b : Bool) (e : FsError) (m : Meaning A) → b ≡ true → IsAnswered m → IsAnswered (refuse_if (not b) e m)
+let_through true e m h is = is
+let_through false e m h is = cc
+
+refused_anyway : {A : Type 0} (b : Bool) (e : FsError) → ◌≡◌ {A = Meaning A} (Err e) (refuse_if b e (Err e))
+refused_anyway true e = refl
+refused_anyway false e = refl
+
+pub root_is_no_file : (p : Path) (how : Opening) (now : ℕ) (short : Bool) → is_root p ≡ true → Asks (Open p how now) (empty_store short) (Err Forbidden) (empty_store short)
+unfolding meaning
+root_is_no_file [] how now short h = told (Open [] how now) short _ refl
+root_is_no_file (x ∷ p) how now short h = cc
+
+pub file_has_no_parent : (p : Path) (how : Opening) (now : ℕ) (short : Bool) → is_root (parent_of p) ≡ false → Asks (Open p how now) (empty_store short) (Err NotFound) (empty_store short)
+unfolding meaning
+file_has_no_parent [] how now short h = cc
+file_has_no_parent (x ∷ []) how now short h = cc
+file_has_no_parent (x ∷ y ∷ p) how now short h = told (Open (x ∷ y ∷ p) how now) short _ (ap (answered (empty_from 1)) (refused_anyway (not (how.create || how.create_new)) NotFound))
+
+pub file_is_not_made : (p : Path) (how : Opening) (now : ℕ) (short : Bool) → is_root p ≡ false → (how.create || how.create_new) ≡ false → Asks (Open p how now) (empty_store short) (Err NotFound) (empty_store short)
+unfolding meaning
+file_is_not_made [] how now short h unasked = cc
+file_is_not_made (x ∷ p) how now short h unasked = told (Open (x ∷ p) how now) short _ (ap (answered (empty_from 1)) (refused (how.create || how.create_new) NotFound _ unasked))
+
+pub file_needs_memory : (p : Path) (how : Opening) (now : ℕ) (short : Bool) (new : StoreState) → is_root p ≡ false → is_root (parent_of p) ≡ true → (how.create || how.create_new) ≡ true → new ≡ empty_store true → Asks (Open p how now) (empty_store short) (Err InsufficientStorage) new
+unfolding meaning
+file_needs_memory [] how now short new h in_root wanted is = cc
+file_needs_memory (x ∷ []) how now short new h in_root wanted is = short_of (Open (x ∷ []) how now) short new tt (let_through (how.create || how.create_new) NotFound _ wanted tt) is
+file_needs_memory (x ∷ y ∷ p) how now short new h in_root wanted is = cc
+
+pub root_is_not_renamed : (from to : Path) (now : ℕ) (short : Bool) → is_root from ≡ true → Asks (Rename from to now) (empty_store short) (Err Forbidden) (empty_store short)
+unfolding meaning
+root_is_not_renamed [] to now short h = told (Rename [] to now) short _ refl
+root_is_not_renamed (x ∷ from) to now short h = cc
+
+pub nothing_becomes_the_root : (from to : Path) (now : ℕ) (short : Bool) → is_root to ≡ true → Asks (Rename from to now) (empty_store short) (Err Forbidden) (empty_store short)
+unfolding meaning
+nothing_becomes_the_root [] [] now short h = told (Rename [] [] now) short _ refl
+nothing_becomes_the_root (x ∷ from) [] now short h = told (Rename (x ∷ from) [] now) short _ refl
+nothing_becomes_the_root from (y ∷ to) now short h = cc
+
+pub other_is_not_renamed : (from to : Path) (now : ℕ) (short : Bool) → is_root from ≡ false → is_root to ≡ false → Asks (Rename from to now) (empty_store short) (Err NotFound) (empty_store short)
+unfolding meaning
+other_is_not_renamed [] to now short h h' = cc
+other_is_not_renamed (x ∷ from) [] now short h h' = cc
+other_is_not_renamed (x ∷ from) (y ∷ to) now short h h' = told (Rename (x ∷ from) (y ∷ to) now) short _ refl
+
+pub root_is_not_copied : (from to : Path) (now : ℕ) (short : Bool) → is_root from ≡ true → Asks (Copy from to now) (empty_store short) (Err Forbidden) (empty_store short)
+unfolding meaning
+root_is_not_copied [] to now short h = told (Copy [] to now) short _ refl
+root_is_not_copied (x ∷ from) to now short h = cc
+
+pub other_is_not_copied : (from to : Path) (now : ℕ) (short : Bool) → is_root from ≡ false → Asks (Copy from to now) (empty_store short) (Err NotFound) (empty_store short)
+unfolding meaning
+other_is_not_copied [] to now short h = cc
+other_is_not_copied (x ∷ from) to now short h = told (Copy (x ∷ from) to now) short _ refl
+
+pub other_has_no_properties : (p : Path) (patches : List Patch) (content : Bool) (short : Bool) → is_root p ≡ false → Asks (PatchProps p patches) (empty_store short) (Err NotFound) (empty_store short) × Asks (GetProps p content) (empty_store short) (Err NotFound) (empty_store short)
+unfolding meaning
+other_has_no_properties [] patches content short h = cc
+other_has_no_properties (x ∷ p) patches content short h = (told (PatchProps (x ∷ p) patches) short _ refl, told (GetProps (x ∷ p) content) short _ refl)
+
+pub properties_need_memory : (p : Path) (patches : List Patch) (content : Bool) (short : Bool) (new : StoreState) → is_root p ≡ true → new ≡ empty_store true → Asks (PatchProps p patches) (empty_store short) (Err InsufficientStorage) new × Asks (GetProps p content) (empty_store short) (Err InsufficientStorage) new
+unfolding meaning
+properties_need_memory [] patches content short new h is = (short_of (PatchProps [] patches) short new tt tt is, short_of (GetProps [] content) short new tt tt is)
+properties_need_memory (x ∷ p) patches content short new h is = cc
+
+pub nothing_has_a_property : (p : Path) (key : PropertyKey) (short : Bool) → Asks (GetProp p key) (empty_store short) (Err NotFound) (empty_store short)
+unfolding meaning
+nothing_has_a_property [] key short = told (GetProp [] key) short _ refl
+nothing_has_a_property (x ∷ p) key short = told (GetProp (x ∷ p) key) short _ refl

@@ -31,3 +31,4 @@ pub mod FollowLemmas
 pub mod GoneLemmas
 pub mod CopyLemmas
 pub mod EqualLemmas
+pub mod ListedLocks

@@ -126,11 +126,17 @@ abbrev pub next_refusal : List (Option FsError) → Option FsError
 next_refusal [] = None
 next_refusal (r ∷ rs) = r
 
--- From old, a store may answer the call so, and be new: the answer is that of asking it; or the call isn't refused, takes
--- memory, and there was none, and then nothing changed but that the store remembers it. The head of the refusals is used up.
+-- no rule of the call refuses it
+abbrev pub IsAnswered : {A : Type 0} → Meaning A → Type 0
+IsAnswered (Ok r) = ⊤
+IsAnswered (Err e) = ⊥
+
+-- From old, a store may answer the call so, and be new: the answer is that of asking it; or the call isn't refused, neither by
+-- the list nor by what it means, it allocates, and that failed, and then nothing changed but that the store remembers it. The
+-- head of the refusals is used up.
 pub data Asks (call : Call) (old : StoreState) (answer : Result (Answer call) FsError) (new : StoreState) : Type 0 where
   asked : (answer, new.world) ≡ ask call old.world old.refusals → new.refusals ≡ rest_of old.refusals → new.short ≡ old.short → Asks call old answer new
-  ran_short : TakesMemory call → next_refusal old.refusals ≡ None → answer ≡ Err InsufficientStorage → new.world ≡ old.world → new.refusals ≡ rest_of old.refusals → new.short ≡ true → Asks call old answer new
+  ran_short : TakesMemory call → next_refusal old.refusals ≡ None → IsAnswered (meaning call old.world) → answer ≡ Err InsufficientStorage → new.world ≡ old.world → new.refusals ≡ rest_of old.refusals → new.short ≡ true → Asks call old answer new
 
 -- an answer, by what its value stands for
 abbrev pub seen : {A B : Type 0} → (A → B) → Result A FsError → Result B FsError

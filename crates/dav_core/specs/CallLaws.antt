@@ -8,7 +8,7 @@ use Rattle.dav_core.specs.declared.fs.DavMetaData.{DavMetaData}
 use Rattle.dav_core.specs.Path.{Path, name_cmp, path_cmp, is_same_path, rest_after, is_at_or_below, is_root, parent_of, IsName}
 use Rattle.dav_core.specs.World.{World, Node, Nodes, node_at, is_missing, is_folder, has_members, prune, graft, union, moved, members, adjust, touched, modified_at, file_made_with, is_folder_kind, last_moment, IsWorld}
 use Rattle.dav_core.specs.Handle.{Handle, Opening}
-use Rattle.dav_core.specs.Asking.{Call, Metadata, EntryMetadata, CreateDir, RemoveDir, RemoveFile, Rename, Copy, PatchProps, Open, Write, FileMetadata, Answer, meaning, StoreState, Asks, ask, rest_of}
+use Rattle.dav_core.specs.Asking.{Call, Metadata, EntryMetadata, CreateDir, RemoveDir, RemoveFile, Rename, Copy, PatchProps, Open, Write, FileMetadata, Answer, meaning, StoreState, Asks, ask, rest_of, next_refusal}
 
 -- after a prune of p nothing stands at p or below it, and all else as before
 abbrev pub PruneLeaves : Type 0
@@ -115,6 +115,12 @@ AskingIsDetermined =
 -- an error leaves the world, want of memory too
 abbrev pub ErrorsLeaveWorlds : Type 0
 ErrorsLeaveWorlds = (call : Call) (old : StoreState) (e : FsError) (new : StoreState) → Asks call old (Err e) new → new.world ≡ old.world
+
+-- where no refusal is to come and a rule refuses the call, that is the answer, whether memory suffices or not
+abbrev pub RulesComeFirst : Type 0
+RulesComeFirst =
+    (call : Call) (old : StoreState) (answer : Result (Answer call) FsError) (new : StoreState) (e : FsError)
+    → Asks call old answer new → next_refusal old.refusals ≡ None → meaning call old.world ≡ Err e → answer ≡ Err e
 
 -- each call uses up the head of the refusals
 abbrev pub RefusalsAreUsedUp : Type 0

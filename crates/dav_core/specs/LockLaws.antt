@@ -3,7 +3,7 @@ use Rattle.std.specs.Prelude.{◌≡◌, ◌≢◌, ℕ, ◌++◌, ◌∷◌, []
 use Rattle.std.specs.Option.{is_some}
 use Rattle.std.specs.List.{list_all}
 use Rattle.dav_core.specs.Path.{Path, names, is_at_or_below}
-use Rattle.dav_core.specs.Locks.{Lock, Asker, covers, is_held, is_free, is_free_deep, is_free_for, is_in_the_way, is_grantable, unlocked, refreshed, deleted}
+use Rattle.dav_core.specs.Locks.{Lock, Asker, covers, is_held, is_free, is_free_deep, is_free_for, is_in_the_way, is_grantable, unlocked, refreshed, refreshed_lock, deleted}
 
 -- where a path is free, whoever asks holds each exclusive lock that covers it
 abbrev pub FreeHoldsExclusive : Type 0
@@ -59,3 +59,24 @@ RefreshedAreShared =
 -- and without those at a path and below it
 abbrev pub DeletedAreShared : Type 0
 DeletedAreShared = (p : Path) (ls : List Lock) → CoveringAreShared ls → CoveringAreShared (deleted p ls)
+
+-- a lock that a token and a path can mean: it has the token, and is on the path or above it
+pub record IsMeant (token : List ℕ) (p : Path) (l : Lock) : Type 0 where
+  pub token_is : l.token ≡ token
+  pub above : is_at_or_below (names l.path) p ≡ true
+
+-- an unlock takes one lock that is meant away, and leaves all others in their places (RFC 4918, section 9.11)
+abbrev pub UnlockTakesOne : Type 0
+UnlockTakesOne =
+    (token : List ℕ) (p : Path) (ls left : List Lock)
+    → unlocked token p ls ≡ Some left
+    → (l : Lock) × (front : List Lock) × (back : List Lock) × IsMeant token p l × (ls ≡ front ++ l ∷ back) × (left ≡ front ++ back)
+
+-- a refresh gives one lock that is meant a new timeout; it keeps its place and all else, and so do all others
+-- (RFC 4918, section 9.10.2)
+abbrev pub RefreshChangesOne : Type 0
+RefreshChangesOne =
+    (token : List ℕ) (p : Path) (timeout : Option ℕ) (now : ℕ) (ls new : List Lock)
+    → refreshed token p timeout now ls ≡ Some new
+    → (l : Lock) × (front : List Lock) × (back : List Lock) × IsMeant token p l
+    × (ls ≡ front ++ l ∷ back) × (new ≡ front ++ refreshed_lock timeout now l ∷ back)

@@ -4,7 +4,7 @@ pub mod calls;
 
 ghost use Rattle.std.specs.Prelude.{◌≡◌, [], ◌∷◌};
 ghost use Rattle.dav_core.specs.Laws.{LeavesOnePath, LeavesNoFault, OneFault, ReadsOnePath, ReadIsNotRefused, OneRefusal, KeepsNames, ReadsNames, StarHasNoNames, ReadsAgain, NamesReadAgain, SameText, SlashKeepsNames, AddsName, AddsSegment, NamesAreSegments, NameIsSegment, ParentOfNames, CutsAtNames, CutKeepsNames, EmptyIsWorld, NewKeepsWorld, ChangeKeepsWorld, OneMethod, NameNames, MembersAreHad, SameMethodsSameSet, EqualToItself, EqualBothWays, EqualThrough};
-ghost use Rattle.dav_core.specs.LockLaws.{FreeHoldsExclusive, FreeDeepHoldsBelow, FreeIsNothingInTheWay, GrantedCanBeUnlocked, TakenBack, CoveringAreShared, GrantedAreShared, UnlockedAreShared, RefreshedAreShared, DeletedAreShared};
+ghost use Rattle.dav_core.specs.LockLaws.{FreeHoldsExclusive, FreeDeepHoldsBelow, FreeIsNothingInTheWay, GrantedCanBeUnlocked, TakenBack, CoveringAreShared, GrantedAreShared, UnlockedAreShared, RefreshedAreShared, DeletedAreShared, UnlockTakesOne, RefreshChangesOne};
 ghost use Rattle.dav_core.specs.Method.{all_methods, members};
 
 use crate::method::{DavMethod, DavMethodSet};
@@ -87,6 +87,13 @@ pub fn locks_exclude()
     ensures unlocked { UnlockedAreShared }
     ensures refreshed { RefreshedAreShared }
     ensures deleted { DeletedAreShared }
+{}
+
+/// An unlock takes one lock away, and a refresh gives one lock a new timeout: one with this token, on the path or above it. All
+/// other locks stay as they are, in their places (RFC 4918, sections 9.10.2 and 9.11).
+pub fn one_lock_changes()
+    ensures unlocked { UnlockTakesOne }
+    ensures refreshed { RefreshChangesOne }
 {}
 
 /// A name is that of one method. A set is known by its methods: two that have the same ones are equal.

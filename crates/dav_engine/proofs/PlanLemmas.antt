@@ -10,7 +10,7 @@ use Rattle.dav_engine.specs.PlanLaws.{ample}
 -- the flag is never taken back
 asks_unset : {c : Call} {old new : StoreState} {answer : Result (Answer c) FsError} → Asks c old answer new → new.short ≡ false → old.short ≡ false
 asks_unset (asked is left flag) u = sym flag ∙ u
-asks_unset (ran_short takes ready is same left flag) u = absurd (true≢false (sym flag ∙ u))
+asks_unset (ran_short takes ready allowed is same left flag) u = absurd (true≢false (sym flag ∙ u))
 
 pub ran_unset : {A : Type 0} {plan : Plan A} {old new : StoreState} {ls ms : Locks} {a : A} → Ran Asks plan old ls a new ms → new.short ≡ false → old.short ≡ false
 ran_unset ran_done u = u
@@ -23,8 +23,8 @@ asks_same : {c : Call} {old s t : StoreState} {a b : Result (Answer c) FsError} 
 asks_same (asked is left flag) u (asked is' left' flag') u' =
     let both = is ∙ sym is' in
     (ap (λ p. p.0) both, λ i. record { world = (both i).1; refusals = (left ∙ sym left') i; short = (flag ∙ sym flag') i })
-asks_same (ran_short takes ready is same left flag) u other u' = absurd (true≢false (sym flag ∙ u))
-asks_same (asked is left flag) u (ran_short takes ready is' same left' flag') u' = absurd (true≢false (sym flag' ∙ u'))
+asks_same (ran_short takes ready allowed is same left flag) u other u' = absurd (true≢false (sym flag ∙ u))
+asks_same (asked is left flag) u (ran_short takes ready allowed is' same left' flag') u' = absurd (true≢false (sym flag' ∙ u'))
 
 pub ran_same : {A : Type 0} {plan : Plan A} {old s t : StoreState} {ls ks ms : Locks} {a b : A}
     → Ran Asks plan old ls a s ks → s.short ≡ false → Ran Asks plan old ls b t ms → t.short ≡ false → (a ≡ b) × (s ≡ t) × (ks ≡ ms)
@@ -67,7 +67,7 @@ met_at w v (Some e ∷ rs) is = record { entry = Some e; again = λ more. asked 
 
 pub asks_met : {c : Call} {old new : StoreState} {answer : Result (Answer c) FsError} → Asks c old answer new → Met c old.world answer new.world
 asks_met {old = old} {new = new} (asked is left flag) = met_at old.world new.world old.refusals is
-asks_met (ran_short takes ready is same left flag) = record {
+asks_met (ran_short takes ready allowed is same left flag) = record {
   entry = Some InsufficientStorage;
   again = λ more. asked (λ i. (is i, same i)) refl refl;
 }

@@ -1,5 +1,5 @@
 -- A store that answers as calls mean is asked so.
-use Rattle.std.proofs.Common.{◌≡◌, ℕ, Bool, true, List, Result, Ok, Err, inl, inr, refl, ap, ◌∙◌}
+use Rattle.std.proofs.Common.{◌≡◌, ℕ, Bool, true, List, Result, Ok, Err, inl, inr, refl, ap, subst, ◌∙◌}
 use Rattle.std.specs.declared.io.traits.SeekFrom.{SeekFrom}
 use Rattle.dav_core.specs.declared.errors.FsError.{FsError}
 use Rattle.dav_core.specs.declared.errors.FsError.TheVariants.{NotImplemented}
@@ -8,7 +8,7 @@ use Rattle.dav_core.specs.Property.{PropertyKey, Patch}
 use Rattle.dav_core.specs.Handle.{Handle, Opening}
 use Rattle.dav_core.specs.Meaning.{Meaning}
 use Rattle.dav_core.specs.Calls as calls
-use Rattle.dav_core.specs.Asking.{Call, Answer, Metadata, ReadDir, EntryMetadata, CreateDir, RemoveDir, RemoveFile, Rename, Copy, HaveProps, PatchProps, GetProps, GetProp, GetQuota, SetAccessed, SetModified, Open, Read, Write, Seek, Flush, FileMetadata, TakesMemory, Asks, asked, ran_short, answered, meaning}
+use Rattle.dav_core.specs.Asking.{Call, Answer, Metadata, ReadDir, EntryMetadata, CreateDir, RemoveDir, RemoveFile, Rename, Copy, HaveProps, PatchProps, GetProps, GetProp, GetQuota, SetAccessed, SetModified, Open, Read, Write, Seek, Flush, FileMetadata, TakesMemory, IsAnswered, Asks, asked, ran_short, answered, meaning}
 use Rattle.dav_store.specs.Store.{Store, Answers, AnswersExactly, state_of}
 
 step : (call : Call) → TakesMemory call → (old new : Store) (r : Result (Answer call) FsError) (m : Meaning (Answer call))
@@ -18,7 +18,7 @@ step call takes old new r (Err e) means h =
 step call takes old new r (Ok (a, w)) means (inl h) =
     asked (ap (λ x. (x, new.world)) h.0 ∙ ap (λ (s : Store). (Ok a, s.world)) h.1 ∙ ap (answered old.world) means) refl (ap (λ (s : Store). s.short) h.1)
 step call takes old new r (Ok (a, w)) means (inr h) =
-    ran_short takes refl h.0 (ap (λ (s : Store). s.world) h.1) refl (ap (λ (s : Store). s.short) h.1)
+    ran_short takes refl (subst IsAnswered means tt) h.0 (ap (λ (s : Store). s.world) h.1) refl (ap (λ (s : Store). s.short) h.1)
 
 exact_step : (call : Call) (old new : Store) (r : Result (Answer call) FsError) (m : Meaning (Answer call))
     → m ≡ meaning call old.world → AnswersExactly m r old new → Asks call (state_of old) r (state_of new)

@@ -1,6 +1,5 @@
-ghost use Rattle.std.specs.Prelude.{◌≡◌, true};
-ghost use Rattle.std.specs.Result.{IsErrOf};
-ghost use Rattle.dav_core.specs.Path.{names, is_root};
+ghost use Rattle.std.specs.Prelude.{◌≡◌, ◌||◌};
+ghost use Rattle.dav_core.specs.Path.{names, is_root, parent_of};
 
 use super::*;
 use crate::asserting::same;
@@ -119,22 +118,29 @@ impl DavDirEntry for GoneEntry {
     }
 }
 
-impl EmptyFs {
-    // There is no memory.
-    fn wants<T>(&mut self) -> FsResult<T>
-        ensures short { self.new.short ≡ true }
-        ensures err { IsErrOf result FsError.InsufficientStorage }
-    {
-        self.short = true;
-        Err(FsError::InsufficientStorage)
-    }
-}
-
 // Whether the path is the root.
 fn is_root(path: &DavPath) -> bool
     ensures { result ≡ is_root (names path.now) }
 {
     path.segments().next().is_none()
+}
+
+// Whether the path is the root, or directly below it.
+fn is_in_root(path: &DavPath) -> bool
+    ensures { result ≡ is_root (parent_of (names path.now)) }
+{
+    let mut segments = path.segments();
+    match segments.next() {
+        Some(_) => segments.next().is_none(),
+        None => true,
+    }
+}
+
+// Whether a file is made where nothing is.
+fn makes(options: &OpenOptions) -> bool
+    ensures { result ≡ (options.now.create || options.now.create_new) }
+{
+    options.create || options.create_new
 }
 
 impl DavFileSystem for EmptyFs {
@@ -152,11 +158,21 @@ impl DavFileSystem for EmptyFs {
     fn open(
         &mut self,
         _alloc: Global,
-        _path: &DavPath,
-        _options: &OpenOptions,
+        path: &DavPath,
+        options: &OpenOptions,
         _now: u64,
     ) -> FsResult<GoneFile> {
-        self.wants()
+        if is_root(path) {
+            return Err(FsError::Forbidden);
+        }
+        if !is_in_root(path) {
+            return Err(FsError::NotFound);
+        }
+        if !makes(options) {
+            return Err(FsError::NotFound);
+        }
+        self.short = true;
+        Err(FsError::InsufficientStorage)
     }
 
     fn read_dir(
@@ -190,8 +206,15 @@ impl DavFileSystem for EmptyFs {
         }
     }
 
-    fn create_dir(&mut self, _alloc: Global, _path: &DavPath, _now: u64) -> FsResult<()> {
-        self.wants()
+    fn create_dir(&mut self, _alloc: Global, path: &DavPath, _now: u64) -> FsResult<()> {
+        if is_root(path) {
+            return Err(FsError::Exists);
+        }
+        if !is_in_root(path) {
+            return Err(FsError::NotFound);
+        }
+        self.short = true;
+        Err(FsError::InsufficientStorage)
     }
 
     fn remove_dir(&mut self, path: &DavPath, _now: u64) -> FsResult<()> {
@@ -210,18 +233,22 @@ impl DavFileSystem for EmptyFs {
         }
     }
 
-    fn rename(
-        &mut self,
-        _alloc: Global,
-        _from: &DavPath,
-        _to: &DavPath,
-        _now: u64,
-    ) -> FsResult<()> {
-        self.wants()
+    fn rename(&mut self, _alloc: Global, from: &DavPath, to: &DavPath, _now: u64) -> FsResult<()> {
+        if is_root(from) {
+            return Err(FsError::Forbidden);
+        }
+        if is_root(to) {
+            return Err(FsError::Forbidden);
+        }
+        Err(FsError::NotFound)
     }
 
-    fn copy(&mut self, _alloc: Global, _from: &DavPath, _to: &DavPath, _now: u64) -> FsResult<()> {
-        self.wants()
+    fn copy(&mut self, _alloc: Global, from: &DavPath, _to: &DavPath, _now: u64) -> FsResult<()> {
+        if is_root(from) {
+            Err(FsError::Forbidden)
+        } else {
+            Err(FsError::NotFound)
+        }
     }
 
     fn have_props(&mut self, _path: &DavPath) -> bool {
@@ -231,19 +258,27 @@ impl DavFileSystem for EmptyFs {
     fn patch_props(
         &mut self,
         _alloc: Global,
-        _path: &DavPath,
+        path: &DavPath,
         _patches: Vec<(bool, DavProp)>,
     ) -> FsResult<Vec<(StatusCode, DavProp)>> {
-        self.wants()
+        if !is_root(path) {
+            return Err(FsError::NotFound);
+        }
+        self.short = true;
+        Err(FsError::InsufficientStorage)
     }
 
     fn get_props(
         &mut self,
         _alloc: Global,
-        _path: &DavPath,
+        path: &DavPath,
         _content: bool,
     ) -> FsResult<Vec<DavProp>> {
-        self.wants()
+        if !is_root(path) {
+            return Err(FsError::NotFound);
+        }
+        self.short = true;
+        Err(FsError::InsufficientStorage)
     }
 
     fn get_prop(
@@ -252,7 +287,7 @@ impl DavFileSystem for EmptyFs {
         _path: &DavPath,
         _property: &DavProp,
     ) -> FsResult<Element> {
-        self.wants()
+        Err(FsError::NotFound)
     }
 
     fn get_quota(&mut self) -> FsResult<(u64, Option<u64>)> {

@@ -1,6 +1,6 @@
 //! Laws of what a file store holds and of its calls. Each function does nothing: its contract is a theorem on the
 //! definitions.
-ghost use Rattle.dav_core.specs.CallLaws.{PruneLeaves, AdjustChanges, UnionHasBoth, GraftMoves, MovedStands, TouchedIsModified, PutStands, PruneKeepsOrder, AdjustKeepsOrder, UnionKeepsOrder, GraftKeepsOrder, MovedKeepsOrder, CallsKeepWorlds, NumbersRise, TimesAreShown, AskingIsDetermined, ErrorsLeaveWorlds, RefusalsAreUsedUp, RefusalIsAnswered, CanBeAsked, MembersStandBelow, MembersRise, ListsWhatStands, NodesFollowRenames, NodesStay, OthersAreUnchanged, NodesWereThere, TakenIsGone, NumbersTellBytes, NumbersLookBack, MadeStands, OpenedStands, OpenedIsOpenFile, OpenFilesStay, TakenFilesAreGone, TakenNeverReturn, CopyBrings, CopySparesFolders, RemovalSparesMembers};
+ghost use Rattle.dav_core.specs.CallLaws.{PruneLeaves, AdjustChanges, UnionHasBoth, GraftMoves, MovedStands, TouchedIsModified, PutStands, PruneKeepsOrder, AdjustKeepsOrder, UnionKeepsOrder, GraftKeepsOrder, MovedKeepsOrder, CallsKeepWorlds, NumbersRise, TimesAreShown, AskingIsDetermined, ErrorsLeaveWorlds, RulesComeFirst, RefusalsAreUsedUp, RefusalIsAnswered, CanBeAsked, MembersStandBelow, MembersRise, ListsWhatStands, NodesFollowRenames, NodesStay, OthersAreUnchanged, NodesWereThere, TakenIsGone, NumbersTellBytes, NumbersLookBack, MadeStands, OpenedStands, OpenedIsOpenFile, OpenFilesStay, TakenFilesAreGone, TakenNeverReturn, CopyBrings, CopySparesFolders, RemovalSparesMembers};
 
 /// What stands at any path after each operation on the whole map, whatever the map's order.
 pub fn nodes_after()
@@ -38,11 +38,13 @@ pub fn members_are_what_stands_below()
     ensures listed { ListsWhatStands }
 {}
 
-/// Where a store never wanted memory that wasn't there, it answers each call as asking it says: the refusal that is
-/// to come, or what the call means. An error leaves the world as it was, and every call can be asked.
+/// Where no allocation in a store ever failed, it answers each call as asking it says: the refusal that is to come, or what the
+/// call means. A rule that refuses a call is the answer whether memory suffices or not. An error leaves the world as it was, and
+/// every call can be asked.
 pub fn asking_is_determined()
     ensures determined { AskingIsDetermined }
     ensures error { ErrorsLeaveWorlds }
+    ensures rule { RulesComeFirst }
     ensures used_up { RefusalsAreUsedUp }
     ensures refused { RefusalIsAnswered }
     ensures can_be { CanBeAsked }
