@@ -1,5 +1,5 @@
 //! What tests assert. An assertion that is written out costs the proof of its test seconds, a call of this a small part of that.
-use std::alloc::{AllocError, AllocGlobal};
+use std::alloc::AllocError;
 use std::fmt::Debug;
 use std::process::Abort;
 
