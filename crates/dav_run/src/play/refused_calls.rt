@@ -37,7 +37,7 @@ const REFUSED_CALLS: &str = r##"
 {"body":null,"headers":{"content-length":"0"},"status":405}
 {"body":null,"headers":{"content-length":"0"},"status":403}
 {"body":null,"headers":{"content-length":"0"},"status":507}
-# a refused call is its own answer, though the file is there
+# a refused call of the store decides the reply, though the file is there
 {"requests":[{"head":"PUT /a HTTP/1.1\r\nContent-Length: 3\r\n\r\n","body":{"text":"one"},"moment":1},{"head":"GET /a HTTP/1.1\r\n\r\n","moment":1,"refuse":["TooLarge"]},{"head":"GET /a HTTP/1.1\r\n\r\n","moment":1}]}
 {"body":null,"headers":{"accept-ranges":"bytes","content-length":"0","etag":"\"2\"","last-modified":"Thu, 01 Jan 1970 00:00:01 GMT"},"status":201}
 {"body":null,"headers":{"content-length":"0"},"status":413}
