@@ -32,7 +32,7 @@ pub const NOT_SCRIPT: u8 = 1;
 /// The status where a read or a write failed.
 pub const IO_FAILED: u8 = 2;
 
-/// The status for want of memory; the replies given before were written.
+/// The status where memory ran out; the replies given before that were written.
 pub const OUT_OF_MEMORY: u8 = 3;
 
 /// The most bytes that a script may have.
@@ -241,7 +241,7 @@ fn write_replies<W: Write>(alloc: Global, replies: &[Reply], writer: &mut W) -> 
 #[cfg(test)]
 mod publishing;
 #[cfg(test)]
-mod refused_steps;
+mod refused_calls;
 #[cfg(test)]
 mod tests;
 #[cfg(test)]

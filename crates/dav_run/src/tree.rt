@@ -51,9 +51,16 @@ fn attribute_values(
 {
     let mut values = Vec::with_capacity(alloc, attributes.len())?;
     for (name, value) in attributes {
-        values.push(json!(in alloc; [name, value])?)?;
+        values.push(attribute_value(alloc, name, value)?)?;
     }
     Ok(values)
+}
+
+// An attribute as a list of its name and its value.
+fn attribute_value(alloc: Global, name: &str, value: &str) -> Result<Value, AllocError>
+    ensures { IfOk result (λ list. view list ≡ attribute_data (name.now, value.now)) }
+{
+    json!(in alloc; [name, value])
 }
 
 // Children, in order.

@@ -1,207 +1,135 @@
 use super::*;
+use crate::asserting::{rows_of, same_outcome};
 use dav_core::method::DavMethod;
-use std::test::Fail;
 
-// The script that a text spells.
-fn script_of(alloc: Global, text: &str) -> Result<Script, ScriptError> {
-    Script::from_bytes(alloc, text.as_bytes())
-}
+// Texts, and the script that each spells: what the server is set up with, and then of each request its four parts; `!` where
+// it spells none.
+const SCRIPTS: &str = r##"# What is left out.
+{"requests":[{"head":"GET /"}]} -> prefix= methods=all next=1 head=GET / body=none moment=0 refuse=[]
+# Prefixes. Whether a server takes the prefix isn't checked.
+{"requests":[],"prefix":""} -> prefix= methods=all next=1
+{"requests":[],"prefix":"/dav"} -> prefix=/dav methods=all next=1
+{"requests":[],"prefix":"\/d\u0061v/"} -> prefix=/dav/ methods=all next=1
+{"requests":[],"prefix":"dav"} -> prefix=dav methods=all next=1
+# Methods.
+{"requests":[],"methods":[]} -> prefix= methods=none next=1
+{"requests":[],"methods":["GET","HEAD","OPTIONS"]} -> prefix= methods=HTTP_RO next=1
+{"requests":[],"methods":["Put","options","HEAD","gEt","get"]} -> prefix= methods=HTTP_RW next=1
+{"requests":[],"methods":["HEAD","GET","PUT","PATCH","OPTIONS","PROPFIND","PROPPATCH","MKCOL","COPY","MOVE","DELETE","LOCK","UNLOCK","REPORT","MKCALENDAR","MKADDRESSBOOK"]} -> prefix= methods=all next=1
+# Next numbers.
+{"requests":[],"next":0} -> prefix= methods=all next=0
+{"requests":[],"next":1} -> prefix= methods=all next=1
+{"requests":[],"next":18446744073709551615} -> prefix= methods=all next=18446744073709551615
+# Refusals.
+{"requests":[{"head":"","refuse":[]}]} -> prefix= methods=all next=1 head= body=none moment=0 refuse=[]
+{"requests":[{"head":"","refuse":[null,"NotImplemented","GeneralFailure","Exists","NotFound","Forbidden","InsufficientStorage","LoopDetected","PathTooLong","TooLarge","IsRemote",null]}]} -> prefix= methods=all next=1 head= body=none moment=0 refuse=[None, Some(NotImplemented), Some(GeneralFailure), Some(Exists), Some(NotFound), Some(Forbidden), Some(InsufficientStorage), Some(LoopDetected), Some(PathTooLong), Some(TooLarge), Some(IsRemote), None]
+# Of a member that is there twice the last one counts.
+{"prefix":1,"next":"","methods":null,"methods":["GET"],"next":7,"next":8,"prefix":"/a", "requests":[{"refuse":["Exists"],"head":"a","refuse":[null]}]} -> prefix=/a methods=GET next=8 head=a body=none moment=0 refuse=[None]
+# Members of a script in other forms.
+{"requests":[],"prefix":null} -> !
+{"requests":[],"prefix":1} -> !
+{"requests":[],"prefix":["/dav"]} -> !
+{"requests":[],"methods":null} -> !
+{"requests":[],"methods":"all"} -> !
+{"requests":[],"methods":{}} -> !
+{"requests":[],"methods":[null]} -> !
+{"requests":[],"methods":["GET",1]} -> !
+{"requests":[],"methods":["GET","FOO"]} -> !
+{"requests":[],"methods":["GET "]} -> !
+{"requests":[],"methods":["all"]} -> !
+{"requests":[],"methods":["HTTP_RO"]} -> !
+{"requests":[],"methods":[["GET"]]} -> !
+{"requests":[],"next":null} -> !
+{"requests":[],"next":"1"} -> !
+{"requests":[],"next":-1} -> !
+{"requests":[],"next":-0} -> !
+{"requests":[],"next":1.0} -> !
+{"requests":[],"next":1e3} -> !
+{"requests":[],"next":18446744073709551616} -> !
+{"requests":[],"next":[1]} -> !
+# Of a member that is there twice the last one counts.
+{"requests":[],"next":1,"next":null} -> !
+# Members that a script does not have.
+{"requests":[],"Prefix":""} -> !
+{"requests":[],"refuse":[]} -> !
+{"requests":[],"moment":1} -> !
+{"requests":[],"alone":0} -> !
+# Refusals in other forms.
+{"requests":[{"head":"","refuse":null}]} -> !
+{"requests":[{"head":"","refuse":"Forbidden"}]} -> !
+{"requests":[{"head":"","refuse":{}}]} -> !
+{"requests":[{"head":"","refuse":{"1":"Forbidden"}}]} -> !
+{"requests":[{"head":"","refuse":["forbidden"]}]} -> !
+{"requests":[{"head":"","refuse":["Forbiden"]}]} -> !
+{"requests":[{"head":"","refuse":[""]}]} -> !
+{"requests":[{"head":"","refuse":["FsError::Forbidden"]}]} -> !
+{"requests":[{"head":"","refuse":[null,"Memory"]}]} -> !
+{"requests":[{"head":"","refuse":[403]}]} -> !
+{"requests":[{"head":"","refuse":[false]}]} -> !
+{"requests":[{"head":"","refuse":[["Forbidden"]]}]} -> !
+# Members that a request does not have.
+{"requests":[{"head":"","prefix":""}]} -> !
+{"requests":[{"head":"","next":1}]} -> !
+{"requests":[{"head":"","methods":[]}]} -> !
+{"requests":[{"head":"","refusals":[]}]} -> !
+"##;
 
-// A script with one member beside an empty list of requests.
-fn server(alloc: Global, member: &str) -> Result<Script, Fail> {
-    let text = format!(in alloc; "{{\"requests\":[],{member}}}")?;
-    Ok(script_of(alloc, &text)?)
-}
-
-// A script of one request with an empty head and one more member.
-fn request(alloc: Global, member: &str) -> Result<Script, Fail> {
-    let text = format!(in alloc; "{{\"requests\":[{{\"head\":\"\",{member}}}]}}")?;
-    Ok(script_of(alloc, &text)?)
-}
-
-#[test]
-fn reads_what_is_left_out(rt: HostRuntime) -> Result<(), Fail> {
-    let script = script_of(rt.alloc(), r#"{"requests":[{"head":"GET /"}]}"#)?;
-    assert_eq!(rt; script.prefix.as_str(), "");
-    assert_eq!(rt; script.methods, DavMethodSet::all());
-    assert_eq!(rt; script.next, 1);
-    assert_eq!(rt; script.requests.len(), 1);
-    let request = &script.requests[0];
-    assert_eq!(rt; request.head.as_slice(), b"GET /".as_slice());
-    assert!(rt; matches!(&request.body, Body::None));
-    assert_eq!(rt; request.moment, 0);
-    assert!(rt; request.refusals.is_empty());
-    Ok(())
-}
-
-#[test]
-fn reads_prefixes(rt: HostRuntime) -> Result<(), Fail> {
-    // Whether a server takes the prefix isn't looked at.
-    let rows = [
-        (r#""prefix":"""#, ""),
-        (r#""prefix":"/dav""#, "/dav"),
-        (r#""prefix":"\/d\u0061v/""#, "/dav/"),
-        (r#""prefix":"dav""#, "dav"),
-    ];
-    for (member, prefix) in rows {
-        let script = server(rt.alloc(), member)?;
-        assert_eq!(rt; script.prefix.as_str(), prefix, "at {member}");
+// The name of a set of methods.
+fn set_name(methods: DavMethodSet) -> &'static str {
+    let mut get = DavMethodSet::none();
+    get.add(DavMethod::Get);
+    if methods == DavMethodSet::all() {
+        "all"
+    } else if methods == DavMethodSet::none() {
+        "none"
+    } else if methods == DavMethodSet::HTTP_RO {
+        "HTTP_RO"
+    } else if methods == DavMethodSet::HTTP_RW {
+        "HTTP_RW"
+    } else if methods == get {
+        "GET"
+    } else {
+        "others"
     }
-    Ok(())
 }
 
-#[test]
-fn reads_methods(rt: HostRuntime) -> Result<(), Fail> {
-    let rows = [
-        (r#""methods":[]"#, DavMethodSet::none()),
-        (
-            r#""methods":["GET","HEAD","OPTIONS"]"#,
-            DavMethodSet::HTTP_RO,
-        ),
-        (
-            r#""methods":["Put","options","HEAD","gEt","get"]"#,
-            DavMethodSet::HTTP_RW,
-        ),
-        (
-            r#""methods":["HEAD","GET","PUT","PATCH","OPTIONS","PROPFIND","PROPPATCH","MKCOL","COPY","MOVE","DELETE","LOCK","UNLOCK","REPORT","MKCALENDAR","MKADDRESSBOOK"]"#,
-            DavMethodSet::all(),
-        ),
-    ];
-    for (member, methods) in rows {
-        let script = server(rt.alloc(), member)?;
-        assert_eq!(rt; script.methods, methods, "at {member}");
+// A request as a row spells it.
+fn spelled_request(alloc: Global, request: &Request) -> Result<String, AllocError> {
+    let head = String::from_utf8_lossy(alloc, &request.head)?;
+    let body = match &request.body {
+        Body::None => "none",
+        _ => "some",
+    };
+    let moment = request.moment;
+    let refusals = &request.refusals;
+    format!(in alloc; " head={head} body={body} moment={moment} refuse={refusals:?}")
+}
+
+// A script as a row spells it.
+fn spelled(alloc: Global, script: &Script) -> Result<String, AllocError> {
+    let (prefix, methods, next) = (&script.prefix, set_name(script.methods), script.next);
+    let mut text = format!(in alloc; "prefix={prefix} methods={methods} next={next}")?;
+    for request in &script.requests {
+        let request = spelled_request(alloc, request)?;
+        text.push_str(&request)?;
     }
-    Ok(())
+    Ok(text)
 }
 
-#[test]
-fn reads_next_numbers(rt: HostRuntime) -> Result<(), Fail> {
-    let rows = [
-        (r#""next":0"#, 0),
-        (r#""next":1"#, 1),
-        (r#""next":18446744073709551615"#, u64::MAX),
-    ];
-    for (member, next) in rows {
-        let script = server(rt.alloc(), member)?;
-        assert_eq!(rt; script.next, next, "at {member}");
+// What a row says of a text.
+fn outcome(alloc: Global, text: &str) -> Result<String, AllocError> {
+    match Script::from_bytes(alloc, text.as_bytes()) {
+        Ok(script) => spelled(alloc, &script),
+        Err(ScriptError::NotScript) => String::from_str(alloc, "!"),
+        Err(ScriptError::Memory) => Err(AllocError),
     }
-    Ok(())
 }
 
 #[test]
-fn reads_refusals(rt: HostRuntime) -> Result<(), Fail> {
-    let script = request(rt.alloc(), r#""refuse":[]"#)?;
-    assert_eq!(rt; script.requests.len(), 1);
-    assert!(rt; script.requests[0].refusals.is_empty());
-    let script = request(
-        rt.alloc(),
-        r#""refuse":[null,"NotImplemented","GeneralFailure","Exists","NotFound","Forbidden","InsufficientStorage","LoopDetected","PathTooLong","TooLarge","IsRemote",null]"#,
-    )?;
-    assert_eq!(rt; script.requests.len(), 1);
-    assert_eq!(rt;
-        script.requests[0].refusals.as_slice(),
-        [
-            None,
-            Some(FsError::NotImplemented),
-            Some(FsError::GeneralFailure),
-            Some(FsError::Exists),
-            Some(FsError::NotFound),
-            Some(FsError::Forbidden),
-            Some(FsError::InsufficientStorage),
-            Some(FsError::LoopDetected),
-            Some(FsError::PathTooLong),
-            Some(FsError::TooLarge),
-            Some(FsError::IsRemote),
-            None,
-        ]
-        .as_slice()
-    );
-    Ok(())
-}
-
-#[test]
-fn reads_what_comes_last(rt: HostRuntime) -> Result<(), Fail> {
-    let script = script_of(
-        rt.alloc(),
-        r#"{"prefix":1,"next":"","methods":null,"methods":["GET"],"next":7,"next":8,"prefix":"/a",
-            "requests":[{"refuse":["Exists"],"head":"a","refuse":[null]}]}"#,
-    )?;
-    assert_eq!(rt; script.prefix.as_str(), "/a");
-    assert_eq!(rt; script.next, 8);
-    let mut methods = DavMethodSet::none();
-    methods.add(DavMethod::Get);
-    assert_eq!(rt; script.methods, methods);
-    assert_eq!(rt; script.requests.len(), 1);
-    assert_eq!(rt; script.requests[0].refusals.as_slice(), [None].as_slice());
-    Ok(())
-}
-
-#[test]
-fn refuses_other_forms(rt: HostRuntime) -> Result<(), Fail> {
-    let members = [
-        // Members of a script.
-        r#""prefix":null"#,
-        r#""prefix":1"#,
-        r#""prefix":["/dav"]"#,
-        r#""methods":null"#,
-        r#""methods":"all""#,
-        r#""methods":{}"#,
-        r#""methods":[null]"#,
-        r#""methods":["GET",1]"#,
-        r#""methods":["GET","FOO"]"#,
-        r#""methods":["GET "]"#,
-        r#""methods":["all"]"#,
-        r#""methods":["HTTP_RO"]"#,
-        r#""methods":[["GET"]]"#,
-        r#""next":null"#,
-        r#""next":"1""#,
-        r#""next":-1"#,
-        r#""next":-0"#,
-        r#""next":1.0"#,
-        r#""next":1e3"#,
-        r#""next":18446744073709551616"#,
-        r#""next":[1]"#,
-        // Of a member that comes twice the last one counts.
-        r#""next":1,"next":null"#,
-        // No members of a script.
-        r#""Prefix":"""#,
-        r#""refuse":[]"#,
-        r#""moment":1"#,
-        r#""alone":0"#,
-    ];
-    for member in members {
-        let text = format!(in rt.alloc(); "{{\"requests\":[],{member}}}")?;
-        let fault = script_of(rt.alloc(), &text).err();
-        assert_eq!(rt; fault, Some(ScriptError::NotScript), "at {member}");
-    }
-    Ok(())
-}
-
-#[test]
-fn refuses_other_refusals(rt: HostRuntime) -> Result<(), Fail> {
-    let members = [
-        r#""refuse":null"#,
-        r#""refuse":"Forbidden""#,
-        r#""refuse":{}"#,
-        r#""refuse":{"1":"Forbidden"}"#,
-        r#""refuse":["forbidden"]"#,
-        r#""refuse":["Forbiden"]"#,
-        r#""refuse":[""]"#,
-        r#""refuse":["FsError::Forbidden"]"#,
-        r#""refuse":[null,"Memory"]"#,
-        r#""refuse":[403]"#,
-        r#""refuse":[false]"#,
-        r#""refuse":[["Forbidden"]]"#,
-        // No members of a request.
-        r#""prefix":"""#,
-        r#""next":1"#,
-        r#""methods":[]"#,
-        r#""refusals":[]"#,
-    ];
-    for member in members {
-        let text = format!(in rt.alloc(); "{{\"requests\":[{{\"head\":\"\",{member}}}]}}")?;
-        let fault = script_of(rt.alloc(), &text).err();
-        assert_eq!(rt; fault, Some(ScriptError::NotScript), "at {member}");
+fn reads_scripts_and_refuses_others(rt: HostRuntime) -> Result<(), AllocError> {
+    for (text, wanted) in rows_of(&rt, SCRIPTS)? {
+        let outcome = outcome(rt.alloc(), text)?;
+        same_outcome(&rt, text, wanted, &outcome);
     }
     Ok(())
 }

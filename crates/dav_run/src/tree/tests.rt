@@ -1,24 +1,34 @@
 use super::*;
+use crate::asserting::same;
 use std::test::Fail;
 
-// The JSON text of a tree.
-fn printed(alloc: Global, tree: &Element) -> Result<String, AllocError> {
-    tree_value(alloc, tree)?.to_string(alloc)
+// An element with a namespace of its own.
+fn child(alloc: Global) -> Result<Element, AllocError> {
+    let mut child = Element::new(alloc, "y")?;
+    child.namespace = Some(String::from_str(alloc, "urn:q")?);
+    Ok(child)
+}
+
+// An element with a prefix, an attribute and two children.
+fn sample(alloc: Global) -> Result<Element, Fail> {
+    let mut tree = Element::new2(alloc, "D:x")?;
+    tree.ns("D", "DAV:")?;
+    tree.text("t")?;
+    tree.push_element(child(alloc)?)?;
+    Ok(tree)
+}
+
+// The JSON text of the element.
+fn printed(alloc: Global) -> Result<String, Fail> {
+    let tree = sample(alloc)?;
+    Ok(tree_value(alloc, &tree)?.to_string(alloc)?)
 }
 
 #[test]
 fn prints_all_five_members(rt: HostRuntime) -> Result<(), Fail> {
-    let alloc = rt.alloc();
-    let mut child = Element::new(alloc, "y")?;
-    child.namespace = Some(String::from_str(alloc, "urn:q")?);
-    let mut tree = Element::new2(alloc, "D:x")?;
-    tree.ns("D", "DAV:")?;
-    tree.text("t")?;
-    tree.push_element(child)?;
-    let text = printed(alloc, &tree)?;
-    assert_eq!(rt;
-        text.as_str(),
-        r#"{"attributes":[["xmlns:D","DAV:"]],"children":["t",{"attributes":[],"children":[],"name":"y","namespace":"urn:q","prefix":null}],"name":"x","namespace":null,"prefix":"D"}"#
-    );
+    let text = printed(rt.alloc())?;
+    let wanted =
+        r#"{"attributes":[["xmlns:D","DAV:"]],"children":["t",{"attributes":[],"children":[],"name":"y","namespace":"urn:q","prefix":null}],"name":"x","namespace":null,"prefix":"D"}"#;
+    same(&rt, &text.as_str(), &wanted);
     Ok(())
 }
