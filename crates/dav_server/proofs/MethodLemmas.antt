@@ -1,5 +1,9 @@
 -- Which methods are served.
-use Rattle.std.proofs.Common.{◌≡◌, ◌≢◌, false, refl}
+use Rattle.std.proofs.Common.{◌≡◌, ◌≢◌, ℕ, ◌+◌, ◌<◌, List, [], ◌∷◌, get_or, All, false, refl, sym, ap, subst, ◌∙◌, inl, inr, arith, rules}
+use Rattle.std.proofs.lemmas.Bool.{cases_eq}
+use Rattle.std.proofs.lemmas.List.Elements.{All-nil, All-cons}
+use Rattle.dav_core.specs.Method.{place_of}
+use Rattle.dav_server.specs.Method.{IsServed}
 use Rattle.dav_core.specs.declared.method.DavMethod.{DavMethod}
 use Rattle.dav_core.specs.declared.method.DavMethod.TheVariants.{Head, Get, Put, Patch, Options, PropFind, PropPatch, MkCol, Copy, Move, Delete, Lock, Unlock, Report, MkCalendar, MkAddressbook}
 use Rattle.dav_server.specs.Machine.{is_done}
@@ -21,3 +25,56 @@ is_not_done Unlock g h p q k = refl
 is_not_done Report g h p q k = refl
 is_not_done MkCalendar g h p q k = refl
 is_not_done MkAddressbook g h p q k = refl
+
+-- a method that is served stands among the first
+pub served_within : (m : DavMethod) → IsServed m → place_of m < 13
+served_within Head is = omega arith
+served_within Get is = omega arith
+served_within Put is = omega arith
+served_within Patch is = omega arith
+served_within Options is = omega arith
+served_within PropFind is = omega arith
+served_within PropPatch is = omega arith
+served_within MkCol is = omega arith
+served_within Copy is = omega arith
+served_within Move is = omega arith
+served_within Delete is = omega arith
+served_within Lock is = omega arith
+served_within Unlock is = omega arith
+served_within Report is = absurd is
+served_within MkCalendar is = absurd is
+served_within MkAddressbook is = absurd is
+
+-- the methods that are served, in their order
+abbrev pub served : List DavMethod
+served = Head ∷ Get ∷ Put ∷ Patch ∷ Options ∷ PropFind ∷ PropPatch ∷ MkCol ∷ Copy ∷ Move ∷ Delete ∷ Lock ∷ Unlock ∷ []
+
+pub are_served : All IsServed served
+are_served = search (rules, All-nil, All-cons) depth 16
+
+-- a method stands at its place
+at_place : (m d : DavMethod) → place_of m < 13 → get_or served (place_of m) d ≡ m
+at_place Head d within = refl
+at_place Get d within = refl
+at_place Put d within = refl
+at_place Patch d within = refl
+at_place Options d within = refl
+at_place PropFind d within = refl
+at_place PropPatch d within = refl
+at_place MkCol d within = refl
+at_place Copy d within = refl
+at_place Move d within = refl
+at_place Delete d within = refl
+at_place Lock d within = refl
+at_place Unlock d within = refl
+at_place Report d within = absurd (omega arith)
+at_place MkCalendar d within = absurd (omega arith)
+at_place MkAddressbook d within = absurd (omega arith)
+
+-- what holds of the methods before a place, and of the one there, holds of those up to it
+pub one_more : (P : DavMethod → Type 0) (i : ℕ) (d : DavMethod) → i < 13 → ((m : DavMethod) → place_of m < i → P m) → P (get_or served i d) → (m : DavMethod) → place_of m < i + 1 → P m
+one_more P i d few before here m within =
+    elim (cases_eq (place_of m) i) [
+      | inl e ↦ subst P (ap (λ k. get_or served k d) (sym e) ∙ at_place m d (omega (arith, e, few))) here
+      | inr apart ↦ before m (omega (arith, within, apart))
+    ]

@@ -20,8 +20,6 @@ ghost use Rattle.std.specs.Result.{IsErrOf};
 #[cfg(test)]
 mod engine_calls;
 #[cfg(test)]
-mod held;
-#[cfg(test)]
 pub(crate) mod tests;
 
 use crate::body::{Given, body_for};

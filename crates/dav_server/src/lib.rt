@@ -12,5 +12,7 @@ pub mod laws;
 pub mod method;
 mod moment;
 pub mod refusing;
+#[cfg(test)]
+mod rows;
 pub mod run;
 pub mod target;

@@ -1,229 +1,198 @@
-//! Each call of the engine by itself, over a store and locks in memory; and a folder with a file through the handler.
-//! What is expected was worked out by hand from RFC 9110 and RFC 4918.
-use super::tests::{answered, bytes, new_server, shown};
+//! Each call of the engine by itself, over a store and locks in memory. What is expected was worked out by hand from RFC 9110 and
+//! RFC 4918.
+use super::tests::{lock_for_anna, shown};
 use super::*;
-use crate::asserting::same;
-use dav_core::fs::{DavMetaData, OpenOptions};
+use crate::rows::{NoRow, Player, play_rows};
+use bytes::Bytes;
+use dav_core::fs::DavMetaData;
 use dav_engine::conditional::{dav_if_match, http_if_match, if_match, if_match_get_tokens};
 use dav_store::memfs::MemFs;
 use dav_store::memls::MemLs;
 use http_header::{HeaderMap, HeaderName, HeaderValue};
 use std::test::Fail;
 
-const PATCH_TYPE: &str = "application/x-sabredav-partialupdate";
+// A call, the method and the path of its request, its headers and its bytes, and what it answers.
+const CALLS: &str = r##"# a file is stored
+handle_put | PUT /a | bytes one -> 201\naccept-ranges: bytes\ncontent-length: 0\netag: "2"\nlast-modified: Thu, 01 Jan 1970 00:00:01 GMT\n
+# a part of a file is replaced
+handle_put | PUT /f | bytes x -> 201\naccept-ranges: bytes\ncontent-length: 0\netag: "2"\nlast-modified: Thu, 01 Jan 1970 00:00:01 GMT\n
+handle_put | PATCH /f | content-type: application/x-sabredav-partialupdate | content-length: 1 | x-update-range: append | bytes y -> 204\naccept-ranges: bytes\netag: "3"\nlast-modified: Thu, 01 Jan 1970 00:00:01 GMT\n
+# a folder is made once
+handle_mkcol | MKCOL /f -> 201\n
+handle_mkcol | MKCOL /f -> error 405
+# conditions of the file /f with the tag "2", and of nothing; the last ones under a lock
+handle_put | PUT /f | bytes x -> 201\naccept-ranges: bytes\ncontent-length: 0\netag: "2"\nlast-modified: Thu, 01 Jan 1970 00:00:01 GMT\n
+http_if_match | GET /f | if-none-match: "2" -> 304
+http_if_match | PUT /f | if-match: "1" -> 412
+http_if_match | PUT /none | if-match: "1" -> 412
+http_if_match | PUT /f | if-match: * -> go on
+dav_if_match | PUT /f | if: (<DAV:no-lock>) -> false, 1 tokens
+dav_if_match | PUT /f | if: (Not <DAV:no-lock>) (<a:b>) -> true, 2 tokens
+if_match | GET /f | if: (<DAV:no-lock>) | if-none-match: "2" -> 412
+if_match | GET /f | if-none-match: "2" -> 304
+if_match_get_tokens | PUT /f | if: (Not <DAV:no-lock>) -> 1 tokens
+if_match_get_tokens | PUT /f | if: (<DAV:no-lock>) -> 412
+anna locks /f -> granted
+dav_if_match | PUT /f | if: (<urn:t:1> ["2"]) -> true, 1 tokens
+dav_if_match | PUT /f | if: (<urn:t:2>) -> false, 1 tokens
+"##;
 
-// A request for /f with these headers.
-fn request(
-    alloc: Global,
-    method: DavMethod,
-    fields: &[(&'static str, &'static str)],
-) -> Result<DavRequest, Fail> {
+// A request of the engine, and its body.
+#[derive(Drop)]
+struct EngineRequest {
+    request: DavRequest,
+    body: Body,
+}
+
+// The request of a row, without the call.
+fn request_of(alloc: Global, text: &'static str) -> Result<EngineRequest, Fail> {
+    let mut parts = text.split(" | ");
+    let (name, path) = parts
+        .next()
+        .unwrap_or("")
+        .split_once(' ')
+        .ok_or(NoRow(text))?;
     let mut headers = HeaderMap::new(alloc);
-    for field in fields {
-        headers.append(
-            HeaderName::from_bytes(alloc, field.0.as_bytes())?,
-            HeaderValue::from_str(alloc, field.1)?,
-        )?;
+    let mut body = Body::None;
+    for part in parts {
+        if let Some(bytes) = part.strip_prefix("bytes ") {
+            body = Body::Bytes(Bytes::from_static(bytes.as_bytes()));
+        } else {
+            let (name, value) = part.split_once(": ").ok_or(NoRow(part))?;
+            let name = HeaderName::from_bytes(alloc, name.as_bytes())?;
+            headers.append(name, HeaderValue::from_str(alloc, value)?)?;
+        }
     }
-    Ok(DavRequest {
-        method,
-        path: DavPath::new(alloc, "/f")?,
+    let request = DavRequest {
+        method: method_of(name.as_bytes())?,
+        path: DavPath::new(alloc, path)?,
         headers,
-    })
-}
-
-// A store with the file /f, whose tag is "2", and what is told of it.
-fn store(alloc: Global) -> Result<(MemFs, DavMetaData), Fail> {
-    let mut fs = MemFs::new(alloc)?;
-    let path = DavPath::new(alloc, "/f")?;
-    let options = OpenOptions {
-        create: true,
-        ..OpenOptions::write()
     };
-    let mut file = fs.open(alloc, &path, &options, 1)?;
-    fs.write_bytes(alloc, &mut file, b"x", 1)?;
-    let found = fs.metadata(&path)?;
-    Ok((fs, found))
+    Ok(EngineRequest { request, body })
+}
+
+// A status that conditions answer, in words.
+fn status_text(alloc: Global, status: Option<StatusCode>) -> Result<String, Fail> {
+    match status {
+        Some(status) => Ok(format!(in alloc; "{}", status.as_u16())?),
+        None => Ok(String::from_str(alloc, "go on")?),
+    }
+}
+
+// A store, and locks.
+#[derive(Drop)]
+struct Engine {
+    fs: MemFs,
+    ls: Option<MemLs>,
+}
+
+impl Engine {
+    // A call of the handler.
+    fn handle(&mut self, alloc: Global, call: &str, asked: &EngineRequest) -> DavResult<Reply> {
+        let caller = Caller {
+            principal: None,
+            moment: 1,
+            token: None,
+        };
+        let mut inner = DavInner {
+            fs: &mut self.fs,
+            ls: &mut self.ls,
+            allow: DavMethodSet::all(),
+            caller: &caller,
+        };
+        match call {
+            "handle_put" => inner.handle_put(alloc, &asked.request, &asked.body),
+            _ => inner.handle_mkcol(alloc, &asked.request, &asked.body),
+        }
+    }
+
+    // A call of the handler, in words.
+    fn handled(
+        &mut self,
+        alloc: Global,
+        call: &str,
+        asked: &EngineRequest,
+    ) -> Result<String, Fail> {
+        match self.handle(alloc, call, asked) {
+            Ok(reply) => shown(alloc, &reply),
+            Err(error) => Ok(format!(in alloc; "error {}", error.statuscode().as_u16())?),
+        }
+    }
+
+    // What is at the path of a request.
+    fn found(&mut self, request: &DavRequest) -> Option<DavMetaData> {
+        self.fs.metadata(&request.path).ok()
+    }
+
+    // `dav_if_match`, in words.
+    fn holds(&mut self, alloc: Global, request: &DavRequest) -> Result<String, Fail> {
+        let ls = self.ls.as_ref();
+        let (holds, tokens) = dav_if_match(alloc, request, &mut self.fs, ls, &request.path)?;
+        Ok(format!(in alloc; "{holds}, {} tokens", tokens.len())?)
+    }
+
+    // `if_match`, in words.
+    fn status(&mut self, alloc: Global, request: &DavRequest) -> Result<String, Fail> {
+        let found = self.found(request);
+        let ls = self.ls.as_ref();
+        let path = &request.path;
+        let status = if_match(alloc, request, found.as_ref(), &mut self.fs, ls, path)?;
+        status_text(alloc, status)
+    }
+
+    // `if_match_get_tokens`, in words.
+    fn tokens(&mut self, alloc: Global, request: &DavRequest) -> Result<String, Fail> {
+        let found = self.found(request);
+        let ls = self.ls.as_ref();
+        let path = &request.path;
+        match if_match_get_tokens(alloc, request, found.as_ref(), &mut self.fs, ls, path)? {
+            Ok(tokens) => Ok(format!(in alloc; "{} tokens", tokens.len())?),
+            Err(status) => status_text(alloc, Some(status)),
+        }
+    }
+
+    // A call, in words.
+    fn call(
+        &mut self,
+        alloc: Global,
+        call: &'static str,
+        asked: &EngineRequest,
+    ) -> Result<String, Fail> {
+        let request = &asked.request;
+        match call {
+            "handle_put" | "handle_mkcol" => self.handled(alloc, call, asked),
+            "http_if_match" => {
+                let found = self.found(request);
+                status_text(alloc, http_if_match(alloc, request, found.as_ref())?)
+            }
+            "dav_if_match" => self.holds(alloc, request),
+            "if_match" => self.status(alloc, request),
+            "if_match_get_tokens" => self.tokens(alloc, request),
+            _ => Err(NoRow(call))?,
+        }
+    }
+}
+
+impl Player for Engine {
+    fn begin(&mut self, alloc: Global) -> Result<(), Fail> {
+        self.fs = MemFs::new(alloc)?;
+        self.ls = Some(MemLs::new(alloc)?);
+        Ok(())
+    }
+
+    fn answer(&mut self, alloc: Global, question: &'static str) -> Result<Vec<u8>, Fail> {
+        if let Some(path) = question.strip_prefix("anna locks ") {
+            return lock_for_anna(alloc, &mut self.ls, path);
+        }
+        let (call, rest) = question.split_once(" | ").ok_or(NoRow(question))?;
+        let asked = request_of(alloc, rest)?;
+        Ok(self.call(alloc, call, &asked)?.into_bytes())
+    }
 }
 
 #[test]
-fn judges_tags(rt: HostRuntime) -> Result<(), Fail> {
-    let (_, found) = store(rt.alloc())?;
-    let get = request(rt.alloc(), DavMethod::Get, &[("if-none-match", "\"2\"")])?;
-    let status = http_if_match(rt.alloc(), &get, Some(&found))?;
-    same(&rt, &status, &Some(StatusCode::NOT_MODIFIED));
-    let put = request(rt.alloc(), DavMethod::Put, &[("if-match", "\"1\"")])?;
-    let status = http_if_match(rt.alloc(), &put, Some(&found))?;
-    same(&rt, &status, &Some(StatusCode::PRECONDITION_FAILED));
-    let status = http_if_match(rt.alloc(), &put, None)?;
-    same(&rt, &status, &Some(StatusCode::PRECONDITION_FAILED));
-    let any = request(rt.alloc(), DavMethod::Put, &[("if-match", "*")])?;
-    same(&rt, &http_if_match(rt.alloc(), &any, Some(&found))?, &None);
-    Ok(())
-}
-
-#[test]
-fn judges_tokens(rt: HostRuntime) -> Result<(), Fail> {
-    let (mut fs, _) = store(rt.alloc())?;
-    let ls = MemLs::new(rt.alloc())?;
-    let path = DavPath::new(rt.alloc(), "/f")?;
-    let no_lock = request(rt.alloc(), DavMethod::Put, &[("if", "(<DAV:no-lock>)")])?;
-    let (holds, tokens) = dav_if_match(rt.alloc(), &no_lock, &mut fs, Some(&ls), &path)?;
-    assert!(rt; !holds);
-    same(&rt, &tokens.len(), &1);
-    let free = request(
-        rt.alloc(),
-        DavMethod::Put,
-        &[("if", "(Not <DAV:no-lock>) (<a:b>)")],
-    )?;
-    let (holds, tokens) = dav_if_match(rt.alloc(), &free, &mut fs, Some(&ls), &path)?;
-    assert!(rt; holds);
-    same(&rt, &tokens.len(), &2);
-    Ok(())
-}
-
-#[test]
-fn judges_locks(rt: HostRuntime) -> Result<(), Fail> {
-    let (mut fs, _) = store(rt.alloc())?;
-    let mut ls = MemLs::new(rt.alloc())?;
-    let path = DavPath::new(rt.alloc(), "/f")?;
-    let granted = ls.lock(
-        rt.alloc(),
-        &path,
-        Some("anna"),
-        None,
-        None,
-        false,
-        true,
-        "urn:t:1",
-        1,
-    );
-    assert!(rt; granted.is_ok());
-    let held = request(rt.alloc(), DavMethod::Put, &[("if", "(<urn:t:1> [\"2\"])")])?;
-    let (holds, _) = dav_if_match(rt.alloc(), &held, &mut fs, Some(&ls), &path)?;
-    assert!(rt; holds);
-    let other = request(rt.alloc(), DavMethod::Put, &[("if", "(<urn:t:2>)")])?;
-    let (holds, _) = dav_if_match(rt.alloc(), &other, &mut fs, Some(&ls), &path)?;
-    assert!(rt; !holds);
-    Ok(())
-}
-
-#[test]
-fn judges_all_conditions(rt: HostRuntime) -> Result<(), Fail> {
-    let (mut fs, found) = store(rt.alloc())?;
-    let ls = MemLs::new(rt.alloc())?;
-    let path = DavPath::new(rt.alloc(), "/f")?;
-    let both = [("if", "(<DAV:no-lock>)"), ("if-none-match", "\"2\"")];
-    let get = request(rt.alloc(), DavMethod::Get, &both)?;
-    let status = if_match(rt.alloc(), &get, Some(&found), &mut fs, Some(&ls), &path)?;
-    same(&rt, &status, &Some(StatusCode::PRECONDITION_FAILED));
-    let fresh = request(rt.alloc(), DavMethod::Get, &[("if-none-match", "\"2\"")])?;
-    let status = if_match(rt.alloc(), &fresh, Some(&found), &mut fs, Some(&ls), &path)?;
-    same(&rt, &status, &Some(StatusCode::NOT_MODIFIED));
-    let put = request(rt.alloc(), DavMethod::Put, &[("if", "(Not <DAV:no-lock>)")])?;
-    let verdict = if_match_get_tokens(rt.alloc(), &put, Some(&found), &mut fs, Some(&ls), &path)?;
-    let count = match verdict {
-        Ok(tokens) => tokens.len(),
-        Err(_) => 0,
-    };
-    same(&rt, &count, &1);
-    let no_lock = request(rt.alloc(), DavMethod::Put, &[("if", "(<DAV:no-lock>)")])?;
-    let verdict = if_match_get_tokens(
-        rt.alloc(),
-        &no_lock,
-        Some(&found),
-        &mut fs,
-        Some(&ls),
-        &path,
-    )?;
-    same(&rt, &verdict.err(), &Some(StatusCode::PRECONDITION_FAILED));
-    Ok(())
-}
-
-#[test]
-fn replaces_a_part_by_the_engine_alone(rt: HostRuntime) -> Result<(), Fail> {
-    let (mut fs, _) = store(rt.alloc())?;
-    let mut ls = Some(MemLs::new(rt.alloc())?);
-    let caller = Caller {
-        principal: None,
-        moment: 1,
-        token: None,
-    };
-    let mut inner = DavInner {
-        fs: &mut fs,
-        ls: &mut ls,
-        allow: DavMethodSet::all(),
-        caller: &caller,
-    };
-    let fields = [
-        ("content-type", PATCH_TYPE),
-        ("content-length", "1"),
-        ("x-update-range", "append"),
-    ];
-    let patch = request(rt.alloc(), DavMethod::Patch, &fields)?;
-    let reply = inner.handle_put(rt.alloc(), &patch, &bytes(b"y"))?;
-    same(
-        &rt,
-        &shown(rt.alloc(), &reply)?.as_str(),
-        &"204\naccept-ranges: bytes\netag: \"3\"\nlast-modified: Thu, 01 Jan 1970 00:00:01 GMT\n",
-    );
-    Ok(())
-}
-
-#[test]
-fn makes_a_folder_by_the_engine_alone(rt: HostRuntime) -> Result<(), Fail> {
-    let mut fs = MemFs::new(rt.alloc())?;
-    let mut ls = Some(MemLs::new(rt.alloc())?);
-    let caller = Caller {
-        principal: None,
-        moment: 1,
-        token: None,
-    };
-    let mut inner = DavInner {
-        fs: &mut fs,
-        ls: &mut ls,
-        allow: DavMethodSet::all(),
-        caller: &caller,
-    };
-    let mkcol = request(rt.alloc(), DavMethod::MkCol, &[])?;
-    let reply = inner.handle_mkcol(rt.alloc(), &mkcol, &Body::None)?;
-    same(&rt, &shown(rt.alloc(), &reply)?.as_str(), &"201\n");
-    let again = inner.handle_mkcol(rt.alloc(), &mkcol, &Body::None);
-    same(
-        &rt,
-        &again.err().map(|e| e.statuscode()),
-        &Some(StatusCode::METHOD_NOT_ALLOWED),
-    );
-    Ok(())
-}
-
-// A file in a folder: the folder took the number 1, and the file 2 and 3.
-#[test]
-fn serves_a_folder_with_a_file(rt: HostRuntime) -> Result<(), Fail> {
-    let mut server = new_server(rt.alloc())?;
-    let mkcol = b"MKCOL /d HTTP/1.1\r\n\r\n";
-    let reply = answered(rt.alloc(), &mut server, mkcol, Body::None)?;
-    same(&rt, &reply.as_str(), &"201\n");
-    let put = b"PUT /d/a HTTP/1.1\r\nContent-Length: 3\r\n\r\n";
-    let reply = answered(rt.alloc(), &mut server, put, bytes(b"one"))?;
-    same(
-        &rt,
-        &reply.as_str(),
-        &"201\naccept-ranges: bytes\ncontent-length: 0\netag: \"3\"\nlast-modified: Thu, 01 Jan 1970 00:00:01 GMT\n",
-    );
-    let get = b"GET /d/a HTTP/1.1\r\n\r\n";
-    let reply = answered(rt.alloc(), &mut server, get, Body::None)?;
-    same(
-        &rt,
-        &reply.as_str(),
-        &"200\ncontent-length: 3\ncontent-type: application/octet-stream\netag: \"3\"\nlast-modified: Thu, 01 Jan 1970 00:00:01 GMT\n\none",
-    );
-    let head = b"HEAD /d/a HTTP/1.1\r\n\r\n";
-    let reply = answered(rt.alloc(), &mut server, head, Body::None)?;
-    same(
-        &rt,
-        &reply.as_str(),
-        &"200\ncontent-length: 3\ncontent-type: application/octet-stream\netag: \"3\"\nlast-modified: Thu, 01 Jan 1970 00:00:01 GMT\n",
-    );
-    Ok(())
+fn calls_the_engine(rt: HostRuntime) -> Result<(), Fail> {
+    let fs = MemFs::new(rt.alloc())?;
+    let ls = Some(MemLs::new(rt.alloc())?);
+    play_rows(&rt, &mut Engine { fs, ls }, CALLS)
 }

@@ -1,25 +1,57 @@
 //! Replies that were worked out by hand from RFC 9110 and RFC 4918.
-
 use super::*;
 use crate::asserting::same;
+use crate::rows::{NoRow, Player, play_rows, unescaped};
 use bytes::Bytes;
 use dav_core::element::Element;
 use dav_engine::ReplyBody;
 use dav_store::memfs::MemFs;
 use dav_store::memls::MemLs;
-use http_header::HeaderMap;
+use http_header::{HeaderName, HeaderValue};
 use std::test::Fail;
 
-// A reply in one text: its status, each header on a line, and the bytes of its body behind an empty line.
-pub(crate) fn shown(alloc: Global, reply: &Reply) -> Result<String, Fail> {
-    let mut text = format!(in alloc; "{}\n", reply.status.as_u16())?;
-    for (name, value) in reply.headers.iter() {
-        text.push_str(name.as_str())?;
-        text.push_str(": ")?;
-        text.push_str(value.to_str()?)?;
-        text.push_str("\n")?;
-    }
-    match &reply.body {
+// A request one second after 1970 began, and its reply. After ` | ` comes a body, as `bytes x`, `tree 64` (so many elements, each in
+// the one before) or `malformed`, or who makes the request, as `by anna`.
+const REQUESTS: &str = r##"# a file is stored and read
+PUT /a HTTP/1.1\r\nContent-Length: 3\r\n\r\n | bytes one -> 201\naccept-ranges: bytes\ncontent-length: 0\netag: "2"\nlast-modified: Thu, 01 Jan 1970 00:00:01 GMT\n
+GET /a HTTP/1.1\r\n\r\n -> 200\ncontent-length: 3\ncontent-type: application/octet-stream\netag: "2"\nlast-modified: Thu, 01 Jan 1970 00:00:01 GMT\n\none
+# bodies that a method doesn't take; the target is read before the body
+PUT /f HTTP/1.1\r\n\r\n | tree 1 -> 415\ncontent-length: 0\n
+PUT /f HTTP/1.1\r\n\r\n | malformed -> 415\ncontent-length: 0\n
+DELETE /x HTTP/1.1\r\n\r\n | bytes x -> 415\ncontent-length: 0\n
+DELETE /%2e%2e HTTP/1.1\r\n\r\n | bytes x -> 403\ncontent-length: 0\n
+# trees, which PROPFIND takes up to 64 elements deep
+PROPFIND / HTTP/1.1\r\n\r\n | tree 64 -> 501\ncontent-length: 0\n
+PROPFIND / HTTP/1.1\r\n\r\n | tree 65 -> 400\ncontent-length: 0\n
+PROPFIND / HTTP/1.1\r\n\r\n | bytes x -> 501\ncontent-length: 0\n
+# what anna holds: nobody passes without the token, and with it nobody but her
+MKCOL /d HTTP/1.1\r\n\r\n -> 201\n
+anna locks /d -> granted
+PUT /d/a HTTP/1.1\r\nContent-Length: 1\r\n\r\n | bytes x | by ben -> 423\nconnection: close\ncontent-length: 0\n
+PUT /d/a HTTP/1.1\r\nContent-Length: 1\r\n\r\n | bytes x | by anna -> 423\nconnection: close\ncontent-length: 0\n
+PUT /d/a HTTP/1.1\r\nContent-Length: 1\r\nIf: (<urn:t:1>)\r\n\r\n | bytes x | by ben -> 423\nconnection: close\ncontent-length: 0\n
+# nobody else makes a folder in hers
+MKCOL /d HTTP/1.1\r\n\r\n -> 201\n
+anna locks /d -> granted
+MKCOL /d/x HTTP/1.1\r\n\r\n | by ben -> 423\ncontent-length: 0\n
+# the holder passes with the token; the folder took the number 1, and the file 2 and 3
+MKCOL /d HTTP/1.1\r\n\r\n -> 201\n
+anna locks /d -> granted
+PUT /d/a HTTP/1.1\r\nContent-Length: 1\r\nIf: (<urn:t:1>)\r\n\r\n | bytes x | by anna -> 201\naccept-ranges: bytes\ncontent-length: 0\netag: "3"\nlast-modified: Thu, 01 Jan 1970 00:00:01 GMT\n
+"##;
+
+// Adds a header on a line.
+fn add_header(text: &mut String, name: &HeaderName, value: &HeaderValue) -> Result<(), Fail> {
+    text.push_str(name.as_str())?;
+    text.push_str(": ")?;
+    text.push_str(value.to_str()?)?;
+    text.push_str("\n")?;
+    Ok(())
+}
+
+// Adds a body after an empty line.
+fn add_body(text: &mut String, body: &ReplyBody) -> Result<(), Fail> {
+    match body {
         ReplyBody::Nothing => {}
         ReplyBody::Bytes(bytes) => {
             text.push_str("\n")?;
@@ -27,48 +59,52 @@ pub(crate) fn shown(alloc: Global, reply: &Reply) -> Result<String, Fail> {
         }
         ReplyBody::Tree(_) => text.push_str("\nTree")?,
     }
+    Ok(())
+}
+
+/// A reply in one text: its status, each header on a line, and the bytes of its body after an empty line.
+pub(crate) fn shown(alloc: Global, reply: &Reply) -> Result<String, Fail> {
+    let mut text = format!(in alloc; "{}\n", reply.status.as_u16())?;
+    for (name, value) in reply.headers.iter() {
+        add_header(&mut text, name, value)?;
+    }
+    add_body(&mut text, &reply.body)?;
     Ok(text)
 }
 
-// A file that was made with bytes, by the first request to a new store.
-pub(crate) const MADE: &str =
-    "201\naccept-ranges: bytes\ncontent-length: 0\netag: \"2\"\nlast-modified: Thu, 01 Jan 1970 00:00:01 GMT\n";
-
-// That file, with the bytes `one`.
-pub(crate) const ONE: &str =
-    "200\ncontent-length: 3\ncontent-type: application/octet-stream\netag: \"2\"\nlast-modified: Thu, 01 Jan 1970 00:00:01 GMT\n\none";
-
-// The reply to a request that is refused, with the connection left open.
-pub(super) fn refused(alloc: Global, status: u16) -> Result<String, NoMemory> {
-    format!(in alloc; "{status}\ncontent-length: 0\n")
-}
-
-// The same, and the connection closes.
-pub(super) fn closed(alloc: Global, status: u16) -> Result<String, NoMemory> {
-    format!(in alloc; "{status}\nconnection: close\ncontent-length: 0\n")
-}
-
 // A server of a new store in memory, with locks, below no prefix, that allows every method.
-pub(super) fn new_server(alloc: Global) -> Result<DavHandler<MemFs, MemLs>, Fail> {
+fn new_server(alloc: Global) -> Result<DavHandler<MemFs, MemLs>, Fail> {
     let fs = MemFs::new(alloc)?;
     let ls = MemLs::new(alloc)?;
     Ok(DavHandler::new(alloc, "", DavMethodSet::all(), fs, Some(ls))?)
 }
 
-// What a request one second after 1970 began is answered.
-pub(super) fn answered(
+// Whether an exclusive lock on a path and on all below it is granted, by the token `urn:t:1`.
+fn lock(
     alloc: Global,
-    server: &mut DavHandler<MemFs, MemLs>,
-    head: &[u8],
-    body: Body,
-) -> Result<String, Fail> {
-    let exchange = Exchange::new(head, body, None, 1, None)?;
-    shown(alloc, &server.handle(alloc, &exchange)?)
+    ls: &mut MemLs,
+    path: &str,
+    principal: Option<&str>,
+) -> Result<bool, ParseError> {
+    let path = DavPath::new(alloc, path)?;
+    let granted = ls.lock(
+        alloc, &path, principal, None, None, false, true, "urn:t:1", 1,
+    );
+    Ok(granted.is_ok())
 }
 
-// A body of these bytes.
-pub(super) fn bytes(bytes: &'static [u8]) -> Body {
-    Body::Bytes(Bytes::from_static(bytes))
+/// Asks for such a lock for anna; the answer in words.
+pub(super) fn lock_for_anna(
+    alloc: Global,
+    ls: &mut Option<MemLs>,
+    path: &str,
+) -> Result<Vec<u8>, Fail> {
+    let granted = match ls {
+        Some(ls) => lock(alloc, ls, path, Some("anna"))?,
+        None => false,
+    };
+    let answer = if granted { "granted" } else { "refused" };
+    Ok(Vec::from_slice(alloc, answer.as_bytes())?)
 }
 
 // A tree of so many elements, each in the one before; 1 at least.
@@ -82,156 +118,139 @@ fn nested(alloc: Global, depth: usize) -> Result<Element, NoMemory> {
     Ok(tree)
 }
 
-#[test]
-fn shows_what_was_stored(rt: HostRuntime) -> Result<(), Fail> {
-    let mut server = new_server(rt.alloc())?;
-    let head = b"PUT /a HTTP/1.1\r\nContent-Length: 3\r\n\r\n";
-    let reply = answered(rt.alloc(), &mut server, head, bytes(b"one"))?;
-    same(&rt, &reply.as_str(), &MADE);
-    let reply = answered(
-        rt.alloc(),
-        &mut server,
-        b"GET /a HTTP/1.1\r\n\r\n",
-        Body::None,
-    )?;
-    same(&rt, &reply.as_str(), &ONE);
-    Ok(())
-}
-
-#[test]
-fn stores_by_the_engine_alone(rt: HostRuntime) -> Result<(), Fail> {
-    let mut fs = MemFs::new(rt.alloc())?;
-    let mut ls = Some(MemLs::new(rt.alloc())?);
-    let caller = Caller {
-        principal: None,
-        moment: 1,
-        token: None,
-    };
-    let request = DavRequest {
-        method: DavMethod::Put,
-        path: DavPath::new(rt.alloc(), "/a")?,
-        headers: HeaderMap::new(rt.alloc()),
-    };
-    let mut inner = DavInner {
-        fs: &mut fs,
-        ls: &mut ls,
-        allow: DavMethodSet::all(),
-        caller: &caller,
-    };
-    let reply = inner.handle_put(rt.alloc(), &request, &bytes(b"one"))?;
-    same(&rt, &shown(rt.alloc(), &reply)?.as_str(), &MADE);
-    Ok(())
-}
-
-#[test]
-fn refuses_by_the_head(rt: HostRuntime) -> Result<(), Fail> {
-    let cases: [(&[u8], u16); 8] = [
-        (b"GET / HTTP/1.1\r\n", 400),
-        (b"FOO / HTTP/1.1\r\n\r\n", 501),
-        (b"REPORT / HTTP/1.1\r\n\r\n", 501),
-        (b"GET * HTTP/1.1\r\n\r\n", 400),
-        (b"GET /a%2Fb HTTP/1.1\r\n\r\n", 400),
-        (b"GET /%2e%2e/x HTTP/1.1\r\n\r\n", 403),
-        (b"GET /x HTTP/1.1\r\n\r\n", 404),
-        (b"GET / HTTP/1.1\r\n\r\n", 405),
-    ];
-    let mut server = new_server(rt.alloc())?;
-    for (head, status) in cases {
-        let reply = answered(rt.alloc(), &mut server, head, Body::None)?;
-        same(&rt, &reply.as_str(), &refused(rt.alloc(), status)?.as_str());
+// A body by its kind.
+fn body_of(alloc: Global, kind: &'static str, text: &'static str) -> Result<Body, Fail> {
+    match kind {
+        "bytes" => Ok(Body::Bytes(Bytes::from_static(text.as_bytes()))),
+        "tree" => Ok(Body::Tree(nested(alloc, text.parse()?)?)),
+        _ => Err(NoRow(kind))?,
     }
-    Ok(())
 }
 
-// Why a prefix is refused; `None` for one that is taken.
-fn prefix_error(alloc: Global, prefix: &str) -> Result<Option<HandlerError>, NoMemory> {
-    let fs = MemFs::new(alloc)?;
-    let ls = MemLs::new(alloc)?;
-    Ok(DavHandler::new(alloc, prefix, DavMethodSet::all(), fs, Some(ls)).err())
+// Plays requests.
+#[derive(Drop)]
+struct Requests {
+    server: DavHandler<MemFs, MemLs>,
+}
+
+impl Requests {
+    // The reply to a request, in one text.
+    fn reply(&mut self, alloc: Global, request: &'static str) -> Result<String, Fail> {
+        let mut parts = request.split(" | ");
+        let head = unescaped(alloc, parts.next().unwrap_or(""))?;
+        let mut body = Body::None;
+        let mut principal = None;
+        for part in parts {
+            match part.split_once(' ') {
+                Some(("by", name)) => principal = Some(name),
+                Some((kind, text)) => body = body_of(alloc, kind, text)?,
+                None if part == "malformed" => body = Body::Malformed,
+                None => return Err(NoRow(part))?,
+            }
+        }
+        let exchange = Exchange::new(&head, body, principal, 1, None)?;
+        shown(alloc, &self.server.handle(alloc, &exchange)?)
+    }
+}
+
+impl Player for Requests {
+    fn begin(&mut self, alloc: Global) -> Result<(), Fail> {
+        self.server = new_server(alloc)?;
+        Ok(())
+    }
+
+    fn answer(&mut self, alloc: Global, question: &'static str) -> Result<Vec<u8>, Fail> {
+        match question.strip_prefix("anna locks ") {
+            Some(path) => lock_for_anna(alloc, &mut self.server.ls, path),
+            None => Ok(self.reply(alloc, question)?.into_bytes()),
+        }
+    }
+}
+
+#[test]
+fn answers_requests(rt: HostRuntime) -> Result<(), Fail> {
+    let server = new_server(rt.alloc())?;
+    play_rows(&rt, &mut Requests { server }, REQUESTS)
+}
+
+const PREFIXES: &str = r##"# prefixes
+ -> taken
+/dav -> taken
+/dav/ -> taken
+# other texts
+dav -> BadPrefix
+/a%20b -> BadPrefix
+/a//b -> BadPrefix
+"##;
+
+// Makes a server below a prefix.
+#[derive(Drop)]
+struct Prefixes;
+
+impl Player for Prefixes {
+    fn begin(&mut self, _alloc: Global) -> Result<(), Fail> {
+        Ok(())
+    }
+
+    fn answer(&mut self, alloc: Global, question: &'static str) -> Result<Vec<u8>, Fail> {
+        let fs = MemFs::new(alloc)?;
+        let ls = MemLs::new(alloc)?;
+        match DavHandler::new(alloc, question, DavMethodSet::all(), fs, Some(ls)) {
+            Ok(_) => Ok(Vec::from_slice(alloc, b"taken")?),
+            Err(error) => Ok(format!(in alloc; "{error}")?.into_bytes()),
+        }
+    }
 }
 
 #[test]
 fn takes_prefixes(rt: HostRuntime) -> Result<(), Fail> {
-    for prefix in ["", "/dav", "/dav/"] {
-        assert_eq!(rt; prefix_error(rt.alloc(), prefix)?, None, "{prefix}");
-    }
-    for prefix in ["dav", "/a%20b", "/a//b"] {
-        let bad = Some(HandlerError::BadPrefix);
-        assert_eq!(rt; prefix_error(rt.alloc(), prefix)?, bad, "{prefix}");
-    }
-    Ok(())
+    play_rows(&rt, &mut Prefixes, PREFIXES)
 }
 
-#[test]
-fn refuses_bodies(rt: HostRuntime) -> Result<(), Fail> {
-    let mut server = new_server(rt.alloc())?;
-    let put = b"PUT /f HTTP/1.1\r\n\r\n";
-    let tree = Body::Tree(nested(rt.alloc(), 1)?);
-    let reply = answered(rt.alloc(), &mut server, put, tree)?;
-    same(&rt, &reply.as_str(), &refused(rt.alloc(), 415)?.as_str());
-    let reply = answered(rt.alloc(), &mut server, put, Body::Malformed)?;
-    same(&rt, &reply.as_str(), &refused(rt.alloc(), 415)?.as_str());
-    let delete = b"DELETE /x HTTP/1.1\r\n\r\n";
-    let reply = answered(rt.alloc(), &mut server, delete, bytes(b"x"))?;
-    same(&rt, &reply.as_str(), &refused(rt.alloc(), 415)?.as_str());
-    // The target is looked at before the body.
-    let delete = b"DELETE /%2e%2e HTTP/1.1\r\n\r\n";
-    let reply = answered(rt.alloc(), &mut server, delete, bytes(b"x"))?;
-    same(&rt, &reply.as_str(), &refused(rt.alloc(), 403)?.as_str());
-    Ok(())
+// A store with one folder.
+fn store_of(alloc: Global, folder: &DavPath) -> Result<MemFs, Fail> {
+    let mut fs = MemFs::new(alloc)?;
+    fs.create_dir(alloc, folder, 1)?;
+    Ok(fs)
 }
 
-#[test]
-fn refuses_deep_trees(rt: HostRuntime) -> Result<(), Fail> {
-    let mut server = new_server(rt.alloc())?;
-    let find = b"PROPFIND / HTTP/1.1\r\n\r\n";
-    for (depth, status) in [(64, 501), (65, 400)] {
-        let tree = Body::Tree(nested(rt.alloc(), depth)?);
-        let reply = answered(rt.alloc(), &mut server, find, tree)?;
-        same(&rt, &reply.as_str(), &refused(rt.alloc(), status)?.as_str());
+// A list with one lock, which has no principal.
+fn locks_on(alloc: Global, path: &str) -> Result<MemLs, Fail> {
+    let mut ls = MemLs::new(alloc)?;
+    lock(alloc, &mut ls, path, None)?;
+    Ok(ls)
+}
+
+// How many locks of a server cover a path.
+fn count_locks(
+    alloc: Global,
+    server: &DavHandler<MemFs, MemLs>,
+    path: &DavPath,
+) -> Result<usize, NoMemory> {
+    match server.locks() {
+        Some(locks) => Ok(locks.discover(alloc, path)?.len()),
+        None => Ok(0),
     }
-    let reply = answered(rt.alloc(), &mut server, find, bytes(b"x"))?;
-    same(&rt, &reply.as_str(), &refused(rt.alloc(), 501)?.as_str());
-    Ok(())
 }
 
 #[test]
 fn lends_its_store_and_its_locks(rt: HostRuntime) -> Result<(), Fail> {
     let d = DavPath::new(rt.alloc(), "/d")?;
-    let mut fs = MemFs::new(rt.alloc())?;
-    fs.create_dir(rt.alloc(), &d, 1)?;
-    let mut ls = MemLs::new(rt.alloc())?;
-    let granted = ls.lock(rt.alloc(), &d, None, None, None, false, true, "urn:t:1", 1);
-    assert!(rt; granted.is_ok());
+    let fs = store_of(rt.alloc(), &d)?;
+    let ls = locks_on(rt.alloc(), "/d")?;
     let server = DavHandler::new(rt.alloc(), "", DavMethodSet::all(), fs, Some(ls))?;
-    assert!(rt; server.fs().clone()?.metadata(&d)?.is_dir());
-    let held = match server.locks() {
-        Some(locks) => locks.discover(rt.alloc(), &d)?.len(),
-        None => 0,
-    };
-    same(&rt, &held, &1);
+    same(&rt, &server.fs().clone()?.metadata(&d)?.is_dir(), &true);
+    same(&rt, &count_locks(rt.alloc(), &server, &d)?, &1);
     Ok(())
+}
+
+/// A server without locks.
+pub(crate) fn lockless_server(alloc: Global) -> Result<DavHandler<MemFs, MemLs>, Fail> {
+    Ok(DavHandler::new(alloc, "", DavMethodSet::all(), MemFs::new(alloc)?, None)?)
 }
 
 #[test]
 fn lends_no_locks_where_there_are_none(rt: HostRuntime) -> Result<(), Fail> {
-    let fs = MemFs::new(rt.alloc())?;
-    let server: DavHandler<MemFs, MemLs> = DavHandler::new(
-        rt.alloc(),
-        "",
-        DavMethodSet::all(),
-        fs,
-        None,
-    )?;
-    assert!(rt; server.locks().is_none());
-    Ok(())
-}
-
-#[test]
-fn shows_errors(rt: HostRuntime) -> Result<(), Fail> {
-    let bad = format!(in rt.alloc(); "{}", HandlerError::BadPrefix)?;
-    same(&rt, &bad.as_str(), &"BadPrefix");
-    let memory = format!(in rt.alloc(); "{}", HandlerError::Memory)?;
-    same(&rt, &memory.as_str(), &"Memory");
+    same(&rt, &lockless_server(rt.alloc())?.locks().is_none(), &true);
     Ok(())
 }

@@ -1,64 +1,91 @@
+//! Tokens that locks are granted with (RFC 4918, section 6.5), and moments.
 use super::*;
 use crate::asserting::same;
+use crate::davhandler::HandlerError;
 use crate::moment::Moment;
+use crate::rows::{Player, play_rows, unescaped};
+use std::str;
 use std::test::Fail;
 
-fn refused(alloc: Global, text: &str) -> bool {
-    matches!(GrantToken::new(alloc, text), Err(TokenError::Refused))
+const TOKENS: &str = r##"# tokens
+urn:t:1 -> urn:t:1
+opaquelocktoken:a-b -> opaquelocktoken:a-b
+! -> !
+~ -> ~
+dav:x -> dav:x
+xDAV: -> xDAV:
+DAV -> DAV
+*'\x5C -> *'\x5C
+# other texts
+ -> Refused
+DAV:x -> Refused
+DAV: -> Refused
+a b -> Refused
+ a -> Refused
+a\t -> Refused
+a"b -> Refused
+(a -> Refused
+a) -> Refused
+<a> -> Refused
+[ -> Refused
+] -> Refused
+{ -> Refused
+} -> Refused
+a\x7F -> Refused
+\xC3\xA9 -> Refused
+"##;
+
+// Asks for the token of a text.
+#[derive(Drop)]
+struct Tokens;
+
+impl Player for Tokens {
+    fn begin(&mut self, _alloc: Global) -> Result<(), Fail> {
+        Ok(())
+    }
+
+    fn answer(&mut self, alloc: Global, question: &'static str) -> Result<Vec<u8>, Fail> {
+        let text = unescaped(alloc, question)?;
+        match GrantToken::new(alloc, str::from_utf8(&text)?) {
+            Ok(token) => Ok(Vec::from_slice(alloc, token.as_str().as_bytes())?),
+            Err(error) => Ok(format!(in alloc; "{error}")?.into_bytes()),
+        }
+    }
 }
 
 #[test]
 fn takes_tokens(rt: HostRuntime) -> Result<(), Fail> {
-    for text in [
-        "urn:t:1",
-        "opaquelocktoken:a-b",
-        "!",
-        "~",
-        "dav:x",
-        "xDAV:",
-        "DAV",
-        "*'\\",
-    ] {
-        same(&rt, &GrantToken::new(rt.alloc(), text)?.as_str(), &text);
-    }
-    Ok(())
+    play_rows(&rt, &mut Tokens, TOKENS)
 }
 
-#[test]
-fn refuses_other_texts(rt: HostRuntime) {
-    for text in [
-        "", "DAV:x", "DAV:", "a b", " a", "a\t", "a\"b", "(a", "a)", "<a>", "[", "]", "{", "}",
-        "a\u{7f}", "\u{e9}",
-    ] {
-        assert!(rt; refused(rt.alloc(), text));
-    }
-}
-
+// All errors of this crate.
 #[test]
 fn shows_errors(rt: HostRuntime) -> Result<(), Fail> {
+    let shown = format!(in rt.alloc();
+        "{} {} {} {} {}",
+        TokenError::Refused,
+        TokenError::Memory,
+        BadMoment,
+        HandlerError::BadPrefix,
+        HandlerError::Memory
+    )?;
     same(
         &rt,
-        &format!(in rt.alloc(); "{}", TokenError::Refused)?.as_str(),
-        &"Refused",
-    );
-    same(
-        &rt,
-        &format!(in rt.alloc(); "{}", TokenError::Memory)?.as_str(),
-        &"Memory",
-    );
-    same(
-        &rt,
-        &format!(in rt.alloc(); "{BadMoment}")?.as_str(),
-        &"BadMoment",
+        &shown.as_str(),
+        &"Refused Memory BadMoment BadPrefix Memory",
     );
     Ok(())
 }
 
 #[test]
 fn ends_with_the_year_9999(rt: HostRuntime) -> Result<(), Fail> {
-    same(&rt, &LAST_MOMENT, &253_402_300_799);
-    same(&rt, &Moment::new(LAST_MOMENT)?.seconds, &LAST_MOMENT);
-    same(&rt, &(Moment::new(LAST_MOMENT + 1).err()), &Some(BadMoment));
+    let last = Moment::new(LAST_MOMENT)?.seconds;
+    same(
+        &rt,
+        &[LAST_MOMENT, last],
+        &[253_402_300_799, 253_402_300_799],
+    );
+    same(&rt, &Moment::new(LAST_MOMENT + 1).err(), &Some(BadMoment));
     Ok(())
 }
 
@@ -69,7 +96,10 @@ fn is_taken(moment: u64) -> bool {
 
 #[test]
 fn takes_requests_up_to_the_year_9999(rt: HostRuntime) {
-    assert!(rt; is_taken(0));
-    assert!(rt; is_taken(253_402_300_799));
-    assert!(rt; !is_taken(253_402_300_800));
+    let taken = [
+        is_taken(0),
+        is_taken(253_402_300_799),
+        is_taken(253_402_300_800),
+    ];
+    same(&rt, &taken, &[true, true, false]);
 }

@@ -1,139 +1,178 @@
 //! Heads whose meaning was worked out by hand from RFC 9110 and RFC 9112.
-
-use super::{MOST_BYTES, MOST_FIELDS, headers_of, read_head};
+use super::{MOST_BYTES, MOST_FIELDS, RequestView, headers_of, read_head};
 use crate::asserting::same;
-use http_header::HeaderMap;
+use crate::rows::{NoRow, Player, play_rows, unescaped};
+use dav_core::errors::NoMemory;
 use std::alloc::{AllocError, Global};
+use std::str;
 use std::test::Fail;
 
-const START: &[u8] = b"GET / HTTP/1.1\r\n";
+// A head, and its method and its target, or the status that refuses it.
+const HEADS: &str = r##"# heads
+PUT /a HTTP/1.1\r\nContent-Length: 3\r\n\r\n -> PUT /a
+GET /a HTTP/1.1\r\n\r\n -> GET /a
+# no heads
+ -> 400
+GET / HTTP/1.1\r\n -> 400
+GET / HTTP/1.1\r\n\r\nx -> 400
+GET / HTTP/1.1\r\n\r\n\r\n -> 400
+GET / HTTP/2.0\r\n\r\n -> 400
+GET /\xFF HTTP/1.1\r\n\r\n -> 400
+GET / HTTP/1.1\r\na b: c\r\n\r\n -> 400
+GET / HTTP/1.1\r\na: \x7F\r\n\r\n -> 400
+GET / HTTP/1.1\r\na: \x01\r\n\r\n -> 400
+"##;
 
-fn is_refused(head: &[u8]) -> bool {
-    match read_head(head) {
-        Ok(_) => false,
-        Err(status) => status.as_u16() == 400,
+// Asks what a head says.
+#[derive(Drop)]
+struct Heads;
+
+impl Player for Heads {
+    fn begin(&mut self, _alloc: Global) -> Result<(), Fail> {
+        Ok(())
+    }
+
+    fn answer(&mut self, alloc: Global, question: &'static str) -> Result<Vec<u8>, Fail> {
+        let head = unescaped(alloc, question)?;
+        let line = match read_head(&head) {
+            Ok(view) => {
+                let method = str::from_utf8(view.method())?;
+                let target = view.target();
+                format!(in alloc; "{method} {target}")?
+            }
+            Err(status) => format!(in alloc; "{}", status.as_u16())?,
+        };
+        Ok(line.into_bytes())
     }
 }
 
-/// A head of this many bytes, whose one field has a long value.
-fn long_head(alloc: Global, bytes: usize) -> Result<Vec<u8>, AllocError> {
+#[test]
+fn reads_heads(rt: HostRuntime) -> Result<(), Fail> {
+    play_rows(&rt, &mut Heads, HEADS)
+}
+
+// The fields of a head, a name, and the values of the fields with this name, each with a semicolon after it.
+const VALUES: &str =
+    r##"# case doesn't count in a name, and blanks at the ends of a value are cut off
+if:  a\tb \t\r\nx: y\r\nIF:\r\niF: c\r\n | If -> a\tb;;c;
+if:  a\tb \t\r\nx: y\r\nIF:\r\niF: c\r\n | X -> y;
+if:  a\tb \t\r\nx: y\r\nIF:\r\niF: c\r\n | i -> none
+if:  a\tb \t\r\nx: y\r\nIF:\r\niF: c\r\n | iff -> none
+# bytes that are no UTF-8, and a field without a value
+If:  a\r\nX: y\r\niF: b\xFF \r\nZ:\r\n | if -> a;b\xFF;
+If:  a\r\nX: y\r\niF: b\xFF \r\nZ:\r\n | x -> y;
+If:  a\r\nX: y\r\niF: b\xFF \r\nZ:\r\n | z -> ;
+If:  a\r\nX: y\r\niF: b\xFF \r\nZ:\r\n | i -> none
+"##;
+
+// The values of a name in a head.
+fn values_in_head(
+    alloc: Global,
+    view: &RequestView<'_>,
+    name: &str,
+) -> Result<Vec<u8>, AllocError> {
+    let mut all = Vec::new(alloc);
+    for value in view.values(name) {
+        all.extend_from_slice(value)?;
+        all.extend_from_slice(b";")?;
+    }
+    Ok(all)
+}
+
+// The values of a name in the map of a head's headers.
+fn values_in_map(alloc: Global, view: &RequestView<'_>, name: &str) -> Result<Vec<u8>, NoMemory> {
+    let headers = headers_of(alloc, view)?;
+    let mut all = Vec::new(alloc);
+    for value in headers.get_all(name) {
+        all.extend_from_slice(value.as_bytes())?;
+        all.extend_from_slice(b";")?;
+    }
+    Ok(all)
+}
+
+// Asks for the values of a name, in the head and in its map of headers.
+#[derive(Drop)]
+struct Values;
+
+impl Player for Values {
+    fn begin(&mut self, _alloc: Global) -> Result<(), Fail> {
+        Ok(())
+    }
+
+    fn answer(&mut self, alloc: Global, question: &'static str) -> Result<Vec<u8>, Fail> {
+        let (fields, name) = question.split_once(" | ").ok_or(NoRow(question))?;
+        let mut head = Vec::from_slice(alloc, START)?;
+        head.extend_from_slice(&unescaped(alloc, fields)?)?;
+        head.extend_from_slice(b"\r\n")?;
+        let view = read_head(&head)?;
+        let mut values = values_in_head(alloc, &view, name)?;
+        if values != values_in_map(alloc, &view, name)? {
+            return Err(NoRow("the map has other values"))?;
+        }
+        if values.is_empty() {
+            values.extend_from_slice(b"none")?;
+        }
+        Ok(values)
+    }
+}
+
+#[test]
+fn finds_values(rt: HostRuntime) -> Result<(), Fail> {
+    play_rows(&rt, &mut Values, VALUES)
+}
+
+// How many headers a head has, and of how many names.
+fn counts(alloc: Global, head: &[u8]) -> Result<(usize, usize), Fail> {
+    let headers = headers_of(alloc, &read_head(head)?)?;
+    Ok((headers.len(), headers.keys_len()))
+}
+
+#[test]
+fn counts_headers(rt: HostRuntime) -> Result<(), Fail> {
+    let some = counts(
+        rt.alloc(),
+        b"GET / HTTP/1.1\r\nIf:  a\r\nX: y\r\niF: b\xff \r\nZ:\r\n\r\n",
+    )?;
+    let none = counts(rt.alloc(), b"GET / HTTP/1.1\r\n\r\n")?;
+    same(&rt, &[some, none], &[(4, 3), (0, 0)]);
+    Ok(())
+}
+
+const START: &[u8] = b"GET / HTTP/1.1\r\n";
+
+// How many bytes a head of one long field has, and whether it is taken.
+fn takes_bytes(alloc: Global, bytes: usize) -> Result<(usize, bool), AllocError> {
     let mut head = Vec::from_slice(alloc, START)?;
     head.extend_from_slice(b"a:")?;
     for _ in 0..bytes.saturating_sub(START.len() + 6) {
         head.push(b'x')?;
     }
     head.extend_from_slice(b"\r\n\r\n")?;
-    Ok(head)
+    Ok((head.len(), read_head(&head).is_ok()))
 }
 
-/// A head of this many fields.
-fn wide_head(alloc: Global, fields: usize) -> Result<Vec<u8>, AllocError> {
+// Whether a head of so many fields is taken.
+fn takes_fields(alloc: Global, fields: usize) -> Result<bool, AllocError> {
     let mut head = Vec::from_slice(alloc, START)?;
     for _ in 0..fields {
         head.extend_from_slice(b"a: b\r\n")?;
     }
     head.extend_from_slice(b"\r\n")?;
-    Ok(head)
+    Ok(read_head(&head).is_ok())
 }
 
 #[test]
-fn reads_a_put_and_a_get(rt: HostRuntime) -> Result<(), Fail> {
-    let put = read_head(b"PUT /a HTTP/1.1\r\nContent-Length: 3\r\n\r\n")?;
-    same(&rt, &put.method(), &b"PUT".as_slice());
-    same(&rt, &put.target(), &"/a");
-    let get = read_head(b"GET /a HTTP/1.1\r\n\r\n")?;
-    same(&rt, &get.method(), &b"GET".as_slice());
-    same(&rt, &get.target(), &"/a");
+fn counts_bytes(rt: HostRuntime) -> Result<(), Fail> {
+    let longest = takes_bytes(rt.alloc(), MOST_BYTES)?;
+    let longer = takes_bytes(rt.alloc(), MOST_BYTES + 1)?;
+    same(&rt, &[longest, longer], &[(65_536, true), (65_537, false)]);
     Ok(())
 }
 
 #[test]
-fn refuses_what_is_no_head(rt: HostRuntime) {
-    let heads: [&[u8]; 9] = [
-        b"",
-        b"GET / HTTP/1.1\r\n",
-        b"GET / HTTP/1.1\r\n\r\nx",
-        b"GET / HTTP/1.1\r\n\r\n\r\n",
-        b"GET / HTTP/2.0\r\n\r\n",
-        b"GET /\xff HTTP/1.1\r\n\r\n",
-        b"GET / HTTP/1.1\r\na b: c\r\n\r\n",
-        b"GET / HTTP/1.1\r\na: \x7f\r\n\r\n",
-        b"GET / HTTP/1.1\r\na: \x01\r\n\r\n",
-    ];
-    for head in heads {
-        assert!(rt; is_refused(head));
-    }
-}
-
-#[test]
-fn counts_bytes_and_fields(rt: HostRuntime) -> Result<(), Fail> {
-    let longest = long_head(rt.alloc(), MOST_BYTES)?;
-    same(&rt, &longest.len(), &65_536);
-    assert!(rt; read_head(&longest).is_ok());
-    let too_long = long_head(rt.alloc(), MOST_BYTES + 1)?;
-    same(&rt, &too_long.len(), &65_537);
-    assert!(rt; is_refused(&too_long));
-    assert!(rt; read_head(&wide_head(rt.alloc(), MOST_FIELDS)?).is_ok());
-    assert!(rt; is_refused(&wide_head(rt.alloc(), MOST_FIELDS + 1)?));
-    Ok(())
-}
-
-#[test]
-fn finds_values(rt: HostRuntime) -> Result<(), Fail> {
-    let view = read_head(b"GET / HTTP/1.1\r\nif:  a\tb \t\r\nx: y\r\nIF:\r\niF: c\r\n\r\n")?;
-    let mut values = view.values("If");
-    same(&rt, &values.next(), &Some(b"a\tb".as_slice()));
-    same(&rt, &values.next(), &Some(b"".as_slice()));
-    same(&rt, &values.next(), &Some(b"c".as_slice()));
-    same(&rt, &values.next(), &None);
-    same(&rt, &view.values("X").next(), &Some(b"y".as_slice()));
-    same(&rt, &view.values("i").next(), &None);
-    same(&rt, &view.values("iff").next(), &None);
-    Ok(())
-}
-
-// The values of a header, each with a semicolon behind it.
-fn joined(alloc: Global, headers: &HeaderMap, name: &str) -> Result<Vec<u8>, AllocError> {
-    let mut all = Vec::new(alloc);
-    for value in headers.get_all(name) {
-        all.extend_from_slice(value.as_bytes())?;
-        all.push(b';')?;
-    }
-    Ok(all)
-}
-
-#[test]
-fn collects_headers(rt: HostRuntime) -> Result<(), Fail> {
-    let view = read_head(b"GET / HTTP/1.1\r\nIf:  a\r\nX: y\r\niF: b\xff \r\nZ:\r\n\r\n")?;
-    let headers = headers_of(rt.alloc(), &view)?;
-    same(&rt, &headers.len(), &4);
-    same(&rt, &headers.keys_len(), &3);
-    same(
-        &rt,
-        &joined(rt.alloc(), &headers, "if")?.as_slice(),
-        &b"a;b\xff;".as_slice(),
-    );
-    same(
-        &rt,
-        &joined(rt.alloc(), &headers, "x")?.as_slice(),
-        &b"y;".as_slice(),
-    );
-    same(
-        &rt,
-        &joined(rt.alloc(), &headers, "z")?.as_slice(),
-        &b";".as_slice(),
-    );
-    same(
-        &rt,
-        &joined(rt.alloc(), &headers, "i")?.as_slice(),
-        &b"".as_slice(),
-    );
-    Ok(())
-}
-
-#[test]
-fn collects_no_headers(rt: HostRuntime) -> Result<(), Fail> {
-    let view = read_head(b"GET / HTTP/1.1\r\n\r\n")?;
-    assert!(rt; headers_of(rt.alloc(), &view)?.is_empty());
+fn counts_fields(rt: HostRuntime) -> Result<(), Fail> {
+    let most = takes_fields(rt.alloc(), MOST_FIELDS)?;
+    let more = takes_fields(rt.alloc(), MOST_FIELDS + 1)?;
+    same(&rt, &[most, more], &[true, false]);
     Ok(())
 }

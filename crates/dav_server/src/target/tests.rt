@@ -1,94 +1,81 @@
 //! Targets whose paths were worked out by hand from RFC 9112, section 3.2, and RFC 3986, section 5.2.4.
-
 use super::*;
-use crate::asserting::same;
+use crate::method::method_of;
+use crate::rows::{NoRow, Player, play_rows};
 use std::test::Fail;
 
-// What a target of GET names below a prefix: all of the path's bytes, or the error.
-fn named(alloc: Global, target: &str, prefix: &str) -> Result<Vec<u8>, DavError> {
-    let path = path_of(alloc, DavMethod::Get, target, prefix)?;
+// A method, a target, and where it isn't empty the prefix that it is read below.
+const TARGETS: &str = r##"# paths
+GET / -> /
+GET /a%20b/ -> /a b/
+GET /x/../a?b=%2F -> /a
+GET http://h/a -> /a
+GET http://h:80/a/./b?q -> /a/b
+GET HTTPS://u@h -> /
+GET ://h/a -> /a
+# no targets
+GET * -> Status 400
+GET a -> Status 400
+GET h:80 -> Status 400
+GET http://h/a#b -> Status 400
+GET http:///a -> Status 400
+# no paths
+GET http://h?q -> InvalidPath 400
+GET /a#b -> InvalidPath 400
+GET /a%2Fb -> InvalidPath 400
+GET http://h/a%00 -> InvalidPath 400
+# above the root
+GET /%2e%2e/x -> ForbiddenPath 403
+GET http://h/.. -> ForbiddenPath 403
+# below a prefix; its slash at the end doesn't count
+GET /dav/a below /dav -> /a
+GET /dav below /dav -> /
+GET http://h/dav/a below /dav -> /a
+GET /davx below /dav -> IllegalPath 502
+GET /other below /dav -> IllegalPath 502
+GET /dav/a below /dav/ -> /a
+GET /dav below /dav/ -> /
+GET http://h/dav/a below /dav/ -> /a
+GET /davx below /dav/ -> IllegalPath 502
+GET /other below /dav/ -> IllegalPath 502
+# the star is for OPTIONS alone, and no prefix is cut from it
+OPTIONS * below /dav -> the star, below ''
+PROPFIND * below /dav -> Status 400
+"##;
+
+// The bytes of a path, or that it is the star.
+fn shown(alloc: Global, path: &DavPath) -> Result<Vec<u8>, Fail> {
+    if path.is_star() {
+        let prefix = path.prefix();
+        return Ok(format!(in alloc; "the star, below '{prefix}'")?.into_bytes());
+    }
     Ok(Vec::from_slice(alloc, path.as_bytes())?)
+}
+
+// Asks for the path of a target.
+#[derive(Drop)]
+struct Targets;
+
+impl Player for Targets {
+    fn begin(&mut self, _alloc: Global) -> Result<(), Fail> {
+        Ok(())
+    }
+
+    fn answer(&mut self, alloc: Global, question: &'static str) -> Result<Vec<u8>, Fail> {
+        let (request, prefix) = question.split_once(" below ").unwrap_or((question, ""));
+        let (name, target) = request.split_once(' ').ok_or(NoRow(question))?;
+        let method = method_of(name.as_bytes())?;
+        match path_of(alloc, method, target, prefix) {
+            Ok(path) => shown(alloc, &path),
+            Err(error) => {
+                let status = error.statuscode().as_u16();
+                Ok(format!(in alloc; "{error} {status}")?.into_bytes())
+            }
+        }
+    }
 }
 
 #[test]
 fn reads_targets(rt: HostRuntime) -> Result<(), Fail> {
-    let cases: [(&str, &str); 7] = [
-        ("/", "/"),
-        ("/a%20b/", "/a b/"),
-        ("/x/../a?b=%2F", "/a"),
-        ("http://h/a", "/a"),
-        ("http://h:80/a/./b?q", "/a/b"),
-        ("HTTPS://u@h", "/"),
-        ("://h/a", "/a"),
-    ];
-    for (target, path) in cases {
-        same(
-            &rt,
-            &named(rt.alloc(), target, "")?.as_slice(),
-            &path.as_bytes(),
-        );
-    }
-    Ok(())
-}
-
-#[test]
-fn refuses_targets(rt: HostRuntime) {
-    for target in ["*", "a", "h:80", "http://h/a#b", "http:///a"] {
-        let bad = DavError::Status(StatusCode::BAD_REQUEST);
-        same(&rt, &named(rt.alloc(), target, "").err(), &Some(bad));
-    }
-    for target in ["http://h?q", "/a#b", "/a%2Fb", "http://h/a%00"] {
-        let refused = named(rt.alloc(), target, "").err();
-        same(&rt, &refused, &Some(DavError::InvalidPath));
-    }
-    for target in ["/%2e%2e/x", "http://h/.."] {
-        let refused = named(rt.alloc(), target, "").err();
-        same(&rt, &refused, &Some(DavError::ForbiddenPath));
-    }
-}
-
-#[test]
-fn cuts_the_prefix(rt: HostRuntime) -> Result<(), Fail> {
-    for prefix in ["/dav", "/dav/"] {
-        same(
-            &rt,
-            &named(rt.alloc(), "/dav/a", prefix)?.as_slice(),
-            &b"/a".as_slice(),
-        );
-        same(
-            &rt,
-            &named(rt.alloc(), "/dav", prefix)?.as_slice(),
-            &b"/".as_slice(),
-        );
-        same(
-            &rt,
-            &named(rt.alloc(), "http://h/dav/a", prefix)?.as_slice(),
-            &b"/a".as_slice(),
-        );
-        same(
-            &rt,
-            &named(rt.alloc(), "/davx", prefix).err(),
-            &Some(DavError::IllegalPath),
-        );
-        same(
-            &rt,
-            &named(rt.alloc(), "/other", prefix).err(),
-            &Some(DavError::IllegalPath),
-        );
-    }
-    Ok(())
-}
-
-#[test]
-fn keeps_the_star_for_options(rt: HostRuntime) -> Result<(), Fail> {
-    let path = path_of(rt.alloc(), DavMethod::Options, "*", "/dav")?;
-    assert!(rt; path.is_star());
-    same(&rt, &path.prefix(), &"");
-    let refused = path_of(rt.alloc(), DavMethod::PropFind, "*", "/dav").err();
-    same(
-        &rt,
-        &refused,
-        &Some(DavError::Status(StatusCode::BAD_REQUEST)),
-    );
-    Ok(())
+    play_rows(&rt, &mut Targets, TARGETS)
 }
