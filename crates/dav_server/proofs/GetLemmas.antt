@@ -1,5 +1,5 @@
 -- What the parts of GET and HEAD come to.
-use Rattle.std.proofs.Common.{[], None, ◌≡◌, ◌≢◌, ◌==◌, if◌then◌else◌, not, ℕ, true, false, Option, Some, Result, Ok, Err, refl, sym, subst}
+use Rattle.std.proofs.Common.{◌≡◌, ◌≢◌, ◌==◌, if◌then◌else◌, not, ℕ, true, false, Option, Some, Result, Ok, Err, refl, sym, subst}
 use Rattle.dav_core.specs.declared.errors.FsError.{FsError}
 use Rattle.dav_core.specs.declared.errors.DavError.{DavError}
 use Rattle.dav_core.specs.declared.errors.DavError.TheVariants as dav
@@ -14,8 +14,7 @@ use Rattle.dav_engine.specs.Conditions.{Conditions, if_match}
 use Rattle.dav_engine.specs.Follows.{Follows, viewed, or_memory}
 use Rattle.dav_engine.specs.Method.{Method, gives, fails}
 use Rattle.dav_engine.specs.Plan.{Locks}
-use Rattle.dav_engine.specs.Response.{Response, response_of, tag_headers, with_tag}
-use Rattle.dav_engine.specs.declared.reply.ReplyBody.TheVariants.{Nothing}
+use Rattle.dav_engine.specs.Response.{Response, response_of}
 use Rattle.dav_engine.proofs.Following.{follows_ask, follows_done, follows_on, follows_then, follows_err}
 use Rattle.dav_server.specs.Get.{get, show, show_or_tell, judged, not_modified}
 
@@ -80,8 +79,3 @@ pub get_goes : {E : Type 0} (m : DavMethod) (c : Conditions) (p : Path) (now : �
 get_goes m c p now found r verdict told {late = late} {new} {ls} {end} asks file was is one rest =
     follows_ask asks (follows_on _ _ _ file (follows_then (after m p now found) (come m c found was one)
     (subst (λ (v : Option ℕ). Follows response_of (after m p now found v) late ls end new ls) (sym is) rest)))
-
--- the reply with the tag alone
-pub tag_alone : (number : Option ℕ) → response_of (record { status = 304; headers = with_tag [] number; body = Nothing }) ≡ record { status = 304; headers = tag_headers number; body = Nothing }
-tag_alone None = refl
-tag_alone (Some n) = refl
