@@ -1,145 +1,121 @@
 use super::*;
+use crate::asserting::{is_row, parts, same};
+use std::process::Abort;
 use std::test::Fail;
 
-// Headers in which a name has the values that stand between bars.
-fn headers_of(alloc: Global, name: &'static str, texts: &str) -> Result<HeaderMap, Fail> {
+// A row: what is read, headers with a bar before, between and after them, ` -> `, and what is read of them.
+const ROWS: &str = r##"
+# The length that is announced
+length |content-length: 3| -> Some(3)
+length |content-length: 3|content-length: 03| -> Some(3)
+length |content-length: 3|content-length: 4| -> None
+length |content-length: x| -> None
+length |content-length: 3|content-length: x| -> None
+length |content-length: | -> None
+length | -> None
+length |content-type: 3| -> None
+length |x-expected-entity-length: 3| -> Some(3)
+length |x-expected-entity-length: 3|x-expected-entity-length: 4| -> Some(3)
+length |x-expected-entity-length: 3|x-expected-entity-length: x| -> Some(3)
+length |x-expected-entity-length: x|x-expected-entity-length: 3| -> None
+length |x-expected-entity-length: | -> None
+length |x-expected-entity-length: 3|content-length: 5| -> Some(5)
+length |x-expected-entity-length: 3|content-length: x| -> Some(3)
+
+# The part of a file that is replaced
+bounds |content-range: | -> unread
+bounds |content-range: bytes| -> unread
+bounds |content-range: bytes 1-/7| -> unread
+bounds |content-range: 1-3/7| -> unread
+bounds |content-range: bytes 1-3/7|content-range: bytes 1-3/7| -> unread
+bounds |content-range: bytes */7| -> whole
+bounds |content-range: bytes */*| -> whole
+bounds | -> whole
+bounds |content-range: bytes 1-3/7| -> 1 to 3
+bounds |content-range: bytes 3-1/*| -> 3 to 1
+
+# Whether it is a partial update
+partial |content-type: application/x-sabredav-partialupdate| -> true
+partial |content-type: application/x-sabredav-partialupdate; q=1| -> false
+partial |content-type: Application/X-SabreDAV-PartialUpdate| -> false
+partial |content-type: text/plain| -> false
+partial |content-type: application/x-sabredav-partialupdate|content-type: text/plain| -> false
+partial |content-type: é| -> false
+partial |content-type: | -> false
+partial | -> false
+
+# What is updated
+update |x-update-range: bytes=1-3| -> Some(FromTo(1, 3))
+update |x-update-range: bytes=3-1| -> Some(FromTo(3, 1))
+update |x-update-range: bytes=4-| -> Some(AllFrom(4))
+update |x-update-range: bytes=-2| -> Some(Last(2))
+update |x-update-range: append| -> Some(Append)
+update |x-update-range: append|x-update-range: append| -> None
+update |x-update-range: bytes 1-3| -> None
+update |x-update-range: | -> None
+
+# The checksum
+checksum |oc-checksum: SHA1:ab| -> Some("SHA1:ab")
+checksum |oc-checksum: a|oc-checksum: b| -> Some("a")
+checksum |oc-checksum: | -> Some("")
+checksum |oc-checksum: é| -> None
+checksum | -> None
+"##;
+
+// The headers of a row.
+fn headers_of(alloc: Global, texts: &str) -> Result<HeaderMap, Fail> {
     let mut headers = HeaderMap::new(alloc);
-    for text in texts.split('|') {
-        headers.append(
-            HeaderName::from_bytes(alloc, name.as_bytes())?,
-            HeaderValue::from_str(alloc, text)?,
-        )?;
+    if let Some(texts) = texts.strip_suffix('|') {
+        for text in texts.split('|') {
+            let (name, value) = text.split_once(": ").ok_or("a text is no header")?;
+            headers.append(
+                HeaderName::from_bytes(alloc, name.as_bytes())?,
+                HeaderValue::from_str(alloc, value)?,
+            )?;
+        }
     }
     Ok(headers)
 }
 
-#[test]
-fn reads_the_announced_length(rt: HostRuntime) -> Result<(), Fail> {
-    let cases = [
-        ("3", Some(3)),
-        ("3|03", Some(3)),
-        ("3|4", None),
-        ("x", None),
-        ("3|x", None),
-        ("", None),
-    ];
-    for (texts, length) in cases {
-        let headers = headers_of(rt.alloc(), "content-length", texts)?;
-        assert_eq!(rt; announced_length(rt.alloc(), &headers)?, length, "{texts}");
+// Bounds as text.
+fn bounds_text(alloc: Global, bounds: Bounds) -> Result<String, NoMemory> {
+    match bounds {
+        Bounds::Unread => String::from_str(alloc, "unread"),
+        Bounds::Whole => String::from_str(alloc, "whole"),
+        Bounds::Within(first, last) => format!(in alloc; "{first} to {last}"),
     }
-    let none = HeaderMap::new(rt.alloc());
-    assert_eq!(rt; announced_length(rt.alloc(), &none)?, None);
-    let other = headers_of(rt.alloc(), "content-type", "3")?;
-    assert_eq!(rt; announced_length(rt.alloc(), &other)?, None);
+}
+
+// What is read of headers.
+fn outcome(alloc: Global, name: &str, headers: &HeaderMap) -> Result<String, NoMemory> {
+    match name {
+        "length" => format!(in alloc; "{:?}", announced_length(alloc, headers)?),
+        "bounds" => bounds_text(alloc, bounds_in(alloc, headers)?),
+        "partial" => format!(in alloc; "{}", is_partial_update(alloc, headers)?),
+        "update" => format!(in alloc; "{:?}", update_in(alloc, headers)?),
+        "checksum" => format!(in alloc; "{:?}", checksum_in(alloc, headers)?),
+        _ => String::from_str(alloc, "nothing has this name"),
+    }
+}
+
+// Plays a row; the test fails where the outcome isn't the wanted one.
+fn play(rt: &impl Abort, alloc: Global, row: &str) -> Result<(), Fail> {
+    let (name, texts, wanted) = parts(row).ok_or("a line is no row")?;
+    let headers = headers_of(alloc, texts)?;
+    let outcome = outcome(alloc, name, &headers)?;
+    assert!(rt; outcome.as_str() == wanted, "{row}\ngives: {outcome}");
     Ok(())
 }
 
 #[test]
-fn reads_the_expected_length(rt: HostRuntime) -> Result<(), Fail> {
-    let cases = [
-        ("3", Some(3)),
-        ("3|4", Some(3)),
-        ("3|x", Some(3)),
-        ("x|3", None),
-        ("", None),
-    ];
-    for (texts, length) in cases {
-        let headers = headers_of(rt.alloc(), "x-expected-entity-length", texts)?;
-        assert_eq!(rt; announced_length(rt.alloc(), &headers)?, length, "{texts}");
+fn reads_headers(rt: HostRuntime) -> Result<(), Fail> {
+    let mut count = 0u32;
+    for line in ROWS.lines() {
+        if is_row(line) {
+            play(&rt, rt.alloc(), line)?;
+            count = count.wrapping_add(1);
+        }
     }
-    for (text, length) in [("5", Some(5)), ("x", Some(3))] {
-        let mut headers = headers_of(rt.alloc(), "x-expected-entity-length", "3")?;
-        let value = HeaderValue::from_str(rt.alloc(), text)?;
-        headers.append("content-length", value)?;
-        assert_eq!(rt; announced_length(rt.alloc(), &headers)?, length, "{text}");
-    }
-    Ok(())
-}
-
-fn bounds_from(alloc: Global, texts: &str) -> Result<Bounds, Fail> {
-    let headers = headers_of(alloc, "content-range", texts)?;
-    Ok(bounds_in(alloc, &headers)?)
-}
-
-#[test]
-fn reads_the_bounds(rt: HostRuntime) -> Result<(), Fail> {
-    for texts in [
-        "",
-        "bytes",
-        "bytes 1-/7",
-        "1-3/7",
-        "bytes 1-3/7|bytes 1-3/7",
-    ] {
-        let bounds = bounds_from(rt.alloc(), texts)?;
-        assert!(rt; matches!(bounds, Bounds::Unread), "{texts}");
-    }
-    for texts in ["bytes */7", "bytes */*"] {
-        let bounds = bounds_from(rt.alloc(), texts)?;
-        assert!(rt; matches!(bounds, Bounds::Whole), "{texts}");
-    }
-    for (texts, first, last) in [("bytes 1-3/7", 1, 3), ("bytes 3-1/*", 3, 1)] {
-        let bounds = bounds_from(rt.alloc(), texts)?;
-        let is_same = matches!(bounds, Bounds::Within(a, b) if a == first && b == last);
-        assert!(rt; is_same, "{texts}");
-    }
-    let none = HeaderMap::new(rt.alloc());
-    assert!(rt; matches!(bounds_in(rt.alloc(), &none)?, Bounds::Whole));
-    Ok(())
-}
-
-#[test]
-fn knows_a_partial_update(rt: HostRuntime) -> Result<(), Fail> {
-    let cases = [
-        ("application/x-sabredav-partialupdate", true),
-        ("application/x-sabredav-partialupdate; q=1", false),
-        ("Application/X-SabreDAV-PartialUpdate", false),
-        ("text/plain", false),
-        ("application/x-sabredav-partialupdate|text/plain", false),
-        ("\u{e9}", false),
-        ("", false),
-    ];
-    for (texts, is_one) in cases {
-        let headers = headers_of(rt.alloc(), "content-type", texts)?;
-        assert_eq!(rt; is_partial_update(rt.alloc(), &headers)?, is_one, "{texts}");
-    }
-    let none = HeaderMap::new(rt.alloc());
-    assert!(rt; !is_partial_update(rt.alloc(), &none)?);
-    Ok(())
-}
-
-#[test]
-fn reads_what_is_updated(rt: HostRuntime) -> Result<(), Fail> {
-    let cases = [
-        ("bytes=1-3", Some(XUpdateRange::FromTo(1, 3))),
-        ("bytes=3-1", Some(XUpdateRange::FromTo(3, 1))),
-        ("bytes=4-", Some(XUpdateRange::AllFrom(4))),
-        ("bytes=-2", Some(XUpdateRange::Last(2))),
-        ("append", Some(XUpdateRange::Append)),
-        ("append|append", None),
-        ("bytes 1-3", None),
-        ("", None),
-    ];
-    for (texts, range) in cases {
-        let headers = headers_of(rt.alloc(), "x-update-range", texts)?;
-        assert_eq!(rt; update_in(rt.alloc(), &headers)?, range, "{texts}");
-    }
-    Ok(())
-}
-
-#[test]
-fn reads_the_checksum(rt: HostRuntime) -> Result<(), Fail> {
-    let cases = [
-        ("SHA1:ab", Some("SHA1:ab")),
-        ("a|b", Some("a")),
-        ("", Some("")),
-        ("\u{e9}", None),
-    ];
-    for (texts, checksum) in cases {
-        let headers = headers_of(rt.alloc(), "oc-checksum", texts)?;
-        let found = checksum_in(rt.alloc(), &headers)?;
-        assert_eq!(rt; found.as_deref(), checksum, "{texts}");
-    }
-    let none = HeaderMap::new(rt.alloc());
-    assert!(rt; checksum_in(rt.alloc(), &none)?.is_none());
+    same(&rt, &count, &46);
     Ok(())
 }

@@ -8,13 +8,17 @@ use Rattle.dav_headers.proofs.LoopLemmas.{end_parts}
 use Rattle.dav_headers.proofs.ETagListLemmas.{AreTags-push, AreTags-skip}
 use Rattle.dav_headers.proofs.etag_list.push_tags.Goals as goal
 
+-- one more tag at the end of what was added to a list
+one_more : (start added before after : List EntityTag) (t : EntityTag) → after ≡ before ++ t ∷ [] → before ≡ start ++ added → after ≡ start ++ (added ++ t ∷ [])
+one_more start added before after t e f = e ∙ ap (λ ts. ts ++ t ∷ []) f ∙ append_assoc start added (t ∷ [])
+
 pub loop-piece-preserved : goal.loop-piece-preserved
 loop-piece-preserved c =
     let so_far = c.loop-piece.invariant in
     let tag = rw c.trimmed.ensures at c.in-Ok.ensures.ok in
     rw (map_push, map_push) (
       so_far.0 ++ c.in-Ok.tag ∷ [],
-      c.in_ok-push.ensures.items ∙ ap (λ ts. ts ++ c.in-Ok.tag ∷ []) so_far.1 ∙ append_assoc _ so_far.0 (c.in-Ok.tag ∷ []),
+      one_more _ _ _ _ _ c.in_ok-push.ensures.items so_far.1,
       AreTags-push _ so_far.0 _ c.in-Ok.tag so_far.2 tag,
     )
 
