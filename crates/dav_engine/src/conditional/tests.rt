@@ -1,64 +1,82 @@
 use super::*;
+use crate::asserting::{is_row, parts, same};
+use http::Method;
 use http_header::HeaderValue;
+use std::process::Abort;
 use std::test::Fail;
 
-fn tags_in(alloc: Global, text: &str) -> Result<ETagList, Fail> {
-    let values = [HeaderValue::from_str(alloc, text)?];
-    let list = IfMatch::decode(alloc, &values)?;
-    Ok(list.0)
-}
+// A row: what is matched, two or three texts between bars, ` -> `, and the outcome.
+const ROWS: &str = r##"
+# Whether If-Match holds of what is found: nothing, something without a tag, or something with this tag
+list |*|untagged| -> true
+list |*|W/"a"| -> true
+list |*|nothing| -> false
+list |"a", "b"|"b"| -> true
+list |"a"|"b"| -> false
+list |"a"|untagged| -> false
+list |"a"|nothing| -> false
+list |W/"a"|"a"| -> false
+list |"a"|W/"a"| -> false
+list ||"a"| -> false
+list |""|""| -> true
 
-fn tag_in(alloc: Global, text: Option<&str>) -> Result<Option<ETag>, Fail> {
+# Whether If-Range holds
+range |"a"|"a"| -> true
+range |"a"|"b"| -> false
+range |W/"a"|W/"a"| -> false
+range |"a"|untagged| -> false
+
+# The status of a request with If-Match and with If-None-Match, for a file of a change number
+PUT |absent|absent|26| -> None
+PUT |"1a"|absent|26| -> None
+PUT |"1b"|absent|26| -> Some(412)
+PUT |W/"1a"|absent|26| -> Some(412)
+PUT |*|absent|26| -> None
+PUT |*|absent|nothing| -> Some(412)
+GET |absent|"1a"|26| -> Some(304)
+HEAD |absent|"1a"|26| -> Some(304)
+PUT |absent|"1a"|26| -> Some(412)
+GET |absent|"1b"|26| -> None
+PUT |absent|*|nothing| -> None
+PUT |absent|*|26| -> Some(412)
+GET |"1b"|*|26| -> Some(412)
+PUT |é|absent|nothing| -> None
+GET |absent|é|26| -> None
+
+# The paths of the lists of an If, and the tokens that it submits
+if |(<urn:a>) (["x"] Not <urn:b>)| -> /a; /a; urn:a; urn:b;
+if |<http://example.com/dav/b/../c> (<urn:a>)| -> /c; urn:a;
+if |<http://example.com/b> (<DAV:no-lock>)| -> none; DAV:no-lock;
+if |<http://example.com/dav> (["x"])| -> /;
+if |</dav/b> (<urn:a>)| -> nothing
+if |()| -> nothing
+"##;
+
+// The tag of what is found.
+fn tag_in(alloc: Global, text: &str) -> Result<Option<ETag>, Fail> {
     match text {
-        Some(text) => Ok(Some(ETag::from_str(alloc, text)?)),
-        None => Ok(None),
+        "nothing" | "untagged" => Ok(None),
+        _ => Ok(Some(ETag::from_str(alloc, text)?)),
     }
 }
 
-#[test]
-fn matches_lists(rt: HostRuntime) -> Result<(), Fail> {
-    let cases = [
-        ("*", true, None, true),
-        ("*", true, Some("W/\"a\""), true),
-        ("*", false, None, false),
-        ("\"a\", \"b\"", true, Some("\"b\""), true),
-        ("\"a\"", true, Some("\"b\""), false),
-        ("\"a\"", true, None, false),
-        ("\"a\"", false, None, false),
-        ("W/\"a\"", true, Some("\"a\""), false),
-        ("\"a\"", true, Some("W/\"a\""), false),
-        ("", true, Some("\"a\""), false),
-        ("\"\"", true, Some("\"\""), true),
-    ];
-    for (text, exists, tag, wanted) in cases {
-        let list = tags_in(rt.alloc(), text)?;
-        let tag = tag_in(rt.alloc(), tag)?;
-        assert_eq!(rt;
-            etaglist_match(&list, exists, tag.as_ref()),
-            wanted,
-            "{text}"
-        );
-    }
-    Ok(())
+// Whether a list of tags holds of what is found.
+fn list_holds(alloc: Global, text: &str, found: &str) -> Result<bool, Fail> {
+    let values = [HeaderValue::from_str(alloc, text)?];
+    let list = IfMatch::decode(alloc, &values)?.0;
+    let tag = tag_in(alloc, found)?;
+    Ok(etaglist_match(&list, found != "nothing", tag.as_ref()))
 }
 
-#[test]
-fn matches_the_tag_of_a_range(rt: HostRuntime) -> Result<(), Fail> {
-    let cases = [
-        ("\"a\"", Some("\"a\""), true),
-        ("\"a\"", Some("\"b\""), false),
-        ("W/\"a\"", Some("W/\"a\""), false),
-        ("\"a\"", None, false),
-    ];
-    for (text, tag, wanted) in cases {
-        let values = [HeaderValue::from_str(rt.alloc(), text)?];
-        let range = IfRange::decode(rt.alloc(), &values)?;
-        let tag = tag_in(rt.alloc(), tag)?;
-        assert_eq!(rt; ifrange_match(&range, tag.as_ref()), wanted, "{text}");
-    }
-    Ok(())
+// Whether the tag of a range is that of what is found.
+fn range_holds(alloc: Global, text: &str, found: &str) -> Result<bool, Fail> {
+    let values = [HeaderValue::from_str(alloc, text)?];
+    let range = IfRange::decode(alloc, &values)?;
+    let tag = tag_in(alloc, found)?;
+    Ok(ifrange_match(&range, tag.as_ref()))
 }
 
+// A request at /dav/a below /dav.
 fn request_of(alloc: Global, method: DavMethod) -> Result<DavRequest, Fail> {
     let mut path = DavPath::new(alloc, "/dav/a")?;
     path.set_prefix("/dav")?;
@@ -69,6 +87,17 @@ fn request_of(alloc: Global, method: DavMethod) -> Result<DavRequest, Fail> {
     })
 }
 
+// Adds a header that isn't absent.
+fn append(request: &mut DavRequest, alloc: Global, name: &str, text: &str) -> Result<(), Fail> {
+    if text != "absent" {
+        let name = HeaderName::from_bytes(alloc, name.as_bytes())?;
+        let value = HeaderValue::from_str(alloc, text)?;
+        request.headers.append(name, value)?;
+    }
+    Ok(())
+}
+
+// A file of a change number.
 fn file_of(number: u64) -> DavMetaData {
     DavMetaData {
         len: 3,
@@ -79,40 +108,95 @@ fn file_of(number: u64) -> DavMetaData {
     }
 }
 
-#[test]
-fn judges_if_match_and_if_none_match(rt: HostRuntime) -> Result<(), Fail> {
-    let cases = [
-        (DavMethod::Put, None, None, Some(26), 0),
-        (DavMethod::Put, Some("\"1a\""), None, Some(26), 0),
-        (DavMethod::Put, Some("\"1b\""), None, Some(26), 412),
-        (DavMethod::Put, Some("W/\"1a\""), None, Some(26), 412),
-        (DavMethod::Put, Some("*"), None, Some(26), 0),
-        (DavMethod::Put, Some("*"), None, None, 412),
-        (DavMethod::Get, None, Some("\"1a\""), Some(26), 304),
-        (DavMethod::Head, None, Some("\"1a\""), Some(26), 304),
-        (DavMethod::Put, None, Some("\"1a\""), Some(26), 412),
-        (DavMethod::Get, None, Some("\"1b\""), Some(26), 0),
-        (DavMethod::Put, None, Some("*"), None, 0),
-        (DavMethod::Put, None, Some("*"), Some(26), 412),
-        (DavMethod::Get, Some("\"1b\""), Some("*"), Some(26), 412),
-        (DavMethod::Put, Some("\u{e9}"), None, None, 0),
-        (DavMethod::Get, None, Some("\u{e9}"), Some(26), 0),
-    ];
-    for (method, if_match, if_none_match, number, wanted) in cases {
-        let mut request = request_of(rt.alloc(), method)?;
-        if let Some(text) = if_match {
-            let value = HeaderValue::from_str(rt.alloc(), text)?;
-            request.headers.append("if-match", value)?;
-        }
-        if let Some(text) = if_none_match {
-            let value = HeaderValue::from_str(rt.alloc(), text)?;
-            request.headers.append("if-none-match", value)?;
-        }
-        let found = number.map(file_of);
-        let status = http_if_match(rt.alloc(), &request, found.as_ref())?;
-        let status = status.map_or(0, |status| status.as_u16());
-        assert_eq!(rt; status, wanted);
+// The file that is found.
+fn found_in(text: &str) -> Result<Option<DavMetaData>, Fail> {
+    match text {
+        "nothing" => Ok(None),
+        _ => Ok(Some(file_of(text.parse::<u64>()?))),
     }
+}
+
+// The status of a request with these texts of If-Match and If-None-Match.
+fn status_of(alloc: Global, method: &str, texts: &str) -> Result<Option<u16>, Fail> {
+    let method = DavMethod::try_from(&Method::from_bytes(alloc, method.as_bytes())?)?;
+    let (if_match, texts) = texts.split_once('|').ok_or("a row lacks If-None-Match")?;
+    let (if_none_match, found) = texts.split_once('|').ok_or("a row lacks what is found")?;
+    let mut request = request_of(alloc, method)?;
+    append(&mut request, alloc, "if-match", if_match)?;
+    append(&mut request, alloc, "if-none-match", if_none_match)?;
+    let status = http_if_match(alloc, &request, found_in(found)?.as_ref())?;
+    match status {
+        Some(status) => Ok(Some(status.as_u16())),
+        None => Ok(None),
+    }
+}
+
+// The paths of lists.
+fn paths(alloc: Global, lists: &Option<Vec<Addressed>>) -> Result<String, Fail> {
+    let mut out = String::new(alloc);
+    if let Some(lists) = lists {
+        for list in lists {
+            match &list.path {
+                Some(path) => out.push_str(path.as_url_string()?.as_str())?,
+                None => out.push_str("none")?,
+            }
+            out.push_str("; ")?;
+        }
+    }
+    Ok(out)
+}
+
+// The paths of the lists of an If and the tokens that are submitted, each with a semicolon after it.
+fn spoken(alloc: Global, text: &str) -> Result<String, Fail> {
+    let mut request = request_of(alloc, DavMethod::Put)?;
+    append(&mut request, alloc, "if", text)?;
+    let lists = lists_in(alloc, &request, &request.path)?;
+    let mut out = paths(alloc, &lists)?;
+    for token in &submitted(alloc, &lists)? {
+        out.push_str(token.as_str())?;
+        out.push_str("; ")?;
+    }
+    if out.is_empty() {
+        out.push_str("nothing")?;
+    }
+    Ok(out)
+}
+
+// What is given of the texts of a row.
+fn outcome(alloc: Global, name: &str, texts: &str) -> Result<String, Fail> {
+    match name {
+        "if" => spoken(alloc, texts),
+        "list" => {
+            let (text, found) = texts.split_once('|').ok_or("a row has one text")?;
+            Ok(format!(in alloc; "{}", list_holds(alloc, text, found)?)?)
+        }
+        "range" => {
+            let (text, found) = texts.split_once('|').ok_or("a row has one text")?;
+            Ok(format!(in alloc; "{}", range_holds(alloc, text, found)?)?)
+        }
+        _ => Ok(format!(in alloc; "{:?}", status_of(alloc, name, texts)?)?),
+    }
+}
+
+// Plays a row; the test fails where the outcome isn't the wanted one.
+fn play(rt: &impl Abort, alloc: Global, row: &str) -> Result<(), Fail> {
+    let (name, texts, wanted) = parts(row).ok_or("a line is no row")?;
+    let texts = texts.strip_suffix('|').ok_or("a row has no texts")?;
+    let outcome = outcome(alloc, name, texts)?;
+    assert!(rt; outcome.trim_ascii() == wanted, "{row}\ngives: {outcome}");
+    Ok(())
+}
+
+#[test]
+fn checks_conditions(rt: HostRuntime) -> Result<(), Fail> {
+    let mut count = 0u32;
+    for line in ROWS.lines() {
+        if is_row(line) {
+            play(&rt, rt.alloc(), line)?;
+            count = count.wrapping_add(1);
+        }
+    }
+    same(&rt, &count, &36);
     Ok(())
 }
 
@@ -122,54 +206,10 @@ fn knows_what_stars_want(rt: HostRuntime) -> Result<(), Fail> {
     let absent = Conditions::decode(rt.alloc(), &request, &request.path)?;
     assert!(rt; !absent.wants_something());
     assert!(rt; !absent.wants_nothing());
-    let star = HeaderValue::from_static("*");
-    request.headers.append("if-match", star)?;
-    let tag = HeaderValue::from_static("\"a\"");
-    request.headers.append("if-none-match", tag)?;
+    append(&mut request, rt.alloc(), "if-match", "*")?;
+    append(&mut request, rt.alloc(), "if-none-match", "\"a\"")?;
     let present = Conditions::decode(rt.alloc(), &request, &request.path)?;
     assert!(rt; present.wants_something());
     assert!(rt; !present.wants_nothing());
-    Ok(())
-}
-
-// The paths that the lists speak of and the tokens that are submitted, each with a semicolon behind it.
-fn spoken(alloc: Global, text: &str) -> Result<String, Fail> {
-    let mut request = request_of(alloc, DavMethod::Put)?;
-    let value = HeaderValue::from_str(alloc, text)?;
-    request.headers.append("if", value)?;
-    let lists = lists_in(alloc, &request, &request.path)?;
-    let mut out = String::new(alloc);
-    if let Some(lists) = &lists {
-        for list in lists {
-            match &list.path {
-                Some(path) => out.push_str(path.as_url_string()?.as_str())?,
-                None => out.push_str("none")?,
-            }
-            out.push_str("; ")?;
-        }
-    }
-    for token in &submitted(alloc, &lists)? {
-        out.push_str(token.as_str())?;
-        out.push_str("; ")?;
-    }
-    Ok(out)
-}
-
-#[test]
-fn reads_what_lists_speak_of(rt: HostRuntime) -> Result<(), Fail> {
-    let cases = [
-        ("(<urn:a>) ([\"x\"] Not <urn:b>)", "/a; /a; urn:a; urn:b; "),
-        ("<http://example.com/dav/b/../c> (<urn:a>)", "/c; urn:a; "),
-        (
-            "<http://example.com/b> (<DAV:no-lock>)",
-            "none; DAV:no-lock; ",
-        ),
-        ("<http://example.com/dav> ([\"x\"])", "/; "),
-        ("</dav/b> (<urn:a>)", ""),
-        ("()", ""),
-    ];
-    for (text, wanted) in cases {
-        assert_eq!(rt; spoken(rt.alloc(), text)?.as_str(), wanted, "{text}");
-    }
     Ok(())
 }
