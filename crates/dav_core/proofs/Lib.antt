@@ -32,3 +32,4 @@ pub mod GoneLemmas
 pub mod CopyLemmas
 pub mod EqualLemmas
 pub mod ListedLocks
+pub mod CoveringLocks

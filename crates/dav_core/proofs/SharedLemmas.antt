@@ -45,10 +45,10 @@ either_way false true false h = cc
 either_way false false c h = cc
 
 -- how a lock covers a path: it is on it, or it is deep and on a proper front of it
-abbrev Covering : Lock → Path → Type 0
+abbrev pub Covering : Lock → Path → Type 0
 Covering l p = (names l.path ≡ p) ⊎ ((x : List ℕ) × (r : Path) × (l.deep ≡ true) × (p ≡ names l.path ++ x ∷ r))
 
-covering : (l : Lock) (p : Path) → covers l p ≡ true → Covering l p
+pub covering : (l : Lock) (p : Path) → covers l p ≡ true → Covering l p
 covering l p h =
     elim (either_way (is_same_path (names l.path) p) l.deep (is_below (names l.path) p) h) as (λ _. Covering l p) [
       | inl same ↦ inl (same_path (names l.path) p same)
@@ -56,7 +56,7 @@ covering l p h =
     ]
 
 -- in both ways it is on a front of the path
-front_of : (l : Lock) (p : Path) → Covering l p → (r : Path) × (p ≡ names l.path ++ r)
+pub front_of : (l : Lock) (p : Path) → Covering l p → (r : Path) × (p ≡ names l.path ++ r)
 front_of l p (inl e) = ([], sym (append-nil (names l.path) ∙ e))
 front_of l p (inr (x, r, deep, e)) = (x ∷ r, e)
 

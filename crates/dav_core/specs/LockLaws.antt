@@ -1,9 +1,9 @@
 -- What holds of every list of locks: the statements of the laws.
-use Rattle.std.specs.Prelude.{◌≡◌, ◌≢◌, ℕ, ◌++◌, ◌∷◌, [], Bool, true, false, not, List, All, AllPairs, Contains, Option, Some}
+use Rattle.std.specs.Prelude.{◌≡◌, ◌≢◌, ◌↔◌, ℕ, ◌++◌, ◌∷◌, [], Bool, true, false, not, List, All, AllPairs, Contains, Option, Some}
 use Rattle.std.specs.Option.{is_some}
 use Rattle.std.specs.List.{list_all}
 use Rattle.dav_core.specs.Path.{Path, names, is_at_or_below}
-use Rattle.dav_core.specs.Locks.{Lock, Asker, covers, is_held, is_free, is_free_deep, is_free_for, is_in_the_way, is_grantable, unlocked, refreshed, refreshed_lock, deleted}
+use Rattle.dav_core.specs.Locks.{Lock, Asker, covers, is_held, is_free, is_free_deep, is_free_for, is_in_the_way, is_grantable, unlocked, refreshed, refreshed_lock, discovered, deleted}
 
 -- where a path is free, whoever asks holds each exclusive lock that covers it
 abbrev pub FreeHoldsExclusive : Type 0
@@ -80,3 +80,7 @@ RefreshChangesOne =
     → refreshed token p timeout now ls ≡ Some new
     → (l : Lock) × (front : List Lock) × (back : List Lock) × IsMeant token p l
     × (ls ≡ front ++ l ∷ back) × (new ≡ front ++ refreshed_lock timeout now l ∷ back)
+
+-- the locks that are listed for a path are those of the list that cover it (RFC 4918, section 6.8)
+abbrev pub DiscoveredAreCovering : Type 0
+DiscoveredAreCovering = (p : Path) (ls : List Lock) (l : Lock) → Contains (discovered p ls) l ↔ (Contains ls l × (covers l p ≡ true))

@@ -4,7 +4,7 @@ pub mod calls;
 
 ghost use Rattle.std.specs.Prelude.{◌≡◌, [], ◌∷◌};
 ghost use Rattle.dav_core.specs.Laws.{LeavesOnePath, LeavesNoFault, OneFault, ReadsOnePath, ReadIsNotRefused, OneRefusal, KeepsNames, ReadsNames, StarHasNoNames, ReadsAgain, NamesReadAgain, SameText, SlashKeepsNames, AddsName, AddsSegment, NamesAreSegments, NameIsSegment, ParentOfNames, CutsAtNames, CutKeepsNames, EmptyIsWorld, NewKeepsWorld, ChangeKeepsWorld, OneMethod, NameNames, MembersAreHad, SameMethodsSameSet, EqualToItself, EqualBothWays, EqualThrough};
-ghost use Rattle.dav_core.specs.LockLaws.{FreeHoldsExclusive, FreeDeepHoldsBelow, FreeIsNothingInTheWay, GrantedCanBeUnlocked, TakenBack, CoveringAreShared, GrantedAreShared, UnlockedAreShared, RefreshedAreShared, DeletedAreShared, UnlockTakesOne, RefreshChangesOne};
+ghost use Rattle.dav_core.specs.LockLaws.{FreeHoldsExclusive, FreeDeepHoldsBelow, FreeIsNothingInTheWay, GrantedCanBeUnlocked, TakenBack, CoveringAreShared, GrantedAreShared, UnlockedAreShared, RefreshedAreShared, DeletedAreShared, UnlockTakesOne, RefreshChangesOne, DiscoveredAreCovering};
 ghost use Rattle.dav_core.specs.Method.{all_methods, members};
 
 use crate::method::{DavMethod, DavMethodSet};
@@ -89,9 +89,11 @@ pub fn locks_exclude()
     ensures deleted { DeletedAreShared }
 {}
 
-/// An unlock takes one lock away, and a refresh gives one lock a new timeout: one with this token, on the path or above it. All
-/// other locks stay as they are, in their places (RFC 4918, sections 9.10.2 and 9.11).
-pub fn one_lock_changes()
+/// The locks that are listed for a path are those that cover it. An unlock takes one lock away, and a refresh gives one lock a new
+/// timeout: one with this token, on the path or above it. All other locks stay as they are, in their places (RFC 4918, sections 6.8,
+/// 9.10.2 and 9.11).
+pub fn lock_lists_are_read()
+    ensures discovered { DiscoveredAreCovering }
     ensures unlocked { UnlockTakesOne }
     ensures refreshed { RefreshChangesOne }
 {}
