@@ -36,7 +36,7 @@ MovedStands =
     → find path_cmp q (moved from to ns) ≡ option_or (option_and_then (λ rest. find path_cmp (from ++ rest) ns) (rest_after to q))
     (if is_at_or_below to q then None else if is_at_or_below from q then None else find path_cmp q ns)
 
--- a touch of p changes when the parent of p was last changed, and leaves everything else as before
+-- a touch of p sets when the node at its parent was last changed, and leaves everything else as before
 abbrev pub TouchedIsModified : Type 0
 TouchedIsModified =
     (p : Path) (now : ℕ) (q : Path) (ns : Nodes)
