@@ -23,12 +23,12 @@ use Rattle.dav_core.proofs.NodesLemmas.{differ_from, same_path}
 use Rattle.dav_core.proofs.MemberLemmas.{nothing_below}
 use Rattle.dav_core.proofs.CarriedLemmas.{Same, renamed_world}
 
--- a call that wasn't refused passed the test
+-- where a call isn't refused, the test that would refuse it is false
 pub went_on : {A : Type 0} (b : Bool) (e : FsError) (m : Meaning A) (r : A × World) → refuse_if b e m ≡ Ok r → (b ≡ false) × (m ≡ Ok r)
 went_on true e m r h = cc
 went_on false e m r h = (refl, h)
 
--- and found its node there
+-- and its node is there
 pub found : {A : Type 0} (o : Option Node) (f : Node → Meaning A) (r : A × World) → at_node o f ≡ Ok r → (n : Node) × (o ≡ Some n) × (f n ≡ Ok r)
 found None f r h = cc
 found (Some n) f r h = (n, refl, h)

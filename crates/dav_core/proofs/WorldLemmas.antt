@@ -25,7 +25,7 @@ root_is_sound = record {
   modified = omega arith;
 }
 
--- any number of the root that is below the next numbers an empty world
+-- in the empty world the numbers of nodes differ and are below the next, where the root's number is below it
 numbered : (tag : Node → ℕ) (next : ℕ) → tag (fresh 0 Folder 0) < next → IsNumbered tag (empty_from next)
 numbered tag next small = record {
   below = λ p n e. subst (λ (m : Node). tag m < next) (only_root p n e).1 small;

@@ -46,7 +46,7 @@ TouchedIsModified =
 abbrev pub PutStands : Type 0
 PutStands = (p : Path) (n : Node) (q : Path) (ns : Nodes) → find path_cmp q (put path_cmp p n ns) ≡ (if is_same_path q p then Some n else find path_cmp q ns)
 
--- nodes in order of their paths are in order after it
+-- nodes that are in order of their paths are still in order after the change
 abbrev pub KeepsOrder : (Nodes → Nodes) → Type 0
 KeepsOrder change = (ns : Nodes) → T (is_sorted path_cmp ns) → T (is_sorted path_cmp (change ns))
 
@@ -70,8 +70,8 @@ AdjustKeepsOrder = (p : Path) (f : Node → Node) → KeepsOrder (adjust p f)
 abbrev pub IsStorable : Path → Type 0
 IsStorable p = All IsName p × All (All (λ b. b < 256)) p
 
--- A call that a caller may make: at a path where it may put something a node may be, and a moment that it may store can
--- be shown as an HTTP date.
+-- A call that a caller may make: each path at which it may put something is one where a node may be, and each moment that
+-- it may store can be shown as an HTTP date.
 abbrev pub IsProper : Call → Type 0
 IsProper (CreateDir p now) = IsStorable p × (now ≤ last_moment)
 IsProper (RemoveDir p now) = now ≤ last_moment

@@ -35,7 +35,7 @@ write_place file bytes = if file.appends then length bytes else file.position
 abbrev pub place_within : ℤ → Option ℕ
 place_within z = if int_lt z (pos 0) then None else if nat_lt max_u64 (nat_abs z) then None else Some (nat_abs z)
 
--- where a seek goes from a place in a file of this length
+-- the position to which a seek moves from a position in a file of this length
 abbrev pub place_for : SeekFrom → ℕ → ℕ → Option ℕ
 place_for (Start k) position len = Some k
 place_for (End offset) position len = place_within (pos len +ℤ offset)

@@ -26,7 +26,7 @@ OneFault = (ps : List (List ℕ)) → Climbs ps → ¬ HasBadPiece ps
 abbrev pub ReadsOnePath : Type 0
 ReadsOnePath = (src a b : List ℕ) → Reads src a → Reads src b → a ≡ b
 
--- a text that is read isn't refused
+-- a text that is read isn't refused, neither as an invalid path nor as a forbidden one
 abbrev pub ReadIsNotRefused : Type 0
 ReadIsNotRefused =
     (src a : List ℕ) → Reads src a → ¬ IsRefused src InvalidPath × ¬ IsRefused src ForbiddenPath
@@ -125,11 +125,11 @@ ParentOfNames =
     (ns : Path) (closed : Bool)
     → All IsName ns → parent_bytes (path_bytes ns closed) ≡ path_bytes (parent_of ns) true
 
--- a name is that of one method, also where ASCII case is ignored
+-- a text names one method at most, also where ASCII case is ignored
 abbrev pub OneMethod : Type 0
 OneMethod = (text : List ℕ) (m n : DavMethod) → Names text m → Names text n → m ≡ n
 
--- a method's name is one of its names without regard to case
+-- a method's name names the method
 abbrev pub NameNames : Type 0
 NameNames = (m : DavMethod) → Names (method_name m) m
 

@@ -72,7 +72,7 @@ UnlockTakesOne =
     → unlocked token p ls ≡ Some left
     → (l : Lock) × (front : List Lock) × (back : List Lock) × IsMeant token p l × (ls ≡ front ++ l ∷ back) × (left ≡ front ++ back)
 
--- a refresh gives one lock that is meant a new timeout; it keeps its place and all else, and so do all others
+-- a refresh gives one lock that is meant a new timeout, and changes nothing else of it; all locks keep their places
 -- (RFC 4918, section 9.10.2)
 abbrev pub RefreshChangesOne : Type 0
 RefreshChangesOne =

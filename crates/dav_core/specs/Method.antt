@@ -35,7 +35,7 @@ method_name Report = codes "REPORT"
 method_name MkCalendar = codes "MKCALENDAR"
 method_name MkAddressbook = codes "MKADDRESSBOOK"
 
--- the method that the text is the name of; no method has another name
+-- the method whose name the text is, byte for byte; `UnknownDavMethod` where it is the name of none
 abbrev pub GivesMethod : List ℕ → Result DavMethod DavError → Type 0
 GivesMethod text (Ok m) = text ≡ method_name m
 GivesMethod text (Err e) = (e ≡ dav.UnknownDavMethod) × ((m : DavMethod) → text ≢ method_name m)

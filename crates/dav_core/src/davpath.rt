@@ -50,9 +50,9 @@ impl DavPath {
     /// (RFC 3986, section 2.1), without empty and `.` segments, and with each `..` and the name before it removed
     /// (section 5.2.4).
     ///
-    /// `*` alone is the star path. `InvalidPath` where any other text doesn't begin with a slash, holds `#` or a byte outside
-    /// 32 to 126, or has a zero byte or a slash in a decoded segment; `ForbiddenPath` where it climbs above the root. The first
-    /// segment that is refused decides which.
+    /// `*` alone is the star path. `InvalidPath` where any other text doesn't begin with a slash, holds `#` or a byte
+    /// outside 32 to 126, or has a zero byte or a slash in a decoded segment; `ForbiddenPath` where it climbs above the
+    /// root. The first segment that is refused decides which.
     pub fn new(alloc: Global, src: &str) -> Result<DavPath, ParseError>
         ensures ok { IfOk result (λ p. (p.prefix ≡ []) × Reads src.now p.bytes) }
         ensures err { IfErr result (IsRefused src.now) }
@@ -203,7 +203,8 @@ impl DavPath {
         self.push_segment(b"")
     }
 
-    /// Adds a slash at the end of the path if `wanted`, where there is none. Where memory runs out, the path stays as it was.
+    /// Adds a slash at the end of the path if `wanted`, where there is none. Where memory runs out, the path stays as it
+    /// was.
     pub fn add_slash_if(&mut self, wanted: bool) -> Result<(), NoMemory>
         ensures ok { OnOk result (self.new ≡ (if wanted then with_bytes self.old (with_slash self.old.bytes) else self.old)) }
         ensures err { OnErr result (self.new ≡ self.old) }
@@ -214,8 +215,8 @@ impl DavPath {
         Ok(())
     }
 
-    /// Adds a name at the end of the path, and before it a slash where the path doesn't end in one. Where memory runs out, the
-    /// path stays as it was.
+    /// Adds a name at the end of the path, after a slash, which is added where the path doesn't end in one. Where memory
+    /// runs out, the path stays as it was.
     pub fn push_segment(&mut self, name: &[u8]) -> Result<(), NoMemory>
         ensures ok { OnOk result (self.new ≡ with_bytes self.old (with_slash self.old.bytes ++ name.now)) }
         ensures err { OnErr result (self.new ≡ self.old) }

@@ -271,9 +271,9 @@ pub trait DavFileSystem {
         requires { now ≤ last_moment }
         ensures { Asks (RemoveFile (names path.now) now) (state self.old) result (state self.new) };
 
-    /// Moves what is at a path, with everything below it, to another path, in the place of what is there. `Forbidden` from or to
-    /// the root; `NotFound`; nothing changes where both are one path; `Forbidden` to a path below itself; `NotFound` without a
-    /// folder above; `Exists` onto a folder with members.
+    /// Moves what is at a path, with everything below it, to another path, in the place of what is there. `Forbidden`
+    /// from or to the root; `NotFound`; nothing changes where both are one path; `Forbidden` to a path below itself;
+    /// `NotFound` without a folder above; `Exists` onto a folder with members.
     fn rename(&mut self, alloc: Global, from: &DavPath, to: &DavPath, now: u64) -> FsResult<()>
         requires { now ≤ last_moment }
         ensures { Asks (Rename (names from.now) (names to.now) now) (state self.old) result (state self.new) };

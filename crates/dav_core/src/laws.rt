@@ -9,8 +9,8 @@ ghost use Rattle.dav_core.specs.Method.{all_methods, members};
 
 use crate::method::{DavMethod, DavMethodSet};
 
-/// A text is read as one path at most, and refused for one reason at most, and not both: the pieces between slashes
-/// leave one path, or the first of them that is refused decides (RFC 3986, sections 3.3 and 5.2.4).
+/// Apart from memory that runs out, a text is read as one path at most, and refused for one reason at most, and not both: the
+/// pieces between slashes leave one path, or the first of them that is refused decides (RFC 3986, sections 3.3 and 5.2.4).
 pub fn one_reading()
     ensures leaves { LeavesOnePath }
     ensures leaves_no_fault { LeavesNoFault }

@@ -92,8 +92,8 @@ pub trait DavLockSystem {
     /// The locks, in the order of granting.
     ghost locks: { Self → List Lock };
 
-    /// Grants a lock (RFC 4918, section 9.10). `Conflict` for an exclusive lock where any lock covers the path, for a shared one
-    /// where an exclusive lock does, and for one of infinite depth where any lock is below the path.
+    /// Grants a lock (RFC 4918, section 9.10). `Conflict` for an exclusive lock where any lock covers the path, for a
+    /// shared one where an exclusive lock does, and for one of infinite depth where any lock is below the path.
     fn lock(
         &mut self,
         alloc: Global,
@@ -111,8 +111,9 @@ pub trait DavLockSystem {
         ensures err { IfErr result (λ e. IsRefusedGrant e (is_grantable (new_lock token.now path.now (option_copied principal.entry) (option_copied owner.entry) timeout shared deep now) (locks self.old))) }
         ensures same { OnErr result (locks self.new ≡ locks self.old) };
 
-    /// Ends the lock that a token and a path mean (RFC 4918, section 9.11): of the locks with this token that are on the path or
-    /// above it the one with the shortest path, and of several the one that was granted first. `Err` where there is none.
+    /// Ends the lock that a token and a path mean (RFC 4918, section 9.11): of the locks with this token that are on the
+    /// path or above it the one with the shortest path, and of several with that path the one that was granted first.
+    /// `Err` where there is none.
     fn unlock(&mut self, path: &DavPath, token: &str) -> Result<(), ()>
         ensures ok { OnOk result (unlocked token.now (names path.now) (locks self.old) ≡ Some (locks self.new)) }
         ensures err { OnErr result ((unlocked token.now (names path.now) (locks self.old) ≡ None) × (locks self.new ≡ locks self.old)) };
@@ -132,10 +133,10 @@ pub trait DavLockSystem {
         ensures err { IfErr result (λ e. IsRefusedRefresh e (named_lock token.now (names path.now) (locks self.old))) }
         ensures same { OnErr result (locks self.new ≡ locks self.old) };
 
-    /// Whether a path is free for the requester that submits these tokens (RFC 4918, section 7.5): it holds each exclusive lock
-    /// that covers the path, and at least one covering lock if there is any; with `deep`, where the path is checked with
-    /// everything below, it holds each lock at the path and below it too. A lock is held where its token is submitted by its
-    /// principal, or by anyone where the principal is ignored. `Err` lends one lock that conflicts.
+    /// Whether a path is free for the requester that submits these tokens (RFC 4918, section 7.5): it holds each
+    /// exclusive lock that covers the path, and at least one covering lock if there is any; where the path is checked
+    /// with everything below (`deep`), it holds each lock at the path and below it too. A lock is held where its token is
+    /// submitted by its principal, or by anyone where the principal is ignored. `Err` lends one lock that conflicts.
     fn check(
         &self,
         path: &DavPath,

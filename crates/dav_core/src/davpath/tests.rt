@@ -4,7 +4,7 @@ use std::process::Abort;
 use std::str;
 use std::test::Fail;
 
-// A row: what is done, one or two texts between bars, ` -> `, and the outcome: what is given between bars, or an error's name.
+// A row: what is done, one or two texts between bars, ` -> `, and the outcome: results between bars, or an error's name.
 const ROWS: &str = "
 # The bytes of a path
 new |/a/./b//c/../d%20e/?q=1| -> |/a/b/d e/|
