@@ -28,7 +28,7 @@ clean_step : (b : ℕ) (parts : List (List ℕ)) (c : Bool) → (b == 47) ≡ c 
 clean_step b parts true is all = All-cons Clean [] parts (All-nil (λ c. c ≢ 47)) all
 clean_step b parts false is all = clean_first b (λ e. grind (arith, nat_tests)) parts all
 
--- no slash stands in a piece
+-- a piece has no slash in it
 clean_pieces : (bytes : List ℕ) → All Clean (split bytes)
 clean_pieces [] = All-cons Clean [] [] (All-nil (λ c. c ≢ 47)) (All-nil Clean)
 clean_pieces (b ∷ bs) = clean_step b (split bs) (b == 47) refl (clean_pieces bs)
@@ -70,7 +70,7 @@ split_step : (b : ℕ) (whole parts more : List (List ℕ)) (c : Bool) → whole
 split_step b whole parts more true ih some = ap (λ ps. [] ∷ ps) ih
 split_step b whole parts more false ih some = ap (onto_first b) ih ∙ put_first b parts more some
 
--- what stands on both sides of a slash is cut apart
+-- the pieces before a slash and those after it
 split_at : (xs ys : List ℕ) → split (xs ++ 47 ∷ ys) ≡ split xs ++ split ys
 split_at [] ys = refl
 split_at (x ∷ xs) ys = split_step x (split (xs ++ 47 ∷ ys)) (split xs) (split ys) (x == 47) (split_at xs ys) (some_pieces xs)
@@ -81,7 +81,7 @@ names_at xs ys = ap (filter is_nonempty) (split_at xs ys) ∙ filter-append is_n
 no_slash : (n : List ℕ) → Clean n → All (λ b. (b == 47) ≡ false) n
 no_slash n clean = All-weaker (λ b. b ≢ 47) (λ b. (b == 47) ≡ false) (λ b h. grind (arith, nat_tests, h)) n clean
 
--- a segment is its one name
+-- the bytes of a segment have one name, the segment
 one_name : (n : List ℕ) → IsSegment n → names_in n ≡ n ∷ []
 one_name [] segment = absurd (segment.0 refl)
 one_name (b ∷ n) segment = ap (filter is_nonempty) (slice_split_none (λ c. c == 47) (b ∷ n) (no_slash (b ∷ n) segment.1))
@@ -101,7 +101,7 @@ not_star_at : (xs ys : List ℕ) → xs ++ 47 ∷ ys ≢ star
 not_star_at [] ys e = let same : ◌≡◌ {A = ℕ} 47 42 = cc in absurd (omega (arith, same))
 not_star_at (x ∷ xs) ys e = let rest : xs ++ 47 ∷ ys ≡ [] = cc in never_empty xs ys rest
 
--- a segment behind a slash is one more name
+-- a segment after a slash is one more name
 added : (xs n : List ℕ) → IsSegment n → names_of (xs ++ 47 ∷ n) ≡ names_in xs ++ n ∷ []
 added xs n segment = names_other (xs ++ 47 ∷ n) (not_star_at xs n) ∙ names_at xs n ∙ ap (λ ns. names_in xs ++ ns) (one_name n segment)
 

@@ -13,7 +13,7 @@ use Rattle.dav_core.specs.Target.{Cancels, Leaves, IsRooted, IsRefused, pieces_o
 use Rattle.dav_core.specs.Buffer.{Kept, Refuses, IsRefusedBy, IsLastSlash}
 use Rattle.dav_core.proofs.TargetLemmas.{Leaves-blank, Leaves-name, Leaves-parent, not_star}
 
--- a slash with no slash behind it stands where the rest of the list begins
+-- where the last slash of a buffer is
 no_other_place : (front back buf : List ℕ) (i : ℕ) → buf ≡ front ++ 47 ∷ back → All (λ b. b ≢ 47) back → i < length buf → get_or buf i 0 ≡ 47 → ((k : ℕ) → i < k → k < length buf → get_or buf k 0 ≢ 47) → (length front < i → ⊥) × (i < length front → ⊥)
 no_other_place front back buf i e clean within here beyond =
     let len : length buf ≡ length front + length (47 ∷ back) = ap length e ∙ length-append front (47 ∷ back) in
@@ -97,7 +97,7 @@ Kept_cases ps buf (ns, leaves, is) =
           })
     ]
 
--- the buffer cut at its last slash has the last name taken away
+-- the buffer cut at its last slash has all names but the last
 pub drops_last : (ps : List (List ℕ)) (buf : List ℕ) (i : ℕ) → IsLastSlash buf (Some i) → Kept ps buf → Kept (ps ++ parent_piece ∷ []) (take i buf)
 drops_last ps buf i at kept =
     elim (Kept_cases ps buf kept) [
@@ -118,24 +118,24 @@ drops_none ps buf at kept =
           cc
     ]
 
--- a name behind a slash is one more name
+-- a name after a slash is one more name
 pub adds_name : (ps : List (List ℕ)) (buf p new : List ℕ) → new ≡ buf ++ 47 ∷ p → IsName p → Kept ps buf → Kept (ps ++ p ∷ []) new
 adds_name ps buf p new e name k =
     (k.0 ++ p ∷ [], Leaves-name ps k.0 p k.1 name, e ∙ ap (λ xs. xs ++ 47 ∷ p) k.2 ∙ sym (joined_push k.0 p))
 
--- a blank piece that was taken away again
+-- a blank piece that was cut off again changes nothing
 pub adds_blank : (ps : List (List ℕ)) (buf p new : List ℕ) (n : ℕ) → new ≡ buf ++ 47 ∷ p → n ≡ length buf → IsBlank p → Kept ps buf → Kept (ps ++ p ∷ []) (take n new)
 adds_blank ps buf p new n e at b k =
     (k.0, Leaves-blank ps k.0 p k.1 b, front_of buf p new n e at ∙ k.2)
 
--- a piece that is refused decides for all
+-- a piece that is refused is why all the pieces are refused
 pub Refuses_first : (ps rest : List (List ℕ)) (p : List ℕ) (e : ParseError) (buf : List ℕ) → Kept ps buf → Refuses ps p e → IsRefusedBy (ps ++ p ∷ rest) e
 Refuses_first ps rest p InvalidPath buf k h = (ps, k.0, p, rest, k.1, h, refl)
 Refuses_first ps rest p PrefixMismatch buf k h = h
 Refuses_first ps rest p ForbiddenPath buf k h = (ps, rest, h.0, rw h.1 refl)
 Refuses_first ps rest p Memory buf k h = tt
 
--- a piece of a text that is refused decides for the text
+-- a piece of a text that is refused is why the pieces of the text are refused
 pub refused_at : (src text : List ℕ) (before rest : List (List ℕ)) (p : List ℕ) (e : ParseError) (buf : List ℕ) → text ≡ text_of src → slice_split (λ b. b == 47) text ≡ before ++ p ∷ rest → Kept (map percent_decode before) buf → Refuses (map percent_decode before) (percent_decode p) e → IsRefusedBy (pieces_of src) e
 refused_at src text before rest p e buf is split kept why =
     let pieces : pieces_of src ≡ map percent_decode before ++ percent_decode p ∷ map percent_decode rest = ap (λ t. map percent_decode (slice_split (λ b. b == 47) t)) (sym is) ∙ ap (map percent_decode) split ∙ map-append percent_decode before (p ∷ rest) in

@@ -108,7 +108,7 @@ prune_by : (p q : Path) (ns : Nodes) (m : Node) (b : Bool) → is_at_or_below p 
 prune_by p q ns m true is h = cc
 prune_by p q ns m false is h = (is, h)
 
--- what is left by a prune stood there, and not at the path or below it
+-- what is left after a prune was there before, and not at the path or below it
 pub back-prune : (p : Path) (ns : Nodes) (q : Path) (m : Node) → find path_cmp q (prune p ns) ≡ Some m → (is_at_or_below p q ≡ false) × (find path_cmp q ns ≡ Some m)
 back-prune p ns q m h = prune_by p q ns m (is_at_or_below p q) refl (sym (find-prune p q ns) ∙ h)
 
@@ -151,7 +151,7 @@ stays-moved from to q ns a b =
     ∙ ap (λ (o : Option Path). option_or (option_and_then (λ rest. find path_cmp (from ++ rest) ns) o) (cond (is_some o) None (cond (is_at_or_below from q) None (find path_cmp q ns)))) (no_rest to q b)
     ∙ ap (λ c. cond c None (find path_cmp q ns)) a
 
--- what was behind the one is behind the other
+-- what was at a path below `from`, or at it, is at the same path below `to`
 pub arrives-moved : (from to r : Path) (ns : Nodes) → find path_cmp (to ++ r) (moved from to ns) ≡ find path_cmp (from ++ r) ns
 arrives-moved from to r ns =
     find-moved from to (to ++ r) ns
@@ -247,7 +247,7 @@ abbrev pub renamed_world : World → Path → Path → ℕ → World
 renamed_world w from to now = record w { nodes = touched from now (touched to now (moved from to w.nodes)) }
 
 module _ (w : World) (from to : Path) (now : ℕ) (small : now ≤ last_moment) where
-  -- what stands at a path after a rename came from another one, or stayed
+  -- what is at a path after a rename came from another path, or stayed
   pub back-renamed : (q : Path) (m : Node) → find path_cmp q (renamed_world w from to now).nodes ≡ Some m
       → (s : Path) × (n : Node) × CameBy from to q s × (find path_cmp s w.nodes ≡ Some n) × Same n m
   back-renamed q m h =

@@ -1,4 +1,4 @@
--- What a copy brings, and what copies and removals spare.
+-- What a copy makes, and what copies and removals leave alone.
 use Rattle.std.proofs.Common.{◌≡◌, ℕ, ◌==◌, Bool, true, false, not, cond, Option, Some, None, Ok, Err, ◌⊎◌, inl, inr, refl, sym, ap, subst, ◌∙◌}
 use Rattle.std.specs.Option.{is_none, option_map}
 use Rattle.std.specs.FinMap.{find, put}

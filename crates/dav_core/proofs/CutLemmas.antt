@@ -1,4 +1,4 @@
--- A path of names that is cut behind a prefix.
+-- A path of names that is cut after a prefix.
 use Rattle.std.proofs.Common.{◌≡◌, ◌≢◌, ℕ, ◌==◌, Bool, true, false, List, [], ◌∷◌, ◌++◌, All, Option, Some, None, if◌then◌else◌, cond, refl, sym, ap, subst, ◌∙◌, append_assoc}
 use Rattle.std.proofs.lemmas.Bool.{eqb-true, eq-eqb}
 use Rattle.std.proofs.lemmas.List.{append-nil}
@@ -7,7 +7,7 @@ use Rattle.dav_core.specs.Path.{Path, PathText, IsName, joined, path_bytes, name
 use Rattle.dav_core.specs.Laws.{CutsAtNames, CutKeepsNames}
 use Rattle.dav_core.proofs.TargetLemmas.{ending, names_kept}
 
--- ---- behind names
+-- ---- after names
 
 -- what follows a front of a text
 behind_front : (p rest : List ℕ) → behind p (p ++ rest) ≡ Some rest
@@ -31,7 +31,7 @@ cuts_at_names (p ∷ ps) ns closed =
     ∙ ap (cut_at (joined (p ∷ ps))) (behind_front (joined (p ∷ ps)) (joined ns ++ ending closed))
     ∙ cut_rest (joined (p ∷ ps)) ns closed
 
--- ---- behind any prefix
+-- ---- after any prefix
 
 behind_step : (b c : ℕ) (p bytes rest : List ℕ) (t : Bool) → (b == c) ≡ t → (behind p bytes ≡ Some rest → bytes ≡ p ++ rest) → cond t (behind p bytes) None ≡ Some rest → c ∷ bytes ≡ b ∷ (p ++ rest)
 behind_step b c p bytes rest true is ih h = let same : b ≡ c = eqb-true b c is in let tail = ih h in λ i. sym same i ∷ tail i
@@ -106,7 +106,7 @@ CutBetween names prefix cut = (ns : Path) × (end : Bool) × (names ≡ names_of
 cut_bytes : (p bytes : List ℕ) (cut : PathText) → ◌≡◌ {A = Option PathText} (Some (record { prefix = p; bytes = bytes })) (Some cut) → cut.bytes ≡ bytes
 cut_bytes p bytes cut h = cc
 
--- a path of names as its names and what stands behind the last
+-- a path of names as its names and what comes after the last
 ended : (names : Path) (closed : Bool) → (end : Bool) × (path_bytes names closed ≡ joined names ++ ending end)
 ended [] closed = (true, refl)
 ended (n ∷ ns) closed = (closed, refl)

@@ -24,7 +24,7 @@ past : (b : Bool) (m n : ℕ) (rest : Bool) → cond (not b) (1 + m) 0 ≡ suc n
 past false m n rest e h = h (omega (arith, e))
 past true m n rest e h = absurd (omega (arith, e))
 
--- where the first place is the end, none passes
+-- where the first place of an item that passes is the length, none passes
 pub list_any_past : {X : Type 0} (p : X → Bool) (xs : List X) → position_or_len p xs ≡ length xs → list_any p xs ≡ false
 list_any_past p [] e = refl
 list_any_past p (x ∷ xs) e = past (p x) (position_or_len p xs) (length xs) (list_any p xs) e (list_any_past p xs)
@@ -69,7 +69,7 @@ and_false : (a b : Bool) → b ≡ false → (a && b) ≡ false
 and_false true b e = e
 and_false false b e = refl
 
--- unlike numbers of trees are not equal
+-- lists of trees of different lengths are not equal
 pub trees_eq_length : {X : Type 0} (f : X → ElementTree) (xs ys : List X) → length xs ≢ length ys → trees_eq (trees (map f xs)) (trees (map f ys)) ≡ false
 trees_eq_length f [] [] ne = absurd (ne refl)
 trees_eq_length f [] (y ∷ ys) ne = refl

@@ -10,15 +10,15 @@ use Rattle.dav_core.specs.Meaning.{Meaning, refuse_if}
 use Rattle.dav_core.specs.Property.{Patch, PropertyKey}
 use Rattle.dav_core.specs.Asking.{Call, Answer, Metadata, ReadDir, RemoveDir, RemoveFile, HaveProps, GetQuota, SetAccessed, SetModified, EntryMetadata, Read, Write, Seek, Flush, FileMetadata, CreateDir, Open, Rename, Copy, PatchProps, GetProps, GetProp, StoreState, TakesMemory, IsAnswered, Asks, asked, ran_short, answered, meaning}
 
--- the store, short of memory at some time or not
+-- the store, which ran out of memory at some time or not
 abbrev pub empty_store : Bool → StoreState
 empty_store short = record { world = empty_from 1; refusals = []; short = short }
 
--- a call that no rule refuses, in a store without memory
+-- a call that no rule refuses and that allocates, in a store that is out of memory
 short_of : (call : Call) (short : Bool) (new : StoreState) → TakesMemory call → IsAnswered (meaning call (empty_from 1)) → new ≡ empty_store true → Asks call (empty_store short) (Err InsufficientStorage) new
 short_of call short new takes allowed is = ran_short takes refl allowed refl (ap (λ (s : StoreState). s.world) is) (ap (λ (s : StoreState). s.refusals) is) (ap (λ (s : StoreState). s.short) is)
 
--- a call that changes nothing is answered as it means
+-- a call that changes nothing is answered by what it means
 told : (call : Call) (short : Bool) (answer : Result (Answer call) FsError) → (answer, empty_from 1) ≡ answered (empty_from 1) (meaning call (empty_from 1)) → Asks call (empty_store short) answer (empty_store short)
 told call short answer is = asked is refl refl
 

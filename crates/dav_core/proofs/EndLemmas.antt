@@ -11,18 +11,18 @@ pub without_end_more : (p : ℕ → Bool) (xs : List ℕ) (c : ℕ) → p c ≡ 
 without_end_more p [] c e = rw e refl
 without_end_more p (x ∷ xs) c e = ap (onto_end p x) (without_end_more p xs c e)
 
--- text before a text that stays
+-- a byte before a text that isn't empty stays
 onto_end_some : (p : ℕ → Bool) (x : ℕ) (xs : List ℕ) (c : ℕ) → onto_end p x (xs ++ c ∷ []) ≡ x ∷ (xs ++ c ∷ [])
 onto_end_some p x [] c = refl
 onto_end_some p x (y ∷ xs) c = refl
 
--- a byte at the end that doesn't pass ends the text
+-- a byte at the end that doesn't pass stays the end of the text
 pub without_end_stop : (p : ℕ → Bool) (xs : List ℕ) (c : ℕ) → p c ≡ false → without_end p (xs ++ c ∷ []) ≡ xs ++ c ∷ []
 without_end_stop p [] c e = rw e refl
 without_end_stop p (x ∷ xs) c e =
     ap (onto_end p x) (without_end_stop p xs c e) ∙ onto_end_some p x xs c
 
--- a list is what stands before its last item, and that item
+-- a list is what comes before its last item, and that item
 pub last_apart : (xs : List ℕ) → 1 ≤ length xs → xs ≡ take (length xs - 1) xs ++ get_or xs (length xs - 1) 0 ∷ []
 last_apart xs some =
     let whole : length xs - 1 + 1 ≡ length xs = omega (arith, some) in
@@ -63,7 +63,7 @@ parent_front bytes =
       | inr h ↦ ([], rw h (sym (append-nil bytes)))
     ]
 
--- the path cut behind its parent
+-- the path cut after its parent
 pub parent_cut : (bytes : List ℕ) → (length (parent_bytes bytes) ≤ length bytes) × (take (length (parent_bytes bytes)) bytes ≡ parent_bytes bytes)
 parent_cut bytes =
     let (rest, e) = parent_front bytes in (
@@ -71,7 +71,7 @@ parent_cut bytes =
       ap (take (length (parent_bytes bytes))) e ∙ take_at (parent_bytes bytes) rest (length (parent_bytes bytes)) refl,
     )
 
--- the same of a path behind a prefix of k bytes
+-- the same of a path after a prefix of k bytes
 pub parent_within : (full : List ℕ) (k : ℕ) → k ≤ length full → k + length (parent_bytes (drop k full)) ≤ length full
 parent_within full k within =
     omega (arith, within, (parent_cut (drop k full)).0, length-drop k full)
@@ -102,7 +102,7 @@ cut_behind : (p bytes : List ℕ) → p ≢ [] → prefix_cut p bytes ≡ cut_at
 cut_behind [] bytes some = absurd (some refl)
 cut_behind (b ∷ p) bytes some = refl
 
--- where a path is cut: behind all of it, before a slash, or nowhere
+-- where a path is cut: after all of it, before a slash, or nowhere
 pub cuts_whole : (p bytes rest : List ℕ) → p ≢ [] → bytes ≡ p ++ rest → length rest ≡ 0 → CutsAt p bytes (Some true)
 cuts_whole p bytes [] some e none = (
   omega (arith, ap length e, length-append p []),

@@ -23,7 +23,7 @@ adjusted_by : (p : Path) (f : Node → Node) (q : Path) (n : Node) (b : Bool) �
 adjusted_by p f q n true is = (f n, refl, inr (same_path p q is, refl))
 adjusted_by p f q n false is = (n, refl, inl refl)
 
--- what stands at a path still does after a change at one path, changed or as it was
+-- what is at a path is still there after a change at one path, changed or as it was
 pub after-adjust : (p : Path) (f : Node → Node) (ns : Nodes) (q : Path) (n : Node) → find path_cmp q ns ≡ Some n
     → (m : Node) × (find path_cmp q (adjust p f ns) ≡ Some m) × ((m ≡ n) ⊎ ((p ≡ q) × (m ≡ f n)))
 after-adjust p f ns q n stood =
@@ -64,7 +64,7 @@ module _ (w : World) (from to : Path) (now : ℕ) where
       → (m : Node) × (node_at (renamed_world w from to now) (path_after from to p) ≡ Some m) × IsUnchanged n m
   follows p n stood out = follow_by p n stood out (rest_after from p) refl
 
-  -- a rename that is answered leaves the world as it was, where both paths are one, or with what stood there moved
+  -- a rename that succeeds leaves the world as it was, where both paths are one, or with what was there moved
   rename_done : (r : Unit {0} × World) → rename w from to now ≡ Ok r → ((from ≡ to) × (r.1 ≡ w)) ⊎ (r.1 ≡ renamed_world w from to now)
   rename_done r h =
       let (roots, h1) = went_on (is_root from || is_root to) Forbidden _ r h in
@@ -96,7 +96,7 @@ decided : (b : Bool) → (b ≡ true → ⊥) → b ≡ false
 decided true h = absurd (h refl)
 decided false h = refl
 
--- the node n still stands at q
+-- the node n is still at q
 abbrev Stays : World → Path → Node → Type 0
 Stays new q n = (m : Node) × (node_at new q ≡ Some m) × IsStill n m
 
@@ -158,7 +158,7 @@ step_stays call w new proper world (renames from to now a b out folder sound tak
 pub nodes_stay : NodesStay
 nodes_stay call w r p n proper world h stood kept = step_stays call w r.1 proper world (steps call w r h) p n stood kept
 
--- the node n stands at q, unchanged but for its times
+-- the node n is still at q, unchanged but for the moment of its last change
 abbrev Rests : World → Path → Node → Type 0
 Rests new q n = (m : Node) × (node_at new q ≡ Some m) × IsUnchanged n m
 
@@ -197,8 +197,8 @@ step_rests call w new world (renames from to now a b out folder sound takes brin
 pub others_are_unchanged : OthersAreUnchanged
 others_are_unchanged call w r p n world h stood kept left_alone = step_rests call w r.1 world (steps call w r h) p n stood kept left_alone
 
--- Where a node of the new world comes from: it stood there unchanged but for properties and times, or was changed by
--- the call, or was made by it.
+-- Where a node of the new world comes from: it was in the old one, unchanged but for properties and times, or was changed
+-- by the call, or was made by it.
 data Comes (w : World) (m : Node) : Type 0 where
   stayed : (s : Path) (n : Node) → node_at w s ≡ Some n → m.made ≡ n.made → m.number ≡ n.number → m.kind ≡ n.kind → Comes w m
   changed : (s : Path) (n : Node) → node_at w s ≡ Some n → IsStill n m → m.number ≡ w.next → Comes w m
@@ -331,7 +331,7 @@ opened_at : (p : Path) (how : Opening) (now : ℕ) (w : World) (r : Handle × Wo
 unfolding meaning
 opened_at p how now w r h = opened_by w p how now r (node_at w p) refl h
 
--- the file that stands at a path is the one for which an open file with its number stands
+-- an open file with the number under which the file at a path was created refers to that file
 stands_for : (w : World) (file : Handle) (p : Path) (n : Node) → IsWorld w → node_at w p ≡ Some n → n.made ≡ file.made → is_folder_kind n.kind ≡ false → StandsFor w file p n
 stands_for w file p n world there made is_file = (subst (λ k. file_made_with k w.nodes ≡ Some n) made (stands_made w world p n there is_file), there)
 

@@ -31,7 +31,7 @@ from_rest [] q r h = cc
 from_rest (x ∷ p) [] r h = cc
 from_rest (x ∷ p) (y ∷ q) r h = from_step x y p q r (is_eq (name_cmp x y)) refl (from_rest p q r) h
 
--- one front before two paths keeps their order
+-- two paths with one front before both keep their order
 pub cmp-append : (t r s : Path) → path_cmp (t ++ r) (t ++ s) ≡ path_cmp r s
 cmp-append [] r s = refl
 cmp-append (x ∷ t) r s = ap (λ o. ordering_then o (path_cmp (t ++ r) (t ++ s))) (tied_itself nat_list_cmp_total x) ∙ cmp-append t r s

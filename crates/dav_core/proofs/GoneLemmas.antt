@@ -1,4 +1,4 @@
--- What a call takes away is gone, and open files stand for it no longer.
+-- What a call takes away is gone, and open files no longer refer to it.
 use Rattle.std.proofs.Common.{◌≡◌, ◌≢◌, ℕ, ◌||◌, ◌&&◌, ◌≤◌, true, false, not, [], append-nil, Option, Some, None, Ok, inl, inr, refl, sym, ap, ◌∙◌}
 use Rattle.std.specs.Option.{is_some}
 use Rattle.dav_core.specs.declared.errors.FsError.TheVariants.{Exists, NotFound, Forbidden}
@@ -18,7 +18,7 @@ at-itself : (p : Path) → is_at_or_below p p ≡ true
 at-itself p = ap (is_at_or_below p) (sym (append-nil p)) ∙ ap is_some (rest_after-append p [])
 
 module _ (w : World) (p : Path) (now : ℕ) (small : now ≤ last_moment) (world : IsWorld w) (n : Node) (stood : node_at w p ≡ Some n) (q : Path) (m : Node) where
-  -- after a removal nothing has the number that was made with what stood there
+  -- after a removal nothing has the change number under which the removed node was created
   gone_without : node_at (without w p now) q ≡ Some m → m.made ≢ n.made
   gone_without h same =
       let from : CameFrom (parent_of p) (modified_at now) (prune p w.nodes) q m = back-adjust (parent_of p) (modified_at now) (prune p w.nodes) q m h in
@@ -70,7 +70,7 @@ module _ (w : World) (from to : Path) (now : ℕ) (r : Unit {0} × World) where
             (outside from to other.0 below, left tt (renamed_world w from to now) r h5)
       ]
 
--- the node that stands at q in a world stands there in the world that it is
+-- the node at q in a world is at q in any world that is the same
 at_world : (new w : World) (q : Path) (m : Node) → new ≡ w → node_at new q ≡ Some m → node_at w q ≡ Some m
 at_world new w q m is h = ap (λ (x : World). node_at x q) (sym is) ∙ h
 

@@ -1,4 +1,4 @@
--- Calls leave worlds, take numbers upwards, and tell times that can be shown.
+-- Calls leave worlds, take numbers upwards, and answer times that can be shown as HTTP dates.
 use Rattle.std.proofs.Common.{◌≡◌, ◌+◌, ◌≤◌, Option, Some, None, Ok, refl, sym, ap, subst, ◌∙◌, arith}
 use Rattle.dav_core.specs.declared.fs.DavMetaData.{DavMetaData}
 use Rattle.dav_core.specs.Path.{Path}

@@ -41,13 +41,14 @@ pub free_deep_holds_below : FreeDeepHoldsBelow
 free_deep_holds_below who p ls l free here below =
     is_below_held (is_held who l) (is_at_or_below p (names l.path)) (passes (λ m. is_held who m || not (is_at_or_below p (names m.path))) ls l (both _ _ free).1 here) below
 
--- one lock of the list: it stands in the way neither by covering nor by being below
+-- one lock of the list: it conflicts neither by covering the path nor by being at it or below it
 parted_step : (h s c a b deep all covered below : Bool)
     → all ≡ (covered && (not deep || below))
     → (not (not h && ((c && (not s || not b)) || (deep && a))) && all) ≡ (((h || (s && b) || not c) && covered) && (not deep || ((h || not a) && below)))
 parted_step h s c a b deep all covered below e = grind arith
 
--- no lock stands in the way: none by covering the path, and for a deep question none by being at it or below it
+-- no lock conflicts: none by covering the path, and none by being at it or below it, where the path is checked with
+-- everything below
 parted : (deep : Bool) (who : Asker) (p : Path) (b : Bool) (ls : List Lock)
     → list_all (λ l. not (not (is_held who l) && ((covers l p && (not l.shared || not b)) || (deep && is_at_or_below p (names l.path))))) ls
     ≡ (list_all (λ l. is_held who l || (l.shared && b) || not (covers l p)) ls && (not deep || list_all (λ l. is_held who l || not (is_at_or_below p (names l.path))) ls))
@@ -56,7 +57,7 @@ parted false who p b [] = refl
 parted deep who p b (l ∷ ls) =
     parted_step (is_held who l) l.shared (covers l p) (is_at_or_below p (names l.path)) b deep _ _ _ (parted deep who p b ls)
 
--- where some lock is held that covers the path, shared ones don't stand in the way
+-- where some lock is held that covers the path, shared ones that cover it don't conflict
 with_one_held : (who : Asker) (p : Path) (ls : List Lock)
     → list_all (λ l. is_held who l || (l.shared && true) || not (covers l p)) ls ≡ list_all (λ l. is_held who l || l.shared || not (covers l p)) ls
 with_one_held who p [] = refl
@@ -69,7 +70,7 @@ without_step : (h s c x y any held : Bool) → ((c && h) || held) ≡ false → 
 without_step h s c x y any false none e = let e : x ≡ (y && not any) = e refl in grind arith
 without_step h s c x y any true none e = grind arith
 
--- where none is held that covers it, each covering lock stands in the way
+-- where none is held that covers it, each covering lock conflicts
 with_none_held : (who : Asker) (p : Path) (ls : List Lock)
     → list_any (λ l. covers l p && is_held who l) ls ≡ false
     → list_all (λ l. is_held who l || (l.shared && false) || not (covers l p)) ls ≡ (list_all (λ l. is_held who l || l.shared || not (covers l p)) ls && not (list_any (λ l. covers l p) ls))
@@ -153,7 +154,7 @@ first_mapped : (f : Path → Path) (test : Path → Bool) (ps : List Path) (p : 
 first_mapped f test [] p h = cc
 first_mapped f test (q ∷ ps) p h = first_mapped_step f test q ps p (test (f q)) (first_mapped f test ps p) h
 
--- where a test is true of the path alone, it is the first front that passes
+-- where a test is true of the path only, the path is the first front that passes
 only_front : (p : Path) (test : Path → Bool) → test p ≡ true → ((q : Path) → q ≢ p → test q ≡ false) → first test (fronts p) ≡ Some p
 only_front [] test here others = ap (λ b. cond b (Some []) None) here
 only_front (x ∷ p) test here others =
@@ -170,7 +171,7 @@ last_left_out test x (y ∷ xs) here none =
 token_itself : (l : Lock) → bytes_eq l.token l.token ≡ true
 token_itself l = (bytes_eq-Decides l.token l.token).1 refl
 
--- no lock of another token has this one's name
+-- no lock with another token is meant by this one's token
 none_named : (l : Lock) (q : Path) (ls : List Lock) → All (λ m. m.token ≢ l.token) ls → list_any (is_named l.token q) ls ≡ false
 none_named l q ls others = list_any_none (is_named l.token q) ls (All-weaker (λ m. m.token ≢ l.token) (λ m. is_named l.token q m ≡ false) (λ m h. unnamed l.token q m h) ls others)
 
@@ -188,7 +189,7 @@ taken_back l ls others =
 abbrev no_locks : List Lock
 no_locks = []
 
--- without locks none is meant by a token and a path
+-- where nothing passes, there is no first that does
 none_among : {X : Type 0} (xs : List X) → first (λ x. false) xs ≡ None
 none_among [] = refl
 none_among (x ∷ xs) = none_among xs

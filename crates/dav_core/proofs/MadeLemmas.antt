@@ -1,4 +1,4 @@
--- The file that was made with a number, and the path where it stands.
+-- The file that was created under a change number, and the path where it is.
 use Rattle.std.proofs.Common.{◌==◌, ◌&&◌, ◌≡◌, ℕ, Bool, true, false, not, cond, T, [], ◌∷◌, Option, Some, None, refl, sym, ap, subst, ◌∙◌, if◌then◌else◌}
 use Rattle.std.proofs.lemmas.Bool.{eqb-true, eq-eqb}
 use Rattle.std.specs.declared.cmp.Ordering.{Ordering}
@@ -23,7 +23,7 @@ later Less h = refl
 later Equal h = absurd h
 later Greater h = refl
 
--- the first that passes a test is one of those that stand behind x
+-- the first that passes a test is at a path after x, as all of them are
 first_below_step : (x : Path) (test : Path × Node → Bool) (d e : Path × Node) (es : Nodes) (b : Bool) → T (is_lt (path_cmp x d.0))
     → (first test es ≡ Some e → T (is_lt (path_cmp x e.0))) → cond b (Some d) (first test es) ≡ Some e → T (is_lt (path_cmp x e.0))
 first_below_step x test d e es true less ih h = let same : d ≡ e = cc in subst (λ (y : Path × Node). T (is_lt (path_cmp x y.0))) same less
@@ -91,13 +91,13 @@ both_passed true true h = cc
 both_passed true false h = (refl, refl)
 both_passed false b h = cc
 
--- what passes the test for it is a file that was made with the number
+-- what passes the test for it is a file that was created under the number
 pub passed : (made : ℕ) (n : Node) → ((n.made == made) && not (is_folder_kind n.kind)) ≡ true → (n.made ≡ made) × (is_folder_kind n.kind ≡ false)
 passed made n h =
     let (same, file) = both_passed (n.made == made) (is_folder_kind n.kind) h in
     (eqb-true n.made made same, file)
 
--- the file that was made with a number stands somewhere
+-- the file that was created under a number is at some path
 pub made_stands : (made : ℕ) (ns : Nodes) → T (is_sorted path_cmp ns) → (n : Node) → file_made_with made ns ≡ Some n
     → (p : Path) × (find path_cmp p ns ≡ Some n) × (n.made ≡ made) × (is_folder_kind n.kind ≡ false)
 made_stands made ns sorted n h =
@@ -127,7 +127,7 @@ some_first : (test : Path × Node → Bool) (q : Path) (n : Node) → ((e : Path
 some_first test q n passes [] h = cc
 some_first test q n passes (d ∷ es) h = some_first_step test q n d es (test d) (is_same_path q d.0) refl refl passes (some_first test q n passes es) h
 
--- a file that stands at a path is the one that was made with its number
+-- a file that is at a path is the one that was created under its number
 pub stands_made : (w : World) → IsWorld w → (p : Path) (n : Node) → node_at w p ≡ Some n → is_folder_kind n.kind ≡ false → file_made_with n.made w.nodes ≡ Some n
 stands_made w world p n h file =
     let passes : ((n.made == n.made) && not (is_folder_kind n.kind)) ≡ true = ap (λ b. b && not (is_folder_kind n.kind)) (eq-eqb n.made n.made refl) ∙ ap not file in
@@ -149,7 +149,7 @@ module _ (made : ℕ) (f : Node → Node) (q : Path) (n : Node) (other : ((n.mad
   other_step d es rest false true is ih same h = ap (λ b. cond b (Some d.1) (find path_cmp q rest)) same ∙ h
   other_step d es rest false false is ih same h = ap (λ b. cond b (Some d.1) (find path_cmp q rest)) same ∙ ih h
 
-  -- all but the file that was made with the number is as it was
+  -- everything but the file that was created under the number is as it was
   pub find-change_other : (ns : Nodes) → find path_cmp q ns ≡ Some n → find path_cmp q (change_first (is_file_made_with made) f ns) ≡ Some n
   find-change_other [] h = cc
   find-change_other (d ∷ es) h =

@@ -28,7 +28,7 @@ lt_then_none Equal = refl
 lt_then_none Greater = refl
 
 module _ (p : Path) where
-  -- the member that stands at a path, where it stands directly below p
+  -- the entry of a node in the listing of p, where it is directly below p
   abbrev listed : Path × Node → Option Path → Option (List ℕ × Bool)
   listed e o = option_map (λ name. (name, is_folder_kind e.1.kind)) (only_name o)
 
@@ -110,7 +110,7 @@ contained_step x d e es true is ih h =
     subst (Contains (e ∷ es)) (λ i. (name i, dir i)) (Contains-get_or (e ∷ es) 0 e (omega arith))
 contained_step x d e es false is ih h = Contains-append_right (e ∷ []) es (x, d) (ih h)
 
--- what is found under a name stands in the listing
+-- what is found under a name is in the listing
 contained : (x : List ℕ) (d : Bool) (es : Listing) → find name_cmp x es ≡ Some d → Contains es (x, d)
 contained x d [] h = cc
 contained x d (e ∷ es) h = contained_step x d e es (is_eq (name_cmp x e.0)) refl (contained x d es) h
@@ -132,7 +132,7 @@ passed e f es h less =
     let other : is_eq (name_cmp f.0 e.0) ≡ false = later (name_cmp f.0 e.0) (subst (λ (o : Ordering). T (is_lt o)) (nat_list_cmp_total.antisymm e.0 f.0) less) in
     ap (λ b. cond b (Some e.1) (find name_cmp f.0 es)) other ∙ h
 
--- what stands in a listing in order is found under its name
+-- what is in a listing in order is found under its name
 each_found : (es : Listing) → T (is_sorted name_cmp es) → All (λ e. find name_cmp e.0 es ≡ Some e.1) es
 each_found [] h = none_of (λ e. find name_cmp e.0 [] ≡ Some e.1)
 each_found (e ∷ es) h =
@@ -173,7 +173,7 @@ above_by ns t (suc k) q (x ∷ s) n small h =
     let up : length (parent_of (x ∷ s)) ≡ length s = length-parent x s in
     above_by ns t k q (parent_of (x ∷ s)) m (omega (arith, small, up)) (ap (λ (y : Path). find path_cmp y ns) (sym (parent-append q x s)) ∙ stood)
 
--- above what stands in a tree something stands
+-- in a tree there is a node at every path above a node
 pub above : (ns : Nodes) → IsTree ns → (q r : Path) (n : Node) → find path_cmp (q ++ r) ns ≡ Some n → (m : Node) × (find path_cmp q ns ≡ Some m)
 above ns t q r n h = above_by ns t (length r) q r n (omega arith) h
 
@@ -195,11 +195,11 @@ below_by w world q x n empty stood (Some (y ∷ s)) is some =
     let clash : false ≡ true = sym empty ∙ both in
     cc
 
--- nothing stands below a path that isn't a folder with members
+-- there is nothing below a path that isn't a folder with members
 pub nothing_below : (w : World) → IsWorld w → (q x : Path) (n : Node) → (is_folder w q && has_members w q) ≡ false → node_at w x ≡ Some n → is_at_or_below q x ≡ true → q ≡ x
 nothing_below w world q x n empty stood at = below_by w world q x n empty stood (rest_after q x) refl at
 
--- two folders, in two worlds, list the same where the same names stand below them
+-- two folders, in two worlds, list the same where the same names are directly below them
 pub members_same : (p q : Path) (w v : World) → IsWorld w → IsWorld v
     → ((x : List ℕ) → option_map (λ n. is_folder_kind n.kind) (node_at w (p ++ x ∷ [])) ≡ option_map (λ n. is_folder_kind n.kind) (node_at v (q ++ x ∷ [])))
     → members p w.nodes ≡ members q v.nodes

@@ -9,7 +9,7 @@ use Rattle.dav_core.specs.declared.method.DavMethod.{DavMethod}
 use Rattle.dav_core.specs.declared.method.DavMethod.TheVariants.{Head, Get, Put, Patch, Options, PropFind, PropPatch, MkCol, Copy, Move, Delete, Lock, Unlock, Report, MkCalendar, MkAddressbook}
 use Rattle.dav_core.specs.Method.{all_methods, place_of, bit_of, Has}
 
--- a method stands at its place
+-- a method is at its place
 pub at_place : (m d : DavMethod) → get_or all_methods (place_of m) d ≡ m
 at_place Head d = refl
 at_place Get d = refl

@@ -1,4 +1,4 @@
--- What stands at a path after an operation on the whole list of nodes, and that each keeps the order.
+-- What is at a path after an operation on the whole list of nodes, and that each keeps the order.
 use Rattle.std.proofs.Common.{◌≡◌, Bool, true, false, not, cond, ◌&&◌, T, [], ◌∷◌, ◌++◌, Option, Some, None, refl, sym, ap, subst, ◌∙◌}
 use Rattle.std.specs.Option.{option_map, option_or, option_and_then}
 use Rattle.std.specs.List.{cons_option}
@@ -50,7 +50,7 @@ module _ (p t : Path) where
       let same : is_same_path (t ++ s) (t ++ r) ≡ is_same_path (p ++ s) e.0 = same-append t s r ∙ sym (same-append p s r) ∙ ap (is_same_path (p ++ s)) (sym (from_rest p e.0 r is)) in
       ap (λ b. cond b (Some e.1) (find path_cmp (t ++ s) (graft p t es))) same ∙ ap (cond (is_same_path (p ++ s) e.0) (Some e.1)) ih
 
-  -- at t ++ s stands what stood at p ++ s
+  -- what is at t ++ s was at p ++ s
   pub find-graft_at : (s : Path) (ns : Nodes) → find path_cmp (t ++ s) (graft p t ns) ≡ find path_cmp (p ++ s) ns
   find-graft_at s [] = refl
   find-graft_at s (e ∷ es) = graft_step s e es (rest_after p e.0) refl (find-graft_at s es)

@@ -1,4 +1,4 @@
--- What stands at a path of a list of nodes after a change.
+-- What is at a path of a list of nodes after a change.
 use Rattle.std.proofs.Common.{◌≡◌, ◌≢◌, Bool, true, false, cond, ◌&&◌, T, [], ◌∷◌, Option, Some, None, ◌⊎◌, inl, inr, refl, sym, ap, subst, ◌∙◌, if◌then◌else◌}
 use Rattle.std.specs.Option.{option_map}
 use Rattle.std.specs.declared.cmp.Ordering.{Ordering}
@@ -23,7 +23,7 @@ eq_true Less h = cc
 eq_true Equal h = refl
 eq_true Greater h = cc
 
--- the test for one path is true of it alone
+-- the test for one path is true of that path only
 pub same_path : (p q : Path) → is_same_path p q ≡ true → p ≡ q
 same_path p q h = path_exact p q (eq_true (path_cmp p q) h)
 
@@ -63,7 +63,7 @@ module _ (p : Path) (f : Node → Node) (q : Path) where
         | false ↦ λ h. ih
       ] refl
 
--- what stands at a path after the node at one path was changed
+-- what is at a path after the node at one path was changed
 pub find-adjust : (p : Path) (f : Node → Node) (q : Path) (ns : Nodes) → find path_cmp q (adjust p f ns) ≡ cond (is_same_path p q) (option_map f (find path_cmp q ns)) (find path_cmp q ns)
 find-adjust p f q [] = elim (is_same_path p q) as (λ b. None ≡ cond b (option_map f None) None) [ true ↦ refl | false ↦ refl ]
 find-adjust p f q (e ∷ es) = adjust_step p f q e es (adjust p f es) _ refl (find-adjust p f q es)
@@ -73,7 +73,7 @@ below_change_step : (x : Path) (f : Node → Node) (e : Path × Node) (es rest :
 below_change_step x f e es rest true ih = refl
 below_change_step x f e es rest false ih = ap (λ b. is_lt (path_cmp x e.0) && b) ih
 
--- a change of one node keeps the paths, and so what stands in their order
+-- a change of one node keeps the paths, and so their order
 below-change : (x : Path) (test : Path × Node → Bool) (f : Node → Node) (ns : Nodes) → below_all path_cmp x (change_first test f ns) ≡ below_all path_cmp x ns
 below-change x test f [] = refl
 below-change x test f (e ∷ es) = below_change_step x f e es (change_first test f es) (test e) (below-change x test f es)
@@ -87,14 +87,14 @@ pub sorted-change : (test : Path × Node → Bool) (f : Node → Node) (ns : Nod
 sorted-change test f [] = refl
 sorted-change test f (e ∷ es) = sorted_change_step f e es (change_first test f es) (test e) (below-change e.0 test f es) (sorted-change test f es)
 
--- what stands at a path after a node was put at one path
+-- what is at a path after a node was put at one path
 pub find-put_node : (q p : Path) (n : Node) (ns : Nodes) → find path_cmp q (put path_cmp p n ns) ≡ cond (is_same_path q p) (Some n) (find path_cmp q ns)
 find-put_node q p n ns = find-put path_cmp path_total q p n ns
 
 pub sorted-put_node : (p : Path) (n : Node) (ns : Nodes) → T (is_sorted path_cmp ns) → T (is_sorted path_cmp (put path_cmp p n ns))
 sorted-put_node p n ns h = is_sorted-put path_cmp path_total p n ns h
 
--- what stands at q after the change came from what stood there
+-- what is at q after the change came from what was there
 pub record CameFrom (p : Path) (f : Node → Node) (ns : Nodes) (q : Path) (m : Node) : Type 0 where
   pub node : Node
   pub stood : find path_cmp q ns ≡ Some node
@@ -122,7 +122,7 @@ pub folder-adjust : (p : Path) (f : Node → Node) (ns : Nodes) → ((n : Node) 
 folder-adjust p f ns keeps q =
     ap is_folder_node (find-adjust p f q ns) ∙ folder_by p f ns keeps q (is_same_path p q) refl (find path_cmp q ns) refl
 
--- what stands at q after a node was put at p is that node, or what stood there
+-- what is at q after a node was put at p is that node, or what was there
 put_by : (p : Path) (n : Node) (ns : Nodes) (q : Path) (m : Node) (b : Bool) → is_same_path q p ≡ b → cond b (Some n) (find path_cmp q ns) ≡ Some m
     → ((q ≡ p) × (m ≡ n)) ⊎ (find path_cmp q ns ≡ Some m)
 put_by p n ns q m true is h = inl (same_path q p is, let e : n ≡ m = cc in sym e)
@@ -139,7 +139,7 @@ stays_by p n ns q true is none h =
     cc
 stays_by p n ns q false is none h = h
 
--- a folder stays where a node was put at a path at which nothing stood
+-- a folder stays where a node was put at a path at which nothing was
 pub folder-put : (p : Path) (n : Node) (ns : Nodes) (q : Path) → find path_cmp p ns ≡ None → is_folder_node (find path_cmp q ns) ≡ true
     → is_folder_node (find path_cmp q (put path_cmp p n ns)) ≡ true
 folder-put p n ns q none h = ap is_folder_node (find-put_node q p n ns) ∙ stays_by p n ns q (is_same_path q p) refl none h

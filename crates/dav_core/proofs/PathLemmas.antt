@@ -32,7 +32,7 @@ same_text src other a b s t ra rb ta tb = (
 
 -- ---- the slash at the end
 
--- whether a text is closed is seen at its last byte
+-- a text is closed if its last byte is a slash
 closed_at : (xs : List ℕ) (c : ℕ) → c ≡ 47 → is_collection (xs ++ c ∷ []) ≡ true
 closed_at xs c e =
     let at = drop_at xs (c ∷ []) (length (xs ++ c ∷ []) - 1) (omega (arith, length_push xs c)) in
@@ -66,7 +66,7 @@ open_names n ns names =
           ap is_collection is ∙ open_at (joined init ++ 47 ∷ front) c other
     ]
 
--- a slash is added where none ends the path
+-- a slash is added where the path doesn't end in one
 pub slash_added : (ns : Path) (closed : Bool) → All IsName ns → with_slash (path_bytes ns closed) ≡ path_bytes ns true
 slash_added [] closed names = refl
 slash_added (n ∷ ns) true names =
@@ -116,7 +116,7 @@ no_slashes : (n : List ℕ) → IsName n → All (λ b. not (b == 47) ≡ true) 
 no_slashes n name =
     All-weaker (λ b. (b ≢ 0) × (b ≢ 47)) (λ b. not (b == 47) ≡ true) (λ b h. not_slash b h.1) n name.clean
 
--- the last name is cut away, with the slash behind it
+-- the last name is cut off, with the slash after it
 cut_at_name : (init : Path) (last : List ℕ) (closed : Bool) → IsName last → before_last_name (joined (init ++ last ∷ []) ++ ending closed) ≡ joined init ++ 47 ∷ []
 cut_at_name init last closed name =
     let (front, c, f, other) = last_byte last name in

@@ -22,7 +22,7 @@ pub text_without_slash : (bs : List ℕ) → IsUtf8 bs → IsUtf8 (without_slash
 text_without_slash bs text =
     elim (cases_Bool (is_collection bs)) [ inl e ↦ rw e (cut_slash bs text e) | inr e ↦ rw e text ]
 
--- a path that is cut behind a prefix has this prefix
+-- a path that is cut after a prefix has this prefix
 cut_has : (p : List ℕ) (rest : Option (List ℕ)) (r : PathText) → cut_at p rest ≡ Some r → r.prefix ≡ p
 cut_has p None r e = cc
 cut_has p (Some []) r e = cc
@@ -36,7 +36,7 @@ prefix_has : (p bytes : List ℕ) (r : PathText) → prefix_cut p bytes ≡ Some
 prefix_has [] bytes r e = cc
 prefix_has (b ∷ p) bytes r e = cut_has (b ∷ p) (behind (b ∷ p) bytes) r e
 
--- so this prefix stands in front of the path, also where more is added behind, and it is a text
+-- so the path begins with this prefix, also where more is added at its end, and the prefix is a text
 pub prefix_fits : (text p bytes more full : List ℕ) (lacks_slash : Bool) → IsUtf8 text → p ≡ without_slash text → CutsAt p bytes (Some lacks_slash) → full ≡ bytes ++ more → (length p ≤ length full) × IsUtf8 (take (length p) full)
 prefix_fits text p bytes more full lacks_slash utf8 is cut whole =
     let front : take (length p) full ≡ p = rw whole (take-append-le (length p) bytes more cut.0 ∙ prefix_has p bytes _ cut.1) in (

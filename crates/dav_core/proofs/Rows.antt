@@ -51,7 +51,7 @@ makes_once = refl
 makes_no_parent : answer (create_dir file_written ((120 ∷ []) ∷ (121 ∷ []) ∷ []) 2) ≡ Err NotFound
 makes_no_parent = refl
 
--- renamed from /d to /e, the file keeps its number and is still the open file
+-- after a rename from /d to /e the file keeps its number, and the open file still refers to it
 abbrev renamed : World
 renamed = after file_written (rename file_written ((100 ∷ []) ∷ []) ((101 ∷ []) ∷ []) 2)
 
@@ -64,7 +64,7 @@ leaves_nothing = refl
 refuses_a_place_below : answer (rename file_written ((100 ∷ []) ∷ []) ((100 ∷ []) ∷ (120 ∷ []) ∷ []) 2) ≡ Err Forbidden
 refuses_a_place_below = refl
 
--- the open file follows: what is appended goes to the end, and the place of reading behind it
+-- the open file follows: what is appended goes to the end, and the position moves past it
 appends : answer (write_bytes renamed (opened 2 to_append) (33 ∷ []) 3) ≡ Ok (record (opened 2 to_append) { position = 4 })
 appends = refl
 
@@ -84,7 +84,7 @@ copied = after file_written (copy file_written ((100 ∷ []) ∷ (97 ∷ []) ∷
 copies_bytes : answer (metadata copied ((100 ∷ []) ∷ (98 ∷ []) ∷ [])) ≡ Ok (record { len = 3; dir = false; created = 5; modified = 5; number = Some 4 })
 copies_bytes = refl
 
--- a removed file is no longer written
+-- a removed file can't be written
 abbrev removed : World
 removed = after file_written (remove_file file_written ((100 ∷ []) ∷ (97 ∷ []) ∷ []) 2)
 

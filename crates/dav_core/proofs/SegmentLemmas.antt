@@ -8,7 +8,7 @@ use Rattle.dav_core.specs.Path.{names_in, is_nonempty}
 different : (b : ℕ) → (b == 47) ≡ false → b ≢ 47
 different b h e = grind (arith, nat_tests)
 
--- slashes at the front change no name
+-- slashes at the beginning change no name
 pub names_behind : (bs : List ℕ) → names_in (drop (prefix_len (λ b. b == 47) bs) bs) ≡ names_in bs
 names_behind [] = refl
 names_behind (b ∷ bs) =
@@ -43,7 +43,7 @@ first_name (b ∷ bs) some bare =
           rw (e, step, split) (ap (λ ns. (b ∷ take (position_or_len (λ b. b == 47) bs) bs) ∷ ns) names)
     ]
 
--- what stands behind the slashes doesn't begin with one
+-- what comes after the slashes doesn't begin with one
 pub bare_behind : (bs rest : List ℕ) → drop (prefix_len (λ b. b == 47) bs) bs ≢ 47 ∷ rest
 bare_behind [] rest = λ e. cc
 bare_behind (b ∷ bs) rest =

@@ -29,7 +29,7 @@ members_are_had set m = (
   λ h. subst (Contains (members set)) (at_place m m) (filter_keeps (λ n. bit_at set (place_of n) == 1) all_methods (place_of m) m (place_within m) (ap (λ n. bit_at set (place_of n) == 1) (at_place m m) ∙ eq-eqb _ 1 h)),
 )
 
--- at each place stands a method whose place it is
+-- at each place there is a method whose place it is
 method_there : (i : ℕ) → i < 16 → place_of (get_or all_methods i Head) ≡ i
 method_there i within =
     sym (get_or-map place_of all_methods i Head) ∙ let all : map place_of all_methods ≡ range_with_len 0 16 = refl in ap (λ l. get_or l i 0) all ∙ get_or-range_with_len 0 16 i 0 within ∙ omega arith

@@ -44,7 +44,7 @@ either_way false true true h = inr (refl, refl)
 either_way false true false h = cc
 either_way false false c h = cc
 
--- how a lock covers a path: it is on it, or it is deep and on a proper front of it
+-- how a lock covers a path: it is on it, or it is of infinite depth and on a proper front of it
 abbrev pub Covering : Lock → Path → Type 0
 Covering l p = (names l.path ≡ p) ⊎ ((x : List ℕ) × (r : Path) × (l.deep ≡ true) × (p ≡ names l.path ++ x ∷ r))
 
@@ -90,7 +90,7 @@ none_deep true true h k clash = cc
 none_deep true false h k clash = cc
 none_deep false b h k clash = cc
 
--- a lock with which a new one may be granted shares with it each path that both cover
+-- where a new lock may be granted beside a lock, both are shared if they cover one path
 module _ (l new : Lock) (no_cover : (covers l (names new.path) && not (l.shared && new.shared)) ≡ false) (none_below : (new.deep && is_below (names new.path) (names l.path)) ≡ false) where
   shares_by : (p : Path) → Covering l p → Covering new p → (s : Path) → p ≡ names new.path ++ s
       → ((t : Path) × (names new.path ≡ names l.path ++ t)) ⊎ ((x : List ℕ) × (t : Path) × (names l.path ≡ names new.path ++ x ∷ t))

@@ -1,4 +1,4 @@
--- What a call that is answered did to the world, and that it left a world.
+-- What a call that isn't refused did to the world, and that it left a world.
 use Rattle.std.proofs.Common.{◌++◌, ◌≡◌, ℕ, ◌+◌, ◌<◌, ◌≤◌, ◌==◌, ◌||◌, ◌&&◌, Bool, true, false, not, if◌then◌else◌, T, List, [], ◌∷◌, length, Option, Some, None, Ok, Err, ◌⊎◌, inl, inr, refl, sym, ap, ◌∙◌, arith, nat_lt, map}
 use Rattle.std.proofs.lemmas.Bool.{eqb-false, not-false}
 use Rattle.std.specs.Option.{is_none, option_map, unwrap_or}
@@ -23,12 +23,12 @@ use Rattle.dav_core.proofs.NodesLemmas.{differ_from, same_path}
 use Rattle.dav_core.proofs.MemberLemmas.{nothing_below}
 use Rattle.dav_core.proofs.CarriedLemmas.{Same, renamed_world}
 
--- a call that is answered wasn't refused
+-- where a call isn't refused, the test that would refuse it is false
 pub went_on : {A : Type 0} (b : Bool) (e : FsError) (m : Meaning A) (r : A × World) → refuse_if b e m ≡ Ok r → (b ≡ false) × (m ≡ Ok r)
 went_on true e m r h = cc
 went_on false e m r h = (refl, h)
 
--- and found its node
+-- and its node is there
 pub found : {A : Type 0} (o : Option Node) (f : Node → Meaning A) (r : A × World) → at_node o f ≡ Ok r → (n : Node) × (o ≡ Some n) × (f n ≡ Ok r)
 found None f r h = cc
 found (Some n) f r h = (n, refl, h)
@@ -65,7 +65,7 @@ path_by from to x same (Some r) is = ap (λ (p : Path). p ++ r) (sym same) ∙ s
 path_itself : (from to x : Path) → from ≡ to → path_after from to x ≡ x
 path_itself from to x same = path_by from to x same (rest_after from x) refl
 
--- What an answered call did: nothing; or it made a node, changed one with the next number, wrote to an open file,
+-- What a call that isn't refused did: nothing; or it made a node, changed one with the next number, wrote to an open file,
 -- patched one without a number, removed or renamed.
 pub data Step (call : Call) (w new : World) : Type 0 where
   unchanged : InPlace call → new ≡ w → Step call w new
@@ -250,7 +250,7 @@ writes_to w file c now r h =
       | inr none ↦ unchanged (λ x. refl) (left file w r none.1)
     ]
 
--- what each call that is answered did
+-- what each call that isn't refused did
 pub steps : (call : Call) (w : World) (r : Answer call × World) → meaning call w ≡ Ok r → Step call w r.1
 unfolding meaning
 steps (Metadata p) w r h = looks_up (Metadata p) (λ x. refl) w (node_at w p) metadata_of r h

@@ -34,7 +34,7 @@ Leaves-name ps [] n h name = (ps, [], h, name, refl, nothing)
 Leaves-name ps (m ∷ ns) n h name =
     (h.0, h.1 ++ n ∷ [], h.2, h.3, ap (λ xs. xs ++ n ∷ []) h.4 ∙ append_assoc h.0 (m ∷ h.1) (n ∷ []), Leaves-name h.1 ns n h.5 name)
 
--- `..` takes the last name away
+-- `..` removes the last name
 pub Leaves-parent : (ps : List (List ℕ)) (ns : Path) (n : List ℕ) → Leaves ps (ns ++ n ∷ []) → Leaves (ps ++ parent_piece ∷ []) ns
 Leaves-parent ps [] n h =
     let cs : Cancels (h.0 ++ n ∷ (h.1 ++ parent_piece ∷ [])) = Cancels-append h.2 (pair h.3 h.5 nothing) in
@@ -88,7 +88,7 @@ push_back name (skips b r) = absurd (name.not_blank b)
 push_back name (pushes x r) = r
 push_back name (pops e r) = absurd (name.not_parent e)
 
--- `..` takes one off it
+-- `..` takes one off the stack
 pop_back : {stack out : Path} {ps : List (List ℕ)} {n p : List ℕ} → p ≡ parent_piece → Run (n ∷ stack) (p ∷ ps) out → Run stack ps out
 pop_back e (skips b r) = absurd (blank_no_parent (subst IsBlank e b))
 pop_back e (pushes x r) = absurd (x.not_parent e)
@@ -209,7 +209,7 @@ closed_one text true false h k = absurd (k h)
 closed_one text false true h k = absurd (h k)
 closed_one text false false h k = refl
 
--- A text is read as one path.
+-- A text is read as one path at most.
 pub Reads-one : (src a b : List ℕ) → Reads src a → Reads src b → a ≡ b
 Reads-one src a b (inl h) (inl k) = h.1 ∙ sym k.1
 Reads-one src a b (inl h) (inr k) = absurd (rooted_not_star src k.2.rooted h.0)
@@ -239,7 +239,7 @@ refused_once src (no_star, inr why) forbidden =
 
 -- ---- a path keeps its names
 
--- what stands behind the last name
+-- what comes after the last name
 abbrev pub ending : Bool → List ℕ
 ending closed = if closed then 47 ∷ [] else []
 
@@ -247,7 +247,7 @@ ending closed = if closed then 47 ∷ [] else []
 abbrev pub last_pieces : Bool → List (List ℕ)
 last_pieces closed = if closed then [] ∷ [] else []
 
--- no slash stands in it
+-- there is no slash in it
 pub record HasNoSlash (p : List ℕ) : Type 0 where
   pub no_slash : All (λ b. (b == 47) ≡ false) p
 
@@ -260,7 +260,7 @@ split_joined x (m ∷ ms) closed h hs =
     let cut = slice_split_at (λ b. b == 47) x 47 (m ++ (joined ms ++ ending closed)) h.no_slash refl in
     rw append_assoc (cut ∙ ap (λ ps. x ∷ ps) rest)
 
--- no slash stands in a name
+-- there is no slash in a name
 pub name_no_slash : (n : List ℕ) → IsName n → HasNoSlash n
 name_no_slash n name = record {
   no_slash = All-weaker IsCleanByte (λ b. (b == 47) ≡ false) (λ b h. grind (arith, nat_tests, h)) n name.clean;

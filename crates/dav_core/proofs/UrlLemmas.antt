@@ -1,4 +1,4 @@
--- The text of a path in a URL, and that it is read again as that path.
+-- The text of a path in a URL, and that it is read as that path again.
 use Rattle.std.proofs.Common.{◌≡◌, ◌≢◌, ℕ, ◌<◌, ◌≤◌, ◌==◌, ◌&&◌, Bool, true, false, not, List, [], ◌∷◌, ◌++◌, length, map, All, refl, sym, ◌∙◌, ap, subst, arith, inl, inr, append_assoc, if◌then◌else◌, nat_le}
 use Rattle.std.specs.Bool.{⊤}
 use Rattle.std.specs.List.{slice_split, onto_first, position_or_len}
@@ -39,7 +39,7 @@ escaped_is b =
 percent_escaped : contains ESCAPED 37 ≡ true
 percent_escaped = refl
 
--- the crate's text of bytes is this one
+-- the crate `percent_encoding` escapes bytes in this way
 pub encoded : (bs : List ℕ) → percent_encode ESCAPED bs ≡ url_text bs
 unfolding url_text
 encoded [] = percent_encode-nil ESCAPED
@@ -151,7 +151,7 @@ last_cancels : (closed : Bool) → Cancels (last_pieces closed)
 last_cancels true = blank (inl refl) nothing
 last_cancels false = nothing
 
--- also behind the piece before the first slash
+-- also after the empty piece before the first slash
 leaves_path : (n : List ℕ) (ns : Path) (closed : Bool) → All IsName (n ∷ ns) → Leaves ([] ∷ n ∷ (ns ++ last_pieces closed)) (n ∷ ns)
 leaves_path n ns closed names = (
   [] ∷ [],
@@ -211,7 +211,7 @@ url_pieces ns names =
 not_slash : (b : ℕ) → (b == 47) ≡ false → b ≢ 47
 not_slash b h e = grind (arith, nat_tests)
 
--- behind a last piece no slash stands
+-- there is no slash after a last piece
 piece_ends : (p front back : List ℕ) → IsPiece p → front ++ 47 ∷ p ≢ back ++ 47 ∷ []
 piece_ends p front back piece e =
     elim (snoc_cases p) [
@@ -255,7 +255,7 @@ root_again = record {
   closed_if = ([], refl);
 }
 
--- The text of a path is read again as this path.
+-- The text of a path is read as this path again.
 pub names_again : (ns : Path) (closed : Bool) → All IsName ns → All (All IsByte) ns → Reads (url_text (path_bytes ns closed)) (path_bytes ns closed)
 unfolding url_text
 names_again [] closed names small = inr ([], true, root_again, refl)
@@ -310,7 +310,7 @@ pieces_small src text =
     let pieces = All-slice_split IsByte (text_of src) (All-take IsByte _ src small) in
     All-map (All IsByte) percent_decode (slice_split (λ b. b == 47) (text_of src)) (All-weaker (All IsByte) (λ p. All IsByte (percent_decode p)) All-percent_decode _ pieces)
 
--- For each path that was read, its text is read again as this path.
+-- For each path that was read, its text is read as this path again.
 pub reads_again : (src bytes written : List ℕ) → Reads src bytes → IsTextOf bytes written → Reads written bytes
 reads_again src bytes written h (inl (e, f)) = inl (f, e)
 reads_again src bytes written (inl h) (inr (no_star, e)) = absurd (no_star h.1)

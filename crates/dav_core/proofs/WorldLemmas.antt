@@ -7,7 +7,7 @@ use Rattle.dav_core.specs.Laws.{EmptyIsWorld, NewKeepsWorld, ChangeKeepsWorld}
 use Rattle.dav_core.specs.Property.{Properties, key_cmp}
 use Rattle.dav_core.specs.World.{Node, Nodes, Kind, World, Folder, fresh, empty_from, node_at, adjust, modified_at, with_new, is_folder, is_folder_kind, is_folder_node, last_moment, last_number, IsTree, IsNumbered, IsSound, IsWorld, Renumbers}
 
--- what stands in the empty world is the root
+-- what is in the empty world is the root
 only_root : (p : Path) (n : Node) → find path_cmp p (([], fresh 0 Folder 0) ∷ []) ≡ Some n → (p ≡ []) × (fresh 0 Folder 0 ≡ n)
 only_root [] n e = (refl, cc)
 only_root (x ∷ p) n e = cc
@@ -25,7 +25,7 @@ root_is_sound = record {
   modified = omega arith;
 }
 
--- any number of the root that is below the next numbers an empty world
+-- in the empty world the numbers of nodes differ and are below the next, where the root's number is below it
 numbered : (tag : Node → ℕ) (next : ℕ) → tag (fresh 0 Folder 0) < next → IsNumbered tag (empty_from next)
 numbered tag next small = record {
   below = λ p n e. subst (λ (m : Node). tag m < next) (only_root p n e).1 small;
@@ -61,7 +61,7 @@ put_parents : (p : Path) (n : Node) (ns : Nodes) → IsTree ns → find path_cmp
 put_parents p n ns t none folder q m (inl (e, _)) = ap (λ (r : Path). is_folder_node (find path_cmp (parent_of r) ns)) e ∙ folder
 put_parents p n ns t none folder q m (inr h) = t.parents q m h
 
--- a node below a folder, where nothing stood, keeps the tree
+-- a node below a folder, where nothing was, keeps the tree
 tree-put : (p : Path) (n : Node) (ns : Nodes) → IsTree ns → find path_cmp p ns ≡ None → is_folder_node (find path_cmp (parent_of p) ns) ≡ true → IsTree (put path_cmp p n ns)
 tree-put p n ns t none folder = record {
   sorted = sorted-put_node p n ns t.sorted;
@@ -69,7 +69,7 @@ tree-put p n ns t none folder = record {
   parents = λ q m h. folder-put p n ns (parent_of q) none (put_parents p n ns t none folder q m (back-put p n ns q m h));
 }
 
--- a node of the new world has the number of a node that stood at its path, or stands at the one place that took the next number
+-- a node of the new world has the number of a node that was at its path, or is at the one path that took the next number
 abbrev Origin : (Node → ℕ) → Path → World → World → Path → Node → Type 0
 Origin tag place old new q m =
     ((n : Node) × (find path_cmp q old.nodes ≡ Some n) × (tag m ≡ tag n)) ⊎ ((q ≡ place) × (tag m ≡ old.next) × (old.next < new.next))
@@ -92,7 +92,7 @@ module _ (tag : Node → ℕ) (place : Path) (old new : World) (grows : old.next
     once = λ p q n m h k same. origin_once p q n m (origin p n h) (origin q m k) same;
   }
 
--- where the nodes that came from old ones keep both numbers apart, so do all
+-- where the two kinds of numbers differ between the nodes of the old world, they do between those of the new one
 crossed : (tag other : Node → ℕ) (place : Path) (old new : World) → IsNumbered tag old → IsNumbered other old
     → ((p q : Path) (n m : Node) → find path_cmp p old.nodes ≡ Some n → find path_cmp q old.nodes ≡ Some m → tag n ≡ other m → p ≡ q)
     → (p q : Path) (n m : Node) → Origin tag place old new p n → Origin other place old new q m → tag n ≡ other m → p ≡ q
@@ -101,7 +101,7 @@ crossed tag other place old new t u apart p q n m (inl (a, stood, e)) (inr (at, 
 crossed tag other place old new t u apart p q n m (inr (at, e, more)) (inl (b, there, f)) same = let small = u.below q b there in absurd (omega (arith, small, e, f, same))
 crossed tag other place old new t u apart p q n m (inr (at, _, _)) (inr (here, _, _)) same = at ∙ sym here
 
--- a moment of change is none of the numbers
+-- a change of the moment of the last change leaves the number
 abbrev ByNumber : (Node → ℕ) → Type 0
 ByNumber tag = (moment : ℕ) (n : Node) → tag (modified_at moment n) ≡ tag n
 

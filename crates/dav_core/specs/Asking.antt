@@ -1,4 +1,4 @@
--- Asking a file store: the calls as values, what each answers, and what a store that may refuse any call does.
+-- The calls of a file store as values, what each answers, and how a store that may refuse any call behaves.
 use Rattle.std.specs.Prelude.{◌≡◌, ℕ, ⊤, Bool, true, List, [], ◌∷◌, Option, Some, None, Result, Ok, Err}
 use Rattle.std.specs.declared.io.traits.SeekFrom.{SeekFrom}
 use Rattle.dav_core.specs.declared.errors.FsError.{FsError}
@@ -12,7 +12,8 @@ use Rattle.dav_core.specs.Handle.{Handle, Opening}
 use Rattle.dav_core.specs.Meaning.{Meaning}
 use Rattle.dav_core.specs.Calls.{metadata, read_dir, create_dir, remove_dir, remove_file, rename, copy, patch_props, get_props, get_prop, open_file, read_bytes, write_bytes, seek, flush, file_metadata}
 
--- the calls of a store, with what they are handed; a number at the end is the moment of the call
+-- The calls of a store, with their arguments. A number at the end is the moment of the call; that of Read is the most
+-- bytes to read, and that of SetAccessed and SetModified the time to set.
 pub data Call : Type 0 where
   Metadata : Path → Call
   ReadDir : Path → Call
@@ -36,7 +37,7 @@ pub data Call : Type 0 where
   Flush : Handle → Call
   FileMetadata : Handle → Call
 
--- What a call answers where it isn't refused. A call that moves the place of an open file answers the file after it.
+-- What a call answers when it isn't refused. A call that moves the position of an open file answers the file as it is then.
 abbrev pub Answer : Call → Type 0
 Answer (Metadata p) = DavMetaData
 Answer (ReadDir p) = List (List ℕ × Bool)
@@ -60,7 +61,7 @@ Answer (Seek file to) = ℕ × Handle
 Answer (Flush file) = Unit {0}
 Answer (FileMetadata file) = DavMetaData
 
--- what a call means: every store has properties; telling of quotas and setting times are not implemented
+-- what a call means: every store has properties; reporting quotas and setting times are not implemented
 unfoldable pub meaning : (call : Call) → World → Meaning (Answer call)
 meaning (Metadata p) w = metadata w p
 meaning (ReadDir p) w = read_dir w p
@@ -84,7 +85,7 @@ meaning (Seek file to) w = seek w file to
 meaning (Flush file) w = flush w file
 meaning (FileMetadata file) w = file_metadata w file
 
--- the calls that take memory, and so may find none
+-- the calls that allocate, and so may run out of memory
 abbrev pub TakesMemory : Call → Type 0
 TakesMemory (ReadDir p) = ⊤
 TakesMemory (CreateDir p now) = ⊤
@@ -98,14 +99,14 @@ TakesMemory (Read file count) = ⊤
 TakesMemory (Write file bytes now) = ⊤
 TakesMemory _ = ⊥
 
--- What contracts see of a store: what it holds, the refusals to come, one for each call and an error where that call
--- is refused, and whether it ever wanted memory that wasn't there.
+-- What contracts see of a store: the world that it holds, the refusals to come (one for each call, an error where that
+-- call is refused), and whether it ever ran out of memory.
 pub record StoreState : Type 0 where
   pub world : World
   pub refusals : List (Option FsError)
   pub short : Bool
 
--- the refusals to come after one call
+-- the refusals that are left after one call
 abbrev pub rest_of : List (Option FsError) → List (Option FsError)
 rest_of [] = []
 rest_of (r ∷ rs) = rs
@@ -115,30 +116,30 @@ abbrev pub answered : {A : Type 0} → World → Meaning A → Result A FsError 
 answered w (Ok (a, after)) = (Ok a, after)
 answered w (Err e) = (Err e, w)
 
--- an error at the head of the refusals is the answer; else the call is answered as it means
+-- an error at the head of the refusals is the answer; else the call is answered by what it means
 abbrev pub ask : (call : Call) → World → List (Option FsError) → Result (Answer call) FsError × World
 ask call w [] = answered w (meaning call w)
 ask call w (None ∷ rs) = answered w (meaning call w)
 ask call w (Some e ∷ rs) = (Err e, w)
 
--- the call is refused: an error is at the head of the refusals
+-- the error with which the next call is refused, if the refusals begin with one
 abbrev pub next_refusal : List (Option FsError) → Option FsError
 next_refusal [] = None
 next_refusal (r ∷ rs) = r
 
--- no rule of the call refuses it
+-- none of the call's own rules refuses it
 abbrev pub IsAnswered : {A : Type 0} → Meaning A → Type 0
 IsAnswered (Ok r) = ⊤
 IsAnswered (Err e) = ⊥
 
--- From old, a store may answer the call so, and be new: the answer is that of asking it; or the call isn't refused, neither by
--- the list nor by what it means, it allocates, and that failed, and then nothing changed but that the store remembers it. The
--- head of the refusals is used up.
+-- A store in state `old` may give this answer to the call, and be in state `new` afterwards. Either the answer is that of
+-- `ask`; or neither the list nor the call's own rules refuse it, but it allocates and an allocation failed: then the answer
+-- is InsufficientStorage, the world stays, and the store remembers that memory ran out. The head of the refusals is used up.
 pub data Asks (call : Call) (old : StoreState) (answer : Result (Answer call) FsError) (new : StoreState) : Type 0 where
   asked : (answer, new.world) ≡ ask call old.world old.refusals → new.refusals ≡ rest_of old.refusals → new.short ≡ old.short → Asks call old answer new
   ran_short : TakesMemory call → next_refusal old.refusals ≡ None → IsAnswered (meaning call old.world) → answer ≡ Err InsufficientStorage → new.world ≡ old.world → new.refusals ≡ rest_of old.refusals → new.short ≡ true → Asks call old answer new
 
--- an answer, by what its value stands for
+-- an answer, with what its value stands for in place of the value
 abbrev pub seen : {A B : Type 0} → (A → B) → Result A FsError → Result B FsError
 seen view (Ok a) = Ok (view a)
 seen view (Err e) = Err e

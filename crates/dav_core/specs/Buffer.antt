@@ -7,11 +7,11 @@ use Rattle.dav_core.specs.declared.davpath.reading.Kind.TheVariants.{Name, Blank
 use Rattle.dav_core.specs.Path.{Path, parent_piece, IsBlank, IsBad, IsName, joined}
 use Rattle.dav_core.specs.Target.{Cancels, Leaves, Climbs, HasBadPiece}
 
--- the buffer holds the names that the pieces leave, each behind a slash
+-- the buffer holds the names that the pieces leave, each after a slash
 abbrev pub Kept : List (List ℕ) → List ℕ → Type 0
 Kept ps buf = (names : Path) × Leaves ps names × (buf ≡ joined names)
 
--- why the piece that follows these is refused
+-- why the piece after these is refused
 abbrev pub Refuses : List (List ℕ) → List ℕ → ParseError → Type 0
 Refuses ps p InvalidPath = IsBad p
 Refuses ps p PrefixMismatch = ⊥

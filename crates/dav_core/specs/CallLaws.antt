@@ -1,4 +1,4 @@
--- What holds of the words of a world and of the calls of a store: the statements of the laws.
+-- What holds of worlds and of the calls of a store: the statements of the laws.
 use Rattle.std.specs.Prelude.{◌≡◌, ◌≢◌, ◌++◌, ℕ, ◌<◌, ◌≤◌, ◌↔◌, ⊤, Bool, true, false, T, if◌then◌else◌, List, [], ◌∷◌, All, Contains, Option, Some, None, Result, Ok, Err}
 use Rattle.std.specs.Option.{option_map, option_or, option_and_then, unwrap_or}
 use Rattle.std.specs.FinMap.{find, put, is_sorted}
@@ -10,43 +10,43 @@ use Rattle.dav_core.specs.World.{World, Node, Nodes, node_at, is_missing, is_fol
 use Rattle.dav_core.specs.Handle.{Handle, Opening}
 use Rattle.dav_core.specs.Asking.{Call, Metadata, EntryMetadata, CreateDir, RemoveDir, RemoveFile, Rename, Copy, PatchProps, Open, Write, FileMetadata, Answer, meaning, StoreState, Asks, ask, rest_of, next_refusal}
 
--- after a prune of p nothing stands at p or below it, and all else as before
+-- after a prune of p nothing is at p or below it, and everything else is as before
 abbrev pub PruneLeaves : Type 0
 PruneLeaves = (p q : Path) (ns : Nodes) → find path_cmp q (prune p ns) ≡ (if is_at_or_below p q then None else find path_cmp q ns)
 
--- after a change at p what stands there is changed, and all else stands as before
+-- after a change at p the node there is changed, and everything else is as before
 abbrev pub AdjustChanges : Type 0
 AdjustChanges =
     (p : Path) (f : Node → Node) (q : Path) (ns : Nodes)
     → find path_cmp q (adjust p f ns) ≡ (if is_same_path p q then option_map f (find path_cmp q ns) else find path_cmp q ns)
 
--- in a union stands what stands in the first of the two, and else what stands in the second
+-- at each path a union has the node of the first of the two, and else that of the second
 abbrev pub UnionHasBoth : Type 0
 UnionHasBoth = (es ns : Nodes) (q : Path) → find path_cmp q (union es ns) ≡ option_or (find path_cmp q es) (find path_cmp q ns)
 
--- in a graft of p to t stands at t and below it what stood at p and below it, and nothing else
+-- a graft of p to t has at t and below it what was at p and below it, and nothing else
 abbrev pub GraftMoves : Type 0
 GraftMoves = (p t q : Path) (ns : Nodes) → find path_cmp q (graft p t ns) ≡ option_and_then (λ rest. find path_cmp (p ++ rest) ns) (rest_after t q)
 
--- After a move stands at `to` and below it what stood at `from` and below it, and nothing else; nothing more stands
--- at `from` or below it; and all else stands as before.
+-- After a move, `to` and the paths below it have what was at `from` and below it, and nothing else; nothing is left
+-- at `from` or below it; and everything else is as before.
 abbrev pub MovedStands : Type 0
 MovedStands =
     (from to q : Path) (ns : Nodes)
     → find path_cmp q (moved from to ns) ≡ option_or (option_and_then (λ rest. find path_cmp (from ++ rest) ns) (rest_after to q))
     (if is_at_or_below to q then None else if is_at_or_below from q then None else find path_cmp q ns)
 
--- a touch of p modifies what stands at its parent, and all else stands as before
+-- a touch of p sets when the node at its parent was last changed, and leaves everything else as before
 abbrev pub TouchedIsModified : Type 0
 TouchedIsModified =
     (p : Path) (now : ℕ) (q : Path) (ns : Nodes)
     → find path_cmp q (touched p now ns) ≡ (if is_same_path (parent_of p) q then option_map (modified_at now) (find path_cmp q ns) else find path_cmp q ns)
 
--- a node that was put at p stands there, and all else as before
+-- a node that was put at p is there, and everything else is as before
 abbrev pub PutStands : Type 0
 PutStands = (p : Path) (n : Node) (q : Path) (ns : Nodes) → find path_cmp q (put path_cmp p n ns) ≡ (if is_same_path q p then Some n else find path_cmp q ns)
 
--- nodes in order of their paths are in order after it
+-- nodes that are in order of their paths are still in order after the change
 abbrev pub KeepsOrder : (Nodes → Nodes) → Type 0
 KeepsOrder change = (ns : Nodes) → T (is_sorted path_cmp ns) → T (is_sorted path_cmp (change ns))
 
@@ -56,7 +56,7 @@ PruneKeepsOrder = (p : Path) → KeepsOrder (prune p)
 abbrev pub GraftKeepsOrder : Type 0
 GraftKeepsOrder = (p t : Path) → KeepsOrder (graft p t)
 
--- whatever the order of the first
+-- the first of the two may be in any order
 abbrev pub UnionKeepsOrder : Type 0
 UnionKeepsOrder = (es : Nodes) → KeepsOrder (union es)
 
@@ -66,12 +66,12 @@ MovedKeepsOrder = (from to : Path) → KeepsOrder (moved from to)
 abbrev pub AdjustKeepsOrder : Type 0
 AdjustKeepsOrder = (p : Path) (f : Node → Node) → KeepsOrder (adjust p f)
 
--- a path at which a node may stand: names alone, whose bytes are below 256
+-- a path at which a node may be: names only, whose bytes are below 256
 abbrev pub IsStorable : Path → Type 0
 IsStorable p = All IsName p × All (All (λ b. b < 256)) p
 
--- A call that a caller may make: where it may put something at a path, a node may stand there, and a moment that it
--- may store can be shown.
+-- A call that a caller may make: each path at which it may put something is one where a node may be, and each moment that
+-- it may store can be shown as an HTTP date.
 abbrev pub IsProper : Call → Type 0
 IsProper (CreateDir p now) = IsStorable p × (now ≤ last_moment)
 IsProper (RemoveDir p now) = now ≤ last_moment
@@ -82,41 +82,40 @@ IsProper (Open p how now) = IsStorable p × (now ≤ last_moment)
 IsProper (Write file bytes now) = now ≤ last_moment
 IsProper _ = ⊤
 
--- a call that a caller may make leaves a world
+-- a world stays a world after each call that a caller may make
 abbrev pub CallsKeepWorlds : Type 0
 CallsKeepWorlds = (call : Call) (w : World) (r : Answer call × World) → IsProper call → IsWorld w → meaning call w ≡ Ok r → IsWorld r.1
 
--- the next number never falls
+-- the next change number never falls
 abbrev pub NumbersRise : Type 0
 NumbersRise = (call : Call) (w : World) (r : Answer call × World) → meaning call w ≡ Ok r → w.next ≤ r.1.next
 
--- both times can be shown
+-- both times can be shown as HTTP dates
 abbrev pub CanBeShown : DavMetaData → Type 0
 CanBeShown told = (told.created ≤ last_moment) × (told.modified ≤ last_moment)
 
--- what a call answers of a node, if it does, has times that can be shown
+-- where a call answers the metadata of a node, its times can be shown as HTTP dates
 abbrev pub ShowsTimes : (call : Call) → Answer call → Type 0
 ShowsTimes (Metadata p) told = CanBeShown told
 ShowsTimes (EntryMetadata p) told = CanBeShown told
 ShowsTimes (FileMetadata file) told = CanBeShown told
 ShowsTimes _ _ = ⊤
 
--- of a world a call answers times that can be shown
+-- in a world, the times that a call answers can be shown as HTTP dates
 abbrev pub TimesAreShown : Type 0
 TimesAreShown = (call : Call) (w : World) (r : Answer call × World) → IsWorld w → meaning call w ≡ Ok r → ShowsTimes call r.0
 
--- Where the flag is unset after a call, it was unset before, and the call was answered, and the world left, as asking
--- it says.
+-- Where `short` is false after a call, it was false before, and the answer and the world afterwards are those of `ask`.
 abbrev pub AskingIsDetermined : Type 0
 AskingIsDetermined =
     (call : Call) (old : StoreState) (answer : Result (Answer call) FsError) (new : StoreState)
     → Asks call old answer new → new.short ≡ false → (old.short ≡ false) × ((answer, new.world) ≡ ask call old.world old.refusals)
 
--- an error leaves the world, want of memory too
+-- an error leaves the world as it was, also where memory ran out
 abbrev pub ErrorsLeaveWorlds : Type 0
 ErrorsLeaveWorlds = (call : Call) (old : StoreState) (e : FsError) (new : StoreState) → Asks call old (Err e) new → new.world ≡ old.world
 
--- where no refusal is to come and a rule refuses the call, that is the answer, whether memory suffices or not
+-- where the list doesn't refuse the call but one of its own rules does, that error is the answer, even if memory runs out
 abbrev pub RulesComeFirst : Type 0
 RulesComeFirst =
     (call : Call) (old : StoreState) (answer : Result (Answer call) FsError) (new : StoreState) (e : FsError)
@@ -132,45 +131,45 @@ RefusalsAreUsedUp =
 abbrev pub RefusalIsAnswered : Type 0
 RefusalIsAnswered = (call : Call) (w : World) (e : FsError) (refusals : List (Option FsError)) → ask call w (Some e ∷ refusals) ≡ (Err e, w)
 
--- each call can be asked of each store, which then keeps its flag
+-- every store can answer every call in a way that leaves `short` as it was
 abbrev pub CanBeAsked : Type 0
 CanBeAsked =
     (call : Call) (old : StoreState)
     → (answer : Result (Answer call) FsError) × (new : StoreState) × Asks call old answer new × (new.short ≡ old.short)
 
--- the first member of p under a name is what stands at this name below p, if anything does
+-- the first member of p under a name is the node of this name directly below p, if there is one
 abbrev pub MembersStandBelow : Type 0
 MembersStandBelow =
     (p : Path) (name : List ℕ) (ns : Nodes)
     → find name_cmp name (members p ns) ≡ option_map (λ n. is_folder_kind n.kind) (find path_cmp (p ++ name ∷ []) ns)
 
--- in a world the names of members strictly rise in the order of their bytes, so each stands once
+-- in a world the names of members strictly rise in the order of their bytes, so each is listed once
 abbrev pub MembersRise : Type 0
 MembersRise = (p : Path) (w : World) → IsWorld w → T (is_sorted name_cmp (members p w.nodes))
 
--- in a world a name is listed, as that of a folder or of a file, exactly where such a node stands below p
+-- in a world a name is listed, as that of a folder or of a file, exactly where there is such a node directly below p
 abbrev pub ListsWhatStands : Type 0
 ListsWhatStands =
     (p : Path) (name : List ℕ) (dir : Bool) (w : World)
     → IsWorld w → Contains (members p w.nodes) (name, dir) ↔ ((n : Node) × (node_at w (p ++ name ∷ []) ≡ Some n) × (is_folder_kind n.kind ≡ dir))
 
--- where a rename brings what stands at p
+-- where the node at p is after a rename
 abbrev pub path_after : Path → Path → Path → Path
 path_after from to p = unwrap_or (option_map (λ rest. to ++ rest) (rest_after from p)) p
 
--- where a call brings what stands at p
+-- where the node at p is after a call, unless the call takes it away
 abbrev pub brought : Call → Path → Path
 brought (Rename from to now) p = path_after from to p
 brought _ p = p
 
--- the call takes away what stands at p: it removes p, or renames another path to p
+-- the call takes away what is at p: it removes p, or renames another path to p
 abbrev pub TakesAway : Call → Path → Type 0
 TakesAway (RemoveDir q now) p = q ≡ p
 TakesAway (RemoveFile q now) p = q ≡ p
 TakesAway (Rename from to now) p = (from ≢ to) × (to ≡ p)
 TakesAway _ p = ⊥
 
--- the call may change the node n at p by itself: it patches p, copies to it, opens it, or writes to the file n
+-- the call may change the node n at p itself: it patches p, copies to it, opens it, or writes to the file n
 abbrev pub MayChange : Call → Path → Node → Type 0
 MayChange (PatchProps q patches) p n = q ≡ p
 MayChange (Copy from to now) p n = to ≡ p
@@ -182,18 +181,18 @@ MayChange _ p n = ⊥
 abbrev pub IsUnchanged : Node → Node → Type 0
 IsUnchanged n m = m ≡ record n { modified = m.modified }
 
--- m is n after a call: it was made with the same number, and is a folder or a file as it was
+-- m is n after a call: it was created under the same change number, and is still a folder, or still a file
 abbrev pub IsStill : Node → Node → Type 0
 IsStill n m = (m.made ≡ n.made) × (is_folder_kind m.kind ≡ is_folder_kind n.kind)
 
--- what a rename doesn't take away stands where the rename brings it, with its bytes, properties and numbers
+-- what a rename doesn't take away is where the rename moved it, with its bytes, properties and numbers
 abbrev pub NodesFollowRenames : Type 0
 NodesFollowRenames =
     (from to : Path) (now : ℕ) (w : World) (r : Unit {0} × World) (p : Path) (n : Node)
     → meaning (Rename from to now) w ≡ Ok r → node_at w p ≡ Some n → is_at_or_below to p ≡ false
     → (m : Node) × (node_at r.1 (path_after from to p) ≡ Some m) × IsUnchanged n m
 
--- what a call doesn't take away is still there, where the call brings it: all but a rename leave it where it was
+-- what a call doesn't take away is still there: a rename may have moved it, all other calls leave it where it was
 abbrev pub NodesStay : Type 0
 NodesStay =
     (call : Call) (w : World) (r : Answer call × World) (p : Path) (n : Node)
@@ -207,7 +206,7 @@ OthersAreUnchanged =
     → IsWorld w → meaning call w ≡ Ok r → node_at w p ≡ Some n → ¬ TakesAway call p → ¬ MayChange call p n
     → (m : Node) × (node_at r.1 (brought call p) ≡ Some m) × IsUnchanged n m
 
--- what is there after a call and was made with an older number was there before: nothing comes back
+-- what is there after a call and was created under an older change number was there before: nothing comes back
 abbrev pub NodesWereThere : Type 0
 NodesWereThere =
     (call : Call) (w : World) (r : Answer call × World) (q : Path) (m : Node)
@@ -220,51 +219,51 @@ TakenIsGone =
     (call : Call) (w : World) (r : Answer call × World) (p q : Path) (n m : Node)
     → IsProper call → IsWorld w → meaning call w ≡ Ok r → node_at w p ≡ Some n → TakesAway call p → node_at r.1 q ≡ Some m → m.made ≢ n.made
 
--- what has the same number before and after a call is the same node with the same bytes
+-- what has the same change number before and after a call is the same node with the same bytes
 abbrev pub NumbersTellBytes : Type 0
 NumbersTellBytes =
     (call : Call) (w : World) (r : Answer call × World) (p q : Path) (n m : Node)
     → IsProper call → IsWorld w → meaning call w ≡ Ok r → node_at w p ≡ Some n → node_at r.1 q ≡ Some m
     → n.number ≡ m.number → (m.made ≡ n.made) × (m.kind ≡ n.kind)
 
--- what has an older number after a call had it before, and is the same node with the same bytes
+-- what has an older change number after a call had it before, and is the same node with the same bytes
 abbrev pub NumbersLookBack : Type 0
 NumbersLookBack =
     (call : Call) (w : World) (r : Answer call × World) (q : Path) (m : Node)
     → IsProper call → IsWorld w → meaning call w ≡ Ok r → node_at r.1 q ≡ Some m → m.number < w.next
     → (p : Path) × (n : Node) × (node_at w p ≡ Some n) × (m.number ≡ n.number) × (m.made ≡ n.made) × (m.kind ≡ n.kind)
 
--- in a world the file that was made with a number is the file that stands somewhere and was made with it
+-- in a world, the file found by the change number under which it was created is the one file at any path that has it
 abbrev pub MadeStands : Type 0
 MadeStands =
     (w : World) (made : ℕ) (n : Node)
     → IsWorld w
     → (file_made_with made w.nodes ≡ Some n) ↔ ((p : Path) × (node_at w p ≡ Some n) × (n.made ≡ made) × (is_folder_kind n.kind ≡ false))
 
--- the open file stands for the file n, which is at p
+-- the open file refers to the file n, which is at p
 abbrev pub StandsFor : World → Handle → Path → Node → Type 0
 StandsFor w file p n = (file_made_with file.made w.nodes ≡ Some n) × (node_at w p ≡ Some n)
 
--- an open that is answered gives an open file that stands for the file at the path
+-- an open that succeeds gives an open file that refers to the file at the path
 abbrev pub OpenedStands : Type 0
 OpenedStands =
     (p : Path) (how : Opening) (now : ℕ) (w : World) (r : Handle × World)
     → IsProper (Open p how now) → IsWorld w → meaning (Open p how now) w ≡ Ok r → (n : Node) × StandsFor r.1 r.0 p n
 
--- It stands for this file, as it is after each call that doesn't take it away, where the call brings it.
+-- An open file refers to the same file after each call that doesn't take the file away, also where a rename moved it.
 abbrev pub OpenFilesStay : Type 0
 OpenFilesStay =
     (call : Call) (w : World) (r : Answer call × World) (file : Handle) (p : Path) (n : Node)
     → IsProper call → IsWorld w → meaning call w ≡ Ok r → StandsFor w file p n → ¬ TakesAway call p
     → (m : Node) × StandsFor r.1 file (brought call p) m × IsStill n m
 
--- After a call that takes its file away it stands for none.
+-- After a call that takes its file away, an open file refers to none.
 abbrev pub TakenFilesAreGone : Type 0
 TakenFilesAreGone =
     (call : Call) (w : World) (r : Answer call × World) (file : Handle) (p : Path) (n : Node)
     → IsProper call → IsWorld w → meaning call w ≡ Ok r → StandsFor w file p n → TakesAway call p → file_made_with file.made r.1.nodes ≡ None
 
--- the number of its file was handed out
+-- the change number by which the open file refers to its file was handed out
 abbrev pub IsOpenFile : World → Handle → Type 0
 IsOpenFile w file = file.made < w.next
 
@@ -274,14 +273,14 @@ OpenedIsOpenFile =
     (p : Path) (how : Opening) (now : ℕ) (w : World) (r : Handle × World)
     → IsProper (Open p how now) → IsWorld w → meaning (Open p how now) w ≡ Ok r → IsOpenFile r.1 r.0
 
--- and one that stands for no file stands for none after each call: its file never comes back
+-- and one that refers to no file refers to none after each call: its file never comes back
 abbrev pub TakenNeverReturn : Type 0
 TakenNeverReturn =
     (call : Call) (w : World) (r : Answer call × World) (file : Handle)
     → IsProper call → IsWorld w → meaning call w ≡ Ok r → IsOpenFile w file → file_made_with file.made w.nodes ≡ None
     → IsOpenFile r.1 file × (file_made_with file.made r.1.nodes ≡ None)
 
--- m is a copy of source that was made at this moment with this number: it has its bytes and dead properties
+-- m is a copy of source, made at this moment, with this change number: it has the bytes and dead properties of source
 pub record IsCopy (source : Node) (number now : ℕ) (m : Node) : Type 0 where
   pub kind : m.kind ≡ source.kind
   pub properties : m.properties ≡ source.properties
@@ -289,13 +288,13 @@ pub record IsCopy (source : Node) (number now : ℕ) (m : Node) : Type 0 where
   pub created : m.created ≡ now
   pub modified : m.modified ≡ now
 
--- a copy that is answered puts a copy of what stands at the one path to the other, with the next number
+-- a copy that succeeds puts a copy of what is at `from` at `to`, with the next change number
 abbrev pub CopyBrings : Type 0
 CopyBrings =
     (from to : Path) (now : ℕ) (w : World) (r : Unit {0} × World) (source : Node)
     → meaning (Copy from to now) w ≡ Ok r → node_at w from ≡ Some source → (m : Node) × (node_at r.1 to ≡ Some m) × IsCopy source w.next now m
 
--- a folder is no place for a copy
+-- nothing is copied over a folder
 abbrev pub CopySparesFolders : Type 0
 CopySparesFolders =
     (from to : Path) (now : ℕ) (w : World)

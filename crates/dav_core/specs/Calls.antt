@@ -1,5 +1,5 @@
--- What each call of a file store means (RFC 4918, sections 5 and 9): refusals in their order, then want of a number, then the
--- answer and the world after it.
+-- What each call of a file store means (RFC 4918, sections 5 and 9): its refusals in their order, the failure where no change
+-- number is left, then the answer and the world after it.
 use Rattle.std.specs.Prelude.{ℕ, ◌+◌, ◌||◌, ◌&&◌, nat_lt, Bool, not, if◌then◌else◌, List, [], length, take, drop, map, Option, Some, None, Ok, Err}
 use Rattle.std.specs.FinMap.{find}
 use Rattle.std.specs.declared.io.traits.SeekFrom.{SeekFrom}
@@ -12,7 +12,7 @@ use Rattle.dav_core.specs.World.{World, Node, Folder, File, node_at, is_folder_k
 use Rattle.dav_core.specs.Handle.{Handle, Opening, opened, write_place, place_for}
 use Rattle.dav_core.specs.Meaning.{Meaning, refuse_if, at_node, numbered}
 
--- what is told of a node: the length of a folder is 0
+-- the metadata of a node: the length of a folder is 0
 abbrev pub metadata_of : Node → DavMetaData
 metadata_of n = record { len = length (bytes_of n.kind); dir = is_folder_kind n.kind; created = n.created; modified = n.modified; number = Some n.number }
 
@@ -84,7 +84,7 @@ copy w from to now =
 abbrev pub emptied : ℕ → ℕ → Node → Node
 emptied number now n = record n { number = number; kind = File []; modified = now }
 
--- opening what is there: a file, which is emptied if that is asked
+-- opening what is there: a file, which is emptied where `truncate` is set
 abbrev pub open_found : World → Path → Opening → ℕ → Node → Meaning Handle
 open_found w p how now n =
     refuse_if (is_folder_kind n.kind) Forbidden
@@ -93,7 +93,7 @@ open_found w p how now n =
     then numbered w (λ number. Ok (opened n.made how, record { nodes = adjust p (emptied number now) w.nodes; next = w.next + 1 }))
     else Ok (opened n.made how, w)))
 
--- opening what isn't there: an empty file is made if that is asked
+-- opening what isn't there: an empty file is made where `create` or `create_new` is set
 abbrev pub open_missing : World → Path → Opening → ℕ → Meaning Handle
 open_missing w p how now =
     refuse_if (not (how.create || how.create_new)) NotFound
@@ -107,7 +107,7 @@ open_at w p how now (Some n) = open_found w p how now n
 abbrev pub open_file : World → Path → Opening → ℕ → Meaning Handle
 open_file w p how now = open_at w p how now (node_at w p)
 
--- the bytes from the place on, at most so many; the place moves behind them
+-- at most `count` bytes, from the position on; the position moves past them
 abbrev pub read_bytes : World → Handle → ℕ → Meaning (List ℕ × Handle)
 read_bytes w file count =
     at_node (file_made_with file.made w.nodes) (λ n.
@@ -119,8 +119,8 @@ read_bytes w file count =
 abbrev pub written : ℕ → List ℕ → ℕ → ℕ → Node → Node
 written k c number now n = record n { number = number; kind = File (splice (bytes_of n.kind) k c); modified = now }
 
--- The bytes go to the place of the open file, or to the end where it appends; a gap is filled with zeros, and the
--- place moves behind them. An empty write changes nothing.
+-- The bytes go to the position of the open file, or to the end where it appends; a gap is filled with zeros, and the
+-- position moves past them. An empty write changes nothing.
 abbrev pub write_bytes : World → Handle → List ℕ → ℕ → Meaning Handle
 write_bytes w file c now =
     at_node (file_made_with file.made w.nodes) (λ n.
@@ -135,7 +135,7 @@ abbrev pub sought : Handle → Option ℕ → World → Meaning (ℕ × Handle)
 sought file None w = Err GeneralFailure
 sought file (Some k) w = Ok ((k, record file { position = k }), w)
 
--- the place moves; it may lie past the end
+-- the position moves; it may be past the end
 abbrev pub seek : World → Handle → SeekFrom → Meaning (ℕ × Handle)
 seek w file to =
     at_node (file_made_with file.made w.nodes) (λ n.
@@ -166,6 +166,6 @@ stored_tree None w = Err NotFound
 stored_tree (Some None) w = Err NotFound
 stored_tree (Some (Some tree)) w = Ok (tree, w)
 
--- the element of one property; one that is stored without is not found
+-- the element of one property; one that is stored without an element is not found
 abbrev pub get_prop : World → Path → PropertyKey → Meaning ElementTree
 get_prop w p key = at_node (node_at w p) (λ n. stored_tree (find key_cmp key n.properties) w)

@@ -3,7 +3,7 @@ use Rattle.std.specs.Prelude.{ℕ, suc, max, ◌==◌, ◌++◌, Bool, true, fal
 use Rattle.std.specs.List.{filter, filter_map, concat, before_first, after_first, list_any}
 
 mutual
-  -- An element: its name, prefix and namespace, its attributes in order, and its children; or a text among them.
+  -- An element: its name, prefix and namespace, its attributes in order, and its children; or a text among the children.
   pub data ElementTree : Type 0 where
     element : (name : List ℕ) (prefix namespace : Option (List ℕ)) (attributes : List (List ℕ × List ℕ)) (children : ElementTrees) → ElementTree
     text : (bytes : List ℕ) → ElementTree
@@ -52,7 +52,7 @@ abbrev pub with_children : ElementTree → List ElementTree → ElementTree
 with_children (element name prefix namespace attributes children) others = element name prefix namespace attributes (trees others)
 with_children (text bytes) others = text bytes
 
--- the same element with a child behind the others
+-- the same element with one more child, after the others
 abbrev pub with_child : ElementTree → ElementTree → ElementTree
 with_child e child = with_children e (children_of e ++ child ∷ [])
 
@@ -60,8 +60,8 @@ with_child e child = with_children e (children_of e ++ child ∷ [])
 abbrev pub named : Option (List ℕ) → List ℕ → ElementTree
 named prefix name = element name prefix None [] no_trees
 
--- A name that may have a prefix (Namespaces in XML 1.0, section 4): what stands before its first colon, if it has one,
--- is the prefix, and what stands behind it the name.
+-- A name that may have a prefix (Namespaces in XML 1.0, section 4): what comes before its first colon, if it has one,
+-- is the prefix, and what comes after it the name.
 abbrev pub named_by : List ℕ → ElementTree
 named_by bytes = if list_any (λ b. b == 58) bytes
     then named (Some (before_first (λ b. b == 58) bytes)) (after_first (λ b. b == 58) bytes)
@@ -72,7 +72,7 @@ abbrev pub xmlns_name : List ℕ → List ℕ
 xmlns_name [] = codes "xmlns"
 xmlns_name (b ∷ prefix) = codes "xmlns:" ++ b ∷ prefix
 
--- The first attribute of that name has this value; a new one stands at the end.
+-- The first attribute of that name gets this value; a new one is added at the end.
 abbrev pub set_attribute : List ℕ → List ℕ → List (List ℕ × List ℕ) → List (List ℕ × List ℕ)
 set_attribute name value [] = (name, value) ∷ []
 set_attribute name value (a ∷ others) = if bytes_eq a.0 name then (name, value) ∷ others else a ∷ set_attribute name value others
@@ -104,7 +104,7 @@ is_named wanted (element name prefix namespace attributes children) = bytes_eq n
 is_named wanted (text bytes) = false
 
 abbrev mutual
-  -- how many elements stand one in another: 1 for an element without child elements, 0 for a text
+  -- how many levels of elements are nested: 1 for an element without child elements, 0 for a text
   pub depth_of : ElementTree → ℕ
   depth_of (element name prefix namespace attributes children) = suc (depth_among children)
   depth_of (text bytes) = 0

@@ -1,5 +1,5 @@
--- What an open file stands for: the file that took this number when it was made, wherever a rename brought it; the
--- place where the next read or write begins; and what it was opened for.
+-- What contracts see of an open file: the change number under which its file was created, which finds the file wherever
+-- a rename moved it; the position where the next read or write begins; and what it was opened for.
 use Rattle.std.specs.Prelude.{ℕ, ℤ, pos, ◌+ℤ◌, ◌||◌, int_lt, nat_lt, nat_abs, Bool, if◌then◌else◌, List, length, Option, Some, None}
 use Rattle.std.specs.declared.io.traits.SeekFrom.{SeekFrom}
 use Rattle.std.specs.declared.io.traits.SeekFrom.TheVariants.{Start, End, Current}
@@ -31,11 +31,11 @@ opened made how = record { made = made; position = 0; reads = how.read; writes =
 abbrev pub write_place : Handle → List ℕ → ℕ
 write_place file bytes = if file.appends then length bytes else file.position
 
--- a place that a number names; none before 0 or past 2^64 - 1
+-- the position that a number names; none before 0 or past 2^64 - 1
 abbrev pub place_within : ℤ → Option ℕ
 place_within z = if int_lt z (pos 0) then None else if nat_lt max_u64 (nat_abs z) then None else Some (nat_abs z)
 
--- where a seek goes from a place in a file of this length
+-- the position to which a seek moves from a position in a file of this length
 abbrev pub place_for : SeekFrom → ℕ → ℕ → Option ℕ
 place_for (Start k) position len = Some k
 place_for (End offset) position len = place_within (pos len +ℤ offset)

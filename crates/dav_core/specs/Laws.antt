@@ -1,4 +1,4 @@
--- What holds of every text and every path: the statements of the laws.
+-- What holds of every text, path, world and set of methods: the statements of the laws.
 use Rattle.std.specs.Prelude.{◌≡◌, ◌≢◌, ◌↔◌, ◌++◌, ◌∷◌, ℕ, ◌+◌, ◌^◌, ◌<◌, ◌≤◌, Bool, true, false, T, List, [], All, Contains, Some, None}
 use Rattle.dav_core.specs.declared.errors.ParseError.TheVariants.{InvalidPath, ForbiddenPath}
 use Rattle.dav_core.specs.Path.{Path, PathText, IsName, IsSegment, parent_of, joined, path_bytes, star, names_of, parent_bytes, with_slash, prefix_cut, are_equal}
@@ -10,7 +10,7 @@ use Rattle.std.specs.FinMap.{is_sorted}
 use Rattle.dav_core.specs.Property.{Properties, key_cmp}
 use Rattle.dav_core.specs.World.{World, Node, Kind, IsWorld, Renumbers, last_moment, last_number, empty_from, node_at, is_folder, with_new, adjust}
 
--- pieces leave one path
+-- pieces leave one path at most
 abbrev pub LeavesOnePath : Type 0
 LeavesOnePath = (ps : List (List ℕ)) (a b : Path) → Leaves ps a → Leaves ps b → a ≡ b
 
@@ -22,16 +22,16 @@ LeavesNoFault = (ps : List (List ℕ)) (a : Path) → Leaves ps a → ¬ Climbs 
 abbrev pub OneFault : Type 0
 OneFault = (ps : List (List ℕ)) → Climbs ps → ¬ HasBadPiece ps
 
--- a text is read as one path
+-- a text is read as one path at most
 abbrev pub ReadsOnePath : Type 0
 ReadsOnePath = (src a b : List ℕ) → Reads src a → Reads src b → a ≡ b
 
--- a text that is read isn't refused
+-- a text that is read isn't refused, neither as an invalid path nor as a forbidden one
 abbrev pub ReadIsNotRefused : Type 0
 ReadIsNotRefused =
     (src a : List ℕ) → Reads src a → ¬ IsRefused src InvalidPath × ¬ IsRefused src ForbiddenPath
 
--- a text is refused for one reason
+-- a text is refused for one reason at most: not both as an invalid path and as a forbidden one
 abbrev pub OneRefusal : Type 0
 OneRefusal = (src : List ℕ) → IsRefused src InvalidPath → ¬ IsRefused src ForbiddenPath
 
@@ -39,7 +39,7 @@ OneRefusal = (src : List ℕ) → IsRefused src InvalidPath → ¬ IsRefused src
 abbrev pub KeepsNames : Type 0
 KeepsNames = (ns : Path) (closed : Bool) → All IsName ns → names_of (path_bytes ns closed) ≡ ns
 
--- what a text is read as has names alone, whose bytes are below 256
+-- the path that a text is read as has names only, whose bytes are below 256
 abbrev pub ReadsNames : Type 0
 ReadsNames = (src a : List ℕ) → Reads src a → All IsName (names_of a) × All (All (λ b. b < 256)) (names_of a)
 
@@ -47,7 +47,7 @@ ReadsNames = (src a : List ℕ) → Reads src a → All IsName (names_of a) × A
 abbrev pub StarHasNoNames : Type 0
 StarHasNoNames = names_of star ≡ []
 
--- the text of a path that was read is read again as this path
+-- the URL text of a path that was read is read as this path again
 abbrev pub ReadsAgain : Type 0
 ReadsAgain =
     (src bytes written : List ℕ) → Reads src bytes → IsTextOf bytes written → Reads written bytes
@@ -61,7 +61,7 @@ NamesReadAgain =
 abbrev pub EmptyIsWorld : Type 0
 EmptyIsWorld = (next : ℕ) → 0 < next → next ≤ last_number → IsWorld (empty_from next)
 
--- a new folder or file at a path of names, below a folder and where nothing stood, leaves a world
+-- a new folder or file at a path of names, below a folder and where nothing is, leaves a world
 abbrev pub NewKeepsWorld : Type 0
 NewKeepsWorld =
     (w : World) (p : Path) (kind : Kind) (properties : Properties) (now : ℕ)
@@ -106,13 +106,13 @@ NamesAreSegments = (bytes : List ℕ) → All IsSegment (names_of bytes)
 abbrev pub NameIsSegment : Type 0
 NameIsSegment = (n : List ℕ) → IsName n → IsSegment n
 
--- a path is cut behind names in front of its names, and the other names are left
+-- a path can be cut after any of its first names, and the other names are left
 abbrev pub CutsAtNames : Type 0
 CutsAtNames =
     (ps ns : Path) (closed : Bool)
     → prefix_cut (joined ps) (path_bytes (ps ++ ns) closed) ≡ Some (record { prefix = joined ps; bytes = path_bytes ns closed })
 
--- and where a path of names is cut behind any prefix, the names behind those of the prefix are left
+-- and where a path of names is cut after any prefix, the names after those of the prefix are left
 abbrev pub CutKeepsNames : Type 0
 CutKeepsNames =
     (names : Path) (closed : Bool) (prefix : List ℕ) (cut : PathText)
@@ -125,11 +125,11 @@ ParentOfNames =
     (ns : Path) (closed : Bool)
     → All IsName ns → parent_bytes (path_bytes ns closed) ≡ path_bytes (parent_of ns) true
 
--- a name is that of one method, also where ASCII case is ignored
+-- a text names one method at most, also where ASCII case is ignored
 abbrev pub OneMethod : Type 0
 OneMethod = (text : List ℕ) (m n : DavMethod) → Names text m → Names text n → m ≡ n
 
--- a method's name is one of its names without regard to case
+-- a method's name names the method
 abbrev pub NameNames : Type 0
 NameNames = (m : DavMethod) → Names (method_name m) m
 

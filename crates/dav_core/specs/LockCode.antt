@@ -12,7 +12,7 @@ bytes_code = coded_list coded_ℕ
 abbrev path_code : Coded PathText
 path_code = code_by (List ℕ × List ℕ) (coded× bytes_code bytes_code) (λ p. (p.prefix, p.bytes)) (λ t. record { prefix = t.0; bytes = t.1 }) (λ _. refl)
 
--- when a lock ends, after how long, and what it is on
+-- when a lock ends, after how many seconds, whether it is shared, and whether it is of infinite depth
 abbrev Reach : Type 0
 Reach = Option ℕ × (Option ℕ × (Bool × Bool))
 

@@ -5,30 +5,30 @@ use Rattle.std.specs.List.{list_all}
 use Rattle.dav_core.specs.Path.{Path, names, is_at_or_below}
 use Rattle.dav_core.specs.Locks.{Lock, Asker, covers, is_held, is_free, is_free_deep, is_free_for, is_in_the_way, is_grantable, unlocked, refreshed, refreshed_lock, discovered, deleted}
 
--- where a path is free, whoever asks holds each exclusive lock that covers it
+-- where a path is free, the requester holds each exclusive lock that covers it
 abbrev pub FreeHoldsExclusive : Type 0
 FreeHoldsExclusive =
     (who : Asker) (p : Path) (ls : List Lock) (l : Lock)
     → is_free who p ls ≡ true → Contains ls l → covers l p ≡ true → l.shared ≡ false → is_held who l ≡ true
 
--- where it is free deeply, each lock at it and below it too
+-- where it is free with everything below, the requester holds each lock at it and below it too
 abbrev pub FreeDeepHoldsBelow : Type 0
 FreeDeepHoldsBelow =
     (who : Asker) (p : Path) (ls : List Lock) (l : Lock)
     → is_free_deep who p ls ≡ true → Contains ls l → is_at_or_below p (names l.path) ≡ true → is_held who l ≡ true
 
--- a path is free exactly where no lock stands in the way
+-- a path is free exactly where no lock conflicts
 abbrev pub FreeIsNothingInTheWay : Type 0
 FreeIsNothingInTheWay =
     (deep : Bool) (who : Asker) (p : Path) (ls : List Lock)
     → is_free_for deep who p ls ≡ list_all (λ l. not (is_in_the_way deep who p ls l)) ls
 
--- a lock that was just granted can be taken back by its token and path
+-- a lock that was just granted can be unlocked by its token and path
 abbrev pub GrantedCanBeUnlocked : Type 0
 GrantedCanBeUnlocked =
     (l : Lock) (ls : List Lock) → is_some (unlocked l.token (names l.path) (ls ++ l ∷ [])) ≡ true
 
--- and where no other lock has its token, what was there before is left
+-- and where no other lock has its token, that leaves the list as it was before
 abbrev pub TakenBack : Type 0
 TakenBack =
     (l : Lock) (ls : List Lock)
@@ -38,25 +38,25 @@ TakenBack =
 abbrev pub CoveringAreShared : List Lock → Type 0
 CoveringAreShared = AllPairs (λ l m. (p : Path) → covers l p ≡ true → covers m p ≡ true → (l.shared ≡ true) × (m.shared ≡ true))
 
--- they do with a lock more that may be granted
+-- they still do after one more lock was granted that may be
 abbrev pub GrantedAreShared : Type 0
 GrantedAreShared =
     (new : Lock) (ls : List Lock)
     → CoveringAreShared ls → is_grantable new ls ≡ true → CoveringAreShared (ls ++ new ∷ [])
 
--- without one that is unlocked
+-- after one was unlocked
 abbrev pub UnlockedAreShared : Type 0
 UnlockedAreShared =
     (token : List ℕ) (p : Path) (ls left : List Lock)
     → CoveringAreShared ls → unlocked token p ls ≡ Some left → CoveringAreShared left
 
--- with a new timeout of one
+-- after one got a new timeout
 abbrev pub RefreshedAreShared : Type 0
 RefreshedAreShared =
     (token : List ℕ) (p : Path) (timeout : Option ℕ) (now : ℕ) (ls new : List Lock)
     → CoveringAreShared ls → refreshed token p timeout now ls ≡ Some new → CoveringAreShared new
 
--- and without those at a path and below it
+-- and after those at a path and below it were deleted
 abbrev pub DeletedAreShared : Type 0
 DeletedAreShared = (p : Path) (ls : List Lock) → CoveringAreShared ls → CoveringAreShared (deleted p ls)
 
@@ -65,14 +65,14 @@ pub record IsMeant (token : List ℕ) (p : Path) (l : Lock) : Type 0 where
   pub token_is : l.token ≡ token
   pub above : is_at_or_below (names l.path) p ≡ true
 
--- an unlock takes one lock that is meant away, and leaves all others in their places (RFC 4918, section 9.11)
+-- an unlock removes one lock that is meant, and leaves all others in their places (RFC 4918, section 9.11)
 abbrev pub UnlockTakesOne : Type 0
 UnlockTakesOne =
     (token : List ℕ) (p : Path) (ls left : List Lock)
     → unlocked token p ls ≡ Some left
     → (l : Lock) × (front : List Lock) × (back : List Lock) × IsMeant token p l × (ls ≡ front ++ l ∷ back) × (left ≡ front ++ back)
 
--- a refresh gives one lock that is meant a new timeout; it keeps its place and all else, and so do all others
+-- a refresh gives one lock that is meant a new timeout, and changes nothing else of it; all locks keep their places
 -- (RFC 4918, section 9.10.2)
 abbrev pub RefreshChangesOne : Type 0
 RefreshChangesOne =

@@ -7,8 +7,8 @@ use Rattle.dav_core.specs.Element.{ElementTree}
 use Rattle.dav_core.specs.Lists.{without_first, change_first}
 use Rattle.dav_core.specs.Path.{Path, PathText, names, is_same_path, is_below, is_at_or_below, fronts}
 
--- A lock: its token, the path that it is on, whose it is, what its owner said of itself, when it ends and after how
--- many seconds it was to, whether it is shared, and whether it is on all that is below its path too.
+-- A lock: its token, the path that it is on, its principal, the element in which its owner describes itself, when it ends
+-- and after how many seconds, whether it is shared, and whether it is of infinite depth, on everything below its path too.
 pub record Lock : Type 0 where
   pub token : List ℕ
   pub path : PathText
@@ -19,16 +19,16 @@ pub record Lock : Type 0 where
   pub shared : Bool
   pub deep : Bool
 
--- a lock covers its path, and where it is deep all that is below it
+-- a lock covers its path, and where it is of infinite depth everything below it
 abbrev pub covers : Lock → Path → Bool
 covers l p = is_same_path (names l.path) p || (l.deep && is_below (names l.path) p)
 
--- Who asks: the tokens that are submitted, and whose they are to be; none where the principal isn't looked at.
+-- A requester: the tokens that it submits, and the principal whose locks they must be; none where that isn't checked.
 pub record Asker : Type 0 where
   pub tokens : List (List ℕ)
   pub principal : Option (Option (List ℕ))
 
--- who submits these tokens, with a principal that is ignored or looked at
+-- the requester that submits these tokens, with a principal that is ignored or checked
 abbrev pub asker_of : List (List ℕ) → Bool → Option (List ℕ) → Asker
 asker_of tokens ignored principal = record { tokens = tokens; principal = if ignored then None else Some principal }
 
@@ -39,49 +39,49 @@ abbrev pub is_of : Option (Option (List ℕ)) → Lock → Bool
 is_of None l = true
 is_of (Some principal) l = is_same_principal l.principal principal
 
--- a lock is held by who submits its token, and is its principal where that is looked at
+-- a requester holds a lock if it submits the lock's token, and is the lock's principal where that is checked
 abbrev pub is_held : Asker → Lock → Bool
 is_held who l = list_any (bytes_eq l.token) who.tokens && is_of who.principal l
 
--- A path is free: every exclusive lock that covers it is held, and some lock that covers it is held unless none does.
+-- A path is free for a requester that holds every exclusive lock covering it, and at least one covering lock if there is any.
 abbrev pub is_free : Asker → Path → List Lock → Bool
 is_free who p ls =
     list_all (λ l. is_held who l || l.shared || not (covers l p)) ls
     && (list_any (λ l. covers l p && is_held who l) ls || not (list_any (λ l. covers l p) ls))
 
--- it is free deeply: it is free, and every lock at it or below it is held
+-- a path is free with everything below: it is free, and the requester holds every lock at it or below it
 abbrev pub is_free_deep : Asker → Path → List Lock → Bool
 is_free_deep who p ls = is_free who p ls && list_all (λ l. is_held who l || not (is_at_or_below p (names l.path))) ls
 
 abbrev pub is_free_for : Bool → Asker → Path → List Lock → Bool
 is_free_for deep who p ls = if deep then is_free_deep who p ls else is_free who p ls
 
--- A lock stands in the way: it isn't held, and covers the path, exclusively or with no covering lock held; or it is
--- at the path or below it, and that is asked too.
+-- A lock conflicts: the requester doesn't hold it, and it covers the path and is exclusive, or covers it while no covering
+-- lock is held; or it is at the path or below it, where the path is checked with everything below.
 abbrev pub is_in_the_way : Bool → Asker → Path → List Lock → Lock → Bool
 is_in_the_way deep who p ls l =
     not (is_held who l)
     && ((covers l p && (not l.shared || not (list_any (λ m. covers m p && is_held who m) ls)))
     || (deep && is_at_or_below p (names l.path)))
 
--- The answer to the question whether a path is free: yes, or one lock that stands in the way.
+-- The answer to a check whether a path is free: yes, or one lock that conflicts.
 pub data Checks (deep : Bool) (who : Asker) (p : Path) (ls : List Lock) : Result (Unit {0}) Lock → Type 0 where
   free : is_free_for deep who p ls ≡ true → Checks deep who p ls (Ok tt)
   in_the_way : {l : Lock} → Contains ls l → is_in_the_way deep who p ls l ≡ true → Checks deep who p ls (Err l)
 
--- an answer that lends its lock
+-- an answer that lends the lock that conflicts
 abbrev pub lent : Result (Unit {0}) (Bor Lock) → Result (Unit {0}) Lock
 lent (Ok u) = Ok u
 lent (Err l) = Err l.now
 
 -- A lock may be granted: an exclusive one where no lock covers its path, a shared one where no exclusive lock does;
--- and a deep one where no lock is below its path either.
+-- and one of infinite depth only where no lock is below its path either.
 abbrev pub is_grantable : Lock → List Lock → Bool
 is_grantable new ls =
     not (list_any (λ l. covers l (names new.path) && not (l.shared && new.shared)) ls)
     && not (new.deep && list_any (λ l. is_below (names new.path) (names l.path)) ls)
 
--- when a lock ends that is to end after so many seconds
+-- the moment when a lock ends that has this timeout, in seconds; none without a timeout
 abbrev pub ends_at : ℕ → Option ℕ → Option ℕ
 ends_at now timeout = option_map (λ seconds. now + seconds) timeout
 
@@ -102,15 +102,15 @@ new_lock token path principal owner timeout shared deep now = record {
 abbrev pub refreshed_lock : Option ℕ → ℕ → Lock → Lock
 refreshed_lock timeout now l = record l { timeout_at = ends_at now timeout; timeout = timeout }
 
--- it has this token and this path
+-- the lock has this token and this path
 abbrev pub is_named : List ℕ → Path → Lock → Bool
 is_named token p l = bytes_eq l.token token && is_same_path (names l.path) p
 
--- A token and a path mean a lock with the token at a front of the path: the shortest such front.
+-- The path of the lock that a token and a path mean: the shortest front of the path at which a lock has the token.
 abbrev pub lock_front : List ℕ → Path → List Lock → Option Path
 lock_front token p ls = first (λ q. list_any (is_named token q) ls) (fronts p)
 
--- and the first that was granted there
+-- and the lock that they mean: the first with the token that was granted there
 abbrev pub named_lock : List ℕ → Path → List Lock → Option Lock
 named_lock token p ls = option_and_then (λ q. first (is_named token q) ls) (lock_front token p ls)
 

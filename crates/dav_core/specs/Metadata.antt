@@ -1,4 +1,4 @@
--- What is told of a file or folder, and how one is opened.
+-- The entity tag of a file or folder, and how a file is opened.
 use Rattle.std.specs.Prelude.{ℕ, ◌++◌, false, List, [], ◌∷◌, None, string_bytes}
 use Rattle.std.specs.Option.{option_map}
 use Rattle.std.specs.Fmt.{digits}
@@ -9,7 +9,7 @@ use Rattle.dav_core.specs.Handle.{Opening}
 abbrev pub tag_of : ℕ → List ℕ
 tag_of number = 34 ∷ (digits 16 false number ++ 34 ∷ [])
 
--- how a file is opened, without where its texts lie in memory
+-- how a file is opened, with its texts as bytes
 abbrev pub opening_of : OpenOptions → Opening
 opening_of o = record {
   read = o.read;
@@ -22,6 +22,6 @@ opening_of o = record {
   checksum = option_map string_bytes o.checksum;
 }
 
--- nothing is asked
+-- no option is set
 abbrev pub no_opening : Opening
 no_opening = record { read = false; write = false; append = false; truncate = false; create = false; create_new = false; size = None; checksum = None }

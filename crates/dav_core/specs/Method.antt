@@ -35,7 +35,7 @@ method_name Report = codes "REPORT"
 method_name MkCalendar = codes "MKCALENDAR"
 method_name MkAddressbook = codes "MKADDRESSBOOK"
 
--- the method that the text is the name of; no method has another name
+-- the method whose name the text is, byte for byte; `UnknownDavMethod` where it is the name of none
 abbrev pub GivesMethod : List ℕ → Result DavMethod DavError → Type 0
 GivesMethod text (Ok m) = text ≡ method_name m
 GivesMethod text (Err e) = (e ≡ dav.UnknownDavMethod) × ((m : DavMethod) → text ≢ method_name m)
@@ -67,7 +67,7 @@ place_of Report = 13
 place_of MkCalendar = 14
 place_of MkAddressbook = 15
 
--- A set of methods is a number below 2^16. Its bit at the place of a method tells whether the set has the method.
+-- A set of methods is a number below 2^16. Its bit at the place of a method says whether the set has the method.
 abbrev pub bit_of : DavMethod → ℕ
 bit_of m = 2 ^ place_of m
 
@@ -78,7 +78,7 @@ Has set m = bit_at set (place_of m) ≡ 1
 abbrev pub members : ℕ → List DavMethod
 members set = filter (λ m. bit_at set (place_of m) == 1) all_methods
 
--- what the texts that are lent say
+-- the bytes of texts that are lent
 abbrev pub texts_of : List (Bor (List ℕ)) → List (List ℕ)
 texts_of = map (λ t. t.now)
 

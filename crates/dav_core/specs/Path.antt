@@ -6,11 +6,11 @@ use Rattle.std.specs.declared.cmp.Ordering.{Ordering}
 use Rattle.std.specs.Ordering.{nat_cmp, is_eq, on}
 use Rattle.std.specs.Cmp.Lexicographic.{slice_cmp, pointwise}
 
--- `..`, the segment that stands for the parent
+-- `..`, the segment that means the parent
 abbrev pub parent_piece : List ℕ
 parent_piece = 46 ∷ 46 ∷ []
 
--- nothing, or `.`: a segment that stands for no name
+-- nothing, or `.`: a segment that names nothing
 abbrev pub IsBlank : List ℕ → Type 0
 IsBlank p = (p ≡ []) ⊎ (p ≡ 46 ∷ [])
 
@@ -18,7 +18,7 @@ IsBlank p = (p ≡ []) ⊎ (p ≡ 46 ∷ [])
 abbrev pub IsBarred : ℕ → Type 0
 IsBarred b = (b ≡ 0) ⊎ (b ≡ 47)
 
--- a zero byte or a slash stands in it
+-- there is a zero byte or a slash in it
 abbrev pub IsBad : List ℕ → Type 0
 IsBad p = (b : ℕ) × IsBarred b × Contains p b
 
@@ -74,7 +74,7 @@ abbrev pub fronts : Path → List Path
 fronts [] = [] ∷ []
 fronts (x ∷ p) = [] ∷ map (λ q. x ∷ q) (fronts p)
 
--- the one name of a path that has one
+-- the name of a path that has exactly one
 abbrev pub only_name : Option Path → Option (List ℕ)
 only_name None = None
 only_name (Some []) = None
@@ -87,7 +87,7 @@ parent_of [] = []
 parent_of (x ∷ []) = []
 parent_of (x ∷ y ∷ p) = x ∷ parent_of (y ∷ p)
 
--- A path as bytes: the names, each behind a slash
+-- A path as bytes: the names, each after a slash
 abbrev pub joined : Path → List ℕ
 joined names = flat_map (λ n. 47 ∷ n) names
 
@@ -104,7 +104,7 @@ abbrev pub is_nonempty : {X : Type 0} → List X → Bool
 is_nonempty [] = false
 is_nonempty (x ∷ xs) = true
 
--- The names in the bytes of a path: what stands between slashes and isn't empty. The star path has none.
+-- The names in the bytes of a path: what is between slashes and isn't empty. The star path has none.
 abbrev pub names_in : List ℕ → Path
 names_in bytes = filter is_nonempty (slice_split (λ b. b == 47) bytes)
 
@@ -127,7 +127,7 @@ with_slash bytes = bytes ++ end_for (is_collection bytes)
 abbrev pub without_slash : List ℕ → List ℕ
 without_slash bytes = if is_collection bytes then take (length bytes - 1) bytes else bytes
 
--- without the slash at the front
+-- without the slash that it begins with
 abbrev pub without_first_slash : List ℕ → List ℕ
 without_first_slash [] = []
 without_first_slash (b ∷ bs) = if b == 47 then bs else b ∷ bs
@@ -146,11 +146,11 @@ abbrev pub without_end : (ℕ → Bool) → List ℕ → List ℕ
 without_end p [] = []
 without_end p (b ∷ bs) = onto_end p b (without_end p bs)
 
--- what stands before the last name: up to and with the slash there
+-- everything up to and with the slash before the last name
 abbrev pub before_last_name : List ℕ → List ℕ
 before_last_name bytes = without_end (λ b. not (b == 47)) (without_end (λ b. b == 47) bytes)
 
--- The parent of a path: what stands before its last name. A path without a slash before a name, as the root and
+-- The parent of a path: everything before its last name. A path without a slash before a name, as the root and
 -- the star path, is its own parent.
 abbrev pub parent_bytes : List ℕ → List ℕ
 parent_bytes bytes = if is_nonempty (before_last_name bytes) then before_last_name bytes else bytes
@@ -159,7 +159,7 @@ parent_bytes bytes = if is_nonempty (before_last_name bytes) then before_last_na
 abbrev pub last_name : List ℕ → List ℕ
 last_name bytes = unwrap_or (last_or None (names_of bytes)) []
 
--- What contracts see of a path: the bytes of its prefix, and those behind it.
+-- What contracts see of a path: the bytes of its prefix, and those after it.
 pub record PathText : Type 0 where
   pub prefix : List ℕ
   pub bytes : List ℕ
@@ -172,28 +172,28 @@ full_bytes p = p.prefix ++ p.bytes
 abbrev pub are_equal : PathText → PathText → Bool
 are_equal = on (λ p. trimmed (full_bytes p)) (pointwise ◌==◌)
 
--- the path with these bytes behind its prefix
+-- the path with these bytes after its prefix
 abbrev pub with_bytes : PathText → List ℕ → PathText
 with_bytes p bytes = record { prefix = p.prefix; bytes = bytes }
 
--- the names of a path behind its prefix
+-- the names of a path after its prefix
 abbrev pub names : PathText → Path
 names p = names_of p.bytes
 
--- what follows the front p in a text; none where the text doesn't begin with it
+-- what follows p in a text; none where the text doesn't begin with p
 abbrev pub behind : List ℕ → List ℕ → Option (List ℕ)
 behind [] bytes = Some bytes
 behind (b ∷ p) [] = None
 behind (b ∷ p) (c ∷ bytes) = if b == c then behind p bytes else None
 
--- A path whose prefix is p, from what follows p in it: p may be all of the path, which then gets a slash behind it,
+-- A path whose prefix is p, from what follows p in it: p may be all of the path, which then gets a slash after it,
 -- or be followed by a slash.
 abbrev pub cut_at : List ℕ → Option (List ℕ) → Option PathText
 cut_at p None = None
 cut_at p (Some []) = Some (record { prefix = p; bytes = 47 ∷ [] })
 cut_at p (Some (b ∷ bs)) = if b == 47 then Some (record { prefix = p; bytes = b ∷ bs }) else None
 
--- The path with these bytes, cut behind the prefix p; none where p is no prefix of it. An empty prefix is always one.
+-- The path with these bytes, cut after the prefix p; none where p is no prefix of it. An empty prefix is always one.
 abbrev pub prefix_cut : List ℕ → List ℕ → Option PathText
 prefix_cut [] bytes = Some (record { prefix = []; bytes = bytes })
 prefix_cut (b ∷ p) bytes = cut_at (b ∷ p) (behind (b ∷ p) bytes)

@@ -21,14 +21,14 @@ abbrev pub GivesText : Type 0 → List ℕ → Option (Bor (List ℕ)) → Type 
 GivesText Wanted bytes None = ¬ (Wanted × IsUtf8 bytes)
 GivesText Wanted bytes (Some s) = Wanted × (s.now ≡ bytes)
 
--- why a prefix is refused: it is none of the path, or memory ran out
+-- why a prefix is refused: it isn't one of the path, or memory ran out
 abbrev pub IsCutRefused : Option PathText → ParseError → Type 0
 IsCutRefused cut InvalidPath = ⊥
 IsCutRefused cut PrefixMismatch = cut ≡ None
 IsCutRefused cut ForbiddenPath = ⊥
 IsCutRefused cut Memory = ⊤
 
--- where a path is cut behind the prefix p, and whether a slash is added there
+-- whether a path can be cut after the prefix p, and if so whether a slash is added there
 abbrev pub CutsAt : List ℕ → List ℕ → Option Bool → Type 0
 CutsAt p bytes None = prefix_cut p bytes ≡ None
 CutsAt p bytes (Some lacks_slash) =

@@ -27,7 +27,7 @@ pub record Property : Type 0 where
   pub namespace : Option (List ℕ)
   pub xml : Option ElementTree
 
--- what it is known by: no namespace and an empty one are the same
+-- the key of a property: no namespace and an empty one are the same
 abbrev pub property_key : Property → PropertyKey
 property_key p = (unwrap_or p.namespace [], p.name)
 
@@ -67,7 +67,7 @@ abbrev pub some_namespace : List ℕ → Option (List ℕ)
 some_namespace [] = None
 some_namespace (b ∷ bs) = Some (b ∷ bs)
 
--- A stored property as it is shown: with the prefix of its element, and with its element or without.
+-- A stored property as it is handed out: with the prefix of its element, and with its element or without.
 abbrev pub shown_property : Bool → PropertyKey × Option ElementTree → Property
 shown_property content e = record {
   name = e.0.1;

@@ -1,4 +1,4 @@
--- The statuses that tell of errors (RFC 9110, section 15; RFC 4918, section 11; RFC 5842, section 7.2).
+-- The statuses that report errors (RFC 9110, section 15; RFC 4918, section 11; RFC 5842, section 7.2).
 use Rattle.std.specs.Prelude.{ℕ, Bool, true, false}
 use Rattle.dav_core.specs.declared.errors.ParseError.{ParseError}
 use Rattle.dav_core.specs.declared.errors.ParseError.TheVariants as parse
@@ -33,7 +33,7 @@ dav_status (dav.StatusClose status) = status
 dav_status (dav.FsError e) = fs_status e
 dav_status dav.Memory = 507
 
--- the connection closes behind the reply (RFC 9112, section 9.6)
+-- the connection closes after the reply (RFC 9112, section 9.6)
 abbrev pub must_close : DavError → Bool
 must_close dav.XmlParseError = false
 must_close dav.InvalidPath = false

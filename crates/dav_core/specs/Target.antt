@@ -33,7 +33,7 @@ HasBadPiece ps =
 abbrev pub IsTextByte : ℕ → Type 0
 IsTextByte b = (32 ≤ b) × (b ≤ 126) × (b ≢ 35)
 
--- what stands before the first `?`
+-- what comes before the first `?`
 abbrev pub text_of : List ℕ → List ℕ
 text_of src = before_first (λ b. b == 63) src
 
@@ -41,7 +41,7 @@ text_of src = before_first (λ b. b == 63) src
 abbrev pub pieces_of : List ℕ → List (List ℕ)
 pieces_of src = map percent_decode (slice_split (λ b. b == 47) (text_of src))
 
--- a text that can name a path: bytes 32 to 126 but `#`, and a slash in front
+-- a text that can name a path: bytes 32 to 126 but `#`, beginning with a slash
 pub record IsRooted (src : List ℕ) : Type 0 where
   pub text : All IsTextByte src
   pub rooted : (rest : List ℕ) × (src ≡ 47 ∷ rest)
@@ -66,7 +66,7 @@ Reads src bytes =
     ⊎ ((names : Path) × (closed : Bool) × NamesPath src names closed × (bytes ≡ path_bytes names closed))
 
 -- Why a text is refused: it can't name a path, or the first piece that refuses decides. No text is refused for
--- its prefix here. Memory is wanted only for a text that can name a path, or for the star path.
+-- its prefix here. Memory runs out only for a text that can name a path, or for the star path.
 abbrev pub IsRefused : List ℕ → ParseError → Type 0
 IsRefused src InvalidPath = (src ≢ star) × ((¬ IsRooted src) ⊎ HasBadPiece (pieces_of src))
 IsRefused src PrefixMismatch = ⊥

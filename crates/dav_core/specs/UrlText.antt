@@ -5,7 +5,7 @@ use Rattle.std.specs.Char.{is_ascii_alphanumeric}
 use Rattle.percent_encoding.specs.Percent.{percent_encode_byte}
 use Rattle.dav_core.specs.Path.{star}
 
--- letters, digits and `-_.~/` stand for themselves
+-- letters, digits and `-_.~/` are written as they are
 abbrev pub is_url_byte : ℕ → Bool
 is_url_byte b = is_ascii_alphanumeric b || list_any (λ c. c == b) (45 ∷ 95 ∷ 46 ∷ 126 ∷ 47 ∷ [])
 

@@ -13,8 +13,8 @@ pub data Kind : Type 0 where
   Folder : Kind
   File : List ℕ → Kind
 
--- A folder or file: the number that it took when it was made, the last number that it took, what it is,
--- its dead properties, and when it was made and last changed, in seconds since 1970.
+-- A folder or file: the change number under which it was created, the last change number that it took, what it is,
+-- its dead properties, and when it was created and last changed, in seconds since 1970.
 pub record Node : Type 0 where
   pub made : ℕ
   pub number : ℕ
@@ -31,7 +31,7 @@ pub record World : Type 0 where
   pub nodes : Nodes
   pub next : ℕ
 
--- what stands at a path
+-- what is at a path
 abbrev pub node_at : World → Path → Option Node
 node_at w p = find path_cmp p w.nodes
 
@@ -77,18 +77,18 @@ union (e ∷ es) ns = put path_cmp e.0 e.1 (union es ns)
 abbrev pub moved : Path → Path → Nodes → Nodes
 moved from to ns = union (graft from to ns) (prune to (prune from ns))
 
--- what stands directly below p, by its name and whether it is a folder, in the order of the names' bytes
+-- what is directly below p, by its name and whether it is a folder, in the order of the names' bytes
 abbrev pub members : Path → Nodes → List (List ℕ × Bool)
 members p = filter_map (λ e. option_map (λ name. (name, is_folder_kind e.1.kind)) (only_name (rest_after p e.0)))
 
 abbrev pub has_members : World → Path → Bool
 has_members w p = is_nonempty (members p w.nodes)
 
--- it is a file that was made with this number
+-- it is a file that was created under this change number
 abbrev pub is_file_made_with : ℕ → Path × Node → Bool
 is_file_made_with made e = (e.1.made == made) && not (is_folder_kind e.1.kind)
 
--- the file that was made with this number
+-- the file that was created under this change number
 abbrev pub file_made_with : ℕ → Nodes → Option Node
 file_made_with made ns = option_map (λ e. e.1) (first (is_file_made_with made) ns)
 
@@ -104,7 +104,7 @@ last_moment = 253402300799
 abbrev pub max_file_len : ℕ
 max_file_len = 2147483647
 
--- Each path stands once, in order; the root is a folder, and so is the parent of whatever is there (RFC 4918,
+-- Each path is there once, in order; the root is a folder, and so is the parent of whatever is there (RFC 4918,
 -- section 5.1).
 pub record IsTree (ns : Nodes) : Type 0 where
   pub sorted : T (is_sorted path_cmp ns)
@@ -116,8 +116,8 @@ pub record IsNumbered (number_of : Node → ℕ) (w : World) : Type 0 where
   pub below : (p : Path) (n : Node) → find path_cmp p w.nodes ≡ Some n → number_of n < w.next
   pub once : (p q : Path) (n m : Node) → find path_cmp p w.nodes ≡ Some n → find path_cmp q w.nodes ≡ Some m → number_of n ≡ number_of m → p ≡ q
 
--- A node stands at a path of names, whose bytes are below 256; it never has a number below the one that it was
--- made with; its properties stand in order of their keys; and its times can be shown.
+-- A node is at a path of names, whose bytes are below 256; its last change number is not below the one under which it was
+-- created; its properties are in order of their keys; and its times can be shown as HTTP dates.
 pub record IsSound (p : Path) (n : Node) : Type 0 where
   pub names : All IsName p
   pub bytes : All (All (λ b. b < 256)) p
@@ -127,7 +127,7 @@ pub record IsSound (p : Path) (n : Node) : Type 0 where
   pub modified : n.modified ≤ last_moment
 
 -- What makes a map a world: a tree of sound nodes, in which no node has a number that another one has, the root was
--- made with number 0, and the next number is at most the last.
+-- created under number 0, and the next number is at most the last.
 pub record IsWorld (w : World) : Type 0 where
   pub tree : IsTree w.nodes
   pub numbers : IsNumbered (λ n. n.number) w
@@ -137,7 +137,7 @@ pub record IsWorld (w : World) : Type 0 where
   pub next : w.next ≤ last_number
   pub sound : (p : Path) (n : Node) → find path_cmp p w.nodes ≡ Some n → IsSound p n
 
--- a new folder or file without properties, made at this moment with this number
+-- a new folder or file without properties, created at this moment under this change number
 abbrev pub fresh : ℕ → Kind → ℕ → Node
 fresh number kind now = record { made = number; number = number; kind = kind; properties = []; created = now; modified = now }
 
@@ -161,8 +161,7 @@ modified_at now n = record n { modified = now }
 abbrev pub touched : Path → ℕ → Nodes → Nodes
 touched p now = adjust (parent_of p) (modified_at now)
 
--- A new folder or file at p, with the next number; where something stands there, it is replaced, so callers see
--- that nothing does.
+-- A new folder or file at p, with the next number. It would replace what is at p, so callers make sure that nothing is.
 abbrev pub with_new : World → Path → Kind → Properties → ℕ → World
 with_new w p kind properties now = record {
   nodes = touched p now (put path_cmp p (record (fresh w.next kind now) { properties = properties }) w.nodes);

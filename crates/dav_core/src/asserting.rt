@@ -1,9 +1,9 @@
-//! What tests assert. An assertion that is written out costs the proof of its test seconds, a call of this a small part of that.
-//! A row of text costs nothing.
+//! Assertions of tests. An assertion that is written out adds seconds to the proof of its test, a call of `same` a small part
+//! of that, and a row of text nothing.
 use std::fmt::Debug;
 use std::process::Abort;
 
-// That two values are equal; the test fails where they are not, and prints both.
+// Asserts that two values are equal; the test fails where they are not, and prints both.
 pub(crate) fn same<T: PartialEq + Debug>(rt: &impl Abort, left: &T, right: &T) {
     assert_eq!(rt; left, right);
 }
@@ -13,7 +13,7 @@ pub(crate) fn is_row(line: &str) -> bool {
     !line.is_empty() && !line.starts_with("# ")
 }
 
-// The name at the head of a row, the text between its outer bars, and the wanted outcome.
+// The name that a row begins with, the text between its outer bars, and the wanted outcome.
 pub(crate) fn parts(row: &str) -> Option<(&str, &str, &str)> {
     let (input, wanted) = row.split_once(" -> ")?;
     let (name, texts) = input.split_once(" |")?;

@@ -18,7 +18,7 @@ use std::fmt;
 use std::marker::Model;
 use url_text::{escaped, url_text};
 
-/// The path of a resource: its names, each behind a slash, and a slash at the end where its text has one; or `*`,
+/// The path of a resource: its names, each after a slash, and a slash at the end where its text has one; or `*`,
 /// the path of the whole server (RFC 9110, section 7.1).
 #[derive(Drop)]
 pub struct DavPath {
@@ -46,13 +46,13 @@ impl DavPath {
     ghost use Rattle.dav_core.specs.UrlText.{IsTextOf};
     ghost use Rattle.http_uri.specs.Uri.{uri_path};
 
-    /// Reads the target of a request (RFC 9112, section 3.2): what stands before the first `?`, with escapes decoded
+    /// The path in the target of a request (RFC 9112, section 3.2): what comes before the first `?`, with escapes decoded
     /// (RFC 3986, section 2.1), without empty and `.` segments, and with each `..` and the name before it removed
     /// (section 5.2.4).
     ///
-    /// `*` alone is the star path. `InvalidPath` where any other text doesn't begin with a slash, holds `#` or a byte outside 32 to 126, or a segment
-    /// decodes to a zero byte or a slash; `ForbiddenPath` where it climbs above the root. The first segment that
-    /// refuses decides.
+    /// `*` alone is the star path. `InvalidPath` where any other text doesn't begin with a slash, holds `#` or a byte
+    /// outside 32 to 126, or has a zero byte or a slash in a decoded segment; `ForbiddenPath` where it climbs above the
+    /// root. The first segment that is refused decides which.
     pub fn new(alloc: Global, src: &str) -> Result<DavPath, ParseError>
         ensures ok { IfOk result (λ p. (p.prefix ≡ []) × Reads src.now p.bytes) }
         ensures err { IfErr result (IsRefused src.now) }
@@ -76,7 +76,7 @@ impl DavPath {
         })
     }
 
-    /// The path of a URI as it stands there: nothing is decoded, and nothing is refused.
+    /// The path of a URI as it is: nothing is decoded, and nothing is refused.
     pub fn from_uri(alloc: Global, uri: &Uri) -> Result<DavPath, NoMemory>
         ensures { IfOk result (λ p. p ≡ record { prefix = []; bytes = uri_path uri.now }) }
     {
@@ -93,7 +93,7 @@ impl DavPath {
         str::from_utf8(&self.full[..self.prefix_len]).unwrap()
     }
 
-    /// All of the path.
+    /// All of the path, with its prefix.
     pub fn with_prefix(&self) -> DavPathRef<'_>
         ensures { ref_bytes result ≡ full_bytes self.now }
     {
@@ -114,7 +114,7 @@ impl DavPath {
         ends::is_collection(self.as_bytes())
     }
 
-    /// The bytes of the path behind its prefix.
+    /// The bytes of the path after its prefix.
     pub fn as_bytes(&self) -> &[u8]
         ensures { result.now ≡ self.now.bytes }
     {
@@ -128,7 +128,7 @@ impl DavPath {
         self.as_ref().segments()
     }
 
-    /// The path behind its prefix in a URL, as `DavPathRef::as_url_string` writes it.
+    /// The path after its prefix in a URL, as `DavPathRef::as_url_string` writes it.
     pub fn as_url_string(&self) -> Result<String, NoMemory>
         ensures { IfOk result (λ s. IsTextOf self.now.bytes (string_bytes s)) }
     {
@@ -156,15 +156,15 @@ impl DavPath {
         self.as_ref().as_pathbuf()
     }
 
-    /// The same without the slash that it begins with.
+    /// The path as text, without its prefix and without the slash that it begins with; `None` where it isn't UTF-8.
     pub fn as_rel_ospath(&self) -> Option<&str>
         ensures { GivesText ⊤ (without_first_slash self.now.bytes) result }
     {
         self.as_ref().as_rel_ospath()
     }
 
-    /// The path up to and with the slash before its last name, behind the same prefix; the root and `*` are their own
-    /// parents.
+    /// The parent, after the same prefix: the path up to and with the slash before its last name; the root and `*` are their
+    /// own parents.
     pub fn parent(&self) -> Result<DavPath, NoMemory>
         ensures { IfOk result (λ p. p ≡ with_bytes self.now (parent_bytes self.now.bytes)) }
     {
@@ -175,8 +175,8 @@ impl DavPath {
         })
     }
 
-    /// Makes a text the prefix of the path, without the slash at the text's end. It may be empty, all of the path (a
-    /// slash is then added behind it), or followed by a slash in it.
+    /// Makes a text, without the slash at its end, the prefix of the path. The text may be empty, all of the path (a slash is
+    /// then added after it), or followed by a slash in the path.
     ///
     /// `PrefixMismatch` where it is none of these. After an error the path is as it was.
     pub fn set_prefix(&mut self, prefix: &str) -> Result<(), ParseError>
@@ -195,7 +195,7 @@ impl DavPath {
         Ok(())
     }
 
-    /// Adds a slash where none ends the path. Where memory runs out, the path stays as it was.
+    /// Adds a slash at the end of the path where there is none. Where memory runs out, the path stays as it was.
     pub fn add_slash(&mut self) -> Result<(), NoMemory>
         ensures ok { OnOk result (self.new ≡ with_bytes self.old (with_slash self.old.bytes)) }
         ensures err { OnErr result (self.new ≡ self.old) }
@@ -203,7 +203,8 @@ impl DavPath {
         self.push_segment(b"")
     }
 
-    /// Adds a slash where it is wanted and none ends the path. Where memory runs out, the path stays as it was.
+    /// Adds a slash at the end of the path if `wanted`, where there is none. Where memory runs out, the path stays as it
+    /// was.
     pub fn add_slash_if(&mut self, wanted: bool) -> Result<(), NoMemory>
         ensures ok { OnOk result (self.new ≡ (if wanted then with_bytes self.old (with_slash self.old.bytes) else self.old)) }
         ensures err { OnErr result (self.new ≡ self.old) }
@@ -214,8 +215,8 @@ impl DavPath {
         Ok(())
     }
 
-    /// Adds a name behind the path, with a slash between where none ends the path. Where memory runs out, the path
-    /// stays as it was.
+    /// Adds a name at the end of the path, after a slash, which is added where the path doesn't end in one. Where memory
+    /// runs out, the path stays as it was.
     pub fn push_segment(&mut self, name: &[u8]) -> Result<(), NoMemory>
         ensures ok { OnOk result (self.new ≡ with_bytes self.old (with_slash self.old.bytes ++ name.now)) }
         ensures err { OnErr result (self.new ≡ self.old) }
@@ -224,7 +225,7 @@ impl DavPath {
         push_after_slash(&mut self.full, is_collection, name)
     }
 
-    /// The path behind its prefix.
+    /// The path after its prefix.
     pub fn as_ref(&self) -> DavPathRef<'_>
         ensures { ref_bytes result ≡ self.now.bytes }
     {
@@ -269,7 +270,7 @@ impl Eq for DavPath {
     ghost laws = { Prim.search (comparing, rules) };
 }
 
-/// Writes all of the path in a URL, as `as_url_string` does.
+/// Writes all of the path, with its prefix, as `as_url_string` does.
 impl fmt::Display for DavPath {
     ghost use Rattle.std.specs.Prelude.{Some};
     ghost use Rattle.dav_core.specs.Path.{full_bytes};
@@ -327,7 +328,7 @@ impl<'a> DavPathRef<'a> {
         ends::is_collection(self.bytes)
     }
 
-    /// The path up to and with the slash before its last name; the root and `*` are their own parents.
+    /// The parent: the path up to and with the slash before its last name; the root and `*` are their own parents.
     pub fn parent(self) -> DavPathRef<'a>
         ensures { ref_bytes result ≡ parent_bytes (ref_bytes self.entry) }
     {
@@ -421,21 +422,21 @@ impl<'a> Iterator for Segments<'a> {
     }
 }
 
-// The path of the whole server.
+// Whether this is the path of the whole server.
 fn is_star(bytes: &[u8]) -> bool
     ensures { IsTrue result ↔ (bytes.now ≡ star) }
 {
     matches!(bytes, [b'*'])
 }
 
-// How many slashes stand at the front.
+// How many slashes the bytes begin with.
 fn slashes_at_front(bytes: &[u8]) -> usize
     ensures { result ≡ prefix_len (λ b. b == 47) bytes.now }
 {
     bytes.iter().take_while(|b| **b == b'/').count()
 }
 
-// What stands behind the slashes at the front.
+// The bytes without the slashes that they begin with.
 fn skip_slashes(bytes: &[u8]) -> &[u8]
     ensures same { names_in result.now ≡ names_in bytes.now }
     ensures bare { (rest : List ℕ) → result.now ≢ 47 ∷ rest }

@@ -7,7 +7,7 @@ use crate::errors::NoMemory;
 use std::alloc::Global;
 use std::marker::Model;
 
-/// A property: its name, prefix and namespace, and its element where its value is given.
+/// A property: its name, prefix and namespace, and its element where it has a value.
 #[derive(Debug, Drop)]
 pub struct DavProp {
     /// The name, without its prefix.

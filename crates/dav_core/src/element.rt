@@ -79,7 +79,7 @@ impl Element {
         })
     }
 
-    /// An element of the name behind the first colon, with the prefix before it; without a colon the whole is its name
+    /// An element with the name after the first colon and the prefix before it; without a colon the whole is its name
     /// (Namespaces in XML 1.0, section 4).
     pub fn new2(alloc: Global, name: &str) -> Result<Element, NoMemory>
         ensures { IfOk result (λ e. e ≡ named_by name.now) }
@@ -93,7 +93,7 @@ impl Element {
     }
 
     /// Sets the attribute `xmlns:` and the prefix, or `xmlns` for an empty prefix, to a namespace (Namespaces in XML
-    /// 1.0, section 3): where the element has one, the first gets this value, else it comes behind the others. The
+    /// 1.0, section 3): where the element has one, the first gets this value, else it is added after the others. The
     /// fields `prefix` and `namespace` stay. Where memory runs out, the element stays as it was.
     pub fn ns(&mut self, prefix: &str, uri: &str) -> Result<(), NoMemory>
         ensures ok { OnOk result (self.new ≡ with_attributes self.old (set_attribute (xmlns_name prefix.now) uri.now (attributes_of self.old))) }
@@ -105,7 +105,7 @@ impl Element {
         set_attribute(&mut self.attributes, name, value)
     }
 
-    /// Adds a text behind the children, also an empty one. Where memory runs out, the element stays as it was.
+    /// Adds a text after the children, also an empty one. Where memory runs out, the element stays as it was.
     pub fn text(&mut self, value: &str) -> Result<(), NoMemory>
         ensures ok { OnOk result (self.new ≡ with_child self.old (text value.now)) }
         ensures err { OnErr result (self.new ≡ self.old) }
@@ -115,7 +115,7 @@ impl Element {
         Ok(())
     }
 
-    /// Adds an element behind the children. Where memory runs out, the element stays as it was.
+    /// Adds an element after the children. Where memory runs out, the element stays as it was.
     pub fn push_element(&mut self, child: Element) -> Result<(), NoMemory>
         ensures ok { OnOk result (self.new ≡ with_child self.old child) }
         ensures err { OnErr result (self.new ≡ self.old) }
@@ -140,7 +140,7 @@ impl Element {
         }
     }
 
-    /// Whether an element is among the children.
+    /// Whether there is an element among the children.
     pub fn has_child_elems(&self) -> bool
         ensures { IsTrue result ↔ (child_elements self.now ≢ []) }
     {
@@ -160,7 +160,7 @@ impl Element {
         }
     }
 
-    /// How many elements stand one in another: 1 where no element is among the children. At most `usize::MAX`.
+    /// How many levels of elements are nested: 1 where no child is an element. At most `usize::MAX`.
     #[cycle(depths)]
     pub fn depth(&self) -> usize
         ensures { result ≡ min 18446744073709551615 (depth_of self.now) }
@@ -178,7 +178,7 @@ impl XmlNode {
     ghost use Rattle.dav_core.specs.Element.{depth_of};
     ghost use Rattle.dav_core.specs.ElementView.{node_tree};
 
-    // How many elements stand one in another.
+    // How many levels of elements are nested.
     #[cycle(depths)]
     fn depth(&self) -> usize
         ensures { result ≡ min 18446744073709551615 (depth_of (node_tree self.now)) }
@@ -295,7 +295,7 @@ impl PartialEq for XmlNode {
     fn eq(&self, other: &XmlNode) -> bool {
         match self {
             XmlNode::Element(a) => {
-                // Reading a field tells contracts that the tree is an element.
+                // Reading a field lets the checker know that the tree is an element.
                 let _ = &a.name;
                 match other {
                     XmlNode::Element(b) => a.eq(b),

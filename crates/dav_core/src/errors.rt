@@ -14,7 +14,7 @@ use std::fmt;
 /// Why a text names no path.
 #[derive(Clone, Copy, Debug, PartialEq, Eq)]
 pub enum ParseError {
-    /// It isn't a text that can name a path, or a piece of it holds a zero byte or a slash.
+    /// It isn't a text that can name a path, or one of its decoded segments has a zero byte or a slash.
     InvalidPath,
     /// The path isn't at or below the prefix.
     PrefixMismatch,
@@ -68,7 +68,7 @@ impl<T: Drop> From<AllocFailed<T>> for ParseError {
 /// Why a file store refuses a call.
 #[derive(Clone, Copy, Debug, PartialEq, Eq)]
 pub enum FsError {
-    /// The store doesn't have this call: 501 (RFC 9110, section 15.6.2).
+    /// The store doesn't implement this call: 501 (RFC 9110, section 15.6.2).
     NotImplemented,
     /// It failed for a reason that has no name here: 500 (RFC 9110, section 15.6.1).
     GeneralFailure,
@@ -80,13 +80,13 @@ pub enum FsError {
     Forbidden,
     /// There is no room for it, or memory ran out: 507 (RFC 4918, section 11.5).
     InsufficientStorage,
-    /// Its walk came to a folder twice: 508 (RFC 5842, section 7.2).
+    /// It met the same folder twice: 508 (RFC 5842, section 7.2).
     LoopDetected,
-    /// The path is longer than the store takes: 414 (RFC 9110, section 15.5.15).
+    /// The path is longer than the store accepts: 414 (RFC 9110, section 15.5.15).
     PathTooLong,
-    /// The file would be larger than the store takes: 413 (RFC 9110, section 15.5.14).
+    /// The file would be larger than the store accepts: 413 (RFC 9110, section 15.5.14).
     TooLarge,
-    /// It stands in another store: 502 (RFC 4918, section 9.8.5).
+    /// It is in another store: 502 (RFC 4918, section 9.8.5).
     IsRemote,
 }
 
@@ -118,7 +118,7 @@ impl fmt::Display for FsError {
 
 impl Error for FsError {}
 
-/// The status that tells a client of a store's error.
+/// The status with which a store's error is reported to a client.
 impl From<FsError> for StatusCode {
     ghost use Rattle.dav_core.specs.Status.{fs_status};
 
@@ -143,7 +143,7 @@ impl From<FsError> for StatusCode {
 /// Why a request is refused.
 #[derive(Clone, Copy, Debug, PartialEq, Eq)]
 pub enum DavError {
-    /// The body isn't the XML that the method asks for: 400 (RFC 9110, section 15.5.1).
+    /// The body isn't the XML that the method needs: 400 (RFC 9110, section 15.5.1).
     XmlParseError,
     /// A text names no path: 400.
     InvalidPath,
@@ -157,7 +157,7 @@ pub enum DavError {
     ChanError,
     /// This status.
     Status(StatusCode),
-    /// This status, and the connection closes behind it (RFC 9112, section 9.6).
+    /// This status, and the connection closes after the reply (RFC 9112, section 9.6).
     StatusClose(StatusCode),
     /// The store refused: the error's own status.
     FsError(FsError),
@@ -169,7 +169,7 @@ pub enum DavError {
 pub type DavResult<T> = Result<T, DavError>;
 
 impl DavError {
-    /// The status that tells the client.
+    /// The status with which the error is reported to the client.
     pub fn statuscode(&self) -> StatusCode
         ensures { result ≡ dav_status self.now }
     {
@@ -187,7 +187,7 @@ impl DavError {
         }
     }
 
-    /// Whether the connection closes behind the reply (RFC 9112, section 9.6).
+    /// Whether the connection closes after the reply (RFC 9112, section 9.6).
     pub fn must_close(&self) -> bool
         ensures { result ≡ must_close self.now }
     {

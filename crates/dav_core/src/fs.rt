@@ -1,4 +1,4 @@
-//! What a file store is, for those who call one (RFC 4918, section 5).
+//! What a file store is, for its callers (RFC 4918, section 5).
 ghost use Rattle.std.specs.Prelude.{◌≡◌, ◌==◌, Bool, true, false, not, IfOk, string_bytes};
 ghost use Rattle.std.specs.Option.{option_map};
 ghost use Rattle.std.specs.Result.{IsErrOf};
@@ -16,18 +16,18 @@ use http::StatusCode;
 use std::alloc::Global;
 use std::io::SeekFrom;
 
-/// What a store tells of a file or folder.
+/// What a store reports of a file or folder.
 #[derive(Clone, Copy, Debug)]
 pub struct DavMetaData {
     /// How many bytes the file has; 0 for a folder.
     pub len: u64,
     /// Whether it is a folder.
     pub dir: bool,
-    /// When it was made, in seconds since 1970.
+    /// When it was created, in seconds since 1970.
     pub created: u64,
     /// When it was last changed, in seconds since 1970.
     pub modified: u64,
-    /// The number of its last change, where the store counts them.
+    /// The last change number that it took, where the store counts changes.
     pub number: Option<u64>,
 }
 
@@ -93,16 +93,16 @@ impl DavMetaData {
     }
 }
 
-/// How a file is to be opened. By default nothing is asked.
+/// How a file is to be opened. By default no option is set.
 #[derive(Clone, Debug, Default, Drop)]
 pub struct OpenOptions {
     /// For reading.
     pub read: bool,
-    /// For writing, at the place that was sought.
+    /// For writing, at the current position.
     pub write: bool,
     /// For writing, always at the end.
     pub append: bool,
-    /// What is there is emptied.
+    /// A file that is there is emptied.
     pub truncate: bool,
     /// A file is made where nothing is there.
     pub create: bool,
@@ -147,7 +147,7 @@ pub enum ReadDirMeta {
     None,
 }
 
-/// An entry of a listing. It is told of without asking the store again.
+/// An entry of a listing. What it reports needs no further call of the store.
 pub trait DavDirEntry: Drop {
     ghost use Rattle.std.specs.Prelude.{◌≡◌, ℕ, Bool, false, not, List};
     ghost use Rattle.dav_core.specs.Path.{Path, IsSegment};
@@ -158,7 +158,7 @@ pub trait DavDirEntry: Drop {
     /// The name in it.
     ghost entry_name: { Self → List ℕ };
 
-    /// Whether a folder stood there.
+    /// Whether a folder was there.
     ghost entry_dir: { Self → Bool };
 
     /// The name; it isn't empty and holds no slash.
@@ -188,8 +188,9 @@ pub trait DavDirEntry: Drop {
 /// A store of files and folders, which may refuse any call.
 ///
 /// What a store holds is a map from paths to folders and files, with the number that the next change takes. Each call is
-/// answered as it means (`specs/Calls.antt`), unless the store refuses it: then nothing of the map changes. Of real want of
-/// memory, `InsufficientStorage`, the store tells by `was_short` from then on. Moments are in seconds since 1970.
+/// answered by what it means (`specs/Calls.antt`), unless the store refuses it: then nothing of the map changes. Where memory
+/// really runs out, the answer is `InsufficientStorage`, and `was_short` is true from then on. Moments are in seconds since
+/// 1970.
 pub trait DavFileSystem {
     ghost use Rattle.std.specs.Prelude.{◌≡◌, ◌≤◌, ◌∷◌, [], ◌++◌, ℕ, Bool, true, false, List, All, map, Option, Result, Ok, Err, IfOk, OnErr};
     ghost use Rattle.std.specs.Result.{result_unwrap_or};
@@ -200,21 +201,21 @@ pub trait DavFileSystem {
     ghost use Rattle.dav_core.specs.Handle.{Handle};
     ghost use Rattle.dav_core.specs.Asking.{Asks, StoreState, seen, Metadata, ReadDir, EntryMetadata, CreateDir, RemoveDir, RemoveFile, Rename, Copy, HaveProps, PatchProps, GetProps, GetProp, GetQuota, SetAccessed, SetModified, Open, Read, Write, Seek, Flush, FileMetadata};
 
-    /// An open file. It stays the file that it was through renames, until that is removed.
+    /// An open file. It refers to the same file through renames, until that file is removed.
     type File: Drop;
 
     /// An entry of a listing.
     type Entry: DavDirEntry;
 
-    /// What the store holds, which calls it will refuse, and whether it ever wanted memory that wasn't there.
+    /// What the store holds, which calls it will refuse, and whether it ever ran out of memory.
     ghost state: { Self → StoreState };
 
-    /// What an open file stands for.
+    /// An open file as contracts see it.
     ghost handle: { Self.File → Handle };
 
-    /// Opens a file at a place of 0, or at its end for each write where it appends. `Forbidden` for a folder;
-    /// `Exists` where nothing may be there; `NotFound` where nothing is there and none is to be made, or its folder
-    /// is missing; `GeneralFailure` where a change is to be made and no number is left.
+    /// Opens a file, with the position at 0; where it appends, each write goes to the end. `Forbidden` for a folder; `Exists`
+    /// where nothing may be there; `NotFound` where nothing is there and no file is to be made, or its folder is missing;
+    /// `GeneralFailure` where a change is to be made and no change number is left.
     fn open(
         &mut self,
         alloc: Global,
@@ -235,12 +236,12 @@ pub trait DavFileSystem {
         ensures asks { Asks (ReadDir (names path.now)) (state self.old) (seen (λ entries. map (λ e. (Self.Entry.entry_name e, Self.Entry.entry_dir e)) entries.items) result) (state self.new) }
         ensures folder { IfOk result (λ entries. All (λ e. Self.Entry.entry_folder e ≡ names path.now) entries.items) };
 
-    /// Tells of what is now where an entry was. `NotFound` where nothing is.
+    /// The metadata of what is now where an entry was. `NotFound` where nothing is.
     fn entry_metadata(&mut self, entry: &Self::Entry) -> FsResult<DavMetaData>
         ensures asks { Asks (EntryMetadata (Self.Entry.entry_folder entry.now ++ Self.Entry.entry_name entry.now ∷ [])) (state self.old) result (state self.new) }
         ensures times { IfOk result (λ m. (m.created ≤ last_moment) × (m.modified ≤ last_moment)) };
 
-    /// Tells of what is at a path. `NotFound` where nothing is.
+    /// The metadata of what is at a path. `NotFound` where nothing is.
     fn metadata(&mut self, path: &DavPath) -> FsResult<DavMetaData>
         ensures asks { Asks (Metadata (names path.now)) (state self.old) result (state self.new) }
         ensures times { IfOk result (λ m. (m.created ≤ last_moment) × (m.modified ≤ last_moment)) };
@@ -254,7 +255,7 @@ pub trait DavFileSystem {
     }
 
     /// Makes a folder. `Exists` where something is; `NotFound` without a folder above; `GeneralFailure` where no
-    /// number is left.
+    /// change number is left.
     fn create_dir(&mut self, alloc: Global, path: &DavPath, now: u64) -> FsResult<()>
         requires { now ≤ last_moment }
         ensures { Asks (CreateDir (names path.now) now) (state self.old) result (state self.new) };
@@ -270,20 +271,20 @@ pub trait DavFileSystem {
         requires { now ≤ last_moment }
         ensures { Asks (RemoveFile (names path.now) now) (state self.old) result (state self.new) };
 
-    /// Moves what is at a path, and all below it, in the place of what is at another. `Forbidden` from or to the root;
-    /// `NotFound`; nothing changes where both are one path; `Forbidden` to a place below itself; `NotFound` without a
-    /// folder above; `Exists` onto a folder with members.
+    /// Moves what is at a path, with everything below it, to another path, in the place of what is there. `Forbidden`
+    /// from or to the root; `NotFound`; nothing changes where both are one path; `Forbidden` to a path below itself;
+    /// `NotFound` without a folder above; `Exists` onto a folder with members.
     fn rename(&mut self, alloc: Global, from: &DavPath, to: &DavPath, now: u64) -> FsResult<()>
         requires { now ≤ last_moment }
         ensures { Asks (Rename (names from.now) (names to.now) now) (state self.old) result (state self.new) };
 
     /// Copies the bytes and dead properties of a file. `NotFound`; `Forbidden` for a folder, onto itself, and onto a
-    /// folder; `NotFound` without a folder above; `GeneralFailure` where no number is left.
+    /// folder; `NotFound` without a folder above; `GeneralFailure` where no change number is left.
     fn copy(&mut self, alloc: Global, from: &DavPath, to: &DavPath, now: u64) -> FsResult<()>
         requires { now ≤ last_moment }
         ensures { Asks (Copy (names from.now) (names to.now) now) (state self.old) result (state self.new) };
 
-    /// Whether there are dead properties (RFC 4918, section 4). A store that refuses the question answers false.
+    /// Whether the store has dead properties (RFC 4918, section 4); false where it refuses the call.
     fn have_props(&mut self, path: &DavPath) -> bool
         ensures { (answer : Result Bool Refusal) × Asks (HaveProps (names path.now)) (state self.old) answer (state self.new) × (result ≡ result_unwrap_or answer false) };
 
@@ -321,14 +322,14 @@ pub trait DavFileSystem {
     fn set_modified(&mut self, path: &DavPath, time: u64) -> FsResult<()>
         ensures { Asks (SetModified (names path.now) time) (state self.old) result (state self.new) };
 
-    /// Reads at most so many bytes, fewer only at the end. `NotFound` where the file was removed; `Forbidden` where it
+    /// Reads at most `count` bytes, fewer only at the end. `NotFound` where the file was removed; `Forbidden` where it
     /// isn't open for reading.
     fn read_bytes(&mut self, alloc: Global, file: &mut Self::File, count: usize) -> FsResult<Bytes>
         ensures asks { Asks (Read (handle file.old) count) (state self.old) (seen (λ bytes. (bytes, handle file.new)) result) (state self.new) }
         ensures err { OnErr result (handle file.new ≡ handle file.old) };
 
-    /// Writes bytes. `NotFound` where the file was removed; `Forbidden` where it isn't open for writing; `TooLarge`
-    /// where they would end past 2,147,483,647 bytes; `GeneralFailure` where there are any and no number is left.
+    /// Writes bytes. `NotFound` where the file was removed; `Forbidden` where it isn't open for writing; `TooLarge` where
+    /// they would end past 2,147,483,647 bytes; `GeneralFailure` where there are any and no change number is left.
     fn write_bytes(
         &mut self,
         alloc: Global,
@@ -352,23 +353,23 @@ pub trait DavFileSystem {
         ensures asks { Asks (Write (handle file.old) (B.unread buf) now) (state self.old) (seen (λ _. handle file.new) result) (state self.new) }
         ensures err { OnErr result (handle file.new ≡ handle file.old) };
 
-    /// Moves the place of the next read or write, and tells it. `NotFound` where the file was removed; `GeneralFailure`
-    /// before 0 or past 2^64 - 1.
+    /// Moves the position of the next read or write, and answers the new one. `NotFound` where the file was removed;
+    /// `GeneralFailure` before 0 or past 2^64 - 1.
     fn seek(&mut self, file: &mut Self::File, to: SeekFrom) -> FsResult<u64>
         ensures asks { Asks (Seek (handle file.old) to) (state self.old) (seen (λ place. (place, handle file.new)) result) (state self.new) }
         ensures err { OnErr result (handle file.new ≡ handle file.old) };
 
-    /// Sees to it that all that was written is kept. `NotFound` where the file was removed.
+    /// Makes sure that everything that was written is kept. `NotFound` where the file was removed.
     fn flush(&mut self, file: &mut Self::File) -> FsResult<()>
         ensures asks { Asks (Flush (handle file.old)) (state self.old) result (state self.new) }
         ensures same { handle file.new ≡ handle file.old };
 
-    /// Tells of the file. `NotFound` where it was removed.
+    /// The metadata of the file. `NotFound` where it was removed.
     fn file_metadata(&mut self, file: &Self::File) -> FsResult<DavMetaData>
         ensures asks { Asks (FileMetadata (handle file.now)) (state self.old) result (state self.new) }
         ensures times { IfOk result (λ m. (m.created ≤ last_moment) × (m.modified ≤ last_moment)) };
 
-    /// Whether the store ever wanted memory that wasn't there. This asks nothing of the store.
+    /// Whether the store ever ran out of memory. This makes no call of the store.
     fn was_short(&self) -> bool
         ensures { result ≡ (state self.now).short };
 }

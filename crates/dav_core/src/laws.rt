@@ -1,4 +1,4 @@
-//! Laws of paths, worlds, locks and methods. Each function does nothing, or answers constants: its contract is a
+//! Laws of paths, worlds, locks and methods. Each function does nothing, or returns constants: its contract is a
 //! theorem on the definitions.
 pub mod calls;
 
@@ -9,8 +9,8 @@ ghost use Rattle.dav_core.specs.Method.{all_methods, members};
 
 use crate::method::{DavMethod, DavMethodSet};
 
-/// A text is read as one path at most, and refused for one reason at most, and not both: the pieces between slashes
-/// leave one path, or the first of them that refuses decides (RFC 3986, sections 3.3 and 5.2.4).
+/// Apart from memory that runs out, a text is read as one path at most, and refused for one reason at most, and not both: the
+/// pieces between slashes leave one path, or the first of them that is refused decides (RFC 3986, sections 3.3 and 5.2.4).
 pub fn one_reading()
     ensures leaves { LeavesOnePath }
     ensures leaves_no_fault { LeavesNoFault }
@@ -21,7 +21,7 @@ pub fn one_reading()
 {}
 
 /// A path keeps its names: those in its bytes are the names that it was made of, and a text that is read gives
-/// names alone. The path `*` has none. The names in any bytes are segments, and each name is one.
+/// names only. The path `*` has none. The names in any bytes are segments, and each name is one.
 pub fn names_are_kept()
     ensures kept { KeepsNames }
     ensures read { ReadsNames }
@@ -30,7 +30,7 @@ pub fn names_are_kept()
     ensures name { NameIsSegment }
 {}
 
-/// The text of a path in a URL is read again as this path.
+/// The text of a path in a URL is read as this path again.
 pub fn reads_again()
     ensures read { ReadsAgain }
     ensures names { NamesReadAgain }
@@ -49,7 +49,7 @@ pub fn equal_paths_are_alike()
 {}
 
 /// A slash at the end changes no name, a name or segment that is added is the last, and the parent has all names but the
-/// last. A path that is cut behind a prefix has the names behind those of the prefix.
+/// last. A path that is cut after a prefix has the names that follow those of the prefix.
 pub fn names_are_added()
     ensures slash { SlashKeepsNames }
     ensures name { AddsName }
@@ -59,17 +59,18 @@ pub fn names_are_added()
     ensures behind { CutKeepsNames }
 {}
 
-/// The empty world is a world; so is a world with one more node, and one in which a node was changed: the root and
-/// every parent are folders (RFC 4918, section 5.1), numbers differ and are below the next, and times can be shown.
+/// The empty world is a world; so is a world with one more node, and one in which a node was changed: the root and every
+/// parent are folders (RFC 4918, section 5.1), numbers differ and are below the next, and times can be shown as HTTP dates.
 pub fn worlds_are_kept()
     ensures empty { EmptyIsWorld }
     ensures made { NewKeepsWorld }
     ensures changed { ChangeKeepsWorld }
 {}
 
-/// Where a path is free, whoever asks holds each exclusive lock that covers it, and for a deep question each lock at it
-/// and below it (RFC 4918, sections 6.1 and 7.5); it is free exactly where no lock stands in the way. A lock that was
-/// just granted can be taken back, and where its token is new, that leaves the locks that were there.
+/// Where a path is free, the requester holds each exclusive lock that covers it, and where the path is checked with
+/// everything below, each lock at it and below it (RFC 4918, sections 6.1 and 7.5); it is free exactly where no lock
+/// conflicts. A lock that was just granted can be unlocked, and where its token is new, that leaves the list as it was
+/// before.
 pub fn free_paths_are_held()
     ensures exclusive { FreeHoldsExclusive }
     ensures below { FreeDeepHoldsBelow }
@@ -78,9 +79,9 @@ pub fn free_paths_are_held()
     ensures back { TakenBack }
 {}
 
-/// Of two locks that cover one path both are shared (RFC 4918, section 6.2), where each was granted as it may be: so it
-/// is without locks, and it stays so when a lock is granted, refreshed or taken back, and when those below a path are
-/// dropped.
+/// Any two locks that cover one path are both shared (RFC 4918, section 6.2): this holds of an empty list, and still holds
+/// after a lock was granted that may be, after one was unlocked or refreshed, and after those at a path and below it were
+/// deleted.
 pub fn locks_exclude()
     ensures none { CoveringAreShared [] }
     ensures granted { GrantedAreShared }
@@ -89,7 +90,7 @@ pub fn locks_exclude()
     ensures deleted { DeletedAreShared }
 {}
 
-/// The locks that are listed for a path are those that cover it. An unlock takes one lock away, and a refresh gives one lock a new
+/// The locks that are listed for a path are those that cover it. An unlock removes one lock, and a refresh gives one lock a new
 /// timeout: one with this token, on the path or above it. All other locks stay as they are, in their places (RFC 4918, sections 6.8,
 /// 9.10.2 and 9.11).
 pub fn lock_lists_are_read()
@@ -98,7 +99,7 @@ pub fn lock_lists_are_read()
     ensures refreshed { RefreshChangesOne }
 {}
 
-/// A name is that of one method. A set is known by its methods: two that have the same ones are equal.
+/// A text names one method at most. A set is known by its methods: two that have the same ones are equal.
 pub fn sets_are_their_methods()
     ensures name { NameNames }
     ensures one_method { OneMethod }

@@ -1,4 +1,4 @@
-//! What a store of locks is (RFC 4918, sections 6 and 7).
+//! Write locks, and what a list of them does for its callers (RFC 4918, sections 6 and 7).
 #[cfg(test)]
 mod tests;
 
@@ -11,21 +11,21 @@ use std::marker::Model;
 /// A write lock.
 #[derive(Debug, Drop)]
 pub struct DavLock {
-    /// The token, which tells this lock from others.
+    /// The token, which distinguishes this lock from others.
     pub token: String,
     /// The path that it is on.
     pub path: DavPath,
-    /// Whose it is.
+    /// The principal whose lock it is.
     pub principal: Option<String>,
-    /// What its owner said of itself (RFC 4918, section 14.17).
+    /// The element in which its owner describes itself (RFC 4918, section 14.17).
     pub owner: Option<Element>,
-    /// When it ends, in seconds since 1970; never without.
+    /// When it ends, in seconds since 1970; without a moment it never ends.
     pub timeout_at: Option<u64>,
-    /// After how many seconds it was to end when it was granted or refreshed last.
+    /// After how many seconds it was to end when it was last granted or refreshed.
     pub timeout: Option<u64>,
     /// Whether others may share it (RFC 4918, section 6.2).
     pub shared: bool,
-    /// Whether it is on all that is below its path too.
+    /// Whether it is of infinite depth: on everything below its path too.
     pub deep: bool,
 }
 
@@ -64,7 +64,7 @@ impl Clone for DavLock {
 /// Why a lock isn't granted.
 #[derive(Clone, Copy, Debug, PartialEq, Eq)]
 pub enum LockRefusal {
-    /// A lock that is there stands in the way.
+    /// A lock that is in the list conflicts.
     Conflict,
     /// Memory ran out.
     Memory,
@@ -92,8 +92,8 @@ pub trait DavLockSystem {
     /// The locks, in the order of granting.
     ghost locks: { Self → List Lock };
 
-    /// Grants a lock (RFC 4918, section 9.10). `Conflict` for an exclusive lock where any lock covers the path, for a shared one
-    /// where an exclusive lock does, and for a deep one where any lock is below the path.
+    /// Grants a lock (RFC 4918, section 9.10). `Conflict` for an exclusive lock where any lock covers the path, for a
+    /// shared one where an exclusive lock does, and for one of infinite depth where any lock is below the path.
     fn lock(
         &mut self,
         alloc: Global,
@@ -111,9 +111,9 @@ pub trait DavLockSystem {
         ensures err { IfErr result (λ e. IsRefusedGrant e (is_grantable (new_lock token.now path.now (option_copied principal.entry) (option_copied owner.entry) timeout shared deep now) (locks self.old))) }
         ensures same { OnErr result (locks self.new ≡ locks self.old) };
 
-    /// Ends the lock that a token and a path mean (RFC 4918, section 9.11): of the locks with the token whose path is a
-    /// front of this one the one with the shortest path, and of these the one that was granted first. `Err` where there
-    /// is none.
+    /// Ends the lock that a token and a path mean (RFC 4918, section 9.11): of the locks with this token that are on the
+    /// path or above it the one with the shortest path, and of several with that path the one that was granted first.
+    /// `Err` where there is none.
     fn unlock(&mut self, path: &DavPath, token: &str) -> Result<(), ()>
         ensures ok { OnOk result (unlocked token.now (names path.now) (locks self.old) ≡ Some (locks self.new)) }
         ensures err { OnErr result ((unlocked token.now (names path.now) (locks self.old) ≡ None) × (locks self.new ≡ locks self.old)) };
@@ -133,10 +133,10 @@ pub trait DavLockSystem {
         ensures err { IfErr result (λ e. IsRefusedRefresh e (named_lock token.now (names path.now) (locks self.old))) }
         ensures same { OnErr result (locks self.new ≡ locks self.old) };
 
-    /// Whether a path is free for whoever submits these tokens (RFC 4918, section 7.5): each exclusive lock that covers it
-    /// is held, and some lock that covers it is held unless none does; for a deep question each lock at it and below it
-    /// is held too. A lock is held where its token is submitted by its principal, or by anyone where the principal is
-    /// ignored. `Err` lends one lock that stands in the way.
+    /// Whether a path is free for the requester that submits these tokens (RFC 4918, section 7.5): it holds each
+    /// exclusive lock that covers the path, and at least one covering lock if there is any; where the path is checked
+    /// with everything below (`deep`), it holds each lock at the path and below it too. A lock is held where its token is
+    /// submitted by its principal, or by anyone where the principal is ignored. `Err` lends one lock that conflicts.
     fn check(
         &self,
         path: &DavPath,

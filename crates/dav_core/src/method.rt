@@ -112,7 +112,7 @@ impl DavMethod {
     }
 }
 
-/// The method of this name. Names are case-sensitive (RFC 9110, section 9.1). Any other is `UnknownDavMethod`.
+/// The method of this name. Names are case-sensitive (RFC 9110, section 9.1). Any other name is `UnknownDavMethod`.
 impl TryFrom<&Method> for DavMethod {
     type Error = DavError;
 
@@ -214,7 +214,7 @@ impl DavMethodSet {
     }
 }
 
-/// A text is no method's name.
+/// A text isn't the name of a method.
 #[derive(Clone, Copy, Debug, PartialEq, Eq)]
 pub struct InvalidMethod;
 

@@ -1,4 +1,4 @@
-//! The end of a path: the slash there, the last name, and what stands before it.
+//! The end of a path: the slash there, the last name, and what comes before it.
 ghost use Rattle.std.specs.Prelude.{◌≡◌, ◌≢◌, ℕ, List, MatchOption, ◌==◌, ◌++◌, [], ◌∷◌, not, if◌then◌else◌, OnOk, OnErr};
 ghost use Rattle.dav_core.specs.Path.{is_collection, without_first_slash, without_slash, trimmed, without_end, parent_bytes, end_for};
 ghost use Rattle.dav_core.specs.PathRef.{CutsAt};
@@ -12,7 +12,7 @@ pub(super) fn is_collection(bytes: &[u8]) -> bool
     bytes.ends_with(b"/")
 }
 
-/// What stands before the slash at the end.
+/// The path without the slash at its end.
 pub(super) fn without_slash(bytes: &[u8]) -> &[u8]
     ensures { result.now ≡ without_slash bytes.now }
 {
@@ -23,7 +23,7 @@ pub(super) fn without_slash(bytes: &[u8]) -> &[u8]
     }
 }
 
-/// What stands behind the slash that a path begins with.
+/// The path without the slash that it begins with.
 pub(super) fn without_first_slash(bytes: &[u8]) -> &[u8]
     ensures { result.now ≡ without_first_slash bytes.now }
 {
@@ -33,14 +33,14 @@ pub(super) fn without_first_slash(bytes: &[u8]) -> &[u8]
     }
 }
 
-// What follows a text at the front of another.
+// What follows a text in another that begins with it.
 fn behind<'a>(front: &[u8], bytes: &'a [u8]) -> Option<&'a [u8]>
     ensures { MatchOption result ((rest : List ℕ) → bytes.now ≢ front.now ++ rest) (λ r. bytes.now ≡ front.now ++ r.now) }
 {
     bytes.strip_prefix(front)
 }
 
-/// Whether a path lacks the slash behind a prefix; `None` where this text is no prefix of it.
+/// Whether a path lacks the slash after a prefix; `None` where this text is no prefix of it.
 pub(super) fn lacks_slash(prefix: &[u8], bytes: &[u8]) -> Option<bool>
     ensures { CutsAt prefix.now bytes.now result }
 {
@@ -67,7 +67,7 @@ pub(super) fn trimmed(bytes: &[u8]) -> &[u8]
     }
 }
 
-// What stands before the slashes at the end.
+// The bytes without the slashes at their end.
 fn without_slashes(mut bytes: &[u8]) -> &[u8]
     ensures { result.now ≡ without_end (λ b. b == 47) bytes.entry.now }
 {
@@ -99,7 +99,7 @@ pub(super) fn parent(bytes: &[u8]) -> &[u8]
     if front.is_empty() { bytes } else { front }
 }
 
-/// Adds a slash, if it isn't there, and what follows it.
+/// Adds a slash, if it isn't there, and a name after it.
 pub(super) fn push_after_slash(
     path: &mut Vec<u8>,
     is_collection: bool,

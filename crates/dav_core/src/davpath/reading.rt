@@ -10,7 +10,7 @@ use crate::errors::ParseError;
 use percent_encoding::percent_decode;
 use std::alloc::Global;
 
-/// What a decoded piece stands for.
+/// What a decoded piece is.
 pub(super) enum Kind {
     Name,
     Blank,
@@ -55,7 +55,7 @@ fn last_slash(buf: &[u8]) -> Option<usize>
     None
 }
 
-// Takes the last name away.
+// Removes the last name.
 fn drop_last(buf: &mut Vec<u8>) -> Result<(), ParseError>
     ensures { (ps : List (List ℕ)) → Kept ps buf.old.items → AddsPiece ps parent_piece result buf.new.items }
 {
@@ -96,21 +96,21 @@ fn first_place(bytes: &[u8], byte: u8) -> Option<usize>
     bytes.iter().position(|b| *b == byte)
 }
 
-/// How many bytes stand before the first such byte: all where there is none.
+/// How many bytes come before the first such byte: all where there is none.
 pub(super) fn len_before(bytes: &[u8], byte: u8) -> usize
     ensures { result ≡ position_or_len (λ b. b == byte) bytes.now }
 {
     first_place(bytes, byte).unwrap_or(bytes.len())
 }
 
-/// What stands before the first `?`.
+/// What comes before the first `?`.
 pub(super) fn text_of(src: &[u8]) -> &[u8]
     ensures { result.now ≡ text_of src.now }
 {
     &src[..len_before(src, b'?')]
 }
 
-/// The names that the pieces of a text leave, each behind a slash.
+/// The names that the pieces of a text leave, each after a slash.
 pub(super) fn read_names(alloc: Global, src: &[u8]) -> Result<Vec<u8>, ParseError>
     ensures { MatchResult result (λ buf. Kept (pieces_of src.now) buf.items) (IsRefusedBy (pieces_of src.now)) }
 {

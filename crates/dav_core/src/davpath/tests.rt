@@ -4,7 +4,7 @@ use std::process::Abort;
 use std::str;
 use std::test::Fail;
 
-// A row: what is done, one or two texts between bars, ` -> `, and the outcome: what is given between bars, or an error's name.
+// A row: what is done, one or two texts between bars, ` -> `, and the outcome: results between bars, or an error's name.
 const ROWS: &str = "
 # The bytes of a path
 new |/a/./b//c/../d%20e/?q=1| -> |/a/b/d e/|
@@ -205,13 +205,13 @@ fn last(alloc: Global, path: &DavPath) -> Result<String, NoMemory> {
     format!(in alloc; "{shown} {} {}", path.is_star(), parent.is_collection())
 }
 
-// What a path gives as text.
+// The last name, the path, and the path without its first slash, as text.
 fn texts(alloc: Global, path: &DavPath) -> Result<String, NoMemory> {
     let (name, whole, inside) = (path.file_name(), path.as_pathbuf(), path.as_rel_ospath());
     format!(in alloc; "{name:?} {whole:?} {inside:?}")
 }
 
-// What is given of one path.
+// The outcome of a row with one text.
 fn outcome_of_path(alloc: Global, name: &str, path: &DavPath) -> Result<String, NoMemory> {
     match name {
         "new" => between_bars(alloc, &[path.as_ref().as_bytes()]),
@@ -227,7 +227,7 @@ fn outcome_of_path(alloc: Global, name: &str, path: &DavPath) -> Result<String, 
     }
 }
 
-// What is given of the texts of a row.
+// The outcome of any row.
 fn outcome(alloc: Global, name: &str, text: &str, second: &str) -> Result<String, ParseError> {
     match name {
         "uri" => uri_path(alloc, text),

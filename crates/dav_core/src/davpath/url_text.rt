@@ -17,7 +17,7 @@ const ESCAPED: AsciiSet = ascii_set!(
         .remove(b'/')
 );
 
-/// The bytes with escapes, as what is written.
+/// The bytes with escapes, to be written.
 pub(super) fn escaped(bytes: &[u8]) -> PercentEncode<'_>
     ensures { encoded_text result ≡ url_text bytes.now }
 {

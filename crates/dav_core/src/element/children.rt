@@ -17,7 +17,7 @@ impl XmlNode {
     {
         match self {
             XmlNode::Element(e) => {
-                // Reading a field tells contracts that the tree is an element.
+                // Reading a field lets the checker know that the tree is an element.
                 let _ = &e.name;
                 Some(e)
             }
@@ -76,7 +76,7 @@ pub(super) fn joined_texts(alloc: Global, children: &[XmlNode]) -> Result<Option
     Ok(joined)
 }
 
-// A text behind another one, where there is one.
+// A text after another one, where there is one.
 fn joined_with(alloc: Global, joined: Option<String>, text: &str) -> Result<String, NoMemory>
     ensures { IfOk result (λ t. string_bytes t ≡ unwrap_or (option_map string_bytes joined) [] ++ text.now) }
 {

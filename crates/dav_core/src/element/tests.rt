@@ -5,8 +5,8 @@ use std::process::Abort;
 use std::test::Fail;
 
 // A row: how an element is made, its name and calls on it, between bars, ` -> `, and what the calls answer, each with a
-// semicolon after it. `new` takes the name as it is, and `new2` cuts it at its first colon. A call with two arguments has a sign `=`
-// between them.
+// semicolon after it. `new` takes the name as it is, and `new2` cuts it at its first colon. A call with two arguments has
+// a sign `=` between them.
 const ROWS: &str = r##"
 # All parts of a copy, how deep it is, and its text
 new2 |D:x|ns =urn:q|child y|text t|show|depth|get_text| -> Element { name: "x", prefix: Some("D"), namespace: None, attributes: [("xmlns", "urn:q")], children: [Element(Element { name: "y", prefix: None, namespace: None, attributes: [], children: [] }), Text("t")] }; 2; Some("t");

@@ -86,7 +86,7 @@ fn opens_for_one_thing(rt: HostRuntime) -> Result<(), Fail> {
     Ok(())
 }
 
-// A store that holds the root alone, and has no memory to give.
+// A store that holds the root alone, and runs out of memory whenever it allocates.
 #[derive(Drop)]
 struct EmptyFs {
     short: bool,
@@ -348,7 +348,7 @@ impl DavFileSystem for EmptyFs {
     }
 }
 
-// How many members a folder has, of any store.
+// How many members a folder has, in any store.
 fn members_of<F: DavFileSystem>(fs: &mut F, alloc: Global, path: &DavPath) -> FsResult<usize> {
     let entries = fs.read_dir(alloc, path, ReadDirMeta::DataSymlink)?;
     Ok(entries.len())

@@ -2,7 +2,7 @@ use super::*;
 use crate::asserting::same;
 use std::test::Fail;
 
-// A list that stays empty: there is no memory for a lock.
+// A list that stays empty: memory runs out for each lock.
 #[derive(Drop)]
 struct NoLocks {}
 
@@ -61,7 +61,7 @@ impl DavLockSystem for NoLocks {
     }
 }
 
-// Whether anyone may write at a path, of any list of locks.
+// Whether anyone may write at a path, in any list of locks.
 fn may_write<L: DavLockSystem>(ls: Option<&L>, path: &DavPath) -> bool {
     match ls {
         Some(ls) => ls.check(path, None, true, false, &[]).is_ok(),
@@ -94,7 +94,7 @@ fn asks_a_list(rt: HostRuntime) -> Result<(), Fail> {
     Ok(())
 }
 
-// A deep lock of anna's on /a/.
+// A lock of anna's on /a/, of infinite depth.
 fn sample(alloc: Global) -> Result<DavLock, Fail> {
     Ok(DavLock {
         token: String::from_str(alloc, "urn:t:1")?,
