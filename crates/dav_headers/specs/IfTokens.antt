@@ -28,8 +28,8 @@ abbrev pub EndsWord : List ℕ → Type 0
 EndsWord [] = ⊤
 EndsWord (b ∷ bs) = ¬ IsWordByte b
 
--- The text begins with this token, and goes on with the rest. A word is as long as it can be, and doesn't begin with
--- `Not`, which is always a token of its own.
+-- The text begins with this token, and goes on with the rest. A bare word is as long as it can be, and doesn't begin
+-- with `Not`, which is always a token of its own.
 abbrev pub Begins : List ℕ → Token → List ℕ → Type 0
 Begins text open_list rest = text ≡ 40 ∷ rest
 Begins text close_list rest = text ≡ 41 ∷ rest

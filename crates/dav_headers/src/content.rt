@@ -1,4 +1,4 @@
-//! What a body is, and what it stands for (RFC 9110, sections 8.3 and 8.7).
+//! The media type of a body, and the resource that it represents (RFC 9110, sections 8.3 and 8.7).
 ghost use Rattle.std.specs.Prelude.{◌≡◌, ◌↔◌, Some, None, IfOk, IsErrOf, string_bytes};
 ghost use Rattle.dav_headers.specs.Value.{only_text, Writes};
 
@@ -30,7 +30,8 @@ impl ContentType {
     }
 }
 
-/// The header Content-Location: the URI of what a body stands for (RFC 9110, section 8.7). It isn't parsed further.
+/// The header Content-Location: a URI of the resource that a body represents (RFC 9110, section 8.7). It isn't parsed
+/// further.
 #[derive(Clone, Debug, PartialEq, Eq, Drop)]
 pub struct ContentLocation(pub String);
 

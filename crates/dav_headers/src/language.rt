@@ -56,7 +56,7 @@ impl ContentLanguage {
         written(alloc, &text)
     }
 
-    /// The languages, each once, in order. Allocates nothing.
+    /// The languages, in order, each as often as it occurs. Allocates nothing.
     pub fn iter_langs(&self) -> Langs<'_>
         ensures { map string_bytes result.rest.now ≡ self.now }
     {
