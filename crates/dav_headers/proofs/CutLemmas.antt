@@ -1,8 +1,8 @@
--- Texts that are cut at a byte are cut there in one way.
+-- A text is cut at a byte in one way.
 use Rattle.std.proofs.Common.{◌≡◌, ◌≢◌, Option, Some, None, Bor, MatchOption, IfSome, IfNone, subst, ℕ, List, [], ◌∷◌, ◌++◌, suc, zero, arith, refl}
 use Rattle.dav_headers.specs.Cut.{IsWithout, IsCut, NoCut}
 
--- what is true of a text is true of its rest
+-- what isn't in a text isn't in its tail
 pub IsWithout-tail : (c b : ℕ) (bs : List ℕ) → IsWithout c (b ∷ bs) → IsWithout c bs
 IsWithout-tail c b bs h = λ i lt. h (suc i) (omega (arith, lt))
 
@@ -18,7 +18,7 @@ IsWithout-append c (x ∷ xs) ys h k =
 pub IsWithout-nil : (c : ℕ) → IsWithout c []
 IsWithout-nil c i lt = absurd (omega (arith, lt))
 
--- two cuts of one text at bytes of which none stands in front are one cut
+-- two cuts of one text at a byte, neither of which has this byte before it, are the same cut
 pub cut_one : (c : ℕ) (xs ys us vs : List ℕ) → xs ++ c ∷ ys ≡ us ++ c ∷ vs → IsWithout c xs → IsWithout c us → (xs ≡ us) × (ys ≡ vs)
 cut_one c [] ys [] vs e p q = (refl, cc)
 cut_one c [] ys (u ∷ us) vs e p q = absurd (q 0 (omega arith) (cc))
@@ -34,7 +34,7 @@ not_without : (c : ℕ) (front back : List ℕ) → ¬ IsWithout c (front ++ c �
 not_without c [] back h = h 0 (omega arith) refl
 not_without c (b ∷ bs) back h = not_without c bs back (IsWithout-tail c b (bs ++ c ∷ back) h)
 
--- what `split_once` gives at this byte
+-- what `split_once` returns for this byte
 abbrev pub IsSplit : ℕ → List ℕ → Option (Bor (List ℕ) × Bor (List ℕ)) → Type 0
 IsSplit c text r =
     MatchOption r (IsWithout c text) (λ p. (text ≡ p.0.now ++ c ∷ p.1.now) × IsWithout c p.0.now)

@@ -1,4 +1,4 @@
--- Lists of tags, piece by piece and value by value.
+-- Lists of tags, element by element and value by value.
 use Rattle.std.proofs.Common.{◌≢◌, ℕ, List, [], ◌∷◌, ◌++◌, sym, ap, refl, inl, inr, subst, append_assoc, append-nil}
 use Rattle.std.specs.Prelude.{codes}
 use Rattle.http_header.specs.FieldValue.{FieldValue}
@@ -7,20 +7,20 @@ use Rattle.dav_headers.specs.ETagList.{AreTags, ReadTags, TagList, star, tags}
 use Rattle.dav_headers.specs.Pieces.{pieces_of, trimmed}
 use Rattle.dav_headers.specs.Value.{IsText}
 
--- one more piece, which is no tag
+-- one more list element, which isn't a tag
 pub AreTags-skip : (ps : List (List ℕ)) (ts : List EntityTag) (p : List ℕ) → AreTags ps ts → NoEntityTag p → AreTags (ps ++ p ∷ []) ts
 AreTags-skip [] ts p h none = inl (none, h)
 AreTags-skip (q ∷ ps) ts p (inl (other, h)) none = inl (other, AreTags-skip ps ts p h none)
 AreTags-skip (q ∷ ps) ts p (inr (t, more, is, e, h)) none = inr (t, more, is, e, AreTags-skip ps more p h none)
 
--- one more piece, which is a tag
+-- one more list element, which is a tag
 pub AreTags-push : (ps : List (List ℕ)) (ts : List EntityTag) (p : List ℕ) (t : EntityTag) → AreTags ps ts → IsEntityTag p t.weak t.tag → AreTags (ps ++ p ∷ []) (ts ++ t ∷ [])
 AreTags-push [] ts p t h is = inr (t, [], is, ap (λ us. us ++ t ∷ []) h, refl)
 AreTags-push (q ∷ ps) ts p t (inl (other, h)) is = inl (other, AreTags-push ps ts p t h is)
 AreTags-push (q ∷ ps) ts p t (inr (u, more, tag, e, h)) is =
     inr (u, more ++ t ∷ [], tag, ap (λ us. us ++ t ∷ []) e, AreTags-push ps more p t h is)
 
--- the tags so far, and what the values behind them say
+-- the tags so far, and what all the values mean by what the remaining ones mean
 pub record Sofar (vs rest : List FieldValue) (ts : List EntityTag) : Type 0 where
   pub any : ReadTags rest star → ReadTags vs star
   pub found : (more : List EntityTag) → ReadTags rest (tags more) → ReadTags vs (tags (ts ++ more))

@@ -1,4 +1,4 @@
--- One text says one thing as an If header, and what it says has conditions, and tokens in UTF-8.
+-- A text has at most one meaning as an If header, with conditions, and with tokens in UTF-8.
 use Rattle.std.proofs.Common.{◌≡◌, ◌≢◌, ℕ, ◌<◌, ◌++◌, Bool, true, false, List, [], ◌∷◌, length, Option, Some, None, refl, sym, ◌∙◌, ap, subst, arith, drop, get_or, All}
 use Rattle.std.specs.Prelude.{Ok, IsUtf8}
 use Rattle.std.specs.List.{AllZip, flat_map}
@@ -114,7 +114,7 @@ utf8_lists ts (l ∷ ls) (front, rest, (tag, inner, idle, resource, some, are, s
 pub utf8_tokens : (text : List ℕ) (ls : List ConditionList) → IsIf text ls → All IsUtf8 (tokens_of ls)
 utf8_tokens text ls (ts, spells, are, some) = utf8_lists ts ls are
 
--- ---- one token alone
+-- ---- a single token
 
 pub asked_for : (token : List ℕ) → IsInside 62 false token → IsUtf8 token → IsIf (40 ∷ 60 ∷ (token ++ 62 ∷ 41 ∷ [])) (asks_for token ∷ []) × (tokens_of (asks_for token ∷ []) ≡ token ∷ [])
 asked_for token inside utf8 =

@@ -22,7 +22,7 @@ pub with_front_more : (cs ds : List WrittenCondition) (r : Read) → with_front 
 with_front_more cs ds None = refl
 with_front_more cs ds (Some x) = ap (λ (l : List WrittenCondition). let p : Read = Some (l, x.1) in p) (sym (append_assoc cs ds x.0))
 
--- what stands from a place on
+-- what is there from a place on
 pub from : {A B : Type 0} (f : A → B) (n : ℕ) (xs : List A) → n ≤ length xs → map f (take (length xs - n) (drop n xs)) ≡ drop n (map f xs)
 from f n xs h = ap (map f) (take_all (length xs - n) (drop n xs) (omega (arith, length-drop n xs))) ∙ sym (drop-map f n xs)
 
@@ -34,11 +34,11 @@ same_list ts l m r s (us, f, some, c) (vs, g, more, d) =
     let second : List WrittenCondition → WrittenList = λ x. record { resource = m.resource; conditions = x } in
     (ap first front.0 ∙ ap second back.0, back.1)
 
--- the error that a `?` hands on
+-- the error that a `?` returns
 pub same_error : {T : Type 0} (r : Result T HeaderError) (y z : HeaderError) → r ≡ Err y → y ≡ z → IsErrOf r Invalid → z ≡ Invalid
 same_error r y z e f h = cc
 
--- tokens are one list of lists at most
+-- tokens are at most one list of lists
 pub lists_same : (ts : List Token) (ls ms : List WrittenList) → ListsAt ts ls → ListsAt ts ms → ls ≡ ms
 lists_same ts [] [] h k = refl
 lists_same ts [] (m ∷ ms) none (rest, (us, f, some, c), more) =
@@ -81,7 +81,7 @@ within ps at n h k = omega (arith, length-drop at (map part_view ps), length-map
 pub within_slice : (ps : List Part) (at n : ℕ) → at ≤ length ps → n ≤ length (take (length ps - at) (drop at ps)) → at + n ≤ length ps
 within_slice ps at n h k = omega (arith, ap length (take_all (length ps - at) (drop at ps) (omega (arith, length-drop at ps))), length-drop at ps)
 
--- ---- the list at the front
+-- ---- the list that the tokens begin with
 
 -- the conditions that are read from a place on
 pub found_behind : (ps : List Part) (at n : ℕ) (cs : List WrittenCondition) → at ≤ length ps → (let us = map part_view (take (length ps - at) (drop at ps)) in conditions_at us ≡ Some (cs, drop n us)) → conditions_at (drop at (map part_view ps)) ≡ Some (cs, drop (at + n) (map part_view ps))
@@ -103,7 +103,7 @@ empty_list ts us rest r cs f found none l after (vs, g, some, at) =
 
 -- ---- the lists so far
 
--- what the rest of the tokens says after some lists
+-- the lists so far: the tokens are these, and then the lists of the rest
 pub record ListsSoFar (ts rest : List Token) (ls : List WrittenList) : Type 0 where
   pub found : (more : List WrittenList) → ListsAt rest more → ListsAt ts (ls ++ more)
   pub only : (all : List WrittenList) → ListsAt ts all → (more : List WrittenList) × (all ≡ ls ++ more) × ListsAt rest more
@@ -137,7 +137,7 @@ pub ListsSoFar-stuck : (ts rest : List Token) (ls : List WrittenList) → ListsS
 ListsSoFar-stuck ts rest ls sofar some none all h =
     let (more, e, later) = sofar.only all h in stuck rest more some none later
 
--- ---- what is written says what is meant
+-- ---- what is written means what is meant
 
 item_found : (t : Token) (w : WrittenItem) (i : Item) → item_at t ≡ Some w → SaysItem w i → IsItem t i
 item_found (angle t) w i e h = let P : WrittenItem → Type 0 = λ x. SaysItem x i in let same : w ≡ written_token t = cc in subst P same h
@@ -170,7 +170,7 @@ front_cases negated w (Some x) ws rest e =
 shape_moved : (ts us : List Token) (cs : List Condition) (rest : List Token) → us ≡ ts → Shape ts cs rest → Shape us cs rest
 shape_moved ts us cs rest e (inner, idle, are, split) = (inner, idle, are, e ∙ split)
 
--- a condition in front
+-- a condition at the start
 in_front : (m : Bool) (t : Token) (ts inner back : List Token) → ts ≡ inner ++ back → cond m (negation ∷ t ∷ ts) (t ∷ ts) ≡ cond m (negation ∷ t ∷ inner) (t ∷ inner) ++ back
 in_front true t ts inner back e = ap (λ x. negation ∷ t ∷ x) e
 in_front false t ts inner back e = ap (λ x. t ∷ x) e

@@ -1,4 +1,4 @@
--- What lists mean, one after the other, and what that makes of the whole value.
+-- What lists mean, one after the other, and what the whole value means.
 use Rattle.std.proofs.Common.{◌≡◌, ℕ, ◌+◌, ◌<◌, ◌++◌, List, [], ◌∷◌, length, take, drop, map, suc, refl, sym, ◌∙◌, ap, subst, arith, get_or, add-one, Option, Some, None}
 use Rattle.std.specs.List.{AllZip}
 use Rattle.std.proofs.lemmas.List.{map_push, map-append, take-append-drop}
@@ -33,7 +33,7 @@ said_more {A = A} R f g xs i x d ys zs y within at pushed sofar here =
     let right : map g zs ≡ map g ys ++ g y ∷ [] = ap (map g) pushed ∙ map_push g ys y in
     rw (left, right) (zip_push R (map f (take i xs)) (map g ys) (f x) (g y) sofar here)
 
--- a place that says nothing
+-- a place that means nothing
 pub unsaid_at : {A C D : Type 0} (R : C → D → Type 0) (f : A → C) (xs : List A) (i : ℕ) (x d : A) → i < length xs → x ≡ get_or xs i d → ((y : D) → ¬ R (f x) y) → (ys : List D) → ¬ AllZip R (map f xs) ys
 unsaid_at {C = C} R f xs i x d within at none ys h =
     let split : xs ≡ take i xs ++ x ∷ drop (suc i) xs =
@@ -42,7 +42,7 @@ unsaid_at {C = C} R f xs i x d within at none ys h =
     let P : List C → Type 0 = λ z. AllZip R z ys in
     zip_stuck R (map f (take i xs)) (f x) (map f (drop (suc i) xs)) none ys (subst P mapped h)
 
--- what is said of the clone of an option whose clones are equal
+-- what is known of the clone of an option whose clones are equal
 abbrev pub OptionClone : {A : Type 0} → Option A → Option A → Type 0
 OptionClone None None = Unit {0}
 OptionClone None (Some y) = ⊥
@@ -55,7 +55,7 @@ copied_option None (Some y) h = absurd h
 copied_option (Some x) None h = absurd h
 copied_option (Some x) (Some y) h = ap Some h
 
--- copies that look alike
+-- copies with equal views
 pub maps_alike : {A B : Type 0} (f : A → B) (xs ys : List A) → AllZip (λ x y. f y ≡ f x) xs ys → map f ys ≡ map f xs
 maps_alike f [] [] h = refl
 maps_alike f [] (y ∷ ys) h = absurd h
@@ -68,7 +68,7 @@ pub if_found : (text : List ℕ) (ts : List Token) (ws : List WrittenList) (ls :
 if_found text ts ws ls spells at says some =
     (ts, spells, lists_found ts ws ls at says, omega (arith, AllZip-long SaysList ws ls says))
 
--- the lists of a text that says something are there, as they are written
+-- the lists of a text that means something are there, as they are written
 pub if_written : (text : List ℕ) (ts : List Token) (ls : List ConditionList) → Spells text ts → IsIf text ls → (ws : List WrittenList) × ListsAt ts ws × AllZip SaysList ws ls × (0 < length ws)
 if_written text ts ls spells (us, also, are, some) =
     let P : List Token → Type 0 = λ x. AreLists x ls in

@@ -1,4 +1,4 @@
--- The machine that reads tokens agrees with their grammar, both ways.
+-- The functions that read tokens agree with the grammar, both ways.
 use Rattle.std.proofs.Common.{◌≡◌, ◌≢◌, ℕ, ◌+◌, ◌<◌, ◌≤◌, ◌++◌, inl, inr, Bool, true, false, cond, List, [], ◌∷◌, length, take, drop, suc, All, Option, Some, None, refl, sym, ◌∙◌, ap, subst, arith, append_assoc, ◌==◌, not, ◌&&◌}
 use Rattle.std.specs.Prelude.{nat_eq}
 use Rattle.std.specs.Option.{option_map}
@@ -39,7 +39,7 @@ not_word_byte b e = λ h. cc (word_byte_test b h)
 no_word_test : (b : ℕ) → ¬ IsWordByte b → is_word_byte b ≡ false
 no_word_test b h = false_from_ne_true (is_word_byte b) (λ e. h (word_byte b e))
 
--- ---- what stands in brackets
+-- ---- what is in brackets
 
 abbrev Found : ℕ → Bool → List ℕ → ℕ → Type 0
 Found close quoted text n =
@@ -105,7 +105,7 @@ not_in_front text p h = false_from_ne_true _ (λ e. h _ (in_front text p e))
 never_in_front : (text p : List ℕ) → starts_with nat_eq text p ≡ false → (more : List ℕ) → text ≢ p ++ more
 never_in_front text p e more h = let y = (starts_is Decides-eqb text p _ refl).1 more h in cc
 
--- what stands before and behind a byte
+-- what is before and after a byte
 seam : (xs : List ℕ) (x : ℕ) (ys : List ℕ) (n : ℕ) → length xs ≡ n → (take n (xs ++ x ∷ ys) ≡ xs) × (drop (n + 1) (xs ++ x ∷ ys) ≡ ys)
 seam xs x ys n e =
     let P : ℕ → Type 0 = λ k. (take k (xs ++ x ∷ ys) ≡ xs) × (drop (k + 1) (xs ++ x ∷ ys) ≡ ys) in
@@ -222,9 +222,9 @@ token_only text (word (b ∷ w)) rest (some, inside, ends, e, no_not) =
     ∙ cond-false _ _ _ (not_in_front text (78 ∷ 111 ∷ 116 ∷ []) no_not) ∙ cond-false _ _ _ (front 60 first.1)
     ∙ cond-false _ _ _ (front 91 first.5) ∙ rw e (word_only (b ∷ w) rest some inside ends)
 
--- ---- blanks
+-- ---- white space
 
--- the blanks that are skipped
+-- the white space that is skipped
 skipped : (text : List ℕ) → (gap : List ℕ) × All IsBlank gap × (text ≡ gap ++ skip text)
 skipped [] = ([], All-nil IsBlank, refl)
 skipped (b ∷ bs) = elim (cases_Bool (is_blank b)) [
@@ -255,7 +255,7 @@ word_skips (b ∷ w) rest some inside =
     let plain : is_blank b ≡ false = no_blank_test b (λ h. grind arith) in
     cond-false _ _ _ plain
 
--- a token begins with no blank
+-- a token doesn't begin with white space
 begins_at_once : (text : List ℕ) (t : Token) (rest : List ℕ) → Begins text t rest → skip text ≡ text
 begins_at_once text open_list rest e = rw e refl
 begins_at_once text close_list rest e = rw e refl
@@ -275,7 +275,7 @@ skip_is_no_longer (b ∷ bs) = elim (cases_Bool (is_blank b)) [
       omega (arith, ap length e)
 ]
 
--- blanks in front make no difference
+-- white space at the start makes no difference
 pub spells_skipped : (text : List ℕ) (ts : List Token) → Spells text ts → Spells (skip text) ts
 spells_skipped text [] h = subst (All IsBlank) (sym (skip_all text h)) (All-nil IsBlank)
 spells_skipped text (t ∷ ts) (gap, inner, rest, blanks, split, begins, more) =
@@ -292,7 +292,7 @@ spells_behind text (t ∷ ts) (gap, inner, rest, blanks, split, begins, more) =
 
 -- ---- the tokens so far
 
--- what the rest of the text says after some tokens; no blank stands at its front
+-- the tokens so far: the text is these, and then those of the rest, which doesn't begin with white space
 pub record ReadSoFar (text rest : List ℕ) (ts : List Token) : Type 0 where
   pub clean : skip rest ≡ rest
   pub found : (more : List Token) → Spells rest more → Spells text (ts ++ more)
@@ -305,7 +305,7 @@ ReadSoFar-start text rest ts e none = rw (e, none) (record {
   only = λ all h. (all, refl, spells_skipped text all h);
 })
 
--- the first token of what the rest says is the one that is read there
+-- the first token of the rest is the one that is read there
 first_is : (rest : List ℕ) (t m : Token) (after : List ℕ) (ms : List Token) → skip rest ≡ rest → token_at rest ≡ Some (t, after) → Spells rest (m ∷ ms) → (m ≡ t) × Spells after ms
 first_is rest t m after ms clean at (gap, inner, behind, blanks, split, begins, more) =
     let e : rest ≡ inner = sym clean ∙ ap skip split ∙ skip_over gap inner blanks ∙ begins_at_once inner m behind begins in
@@ -368,7 +368,7 @@ many_from_test xs r n e h len = grind (arith, nat_tests)
 first_cut : (text : List ℕ) (t u : Token) (r s : List ℕ) → Begins text t r → Begins text u s → (t ≡ u) × (r ≡ s)
 first_cut text t u r s h k = same_pair t u r s (sym (token_only text t r h) ∙ token_only text u s k)
 
--- a text spells one list of tokens at most
+-- a text is at most one list of tokens
 pub spells_one : (text : List ℕ) (ts us : List Token) → Spells text ts → Spells text us → ts ≡ us
 spells_one text [] [] h k = refl
 spells_one text [] (u ∷ us) h (gap, inner, rest, blanks, split, begins, more) =

@@ -11,7 +11,7 @@ use Rattle.dav_headers.specs.Pieces.{pieces_of}
 use Rattle.dav_headers.specs.Value.{IsText}
 use Rattle.dav_headers.proofs.LoopLemmas.{drop_turn, take_turn}
 
--- what is true of all is true of one between others
+-- what holds for all holds for one between others
 pub at_middle : {X : Type 0} (P : X → Type 0) (xs : List X) (x : X) (ys : List X) → All P (xs ++ x ∷ ys) → P x
 at_middle P [] x ys h = All-head P x ys h
 at_middle P (y ∷ xs) x ys h = at_middle P xs x ys (All-tail P y (xs ++ x ∷ ys) h)
@@ -30,7 +30,7 @@ all_front : {X : Type 0} (P : X → Type 0) (xs ys : List X) → All P (xs ++ ys
 all_front P [] ys h = λ k d lt. absurd (omega (arith, lt))
 all_front P (x ∷ xs) ys h = All-cons P x xs (All-head P x (xs ++ ys) h) (all_front P xs ys (All-tail P x (xs ++ ys) h))
 
--- where the values are languages, the pieces of each are
+-- where the values are languages, so are the list elements of each
 pub of_value : (values : List FieldValue) (i : ℕ) (v : FieldValue) (items : List (List ℕ)) → i < length values → v ≡ get_or values i v → AreLanguages values items → All IsLanguage (pieces_of v.bytes)
 of_value values i v items lt is (some, text, same, all) =
     let split : values ≡ take i values ++ v ∷ drop (i + 1) values = sym (take-append-drop i values) ∙ ap (λ rest. take i values ++ rest) (drop_turn values i v lt is) in
@@ -41,6 +41,6 @@ of_value values i v items lt is (some, text, same, all) =
 pub text_turn : (values : List FieldValue) (i : ℕ) (v : FieldValue) → i < length values → v ≡ get_or values i v → All (λ w. IsText w.bytes) (take i values) → IsText v.bytes → All (λ w. IsText w.bytes) (take (i + 1) values)
 text_turn values i v lt is h text = subst (All (λ w. IsText w.bytes)) (sym (take_turn values i v lt is)) (All-push (λ w. IsText w.bytes) (take i values) v h text)
 
--- an error that is handed on
+-- an error that is passed on
 pub same_error : {A E : Type 0} (r : Result A E) (x y z : E) → r ≡ Err x → x ≡ y → r ≡ Err z → y ≡ z
 same_error r x y z e f g = cc

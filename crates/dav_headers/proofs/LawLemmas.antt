@@ -1,4 +1,4 @@
--- Grammars read what is written, and in one way.
+-- What is written is read back as the same, and in one way.
 use Rattle.std.proofs.Common.{◌≡◌, ◌≢◌, ℕ, ◌<◌, ◌^◌, Bool, true, false, List, [], ◌∷◌, ◌++◌, ◌∙◌, Option, Some, None, IsSomeAnd, length, get_or, sym, ap, refl, subst, inl, inr, arith}
 use Rattle.std.specs.Prelude.{codes, decimal}
 use Rattle.std.specs.List.{list_all}
@@ -26,7 +26,7 @@ use Rattle.dav_headers.proofs.RangeLemmas.{ends_at_cut, ends_without, not_append
 pub one_reads : (text : List ℕ) (P : List ℕ → Type 0) → list_all is_visible_or_blank text ≡ true → P text → IsSomeAnd (only_text (written text)) P
 one_reads text P shown h = subst (λ o. IsSomeAnd o P) (sym (cond-true _ _ _ shown)) h
 
--- two facts on the text of the only value
+-- two facts about the text of the only value
 pub both_at : (o : Option (List ℕ)) (P Q : List ℕ → Type 0) → IsSomeAnd o P → IsSomeAnd o Q → (t : List ℕ) × P t × Q t
 both_at None P Q p q = absurd p
 both_at (Some t) P Q p q = (t, p, q)

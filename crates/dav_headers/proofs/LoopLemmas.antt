@@ -30,7 +30,7 @@ take_turn xs i x lt is = ap (λ k. take k xs) (one_more i) ∙ take-suc xs i x l
 pub flat_map_turn : {X Y : Type 0} (f : X → List Y) (xs : List X) (i : ℕ) (x : X) → i < length xs → x ≡ get_or xs i x → flat_map f (take (i + 1) xs) ≡ flat_map f (take i xs) ++ f x
 flat_map_turn f xs i x lt is = ap (flat_map f) (take_turn xs i x lt is) ∙ flat_map-append f (take i xs) (x ∷ []) ∙ ap (λ ys. flat_map f (take i xs) ++ ys) (append-nil (f x))
 
--- the element at this place and those behind it
+-- the element at this place and those after it
 pub drop_turn : {X : Type 0} (xs : List X) (i : ℕ) (x : X) → i < length xs → x ≡ get_or xs i x → drop i xs ≡ x ∷ drop (i + 1) xs
 drop_turn xs i x lt is =
     drop-cons xs i x lt ∙ ap (λ k. get_or xs i x ∷ drop k xs) (sym (one_more i)) ∙ ap (λ y. y ∷ drop (i + 1) xs) (sym is)

@@ -1,4 +1,4 @@
--- What numbers are written with.
+-- The texts of numbers.
 use Rattle.std.proofs.Common.{◌≡◌, refl, ℕ, ◌<◌, List, [], ◌∷◌, true, arith}
 use Rattle.std.specs.List.{list_all}
 use Rattle.std.specs.Str.Parse.{AllDigits}
@@ -24,7 +24,7 @@ digits_visible (d ∷ ds) all =
 pub number_visible : (text : List ℕ) (n : ℕ) → IsNumber text n → IsVisibleAscii text
 number_visible text n h = AllPass-from_list_all is_visible_or_blank text (digits_visible text h.0.1)
 
--- a sign isn't a digit
+-- a byte below the digits isn't in a number
 pub number_without : (c : ℕ) (text : List ℕ) (n : ℕ) → c < 48 → IsNumber text n → IsWithout c text
 number_without c text n low h = λ i lt e.
     let digit = digit_at text i h.0.1 lt in

@@ -1,4 +1,4 @@
--- What a range is, where its text is cut.
+-- What a range is, in terms of where its text is cut.
 use Rattle.std.proofs.Common.{refl, ◌≡◌, ◌≢◌, ℕ, List, [], ◌∷◌, ◌++◌, Option, Some, None, inl, inr, sym, ◌∙◌, subst, ap, arith, IsSomeAnd}
 use Rattle.std.specs.Prelude.{codes}
 use Rattle.http_header.specs.FieldValue.{FieldValue}
@@ -37,7 +37,7 @@ not_append bs e =
     let heads : get_or (codes "append") 0 0 ≡ get_or (codes "bytes=" ++ bs) 0 0 = ap (λ xs. get_or xs 0 0) e in
     absurd (omega (arith, heads))
 
--- a range behind `bytes=` has what stands around the first dash as its ends
+-- a range after `bytes=` has what is around the first dash as its ends
 pub ends_at_cut : (text rest x y : List ℕ) (r : XUpdateRange) → text ≡ codes "bytes=" ++ rest → IsCut 45 rest x y → IsUpdateRangeText text r → IsEnds x y r
 ends_at_cut text rest x y r e cut (inl h) = absurd (not_append rest (sym (h.0) ∙ e))
 ends_at_cut text rest x y r e cut (inr (from, to, f, ends)) =
@@ -64,7 +64,7 @@ bounds_without text (Some (m, n)) (first, last, e, a, b) =
     (IsWithout-append 47 first (45 ∷ last) (number_without 47 first m (omega arith) a)
     (IsWithout-cons 47 45 last (λ f. omega (arith, f)) (number_without 47 last n (omega arith) b)))
 
--- a range behind `bytes ` has what stands around the first slash as its parts
+-- a range after `bytes ` has what is around the first slash as its parts
 pub parts_at_cut : (text rest x y : List ℕ) (b : Option (ℕ × ℕ)) (l : Option ℕ) → text ≡ codes "bytes " ++ rest → IsCut 47 rest x y → IsContentRangeText text b l → IsBounds x b × IsLength y l
 parts_at_cut text rest x y b l e cut (range, size, f, bounds, length) =
     let same : rest ≡ range ++ 47 ∷ size = append_cancel_left (codes "bytes ") rest (range ++ 47 ∷ size) (sym e ∙ f) in
@@ -76,11 +76,11 @@ parts_of_range values text rest x y is e cut b l h =
     let here : IsSomeAnd (Some text) (λ t. IsContentRangeText t b l) = subst (λ o. IsSomeAnd o (λ t. IsContentRangeText t b l)) (sym is) h in
     parts_at_cut text rest x y b l e cut here
 
--- the parts of a text that is visible
+-- two visible texts, one after the other
 pub both : (xs ys : List ℕ) → list_all is_visible_or_blank xs ≡ true → list_all is_visible_or_blank ys ≡ true → list_all is_visible_or_blank (xs ++ ys) ≡ true
 both xs ys p q = list_all-append is_visible_or_blank xs ys ∙ and_from _ _ p q
 
--- a sign and a text that is visible
+-- a visible byte, and then a visible text
 behind : (b : ℕ) (ys : List ℕ) → is_visible_or_blank b ≡ true → list_all is_visible_or_blank ys ≡ true → list_all is_visible_or_blank (b ∷ ys) ≡ true
 behind b ys p q = and_from (is_visible_or_blank b) (list_all is_visible_or_blank ys) p q
 

@@ -1,4 +1,4 @@
--- What is written for words is read as these words.
+-- The text of TimeTypes is read back as the same TimeTypes.
 use Rattle.std.proofs.Common.{◌≡◌, ◌⊎◌, inl, inr, ℕ, ◌+◌, ◌-◌, ◌/◌, ◌%◌, ◌<◌, ◌≤◌, ◌^◌, Bool, true, false, List, [], ◌∷◌, ◌++◌, ◌∙◌, sym, ap, refl, subst, length, map, drop, take, reverse, All, arith, append-nil, append_assoc, cond}
 use Rattle.std.specs.Prelude.{codes, decimal, ◌==◌, not}
 use Rattle.std.specs.Char.{is_ascii_whitespace}
@@ -48,7 +48,7 @@ word_plain (Seconds n) small =
     list_all-append (λ b. not (b == 44)) (codes "Second-") (decimal n) ∙ and_from _ _ refl (digits_plain (decimal n) numeral.0.1)
 word_plain Infinite small = refl
 
--- the pieces between the commas of joined texts
+-- the elements between the commas of joined texts
 split_joined : (x : List ℕ) (ws : List DavTimeout) → plain x ≡ true → All IsShort ws → slice_split (λ b. b == 44) (x ++ flat_map (λ y. 44 ∷ 32 ∷ y) (map word_text ws)) ≡ x ∷ map (λ y. 32 ∷ y) (map word_text ws)
 split_joined x [] h all = ap (slice_split (λ b. b == 44)) (append-nil x) ∙ slice_split_none (λ b. b == 44) x (no_comma x h)
 split_joined x (w ∷ ws) h all =
@@ -56,7 +56,7 @@ split_joined x (w ∷ ws) h all =
     slice_split_at (λ b. b == 44) x 44 (32 ∷ (word_text w ++ flat_map (λ y. 44 ∷ 32 ∷ y) (map word_text ws))) (no_comma x h) refl
     ∙ ap (λ ps. x ∷ ps) (split_joined (32 ∷ word_text w) ws this (All-tail IsShort w ws all))
 
--- a text that neither begins nor ends with a blank
+-- a text that neither begins nor ends with white space
 record IsTight (text : List ℕ) : Type 0 where
   front : prefix_len is_ascii_whitespace text ≡ 0
   back : suffix_len is_ascii_whitespace text ≡ 0

@@ -1,4 +1,4 @@
--- Words of timeouts, one after another.
+-- The TimeTypes of a Timeout, one after another.
 use Rattle.std.proofs.Common.{◌≡◌, ℕ, List, [], ◌∷◌, ◌++◌, map, refl, true}
 use Rattle.std.specs.Prelude.{codes, decimal}
 use Rattle.std.specs.List.{flat_map, list_all}
@@ -11,14 +11,14 @@ use Rattle.dav_headers.specs.declared.timeout.DavTimeout.TheVariants.{Seconds, I
 use Rattle.dav_headers.proofs.NumberLemmas.{decimal_visible}
 use Rattle.dav_headers.proofs.RangeLemmas.{both}
 
--- one more word
+-- one more TimeType
 pub AreWords-push : (ps : List (List ℕ)) (ws : List DavTimeout) (p : List ℕ) (w : DavTimeout) → AreWords ps ws → IsWord p w → AreWords (ps ++ p ∷ []) (ws ++ w ∷ [])
 AreWords-push [] [] p w h k = (k, tt)
 AreWords-push [] (v ∷ ws) p w h k = absurd h
 AreWords-push (q ∷ ps) [] p w h k = absurd h
 AreWords-push (q ∷ ps) (v ∷ ws) p w h k = (h.0, AreWords-push ps ws p w h.1 k)
 
--- a piece that is no word
+-- a list element that isn't a TimeType
 pub no_words : (ps : List (List ℕ)) (p : List ℕ) (qs : List (List ℕ)) → ((w : DavTimeout) → ¬ IsWord p w) → (ws : List DavTimeout) → ¬ AreWords (ps ++ p ∷ qs) ws
 no_words [] p qs none [] h = h
 no_words [] p qs none (w ∷ ws) h = none w h.0
@@ -39,6 +39,6 @@ pub shown : (ws : List DavTimeout) → list_all is_visible_or_blank (timeout_tex
 shown [] = refl
 shown (w ∷ ws) = both (word_text w) (flat_map (λ y. 44 ∷ 32 ∷ y) (map word_text ws)) (word_shown w) (rest_shown ws)
 
--- what is written for words is text
+-- the text of TimeTypes is text
 pub timeout_visible : (ws : List DavTimeout) → IsVisibleAscii (timeout_text ws)
 timeout_visible ws = AllPass-from_list_all is_visible_or_blank (timeout_text ws) (shown ws)

@@ -3,13 +3,13 @@ use Rattle.std.specs.Prelude.{ℕ, List, ◌∷◌, ◌++◌, ◌≡◌, Option,
 use Rattle.http_header.specs.FieldValue.{FieldValue}
 use Rattle.dav_headers.specs.Value.{only_text, IsNumber}
 
--- a star, or the first and the last byte with a dash between them
+-- `*`, or the first and the last byte's positions with a dash between them
 abbrev pub IsBounds : List ℕ → Option (ℕ × ℕ) → Type 0
 IsBounds text None = text ≡ codes "*"
 IsBounds text (Some (a, b)) =
     (first : List ℕ) × (last : List ℕ) × (text ≡ first ++ 45 ∷ last) × IsNumber first a × IsNumber last b
 
--- a star, or the length of all
+-- `*`, or the length of the whole
 abbrev pub IsLength : List ℕ → Option ℕ → Type 0
 IsLength text None = text ≡ codes "*"
 IsLength text (Some n) = IsNumber text n
@@ -28,7 +28,7 @@ IsContentRange values bounds length = IsSomeAnd (only_text values) (λ text. IsC
 abbrev pub NoContentRange : List FieldValue → Type 0
 NoContentRange values = (bounds : Option (ℕ × ℕ)) → (length : Option ℕ) → ¬ IsContentRange values bounds length
 
--- the texts that are written
+-- the text that is written for each
 abbrev pub length_text : Option ℕ → List ℕ
 length_text None = codes "*"
 length_text (Some n) = decimal n

@@ -1,14 +1,14 @@
 -- Texts that are cut at a byte, for the code that reads them.
 use Rattle.std.specs.Prelude.{ℕ, ◌<◌, List, ◌∷◌, ◌++◌, ◌≡◌, ◌≢◌, length, slice_index}
 
--- this byte doesn't stand in the text
+-- this byte isn't in the text
 abbrev pub IsWithout : ℕ → List ℕ → Type 0
 IsWithout sign text = (i : ℕ) → i < length text → slice_index text i ≢ sign
 
--- the text is cut at the first such byte
+-- the text before the first such byte, and the text after it
 abbrev pub IsCut : ℕ → List ℕ → List ℕ → List ℕ → Type 0
 IsCut sign text front back = IsWithout sign front × (text ≡ front ++ sign ∷ back)
 
--- no such byte stands in the text
+-- there is no such byte in the text
 abbrev pub NoCut : ℕ → List ℕ → Type 0
 NoCut sign text = (front : List ℕ) → (back : List ℕ) → text ≢ front ++ sign ∷ back

@@ -5,18 +5,18 @@ use Rattle.dav_headers.specs.Value.{only_text}
 use Rattle.dav_headers.specs.declared.depth.Depth.{Depth}
 use Rattle.dav_headers.specs.declared.depth.Depth.TheVariants.{Default, Zero, One, Infinity}
 
--- the texts of each depth; none says that the header is left out
+-- the texts that mean each depth; `Default`, for a header that is left out, has none
 abbrev pub IsDepthText : List ℕ → Depth → Type 0
 IsDepthText text Default = ⊥
 IsDepthText text Zero = text ≡ codes "0"
 IsDepthText text One = text ≡ codes "1"
 IsDepthText text Infinity = (text ≡ codes "infinity") ⊎ (text ≡ codes "Infinity")
 
--- the only value is this depth
+-- the only value means this depth
 abbrev pub IsDepth : List FieldValue → Depth → Type 0
 IsDepth values depth = IsSomeAnd (only_text values) (λ text. IsDepthText text depth)
 
--- the values are no depth
+-- the values mean no depth
 abbrev pub NoDepth : List FieldValue → Type 0
 NoDepth values = (depth : Depth) → ¬ IsDepth values depth
 

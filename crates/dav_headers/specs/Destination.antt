@@ -4,21 +4,21 @@ use Rattle.std.specs.Char.{to_ascii_lowercase}
 use Rattle.http_header.specs.FieldValue.{FieldValue}
 use Rattle.dav_headers.specs.Value.{only_text}
 
--- `http` or `https`, in whatever case of ASCII letters
+-- `http` or `https`, ASCII case ignored
 abbrev pub IsHttp : List ℕ → Type 0
 IsHttp scheme =
     (map to_ascii_lowercase scheme ≡ codes "http") ⊎ (map to_ascii_lowercase scheme ≡ codes "https")
 
--- the text from its first slash on; a slash where it has none
+-- the text from its first slash on; `/` where it has none
 abbrev pub from_slash : List ℕ → List ℕ
 from_slash [] = 47 ∷ []
 from_slash (b ∷ bs) = if b == 47 then b ∷ bs else from_slash bs
 
--- an absolute path as it is
+-- an absolute path, as it is
 abbrev pub IsPathText : List ℕ → List ℕ → Type 0
 IsPathText text path = (rest : List ℕ) × (text ≡ 47 ∷ rest) × (path ≡ text)
 
--- of an http or https URI, what follows the authority
+-- in an http or https URI, what follows the authority
 abbrev pub IsUriText : List ℕ → List ℕ → Type 0
 IsUriText text path =
     (scheme : List ℕ) × (behind : List ℕ)
@@ -27,6 +27,6 @@ IsUriText text path =
 abbrev pub IsDestinationText : List ℕ → List ℕ → Type 0
 IsDestinationText text path = IsPathText text path ⊎ IsUriText text path
 
--- the only value names this destination
+-- the only value names this path
 abbrev pub IsDestination : List FieldValue → List ℕ → Type 0
 IsDestination values path = IsSomeAnd (only_text values) (λ text. IsDestinationText text path)

@@ -4,7 +4,7 @@ use Rattle.std.specs.Coded.{Coded, code_by, coded×, coded_list, coded_ℕ, code
 use Rattle.http_header.specs.FieldValue.{FieldValue}
 use Rattle.dav_headers.specs.Value.{only_text}
 
--- an entity tag: whether it is weak, and what stands between its quotes
+-- an entity tag: whether it is weak, and the text between its quotes
 pub record EntityTag : Type 0 where
   pub weak : Bool
   pub tag : List ℕ
@@ -15,24 +15,24 @@ coded_tag =
     code_by (Bool × List ℕ) (coded× coded_bool (coded_list coded_ℕ))
     (λ e. (e.weak, e.tag)) (λ p. record { weak = p.0; tag = p.1 }) (λ _. refl)
 
--- the text of a tag: `W/` where it is weak, and the tag between quotes
+-- a tag as text: `W/` where it is weak, and the tag between quotes
 abbrev pub tag_text : Bool → List ℕ → List ℕ
 tag_text true tag = codes "W/" ++ 34 ∷ (tag ++ 34 ∷ [])
 tag_text false tag = 34 ∷ (tag ++ 34 ∷ [])
 
--- no quote stands in it
+-- there is no quote in it
 abbrev pub IsUnquoted : List ℕ → Type 0
 IsUnquoted tag = ¬ Contains tag 34
 
--- the text is that of an entity tag
+-- the text is this entity tag
 abbrev pub IsEntityTag : List ℕ → Bool → List ℕ → Type 0
 IsEntityTag text weak tag = IsUnquoted tag × (text ≡ tag_text weak tag)
 
--- the only value of a header is the text of an entity tag
+-- the only value of a header is this entity tag
 abbrev pub IsETag : List FieldValue → Bool → List ℕ → Type 0
 IsETag values weak tag = IsSomeAnd (only_text values) (λ text. IsEntityTag text weak tag)
 
--- the text is that of no entity tag
+-- the text is no entity tag
 abbrev pub NoEntityTag : List ℕ → Type 0
 NoEntityTag text = (weak : Bool) → (tag : List ℕ) → ¬ IsEntityTag text weak tag
 

@@ -14,20 +14,20 @@ pub data TagList : Type 0 where
   star : TagList
   tags : List EntityTag → TagList
 
--- what a list says
+-- the tags that an `ETagList` holds
 abbrev pub tag_list : ETagList → TagList
 tag_list (list.Tags v) = tags v.items
 tag_list list.Star = star
 
--- the pieces that are tags, in order; the others are passed over
+-- the list elements that are tags, in order; the others are skipped
 abbrev pub AreTags : List (List ℕ) → List EntityTag → Type 0
 AreTags [] ts = ts ≡ []
 AreTags (p ∷ ps) ts =
     (NoEntityTag p × AreTags ps ts)
     ⊎ ((t : EntityTag) × (more : List EntityTag) × IsEntityTag p t.weak t.tag × (ts ≡ t ∷ more) × AreTags ps more)
 
--- The values in order: each is text. The first that is `*` apart from blanks says any tag, whatever follows it; where
--- there is none, the tags of all are the list.
+-- The values, in order; each that is read is text. The first one that is `*` apart from white space means any tag,
+-- and what follows it isn't looked at; without such a value, the list holds the tags of all of them.
 abbrev pub ReadTags : List FieldValue → TagList → Type 0
 ReadTags [] star = ⊥
 ReadTags [] (tags ts) = ts ≡ []
@@ -37,11 +37,11 @@ ReadTags (v ∷ vs) (tags ts) =
     × ((front : List EntityTag) × (back : List EntityTag)
     × (ts ≡ front ++ back) × AreTags (pieces_of v.bytes) front × ReadTags vs (tags back))
 
--- one or more values say this list
+-- there is at least one value, and the values mean this list
 abbrev pub IsTagList : List FieldValue → TagList → Type 0
 IsTagList values l = (0 < length values) × ReadTags values l
 
--- the values say no list
+-- the values mean no list
 abbrev pub NoTagList : List FieldValue → Type 0
 NoTagList values = (l : TagList) → ¬ IsTagList values l
 

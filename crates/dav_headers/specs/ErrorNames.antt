@@ -1,4 +1,4 @@
--- The names that errors are printed by.
+-- The names under which errors are printed.
 use Rattle.std.specs.Prelude.{ℕ, List, codes}
 use Rattle.dav_headers.specs.declared.errors.HeaderError.{HeaderError}
 use Rattle.dav_headers.specs.declared.errors.HeaderError.TheVariants.{Invalid, Memory}

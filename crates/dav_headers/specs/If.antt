@@ -1,4 +1,4 @@
--- The value of an If header (RFC 4918, section 10.4): lists of conditions, each with the resource that it speaks of.
+-- The value of an If header (RFC 4918, section 10.4): lists of conditions, each on one resource.
 use Rattle.std.specs.Prelude.{◌≡◌, ℕ, ◌<◌, ◌++◌, Bool, true, false, if◌then◌else◌, length, List, [], ◌∷◌, Option, Some, None, Ok, IsUtf8}
 use Rattle.std.specs.List.{flat_map}
 use Rattle.http_header.specs.FieldValue.{FieldValue}
@@ -7,12 +7,12 @@ use Rattle.url.specs.Parts.{Parts}
 use Rattle.dav_headers.specs.ETag.{EntityTag, IsEntityTag}
 use Rattle.dav_headers.specs.IfTokens.{Token, open_list, close_list, negation, angle, square, word, Spells}
 
--- what a condition asks: that a state token is there, or that the resource has an entity tag
+-- what a condition asks for: a state token, or an entity tag of the resource
 pub data Item : Type 0 where
   state_token : List ℕ → Item
   entity_tag : EntityTag → Item
 
--- an item, and whether `Not` stands before it
+-- an item, and whether there is a `Not` before it
 pub record Condition : Type 0 where
   pub negated : Bool
   pub item : Item
@@ -22,7 +22,7 @@ pub record ConditionList : Type 0 where
   pub resource : Option Parts
   pub conditions : List Condition
 
--- What a token says as an item: UTF-8 in `<>` or alone is a state token, the text of an entity tag in `[]` is that tag.
+-- A token as an item: UTF-8 in `<>` or alone is a state token; the text of an entity tag in `[]` is that tag.
 abbrev pub IsItem : Token → Item → Type 0
 IsItem (angle t) i = IsUtf8 t × (i ≡ state_token t)
 IsItem (word t) i = IsUtf8 t × (i ≡ state_token t)
@@ -69,13 +69,13 @@ IsIf text ls = (ts : List Token) × Spells text ts × AreLists ts ls × (0 < len
 abbrev pub IsIfHeader : List FieldValue → List ConditionList → Type 0
 IsIfHeader values ls = (v : FieldValue) × (values ≡ v ∷ []) × IsIf v.bytes ls
 
--- ---- tokens
+-- ---- state tokens
 
--- the token that an item asks for, where it does
+-- the state token of an item, if it is one
 abbrev pub tokens_in : Item → List (List ℕ)
 tokens_in (state_token t) = t ∷ []
 tokens_in (entity_tag e) = []
 
--- all state tokens of the lists in order, those under `Not` too, each as often as it stands there
+-- all state tokens of the lists in order, those under `Not` too, each as often as it occurs
 abbrev pub tokens_of : List ConditionList → List (List ℕ)
 tokens_of ls = flat_map (λ l. flat_map (λ c. tokens_in c.item) l.conditions) ls

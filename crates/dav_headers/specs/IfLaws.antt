@@ -1,13 +1,13 @@
--- What holds of every text of an If header: the statements of the laws.
+-- What holds for every text of an If header: the statements of the laws.
 use Rattle.std.specs.Prelude.{◌≡◌, ℕ, ◌<◌, ◌++◌, List, [], ◌∷◌, length, All, IsUtf8, false, None}
 use Rattle.dav_headers.specs.IfTokens.{IsInside}
 use Rattle.dav_headers.specs.If.{state_token, ConditionList, IsIf, tokens_of}
 
--- a text says one thing
+-- a text has at most one meaning
 abbrev pub SaysOneIf : Type 0
 SaysOneIf = (text : List ℕ) (ls ms : List ConditionList) → IsIf text ls → IsIf text ms → ls ≡ ms
 
--- there are lists, and each has conditions
+-- there is at least one list, and each has conditions
 abbrev pub HasConditions : Type 0
 HasConditions =
     (text : List ℕ) (ls : List ConditionList) → IsIf text ls
@@ -17,11 +17,11 @@ HasConditions =
 abbrev pub TokensAreText : Type 0
 TokensAreText = (text : List ℕ) (ls : List ConditionList) → IsIf text ls → All IsUtf8 (tokens_of ls)
 
--- one list that asks for this token alone
+-- the list with this token as its one condition
 abbrev pub asks_for : List ℕ → ConditionList
 asks_for token = record { resource = None; conditions = record { negated = false; item = state_token token } ∷ [] }
 
--- a token between `(<` and `>)` is asked for, and is the only token there
+-- a token between `(<` and `>)` is the one condition of the one list, and the only state token
 abbrev pub TokenIsAskedFor : Type 0
 TokenIsAskedFor =
     (token : List ℕ) → IsInside 62 false token → IsUtf8 token

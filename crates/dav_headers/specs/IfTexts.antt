@@ -1,4 +1,4 @@
--- What contracts see of lists of conditions that borrow what is written, and of the steps by which they are read.
+-- What contracts see of lists of conditions that borrow the header's bytes, and of the steps in which they are read.
 use Rattle.std.specs.Prelude.{◌≡◌, ℕ, ◌<◌, ◌≤◌, List, [], ◌∷◌, length, map, drop, Option, Some, None, option_map}
 use Rattle.std.specs.Borrow.{Bor}
 use Rattle.dav_headers.specs.IfTokens.{Token}
@@ -21,8 +21,8 @@ resource_view r = option_map (λ t. t.now) r
 abbrev pub list_view : ListText → WrittenList
 list_view l = record { resource = resource_view l.resource; conditions = map condition_view l.conditions.items }
 
--- What stands at the front of the tokens behind a list's `(`: the end of the list, or a condition, and how many tokens
--- it takes; or nothing that a list can go on with.
+-- The next step in a list, at the tokens after its `(`: a condition, or the end of the list, and how many tokens it
+-- takes; none where no list goes on with these tokens.
 abbrev pub StepsAs : List Token → Option (Option ConditionText × ℕ) → Type 0
 StepsAs ts None = conditions_at ts ≡ None
 StepsAs ts (Some (None, n)) = (0 < n) × (n ≤ length ts) × (conditions_at ts ≡ Some ([], drop n ts))

@@ -1,4 +1,4 @@
--- How the tokens of an If header are read: functions that the code follows.
+-- How an If header is cut into tokens: functions that the code follows.
 use Rattle.std.specs.Prelude.{ℕ, ◌+◌, ◌==◌, ◌&&◌, ◌||◌, Bool, false, not, nat_le, nat_eq, if◌then◌else◌, take, drop, List, [], ◌∷◌, Option, Some, None, option_map}
 use Rattle.std.specs.List.{starts_with, prefix_len}
 use Rattle.dav_headers.specs.IfTokens.{Token, open_list, close_list, negation, angle, square, word}
@@ -10,12 +10,12 @@ abbrev pub is_word_byte : ℕ → Bool
 is_word_byte b =
     nat_le 33 b && not (b == 60) && not (b == 62) && not (b == 40) && not (b == 41) && not (b == 91) && not (b == 93)
 
--- the text from its first byte that is no blank
+-- the text from its first byte on that isn't white space
 abbrev pub skip : List ℕ → List ℕ
 skip [] = []
 skip (b ∷ bs) = if is_blank b then skip bs else b ∷ bs
 
--- how many bytes stand before the closing sign
+-- how many bytes are before the closing sign
 abbrev pub inside_len : ℕ → Bool → List ℕ → Option ℕ
 inside_len close quoted [] = None
 inside_len close quoted (b ∷ bs) =
@@ -27,14 +27,14 @@ inside_len close quoted (b ∷ bs) =
 abbrev pub Split : Type 0
 Split = Option (Token × List ℕ)
 
--- what stands before the closing sign, and what follows it
+-- the bytes before the closing sign, and those after it
 abbrev pub split_inside : ℕ → List ℕ → Option (List ℕ × List ℕ)
 split_inside close text = option_map (λ n. (take n text, drop (n + 1) text)) (inside_len close false text)
 
 abbrev pub bracketed : (List ℕ → Token) → ℕ → List ℕ → Split
 bracketed make close text = option_map (λ x. (make x.0, x.1)) (split_inside close text)
 
--- the first bytes of a word
+-- how many bytes of a bare word the text begins with
 abbrev pub word_len : List ℕ → ℕ
 word_len text = prefix_len is_word_byte text
 
@@ -43,7 +43,7 @@ word_at text =
     if word_len text == 0 then None
     else Some (word (take (word_len text) text), drop (word_len text) text)
 
--- the token at the front of the text, and what follows it
+-- the token that the text begins with, and what follows it
 abbrev pub token_at : List ℕ → Split
 token_at text =
     if starts_with nat_eq text (40 ∷ []) then Some (open_list, drop 1 text)

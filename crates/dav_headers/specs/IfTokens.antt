@@ -1,7 +1,7 @@
--- What the value of an If header is made of (RFC 4918, section 10.4): signs, `Not`, and what stands in brackets or alone.
+-- The tokens of an If header (RFC 4918, section 10.4): `(`, `)`, `Not`, and what is in brackets or alone.
 use Rattle.std.specs.Prelude.{◌≡◌, ◌≢◌, ℕ, ◌≤◌, ◌<◌, ◌==◌, ◌++◌, ◌⊎◌, ⊤, Bool, true, false, not, if◌then◌else◌, length, List, [], ◌∷◌, All}
 
--- space, tab, CR and LF
+-- white space: space, tab, CR and LF
 abbrev pub IsBlank : ℕ → Type 0
 IsBlank b = (b ≡ 32) ⊎ ((b ≡ 9) ⊎ ((b ≡ 13) ⊎ (b ≡ 10)))
 
@@ -9,27 +9,27 @@ IsBlank b = (b ≡ 32) ⊎ ((b ≡ 9) ⊎ ((b ≡ 13) ⊎ (b ≡ 10)))
 abbrev pub IsWordByte : ℕ → Type 0
 IsWordByte b = (33 ≤ b) × (b ≢ 60) × (b ≢ 62) × (b ≢ 40) × (b ≢ 41) × (b ≢ 91) × (b ≢ 93)
 
--- What may stand before the closing sign, where `quoted` says that a quote is open: no blank, the closing sign only
--- between quotes, and no quote open at the end.
+-- What may be before the closing sign (`quoted`: a quote is open): no white space, the closing sign between quotes
+-- only, and no quote still open at the end.
 abbrev pub IsInside : ℕ → Bool → List ℕ → Type 0
 IsInside close quoted [] = quoted ≡ false
 IsInside close quoted (b ∷ bs) =
     (¬ IsBlank b) × (b ≡ close → quoted ≡ true) × IsInside close (if b == 34 then not quoted else quoted) bs
 
--- `(`, `)`, `Not`, what stands in `<>`, what stands in `[]`, and a bare word
+-- `(`, `)`, `Not`, what is in `<>`, what is in `[]`, and a bare word
 pub data Token : Type 0 where
   open_list close_list negation : Token
   angle : List ℕ → Token
   square : List ℕ → Token
   word : List ℕ → Token
 
--- the text doesn't begin with a byte of a word
+-- the text doesn't begin with a byte of a bare word
 abbrev pub EndsWord : List ℕ → Type 0
 EndsWord [] = ⊤
 EndsWord (b ∷ bs) = ¬ IsWordByte b
 
--- The text begins with this token, and goes on with the rest. A word is as long as it can be, and doesn't begin with
--- `Not`, which is always cut off first.
+-- The text begins with this token, and goes on with the rest. A bare word is as long as it can be, and doesn't begin
+-- with `Not`, which is always a token of its own.
 abbrev pub Begins : List ℕ → Token → List ℕ → Type 0
 Begins text open_list rest = text ≡ 40 ∷ rest
 Begins text close_list rest = text ≡ 41 ∷ rest
@@ -40,7 +40,7 @@ Begins text (word w) rest =
     (0 < length w) × All IsWordByte w × EndsWord rest × (text ≡ w ++ rest)
     × ((more : List ℕ) → text ≢ 78 ∷ 111 ∷ 116 ∷ more)
 
--- the text spells the tokens, with blanks before, between and behind them
+-- the text is these tokens, with optional white space before, between and after them
 abbrev pub Spells : List ℕ → List Token → Type 0
 Spells text [] = All IsBlank text
 Spells text (t ∷ ts) =

@@ -1,4 +1,4 @@
--- Lists of conditions as they are written: the bytes of each token, before they are asked what they mean.
+-- Lists of conditions as they are written: the bytes of each token, before their meaning is looked at.
 use Rattle.std.specs.Prelude.{◌≡◌, ℕ, ◌<◌, ◌++◌, Bool, true, false, ⊤, length, List, [], ◌∷◌, Option, Some, None, option_map, Ok, IsUtf8}
 use Rattle.std.specs.List.{AllZip}
 use Rattle.url.specs.Parser.{parse_url}
@@ -19,7 +19,7 @@ pub record WrittenList : Type 0 where
   pub resource : Option (List ℕ)
   pub conditions : List WrittenCondition
 
--- what a token is as an item
+-- a token as an item
 abbrev pub item_at : Token → Option WrittenItem
 item_at (angle t) = Some (written_token t)
 item_at (word t) = Some (written_token t)
@@ -30,7 +30,7 @@ item_at negation = None
 
 -- ---- how lists are read: functions that the code follows
 
--- the conditions up to the closing sign, and what follows it
+-- the conditions up to the closing sign, and the tokens after it
 abbrev pub Read : Type 0
 Read = Option (List WrittenCondition × List Token)
 
@@ -55,7 +55,7 @@ conditions_at (negation ∷ angle a ∷ ts) = with_front (one true (written_toke
 conditions_at (negation ∷ word a ∷ ts) = with_front (one true (written_token a)) (conditions_at ts)
 conditions_at (negation ∷ square a ∷ ts) = with_front (one true (written_tag a)) (conditions_at ts)
 
--- the resource tag of a list, and what follows its `(`
+-- the resource tag of a list, and the tokens after its `(`
 abbrev pub front_at : List Token → Option (Option (List ℕ) × List Token)
 front_at [] = None
 front_at (open_list ∷ ts) = Some (None, ts)
@@ -68,7 +68,7 @@ ListAt ts l rest =
     (us : List Token) × (front_at ts ≡ Some (l.resource, us)) × (0 < length l.conditions)
     × (conditions_at us ≡ Some (l.conditions, rest))
 
--- the tokens begin with no list
+-- the tokens don't begin with a list
 abbrev pub NoList : List Token → Type 0
 NoList ts = (l : WrittenList) (rest : List Token) → ¬ ListAt ts l rest
 

@@ -15,7 +15,7 @@ use Rattle.dav_headers.specs.declared.timeout.DavTimeout.{DavTimeout}
 use Rattle.dav_headers.specs.declared.range.XUpdateRange.{XUpdateRange}
 use Rattle.dav_headers.specs.declared.range.XUpdateRange.TheVariants.{FromTo, AllFrom, Last, Append}
 
--- the one value that is made of a text
+-- a single value with this text
 abbrev pub written : List ℕ → List FieldValue
 written text = plain_value text ∷ []
 
@@ -29,7 +29,7 @@ StrongIsTransitive = (e f g : EntityTag) → IsStrongMatch e f → IsStrongMatch
 abbrev pub StrongMatchesItself : Type 0
 StrongMatchesItself = (e : EntityTag) → IsStrongMatch e e ↔ (e.weak ≡ false)
 
--- what is written is read as what it was written for
+-- what is written is read back as the same
 abbrev pub OverwriteReadsAgain : Type 0
 OverwriteReadsAgain = (o : Bool) → IsOverwrite (written (overwrite_text o)) o
 
@@ -46,7 +46,7 @@ AreBelow Append = ⊤
 abbrev pub UpdateRangeReadsAgain : Type 0
 UpdateRangeReadsAgain = (r : XUpdateRange) → AreBelow r → IsUpdateRange (written (update_range_text r)) r
 
--- the seconds of a word are below 2^32
+-- the seconds of a TimeType are below 2^32
 abbrev pub IsShort : DavTimeout → Type 0
 IsShort (Seconds n) = n < 2 ^ 32
 IsShort Infinite = ⊤
@@ -55,7 +55,7 @@ abbrev pub TimeoutReadsAgain : Type 0
 TimeoutReadsAgain =
     (w : DavTimeout) → (ws : List DavTimeout) → All IsShort (w ∷ ws) → IsTimeout (written (timeout_text (w ∷ ws))) (w ∷ ws)
 
--- values are read in one way at most
+-- values have at most one meaning
 abbrev pub OneOverwrite : Type 0
 OneOverwrite = (values : List FieldValue) → (a b : Bool) → IsOverwrite values a → IsOverwrite values b → a ≡ b
 

@@ -8,6 +8,6 @@ abbrev pub overwrite_text : Bool → List ℕ
 overwrite_text true = codes "T"
 overwrite_text false = codes "F"
 
--- the only value says whether to overwrite
+-- the only value is the text of this flag
 abbrev pub IsOverwrite : List FieldValue → Bool → Type 0
 IsOverwrite values overwrite = only_text values ≡ Some (overwrite_text overwrite)

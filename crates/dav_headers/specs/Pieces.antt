@@ -3,14 +3,13 @@ use Rattle.std.specs.Prelude.{ℕ, ◌-◌, List, [], ◌∷◌, ◌++◌, ◌==
 use Rattle.std.specs.Char.{is_ascii_whitespace}
 use Rattle.std.specs.List.{flat_map, prefix_len, slice_split, suffix_len}
 
--- the text without the blanks at its ends: the white space of ASCII, of which text has space and tab alone
--- (RFC 9110, section 5.6.3)
+-- the text without the ASCII white space at its ends; in text that is space and tab, OWS (RFC 9110, section 5.6.3)
 abbrev pub trimmed : List ℕ → List ℕ
 trimmed text =
     let rest = drop (prefix_len is_ascii_whitespace text) text in
     take (length rest - suffix_len is_ascii_whitespace rest) rest
 
--- the pieces between commas, without blanks at their ends
+-- the list elements, between commas, without OWS around them
 abbrev pub pieces_of : List ℕ → List (List ℕ)
 pieces_of text = map trimmed (slice_split (λ b. b == 44) text)
 

@@ -5,7 +5,7 @@ use Rattle.dav_headers.specs.Value.{only_text, IsNumber}
 use Rattle.dav_headers.specs.declared.range.XUpdateRange.{XUpdateRange}
 use Rattle.dav_headers.specs.declared.range.XUpdateRange.TheVariants.{FromTo, AllFrom, Last, Append}
 
--- what stands before and behind the dash of a range
+-- what is before and after the dash of a range
 abbrev pub IsEnds : List ℕ → List ℕ → XUpdateRange → Type 0
 IsEnds from to (FromTo a b) = IsNumber from a × IsNumber to b
 IsEnds from to (AllFrom a) = IsNumber from a × (to ≡ [])

@@ -1,4 +1,4 @@
--- Values of headers (RFC 9110, section 5.5), and what is written as one.
+-- Values of headers (RFC 9110, section 5.5), and how text is written as one.
 use Rattle.std.specs.Prelude.{ℕ, ◌<◌, ◌^◌, List, [], ◌∷◌, Option, Some, None, Result, Ok, Err, ◌≡◌, ⊤, if◌then◌else◌}
 use Rattle.std.specs.Str.Parse.{IsNumeral, digits_value}
 use Rattle.http_header.specs.FieldValue.{FieldValue, plain_value, IsVisibleAscii, is_visible_text}
@@ -9,18 +9,18 @@ use Rattle.dav_headers.specs.declared.errors.HeaderError.TheVariants.{Invalid, M
 abbrev pub IsText : List ℕ → Type 0
 IsText bytes = IsVisibleAscii bytes
 
--- the text of the only value: nothing where there are none or several, or where it isn't text
+-- the text of the only value; none where there is no value or several, or where it isn't text
 abbrev pub only_text : List FieldValue → Option (List ℕ)
 only_text [] = None
 only_text (v ∷ []) = if is_visible_text v.bytes then Some v.bytes else None
 only_text (v ∷ w ∷ vs) = None
 
--- a text is written: its bytes are the value. Invalid comes exactly where it isn't text
+-- how a text is written: its bytes are the value; `Invalid` exactly where it isn't text
 abbrev pub Writes : Result FieldValue HeaderError → List ℕ → Type 0
 Writes (Ok v) text = IsText text × (v ≡ plain_value text)
 Writes (Err Invalid) text = ¬ IsText text
 Writes (Err Memory) text = ⊤
 
--- one or more decimal digits are this number, which is below 2^64
+-- one or more decimal digits, which are this number, below 2^64
 abbrev pub IsNumber : List ℕ → ℕ → Type 0
 IsNumber text n = IsNumeral 10 text × (digits_value 10 text ≡ n) × (n < 2 ^ 64)

@@ -1,4 +1,4 @@
-//! What a body is, and where (RFC 9110, sections 8.3 and 8.7).
+//! The media type of a body, and the resource that it represents (RFC 9110, sections 8.3 and 8.7).
 ghost use Rattle.std.specs.Prelude.{◌≡◌, ◌↔◌, Some, None, IfOk, IsErrOf, string_bytes};
 ghost use Rattle.dav_headers.specs.Value.{only_text, Writes};
 
@@ -7,7 +7,7 @@ use crate::values::{only_text, written};
 use http_header::HeaderValue;
 use std::alloc::Global;
 
-/// The header Content-Type: the media type of a body (RFC 9110, section 8.3), which isn't taken apart.
+/// The header Content-Type: the media type of a body (RFC 9110, section 8.3). It isn't parsed further.
 #[derive(Clone, Debug, PartialEq, Eq, Drop)]
 pub struct ContentType(pub String);
 
@@ -21,7 +21,7 @@ impl ContentType {
         Ok(ContentType(String::from_str(alloc, media_type)?))
     }
 
-    /// The text; `Invalid` exactly where it has other bytes than 32 to 126 and tab.
+    /// The text as a value; `Invalid` exactly where it has other bytes than 32 to 126 and tab.
     pub fn encode(&self, alloc: Global) -> Result<HeaderValue, HeaderError>
         ensures { Writes result (string_bytes self.now.0) }
     {
@@ -30,7 +30,8 @@ impl ContentType {
     }
 }
 
-/// The header Content-Location: the reference of what a body stands for (RFC 9110, section 8.7), which isn't taken apart.
+/// The header Content-Location: a URI of the resource that a body represents (RFC 9110, section 8.7). It isn't parsed
+/// further.
 #[derive(Clone, Debug, PartialEq, Eq, Drop)]
 pub struct ContentLocation(pub String);
 
@@ -44,7 +45,7 @@ impl ContentLocation {
         Ok(ContentLocation(String::from_str(alloc, location)?))
     }
 
-    /// The text; `Invalid` exactly where it has other bytes than 32 to 126 and tab.
+    /// The text as a value; `Invalid` exactly where it has other bytes than 32 to 126 and tab.
     pub fn encode(&self, alloc: Global) -> Result<HeaderValue, HeaderError>
         ensures { Writes result (string_bytes self.now.0) }
     {

@@ -1,4 +1,4 @@
-//! How deep a request goes (RFC 4918, section 10.2).
+//! How far below its resource a request applies (RFC 4918, section 10.2).
 ghost use Rattle.std.specs.Prelude.{◌≡◌, ◌↔◌, IfOk, IfErr, IsErrOf, IsSomeAnd};
 ghost use Rattle.http_header.specs.FieldValue.{plain_value};
 ghost use Rattle.dav_headers.specs.Depth.{depth_text, IsDepth, NoDepth};
@@ -8,22 +8,22 @@ use crate::values::{only_text, written};
 use http_header::HeaderValue;
 use std::alloc::Global;
 
-/// The header Depth: how far below its resource a request goes.
+/// The header Depth: how far below its resource a request applies.
 #[derive(Clone, Copy, Debug, PartialEq, Eq)]
 pub enum Depth {
-    /// The header is left out.
+    /// The header was left out.
     Default,
     /// The resource alone.
     Zero,
     /// The resource and its members.
     One,
-    /// The resource and all below it.
+    /// The resource and everything below it.
     Infinity,
 }
 
 impl Depth {
-    /// The depth that the only value says: `0`, `1`, and `infinity` or `Infinity`. `Invalid` for any other values. Takes
-    /// no memory.
+    /// The depth in the only value: `0`, `1`, and `infinity` or `Infinity`. `Invalid` for any other values. Allocates
+    /// nothing.
     pub fn decode(_alloc: Global, values: &[HeaderValue]) -> Result<Depth, HeaderError>
         ensures ok { IfOk result (λ depth. IsDepth values.now depth) }
         ensures invalid { IfErr result (λ e. (e ≡ HeaderError.Invalid) × NoDepth values.now) }

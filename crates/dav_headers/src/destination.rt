@@ -13,9 +13,9 @@ use std::alloc::Global;
 pub struct Destination(pub String);
 
 impl Destination {
-    /// The path of the only value. A text that begins with a slash is the path itself; of an `http` or `https` URI it
-    /// is what follows the authority, from its first slash on, and `/` where there is none. ASCII case of the scheme makes
-    /// no difference. `Invalid` for any other values.
+    /// The path in the only value. A text that begins with a slash is the path itself. Of an `http` or `https` URI
+    /// (ASCII case of the scheme ignored) it is what follows the authority, from its first slash on, and `/` where
+    /// there is no slash. `Invalid` for any other values.
     pub fn decode(alloc: Global, values: &[HeaderValue]) -> Result<Destination, HeaderError>
         ensures ok { IfOk result (λ d. IsDestination values.now (string_bytes d.0)) }
         ensures invalid { IsErrOf result HeaderError.Invalid → (path : List ℕ) → ¬ IsDestination values.now path }
@@ -29,7 +29,7 @@ impl Destination {
         Ok(Destination(String::from_str(alloc, path)?))
     }
 
-    /// The path; `Invalid` exactly where it has other bytes than 32 to 126 and tab.
+    /// The path as a value; `Invalid` exactly where it has other bytes than 32 to 126 and tab.
     pub fn encode(&self, alloc: Global) -> Result<HeaderValue, HeaderError>
         ensures { Writes result (string_bytes self.now.0) }
     {
@@ -37,7 +37,7 @@ impl Destination {
     }
 }
 
-// The path that a text names.
+// The path that a destination's text names.
 fn path_of(text: &str) -> Option<&str>
     ensures found { IfSome result (λ path. IsDestinationText text.now path.now) }
     ensures none { IfNone result ((path : List ℕ) → ¬ IsDestinationText text.now path) }
@@ -67,7 +67,7 @@ fn is_http(scheme: &str) -> bool
     scheme.eq_ignore_ascii_case("http") || scheme.eq_ignore_ascii_case("https")
 }
 
-// The text from its first slash on.
+// The text from its first slash on; `/` where it has none.
 fn path_behind(authority: &str) -> &str
     ensures { result.now ≡ from_slash authority.now }
 {

@@ -1,13 +1,13 @@
-//! Why a header isn't read or written.
+//! Why a header can't be read or written.
 pub use std::alloc::AllocError as NoMemory;
 use std::alloc::AllocFailed;
 use std::error::Error;
 use std::fmt;
 
-/// Why a header isn't read or written.
+/// Why a header can't be read or written.
 #[derive(Clone, Copy, Debug, PartialEq, Eq)]
 pub enum HeaderError {
-    /// The values aren't of the header's grammar, or what is to be written has no text in it.
+    /// The values aren't in the header's grammar, or what is to be written isn't text.
     Invalid,
     /// Memory ran out.
     Memory,

@@ -28,7 +28,7 @@ ghost use Rattle.std.specs.Prelude.{◌≡◌, ◌↔◌, ℕ, List, Bool, false
 ghost use Rattle.dav_headers.specs.Value.{only_text, Writes};
 ghost use Rattle.dav_headers.specs.ETag.{tag_text, IsUnquoted, IsEntityTag, IsETag, NoEntityTag, IsStrongMatch};
 
-// Whether a text is that of a weak tag, and what stands between its quotes.
+// Whether a tag's text is that of a weak tag, and what is between its quotes.
 pub(super) fn parts(text: &str) -> Option<(bool, &str)>
     ensures found { IfSome result (λ p. IsEntityTag text.now p.0 p.1.now) }
     ensures none { IfNone result (NoEntityTag text.now) }
@@ -39,7 +39,7 @@ pub(super) fn parts(text: &str) -> Option<(bool, &str)>
     }
 }
 
-// What stands between the quotes of a text that has one at each end, and none between.
+// What is between the quotes of a text that has one at each end, and none between.
 fn unquoted(text: &str) -> Option<&str>
     ensures found { IfSome result (λ tag. IsEntityTag text.now false tag.now) }
     ensures none { IfNone result ((tag : List ℕ) → ¬ IsEntityTag text.now false tag) }
@@ -53,7 +53,7 @@ fn unquoted(text: &str) -> Option<&str>
 }
 
 impl ETag {
-    /// A tag of this text, which stands between its quotes: `Invalid` exactly where a quote stands in it.
+    /// A tag with this text between its quotes; `Invalid` exactly where there is a quote in the text.
     pub fn new(alloc: Global, weak: bool, text: &str) -> Result<ETag, HeaderError>
         ensures ok { IfOk result (λ e. (e.weak ≡ weak) × (e.tag ≡ text.now) × IsUnquoted text.now) }
         ensures invalid { IsErrOf result HeaderError.Invalid ↔ ¬ IsUnquoted text.now }
@@ -65,8 +65,8 @@ impl ETag {
         Ok(ETag { weak, tag })
     }
 
-    /// The tag of a text as it stands in a header: `W/` where it is weak, and a text without quotes between quotes.
-    /// `Invalid` where the text is that of no tag.
+    /// The tag of a text as it is in a header: `W/` where it is weak, then a text without quotes between quotes.
+    /// `Invalid` where the text isn't a tag.
     pub fn from_str(alloc: Global, text: &str) -> Result<ETag, HeaderError>
         ensures ok { IfOk result (λ e. IsEntityTag text.now e.weak e.tag) }
         ensures invalid { IsErrOf result HeaderError.Invalid → NoEntityTag text.now }
@@ -92,8 +92,8 @@ impl ETag {
         !self.weak && !other.weak && self.tag == other.tag
     }
 
-    /// The tag that the only value of a header is (`ETag`, RFC 9110, section 8.8.3). `Invalid` where there isn't
-    /// exactly one value, or it isn't the text of a tag.
+    /// The tag in the only value of a header (`ETag`, RFC 9110, section 8.8.3). `Invalid` where there isn't exactly
+    /// one value, or it isn't a tag.
     pub fn decode(alloc: Global, values: &[HeaderValue]) -> Result<ETag, HeaderError>
         ensures ok { IfOk result (λ e. IsETag values.now e.weak e.tag) }
         ensures invalid { IsErrOf result HeaderError.Invalid
@@ -105,7 +105,7 @@ impl ETag {
         ETag::from_str(alloc, text)
     }
 
-    /// The tag's text as a header's value; `Invalid` exactly where it isn't text.
+    /// The tag as a value; `Invalid` exactly where it isn't text.
     pub fn encode(&self, alloc: Global) -> Result<HeaderValue, HeaderError>
         ensures { Writes result (tag_text self.now.weak self.now.tag) }
     {

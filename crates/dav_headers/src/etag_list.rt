@@ -15,9 +15,9 @@ use std::alloc::Global;
 /// The tags that a condition names.
 #[derive(Debug, Drop)]
 pub enum ETagList {
-    /// One of these.
+    /// One of these tags.
     Tags(Vec<ETag>),
-    /// Any.
+    /// Any tag.
     Star,
 }
 
@@ -32,14 +32,14 @@ pub struct IfNoneMatch(pub ETagList);
 /// The header If-Range: a part is sent only where the resource has this tag.
 #[derive(Debug, Drop)]
 pub enum IfRange {
-    /// The tag.
+    /// This tag.
     ETag(ETag),
 }
 
 impl IfMatch {
-    /// The tags of one or more values (RFC 9110, section 13.1.1): the first value that is `*` apart from blanks stands for
-    /// any tag and ends the reading; the others are split at commas, and what isn't a tag is passed over. `Invalid` where
-    /// there are no values, and where one that is read isn't text.
+    /// The tags in one or more values (RFC 9110, section 13.1.1). The first value that is `*` apart from white space
+    /// means any tag, and the values after it aren't read. The others are split at commas, and list elements that
+    /// aren't tags are skipped. `Invalid` where there are no values, and where one that is read isn't text.
     pub fn decode(alloc: Global, values: &[HeaderValue]) -> Result<IfMatch, HeaderError>
         ensures ok { IfOk result (λ m. IsTagList values.now (tag_list m.0)) }
         ensures invalid { IsErrOf result HeaderError.Invalid → NoTagList values.now }
@@ -47,7 +47,7 @@ impl IfMatch {
         Ok(IfMatch(ETagList::decode(alloc, values)?))
     }
 
-    /// `*`, or the tags with a comma and a blank between them; `Invalid` where that isn't text.
+    /// `*`, or the tags with a comma and a space between them; `Invalid` where that isn't text.
     pub fn encode(&self, alloc: Global) -> Result<HeaderValue, HeaderError>
         ensures { Writes result (tag_list_text (tag_list self.now.0)) }
     {
@@ -57,7 +57,7 @@ impl IfMatch {
 }
 
 impl IfNoneMatch {
-    /// The tags of one or more values (RFC 9110, section 13.1.2), read as those of `IfMatch`.
+    /// The tags in one or more values (RFC 9110, section 13.1.2), read as those of `IfMatch` are.
     pub fn decode(alloc: Global, values: &[HeaderValue]) -> Result<IfNoneMatch, HeaderError>
         ensures ok { IfOk result (λ m. IsTagList values.now (tag_list m.0)) }
         ensures invalid { IsErrOf result HeaderError.Invalid → NoTagList values.now }
@@ -65,7 +65,7 @@ impl IfNoneMatch {
         Ok(IfNoneMatch(ETagList::decode(alloc, values)?))
     }
 
-    /// `*`, or the tags with a comma and a blank between them; `Invalid` where that isn't text.
+    /// `*`, or the tags with a comma and a space between them; `Invalid` where that isn't text.
     pub fn encode(&self, alloc: Global) -> Result<HeaderValue, HeaderError>
         ensures { Writes result (tag_list_text (tag_list self.now.0)) }
     {
@@ -74,7 +74,7 @@ impl IfNoneMatch {
 }
 
 impl IfRange {
-    /// The tag that the only value is (RFC 9110, section 13.1.5); `Invalid` for any other values, a date among them.
+    /// The tag in the only value (RFC 9110, section 13.1.5); `Invalid` for any other values, a date among them.
     pub fn decode(alloc: Global, values: &[HeaderValue]) -> Result<IfRange, HeaderError>
         ensures ok { IfOk result (λ r. IsETag values.now (range_tag r).weak (range_tag r).tag) }
         ensures invalid { IsErrOf result HeaderError.Invalid
@@ -83,7 +83,7 @@ impl IfRange {
         Ok(IfRange::ETag(ETag::decode(alloc, values)?))
     }
 
-    /// The tag's text; `Invalid` exactly where it isn't text.
+    /// The tag as a value; `Invalid` exactly where it isn't text.
     pub fn encode(&self, alloc: Global) -> Result<HeaderValue, HeaderError>
         ensures { Writes result (tag_text (range_tag self.now).weak (range_tag self.now).tag) }
     {
@@ -128,7 +128,7 @@ impl ETagList {
     }
 }
 
-// Adds the tags among the pieces of a text.
+// Adds the tags among the list elements of a text.
 fn push_tags(alloc: Global, tags: &mut Vec<ETag>, text: &str) -> Result<(), HeaderError>
     ensures ok { OnOk result ((added : List EntityTag)
         × (tags.new.items ≡ tags.old.items ++ added) × AreTags (pieces_of text.now) added) }
@@ -145,7 +145,7 @@ fn push_tags(alloc: Global, tags: &mut Vec<ETag>, text: &str) -> Result<(), Head
     Ok(())
 }
 
-// The texts of tags.
+// Each tag as text.
 fn texts(alloc: Global, tags: &[ETag]) -> Result<Vec<String>, NoMemory>
     ensures { IfOk result (λ texts. map string_bytes texts.items ≡ map (λ t. tag_text t.weak t.tag) tags.now) }
 {
@@ -170,7 +170,7 @@ impl Clone for ETagList {
     }
 }
 
-// A copy of tags.
+// A copy of the tags.
 fn copied(tags: &Vec<ETag>) -> Result<Vec<ETag>, NoMemory>
     ensures { IfOk result (λ copies. copies.items ≡ tags.now.items) }
 {

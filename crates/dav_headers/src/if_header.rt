@@ -17,28 +17,28 @@ use tokens::parts_of;
 use url::Url;
 use written::lists_of;
 
-/// An If header: its lists, of which one is to be true.
+/// An If header: its lists, at least one of which must be true.
 #[derive(Debug, Drop)]
 pub struct If(pub Vec<IfList>);
 
-/// A list of conditions, which are all to be true of one resource.
+/// A list of conditions, all of which must be true of one resource.
 #[derive(Debug, Drop)]
 pub struct IfList {
-    /// The resource that this list speaks of; the request's own where there is none.
+    /// The resource that the list is about; `None` for the request's own.
     pub resource_tag: Option<Url>,
     /// One or more conditions.
     pub conditions: Vec<IfCondition>,
 }
 
-/// An item, and whether it is to be false.
+/// A condition: an item, and whether it must be false.
 #[derive(Debug, Drop)]
 pub struct IfCondition {
-    /// Whether `Not` stands before the item.
+    /// Whether there is a `Not` before the item.
     pub not: bool,
     pub item: IfItem,
 }
 
-/// What a condition asks.
+/// What a condition asks for.
 #[derive(Debug, Drop)]
 pub enum IfItem {
     /// A state token, such as that of a lock.
@@ -48,10 +48,10 @@ pub enum IfItem {
 }
 
 impl If {
-    /// The lists that the only value of a header says (RFC 4918, section 10.4.2).
+    /// The lists in the only value of a header (RFC 4918, section 10.4.2).
     ///
-    /// `Invalid` where there isn't exactly one value, or it says none; `Memory` where memory runs out, or a resource tag
-    /// is a URL past 4 GB.
+    /// `Invalid` where there isn't exactly one value, or it isn't one or more lists; `Memory` where memory runs out,
+    /// or a resource tag is a URL past 4 GB.
     pub fn decode(alloc: Global, values: &[HeaderValue]) -> Result<If, HeaderError>
         ensures ok { IfOk result (λ x. IsIfHeader values.now (if_lists x)) }
         ensures invalid { IsErrOf result HeaderError.Invalid → (ls : List ConditionList) → ¬ IsIfHeader values.now ls }
@@ -116,7 +116,7 @@ impl Clone for If {
     }
 }
 
-// The lists that a text says.
+// The lists that a text is.
 fn read(alloc: Global, text: &[u8]) -> Result<If, HeaderError>
     ensures ok { IfOk result (λ x. IsIf text.now (if_lists x)) }
     ensures invalid { IsErrOf result HeaderError.Invalid → (ls : List ConditionList) → ¬ IsIf text.now ls }

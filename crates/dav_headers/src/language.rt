@@ -12,7 +12,7 @@ use http_header::HeaderValue;
 use std::alloc::Global;
 use std::marker::Model;
 
-/// The header Content-Language: the languages of those for whom a body is meant.
+/// The header Content-Language: the languages of the audience that a body is meant for.
 #[derive(Debug, Drop)]
 pub struct ContentLanguage {
     items: Vec<String>,
@@ -27,8 +27,9 @@ impl Model for ContentLanguage {
 }
 
 impl ContentLanguage {
-    /// The languages that stand between the commas of all the values, without the blanks around them: each is one or more
-    /// letters, digits and hyphens. `Invalid` where there are no values, one isn't text, or a piece is something else.
+    /// The languages in all the values, without white space around them. Each list element is one or more letters,
+    /// digits and hyphens. `Invalid` where there are no values, or one isn't text, or a list element is something
+    /// else.
     pub fn decode(alloc: Global, values: &[HeaderValue]) -> Result<ContentLanguage, HeaderError>
         ensures ok { IfOk result (AreLanguages values.now) }
         ensures invalid { IsErrOf result HeaderError.Invalid
@@ -47,7 +48,7 @@ impl ContentLanguage {
         Ok(ContentLanguage { items })
     }
 
-    /// The languages in order, with a comma and a blank between them; `Invalid` exactly where that isn't text.
+    /// The languages in order, with a comma and a space between them; `Invalid` exactly where that isn't text.
     pub fn encode(&self, alloc: Global) -> Result<HeaderValue, HeaderError>
         ensures { Writes result (joined self.now) }
     {
@@ -55,7 +56,7 @@ impl ContentLanguage {
         written(alloc, &text)
     }
 
-    /// The languages, each once, in order. Takes no memory.
+    /// The languages, in order, each as often as it occurs. Allocates nothing.
     pub fn iter_langs(&self) -> Langs<'_>
         ensures { map string_bytes result.rest.now ≡ self.now }
     {
@@ -63,7 +64,7 @@ impl ContentLanguage {
     }
 }
 
-// Adds the languages that the pieces of a text are.
+// Adds the languages that the list elements of a text are.
 fn push_languages(alloc: Global, items: &mut Vec<String>, text: &str) -> Result<(), HeaderError>
     ensures ok { OnOk result ((map string_bytes items.new.items ≡ map string_bytes items.old.items ++ pieces_of text.now)
         × All IsLanguage (pieces_of text.now)) }
@@ -101,7 +102,7 @@ impl Clone for ContentLanguage {
     }
 }
 
-// A copy of texts.
+// A copy of the texts.
 fn copied(items: &Vec<String>) -> Result<Vec<String>, NoMemory>
     ensures { IfOk result (λ copies. map string_bytes copies.items ≡ map string_bytes items.now.items) }
 {
@@ -112,7 +113,7 @@ fn copied(items: &Vec<String>) -> Result<Vec<String>, NoMemory>
     Ok(copies)
 }
 
-/// Compares the languages, in order.
+/// Equal languages, in the same order.
 impl PartialEq for ContentLanguage {
     ghost use Rattle.std.specs.Prelude.{◌==◌};
     ghost use Rattle.std.specs.Cmp.Lexicographic.{pointwise};

@@ -9,37 +9,38 @@ pub fn strong_comparison()
     ensures reflexive { StrongMatchesItself }
 {}
 
-/// The value that is written for an `Overwrite` is read as this one, and any values as one at most.
+/// The value written for an `Overwrite` is read back as the same, and values have at most one reading.
 pub fn overwrite_is_read_again()
     ensures again { OverwriteReadsAgain }
     ensures one { OneOverwrite }
 {}
 
-/// The value that is written for a `Depth` is read as this one, and any values as one at most.
+/// The value written for a `Depth` is read back as the same, and values have at most one reading.
 pub fn depth_is_read_again()
     ensures again { DepthReadsAgain }
     ensures one { OneDepth }
 {}
 
-/// The value that is written for an `XUpdateRange` is read as this one, and any values as one at most.
+/// The value written for an `XUpdateRange` is read back as the same, and values have at most one reading.
 pub fn update_range_is_read_again()
     ensures again { UpdateRangeReadsAgain }
     ensures one { OneUpdateRange }
 {}
 
-/// The value that is written for a `Timeout` with a word is read as this one, and any values as one at most.
+/// The value written for a `Timeout` with a TimeType in it is read back as the same, and values have at most one
+/// reading.
 pub fn timeout_is_read_again()
     ensures again { TimeoutReadsAgain }
     ensures one { OneTimeout }
 {}
 
-/// The values of If-Match and If-None-Match are read as one list at most.
+/// The values of If-Match and If-None-Match have at most one reading.
 #[tactic(auto, using(crate::proofs::OneReading::one_tag_list))]
 pub fn tag_lists_have_one_reading()
     ensures { OneTagList }
 {}
 
-/// The values of Content-Range and of Content-Length are read in one way at most.
+/// The values of Content-Range and of Content-Length have at most one reading.
 pub fn lengths_have_one_reading()
     ensures range { OneContentRange }
     ensures length { OneContentLength }

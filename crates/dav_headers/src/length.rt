@@ -14,8 +14,8 @@ use std::alloc::Global;
 pub struct ContentLength(pub u64);
 
 impl ContentLength {
-    /// The number that all the values are; `3` and `03` are one number. `Invalid` where there are no values, or one is
-    /// no number of decimal digits below 2^64, or two are different numbers. Takes no memory.
+    /// The number that all values are; `3` and `03` are the same number. `Invalid` where there are no values, one
+    /// isn't a number of decimal digits below 2^64, or two are different numbers. Allocates nothing.
     pub fn decode(_alloc: Global, values: &[HeaderValue]) -> Result<ContentLength, HeaderError>
         ensures ok { IfOk result (λ l. IsContentLength values.now l.0) }
         ensures invalid { IfErr result (λ e. (e ≡ HeaderError.Invalid) × ((n : ℕ) → ¬ IsContentLength values.now n)) }
@@ -38,7 +38,7 @@ impl ContentLength {
     }
 }
 
-// The number that one value is.
+// The number in one value.
 fn length_of(value: &HeaderValue) -> Option<u64>
     ensures found { IfSome result (λ n. IsNumber value.now.bytes n) }
     ensures none { IfNone result ((n : ℕ) → ¬ IsNumber value.now.bytes n) }

@@ -1,4 +1,4 @@
-//! Typed headers: what their values say, and how they are written (RFC 9110, RFC 4918).
+//! Typed headers: what their values mean, and how they are written (RFC 9110, RFC 4918).
 #![tactic(auto)]
 
 #[cfg(test)]

@@ -13,7 +13,7 @@ use std::alloc::Global;
 pub struct Overwrite(pub bool);
 
 impl Overwrite {
-    /// What the only value says: `T` or `F`. `Invalid` for any other values. Takes no memory.
+    /// The flag in the only value: `T` or `F`. `Invalid` for any other values. Allocates nothing.
     pub fn decode(_alloc: Global, values: &[HeaderValue]) -> Result<Overwrite, HeaderError>
         ensures ok { IfOk result (λ o. IsOverwrite values.now o.0) }
         ensures invalid { IfErr result (λ e. (e ≡ HeaderError.Invalid) × ((b : Bool) → ¬ IsOverwrite values.now b)) }

@@ -5,7 +5,7 @@ ghost use Rattle.dav_headers.specs.Pieces.{joined, trimmed};
 use crate::errors::NoMemory;
 use std::alloc::Global;
 
-// The text without the blanks at its ends.
+// The text without the ASCII white space at its ends.
 pub(super) fn trimmed(text: &str) -> &str
     ensures { result.now ≡ trimmed text.now }
 {

@@ -14,19 +14,19 @@ use std::alloc::Global;
 /// The header X-Update-Range: the bytes of a file that a PATCH replaces.
 #[derive(Clone, Debug, PartialEq, Eq, Drop)]
 pub enum XUpdateRange {
-    /// From the first of these places to the second.
+    /// From the first of these offsets to the second.
     FromTo(u64, u64),
-    /// All from this place on.
+    /// Everything from this offset on.
     AllFrom(u64),
-    /// So many bytes at the end.
+    /// The last so many bytes.
     Last(u64),
-    /// What follows the end.
+    /// What follows the end of the file.
     Append,
 }
 
 impl XUpdateRange {
-    /// The range that the only value is: `append`, `bytes=a-b`, `bytes=a-` or `bytes=-n`, with numbers of decimal digits
-    /// below 2^64. `Invalid` for any other values. Takes no memory.
+    /// The range in the only value: `append`, `bytes=a-b`, `bytes=a-` or `bytes=-n`, with numbers of decimal digits
+    /// below 2^64. `Invalid` for any other values. Allocates nothing.
     pub fn decode(_alloc: Global, values: &[HeaderValue]) -> Result<XUpdateRange, HeaderError>
         ensures ok { IfOk result (λ range. IsUpdateRange values.now range) }
         ensures invalid { IfErr result (λ e. (e ≡ HeaderError.Invalid) × NoUpdateRange values.now) }
@@ -67,7 +67,7 @@ impl XUpdateRange {
     }
 }
 
-// What stands before and behind the first dash that follows `bytes=`.
+// What is before and after the first dash that follows `bytes=`.
 fn dash_parts(text: &str) -> Option<(&str, &str)>
     ensures found { IfSome result (λ p. (range : List ℕ)
         × (text.now ≡ codes "bytes=" ++ range) × IsCut 45 range p.0.now p.1.now) }
@@ -76,7 +76,7 @@ fn dash_parts(text: &str) -> Option<(&str, &str)>
     cut(text.strip_prefix("bytes=")?, '-')
 }
 
-// The range that has these ends.
+// The range with these two texts before and after its dash.
 fn update_range(from: &str, to: &str) -> Option<XUpdateRange>
     ensures found { IfSome result (λ range. IsEnds from.now to.now range) }
     ensures none { IfNone result ((range : XUpdateRangeValue) → ¬ IsEnds from.now to.now range) }
@@ -94,15 +94,15 @@ fn update_range(from: &str, to: &str) -> Option<XUpdateRange>
 /// The header Content-Range: which bytes of the whole a body is.
 #[derive(Clone, Debug, PartialEq, Eq, Drop)]
 pub struct ContentRange {
-    /// The places of the first and the last byte, where they are told.
+    /// The offsets of the first and the last byte, where they are given.
     pub bounds: Option<(u64, u64)>,
     /// The length of the whole, where it is known.
     pub length: Option<u64>,
 }
 
 impl ContentRange {
-    /// The range that the only value is: `bytes a-b/l` or `bytes */l`, where l may be `*`, with numbers of decimal digits
-    /// below 2^64. `Invalid` for any other values. Takes no memory.
+    /// The range in the only value: `bytes a-b/l` or `bytes */l`, where l may be `*`, with numbers of decimal digits
+    /// below 2^64. `Invalid` for any other values. Allocates nothing.
     pub fn decode(_alloc: Global, values: &[HeaderValue]) -> Result<ContentRange, HeaderError>
         ensures ok { IfOk result (λ r. IsContentRange values.now r.bounds r.length) }
         ensures invalid { IfErr result (λ e. (e ≡ HeaderError.Invalid) × NoContentRange values.now) }
@@ -145,7 +145,7 @@ impl ContentRange {
     }
 }
 
-// What stands before and behind the first slash that follows `bytes `.
+// What is before and after the first slash that follows `bytes `.
 fn slash_parts(text: &str) -> Option<(&str, &str)>
     ensures found { IfSome result (λ p. (range : List ℕ)
         × (text.now ≡ codes "bytes " ++ range) × IsCut 47 range p.0.now p.1.now) }
@@ -154,7 +154,7 @@ fn slash_parts(text: &str) -> Option<(&str, &str)>
     cut(text.strip_prefix("bytes ")?, '/')
 }
 
-// The bounds that a text says.
+// The bounds in a text.
 fn bounds(text: &str) -> Option<Option<(u64, u64)>>
     ensures found { IfSome result (λ b. IsBounds text.now b) }
     ensures none { IfNone result ((b : Option (ℕ × ℕ)) → ¬ IsBounds text.now b) }
@@ -166,7 +166,7 @@ fn bounds(text: &str) -> Option<Option<(u64, u64)>>
     Some(Some((number(first)?, number(last)?)))
 }
 
-// The length that a text says.
+// The length in a text.
 fn length(text: &str) -> Option<Option<u64>>
     ensures found { IfSome result (λ l. IsLength text.now l) }
     ensures none { IfNone result ((l : Option ℕ) → ¬ IsLength text.now l) }

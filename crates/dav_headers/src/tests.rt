@@ -1,6 +1,6 @@
 //! Headers as rows of text: how their values are read, and what is written again.
 //!
-//! A row costs the proof of its test nothing, where a line of code costs it seconds.
+//! A row adds nothing to the proof of its test; a line of code adds seconds.
 mod made;
 mod read;
 
@@ -9,7 +9,8 @@ use crate::asserting::same;
 use std::alloc::{AllocError, Global};
 use std::test::Fail;
 
-// The name at the head of a row, the text after its first bar (which ends with a bar, or is empty), and the wanted outcome.
+// The name at the start of a row, the text after its first bar (which ends with a bar, or is empty), and the expected
+// outcome.
 fn parts(row: &str) -> Option<(&str, &str, &str)> {
     let (input, wanted) = row.split_once(" -> ")?;
     let (name, texts) = input.split_once(" |")?;
@@ -25,7 +26,7 @@ fn is_row(line: &str) -> bool {
     !line.is_empty() && !line.starts_with("# ")
 }
 
-// The bytes of a text in a row, in which `\t` stands for a tab and `\xE9` for that byte.
+// The bytes of a text in a row, where `\t` is a tab and `\xE9` is that byte.
 fn unescaped(alloc: Global, text: &str) -> Result<Vec<u8>, Fail> {
     let mut bytes = Vec::new(alloc);
     let mut pieces = text.split('\\');
@@ -45,12 +46,12 @@ fn unescaped(alloc: Global, text: &str) -> Result<Vec<u8>, Fail> {
     Ok(bytes)
 }
 
-// The two digits after the sign `x`, and the text after them.
+// The two digits after the `x`, and the text after them.
 fn escaped_byte(piece: &str) -> Option<(&str, &str)> {
     piece.strip_prefix('x')?.split_at_checked(2)
 }
 
-// An outcome as text: `!` for a refused input.
+// An outcome as text: `!` for refused input.
 fn outcome_text(alloc: Global, outcome: Result<String, HeaderError>) -> Result<String, AllocError> {
     match outcome {
         Ok(text) => Ok(text),

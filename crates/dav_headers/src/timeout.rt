@@ -1,4 +1,4 @@
-//! For how long a lock is asked (RFC 4918, section 10.7).
+//! The lifetimes that a client wants for a lock (RFC 4918, section 10.7).
 ghost use Rattle.std.specs.Prelude.{◌≡◌, List, map, string_bytes, IfOk, IfSome, IfNone, IsErrOf, IsOkUnless};
 ghost use Rattle.http_header.specs.FieldValue.{plain_value};
 ghost use Rattle.dav_headers.specs.Pieces.{pieces_of};
@@ -11,7 +11,7 @@ use crate::values::{number, only_text, written};
 use http_header::HeaderValue;
 use std::alloc::Global;
 
-/// A time for which a lock is asked.
+/// A TimeType: how long a lock is wanted.
 #[derive(Clone, Debug, PartialEq, Eq, Drop)]
 pub enum DavTimeout {
     /// So many seconds.
@@ -20,12 +20,12 @@ pub enum DavTimeout {
     Infinite,
 }
 
-/// The header Timeout: times for which a lock is asked, the preferred one first.
+/// The header Timeout: how long a lock is wanted, the preferred time first.
 #[derive(Clone, Debug, PartialEq, Eq, Drop)]
 pub struct Timeout(pub Vec<DavTimeout>);
 
 impl Timeout {
-    /// The words that stand between the commas of the only value, without the blanks around them: `Infinite`, or
+    /// The TimeTypes in the only value, which are between its commas, without white space around them: `Infinite`, or
     /// `Second-` and a number of decimal digits below 2^32. `Invalid` for any other values.
     pub fn decode(alloc: Global, values: &[HeaderValue]) -> Result<Timeout, HeaderError>
         ensures ok { IfOk result (λ t. IsTimeout values.now t.0.items) }
@@ -37,7 +37,7 @@ impl Timeout {
         Ok(Timeout(words(alloc, text)?))
     }
 
-    /// The words in order, with a comma and a blank between them.
+    /// The TimeTypes in order, with a comma and a space between them.
     #[tactic(auto, using(crate::proofs::TimeoutLemmas::timeout_visible))]
     pub fn encode(&self, alloc: Global) -> Result<HeaderValue, HeaderError>
         ensures ok { IfOk result (λ v. v ≡ plain_value (timeout_text self.now.0.items)) }
@@ -49,7 +49,7 @@ impl Timeout {
     }
 }
 
-// The words that the pieces of a text are.
+// The TimeTypes that the list elements of a text are.
 fn words(alloc: Global, text: &str) -> Result<Vec<DavTimeout>, HeaderError>
     ensures ok { IfOk result (λ words. AreWords (pieces_of text.now) words.items) }
     ensures invalid { IsErrOf result HeaderError.Invalid
@@ -65,7 +65,7 @@ fn words(alloc: Global, text: &str) -> Result<Vec<DavTimeout>, HeaderError>
     Ok(words)
 }
 
-// The word that a piece is.
+// The TimeType that a list element is.
 fn word(piece: &str) -> Option<DavTimeout>
     ensures found { IfSome result (λ word. IsWord piece.now word) }
     ensures none { IfNone result ((word : DavTimeoutValue) → ¬ IsWord piece.now word) }
@@ -80,7 +80,7 @@ fn word(piece: &str) -> Option<DavTimeout>
     Some(DavTimeout::Seconds(seconds as u32))
 }
 
-// The texts of words.
+// Each TimeType as text.
 fn texts(alloc: Global, words: &[DavTimeout]) -> Result<Vec<String>, NoMemory>
     ensures { IfOk result (λ texts. map string_bytes texts.items ≡ map word_text words.now) }
 {

@@ -1,4 +1,4 @@
-//! Tokens of locks, and of tests.
+//! Tokens of locks, and names of tests.
 ghost use Rattle.std.specs.Prelude.{◌≡◌, ◌↔◌, Some, None, IfOk, IsErrOf, string_bytes};
 ghost use Rattle.dav_headers.specs.Value.{only_text, Writes};
 
@@ -7,7 +7,7 @@ use crate::values::{only_text, written};
 use http_header::HeaderValue;
 use std::alloc::Global;
 
-/// The header Lock-Token: a token between angle brackets (RFC 4918, section 10.5), which isn't taken apart.
+/// The header Lock-Token: a token between angle brackets (RFC 4918, section 10.5). It isn't parsed further.
 #[derive(Clone, Debug, PartialEq, Eq, Drop)]
 pub struct LockToken(pub String);
 
@@ -21,7 +21,7 @@ impl LockToken {
         Ok(LockToken(String::from_str(alloc, token)?))
     }
 
-    /// The text; `Invalid` exactly where it has other bytes than 32 to 126 and tab.
+    /// The text as a value; `Invalid` exactly where it has other bytes than 32 to 126 and tab.
     pub fn encode(&self, alloc: Global) -> Result<HeaderValue, HeaderError>
         ensures { Writes result (string_bytes self.now.0) }
     {
@@ -44,7 +44,7 @@ impl XLitmus {
         Ok(XLitmus(String::from_str(alloc, test)?))
     }
 
-    /// The text; `Invalid` exactly where it has other bytes than 32 to 126 and tab.
+    /// The text as a value; `Invalid` exactly where it has other bytes than 32 to 126 and tab.
     pub fn encode(&self, alloc: Global) -> Result<HeaderValue, HeaderError>
         ensures { Writes result (string_bytes self.now.0) }
     {

@@ -1,4 +1,4 @@
--- What is printed of a reply has no fraction, so its text is known.
+-- A reply as JSON has no fraction, so its text is known.
 use Rattle.std.proofs.Common.{◌≡◌, List, [], ◌∷◌, Bool, true, false, true≢false, refl, Ordering, Less, Equal, Greater, nat_cmp}
 use Rattle.std.specs.Cmp.Lexicographic.{slice_cmp}
 use Rattle.std.specs.Ordering.{match_ordering}
@@ -28,7 +28,7 @@ among Less a b c p q r = p
 among Equal a b c p q r = q
 among Greater a b c p q r = r
 
--- a text that is put in brings no fraction
+-- a text that is put into members adds no fraction
 text_put : (k s : List ℕ) (ms : Members) → members_have_float ms ≡ false → members_have_float (put k (string s) ms) ≡ false
 text_put k s no_members h = refl
 text_put k s (member l e ms) h =

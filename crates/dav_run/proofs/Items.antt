@@ -21,7 +21,7 @@ module _ {X : Type 0} (Is : Data → X → Type 0) where
   place_of_item (v ∷ vs) zero d (x ∷ xs) below are = (x, are.0)
   place_of_item (v ∷ vs) (suc i) d (x ∷ xs) below are = place_of_item vs i d xs (omega (arith, below)) are.1
 
-  -- each item of the list stands for something
+  -- each item of the list is something
   pub item_at : (vs : List Value) (i : ℕ) (v : Value) (xs : List X) → i < length vs → v ≡ get_or vs i v
       → AreItems Is (items_view vs) xs → (x : X) × Is (view v) x
   item_at vs i v xs below at are =
@@ -29,7 +29,7 @@ module _ {X : Type 0} (Is : Data → X → Type 0) where
       let Of : Value → Type 0 = λ w. Is (view w) x in
       (x, subst Of (sym at) is)
 
-  -- one more item stands for one more
+  -- one more item is one more value
   pub items_more : (vs : List Value) (i : ℕ) (v : Value) (xs : List X) (x : X) (more : List X)
       → i < length vs → v ≡ get_or vs i v → more ≡ xs ++ x ∷ [] → AreItems Is (items_view (take i vs)) xs → Is (view v) x
       → AreItems Is (items_view (take (i + 1) vs)) more
@@ -39,14 +39,14 @@ module _ {X : Type 0} (Is : Data → X → Type 0) where
       let Back : List X → Type 0 = λ l. AreItems Is (items_view (take (i + 1) vs)) l in
       subst Back (sym grown) (subst Front front (items_pushed (take i vs) v xs x are is))
 
-  -- the same of what is seen of the list that grew
+  -- the same for the views of the list that grew
   pub seen_more : {Y : Type 0} (f : Y → X) (vs : List Value) (i : ℕ) (v : Value) (ys : List Y) (y : Y) (more : List Y)
       → i < length vs → v ≡ get_or vs i v → more ≡ ys ++ y ∷ [] → AreItems Is (items_view (take i vs)) (map f ys) → Is (view v) (f y)
       → AreItems Is (items_view (take (i + 1) vs)) (map f more)
   seen_more f vs i v ys y more below at grown are is =
       items_more vs i v (map f ys) (f y) (map f more) below at (ap (map f) grown ∙ map-append f ys (y ∷ [])) are is
 
--- a list of texts is one list of texts only
+-- a list of texts is only one list of texts
 pub texts_same : (ds : Items) (xs ys : List (List ℕ)) → AreItems IsText ds xs → AreItems IsText ds ys → xs ≡ ys
 texts_same no_items [] [] are also = refl
 texts_same no_items [] (y ∷ ys) are also = absurd also

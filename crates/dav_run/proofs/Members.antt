@@ -1,4 +1,4 @@
--- The names of an object's members, as a map's keys and as the data that the map stands for.
+-- The names of an object's members, as the keys of a map and as the data that the map is.
 use Rattle.std.proofs.Common.{◌≡◌, ℕ, List, [], ◌∷◌, All, map, refl, ap, subst, string_bytes}
 use Rattle.std.proofs.lemmas.List.{get_or-map, length-map}
 use Rattle.std.proofs.lemmas.List.Elements.{All-map}
@@ -12,12 +12,12 @@ member_names_of_keys : (es : List Entry) → member_names (members_view es) ≡ 
 member_names_of_keys [] = refl
 member_names_of_keys (e ∷ es) = ap (λ names. string_bytes e.0 ∷ names) (member_names_of_keys es)
 
--- what holds of the text of each key holds of each name
+-- what holds for the text of each key holds for each name
 pub all_names : (P : List ℕ → Type 0) (es : List Entry) → All (λ name. P (string_bytes name)) (keys_of es)
     → All P (member_names (members_view es))
 all_names P es h = rw (member_names_of_keys es) (All-map P string_bytes (keys_of es) h)
 
--- what holds of each name holds of the text of each key
+-- what holds for each name holds for the text of each key
 pub all_keys : (P : List ℕ → Type 0) (es : List Entry) → All P (member_names (members_view es))
     → All (λ name. P (string_bytes name)) (keys_of es)
 all_keys P es h =

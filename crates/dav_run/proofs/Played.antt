@@ -15,7 +15,7 @@ use Rattle.dav_run.specs.Script as script
 use Rattle.dav_run.specs.Script.{ScriptContent, IsShort, IsScript, IsScriptValue}
 use Rattle.dav_run.specs.Play.{Plays, IsPlayable, settings_for, new_store, turn_for}
 
--- a script that was read, the run of its requests and the lines of the replies are a play
+-- a script that was read, the run of its requests and the lines of the replies meet `Plays`
 pub together : {E : Type 0} (result : Result (Unit {0}) E) (o : Option (List ℕ)) (Wrote : List ℕ → Type 0) (s : ScriptContent) (replies : List Reply) (left : StoreState) (locks : Locks)
     → IfSome o (λ text. IsShort text × IsScript text s) → IsPrefix s.prefix
     → Runs (settings_for s) (map turn_for s.requests) (new_store s) (Some []) (map response_of replies) left locks
@@ -24,26 +24,26 @@ together (Ok x) (Some text) Wrote s replies left locks read prefix run wrote = (
 together (Ok x) None Wrote s replies left locks read prefix run wrote = tt
 together (Err e) o Wrote s replies left locks read prefix run wrote = tt
 
--- a member says one text
+-- a member is one text
 one_text : (o : Option Data) (a b : List ℕ) → script.IsPrefix o a → script.IsPrefix o b → a ≡ b
 one_text None a b one two = one ∙ sym two
 one_text (Some d) a b one two = let same : Some a ≡ Some b = sym one ∙ two in cc
 
--- a value says one prefix
+-- a value has one prefix
 in_value : (o : Option Data) (s t : ScriptContent) → IsSomeAnd o (λ d. IsScriptValue d s) → IsSomeAnd o (λ d. IsScriptValue d t) → s.prefix ≡ t.prefix
 in_value (Some d) s t one two = one_text _ _ _ one.prefix two.prefix
 in_value None s t one two = absurd one
 
--- bytes say one prefix
+-- bytes have one prefix
 one_prefix : (text : List ℕ) (s t : ScriptContent) → IsScript text s → IsScript text t → s.prefix ≡ t.prefix
 one_prefix text s t one two = in_value (read text) s t one.1 two.1
 
--- a script whose prefix is none can't be played
+-- a script whose prefix no server accepts can't be played
 pub unplayable : (o : Option (List ℕ)) (s : ScriptContent) → IfSome o (λ text. IsShort text × IsScript text s) → ¬ IsPrefix s.prefix → IfSome o (λ text. ¬ IsPlayable text)
 unplayable None s read bad = tt
 unplayable (Some text) s read bad = λ can. bad (subst IsPrefix (one_prefix text can.0 s can.2 read.1) can.3)
 
--- the run of a server that was set up so
+-- the run of a server with this setup
 pub run_set_up : {s t : Settings} {ts us : List Turn} {old from left : StoreState} {ls ks locks : Locks} (replies : List Reply) → s ≡ t → ts ≡ us → old ≡ from → ls ≡ ks
     → Runs s ts old ls (map response_of replies) left locks → Runs t us from ks (map response_of replies) left locks
 run_set_up {s} {t} {ts} {us} {old} {from} {left} {ls} {ks} {locks} replies one two three four run =
@@ -52,6 +52,6 @@ run_set_up {s} {t} {ts} {us} {old} {from} {left} {ls} {ks} {locks} replies one t
     (subst (λ (l : List Turn). Runs t l old ls (map response_of replies) left locks) two
     (subst (λ (c : Settings). Runs c ts old ls (map response_of replies) left locks) one run)))
 
--- of two results that fail alike, the errors are the same
+-- where two results are the same error, so are the errors
 pub same_error : {A : Type 0} {a b : Fault} → ◌≡◌ {A = Result A Fault} (Err a) (Err b) → a ≡ b
 same_error is = cc

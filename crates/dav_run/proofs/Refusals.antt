@@ -1,4 +1,4 @@
--- An error that a `?` hands on unchanged.
+-- An error that a `?` returns unchanged.
 use Rattle.std.proofs.Common.{◌≡◌, Result, Err, IsErrOf, IsErrAnd, sym, ap, ◌∙◌}
 use Rattle.std.proofs.lemmas.Result.{err_from_is_err_and}
 use Rattle.dav_run.specs.declared.script.ScriptError.{ScriptError}
@@ -6,7 +6,7 @@ use Rattle.dav_run.specs.declared.script.ScriptError.{ScriptError}
 injected : {T : Type 0} (x y : ScriptError) → ◌≡◌ {A = Result T ScriptError} (Err x) (Err y) → x ≡ y
 injected x y e = cc
 
--- where the error that is handed on is this one, so is the one that came
+-- where the returned error is this one, so is the one that was met
 pub handed_on : {T U : Type 0} (r : Result U ScriptError) (from it : ScriptError) → IsErrAnd r (λ e. e ≡ from)
     → IsErrOf r it → ◌≡◌ {A = Result T ScriptError} (Err from) (Err it)
 handed_on r from it same is =

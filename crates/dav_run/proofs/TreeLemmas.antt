@@ -1,4 +1,4 @@
--- What is printed of an element tree: its children as a list, and that it has no fraction, so that its text is known.
+-- An element tree as JSON: its children as a list, and that it has no fraction, so that its text is known.
 use Rattle.std.proofs.Common.{◌≡◌, ℕ, false, List, [], ◌∷◌, map, Option, Some, None, refl, ap}
 use Rattle.serde_json.specs.Data.{item}
 use Rattle.serde_json.specs.View.{items_of}
@@ -6,7 +6,7 @@ use Rattle.serde_json.specs.Written.{has_float, items_have_float}
 use Rattle.dav_core.specs.Element.{ElementTree, element, text, ElementTrees, no_trees, tree_then, trees}
 use Rattle.dav_run.specs.TreeData.{text_or_null, attribute_data, tree_data, children_data, tree_body}
 
--- what is printed of children is a list
+-- children as JSON are a list
 pub children_data_of : (ts : List ElementTree) → children_data (trees ts) ≡ items_of (map tree_data ts)
 children_data_of [] = refl
 children_data_of (t ∷ ts) = ap (λ ds. item (tree_data t) ds) (children_data_of ts)
@@ -20,7 +20,7 @@ text_plain None = refl
 text_plain (Some bytes) = refl
 
 mutual
-  -- what is printed of a tree has no fraction
+  -- a tree as JSON has no fraction
   pub tree_plain : (t : ElementTree) → has_float (tree_data t) ≡ false
   tree_plain (element name prefix namespace attributes children) =
       rw (attributes_plain attributes, children_plain children, text_plain namespace, text_plain prefix) refl

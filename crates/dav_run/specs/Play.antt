@@ -1,4 +1,4 @@
--- What playing a script writes.
+-- What is written when a script is played.
 use Rattle.std.specs.Prelude.{◌≡◌, ℕ, max, false, List, [], map, Some, None}
 use Rattle.dav_core.specs.Asking.{StoreState}
 use Rattle.dav_core.specs.World.{empty_from}
@@ -13,27 +13,27 @@ use Rattle.dav_run.specs.Print.{lines_of}
 use Rattle.dav_run.specs.declared.play.Fault.{Fault}
 use Rattle.dav_run.specs.declared.play.Fault.TheVariants.{NotScript, Io, Memory}
 
--- a request of a script, with the calls of the store that are refused while it is answered; nobody is said to make it
+-- a request of a script, with the refusals of the store's calls that it makes; it has no principal
 abbrev pub turn_for : ScriptRequest → Turn
 turn_for r = record {
   asked = record { head = r.head; body = r.body; principal = None; moment = r.moment; token = None };
   refusals = Some r.refusals;
 }
 
--- how the server of a script is set up
+-- the settings of a script's server
 abbrev pub settings_for : ScriptContent → Settings
 settings_for s = record { prefix = s.prefix; allowed = s.methods }
 
--- its store: a root alone, and the change number that comes next, where 0 counts as 1
+-- its store: the empty one, with the change number that comes next, where 0 counts as 1
 abbrev pub new_store : ScriptContent → StoreState
 new_store s = record { world = empty_from (max s.next 1); refusals = []; short = false }
 
--- bytes that can be played: a script, which is short, and whose prefix is one
+-- bytes that can be played: a script that is short enough, and whose prefix a server accepts
 abbrev pub IsPlayable : List ℕ → Type 0
 IsPlayable text = (s : ScriptContent) × IsShort text × IsScript text s × IsPrefix s.prefix
 
--- The text is a script, and the lines are those of the replies of the machine's run of its requests on a new server, with an empty
--- list of locks.
+-- The text is a script, and the lines are the replies of the machine's run of its requests, on a new server with no
+-- locks.
 abbrev pub Plays : List ℕ → List ℕ → Type 0
 Plays text lines =
     (s : ScriptContent) × (replies : List Reply) × (left : StoreState) × (locks : Locks)
@@ -41,7 +41,7 @@ Plays text lines =
     × Runs (settings_for s) (map turn_for s.requests) (new_store s) (Some []) (map response_of replies) left locks
     × (lines ≡ lines_of replies)
 
--- the status that the program ends with where it meets a fault
+-- the exit status of the program after a fault
 abbrev pub fault_status : Fault → ℕ
 fault_status NotScript = 1
 fault_status Io = 2

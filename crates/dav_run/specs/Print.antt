@@ -1,4 +1,4 @@
--- The line that is printed of a reply: JSON (RFC 8259).
+-- A reply as a line of JSON (RFC 8259).
 use Rattle.std.specs.Prelude.{ℕ, List, [], ◌∷◌, ◌++◌, codes}
 use Rattle.std.specs.List.{flat_map}
 use Rattle.std.specs.Str.Lossy.{utf8_lossy}
@@ -18,8 +18,7 @@ body_data Nothing = null
 body_data (Bytes bytes) = object (member (codes "hex") (string (encode_lower bytes)) no_members)
 body_data (Tree tree) = tree_body tree
 
--- headers as members, each put in over those before it: of a name with several values the last
--- one counts
+-- headers as members, each added to those before it: of a name with several values the last one counts
 abbrev pub headers_over : List (List ℕ × FieldValue) → Members → Members
 headers_over [] found = found
 headers_over (h ∷ more) found = headers_over more (put h.0 (string (utf8_lossy h.1.bytes)) found)
@@ -36,10 +35,10 @@ reply_data r =
     (member (codes "headers") (headers_data r.headers)
     (member (codes "status") (number (unsigned r.status)) no_members)))
 
--- the line of a reply: its JSON text with no blanks, and a newline
+-- the line of a reply: its JSON text without white space, and a newline
 abbrev pub line_of : Reply → List ℕ
 line_of r = compact_text (reply_data r) ++ 10 ∷ []
 
--- the lines of replies, in order
+-- the lines of the replies, in order
 abbrev pub lines_of : List Reply → List ℕ
 lines_of rs = flat_map line_of rs

@@ -1,4 +1,4 @@
--- Scripts: which JSON texts (RFC 8259) are a server and a list of requests, and which ones.
+-- Scripts: which JSON texts (RFC 8259) are a server and a list of requests, and which server and requests they are.
 use Rattle.std.specs.Prelude.{◌≡◌, ◌≤◌, ◌<◌, ◌^◌, ◌⊎◌, ⊤, ℕ, List, [], ◌∷◌, length, map, codes, Option, Some, None, Ok, IsUtf8, All, IsSomeAnd, option_and_then, string_bytes}
 use Rattle.hex.specs.Hex.{decode_of}
 use Rattle.serde_json.specs.Data.{Data, null, Items, no_items, item, Members, no_members, member}
@@ -14,16 +14,16 @@ use Rattle.dav_run.specs.declared.script.Script as script
 use Rattle.dav_run.specs.declared.script.Form.{Form}
 use Rattle.dav_run.specs.declared.script.Form.TheVariants.{Script, Request, Digits, Bytes}
 
--- A request that a script asks for: the bytes of its head, its body, its moment in seconds since 1970, and what is done
--- to the store's calls, the first call first: none lets a call through, and an error is its answer.
+-- A request of a script: the bytes of its head, its body, its moment in seconds since 1970, and the refusals of the
+-- store's calls, the first call first: none lets a call through, and an error is its answer.
 pub record ScriptRequest : Type 0 where
   pub head : List ℕ
   pub body : Body
   pub moment : ℕ
   pub refusals : List (Option FsError)
 
--- What a script asks for: the prefix of the server's paths, the set of the methods that it allows, the change number
--- that comes next in its store, and the requests, in order.
+-- A script: the prefix of the server's paths, the set of the methods that it allows, the change number that comes
+-- next in its store, and the requests, in order.
 pub record ScriptContent : Type 0 where
   pub prefix : List ℕ
   pub methods : ℕ
@@ -35,7 +35,7 @@ abbrev pub member_names : Members → List (List ℕ)
 member_names no_members = []
 member_names (member name value more) = name ∷ member_names more
 
--- the names that the members of an object of this form may have
+-- the names that members of an object of this form may have
 abbrev pub IsMemberOf : Form → List ℕ → Type 0
 IsMemberOf Script name =
     (name ≡ codes "methods") ⊎ ((name ≡ codes "next") ⊎ ((name ≡ codes "prefix") ⊎ (name ≡ codes "requests")))
@@ -44,7 +44,7 @@ IsMemberOf Request name =
 IsMemberOf Digits name = name ≡ codes "hex"
 IsMemberOf Bytes name = (name ≡ codes "hex") ⊎ (name ≡ codes "text")
 
--- an object that has no other members than those of its form
+-- an object whose members are all of this form
 abbrev pub IsObjectOf : Form → Data → Type 0
 IsObjectOf form d = IsSomeAnd (as_object d) (λ members. All (IsMemberOf form) (member_names members))
 
@@ -55,7 +55,7 @@ AreItems Is no_items (x ∷ xs) = ⊥
 AreItems Is (item d ds) [] = ⊥
 AreItems Is (item d ds) (x ∷ xs) = Is d x × AreItems Is ds xs
 
--- a list whose items are these, in order
+-- a list with these items, in order
 abbrev pub IsListOf : {X : Type 0} → (Data → X → Type 0) → Data → List X → Type 0
 IsListOf Is d xs = IsSomeAnd (as_array d) (λ ds. AreItems Is ds xs)
 
@@ -63,49 +63,49 @@ IsListOf Is d xs = IsSomeAnd (as_array d) (λ ds. AreItems Is ds xs)
 abbrev pub IsWholeNumber : Data → ℕ → Type 0
 IsWholeNumber d n = option_and_then as_u64 (as_number d) ≡ Some n
 
--- a text of these bytes
+-- a text with these bytes
 abbrev pub IsText : Data → List ℕ → Type 0
 IsText d bytes = as_str d ≡ Some bytes
 
--- a text of the hexadecimal digits, in either case, of these bytes
+-- a text with the hexadecimal digits, in either case, of these bytes
 abbrev pub IsDigits : Data → List ℕ → Type 0
 IsDigits d bytes = IsSomeAnd (as_str d) (λ text. decode_of text ≡ Ok bytes)
 
--- a head is a text, or an object with the digits as its one member `hex`
+-- a head is a text, or an object whose one member `hex` has the digits
 abbrev pub IsHeadText : Data → List ℕ → Type 0
 IsHeadText d bytes =
     IsText d bytes
     ⊎ (IsObjectOf Digits d × IsSomeAnd (get (codes "hex") d) (λ digits. IsDigits digits bytes))
 
--- a body's bytes are an object's one member: `hex`, the digits, or `text`
+-- a body is an object with one member: `hex`, its digits, or `text`
 abbrev pub IsBodyBytes : Data → List ℕ → Type 0
 IsBodyBytes d bytes =
     IsObjectOf Bytes d
     × (((get (codes "text") d ≡ None) × IsSomeAnd (get (codes "hex") d) (λ digits. IsDigits digits bytes))
     ⊎ ((get (codes "hex") d ≡ None) × IsSomeAnd (get (codes "text") d) (λ text. IsText text bytes)))
 
--- a body that is absent or null is none; each other one has bytes
+-- a body that is absent or null is none; any other has bytes
 abbrev pub IsBody : Option Data → Body → Type 0
 IsBody None b = b ≡ body.None
 IsBody (Some d) b =
     ((d ≡ null) × (b ≡ body.None)) ⊎ ((bytes : List ℕ) × (b ≡ body.Bytes bytes) × IsBodyBytes d bytes)
 
--- a moment is a whole number, at most the last second of the year 9999; where there is none, it is 0
+-- a moment is a whole number, at most the last second of the year 9999; 0 where it is absent
 abbrev pub IsMoment : Option Data → ℕ → Type 0
 IsMoment None moment = moment ≡ 0
 IsMoment (Some d) moment = IsWholeNumber d moment × (moment ≤ 253402300799)
 
--- null is no refusal; a text is the name of the error that a call is refused with
+-- null lets a call through; a text is the name of the error that the call is refused with
 abbrev pub IsRefusal : Data → Option FsError → Type 0
 IsRefusal d None = d ≡ null
 IsRefusal d (Some e) = IsText d (fs_error_name e)
 
--- refusals are a list of them; where there is none, nothing is refused
+-- refusals are a list; where it is absent, nothing is refused
 abbrev pub AreRefusals : Option Data → List (Option FsError) → Type 0
 AreRefusals None refusals = refusals ≡ []
 AreRefusals (Some d) refusals = IsListOf IsRefusal d refusals
 
--- a request has a head, and where it says so a body, a moment and refusals
+-- a request has a head, and may have a body, a moment and refusals
 pub record IsRequest (d : Data) (r : ScriptRequest) : Type 0 where
   pub members : IsObjectOf Request d
   pub head : IsSomeAnd (get (codes "head") d) (λ head. IsHeadText head r.head)
@@ -113,7 +113,7 @@ pub record IsRequest (d : Data) (r : ScriptRequest) : Type 0 where
   pub moment : IsMoment (get (codes "moment") d) r.moment
   pub refusals : AreRefusals (get (codes "refuse") d) r.refusals
 
--- a prefix is a text; where there is none, it is empty
+-- a prefix is a text; empty where it is absent
 abbrev pub IsPrefix : Option Data → List ℕ → Type 0
 IsPrefix None prefix = prefix ≡ []
 IsPrefix (Some d) prefix = IsText d prefix
@@ -123,17 +123,17 @@ pub record AreMethods (ds : Items) (set : ℕ) : Type 0 where
   pub below : set < 2 ^ 16
   pub named : (names : List (List ℕ)) × AreItems IsText ds names × IsNamedSet names set
 
--- methods are a list of their names; where there is none, they are all methods
+-- methods are a list of their names; all methods where it is absent
 abbrev pub IsMethods : Option Data → ℕ → Type 0
 IsMethods None set = set ≡ 65535
 IsMethods (Some d) set = IsSomeAnd (as_array d) (λ ds. AreMethods ds set)
 
--- the change number that comes next is a whole number; where there is none, it is 1
+-- the change number that comes next is a whole number; 1 where it is absent
 abbrev pub IsNext : Option Data → ℕ → Type 0
 IsNext None next = next ≡ 1
 IsNext (Some d) next = IsWholeNumber d next
 
--- a value is a script: it has a list of requests, and where it says so a prefix, methods and a next change number
+-- a script has a list of requests, and may have a prefix, methods and a next change number
 pub record IsScriptValue (d : Data) (s : ScriptContent) : Type 0 where
   pub members : IsObjectOf Script d
   pub prefix : IsPrefix (get (codes "prefix") d) s.prefix
@@ -141,22 +141,22 @@ pub record IsScriptValue (d : Data) (s : ScriptContent) : Type 0 where
   pub next : IsNext (get (codes "next") d) s.next
   pub requests : IsSomeAnd (get (codes "requests") d) (λ list. IsListOf IsRequest list s.requests)
 
--- bytes are a script: UTF-8, and the JSON text of such a value; of a member that comes twice the last one counts
+-- bytes are a script: UTF-8, and the JSON text of such a value; of a member that occurs twice the last one counts
 abbrev pub IsScript : List ℕ → ScriptContent → Type 0
 IsScript text s = IsUtf8 text × IsSomeAnd (read text) (λ d. IsScriptValue d s)
 
--- no more bytes than a script may have
+-- at most as many bytes as a script may have
 abbrev pub IsShort : List ℕ → Type 0
 IsShort text = length text ≤ 16777216
 
 -- ---- what was read
 
--- what a request asks for
+-- a request as it was read
 abbrev pub script_request : request.Request → ScriptRequest
 script_request r =
     record { head = r.head.items; body = r.body; moment = r.moment; refusals = r.refusals.items }
 
--- what a script asks for
+-- a script as it was read
 abbrev pub script_content : script.Script → ScriptContent
 script_content s = record {
   prefix = string_bytes s.prefix;

@@ -1,4 +1,4 @@
--- What is printed of an element tree: JSON (RFC 8259).
+-- An element tree as JSON (RFC 8259).
 use Rattle.std.specs.Prelude.{ℕ, List, map, codes, Option, Some, None}
 use Rattle.serde_json.specs.Data.{Data, null, string, array, object, Items, no_items, item, no_members, member}
 use Rattle.serde_json.specs.View.{items_of}

@@ -1,14 +1,15 @@
-//! What tests assert. An assertion that is written out costs the proof of its test seconds, a call of this a small part of that.
+//! What tests assert. An assertion that is written out adds seconds to the proof of its test, a call of this only a
+//! little.
 use std::alloc::AllocError;
 use std::fmt::Debug;
 use std::process::Abort;
 
-// That two values are equal; the test fails where they are not, and prints both.
+// Asserts that two values are equal; the test fails where they aren't, and prints both.
 pub(crate) fn same<T: PartialEq + Debug>(rt: &impl Abort, left: &T, right: &T) {
     assert_eq!(rt; left, right);
 }
 
-// That a row has the outcome that is wanted; the test fails where it has not, and prints the row and both.
+// Asserts that a row has the expected outcome; the test fails where it doesn't, and prints the row and both outcomes.
 pub(crate) fn same_outcome(rt: &impl Abort, row: &str, wanted: &str, outcome: &str) {
     assert!(rt;
         outcome == wanted,
@@ -16,8 +17,8 @@ pub(crate) fn same_outcome(rt: &impl Abort, row: &str, wanted: &str, outcome: &s
     );
 }
 
-// The rows of a text: of each line `INPUT -> WANTED` both sides. A line that begins with `# ` is a comment. The test fails
-// where another line is there, or no row.
+// The two sides of each line `INPUT -> WANTED` of a text. A line that begins with `# ` is a comment. The test fails
+// where there is any other line, or no row.
 pub(crate) fn rows_of<'a, R: Abort + AllocGlobal>(
     rt: &R,
     text: &'a str,

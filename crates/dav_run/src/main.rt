@@ -1,7 +1,6 @@
-//! The program `dav-run`: plays a script of WebDAV requests, read from standard input as JSON, on a
-//! new server, and writes each reply to standard output as one line of JSON. It ignores its
-//! arguments. Its exit status is that of [`play::play`], and a status that is not 0 is reported on
-//! standard error.
+//! The program `dav-run`: plays a script of WebDAV requests, read from standard input as JSON, on a new server, and
+//! writes each reply to standard output as one line of JSON. It ignores its arguments. Its exit status is that of
+//! [`play::play`]; one that isn't 0 is also reported on standard error.
 #![tactic(auto)]
 
 #[cfg(test)]
@@ -18,7 +17,7 @@ use std::process::ExitCode;
 
 fn main(rt: HostRuntime) -> ExitCode {
     let status = play(rt.alloc(), &mut rt.reader(), &mut io::writer(&rt));
-    // There is nowhere left to report that standard error cannot be written to.
+    // A failed write to standard error can't be reported anywhere.
     let _ = match status {
         NOT_SCRIPT => eprintln!(rt; "dav-run: not a script"),
         IO_FAILED => eprintln!(rt; "dav-run: read or write failed"),

@@ -1,4 +1,4 @@
-//! Playing a script: from the bytes of a reader to the lines of a writer.
+//! Plays a script: from the bytes of a reader to the lines of a writer.
 ghost use Rattle.std.specs.Prelude.{◌≡◌, ◌≢◌, ◌↔◌, ◌≤◌, map, ℕ, List, [], Some, IfSome, IfOk, IfErr, OnOk, IsErrOf};
 ghost use Rattle.std.specs.Io.KnownBytes.{Appends};
 ghost use Rattle.dav_run.specs.Print.{lines_of};
@@ -23,22 +23,22 @@ use std::alloc::{AllocError, AllocFailed, Global};
 use std::io;
 use std::io::{Read, Write};
 
-/// The status of a script that was played to its end.
+/// The status after a script was played to its end.
 pub const PLAYED: u8 = 0;
 
-/// The status where the bytes are not a script; then nothing was written.
+/// The status where the bytes aren't a script; nothing was written then.
 pub const NOT_SCRIPT: u8 = 1;
 
 /// The status where a read or a write failed.
 pub const IO_FAILED: u8 = 2;
 
-/// The status where memory ran out; the replies given before that were written.
+/// The status where memory ran out; the replies before that were written.
 pub const OUT_OF_MEMORY: u8 = 3;
 
 /// The most bytes that a script may have.
 pub const MAX_SCRIPT_BYTES: usize = 16_777_216;
 
-// The first fault met.
+// The first fault.
 #[derive(Clone, Copy, Debug, PartialEq, Eq)]
 enum Fault {
     NotScript,
@@ -96,9 +96,9 @@ impl From<ScriptError> for Fault {
     }
 }
 
-/// Reads a script to its end, plays it on a new server, and writes one line of JSON per reply.
-/// Answers [`PLAYED`], or the status of the first fault met; where memory ran out, but writing the
-/// replies given before fails, that is [`IO_FAILED`].
+/// Reads a script to its end, plays it on a new server, and writes one line of JSON per reply. Returns [`PLAYED`], or
+/// the status of the first fault; where memory ran out, but the replies before that can't be written, that is
+/// [`IO_FAILED`].
 pub fn play<R: Read, W: Write>(alloc: Global, reader: &mut R, writer: &mut W) -> u8
     ensures status { result ≤ 3 }
     ensures played { result ≡ 0 → IfSome (R.remaining reader.old) (λ text. (lines : List ℕ) × Plays text lines
@@ -147,7 +147,7 @@ fn play_through<R: Read, W: Write>(
     }
 }
 
-// The script that a reader gives.
+// The script in a reader.
 fn read_script<R: Read>(alloc: Global, reader: &mut R) -> Result<Script, Fault>
     ensures ok { IfOk result (λ script. IfSome (R.remaining reader.old) (λ text.
         IsShort text × IsScript text (script_content script))) }
@@ -158,8 +158,8 @@ fn read_script<R: Read>(alloc: Global, reader: &mut R) -> Result<Script, Fault>
     Ok(Script::from_bytes(alloc, &bytes)?)
 }
 
-// All bytes that a reader has left. Each read but the last gives a byte at least, so no more reads
-// than this are made before there are too many bytes.
+// All bytes that a reader has left. Each read but the last returns at least one byte, so the loop has enough turns to
+// find out that there are too many bytes.
 fn read_bytes<R: Read>(alloc: Global, reader: &mut R) -> Result<Vec<u8>, Fault>
     ensures ok { IfOk result (λ bytes. IfSome (R.remaining reader.old) (λ text.
         (bytes.items ≡ text) × IsShort text)) }
@@ -181,7 +181,7 @@ fn read_bytes<R: Read>(alloc: Global, reader: &mut R) -> Result<Vec<u8>, Fault>
     Err(Fault::NotScript)
 }
 
-// The server that a script asks for.
+// The server that a script sets up.
 fn server_of(alloc: Global, script: &Script) -> Result<DavHandler<Refusing<MemFs>, MemLs>, Fault>
     ensures ok { IfOk result (λ h. IsPrefix (script_content script.now).prefix × (settings h ≡ settings_for (script_content script.now))
         × (memory_state h.fs ≡ new_store (script_content script.now)) × (h.ls ≡ Some [])) }
@@ -203,7 +203,7 @@ fn steps_of(alloc: Global, script: &Script) -> Result<Vec<Step<'_>>, NoMemory>
     Ok(steps)
 }
 
-// The step of a request. Its moment is none that an exchange refuses.
+// The step of a request. The exchange accepts its moment.
 fn step_of(request: &Request) -> Result<Step<'_>, NoMemory>
     ensures { IfOk result (λ step. step_turn step ≡ turn_for (script_request request.now)) }
 {
@@ -225,7 +225,7 @@ fn body_of(body: &Body) -> Result<Body, NoMemory>
     }
 }
 
-// Writes one line for each reply. A line is out before the next one is made.
+// Writes one line for each reply. A line is flushed before the next one is made.
 fn write_replies<W: Write>(alloc: Global, replies: &[Reply], writer: &mut W) -> Result<(), Fault>
     ensures written { OnOk result (Appends (W.contents writer.old) (W.contents writer.new) (lines_of replies.now)) }
     ensures err { IfErr result (λ e. e ≢ NotScript) }

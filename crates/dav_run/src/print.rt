@@ -9,11 +9,10 @@ use http_header::HeaderMap;
 use serde_json::{Map, Value, json};
 use std::alloc::{AllocError, Global};
 
-/// The line of a reply: an object with the members `body`, `headers` and `status`, and a newline.
-/// The body is null, or the lower-case hexadecimal digits of its bytes as the member `hex`, or the tree as the
-/// member `element`. The
-/// headers are an object, in byte order of their names: of a name with several values the last one
-/// counts, and what is not UTF-8 is printed as U+FFFD.
+/// The line of a reply: an object with the members `body`, `headers` and `status`, and a newline. The body is null,
+/// or the lower-case hexadecimal digits of its bytes as the member `hex`, or the tree as the member `element`. The
+/// headers are an object, in byte order of their names: of a name with several values the last one counts, and what
+/// isn't UTF-8 is printed as U+FFFD.
 #[tactic(auto, using(crate::proofs::Headers::reply_plain))]
 pub fn reply_line(alloc: Global, reply: &Reply) -> Result<String, AllocError>
     ensures { IfOk result (λ line. string_bytes line ≡ line_of reply.now) }
@@ -33,7 +32,7 @@ fn reply_value(alloc: Global, reply: &Reply) -> Result<Value, AllocError>
     json!(in alloc; {"body": body, "headers": headers, "status": status})
 }
 
-// What is printed of a body.
+// A body as JSON.
 fn body_value(alloc: Global, body: &ReplyBody) -> Result<Value, AllocError>
     ensures { IfOk result (λ value. view value ≡ body_data body.now) }
 {
@@ -50,7 +49,7 @@ fn body_value(alloc: Global, body: &ReplyBody) -> Result<Value, AllocError>
     }
 }
 
-// What is printed of the headers.
+// The headers as JSON.
 fn headers_value(alloc: Global, headers: &HeaderMap) -> Result<Value, AllocError>
     ensures { IfOk result (λ value. view value ≡ headers_data headers.now) }
 {

@@ -1,20 +1,20 @@
-//! A request that is still to be made.
+//! A request that a script asks for.
 ghost use Rattle.std.specs.Prelude.{◌≤◌};
 
 use dav_core::errors::FsError;
 use dav_engine::Body;
 
-/// A request of a script, to be made at a moment.
+/// A request of a script.
 #[derive(Drop)]
 pub struct Request {
-    /// The request line and the fields, as they stand on the wire.
+    /// The request line and the fields, as they are on the wire.
     pub head: Vec<u8>,
     /// What follows the head.
     pub body: Body,
     /// When the request is made, in seconds since 1970; at most [`dav_server::exchange::LAST_MOMENT`].
     pub moment: u64,
-    /// What is done to the store's calls, the first call first: `None` lets a call through, and an error is its
-    /// answer. Calls past the end are let through.
+    /// The refusals of the store's calls, the first call first: `None` lets a call through, and an error is its
+    /// answer. Calls after the last one are let through.
     pub refusals: Vec<Option<FsError>>,
     ghost in_time: { moment ≤ 253402300799 },
 }

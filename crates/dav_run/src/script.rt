@@ -1,10 +1,9 @@
 //! Scripts: a server and the requests that are made to it, written as JSON (RFC 8259).
 //!
-//! A script is an object with a list `requests`, and where it has them a `prefix` (a text), `methods`
-//! (a list of the names of those that are allowed) and `next` (a whole number). A request is an object
-//! with a `head` (a text, or an object with the one member `hex`), and where it has them a `body`
-//! (null, or an object with one of the members `text` and `hex`), a `moment`, a whole number of
-//! seconds, and `refuse` (a list of null and names of errors).
+//! A script is an object with a list `requests`. It may have a `prefix` (a text), `methods` (a list of the names of
+//! the allowed methods) and `next` (a whole number). A request is an object with a `head` (a text, or an object with
+//! the one member `hex`). It may have a `body` (null, or an object with one of the members `text` and `hex`), a
+//! `moment` (a whole number of seconds), and `refuse` (a list of null and names of errors).
 ghost use Rattle.std.specs.Prelude.{◌≡◌, ◌≢◌, ◌↔◌, ◌≤◌, ℕ, List, Option, All, map, option_map, string_bytes, IsTrue, OnOk, OnErr, IfOk, IsErrOf, IsOkUnless, MatchOption};
 ghost use Rattle.std.specs.Map.{keys_of};
 ghost use Rattle.serde_json.specs.View.{view, items_view};
@@ -28,10 +27,10 @@ use hex::FromHexError;
 use serde_json::{Map, Value};
 use std::alloc::{AllocError, AllocFailed, Global};
 
-/// Why bytes give no script.
+/// Why bytes can't be read as a script.
 #[derive(Clone, Copy, Debug, PartialEq, Eq)]
 pub enum ScriptError {
-    /// They are not the text of a script.
+    /// They aren't the text of a script.
     NotScript,
     /// Memory ran out.
     Memory,
@@ -87,20 +86,20 @@ impl From<InvalidMethod> for ScriptError {
 /// A server, and the requests to be played on it, in order.
 #[derive(Drop)]
 pub struct Script {
-    /// What stands in front of each path that the server serves; empty for none. Whether a server takes
-    /// this prefix isn't looked at.
+    /// The path that each path of the server begins with; empty for none. It isn't checked whether a server accepts
+    /// it.
     pub prefix: String,
     /// The methods that the server allows.
     pub methods: DavMethodSet,
-    /// The change number that comes next in the server's store, as the script says it.
+    /// The change number that comes next in the server's store, as it is in the script.
     pub next: u64,
     /// The requests, the first one first.
     pub requests: Vec<Request>,
 }
 
 impl Script {
-    /// The script that bytes spell. Fails with `NotScript` where they spell none, and with `Memory`
-    /// for want of memory.
+    /// The script in these bytes. Fails with `NotScript` where they aren't one, and with `Memory` where memory runs
+    /// out.
     pub fn from_bytes(alloc: Global, bytes: &[u8]) -> Result<Script, ScriptError>
         ensures ok { IfOk result (λ script. IsScript bytes.now (script_content script)) }
         ensures none { IsErrOf result NotScript
@@ -111,16 +110,16 @@ impl Script {
     }
 }
 
-// What kind of object stands at a place in a script.
+// The kinds of objects in a script.
 #[derive(Clone, Copy)]
 enum Form {
     // A script.
     Script,
     // A request.
     Request,
-    // Bytes in hexadecimal digits.
+    // Bytes as hexadecimal digits.
     Digits,
-    // Bytes in digits or as a text.
+    // Bytes as digits or as a text.
     Bytes,
 }
 
@@ -146,7 +145,7 @@ impl Form {
     }
 }
 
-// The script that a value stands for.
+// The script that a value is.
 fn read_script(alloc: Global, value: &Value) -> Result<Script, ScriptError>
     ensures ok { IfOk result (λ script. IsScriptValue (view value.now) (script_content script)) }
     ensures none { IsErrOf result NotScript
@@ -168,7 +167,7 @@ fn read_script(alloc: Global, value: &Value) -> Result<Script, ScriptError>
     })
 }
 
-// The prefix of a script; empty where the member is not there.
+// The prefix of a script; empty where the member is absent.
 fn read_prefix(alloc: Global, value: Option<&Value>) -> Result<String, ScriptError>
     ensures ok { IfOk result
         (λ prefix. IsPrefix (option_map (λ v. view v.now) value.entry) (string_bytes prefix)) }
@@ -181,7 +180,7 @@ fn read_prefix(alloc: Global, value: Option<&Value>) -> Result<String, ScriptErr
     Ok(String::from_str(alloc, text_of(value)?)?)
 }
 
-// The methods that a script allows; all where the member is not there.
+// The methods that a script allows; all where the member is absent.
 fn read_methods(alloc: Global, value: Option<&Value>) -> Result<DavMethodSet, ScriptError>
     ensures ok { IfOk result (IsMethods (option_map (λ v. view v.now) value.entry)) }
     ensures none { IsErrOf result NotScript
@@ -193,7 +192,7 @@ fn read_methods(alloc: Global, value: Option<&Value>) -> Result<DavMethodSet, Sc
     }
 }
 
-// The set of the methods that the items of a list name.
+// The set of the methods that a list names.
 fn read_method_list(alloc: Global, list: &[Value]) -> Result<DavMethodSet, ScriptError>
     ensures ok { IfOk result (AreMethods (items_view list.now)) }
     ensures none { IsErrOf result NotScript → (set : ℕ) → ¬ AreMethods (items_view list.now) set }
@@ -202,7 +201,7 @@ fn read_method_list(alloc: Global, list: &[Value]) -> Result<DavMethodSet, Scrip
     Ok(DavMethodSet::from_vec(&names)?)
 }
 
-// The texts that the items of a list are.
+// The texts in a list.
 fn read_names(alloc: Global, list: &[Value]) -> Result<Vec<&str>, ScriptError>
     ensures ok { IfOk result (λ names. AreItems IsText (items_view list.now) (texts_of names.items)) }
     ensures none { IsErrOf result NotScript
@@ -215,7 +214,7 @@ fn read_names(alloc: Global, list: &[Value]) -> Result<Vec<&str>, ScriptError>
     Ok(names)
 }
 
-// The change number that comes next; 1 where the member is not there.
+// The change number that comes next; 1 where the member is absent.
 fn read_next(value: Option<&Value>) -> Result<u64, ScriptError>
     ensures ok { IfOk result (IsNext (option_map (λ v. view v.now) value.entry)) }
     ensures none { OnErr result ((next : ℕ)
@@ -228,7 +227,7 @@ fn read_next(value: Option<&Value>) -> Result<u64, ScriptError>
     value.as_u64().ok_or(ScriptError::NotScript)
 }
 
-// The requests that the items of a list stand for.
+// The requests in a list.
 fn read_requests(alloc: Global, list: &[Value]) -> Result<Vec<Request>, ScriptError>
     ensures ok { IfOk result
         (λ requests. AreItems IsRequest (items_view list.now) (map script_request requests.items)) }
@@ -242,7 +241,7 @@ fn read_requests(alloc: Global, list: &[Value]) -> Result<Vec<Request>, ScriptEr
     Ok(requests)
 }
 
-// The request that a value stands for.
+// The request that a value is.
 fn read_request(alloc: Global, value: &Value) -> Result<Request, ScriptError>
     ensures ok { IfOk result (λ request. IsRequest (view value.now) (script_request request)) }
     ensures none { IsErrOf result NotScript
@@ -264,7 +263,7 @@ fn read_request(alloc: Global, value: &Value) -> Result<Request, ScriptError>
     })
 }
 
-// The bytes of a head: those of a text, or of the digits of the one member `hex`.
+// The bytes of a head: those of a text, or those whose digits are in the one member `hex`.
 fn read_head(alloc: Global, value: &Value) -> Result<Vec<u8>, ScriptError>
     ensures ok { IfOk result (λ bytes. IsHeadText (view value.now) bytes.items) }
     ensures none { IsErrOf result NotScript → (bytes : List ℕ) → ¬ IsHeadText (view value.now) bytes }
@@ -276,7 +275,7 @@ fn read_head(alloc: Global, value: &Value) -> Result<Vec<u8>, ScriptError>
     read_hex(alloc, value.get("hex").ok_or(ScriptError::NotScript)?)
 }
 
-// The body of a request; none where the member is not there or null.
+// The body of a request; none where the member is absent or null.
 fn read_body(alloc: Global, value: Option<&Value>) -> Result<Body, ScriptError>
     ensures ok { IfOk result
         (IsBody (option_map (λ v. view v.now) value.entry)) }
@@ -307,7 +306,7 @@ fn read_body_bytes(alloc: Global, form: &Value) -> Result<Vec<u8>, ScriptError>
     }
 }
 
-// The moment of a request, in seconds since 1970; 0 where the member is not there.
+// The moment of a request, in seconds since 1970; 0 where the member is absent.
 fn read_moment(value: Option<&Value>) -> Result<u64, ScriptError>
     ensures ok { IfOk result (IsMoment (option_map (λ v. view v.now) value.entry)) }
     ensures none { OnErr result ((moment : ℕ)
@@ -324,7 +323,7 @@ fn read_moment(value: Option<&Value>) -> Result<u64, ScriptError>
     }
 }
 
-// The refusals of a request's store calls; none where the member is not there.
+// The refusals of a request's store calls; none where the member is absent.
 fn read_refusals(alloc: Global, value: Option<&Value>) -> Result<Vec<Option<FsError>>, ScriptError>
     ensures ok { IfOk result
         (λ refusals. AreRefusals (option_map (λ v. view v.now) value.entry) refusals.items) }
@@ -337,7 +336,7 @@ fn read_refusals(alloc: Global, value: Option<&Value>) -> Result<Vec<Option<FsEr
     }
 }
 
-// The refusals that the items of a list stand for.
+// The refusals in a list.
 fn read_refusal_list(alloc: Global, list: &[Value]) -> Result<Vec<Option<FsError>>, ScriptError>
     ensures ok { IfOk result (λ refusals. AreItems IsRefusal (items_view list.now) refusals.items) }
     ensures none { IsErrOf result NotScript → (refusals : List (Option FsError))
@@ -350,7 +349,7 @@ fn read_refusal_list(alloc: Global, list: &[Value]) -> Result<Vec<Option<FsError
     Ok(refusals)
 }
 
-// What is done to one store call: null is no refusal, and a name is the error that it refuses with.
+// What happens to one store call: null lets it through, and the name of an error refuses it with that.
 fn read_refusal(value: &Value) -> Result<Option<FsError>, ScriptError>
     ensures ok { IfOk result (IsRefusal (view value.now)) }
     ensures none { OnErr result ((refusal : Option FsError) → ¬ IsRefusal (view value.now) refusal) }
@@ -365,7 +364,7 @@ fn read_refusal(value: &Value) -> Result<Option<FsError>, ScriptError>
     }
 }
 
-// The error that has this name.
+// The error with this name.
 fn error_named(name: &str) -> Option<FsError>
     ensures { MatchOption result ((e : FsError) → name.now ≢ fs_error_name e)
         (λ e. name.now ≡ fs_error_name e) }
@@ -401,7 +400,7 @@ fn read_hex(alloc: Global, value: &Value) -> Result<Vec<u8>, ScriptError>
     Ok(hex::decode(alloc, text_of(value)?)?)
 }
 
-// The items of the list that a value is.
+// The items of a value that is a list.
 fn list_of(value: &Value) -> Result<&[Value], ScriptError>
     ensures ok { IfOk result (λ list. as_array (view value.now) ≡ Some (items_view list.now)) }
     ensures none { OnErr result (as_array (view value.now) ≡ None) }
@@ -413,7 +412,7 @@ fn list_of(value: &Value) -> Result<&[Value], ScriptError>
     }
 }
 
-// The text that a value is.
+// The text of a value that is one.
 fn text_of(value: &Value) -> Result<&str, ScriptError>
     ensures ok { IfOk result (λ text. IsText (view value.now) text.now) }
     ensures none { OnErr result ((bytes : List ℕ) → ¬ IsText (view value.now) bytes) }
@@ -422,7 +421,7 @@ fn text_of(value: &Value) -> Result<&str, ScriptError>
     value.as_str().ok_or(ScriptError::NotScript)
 }
 
-// Sees that a value is an object of a form: that it has no other members than that form's.
+// Checks that a value is an object whose members are all of this form.
 fn check_members(value: &Value, form: Form) -> Result<(), ScriptError>
     ensures ok { OnOk result (IsObjectOf form (view value.now)) }
     ensures none { OnErr result (¬ IsObjectOf form (view value.now)) }

@@ -1,4 +1,4 @@
--- A store that answers as calls mean is asked so.
+-- A store that answers as calls mean meets `Asks`.
 use Rattle.std.proofs.Common.{◌≡◌, ℕ, Bool, true, List, Result, Ok, Err, inl, inr, refl, ap, subst, ◌∙◌}
 use Rattle.std.specs.declared.io.traits.SeekFrom.{SeekFrom}
 use Rattle.dav_core.specs.declared.errors.FsError.{FsError}

@@ -1,4 +1,4 @@
--- Fronts of a path by their lengths.
+-- The fronts of a path, by their lengths.
 use Rattle.std.proofs.Common.{◌≡◌, ℕ, zero, suc, ◌+◌, ◌≤◌, ◌<◌, ◌==◌, Bool, true, false, cond, List, [], ◌∷◌, ◌++◌, length, take, map, bytes_eq, Some, None, refl, sym, ap, subst, ◌∙◌, arith, append-nil, add-one}
 use Rattle.std.proofs.lemmas.List.{length-map, take-map, map-append, take_all}
 use Rattle.std.proofs.lemmas.Grind.{flat_map-append}
@@ -10,7 +10,7 @@ use Rattle.dav_core.specs.Path.{Path, fronts, star, is_nonempty, names_in, names
 abbrev pieces : List ℕ → List (List ℕ)
 pieces bytes = slice_split (λ b. b == 47) bytes
 
--- a byte more makes one name more at most
+-- one more byte makes at most one more name
 longer : (b : ℕ) (ps : List (List ℕ)) (n : ℕ) → length (filter is_nonempty ps) ≤ n → length (filter is_nonempty (onto_first b ps)) ≤ n + 1
 longer b [] n h = omega arith
 longer b ([] ∷ ps) n h = omega arith
@@ -20,7 +20,7 @@ count_step : (b : ℕ) (bytes : List ℕ) (c : Bool) → (b == 47) ≡ c → len
 count_step b bytes true is h = subst (λ (ps : List (List ℕ)). length (filter is_nonempty ps) ≤ length bytes + 1) (sym (slice_split-cons_yes (λ x. x == 47) b bytes is)) (omega (arith, h))
 count_step b bytes false is h = subst (λ (ps : List (List ℕ)). length (filter is_nonempty ps) ≤ length bytes + 1) (sym (slice_split-cons_no (λ x. x == 47) b bytes is)) (longer b (pieces bytes) (length bytes) h)
 
--- there are no more names than bytes
+-- there are at most as many names as bytes
 names_in_bytes : (bytes : List ℕ) → length (names_in bytes) ≤ length bytes
 names_in_bytes [] = omega arith
 names_in_bytes (b ∷ bytes) = let h = count_step b bytes (b == 47) refl (names_in_bytes bytes) in omega (arith, h)
@@ -32,7 +32,7 @@ names_by bytes false = names_in_bytes bytes
 pub names_of_bytes : (bytes : List ℕ) → length (names_of bytes) ≤ length bytes
 names_of_bytes bytes = names_by bytes (bytes_eq bytes star)
 
--- what a test says of the paths that begin with a name
+-- the first of mapped paths that passes a test
 first_mapped : (f : Path → Path) (test : Path → Bool) (ps : List Path) → first test (map f ps) ≡ option_map f (first (λ q. test (f q)) ps)
 first_mapped f test [] = refl
 first_mapped f test (q ∷ ps) =
@@ -70,7 +70,7 @@ more_names (x ∷ p) (suc n) h =
     let f = λ (q : Path). x ∷ q in
     ap (λ (qs : List Path). [] ∷ qs) (take-map f (suc n) (fronts p) ∙ ap (map f) (more_names p n (omega arith)) ∙ map-append f (take n (fronts p)) (take n p ∷ []) ∙ ap (λ (qs : List Path). qs ++ (x ∷ take n p) ∷ []) (sym (take-map f n (fronts p))))
 
--- what is gathered from the fronts of up to so many names
+-- what is collected from the fronts of up to so many names
 pub gathered_more : {A : Type 0} (f : Path → List A) (p : Path) (n : ℕ) → n ≤ length p → flat_map f (take (n + 1) (fronts p)) ≡ flat_map f (take n (fronts p)) ++ f (take n p)
 gathered_more f p n h =
     ap (λ k. flat_map f (take k (fronts p))) (add-one n) ∙ ap (flat_map f) (more_names p n h) ∙ flat_map-append f (take n (fronts p)) (take n p ∷ [])
@@ -80,6 +80,6 @@ length_fronts : (p : Path) → length (fronts p) ≡ length p + 1
 length_fronts [] = refl
 length_fronts (x ∷ p) = let h = length_fronts p in let k = length-map (fronts p) (λ (q : Path). x ∷ q) in omega (arith, h, k)
 
--- and from all
+-- what is collected from all fronts
 pub gathered : {A : Type 0} (f : Path → List A) (p : Path) (n : ℕ) → length p ≤ n → flat_map f (take (n + 1) (fronts p)) ≡ flat_map f (fronts p)
 gathered f p n h = ap (flat_map f) (take_all (n + 1) (fronts p) (let k = length_fronts p in omega (arith, h, k)))

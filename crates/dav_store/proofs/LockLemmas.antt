@@ -7,7 +7,7 @@ use Rattle.dav_core.specs.Locks.{Lock, Asker, covers, is_held, is_free_for, is_i
 use Rattle.dav_core.proofs.LockLemmas.{free_is_nothing_in_the_way}
 use Rattle.dav_store.proofs.Place.{NonePasses, none_passes}
 
--- a test of the bytes of texts is one of the texts
+-- a test on the bytes of texts is one on the texts
 pub any_mapped : {S X : Type 0} (f : S → X) (test : X → Bool) (xs : List S) → list_any (λ x. test (f x)) xs ≡ list_any test (map f xs)
 any_mapped f test [] = refl
 any_mapped f test (x ∷ xs) = ap (λ b. test (f x) || b) (any_mapped f test xs)
@@ -23,14 +23,14 @@ none_true : {X : Type 0} (test : X → Bool) (xs : List X) → NonePasses test x
 none_true test [] h = refl
 none_true test (x ∷ xs) h = all_step (test x) _ h.0 (none_true test xs h.1)
 
--- where no lock is found in the way, the path is free
+-- where no lock is found to conflict, the path is free
 pub free_if_none : (deep : Bool) (who : Asker) (p : Path) (ls : List Lock) (some : Bool)
     → some ≡ list_any (λ l. covers l p && is_held who l) ls → position (way deep who p some) ls ≡ None → is_free_for deep who p ls ≡ true
 free_if_none deep who p ls some held none =
     let all : position (is_in_the_way deep who p ls) ls ≡ None = subst (λ b. position (way deep who p b) ls ≡ None) held none in
     free_is_nothing_in_the_way deep who p ls ∙ none_true (is_in_the_way deep who p ls) ls (none_passes (is_in_the_way deep who p ls) ls all)
 
--- and one that is found is a lock of the list that stands in the way
+-- a lock that is found is in the list, and conflicts
 pub stands_if_some : (deep : Bool) (who : Asker) (p : Path) (ls : List Lock) (some : Bool) (i : ℕ) (l : Lock)
     → some ≡ list_any (λ m. covers m p && is_held who m) ls → position (way deep who p some) ls ≡ Some i → l ≡ get_or ls i l
     → Contains ls l × (is_in_the_way deep who p ls l ≡ true)
@@ -39,7 +39,7 @@ stands_if_some deep who p ls some i l held found is =
     let at = position-Some (is_in_the_way deep who p ls) ls i l here in
     ((i, at.0, sym is), subst (λ (m : Lock). is_in_the_way deep who p ls m ≡ true) (sym is) at.1)
 
--- what no lock refuses may be granted
+-- where no lock conflicts with it, a new one may be granted
 pub grantable_if_none : (a deep b : Bool) → (a || (deep && b)) ≡ false → (not a && not (deep && b)) ≡ true
 grantable_if_none true deep b h = cc
 grantable_if_none false deep b h = ap not h

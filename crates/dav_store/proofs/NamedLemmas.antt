@@ -25,7 +25,7 @@ found : {X : Type 0} (test : X → Bool) (xs : List X) (i : ℕ) → position te
 found test [] i h = cc
 found test (x ∷ xs) i h = some_any test (x ∷ xs) i _ (is_first test (x ∷ xs) i x h)
 
--- no lock has the token and a shorter front
+-- no lock with the token is on a shorter front
 abbrev pub NoneNamed : List ℕ → Path → List Lock → ℕ → Type 0
 NoneNamed token p ls n = (k : ℕ) → k < n → position (is_named token (take k p)) ls ≡ None
 
@@ -64,14 +64,14 @@ unlocked_at token p ls seen i same named =
     ap (option_map (λ r. without_first (is_named token r) ls)) front
     ∙ ap (λ (ms : List Lock). Some ms) (left_out (is_named token q) ls i _ (is_first (is_named token q) ls i any_lock here))
 
--- the lock that is meant stands at the place
+-- the lock that is meant is at that place
 pub named_lock_at : (token : List ℕ) (p : Path) (ls seen : List Lock) (i : ℕ) (l : Lock) → seen ≡ ls → IsNamedPlace token p seen (Some i) → l ≡ get_or ls i l → named_lock token p ls ≡ Some l
 named_lock_at token p ls seen i l same named is =
     let (q, front, here) : IsNamedPlace token p ls (Some i) = subst (λ (ms : List Lock). IsNamedPlace token p ms (Some i)) same named in
     ap (option_and_then (λ r. first (is_named token r) ls)) front
     ∙ stands (is_named token q) ls i _ (is_first (is_named token q) ls i l here) ∙ ap (λ k. Some k) (sym is)
 
--- and the list with a new timeout of it
+-- the list with a new timeout of the lock that is meant
 pub refreshed_at : (token : List ℕ) (p : Path) (timeout : Option ℕ) (now : ℕ) (ls seen : List Lock) (i : ℕ) (l : Lock) → seen ≡ ls → IsNamedPlace token p seen (Some i)
     → refreshed token p timeout now ls ≡ Some (set ls i (refreshed_lock timeout now (get_or ls i l)))
 refreshed_at token p timeout now ls seen i l same named =

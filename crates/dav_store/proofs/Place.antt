@@ -1,4 +1,4 @@
--- Places in a list of keys and values, and what stands there.
+-- Places in a list of keys and values, and what is there.
 use Rattle.std.proofs.Common.{◌≡◌, ℕ, zero, suc, ◌+◌, ◌<◌, Bool, true, false, cond, List, [], ◌∷◌, ◌++◌, length, get_or, set, Some, None, refl, sym, ap, subst, ◌∙◌, arith}
 use Rattle.std.specs.List.{position, position_from, insert, find as first}
 use Rattle.std.specs.FinMap.{find, put}
@@ -11,7 +11,7 @@ use Rattle.std.proofs.lemmas.Iterator.Adapters.{position_from-zero}
 use Rattle.dav_core.specs.Path.{Path, path_cmp}
 use Rattle.dav_core.specs.World.{Node, Nodes, change_first, union}
 
--- i is the first place that passes, and e stands there
+-- i is the first place that passes, and e is what is there
 abbrev pub IsFirst : {E : Type 0} → (E → Bool) → List E → ℕ → E → Type 0
 IsFirst test [] i e = ⊥
 IsFirst test (x ∷ xs) zero e = (test x ≡ true) × (x ≡ e)
@@ -38,7 +38,7 @@ first_at test (x ∷ xs) zero d within here before = (here, refl)
 first_at test (x ∷ xs) (suc i) d within here before =
     (before 0 (omega arith), first_at test xs i d (less_suc i (length xs) within) here (λ k h. before (suc k) (suc_less k i h)))
 
--- what `position` gives is the first place
+-- what `position` returns is the first place
 pub is_first : {E : Type 0} (test : E → Bool) (xs : List E) (i : ℕ) (d : E) → position test xs ≡ Some i → IsFirst test xs i (get_or xs i d)
 is_first test xs i d h =
     let p = position-Some test xs i d h in
@@ -53,11 +53,11 @@ from_none : {E : Type 0} (test : E → Bool) (xs : List E) (i : ℕ) → positio
 from_none test [] i h = tt
 from_none test (x ∷ xs) i h = none_step test x xs i (test x) refl (from_none test xs (i + 1)) h
 
--- where `position` gives none, no place passes
+-- where `position` returns none, no place passes
 pub none_passes : {E : Type 0} (test : E → Bool) (xs : List E) → position test xs ≡ None → NonePasses test xs
 none_passes test xs h = from_none test xs 0 (sym (position_from-zero test xs) ∙ h)
 
--- one entry stands at a place
+-- there is one entry at a place
 pub first_one : {E : Type 0} (test : E → Bool) (xs : List E) (i : ℕ) (a b : E) → IsFirst test xs i a → IsFirst test xs i b → a ≡ b
 first_one test [] i a b h k = absurd h
 first_one test (x ∷ xs) zero a b h k = sym h.1 ∙ k.1
@@ -77,7 +77,7 @@ module _ {K X : Type 0} (R : K → K → Ordering) where
   find_none k [] h = refl
   find_none k (x ∷ xs) h = ap (λ b. cond b (Some x.1) (find R k xs)) h.0 ∙ find_none k xs h.1
 
--- the node at the first place changed
+-- the node at the first place is changed
 pub changed_at : (test : Path × Node → Bool) (g : Node → Node) (xs : Nodes) (i : ℕ) (e : Path × Node) (n : Node) → IsFirst test xs i e → n ≡ g e.1
     → set xs i (e.0, n) ≡ change_first test g xs
 changed_at test g [] i e n h is = absurd h
@@ -94,7 +94,7 @@ changed_none test g (x ∷ xs) h =
     ap (λ (ns : Nodes). x ∷ ns) (changed_none test g xs h.1)
     ∙ sym (ap (λ b. cond b ((x.0, g x.1) ∷ xs) (x ∷ change_first test g xs)) h.0)
 
--- a key that isn't past this one: it stands before it, or they tie
+-- where a key is after another one, the third of the cases is taken
 not_after : {A : Type 0} (o : Ordering) (a b c : A) → is_le o ≡ false → by_order o a b c ≡ c
 not_after Less a b c h = cc
 not_after Equal a b c h = cc
@@ -111,7 +111,7 @@ ties Equal a b c h = refl
 ties Greater a b c h = cc
 
 module _ {K X : Type 0} (R : K → K → Ordering) where
-  -- a new entry at the first place whose key isn't before it
+  -- a new entry is inserted at the first place whose key isn't before it
   pub put_inserts : (k : K) (v : X) (xs : List (K × X)) (i : ℕ) (e : K × X) → IsFirst (λ y. is_le (R k y.0)) xs i e → is_eq (R k e.0) ≡ false
       → insert xs i (k, v) ≡ put R k v xs
   put_inserts k v [] i e h other = absurd h
@@ -134,7 +134,7 @@ module _ {K X : Type 0} (R : K → K → Ordering) where
       ap (λ (ns : List (K × X)). x ∷ ns) (put_replaces k v xs i e h.1 same)
       ∙ sym (not_after (R k x.0) ((k, v) ∷ x ∷ xs) ((x.0, v) ∷ xs) (x ∷ put R k v xs) h.0)
 
-  -- a key that comes after all others goes last
+  -- a key that is after all others is added at the end
   pub put_pushes : (k : K) (v : X) (xs : List (K × X)) → NonePasses (λ y. is_le (R k y.0)) xs
       → xs ++ (k, v) ∷ [] ≡ put R k v xs
   put_pushes k v [] h = refl
@@ -142,12 +142,12 @@ module _ {K X : Type 0} (R : K → K → Ordering) where
       ap (λ (ns : List (K × X)). x ∷ ns) (put_pushes k v xs h.1)
       ∙ sym (not_after (R k x.0) ((k, v) ∷ x ∷ xs) ((x.0, v) ∷ xs) (x ∷ put R k v xs) h.0)
 
--- the last node of a union is put first
+-- the last node of a union is put in first
 pub union-push : (es : Nodes) (e : Path × Node) (ns : Nodes) → union (es ++ e ∷ []) ns ≡ union es (put path_cmp e.0 e.1 ns)
 union-push [] e ns = refl
 union-push (x ∷ es) e ns = ap (put path_cmp x.0 x.1) (union-push es e ns)
 
--- the first that passes
+-- the first entry that passes
 pub first_of : {E : Type 0} (test : E → Bool) (xs : List E) (i : ℕ) (e : E) → IsFirst test xs i e → first test xs ≡ Some e
 first_of test [] i e h = absurd h
 first_of test (x ∷ xs) zero e h = ap (λ b. cond b (Some x) (first test xs)) h.0 ∙ ap Some h.1

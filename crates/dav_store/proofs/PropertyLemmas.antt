@@ -32,11 +32,11 @@ pub answers_are : (ys : List (Bool × Property)) → map answer_to ys ≡ map (�
 answers_are [] = refl
 answers_are (y ∷ ys) = ap (λ (rest : List (ℕ × Property)). answer_to y ∷ rest) (answers_are ys)
 
--- one node stands at a path
+-- there is one node at a path
 pub same_node : (n m : Node) → Some n ≡ Some m → n ≡ m
 same_node n m e = ap (λ o. unwrap_or o n) e
 
--- the node that stood there, with its properties changed
+-- the node that was there, with its properties changed
 pub patched_node : (m new n : Node) (patches : List Patch) (ps : Properties)
     → new ≡ record m { properties = ps } → ps ≡ patched patches n.properties → n ≡ m → new ≡ repatched patches m
 patched_node m new n patches ps is changed same =

@@ -1,4 +1,4 @@
--- What is answered to a change of a property.
+-- The answer to a change of a property.
 use Rattle.std.specs.Prelude.{ℕ, Bool}
 use Rattle.dav_core.specs.Property.{Property, patched_property, patch_of, without_xml}
 

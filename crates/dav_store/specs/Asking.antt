@@ -1,4 +1,4 @@
--- Who asks a list of locks in memory.
+-- The requester, as a list of locks in memory sees it.
 use Rattle.std.specs.Prelude.{◌≡◌, ℕ, List, Option, Some, None, map, string_bytes}
 use Rattle.std.specs.List.{position}
 use Rattle.dav_core.specs.Path.{Path}
@@ -9,7 +9,7 @@ use Rattle.dav_store.specs.declared.memls.Asker.{Asker}
 abbrev pub asker_in : Asker → Seen
 asker_in who = asker_of (map string_bytes who.tokens.now) who.ignore_principal (option_copied who.principal)
 
--- where the lock stands that a token and a path mean; none where they mean none
+-- the place in the list of the lock that a token and a path mean; none where they mean none
 abbrev pub IsNamedPlace : List ℕ → Path → List Lock → Option ℕ → Type 0
 IsNamedPlace token p ls None = lock_front token p ls ≡ None
 IsNamedPlace token p ls (Some i) = (q : Path) × (lock_front token p ls ≡ Some q) × (position (is_named token q) ls ≡ Some i)

@@ -1,4 +1,4 @@
--- How the logic stores what a store in memory holds: as tuples of the parts.
+-- How the logic stores what a store in memory holds: as tuples of its parts.
 use Rattle.std.specs.Prelude.{◌≡◌, ℕ, Bool, List, Option, Some, None, refl}
 use Rattle.std.specs.Coded.{Coded, code_by, coded_ℕ, coded_bool, coded_list, coded_option, coded×}
 use Rattle.dav_core.specs.Property.{Properties}

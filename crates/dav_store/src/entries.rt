@@ -1,4 +1,4 @@
-//! A list of paths and nodes, in order of the paths.
+//! Paths and their nodes, as a list in order of the paths.
 ghost use Rattle.std.specs.Prelude.{◌≡◌, ◌∷◌, ◌++◌, ◌+◌, ◌<◌, ◌≤◌, [], ℕ, List, Some, ◌≢◌, ◌==◌, ◌&&◌, not, IfOk, OnOk, OnErr, Option, option_map, option_copied, position, map, vec_len, length, reverse};
 ghost use Rattle.std.specs.Vec.{vec_capacity};
 ghost use Rattle.std.specs.List.{insert};
@@ -17,28 +17,28 @@ use dav_core::davpath::DavPath;
 use dav_core::errors::NoMemory;
 use std::alloc::Global;
 
-// Where a path stands.
+// The place of a path in the list.
 fn place(entries: &[(Names, Node)], path: &DavPath) -> Option<usize>
     ensures { result ≡ position (λ e. is_same_path (names path.now) e.0) entries.now }
 {
     entries.iter().position(|e| e.0.are_of(path))
 }
 
-// Where the folder of a path stands.
+// The place of a path's folder in the list.
 fn folder_place(entries: &[(Names, Node)], path: &DavPath) -> Option<usize>
     ensures { result ≡ position (λ e. is_same_path (parent_of (names path.now)) e.0) entries.now }
 {
     entries.iter().position(|e| e.0.are_of_folder_of(path))
 }
 
-// Where the first path stands that doesn't come before this one.
+// The place of the first path that doesn't come before this one.
 fn place_from(entries: &[(Names, Node)], path: &Names) -> Option<usize>
     ensures { result ≡ position (λ e. is_le (path_cmp path.now e.0)) entries.now }
 {
     entries.iter().position(|e| path.compare(&e.0).is_le())
 }
 
-/// What stands at a path.
+/// The node at a path.
 pub fn node_at<'a>(entries: &'a [(Names, Node)], path: &DavPath) -> Option<&'a Node>
     ensures { option_copied result ≡ find path_cmp (names path.now) entries.now }
 {
@@ -48,7 +48,7 @@ pub fn node_at<'a>(entries: &'a [(Names, Node)], path: &DavPath) -> Option<&'a N
     }
 }
 
-/// What stands at the folder of a path.
+/// The node at the folder of a path.
 pub fn folder_of<'a>(entries: &'a [(Names, Node)], path: &DavPath) -> Option<&'a Node>
     ensures { option_copied result ≡ find path_cmp (parent_of (names path.now)) entries.now }
 {
@@ -58,7 +58,7 @@ pub fn folder_of<'a>(entries: &'a [(Names, Node)], path: &DavPath) -> Option<&'a
     }
 }
 
-/// Whether a folder stands at a path.
+/// Whether there is a folder at a path.
 pub fn is_folder(entries: &[(Names, Node)], path: &DavPath) -> bool
     ensures { result ≡ is_folder_node (find path_cmp (names path.now) entries.now) }
 {
@@ -68,7 +68,7 @@ pub fn is_folder(entries: &[(Names, Node)], path: &DavPath) -> bool
     }
 }
 
-/// Whether a file stands at a path.
+/// Whether there is a file at a path.
 pub fn is_file(entries: &[(Names, Node)], path: &DavPath) -> bool
     ensures { result ≡ is_file_node (find path_cmp (names path.now) entries.now) }
 {
@@ -78,7 +78,7 @@ pub fn is_file(entries: &[(Names, Node)], path: &DavPath) -> bool
     }
 }
 
-/// Whether a folder stands above a path.
+/// Whether there is a folder above a path.
 pub fn has_folder(entries: &[(Names, Node)], path: &DavPath) -> bool
     ensures { result ≡ is_folder_node (find path_cmp (parent_of (names path.now)) entries.now) }
 {
@@ -88,7 +88,7 @@ pub fn has_folder(entries: &[(Names, Node)], path: &DavPath) -> bool
     }
 }
 
-/// The folder of a path was changed now.
+/// Sets the moment at which the folder of a path was last changed.
 pub fn touch_folder(entries: &mut [(Names, Node)], path: &DavPath, now: u64)
     requires { now ≤ last_moment }
     ensures { entries.new ≡ touched (names path.now) now entries.old }
@@ -98,7 +98,7 @@ pub fn touch_folder(entries: &mut [(Names, Node)], path: &DavPath, now: u64)
     }
 }
 
-/// The file at a path loses its bytes.
+/// Empties the file at a path, which takes this number.
 pub fn empty_at(entries: &mut [(Names, Node)], path: &DavPath, number: u64, now: u64)
     requires { now ≤ last_moment }
     ensures { entries.new ≡ adjust (names path.now) (emptied number now) entries.old }
@@ -108,14 +108,14 @@ pub fn empty_at(entries: &mut [(Names, Node)], path: &DavPath, number: u64, now:
     }
 }
 
-/// What is at a path and below it goes.
+/// Removes what is at a path and below it.
 pub fn prune(entries: &mut Vec<(Names, Node)>, path: &DavPath)
     ensures { entries.new.items ≡ prune (names path.now) entries.old.items }
 {
     entries.retain(|e| !e.0.are_at_or_below(path));
 }
 
-// A push where there is room.
+// Adds a node at the end, where there is room.
 fn push_within(entries: &mut Vec<(Names, Node)>, path: Names, node: Node)
     requires { vec_len entries.old < vec_capacity entries.old }
     ensures items { entries.new.items ≡ entries.old.items ++ (path, node) ∷ [] }
@@ -125,7 +125,7 @@ fn push_within(entries: &mut Vec<(Names, Node)>, path: Names, node: Node)
     let _ = entries.push((path, node));
 }
 
-// An insertion where there is room.
+// Inserts a node, where there is room.
 fn insert_within(entries: &mut Vec<(Names, Node)>, index: usize, path: Names, node: Node)
     requires room { vec_len entries.old < vec_capacity entries.old }
     requires within { index ≤ vec_len entries.old }
@@ -136,7 +136,7 @@ fn insert_within(entries: &mut Vec<(Names, Node)>, index: usize, path: Names, no
     let _ = entries.insert(index, (path, node));
 }
 
-/// A node at a path, in the place of what stands there; there is room for it.
+/// Puts a node at a path, in place of what is there; there must be room for it.
 pub fn put_node(entries: &mut Vec<(Names, Node)>, path: Names, node: Node)
     requires { vec_len entries.old < vec_capacity entries.old }
     ensures items { entries.new.items ≡ put path_cmp path node entries.old.items }
@@ -155,7 +155,7 @@ pub fn put_node(entries: &mut Vec<(Names, Node)>, path: Names, node: Node)
     }
 }
 
-/// Each of these nodes at its path, in the place of what stands there; there is room for them.
+/// Puts each of these nodes at its path, in place of what is there; there must be room for them.
 fn put_all(entries: &mut Vec<(Names, Node)>, mut nodes: Vec<(Names, Node)>)
     requires { vec_len entries.old + vec_len nodes ≤ vec_capacity entries.old }
     ensures { entries.new.items ≡ union nodes.items entries.old.items }
@@ -165,7 +165,7 @@ fn put_all(entries: &mut Vec<(Names, Node)>, mut nodes: Vec<(Names, Node)>)
     }
 }
 
-// The paths that what is at `from` and below it has when it is at `to`.
+// The new paths of what is at `from` and below it, once it is at `to`.
 fn grafted_keys(
     alloc: Global,
     entries: &[(Names, Node)],
@@ -183,7 +183,8 @@ fn grafted_keys(
     Ok(keys)
 }
 
-// Parts the nodes, the last of which comes first: what moves, under the new keys, and what stays and isn't replaced.
+// Splits the nodes, the last of which comes first, into those that move, under their new paths, and those that stay
+// and aren't replaced.
 fn part(
     old: &mut Vec<(Names, Node)>,
     keys: &mut Vec<Names>,
@@ -211,7 +212,7 @@ fn part(
     }
 }
 
-/// What is at `from` and below it goes to `to`, in the place of what is there. Where memory runs out, nothing changes.
+/// Moves what is at `from` and below it to `to`, in place of what is there. Where memory runs out, nothing changes.
 pub fn move_nodes(
     alloc: Global,
     entries: &mut Vec<(Names, Node)>,
@@ -232,7 +233,7 @@ pub fn move_nodes(
     Ok(())
 }
 
-/// A new node at a path; its folder was changed now. Where memory runs out, nothing changes.
+/// Adds a new node at a path, and changes its folder at this moment. Where memory runs out, nothing changes.
 pub fn add_node(
     alloc: Global,
     entries: &mut Vec<(Names, Node)>,
@@ -251,14 +252,14 @@ pub fn add_node(
     Ok(())
 }
 
-// Where the file stands that was made with a number.
+// The place of the file that was created under this change number.
 fn made_place(entries: &[(Names, Node)], made: u64) -> Option<usize>
     ensures { result ≡ position (λ e. (e.1.made == made) && not (is_folder_kind e.1.kind)) entries.now }
 {
     entries.iter().position(|e| e.1.is_file_made_with(made))
 }
 
-/// The file that was made with a number.
+/// The file that was created under this change number.
 pub fn file_made_with(entries: &[(Names, Node)], made: u64) -> Option<&Node>
     ensures { option_copied result ≡ file_made_with made entries.now }
 {
@@ -268,7 +269,7 @@ pub fn file_made_with(entries: &[(Names, Node)], made: u64) -> Option<&Node>
     }
 }
 
-/// Bytes are written to the file that was made with a number. Where memory runs out, nothing changes.
+/// Writes bytes to the file that was created under this change number. Where memory runs out, nothing changes.
 pub fn write_made(
     alloc: Global,
     entries: &mut [(Names, Node)],
@@ -290,7 +291,7 @@ pub fn write_made(
     Ok(())
 }
 
-/// A copy goes to a path where a file is, which stays the node that it was.
+/// Gives the file at a path all that a copy has; it stays the node that it was.
 pub fn copy_over(entries: &mut [(Names, Node)], path: &DavPath, copy: Node)
     ensures { (source : Seen) (number now : ℕ) → copy ≡ record (fresh number source.kind now) { properties = source.properties } → entries.new ≡ adjust (names path.now) (copied_over source number now) entries.old }
 {
@@ -299,7 +300,7 @@ pub fn copy_over(entries: &mut [(Names, Node)], path: &DavPath, copy: Node)
     }
 }
 
-/// What stands at a path gets other properties: its own after changes.
+/// Replaces the properties of the node at a path, by its own after some changes.
 pub fn set_properties_at(entries: &mut [(Names, Node)], path: &DavPath, properties: Properties)
     ensures { (n : Seen) (patches : List Patch) → find path_cmp (names path.now) entries.old ≡ Some n → properties ≡ patched patches n.properties → entries.new ≡ adjust (names path.now) (repatched patches) entries.old }
 {
@@ -308,14 +309,14 @@ pub fn set_properties_at(entries: &mut [(Names, Node)], path: &DavPath, properti
     }
 }
 
-// Where the path stands of a folder's names and one more.
+// The place of the path that is a folder's names and one more.
 fn member_place(entries: &[(Names, Node)], folder: &Names, name: &Name) -> Option<usize>
     ensures { result ≡ position (λ e. is_same_path (folder.now ++ name.now ∷ []) e.0) entries.now }
 {
     entries.iter().position(|e| e.0.are_of_member(folder, name))
 }
 
-/// What stands at a name in a folder.
+/// The node at a name in a folder.
 pub fn member_at<'a>(entries: &'a [(Names, Node)], folder: &Names, name: &Name) -> Option<&'a Node>
     ensures { option_copied result ≡ find path_cmp (folder.now ++ name.now ∷ []) entries.now }
 {

@@ -28,7 +28,7 @@ use std::alloc::Global;
 use std::io::SeekFrom;
 use std::marker::Model;
 
-/// The most bytes that a file holds.
+/// The most bytes that a file can hold.
 pub const MAX_FILE_LEN: u64 = 2_147_483_647;
 
 /// Files and folders in memory.
@@ -50,7 +50,7 @@ impl Model for MemFs {
     ghost view = { λ s. record { world = record { nodes = s.entries.items; next = s.next }; short = s.short } };
 }
 
-/// A copy of its own, which changes apart from this one.
+/// An independent copy: a change to one doesn't change the other.
 impl Clone for MemFs {
     ghost use Rattle.std.specs.Prelude.{◌≡◌};
 
@@ -65,7 +65,7 @@ impl Clone for MemFs {
     }
 }
 
-/// An open file: the file that took a number when it was made.
+/// An open file: it stands for the file that was created under its change number.
 #[derive(Drop)]
 pub struct MemFile {
     made: u64,
@@ -113,7 +113,7 @@ impl MemFile {
     }
 }
 
-// Where a seek goes from a place in a file of this length; `None` before 0 or past 2^64 - 1.
+// Where a seek goes, from a place in a file of this length; `None` before 0 or past 2^64 - 1.
 fn place_for(to: SeekFrom, position: u64, len: u64) -> Option<u64>
     ensures { result ≡ place_for to position len }
 {
@@ -150,7 +150,7 @@ fn list(alloc: Global, entries: &[(Names, Node)], path: &DavPath) -> Result<Vec<
     Ok(list)
 }
 
-// Whether something stands directly below a path.
+// Whether something is directly below a path.
 fn any_below(entries: &[(Names, Node)], path: &DavPath) -> bool
     ensures { result ≡ list_any (λ e. is_some (only_name (rest_after (names path.now) e.0))) entries.now }
 {
@@ -164,7 +164,7 @@ fn has_members(entries: &[(Names, Node)], path: &DavPath) -> bool
     any_below(entries, path)
 }
 
-// The properties after changes in their order, and what is answered to these.
+// The properties after these changes, in their order, and the answers to them.
 fn patched(
     alloc: Global,
     properties: &Properties,
@@ -188,14 +188,14 @@ impl MemFs {
     ghost use Rattle.dav_store.specs.Store.{Answers, AnswersExactly, refusal_in};
     ghost use Rattle.dav_store.specs.Listing.{member_of};
 
-    /// The empty store: the root alone, a folder of number 0, made and changed at moment 0.
+    /// The empty store: only the root, a folder of number 0, created and changed at moment 0.
     pub fn new(alloc: Global) -> Result<MemFs, NoMemory>
         ensures { IfOk result (λ s. s ≡ record { world = empty_from 1; short = false }) }
     {
         MemFs::new_at(alloc, 1)
     }
 
-    /// The same, with the number that the next change takes; 0 counts as 1.
+    /// The same, with the change number that the next change takes; 0 counts as 1.
     pub fn new_at(alloc: Global, next: u64) -> Result<MemFs, NoMemory>
         ensures { IfOk result (λ s. s ≡ record { world = empty_from (max next 1); short = false }) }
     {
@@ -208,7 +208,7 @@ impl MemFs {
         })
     }
 
-    /// Tells of what is at a path. `NotFound`.
+    /// The metadata of what is at a path. `NotFound`.
     pub fn metadata(&mut self, path: &DavPath) -> FsResult<DavMetaData>
         ensures exactly { AnswersExactly (metadata self.old.world (names path.now)) result self.old self.new }
         ensures times { IfOk result (λ m. (m.created ≤ last_moment) × (m.modified ≤ last_moment)) }
@@ -219,7 +219,7 @@ impl MemFs {
         }
     }
 
-    /// Lists a folder, in the order of the names' bytes. `NotFound`; `Forbidden` for a file.
+    /// The entries of a folder, in the order of their names' bytes. `NotFound`; `Forbidden` for a file.
     pub fn read_dir(&mut self, alloc: Global, path: &DavPath) -> FsResult<Vec<MemEntry>>
         ensures answers { Answers (read_dir self.old.world (names path.now)) (seen (λ list. map member_of list.items) result) self.old self.new }
         ensures folder { IfOk result (λ list. map (λ e. e.folder) list.items ≡ map (λ _. names path.now) list.items) }
@@ -239,7 +239,8 @@ impl MemFs {
         }
     }
 
-    /// Makes a folder. `Exists`; `NotFound` without a folder above; `GeneralFailure` where no number is left.
+    /// Creates a folder. `Exists`; `NotFound` without a folder above; `GeneralFailure` where no change number is
+    /// left.
     pub fn create_dir(&mut self, alloc: Global, path: &DavPath, now: u64) -> FsResult<()>
         requires { now ≤ last_moment }
         ensures { Answers (create_dir self.old.world (names path.now) now) result self.old self.new }
@@ -301,9 +302,9 @@ impl MemFs {
         Ok(())
     }
 
-    /// Moves what is at a path, and all below it, in the place of what is at another. `Forbidden` from or to the root;
-    /// `NotFound`; nothing changes where both are one path; `Forbidden` to a place below itself; `NotFound` without a
-    /// folder above; `Exists` onto a folder with members.
+    /// Moves what is at a path, and all below it, to another path, in place of what is there. `Forbidden` from or to
+    /// the root; `NotFound`; nothing changes where both are the same path; `Forbidden` to a place below itself;
+    /// `NotFound` without a folder above; `Exists` onto a folder with members.
     pub fn rename(&mut self, alloc: Global, from: &DavPath, to: &DavPath, now: u64) -> FsResult<()>
         requires { now ≤ last_moment }
         ensures { Answers (rename self.old.world (names from.now) (names to.now) now) result self.old self.new }
@@ -336,7 +337,7 @@ impl MemFs {
     }
 
     /// Copies the bytes and dead properties of a file. `NotFound`; `Forbidden` for a folder, onto itself, and onto a
-    /// folder; `NotFound` without a folder above; `GeneralFailure` where no number is left.
+    /// folder; `NotFound` without a folder above; `GeneralFailure` where no change number is left.
     pub fn copy(&mut self, alloc: Global, from: &DavPath, to: &DavPath, now: u64) -> FsResult<()>
         requires { now ≤ last_moment }
         ensures { Answers (copy self.old.world (names from.now) (names to.now) now) result self.old self.new }
@@ -363,7 +364,7 @@ impl MemFs {
         self.put_copy(alloc, to, copy, now)
     }
 
-    // A copy goes to a path where a file is, or where nothing is.
+    // Puts a copy at a path where there is a file or nothing.
     fn put_copy(&mut self, alloc: Global, to: &DavPath, copy: Node, now: u64) -> FsResult<()>
         requires now { now ≤ last_moment }
         requires next { self.old.world.next < last_number }
@@ -386,7 +387,7 @@ impl MemFs {
         }
     }
 
-    // Opens what stands at a path: a file, which is emptied if that is asked.
+    // Opens what is at a path: a file, which is emptied if the options say so.
     fn open_found(&mut self, path: &DavPath, options: &OpenOptions, now: u64) -> FsResult<MemFile>
         requires now { now ≤ last_moment }
         requires found { IsSome (node_at self.old.world (names path.now)) }
@@ -413,7 +414,7 @@ impl MemFs {
         Ok(file)
     }
 
-    // Opens what isn't there: an empty file is made if that is asked.
+    // Opens a path where nothing is: creates an empty file if the options say so.
     fn open_missing(
         &mut self,
         alloc: Global,
@@ -443,9 +444,9 @@ impl MemFs {
         Ok(file)
     }
 
-    /// Opens a file at the place 0. `Forbidden` for a folder; `Exists` where nothing may be there; `NotFound` where
-    /// nothing is there and none is to be made, or its folder is missing; `GeneralFailure` where a change is to be made
-    /// and no number is left.
+    /// Opens a file at place 0. `Forbidden` for a folder; `Exists` where something is there but the options ask for a
+    /// new file; `NotFound` where nothing is there and the options don't ask for a file to be created, or its folder
+    /// is missing; `GeneralFailure` where opening changes something and no change number is left.
     pub fn open(
         &mut self,
         alloc: Global,
@@ -463,8 +464,8 @@ impl MemFs {
         }
     }
 
-    /// Reads at most so many bytes, fewer only at the end. `NotFound` where the file was removed; `Forbidden` where it
-    /// isn't open for reading.
+    /// Reads at most so many bytes, and fewer only at the end. `NotFound` where the file was removed; `Forbidden`
+    /// where it isn't open for reading.
     pub fn read_bytes(&mut self, file: &mut MemFile, count: usize) -> FsResult<Bytes>
         ensures answers { Answers (read_bytes self.old.world file.old count) (seen (λ chunk. (chunk, file.new)) result) self.old self.new }
         ensures err { OnErr result (file.new ≡ file.old) }
@@ -484,7 +485,8 @@ impl MemFs {
     }
 
     /// Writes bytes. `NotFound` where the file was removed; `Forbidden` where it isn't open for writing; `TooLarge`
-    /// where they would end past 2,147,483,647 bytes; `GeneralFailure` where there are any and no number is left.
+    /// where they would end past 2,147,483,647 bytes; `GeneralFailure` where there are any bytes and no change number
+    /// is left.
     pub fn write_bytes(
         &mut self,
         alloc: Global,
@@ -530,8 +532,8 @@ impl MemFs {
         Ok(())
     }
 
-    /// Moves the place of the next read or write, and tells it. `NotFound` where the file was removed; `GeneralFailure`
-    /// before 0 or past 2^64 - 1.
+    /// Moves the place of the next read or write, and returns it. `NotFound` where the file was removed;
+    /// `GeneralFailure` before 0 or past 2^64 - 1.
     pub fn seek(&mut self, file: &mut MemFile, to: SeekFrom) -> FsResult<u64>
         ensures exactly { AnswersExactly (seek self.old.world file.old to) (seen (λ place. (place, file.new)) result) self.old self.new }
         ensures err { OnErr result (file.new ≡ file.old) }
@@ -548,7 +550,7 @@ impl MemFs {
         }
     }
 
-    /// Sees to it that all that was written is kept. `NotFound` where the file was removed.
+    /// Makes sure that everything written is kept. `NotFound` where the file was removed.
     pub fn flush(&mut self, file: &mut MemFile) -> FsResult<()>
         ensures exactly { AnswersExactly (flush self.old.world file.old) result self.old self.new }
         ensures same { file.new ≡ file.old }
@@ -559,7 +561,7 @@ impl MemFs {
         }
     }
 
-    /// Tells of the file. `NotFound` where it was removed.
+    /// The metadata of the open file. `NotFound` where it was removed.
     pub fn file_metadata(&mut self, file: &MemFile) -> FsResult<DavMetaData>
         ensures exactly { AnswersExactly (file_metadata self.old.world file.now) result self.old self.new }
         ensures times { IfOk result (λ m. (m.created ≤ last_moment) × (m.modified ≤ last_moment)) }
@@ -570,7 +572,7 @@ impl MemFs {
         }
     }
 
-    /// Tells of what is now where an entry was. `NotFound` where nothing is.
+    /// The metadata of what is now at the path of an entry. `NotFound` where nothing is.
     pub fn entry_metadata(&mut self, entry: &MemEntry) -> FsResult<DavMetaData>
         ensures exactly { AnswersExactly (metadata self.old.world (entry.now.folder ++ entry.now.name ∷ [])) result self.old self.new }
         ensures times { IfOk result (λ m. (m.created ≤ last_moment) × (m.modified ≤ last_moment)) }
@@ -620,8 +622,8 @@ impl MemFs {
         Ok(list)
     }
 
-    /// The element of the property of this namespace and name. `NotFound` where nothing is at the path, where it has no
-    /// such property, and where that was stored without an element.
+    /// The element of the property with this namespace and name. `NotFound` where nothing is at the path, where it
+    /// has no such property, and where that was stored without an element.
     pub fn get_prop(&mut self, path: &DavPath, property: &DavProp) -> FsResult<Element>
         ensures { Answers (get_prop self.old.world (names path.now) (property_key property.now)) result self.old self.new }
     {

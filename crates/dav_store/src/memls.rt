@@ -45,7 +45,7 @@ fn covers(lock: &DavLock, path: &DavPath) -> bool
     paths::is_same(&lock.path, path) || lock.deep && paths::is_below(&lock.path, path)
 }
 
-// Whether a token is among these.
+// Whether a token is among the submitted ones.
 fn has_token(tokens: &[String], token: &str) -> bool
     ensures { result ≡ list_any (bytes_eq token.now) (map string_bytes tokens.now) }
 {
@@ -59,7 +59,7 @@ fn any_is(texts: &[String], text: &str) -> bool
     texts.iter().any(|t| text == t.as_str())
 }
 
-/// Who asks: the tokens that are submitted, whose they are to be, and whether that is looked at.
+/// The requester: the tokens that it submits, its principal, and whether that is ignored.
 #[derive(Clone, Copy)]
 struct Asker<'a> {
     tokens: &'a [String],
@@ -67,28 +67,28 @@ struct Asker<'a> {
     ignore_principal: bool,
 }
 
-// Whether a lock is a principal's, or the principal is ignored.
+// Whether a lock has this principal, or the principal is ignored.
 fn is_of(lock: &DavLock, principal: Option<&str>, ignore_principal: bool) -> bool
     ensures { result ≡ is_of (asker_of [] ignore_principal (option_copied principal.entry)).principal lock.now }
 {
     ignore_principal || lock.principal.as_deref() == principal
 }
 
-// Whether a lock is held by who asks.
+// Whether the requester holds a lock.
 fn is_held(lock: &DavLock, who: Asker<'_>) -> bool
     ensures { result ≡ is_held (asker_in who.entry) lock.now }
 {
     has_token(who.tokens, &lock.token) && is_of(lock, who.principal, who.ignore_principal)
 }
 
-// Whether some lock that covers a path is held.
+// Whether the requester holds some lock that covers a path.
 fn any_held(locks: &[DavLock], path: &DavPath, who: Asker<'_>) -> bool
     ensures { result ≡ list_any (λ l. covers l (names path.now) && is_held (asker_in who.entry) l) locks.now }
 {
     locks.iter().any(|l| covers(l, path) && is_held(l, who))
 }
 
-// Whether a lock stands in the way, where some covering lock is held or none is.
+// Whether a lock conflicts; `some_held` says whether the requester holds some lock that covers the path.
 fn is_in_the_way(
     lock: &DavLock,
     path: &DavPath,
@@ -103,7 +103,7 @@ fn is_in_the_way(
             || deep && paths::is_at_or_below(path, &lock.path))
 }
 
-// Where the first lock stands that is in the way.
+// The place of the first lock that conflicts.
 fn place_in_the_way(
     locks: &[DavLock],
     path: &DavPath,
@@ -118,7 +118,7 @@ fn place_in_the_way(
         .position(|l| is_in_the_way(l, path, who, deep, some_held))
 }
 
-// A lock that stands in the way; `None` where the path is free.
+// A lock that conflicts; `None` where the path is free.
 fn conflict_in<'a>(
     locks: &'a [DavLock],
     path: &DavPath,
@@ -134,7 +134,7 @@ fn conflict_in<'a>(
     }
 }
 
-// Whether a path is free; lends a lock that stands in the way where it isn't.
+// `Ok` where a path is free, and else a lock that conflicts.
 fn check_in<'a>(
     locks: &'a [DavLock],
     path: &DavPath,
@@ -149,14 +149,14 @@ fn check_in<'a>(
     }
 }
 
-// Where the first lock stands that has this token and the first so many names of a path.
+// The place of the first lock that has this token and is on the first so many names of a path.
 fn named_at(locks: &[DavLock], path: &DavPath, token: &str, len: usize) -> Option<usize>
     ensures { result ≡ position (λ l. bytes_eq l.token token.now && is_same_path (names l.path) (take len (names path.now))) locks.now }
 {
     locks.iter().position(|l| l.token.as_str() == token && paths::is_front(&l.path, path, len))
 }
 
-// Where the lock stands that a token and a path mean.
+// The place of the lock that a token and a path mean.
 fn named_place(locks: &[DavLock], path: &DavPath, token: &str) -> Option<usize>
     ensures { IsNamedPlace token.now (names path.now) locks.now result }
 {
@@ -175,7 +175,7 @@ fn drop_below(locks: &mut Vec<DavLock>, path: &DavPath)
     locks.retain(|l| !paths::is_at_or_below(path, &l.path));
 }
 
-// Whether a lock covers a path that a new one, shared or not, can't share it with.
+// Whether some lock that covers a path excludes a new one there: all but two shared locks exclude each other.
 fn any_excludes(locks: &[DavLock], path: &DavPath, shared: bool) -> bool
     ensures { result ≡ list_any (λ l. covers l (names path.now) && not (l.shared && shared)) locks.now }
 {
@@ -184,21 +184,21 @@ fn any_excludes(locks: &[DavLock], path: &DavPath, shared: bool) -> bool
         .any(|l| covers(l, path) && !(l.shared && shared))
 }
 
-// Whether a lock is below a path.
+// Whether there is a lock below a path.
 fn any_below(locks: &[DavLock], path: &DavPath) -> bool
     ensures { result ≡ list_any (λ l. is_below (names path.now) (names l.path)) locks.now }
 {
     locks.iter().any(|l| paths::is_below(path, &l.path))
 }
 
-// Whether a lock stands in the way of a new one.
+// Whether some lock conflicts with a new one.
 fn any_refuses(locks: &[DavLock], path: &DavPath, shared: bool, deep: bool) -> bool
     ensures { result ≡ (list_any (λ l. covers l (names path.now) && not (l.shared && shared)) locks.now || (deep && list_any (λ l. is_below (names path.now) (names l.path)) locks.now)) }
 {
     any_excludes(locks, path, shared) || deep && any_below(locks, path)
 }
 
-// When a lock ends that is to end after so many seconds.
+// The moment at which a lock ends that lasts for so many seconds; `None` for one that never ends.
 fn ends_at(now: u64, timeout: Option<u64>) -> Option<u64>
     requires { IfSome timeout (λ seconds. now + seconds ≤ max_u64) }
     ensures { result ≡ ends_at now timeout }
@@ -209,7 +209,7 @@ fn ends_at(now: u64, timeout: Option<u64>) -> Option<u64>
     }
 }
 
-// A text of one's own.
+// An owned copy of a text.
 fn text_of(alloc: Global, text: Option<&str>) -> Result<Option<String>, NoMemory>
     ensures { IfOk result (λ t. option_map string_bytes t ≡ option_copied text.entry) }
 {
@@ -219,7 +219,7 @@ fn text_of(alloc: Global, text: Option<&str>) -> Result<Option<String>, NoMemory
     }
 }
 
-// An element of one's own.
+// An owned copy of an element.
 fn element_of(element: Option<&Element>) -> Result<Option<Element>, NoMemory>
     ensures { IfOk result (λ e. e ≡ option_copied element.entry) }
 {
@@ -256,7 +256,7 @@ fn new_lock(
     })
 }
 
-// Puts a copy of a lock behind the others, and gives the lock back.
+// Puts a copy of a lock after the others, and returns the lock.
 fn keep(locks: &mut Vec<DavLock>, lock: DavLock) -> Result<DavLock, NoMemory>
     ensures ok { IfOk result (λ l. (l ≡ lock) × (locks.new.items ≡ locks.old.items ++ l ∷ [])) }
     ensures err { OnErr result (locks.new.items ≡ locks.old.items) }
@@ -289,7 +289,7 @@ fn set_timeout(lock: &mut DavLock, timeout: Option<u64>, now: u64)
     lock.timeout = timeout;
 }
 
-// Gives the lock that a token and a path mean a new timeout, and answers a copy of it.
+// Gives the lock that a token and a path mean a new timeout, and returns a copy of it.
 fn refresh_in(
     locks: &mut Vec<DavLock>,
     path: &DavPath,
@@ -313,7 +313,7 @@ fn refresh_in(
     Ok(lock)
 }
 
-// Adds copies of the locks that cover a path, on its first so many names.
+// Adds copies of the locks that cover a path and are on its first so many names.
 fn push_covering(
     found: &mut Vec<DavLock>,
     locks: &[DavLock],
@@ -330,7 +330,7 @@ fn push_covering(
     Ok(())
 }
 
-// Copies of the locks that cover a path.
+// Copies of the locks that cover a path, those on the shortest path first.
 fn covering(alloc: Global, locks: &[DavLock], path: &DavPath) -> Result<Vec<DavLock>, NoMemory>
     ensures { IfOk result (λ found. found.items ≡ discovered (names path.now) locks.now) }
 {

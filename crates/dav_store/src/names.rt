@@ -1,4 +1,4 @@
-//! The names of a path, which own their bytes (RFC 3986, section 3.3), and paths compared with them.
+//! The names of a path, as owned bytes (RFC 3986, section 3.3), and comparisons of them with paths.
 ghost use Rattle.std.specs.Prelude.{◌≡◌, ◌∷◌, ◌++◌, [], IfOk, OnOk, OnErr, option_map, option_copied};
 ghost use Rattle.std.specs.Ordering.{is_eq};
 ghost use Rattle.dav_core.specs.Path.{names, name_cmp, path_cmp, is_same_path, is_at_or_below, is_below, rest_after, parent_of, only_name, IsSegment};
@@ -52,7 +52,7 @@ impl Name {
         bytes == self.as_slice()
     }
 
-    /// In the order of the bytes.
+    /// Compares byte by byte.
     pub fn compare(&self, other: &Name) -> Ordering
         ensures { result ≡ name_cmp self.now other.now }
     {
@@ -96,7 +96,7 @@ impl Clone for Names {
     }
 }
 
-// Names in their order, a path before what is below it.
+// Compares lists of names in order: name by name, and a path before what is below it.
 fn compare_names(a: &[Name], b: &[Name]) -> Ordering
     ensures { result ≡ path_cmp a.now b.now }
 {
@@ -115,7 +115,7 @@ fn compare_names(a: &[Name], b: &[Name]) -> Ordering
     }
 }
 
-// The same of the segments of a path and names.
+// The same for the segments of a path and a list of names.
 fn compare_segments(mut segments: Segments<'_>, names: &[Name]) -> Ordering
     ensures { result ≡ path_cmp (names_left segments.entry) names.now }
 {
@@ -134,7 +134,7 @@ fn compare_segments(mut segments: Segments<'_>, names: &[Name]) -> Ordering
     }
 }
 
-// The names that follow the segments; `None` where the names don't begin with them.
+// The names that follow the segments; `None` where the names don't begin with the segments.
 fn rest_behind<'a>(mut segments: Segments<'_>, names: &'a [Name]) -> Option<&'a [Name]>
     ensures { option_copied result ≡ rest_after (names_left segments.entry) names.now }
 {
@@ -153,7 +153,7 @@ fn rest_behind<'a>(mut segments: Segments<'_>, names: &'a [Name]) -> Option<&'a 
     }
 }
 
-// Whether the names are those of a first segment and the others, but for the last.
+// Whether the names are all but the last of these segments, the first of which comes by itself.
 fn are_all_but_last(first: &[u8], mut others: Segments<'_>, names: &[Name]) -> bool
     ensures { result ≡ is_same_path (parent_of (first.now ∷ names_left others.entry)) names.now }
 {
@@ -172,7 +172,7 @@ fn are_all_but_last(first: &[u8], mut others: Segments<'_>, names: &[Name]) -> b
     }
 }
 
-// Whether the names are those of a folder and one more.
+// Whether the names are those of a folder, and then this one name.
 fn are_of_member(folder: &[Name], name: &Name, names: &[Name]) -> bool
     ensures { result ≡ is_same_path (folder.now ++ name.now ∷ []) names.now }
 {
@@ -219,7 +219,7 @@ impl Names {
         }
     }
 
-    /// In the order of the names, a path before what is below it.
+    /// Compares name by name, and a path before what is below it.
     pub fn compare(&self, other: &Names) -> Ordering
         ensures { result ≡ path_cmp self.now other.now }
     {
@@ -233,7 +233,7 @@ impl Names {
         compare_segments(path.segments(), &self.names).is_eq()
     }
 
-    /// Whether these are the names of the folder of the path.
+    /// Whether these are the names of the path's folder.
     pub fn are_of_folder_of(&self, path: &DavPath) -> bool
         ensures { result ≡ is_same_path (parent_of (names path.now)) self.now }
     {
@@ -244,21 +244,21 @@ impl Names {
         }
     }
 
-    /// Whether the path is at these names or below them.. of the path.
+    /// Whether these names are at the path or below it.
     pub fn are_at_or_below(&self, path: &DavPath) -> bool
         ensures { result ≡ is_at_or_below (names path.now) self.now }
     {
         rest_behind(path.segments(), &self.names).is_some()
     }
 
-    /// Whether these are the names of a folder and one more.
+    /// Whether these are the names of the folder, and then this one name.
     pub fn are_of_member(&self, folder: &Names, name: &Name) -> bool
         ensures { result ≡ is_same_path (folder.now ++ name.now ∷ []) self.now }
     {
         are_of_member(&folder.names, name, &self.names)
     }
 
-    /// The one name that follows those of the path; `None` where another number does.
+    /// The one name that follows those of the path; `None` where there isn't exactly one.
     pub fn name_below(&self, path: &DavPath) -> Option<&Name>
         ensures { option_copied result ≡ only_name (rest_after (names path.now) self.now) }
     {
@@ -269,7 +269,8 @@ impl Names {
         }
     }
 
-    /// The names with those of `to` in the place of those of `from`; `None` where they don't begin with these.
+    /// The names with those of `from` at the start replaced by those of `to`; `None` where they don't begin with
+    /// those of `from`.
     pub fn grafted(
         &self,
         alloc: Global,

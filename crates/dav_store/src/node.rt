@@ -20,8 +20,8 @@ pub enum Content {
     File(Bytes),
 }
 
-/// A folder or file: the number that it took when it was made, the last that it took, what it is, its properties, and
-/// when it was made and last changed, in seconds since 1970.
+/// A folder or file: the change number under which it was created, the last one that it took, what it is, its
+/// properties, and when it was created and last changed, in seconds since 1970.
 #[derive(Drop)]
 pub struct Node {
     made: u64,
@@ -89,7 +89,7 @@ fn bytes_in(content: &Content) -> &[u8]
     }
 }
 
-// The bytes with others written over them from a place on; a gap is zeros.
+// The bytes with others written over them from a place on; a gap is filled with zeros.
 fn spliced(alloc: Global, bytes: &[u8], place: usize, chunk: &[u8]) -> Result<Vec<u8>, NoMemory>
     requires some { chunk.now ≢ [] }
     requires fits { place + length chunk.now ≤ max_file_len }
@@ -108,7 +108,7 @@ impl Node {
     ghost use Rattle.dav_core.specs.World.{bytes_of, is_folder_kind, fresh, modified_at, last_moment, max_file_len, Folder as FolderKind, File as FileKind};
     ghost use Rattle.dav_core.specs.Calls.{metadata_of, emptied, written, repatched, copied_over};
 
-    /// A folder that is made now.
+    /// A folder that is created now, under this change number.
     pub fn new_folder(alloc: Global, number: u64, now: u64) -> Node
         requires { now ≤ last_moment }
         ensures { result ≡ fresh number FolderKind now }
@@ -123,7 +123,7 @@ impl Node {
         }
     }
 
-    /// An empty file that is made now.
+    /// An empty file that is created now, under this change number.
     pub fn new_file(alloc: Global, number: u64, now: u64) -> Node
         requires { now ≤ last_moment }
         ensures { result ≡ fresh number (FileKind []) now }
@@ -148,14 +148,14 @@ impl Node {
         }
     }
 
-    /// Whether it is the file that took this number when it was made.
+    /// Whether it is the file that was created under this change number.
     pub fn is_file_made_with(&self, made: u64) -> bool
         ensures { result ≡ ((self.now.made == made) && not (is_folder_kind self.now.kind)) }
     {
         self.made == made && !self.is_folder()
     }
 
-    /// The number that it took when it was made.
+    /// The change number under which it was created.
     pub fn made(&self) -> u64
         ensures { result ≡ self.now.made }
     {
@@ -176,7 +176,7 @@ impl Node {
         &self.properties
     }
 
-    /// What is told of it.
+    /// Its metadata.
     pub fn metadata(&self) -> DavMetaData
         ensures value { result ≡ metadata_of self.now }
         ensures times { (result.created ≤ last_moment) × (result.modified ≤ last_moment) }
@@ -190,7 +190,7 @@ impl Node {
         }
     }
 
-    /// It was changed now.
+    /// Sets the moment at which it was last changed.
     pub fn touch(&mut self, now: u64)
         requires { now ≤ last_moment }
         ensures { self.new ≡ modified_at now self.old }
@@ -198,7 +198,7 @@ impl Node {
         self.modified = now;
     }
 
-    /// It becomes a file without bytes.
+    /// Makes it a file without bytes, which takes this change number.
     pub fn empty(&mut self, number: u64, now: u64)
         requires { now ≤ last_moment }
         ensures { self.new ≡ emptied number now self.old }
@@ -208,7 +208,7 @@ impl Node {
         self.modified = now;
     }
 
-    /// Bytes are written from a place on. Where memory runs out, it stays as it was.
+    /// Writes bytes from a place on. Where memory runs out, it stays as it was.
     pub fn write(
         &mut self,
         alloc: Global,
@@ -230,14 +230,14 @@ impl Node {
         Ok(())
     }
 
-    /// It gets these properties.
+    /// Replaces its properties.
     pub fn set_properties(&mut self, properties: Properties)
         ensures { self.new ≡ record self.old { properties = properties } }
     {
         self.properties = properties;
     }
 
-    /// Another node with its bytes and properties, made now.
+    /// Another node with its bytes and properties, created now under this change number.
     pub fn copy(&self, number: u64, now: u64) -> Result<Node, NoMemory>
         requires { now ≤ last_moment }
         ensures { IfOk result (λ n. n ≡ record (fresh number self.now.kind now) { properties = self.now.properties }) }
@@ -252,7 +252,7 @@ impl Node {
         })
     }
 
-    /// It gets all that another node has, but stays the node that it was.
+    /// Gives it all that another node has, but it stays the node that it was.
     pub fn become_like(&mut self, other: Node)
         ensures { self.new ≡ record other { made = self.old.made } }
     {
@@ -261,7 +261,7 @@ impl Node {
         self.made = made;
     }
 
-    /// At most so many bytes from a place on, fewer only at the end.
+    /// At most so many bytes from a place on, and fewer only at the end.
     pub fn read(&self, place: u64, count: usize) -> Result<Bytes, NoMemory>
         ensures value { IfOk result (λ chunk. chunk ≡ take count (drop place (bytes_of self.now.kind))) }
         ensures fits { IfOk result (λ chunk. place + length chunk ≤ 18446744073709551615) }

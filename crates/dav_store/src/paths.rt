@@ -6,7 +6,7 @@ ghost use Rattle.dav_core.specs.PathRef.{names_left};
 use dav_core::davpath::{DavPath, Segments};
 use std::cmp::Ordering;
 
-// In the order of the names, a path before what is below it.
+// Compares name by name, and a path before what is below it.
 fn compare(mut a: Segments<'_>, mut b: Segments<'_>) -> Ordering
     ensures { result ≡ path_cmp (names_left a.entry) (names_left b.entry) }
 {
@@ -25,7 +25,7 @@ fn compare(mut a: Segments<'_>, mut b: Segments<'_>) -> Ordering
     }
 }
 
-// The segments that follow those of the front; `None` where the path doesn't begin with them.
+// The segments that follow those of the front; `None` where the path doesn't begin with the front.
 fn rest_behind<'a>(mut front: Segments<'_>, mut path: Segments<'a>) -> Option<Segments<'a>>
     ensures { option_map names_left result ≡ rest_after (names_left front.entry) (names_left path.entry) }
 {
@@ -69,7 +69,7 @@ pub fn is_front(front: &DavPath, path: &DavPath, len: usize) -> bool
     are_first(front.segments(), path.segments(), len)
 }
 
-// How many names are left, of which there are at most so many.
+// How many names are left, where there are at most so many.
 fn count_left(mut rest: Segments<'_>, at_most: usize) -> usize
     requires { length (names_left rest) ≤ at_most }
     ensures { result ≡ length (names_left rest.entry) }
@@ -94,7 +94,7 @@ pub fn is_root(path: &DavPath) -> bool
     path.segments().next().is_none()
 }
 
-/// Whether both are one path.
+/// Whether both are the same path.
 pub fn is_same(a: &DavPath, b: &DavPath) -> bool
     ensures { result ≡ is_same_path (names a.now) (names b.now) }
 {

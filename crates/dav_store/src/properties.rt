@@ -15,7 +15,7 @@ use std::alloc::Global;
 use std::cmp::Ordering;
 use std::marker::Model;
 
-/// What a property is known by: its namespace, empty where it has none, and its name.
+/// The key of a property: its namespace, empty where it has none, and its name.
 #[derive(Drop)]
 pub struct Key {
     namespace: String,
@@ -55,7 +55,7 @@ fn namespace_of(property: &DavProp) -> &str
 }
 
 impl Key {
-    /// What this property is known by.
+    /// The key of this property.
     pub fn of(alloc: Global, property: &DavProp) -> Result<Key, NoMemory>
         ensures { IfOk result (λ k. k ≡ property_key property.now) }
     {
@@ -65,7 +65,7 @@ impl Key {
         })
     }
 
-    /// First by namespace, then by name.
+    /// Compares namespaces first, then names.
     pub fn compare(&self, other: &Key) -> Ordering
         ensures { result ≡ key_cmp self.now other.now }
     {
@@ -73,7 +73,7 @@ impl Key {
         first.then(self.name.as_bytes().cmp(&other.name.as_bytes()))
     }
 
-    /// Whether the property is known by this.
+    /// Whether this is the key of the property.
     pub fn is_of(&self, property: &DavProp) -> bool
         ensures { result ≡ is_same_key (property_key property.now) self.now }
     {
@@ -114,21 +114,21 @@ impl Clone for Properties {
     }
 }
 
-// Where a property stands.
+// The place of a property in the list.
 fn place(entries: &[(Key, Option<Element>)], property: &DavProp) -> Option<usize>
     ensures { result ≡ position (λ e. is_same_key (property_key property.now) e.0) entries.now }
 {
     entries.iter().position(|e| e.0.is_of(property))
 }
 
-// Where the first property stands that doesn't come before this one.
+// The place of the first property that doesn't come before this key.
 fn place_from(entries: &[(Key, Option<Element>)], key: &Key) -> Option<usize>
     ensures { result ≡ position (λ e. is_le (key_cmp key.now e.0)) entries.now }
 {
     entries.iter().position(|e| key.compare(&e.0).is_le())
 }
 
-// What is stored of a property.
+// What is stored for a property.
 fn stored_in<'a>(
     entries: &'a [(Key, Option<Element>)],
     property: &DavProp,
@@ -141,7 +141,7 @@ fn stored_in<'a>(
     }
 }
 
-// A property with this element, in the place of the one with this key.
+// Stores this element under the key, in place of what is there.
 fn put_property(
     entries: &mut Vec<(Key, Option<Element>)>,
     key: Key,
@@ -162,14 +162,14 @@ fn put_property(
     Ok(())
 }
 
-// The property left out.
+// Removes the property.
 fn remove_property(entries: &mut Vec<(Key, Option<Element>)>, property: &DavProp)
     ensures { entries.new.items ≡ filter (λ e. not (is_same_key (property_key property.now) e.0)) entries.old.items }
 {
     entries.retain(|e| !e.0.is_of(property));
 }
 
-// One change, which gives back its property without its element.
+// Makes one change, and returns its property without its element.
 fn apply(
     alloc: Global,
     entries: &mut Vec<(Key, Option<Element>)>,
@@ -199,7 +199,7 @@ fn prefix_in(xml: &Option<Element>) -> Result<Option<String>, NoMemory>
     }
 }
 
-// A stored property as it is told.
+// A stored property as it is returned to the caller, with its element or without.
 fn shown(
     alloc: Global,
     key: &Key,
@@ -221,7 +221,7 @@ fn shown(
     })
 }
 
-// These properties as they are told.
+// These properties as they are returned to the caller, with their elements or without.
 fn list(
     alloc: Global,
     entries: &[(Key, Option<Element>)],
@@ -242,7 +242,7 @@ impl Properties {
     ghost use Rattle.dav_core.specs.Property.{key_cmp, property_key, patched, patch_of, shown_property};
     ghost use Rattle.dav_store.specs.Answered.{answer_to};
 
-    /// No property.
+    /// No properties.
     pub fn new(alloc: Global) -> Properties
         ensures { result ≡ [] }
     {
@@ -251,7 +251,7 @@ impl Properties {
         }
     }
 
-    /// What is stored of a property.
+    /// What is stored for a property.
     pub fn get(&self, property: &DavProp) -> Option<&Option<Element>>
         ensures { option_copied result ≡ find key_cmp (property_key property.now) self.now }
     {
@@ -259,7 +259,7 @@ impl Properties {
     }
 
     /// Makes changes in their order, and answers each with its property, without its element. Where memory runs out,
-    /// some changes may be made.
+    /// some of the changes may have been made.
     pub fn patch(
         &mut self,
         alloc: Global,

@@ -1,6 +1,6 @@
-//! Calls of which one may be refused for memory: `./fail-alloc dav_store` runs these tests with each allocation failing
-//! in turn. They pass either way, and say whether a call was refused. A refused call leaves all as it was, and is granted
-//! when it is made once more.
+//! Tests of calls that an allocation failure may refuse: `./fail-alloc dav_store` runs them with each allocation
+//! failing in turn. They pass either way, and print whether a call was refused. A refused call leaves everything as
+//! it was, and succeeds when it is made once more.
 use crate::asserting::same;
 use crate::memfs::{MemFile, MemFs};
 use crate::memls::MemLs;
@@ -14,7 +14,7 @@ use std::io::SeekFrom;
 use std::process::Abort;
 use std::test::Fail;
 
-// What a run says of itself at its end.
+// What a run prints at its end.
 fn outcome(refused: bool) -> &'static str {
     if refused {
         "a call was refused"
@@ -23,7 +23,7 @@ fn outcome(refused: bool) -> &'static str {
     }
 }
 
-// What is told of a node: its length, whether it is a folder, when it was made and changed, its number.
+// The metadata of a node: its length, whether it is a folder, when it was created and changed, its number.
 type Told = Option<(u64, bool, u64, u64, Option<u64>)>;
 
 fn told(answer: FsResult<DavMetaData>) -> Told {
@@ -31,8 +31,8 @@ fn told(answer: FsResult<DavMetaData>) -> Told {
     Some((m.len, m.dir, m.created, m.modified, m.number))
 }
 
-// What is seen of a store: what is at the root and at other paths, an open file and its place, and how many members and
-// properties the root has.
+// A snapshot of a store: the root and other paths, an open file and its place, and how many members and properties
+// the root has.
 #[derive(Debug, Drop, PartialEq)]
 struct Sight {
     nodes: [Told; 4],
@@ -42,7 +42,7 @@ struct Sight {
     properties: Option<usize>,
 }
 
-// A call that takes memory, or one between such calls.
+// A call that allocates, or one between such calls.
 #[derive(Clone, Copy, Debug)]
 enum Asked {
     MakeFolder,
@@ -59,7 +59,8 @@ enum Asked {
     ListMembers,
 }
 
-// A store, one of its open files, the paths that are looked at, the root first, a property, and whether a call was refused.
+// A store, one of its open files, the paths that are looked at, the root first, a property, and whether a call was
+// refused.
 #[derive(Drop)]
 struct Watched<'a, F: DavFileSystem> {
     fs: F,
@@ -92,7 +93,8 @@ impl<'a, F: DavFileSystem> Watched<'a, F> {
         }
     }
 
-    // Whether a call answers what it should; one that is refused for memory changes nothing, and is made once more.
+    // Makes a call, and returns whether it answers what it should. One that is refused because memory ran out must
+    // change nothing, and is made once more.
     fn call(&mut self, rt: &impl Abort, alloc: Global, asked: Asked) -> FsResult<bool> {
         let before = self.seen(alloc);
         let answer = self.made(alloc, asked);
@@ -104,7 +106,7 @@ impl<'a, F: DavFileSystem> Watched<'a, F> {
         self.made(alloc, asked)
     }
 
-    // Makes a call: whether it answers what it should.
+    // Makes a call, and returns whether it answers what it should.
     fn made(&mut self, alloc: Global, asked: Asked) -> FsResult<bool> {
         match asked {
             Asked::MakeFolder | Asked::Rename | Asked::CopyFile => self.placed(alloc, asked),
@@ -188,7 +190,7 @@ impl<'a, F: DavFileSystem> Watched<'a, F> {
     }
 }
 
-// One property that is to be set.
+// A list with one property to set.
 fn to_set(alloc: Global, property: &DavProp) -> FsResult<Vec<(bool, DavProp)>> {
     set_one(alloc, property).map_err(|_| FsError::InsufficientStorage)
 }
@@ -199,7 +201,7 @@ fn set_one(alloc: Global, property: &DavProp) -> Result<Vec<(bool, DavProp)>, No
     Ok(patches)
 }
 
-// For reading and writing; made where nothing is there.
+// Opens for reading and writing; the file is created where nothing is there.
 fn to_make() -> OpenOptions {
     OpenOptions {
         read: true,
@@ -208,7 +210,7 @@ fn to_make() -> OpenOptions {
     }
 }
 
-// For writing; emptied.
+// Opens for writing; the file is emptied.
 fn to_empty() -> OpenOptions {
     OpenOptions {
         truncate: true,
@@ -310,7 +312,7 @@ fn store_goes_on_after_a_refusal(rt: HostRuntime) -> Result<(), Fail> {
     Ok(())
 }
 
-// What is seen of a list of locks: the lock that stands in the way of who has no token, at each of two paths.
+// A snapshot of a list of locks: the lock that conflicts with a requester without tokens, at each of two paths.
 type Held = Option<(Option<u64>, bool)>;
 
 fn held<L: DavLockSystem>(ls: &L, paths: &[DavPath; 2]) -> [Held; 2] {
@@ -318,7 +320,7 @@ fn held<L: DavLockSystem>(ls: &L, paths: &[DavPath; 2]) -> [Held; 2] {
     [held_at(ls, d), held_at(ls, f)]
 }
 
-// When a lock ends that stands in the way at a path or below it, and whether it is shared.
+// When the lock that conflicts at a path or below it ends, and whether it is shared.
 fn held_at<L: DavLockSystem>(ls: &L, path: &DavPath) -> Held {
     match ls.check(path, None, true, true, &[]) {
         Ok(()) => None,
@@ -326,8 +328,7 @@ fn held_at<L: DavLockSystem>(ls: &L, path: &DavPath) -> Held {
     }
 }
 
-// A call of a list of locks that takes memory: an exclusive lock, the locks on a path, a lock that is to last longer, a shared
-// lock.
+// A call of a list of locks that allocates: an exclusive lock, the locks on a path, a refresh, a shared lock.
 #[derive(Clone, Copy, Debug)]
 enum LockCall {
     Lock,
@@ -336,7 +337,7 @@ enum LockCall {
     Share,
 }
 
-// Makes a call: when the lock that it gives ends, or how many locks it lists. None where the call is refused.
+// Makes a call: when the lock that it returns ends, or how many locks it lists; `None` where the call is refused.
 fn made<L: DavLockSystem>(
     alloc: Global,
     ls: &mut L,
@@ -359,7 +360,8 @@ fn made<L: DavLockSystem>(
     }
 }
 
-// Whether a call is refused at first, and that it answers this then. One that is refused changes nothing.
+// Makes a call, and returns whether it was refused at first. A refused call must change nothing, and is made once
+// more.
 fn call<L: DavLockSystem>(
     rt: &impl Abort,
     alloc: Global,

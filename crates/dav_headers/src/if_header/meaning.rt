@@ -1,4 +1,4 @@
-//! What the texts in an If header mean: state tokens, entity tags and URLs of their own.
+//! What the texts in an If header mean: state tokens, entity tags and URLs, as owned values.
 ghost use Rattle.std.specs.Prelude.{◌≡◌, List, map, Option, IfOk, IsErrOf};
 ghost use Rattle.std.specs.List.{AllZip};
 ghost use Rattle.url.specs.Parts.{Parts};
@@ -14,7 +14,7 @@ use crate::etag::ETag;
 use std::alloc::Global;
 use url::{ParseError, Url};
 
-// A state token of these bytes.
+// The state token of these bytes.
 fn state_token(alloc: Global, bytes: &[u8]) -> Result<IfItem, HeaderError>
     ensures ok { IfOk result (λ i. SaysItem (written_token bytes.now) (item_value i)) }
     ensures invalid { IsErrOf result HeaderError.Invalid → (i : Item) → ¬ SaysItem (written_token bytes.now) i }
@@ -25,7 +25,7 @@ fn state_token(alloc: Global, bytes: &[u8]) -> Result<IfItem, HeaderError>
     Ok(IfItem::StateToken(String::from_str(alloc, text)?))
 }
 
-// The entity tag of this text.
+// The entity tag of these bytes.
 fn entity_tag(alloc: Global, bytes: &[u8]) -> Result<IfItem, HeaderError>
     ensures ok { IfOk result (λ i. SaysItem (written_tag bytes.now) (item_value i)) }
     ensures invalid { IsErrOf result HeaderError.Invalid → (i : Item) → ¬ SaysItem (written_tag bytes.now) i }
@@ -36,7 +36,7 @@ fn entity_tag(alloc: Global, bytes: &[u8]) -> Result<IfItem, HeaderError>
     Ok(IfItem::ETag(ETag::from_str(alloc, text)?))
 }
 
-// What the text of an item means.
+// The meaning of an item's text.
 fn meant_item(alloc: Global, item: ItemText<'_>) -> Result<IfItem, HeaderError>
     ensures ok { IfOk result (λ i. SaysItem (item_view item.entry) (item_value i)) }
     ensures invalid { IsErrOf result HeaderError.Invalid → (i : Item) → ¬ SaysItem (item_view item.entry) i }
@@ -47,7 +47,7 @@ fn meant_item(alloc: Global, item: ItemText<'_>) -> Result<IfItem, HeaderError>
     }
 }
 
-// What a condition means.
+// The meaning of a condition.
 fn meant_condition(alloc: Global, condition: ConditionText<'_>) -> Result<IfCondition, HeaderError>
     ensures ok { IfOk result (λ c. SaysCondition (condition_view condition.entry) (condition_value c)) }
     ensures invalid { IsErrOf result HeaderError.Invalid
@@ -60,7 +60,7 @@ fn meant_condition(alloc: Global, condition: ConditionText<'_>) -> Result<IfCond
     })
 }
 
-// What the conditions mean, in order.
+// The meanings of the conditions, in order.
 fn meant_conditions(
     alloc: Global,
     conditions: &[ConditionText<'_>],
@@ -91,7 +91,7 @@ fn resource(alloc: Global, bytes: &[u8]) -> Result<Url, HeaderError>
     }
 }
 
-// What the text of a resource tag means, where there is one.
+// The meaning of a resource tag, where there is one.
 fn meant_resource(alloc: Global, tag: Option<&[u8]>) -> Result<Option<Url>, HeaderError>
     ensures ok { IfOk result (λ u. SaysResource (resource_view tag.entry) u) }
     ensures invalid { IsErrOf result HeaderError.Invalid → (u : Option Parts) → ¬ SaysResource (resource_view tag.entry) u }
@@ -102,7 +102,7 @@ fn meant_resource(alloc: Global, tag: Option<&[u8]>) -> Result<Option<Url>, Head
     }
 }
 
-// What a list means.
+// The meaning of a list.
 fn meant_list(alloc: Global, list: &ListText<'_>) -> Result<IfList, HeaderError>
     ensures ok { IfOk result (λ l. SaysList (list_view list.now) (list_value l)) }
     ensures invalid { IsErrOf result HeaderError.Invalid → (l : ConditionList) → ¬ SaysList (list_view list.now) l }
@@ -115,7 +115,7 @@ fn meant_list(alloc: Global, list: &ListText<'_>) -> Result<IfList, HeaderError>
     })
 }
 
-/// What the lists mean, in order; `Invalid` where one of them means nothing.
+/// The meanings of the lists, in order; `Invalid` where one of them has none.
 pub(super) fn meant_lists(alloc: Global, lists: &[ListText<'_>]) -> Result<Vec<IfList>, HeaderError>
     ensures ok { IfOk result (λ v. AllZip SaysList (map list_view lists.now) (map list_value v.items)) }
     ensures invalid { IsErrOf result HeaderError.Invalid

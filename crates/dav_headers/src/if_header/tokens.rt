@@ -1,4 +1,4 @@
-//! Reads the tokens of an If header, which borrow its bytes.
+//! The tokens of an If header, which borrow its bytes.
 ghost use Rattle.std.specs.Prelude.{false, ◌≡◌, ◌<◌, ◌≤◌, ◌==◌, ℕ, List, map, length, Option, option_map, IfSome, IfOk, IsErrOf};
 ghost use Rattle.dav_headers.specs.IfTokens.{Token, Spells};
 ghost use Rattle.dav_headers.specs.IfTokenMachine.{is_blank, is_word_byte, skip, inside_len, split_inside, word_len, word_at, token_at};
@@ -7,7 +7,7 @@ ghost use Rattle.dav_headers.specs.IfParts.{part_view};
 use crate::errors::HeaderError;
 use std::alloc::Global;
 
-/// A token, whose text is lent by the value.
+/// A token, whose text is borrowed from the value.
 #[derive(Clone, Copy)]
 pub(super) enum Part<'a> {
     /// `(`
@@ -16,29 +16,29 @@ pub(super) enum Part<'a> {
     Close,
     /// `Not`
     Not,
-    /// What stands in `<>`.
+    /// What is in `<>`.
     Angle(&'a [u8]),
-    /// What stands in `[]`.
+    /// What is in `[]`.
     Square(&'a [u8]),
     /// A bare word.
     Word(&'a [u8]),
 }
 
-// Space, tab, CR or LF.
+// Whether a byte is white space: space, tab, CR or LF.
 fn is_blank(b: u8) -> bool
     ensures { result ≡ is_blank b }
 {
     b == b' ' || b == b'\t' || b == b'\r' || b == b'\n'
 }
 
-// A byte of a bare word.
+// Whether a byte may be in a bare word.
 fn is_word_byte(b: u8) -> bool
     ensures { result ≡ is_word_byte b }
 {
     b > b' ' && !matches!(b, b'<' | b'>' | b'(' | b')' | b'[' | b']')
 }
 
-// The text from its first byte that is no blank.
+// The text from its first byte on that isn't white space.
 fn skip(text: &[u8]) -> &[u8]
     ensures { result.now ≡ skip text.now }
 {
@@ -50,7 +50,7 @@ fn skip(text: &[u8]) -> &[u8]
     &[]
 }
 
-// How many bytes stand before the closing sign; none where a blank comes first, or no closing sign.
+// How many bytes are before the closing sign; `None` where white space comes first, or there is no closing sign.
 fn inside_len(text: &[u8], close: u8) -> Option<usize>
     ensures is { result ≡ inside_len close false text.now }
     ensures within { IfSome result (λ n. n < length text.now) }
@@ -70,7 +70,7 @@ fn inside_len(text: &[u8], close: u8) -> Option<usize>
     None
 }
 
-// What stands before the closing sign, and what follows it.
+// The bytes before the closing sign, and those after it.
 fn bracketed(text: &[u8], close: u8) -> Option<(&[u8], &[u8])>
     ensures is { option_map (λ x. (x.0.now, x.1.now)) result ≡ split_inside close text.now }
     ensures shorter { IfSome result (λ x. length x.1.now < length text.now) }
@@ -79,7 +79,7 @@ fn bracketed(text: &[u8], close: u8) -> Option<(&[u8], &[u8])>
     Some((&text[..n], &text[n + 1..]))
 }
 
-// How many bytes of a word stand at the front.
+// How many bytes of a bare word the text begins with.
 fn word_len(text: &[u8]) -> usize
     ensures is { result ≡ word_len text.now }
     ensures within { result ≤ length text.now }
@@ -92,7 +92,7 @@ fn word_len(text: &[u8]) -> usize
     text.len()
 }
 
-// The bare word at the front, and what follows it.
+// The bare word that the text begins with, and what follows it.
 fn word_at<'a>(text: &'a [u8]) -> Option<(Part<'a>, &'a [u8])>
     ensures is { option_map (λ x. (part_view x.0, x.1.now)) result ≡ word_at text.now }
     ensures shorter { IfSome result (λ x. length x.1.now < length text.now) }
@@ -104,7 +104,7 @@ fn word_at<'a>(text: &'a [u8]) -> Option<(Part<'a>, &'a [u8])>
     Some((Part::Word(&text[..n]), &text[n..]))
 }
 
-// The token at the front, and what follows it.
+// The token that the text begins with, and what follows it.
 fn token_at<'a>(text: &'a [u8]) -> Option<(Part<'a>, &'a [u8])>
     ensures is { option_map (λ x. (part_view x.0, x.1.now)) result ≡ token_at text.now }
     ensures shorter { IfSome result (λ x. length x.1.now < length text.now) }
@@ -125,7 +125,7 @@ fn token_at<'a>(text: &'a [u8]) -> Option<(Part<'a>, &'a [u8])>
     }
 }
 
-/// The tokens that a text spells; `Invalid` where it spells none.
+/// The tokens of a text; `Invalid` where it isn't made of tokens.
 pub(super) fn parts_of<'a>(alloc: Global, text: &'a [u8]) -> Result<Vec<Part<'a>>, HeaderError>
     ensures found { IfOk result (λ parts. Spells text.now (map part_view parts.items)) }
     ensures none { IsErrOf result HeaderError.Invalid → (ts : List Token) → ¬ Spells text.now ts }

@@ -1,4 +1,4 @@
-//! Reads lists of conditions from tokens, as they are written: they borrow the value's bytes.
+//! The lists of conditions that tokens are, as they are written: they borrow the value's bytes.
 ghost use Rattle.std.specs.Prelude.{◌≡◌, ◌<◌, ◌≤◌, ℕ, List, ◌∷◌, map, drop, length, Some, None, option_map, MatchOption, IfOk, IsErrOf};
 ghost use Rattle.dav_headers.specs.IfTokens.{negation};
 ghost use Rattle.dav_headers.specs.IfParts.{part_view};
@@ -9,14 +9,14 @@ use super::tokens::Part;
 use crate::errors::HeaderError;
 use std::alloc::Global;
 
-/// The text of an item.
+/// An item as it is written.
 #[derive(Clone, Copy)]
 pub(super) enum ItemText<'a> {
     StateToken(&'a [u8]),
     EntityTag(&'a [u8]),
 }
 
-/// An item, and whether `Not` stands before it.
+/// An item, and whether there is a `Not` before it.
 #[derive(Clone, Copy)]
 pub(super) struct ConditionText<'a> {
     pub(super) not: bool,
@@ -30,7 +30,7 @@ pub(super) struct ListText<'a> {
     pub(super) conditions: Vec<ConditionText<'a>>,
 }
 
-// The item that a token is.
+// A token as an item.
 fn item_of<'a>(part: Part<'a>) -> Option<ItemText<'a>>
     ensures { option_map item_view result ≡ item_at (part_view part.entry) }
 {
@@ -41,7 +41,7 @@ fn item_of<'a>(part: Part<'a>) -> Option<ItemText<'a>>
     }
 }
 
-// What stands behind a `Not`: the condition, or the end of the list, and how many tokens it takes with the `Not`.
+// What is after a `Not`: a condition, or the end of the list; and how many tokens it takes, with the `Not`.
 fn negated_at<'a>(parts: &[Part<'a>]) -> Option<(Option<ConditionText<'a>>, usize)>
     ensures { StepsAs (negation ∷ map part_view parts.now) result }
 {
@@ -55,7 +55,7 @@ fn negated_at<'a>(parts: &[Part<'a>]) -> Option<(Option<ConditionText<'a>>, usiz
     }
 }
 
-// The condition at the front, or the end of the list, and how many tokens it takes.
+// What the tokens begin with: a condition, or the end of the list; and how many tokens it takes.
 fn step_at<'a>(parts: &[Part<'a>]) -> Option<(Option<ConditionText<'a>>, usize)>
     ensures { StepsAs (map part_view parts.now) result }
 {
@@ -70,7 +70,7 @@ fn step_at<'a>(parts: &[Part<'a>]) -> Option<(Option<ConditionText<'a>>, usize)>
     }
 }
 
-// The conditions up to the end of the list, and how many tokens they take with it.
+// The conditions up to the end of the list, and how many tokens they take, with the end.
 fn conditions_of<'a>(
     alloc: Global,
     parts: &[Part<'a>],
@@ -93,7 +93,7 @@ fn conditions_of<'a>(
     }
 }
 
-// The resource tag of a list, and how many tokens stand before its first condition.
+// The resource tag of a list, and how many tokens are before its first condition.
 fn front_of<'a>(parts: &[Part<'a>]) -> Option<(Option<&'a [u8]>, usize)>
     ensures is { MatchOption result (front_at (map part_view parts.now) ≡ None)
         (λ x. (0 < x.1) × (x.1 ≤ length parts.now)
@@ -106,7 +106,7 @@ fn front_of<'a>(parts: &[Part<'a>]) -> Option<(Option<&'a [u8]>, usize)>
     }
 }
 
-// The list at the front, and how many tokens it takes.
+// The list that the tokens begin with, and how many tokens it takes.
 fn list_at<'a>(alloc: Global, parts: &[Part<'a>]) -> Result<(ListText<'a>, usize), HeaderError>
     ensures found { IfOk result (λ x. (0 < x.1) × (x.1 ≤ length parts.now)
         × ListAt (map part_view parts.now) (list_view x.0) (drop x.1 (map part_view parts.now))) }
@@ -128,7 +128,7 @@ fn list_at<'a>(alloc: Global, parts: &[Part<'a>]) -> Result<(ListText<'a>, usize
     ))
 }
 
-/// The lists that tokens are; `Invalid` where they are none.
+/// The lists that the tokens are; `Invalid` where they aren't lists.
 pub(super) fn lists_of<'a>(
     alloc: Global,
     parts: &[Part<'a>],

@@ -1,12 +1,12 @@
-//! Tags and headers that are made of texts, as they are written.
+//! Tags and headers made from texts, as they are written.
 use super::*;
 use crate::etag_list::ETagList;
 use http_header::HeaderValue;
 use std::process::Abort;
 use std::str;
 
-// A row: what is made, a text between bars, ` -> `, and the outcome: `!` where it is refused, else what is written. `tag` is read of
-// the whole text of a tag, and `weak-tag` and `strong-tag` have the text between their quotes.
+// A row: what is made, a text between bars, ` -> `, and the outcome: what is written, or `!` for a refusal. `tag`
+// parses the text of a whole tag; `weak-tag` and `strong-tag` take the text between the quotes.
 const ROWS: &str = r##"
 # Tags of the text between their quotes
 weak-tag |12345| -> W/"12345" is weak
@@ -69,7 +69,7 @@ fn if_match(alloc: Global, text: &str) -> Result<IfMatch, HeaderError> {
     Ok(IfMatch(ETagList::Tags(tags)))
 }
 
-// What is written of a header that is made of a text.
+// What is written for a header made from a text.
 fn header_value(alloc: Global, name: &str, text: &str) -> Result<HeaderValue, HeaderError> {
     match name {
         "etag" => ETag::new(alloc, false, text)?.encode(alloc),
@@ -83,7 +83,7 @@ fn header_value(alloc: Global, name: &str, text: &str) -> Result<HeaderValue, He
     }
 }
 
-// What is made of a text, as text.
+// What is made from a text, as text.
 fn made(alloc: Global, name: &str, text: &str) -> Result<String, HeaderError> {
     match name {
         "tag" => tag_text(alloc, ETag::from_str(alloc, text)?),
@@ -96,7 +96,7 @@ fn made(alloc: Global, name: &str, text: &str) -> Result<String, HeaderError> {
     }
 }
 
-// Plays a row; the test fails where the outcome isn't the wanted one.
+// Plays a row; the test fails where the outcome isn't the expected one.
 fn play(rt: &impl Abort, alloc: Global, row: &str) -> Result<(), Fail> {
     let (name, text, wanted) = parts(row).ok_or("a line is no row")?;
     let text = text.strip_suffix('|').ok_or("a row has no text")?;

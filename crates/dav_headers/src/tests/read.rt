@@ -4,9 +4,10 @@ use http_header::HeaderValue;
 use std::fmt::Debug;
 use std::process::Abort;
 
-// A row: the names of headers with `+` between them, their values with a bar before, between and after them (a bar alone
-// where there are none), ` -> `, and the outcome: `!` where the values are refused, else what is written again between bars.
-// Its fields follow where they are shown as another text. An If is never written: its lists are shown instead.
+// A row: the names of headers with `+` between them, their values with a bar before, between and after them (a single
+// bar where there are none), ` -> `, and the outcome: what is written again between bars, or `!` where the values are
+// refused. The header's fields follow where they differ from the text. An If is never written: its lists are printed
+// instead.
 const ROWS: &str = r##"
 # Depth
 depth |0| -> |0| Zero
@@ -331,7 +332,7 @@ fn copy_of<T: Clone + PartialEq + Drop>(header: T) -> Result<T, HeaderError> {
     }
 }
 
-// What is written of a copy of the header that the values are.
+// What is written for a copy of the header in these values.
 fn written_again(
     alloc: Global,
     name: &str,
@@ -353,7 +354,7 @@ fn written_again(
     }
 }
 
-// The same of a header that is a list, or a tag.
+// The same for a header that is a list, or a tag.
 fn list_written_again(
     alloc: Global,
     name: &str,
@@ -365,17 +366,17 @@ fn list_written_again(
         "if-match" => IfMatch::decode(alloc, values)?.clone()?.encode(alloc),
         "if-none-match" => IfNoneMatch::decode(alloc, values)?.clone()?.encode(alloc),
         "if-range" => IfRange::decode(alloc, values)?.clone()?.encode(alloc),
-        // No header has this name; no row wants this error.
+        // No header has this name; no row expects this error.
         _ => Err(HeaderError::Memory),
     }
 }
 
-// The fields of a header.
+// The fields of a header, as text.
 fn fields_of<T: Debug + Drop>(alloc: Global, header: T) -> Result<String, HeaderError> {
     Ok(format!(in alloc; "{header:?}")?)
 }
 
-// The fields of the header that the values are: the text alone of one that is a text, and nothing of a list of tags.
+// The fields of the header in these values: the text alone of one that is a text, and nothing for a list of tags.
 fn fields(alloc: Global, name: &str, values: &[HeaderValue]) -> Result<String, HeaderError> {
     match name {
         "depth" => fields_of(alloc, Depth::decode(alloc, values)?),
@@ -404,7 +405,7 @@ fn languages(alloc: Global, header: ContentLanguage) -> Result<String, HeaderErr
     Ok(languages)
 }
 
-// A text between bars, and the fields after it where they are others than the text.
+// A text between bars, and the fields after it where they differ from the text.
 fn shown(alloc: Global, text: &str, fields: &str) -> Result<String, AllocError> {
     let mut shown = String::from_str(alloc, "|")?;
     shown.push_str(text)?;
@@ -453,7 +454,7 @@ fn push_list(text: &mut String, list: &IfList) -> Result<(), AllocError> {
     text.push(';')
 }
 
-// Plays a row with each of its names; the test fails where an outcome isn't the wanted one.
+// Plays a row with each of its names; the test fails where an outcome isn't the expected one.
 fn play(rt: &impl Abort, alloc: Global, row: &str) -> Result<(), Fail> {
     let (names, texts, wanted) = parts(row).ok_or("a line is no row")?;
     let values = values_of(alloc, texts)?;

@@ -73,7 +73,7 @@ null -> !
 {"requests":[{"head":"FOO / HTTP/1.1\r\n\r\n"},{"head":"","moment":1.5}]} -> !
 "##;
 
-// The status of a script that is played on a new store, and what it writes.
+// The status of a script that is played on a new server, and what it writes.
 pub(crate) fn played(alloc: Global, script: &[u8]) -> (u8, Vec<u8>) {
     let mut input = script;
     let mut output = Vec::new(alloc);
@@ -81,12 +81,12 @@ pub(crate) fn played(alloc: Global, script: &[u8]) -> (u8, Vec<u8>) {
     (status, output)
 }
 
-// How many lines end in some bytes.
+// How many newlines there are in some bytes.
 fn count_lines(alloc: Global, bytes: &[u8]) -> Result<usize, AllocError> {
     Ok(String::from_utf8_lossy(alloc, bytes)?.matches('\n').count())
 }
 
-// What a row says of a script.
+// The outcome of a script, as its row has it.
 fn outcome(alloc: Global, script: &str) -> Result<String, AllocError> {
     let (status, output) = played(alloc, script.as_bytes());
     if status == NOT_SCRIPT && output.is_empty() {
@@ -128,7 +128,7 @@ fn refuses_bytes_that_are_no_text(rt: HostRuntime) {
     );
 }
 
-// A text of `count` bytes that begins with a script and goes on with blanks.
+// A text of `count` bytes that begins with a script and goes on with spaces.
 fn padded(alloc: Global, count: usize) -> Result<Vec<u8>, AllocError> {
     let mut text = Vec::from_slice(alloc, br#"{"requests":[]}"#)?;
     text.resize(count, b' ')?;
@@ -147,7 +147,7 @@ fn bounds_the_length(rt: HostRuntime) -> Result<(), AllocError> {
     Ok(())
 }
 
-// A script whose first member, over which the second one counts, is `count` lists in one another.
+// A script with two members `requests`: the first is `count` nested lists, and the second one counts.
 fn nested(alloc: Global, count: usize) -> Result<String, AllocError> {
     let mut text = String::from_str(alloc, r#"{"requests":"#)?;
     for _ in 0..count {
@@ -176,7 +176,7 @@ fn bounds_the_nesting(rt: HostRuntime) -> Result<(), AllocError> {
 const TWO_REQUESTS: &str =
     r#"{"requests":[{"head":"FOO / HTTP/1.1\r\n\r\n"},{"head":"FOO / HTTP/1.1\r\n\r\n"}]}"#;
 
-// A reader that gives bytes and then fails.
+// A reader that returns some bytes and then fails.
 #[derive(Drop)]
 struct BrokenReader<'a> {
     rest: &'a [u8],
@@ -191,7 +191,7 @@ impl Read for BrokenReader<'_> {
     }
 }
 
-// A writer that takes some writes and then fails.
+// A writer that accepts some writes and then fails.
 #[derive(Drop)]
 struct BrokenWriter {
     writes_left: usize,

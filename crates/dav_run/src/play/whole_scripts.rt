@@ -1,7 +1,7 @@
 //! Whole scripts as text: each is played on a new server, and writes exactly the lines that follow it.
 //!
-//! A row is a line `# TITLE`, a line with the script, which can be copied into a file for `./play`, and the lines that are
-//! written; a last line `status N` where the exit status isn't 0.
+//! A row is a line `# TITLE`, a line with the script, which can be copied into a file for `./play`, and the lines
+//! that are written, with a last line `status N` where the exit status isn't 0.
 use super::tests::played;
 use super::*;
 use crate::asserting::same_outcome;
@@ -131,7 +131,7 @@ const SERVERS: &str = r##"
 {"body":null,"headers":{"content-length":"0"},"status":405}
 "##;
 
-// What a script writes, and as a last line its status where that isn't 0.
+// What a script writes, with its status as a last line where that isn't 0.
 fn outcome(alloc: Global, script: &str) -> Result<String, AllocError> {
     let (status, output) = played(alloc, script.as_bytes());
     let mut outcome = String::from_utf8_lossy(alloc, &output)?;

@@ -2,8 +2,8 @@ use super::*;
 use crate::asserting::{rows_of, same_outcome};
 use dav_core::method::DavMethod;
 
-// Texts, and the script that each spells: what the server is set up with, and then of each request its four parts; `!` where
-// it spells none.
+// Texts, and the script that each is: the server's settings, and then the four parts of each request; `!` where it
+// isn't a script.
 const SCRIPTS: &str = r##"# What is left out.
 {"requests":[{"head":"GET /"}]} -> prefix= methods=all next=1 head=GET / body=none moment=0 refuse=[]
 # Prefixes. Whether a server takes the prefix isn't checked.
@@ -93,7 +93,7 @@ fn set_name(methods: DavMethodSet) -> &'static str {
     }
 }
 
-// A request as a row spells it.
+// A request as its row has it.
 fn spelled_request(alloc: Global, request: &Request) -> Result<String, AllocError> {
     let head = String::from_utf8_lossy(alloc, &request.head)?;
     let body = match &request.body {
@@ -105,7 +105,7 @@ fn spelled_request(alloc: Global, request: &Request) -> Result<String, AllocErro
     format!(in alloc; " head={head} body={body} moment={moment} refuse={refusals:?}")
 }
 
-// A script as a row spells it.
+// A script as its row has it.
 fn spelled(alloc: Global, script: &Script) -> Result<String, AllocError> {
     let (prefix, methods, next) = (&script.prefix, set_name(script.methods), script.next);
     let mut text = format!(in alloc; "prefix={prefix} methods={methods} next={next}")?;
@@ -116,7 +116,7 @@ fn spelled(alloc: Global, script: &Script) -> Result<String, AllocError> {
     Ok(text)
 }
 
-// What a row says of a text.
+// The outcome of reading a text, as its row has it.
 fn outcome(alloc: Global, text: &str) -> Result<String, AllocError> {
     match Script::from_bytes(alloc, text.as_bytes()) {
         Ok(script) => spelled(alloc, &script),

@@ -1,4 +1,4 @@
-//! `MemFs` is a file store: each call is answered as it means.
+//! `MemFs` as a `DavFileSystem`: each call is answered as it means.
 use super::{MemEntry, MemFile, MemFs};
 use bytes::{Buf, Bytes};
 use dav_core::davpath::DavPath;

@@ -1,7 +1,9 @@
-//! Calls of a store as rows. What each answers was worked out by hand from RFC 4918 and the docstrings of the calls.
+//! Calls of a store as rows. The expected answers were worked out by hand from RFC 4918 and the docstrings of the
+//! calls.
 //!
-//! A line `# title` begins a new store. Each other line is a call and, after ` -> `, its answer: `ok`, the name of an error, or what the
-//! call gives. `open` opens the one file that `write`, `read` and the like speak of; a folder in a listing ends in a slash.
+//! A line `# title` begins a new store. Each other line is a call and, after ` -> `, its answer: `ok`, the name of an
+//! error, or what the call returns. `open` opens the one file that `write`, `read` and the like use; a folder in a
+//! listing ends in a slash.
 ghost use Rattle.std.specs.Prelude.{◌<◌};
 
 use super::*;
@@ -92,7 +94,7 @@ set_modified / 1 -> NotImplemented
 link / -> folder, number 0, created 0, modified 0
 "##;
 
-// A store on which rows are played, with one open file, the entries that were listed last, and a property.
+// The store that rows are played on, with one open file, the entries that were listed last, and a property.
 #[derive(Drop)]
 struct Played<F: DavFileSystem> {
     fs: F,
@@ -101,7 +103,7 @@ struct Played<F: DavFileSystem> {
     property: DavProp,
 }
 
-// A row: the name of a call and what it is handed.
+// A row: the name of a call and its arguments.
 type Row<'a> = [&'a str; 4];
 
 fn row(line: &str) -> Row<'_> {
@@ -111,7 +113,7 @@ fn row(line: &str) -> Row<'_> {
     [call, first, second, third]
 }
 
-// A text of one's own; no row asks for one that memory has no room for.
+// An owned text; no row expects the error for memory.
 fn text(alloc: Global, text: &str) -> FsResult<String> {
     String::from_str(alloc, text).map_err(|_| FsError::InsufficientStorage)
 }
@@ -142,7 +144,7 @@ fn options(words: &str) -> OpenOptions {
     options
 }
 
-// What is said of a file or folder.
+// The metadata of a file or folder, as text.
 fn shown(alloc: Global, found: &DavMetaData) -> FsResult<String> {
     let number = found.number.unwrap_or(u64::MAX);
     let (created, modified) = (found.created, found.modified);
@@ -175,7 +177,7 @@ fn readable(alloc: Global, bytes: &[u8]) -> FsResult<String> {
 }
 
 impl<F: DavFileSystem> Played<F> {
-    // Makes the call of a row, and says what it answers.
+    // Makes the call of a row, and returns its answer as text.
     fn play(&mut self, alloc: Global, row: Row<'_>) -> FsResult<String> {
         match row[0] {
             "mkdir" | "rmdir" | "remove" | "rename" | "copy" => self.change(alloc, row),
@@ -350,7 +352,7 @@ fn place(from: &str, count: &str) -> SeekFrom {
     }
 }
 
-// One change of a property.
+// A list with one change of a property.
 fn patches(
     alloc: Global,
     is_set: bool,
@@ -361,7 +363,7 @@ fn patches(
     Ok(patches)
 }
 
-// What a change of a property is answered.
+// The answer to a change of a property, as text.
 fn answered(alloc: Global, status: StatusCode, property: &DavProp) -> FsResult<String> {
     let xml = if property.xml.is_none() {
         "without xml"
@@ -382,7 +384,7 @@ fn begun(alloc: Global, next: u64) -> Result<Played<MemFs>, Fail> {
     })
 }
 
-// Sees that a call answers what its row says.
+// Asserts that a call answers what its row says.
 fn check(rt: &impl Abort, alloc: Global, line: &str, answer: FsResult<String>) -> Result<(), Fail> {
     let (_, wanted) = line.split_once(" ->").unwrap_or((line, " no answer"));
     let found = match answer {
@@ -393,7 +395,7 @@ fn check(rt: &impl Abort, alloc: Global, line: &str, answer: FsResult<String>) -
     Ok(())
 }
 
-// Makes the call of a row that is about whole stores, or has the store make it.
+// Makes the call of a row: here, where it is about whole stores, and else on the store.
 fn play(
     alloc: Global,
     played: &mut Played<MemFs>,

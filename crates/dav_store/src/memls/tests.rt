@@ -1,7 +1,8 @@
-//! Calls of a list of locks as rows. What each answers was worked out by hand from RFC 4918, sections 6, 7 and 9.10.
+//! Calls of a list of locks as rows. The expected answers were worked out by hand from RFC 4918, sections 6, 7 and
+//! 9.10.
 //!
-//! A line `# title` begins a new list. Each other line is a call and, after ` -> `, its answer: `ok`, a refusal, or what the call gives.
-//! A lock is asked for at second 100, for 60 seconds where it is timed.
+//! A line `# title` begins a new list. Each other line is a call and, after ` -> `, its answer: `ok`, a refusal, or
+//! what the call returns. Locks are requested at second 100, for 60 seconds where they are timed.
 use super::*;
 use std::test::Fail;
 
@@ -28,7 +29,7 @@ lock /a/b shared,infinite t3 -> never ends
 discover /a/b/c -> t2 t1 t3
 "##;
 
-// A row: the name of a call and what it is handed.
+// A row: the name of a call and its arguments.
 type Row<'a> = [&'a str; 5];
 
 fn row(line: &str) -> Row<'_> {
@@ -43,7 +44,7 @@ fn has_word(words: &str, sought: &str) -> bool {
     words.split(',').any(|word| word == sought)
 }
 
-// Makes the call of a row, and says what it answers.
+// Makes the call of a row, and returns its answer as text.
 fn play(alloc: Global, ls: &mut MemLs, row: Row<'_>) -> Result<String, Fail> {
     let at = DavPath::new(alloc, row[1])?;
     let done = match row[0] {
@@ -95,7 +96,7 @@ fn refresh(alloc: Global, ls: &mut MemLs, at: &DavPath, row: Row<'_>) -> Result<
     })
 }
 
-// What a check by someone who submits t1 answers: the token of the lock that conflicts, if one does.
+// The answer to a check where t1 is submitted: the token of the lock that conflicts, if one does.
 fn check(alloc: Global, ls: &MemLs, at: &DavPath, row: Row<'_>) -> Result<String, Fail> {
     let mut tokens = Vec::new(alloc);
     tokens.push(String::from_str(alloc, "t1")?)?;

@@ -4,7 +4,7 @@ use Rattle.dav_core.specs.Path.{names}
 use Rattle.dav_core.specs.World.{graft, prune}
 use Rattle.dav_store.proofs.entries.part.Given as goal
 
--- what is parted and what is left are all, and there is room
+-- what was split and what is left are all, and there is room
 abbrev pub invariant-loop-path : goal.invariant-loop-path
 invariant-loop-path l = record {
   keys : reverse l.keys.items ≡ map (λ e. e.0) (graft (names l.from) (names l.to) (reverse l.old.items));

@@ -3,7 +3,7 @@ use Rattle.std.specs.Vec.{vec_capacity}
 use Rattle.dav_core.specs.World.{union}
 use Rattle.dav_store.proofs.entries.put_all.Given as goal
 
--- what is put and what is left are all, and there is room
+-- what was put and what is left are all, and there is room
 abbrev pub invariant-loop-path : goal.invariant-loop-path
 invariant-loop-path l =
     (union l.nodes.items l.entries.items ≡ union l.fn.nodes.items l.fn.entries.items)

@@ -4,7 +4,7 @@ use Rattle.dav_core.specs.World.{members}
 use Rattle.dav_store.specs.Listing.{member_of}
 use Rattle.dav_store.proofs.memfs.list.Given as goal
 
--- what is listed and what is left are all
+-- what was listed and what is left are all
 abbrev pub invariant-loop-e : goal.invariant-loop-e
 invariant-loop-e l =
     (map member_of l.list.items ++ members (names l.path) (drop l.e-index l.entries) ≡ members (names l.path) l.entries)

@@ -3,6 +3,6 @@ use Rattle.dav_core.specs.Path.{names}
 use Rattle.dav_core.specs.Locks.{is_named}
 use Rattle.dav_store.proofs.memls.named_place.Given as goal
 
--- no shorter front has a lock that is named
+-- no shorter front has a lock with this token
 abbrev pub invariant-loop-len : goal.invariant-loop-len
 invariant-loop-len l = (k : ℕ) → k < l.len → position (is_named l.token (take k (names l.path))) l.locks ≡ None
