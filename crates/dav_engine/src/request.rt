@@ -1,4 +1,4 @@
-//! What the methods are handed.
+//! What the methods are handed: requests and their bodies.
 
 use bytes::Bytes;
 use dav_core::davpath::DavPath;

@@ -19,7 +19,7 @@ fn shown(alloc: Global, headers: &HeaderMap) -> Result<String, Fail> {
     Ok(out)
 }
 
-// The status of each answer to an error, its headers, and whether it has no body.
+// The status of the reply to an error, its headers, and whether it has no body.
 const ERROR_ROWS: &str = "
 501 content-length: 0; true
 423 content-length: 0; true
@@ -30,7 +30,7 @@ const ERROR_ROWS: &str = "
 507 content-length: 0; true
 ";
 
-// The answer to an error as a row.
+// The reply to an error as a row.
 fn error_row(alloc: Global, error: DavError) -> Result<String, Fail> {
     let reply = Reply::of_error(alloc, error)?;
     let headers = shown(alloc, &reply.headers)?;

@@ -93,7 +93,7 @@ fn lock(
     Ok(granted.is_ok())
 }
 
-/// Asks for such a lock for anna; the answer in words.
+/// Requests such a lock for anna; the answer as text.
 pub(super) fn lock_for_anna(
     alloc: Global,
     ls: &mut Option<MemLs>,
