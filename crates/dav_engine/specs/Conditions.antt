@@ -165,7 +165,8 @@ abbrev pub if_holds : Option (List Addressed) → Method Bool
 if_holds None = gives true
 if_holds (Some ls) = some_holds ls
 
--- the state tokens that are submitted: all tokens of the lists in order, whatever held (RFC 4918, section 10.4.1)
+-- the state tokens that are submitted: all tokens of the lists in order, whether or not the lists hold (RFC 4918, section
+-- 10.4.1)
 abbrev pub submitted : Option (List Addressed) → List (List ℕ)
 submitted None = []
 submitted (Some ls) = flat_map (λ l. flat_map (λ c. tokens_in c.item) l.conditions) ls

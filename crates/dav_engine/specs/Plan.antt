@@ -9,13 +9,13 @@ use Rattle.dav_core.specs.Locks.{Lock}
 abbrev pub Locks : Type 0
 Locks = Option (List Lock)
 
--- the list after it was set; without a lock system there is none to set
+-- the list after it was set; without a lock system there is no list
 abbrev pub kept : Locks → List Lock → Locks
 kept None locks = None
 kept (Some old) locks = Some locks
 
--- A plan: it is done, with an outcome; or it makes a store call, and goes on by the answer; or it reads the list of locks,
--- and goes on by it; or it sets the list, and goes on.
+-- A plan: it is done, with an outcome; or it makes a store call, and its answer decides how it goes on; or it reads the
+-- list of locks, which decides how it goes on; or it sets the list, and goes on.
 pub data Plan (A : Type 0) : Type 0 where
   Done : A → Plan A
   Ask : (call : Call) → (Result (Answer call) FsError → Plan A) → Plan A

@@ -12,8 +12,8 @@ use Rattle.dav_engine.specs.Response.{Response}
 abbrev pub ample : World → List (Option FsError) → StoreState
 ample w refusals = record { world = w; refusals = refusals; short = false }
 
--- Where the store never ran out of memory, a plan is determined: its outcome, and the store and the list of locks that it
--- leaves.
+-- Where the store never ran out of memory, the outcome of a plan is determined, and so are the store and the list of locks
+-- that it leaves.
 abbrev pub PlansAreDetermined : Type 0
 PlansAreDetermined =
     (plan : Method Response) (old s t : StoreState) (ls ks ms : Locks) (a b : Result Response DavError)
@@ -27,8 +27,8 @@ PlansEnd =
     (plan : Method Response) (old : StoreState) (ls : Locks)
     → (a : Result Response DavError) × (new : StoreState) × (ms : Locks) × Ran Asks plan old ls a new ms × (new.short ≡ old.short)
 
--- Out of memory in the store is like refusals: under some list of refusals, the plan has the same outcome with memory
--- enough.
+-- A store that runs out of memory is like one that refuses calls: under some list of refusals, the plan has the same
+-- outcome and leaves the same world and list of locks in a store with memory enough.
 abbrev pub WantIsLikeRefusals : Type 0
 WantIsLikeRefusals =
     (plan : Method Response) (old new : StoreState) (ls ms : Locks) (a : Result Response DavError)

@@ -140,7 +140,8 @@ abbrev pub written_by : DavMethod → PutHeaders → Option DavMetaData → Resu
 written_by Patch h found = if h.is_partial then updates h.announced h.update found else Err (dav.StatusClose 415)
 written_by _ h found = Ok (record { from = None; appends = false; announced = h.announced })
 
--- n bytes from a place on: n has to be the announced length, where there is one; else n is announced, where it is below 2^64
+-- n bytes from a place on: n has to be the announced length, where there is one; else n is announced, and has to be below
+-- 2^64
 abbrev pub placed : ℕ → ℕ → Writing → Option ℕ → Result Writing DavError
 placed first n w None = if nat_lt max_u64 n then Err unsatisfiable else Ok (record w { from = Some first; announced = Some n })
 placed first n w (Some k) = if n == k then Ok (record w { from = Some first }) else Err unsatisfiable

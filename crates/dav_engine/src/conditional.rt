@@ -393,8 +393,8 @@ impl Conditions {
     }
 
     /// The status that the conditions answer, with If evaluated first (RFC 4918, section 10.4; RFC 9110, section 13.2): 412
-    /// where If or If-Match doesn't hold; where If-None-Match doesn't, 304 for GET and HEAD, else 412. For an entity tag of
-    /// If the store is asked once.
+    /// where If or If-Match doesn't hold; where If-None-Match doesn't, 304 for GET and HEAD, else 412. Each entity tag of
+    /// If that is evaluated asks the store once.
     pub fn if_match<F: DavFileSystem, L: DavLockSystem>(
         &self,
         alloc: Global,
@@ -450,7 +450,7 @@ pub fn http_if_match(
 }
 
 /// Whether the If header of a request holds (RFC 4918, section 10.4), and the tokens that it submits: those of all its
-/// lists, in order, whatever held. Without the header the answer is yes, with no tokens.
+/// lists, in order, whether or not they hold. Without the header the answer is yes, with no tokens.
 pub fn dav_if_match<F: DavFileSystem, L: DavLockSystem>(
     alloc: Global,
     request: &DavRequest,

@@ -14,7 +14,7 @@ pub struct Caller<'c> {
     pub token: Option<&'c str>,
 }
 
-/// One request while it is answered, on a borrowed store and borrowed locks. The methods of a server are functions of it.
+/// One request while it is answered, on a borrowed store and borrowed locks. The methods of a server are its functions.
 #[derive(Drop)]
 pub struct DavInner<'a, 'b, 'c, F, L> {
     /// The store.

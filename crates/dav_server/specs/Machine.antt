@@ -50,7 +50,7 @@ taken_by PropPatch = TakesTree
 taken_by Lock = TakesTree
 taken_by _ = TakesNone
 
--- a tree of at most 64 levels of nested elements; 400 for one of more
+-- a tree of at most 64 levels of nested elements; 400 for a tree of more levels
 abbrev pub given_tree : ElementTree → Result Body DavError
 given_tree tree = if nat_lt 64 (depth_of tree) then Err (dav.Status 400) else Ok (body.Tree tree)
 
@@ -108,8 +108,8 @@ pub data Means (s : Settings) (x : Asked) : Method Response → Type 0 where
   no_method : (r : Request) (e : DavError) → IsHead x.head r → GivesServed r.method (Err e) → Means s x (fails e)
   known : (r : Request) (m : DavMethod) {plan : Method Response} → IsHead x.head r → GivesServed r.method (Ok m) → MeansOf s x r m plan → Means s x plan
 
--- One step of the machine over stores that answer each call by this relation: the reply to a request, and the store and the list of
--- locks that it leaves.
+-- One step of the machine over stores that answer each call by this relation: the reply to a request, and the store and the
+-- list of locks that it leaves.
 pub data StepsBy (step : Step) (s : Settings) (x : Asked) (old : StoreState) (ls : Locks) : Response → StoreState → Locks → Type 0 where
   steps : (plan : Method Response) (outcome : Result Response DavError) {new : StoreState} {ms : Locks}
       → Means s x plan → Ran step plan old ls outcome new ms → StepsBy step s x old ls (reply_to outcome) new ms
@@ -118,8 +118,8 @@ pub data StepsBy (step : Step) (s : Settings) (x : Asked) (old : StoreState) (ls
 abbrev pub Steps : Settings → Asked → StoreState → Locks → Response → StoreState → Locks → Type 0
 Steps = StepsBy Asks
 
--- Memory ran out in a step: nothing was done, or the first calls of its plan were made, each of them whole. The list of locks is
--- as before, or as the plan leaves it where each later call is refused.
+-- Memory ran out in a step: nothing was done, or the first calls of its plan were made, each of them whole. The list of
+-- locks is as before, or as the plan leaves it where each later call is refused.
 pub data StepCutBy (step : Step) (s : Settings) (x : Asked) (old : StoreState) (ls : Locks) : StoreState → Locks → Type 0 where
   untouched : StepCutBy step s x old ls old ls
   cut : (plan : Method Response) {new : StoreState} {ms : Locks} → Means s x plan → Cut step ls plan old ls new ms → StepCutBy step s x old ls new ms

@@ -9,8 +9,8 @@ pub record BehindList (F : Type 0) : Type 0 where
   pub inner : F
   pub coming : List (Option FsError)
 
--- The refusals to come where a list is before those of a store. A call that the list refuses doesn't reach the store, and
--- so uses up none of the store's own refusals.
+-- The refusals to come of a store that has a list before its own refusals. A call that the list refuses doesn't reach the
+-- store, and so uses up none of the store's own refusals.
 abbrev pub over : List (Option FsError) → List (Option FsError) → List (Option FsError)
 over [] inner = inner
 over (Some e ∷ list) inner = Some e ∷ over list inner

@@ -16,8 +16,8 @@ abbrev pub begun : Option (List (Option FsError)) → StoreState → StoreState
 begun None s = s
 begun (Some refusals) s = record s { refusals = refusals }
 
--- A run of the machine over stores that answer each call by this relation: the replies to the requests, one step after another, and
--- the store and the list of locks that are left.
+-- A run of the machine over stores that answer each call by this relation: the replies to the requests, one step after
+-- another, and the store and the list of locks that are left.
 pub data RunsBy (step : Step) (s : Settings) : List Turn → StoreState → Locks → List Response → StoreState → Locks → Type 0 where
   no_more : {old : StoreState} {ls : Locks} → RunsBy step s [] old ls [] old ls
   one_more : {t : Turn} {ts : List Turn} {old mid new : StoreState} {ls ks ms : Locks} {reply : Response} {replies : List Response}

@@ -122,8 +122,8 @@ fn is_prefix(alloc: Global, text: &str) -> Result<bool, NoMemory>
 impl<F: DavFileSystem + Drop, L: DavLockSystem + Drop> DavHandler<F, L> {
     /// A handler of a store, and of locks where there is a lock system, for the paths below a prefix and the methods that
     /// are allowed. `BadPrefix` for a prefix that isn't empty and isn't a text that begins with a slash and that
-    /// `DavPath::new` keeps byte for byte; `Memory` where memory runs out, and not for a text that begins with another
-    /// byte. A refusal drops the store and the locks.
+    /// `DavPath::new` keeps byte for byte; `Memory` where memory runs out, never for a text that begins with another byte.
+    /// A refusal drops the store and the locks.
     pub fn new(
         alloc: Global,
         prefix: &str,
@@ -335,7 +335,8 @@ impl<F: DavFileSystem, L: DavLockSystem> DavHandler<F, L> {
         self.ls.as_ref()
     }
 
-    /// Answers a request: the reply, the store and the locks are those of one step of the machine, from the bytes of the head on.
+    /// Answers a request: the reply, the store and the locks are those of one step of the machine, from the bytes of the
+    /// head on.
     ///
     /// `NoMemory` where memory ran out outside the store: then each call of the store that was made is whole, and the locks
     /// are as before, or as the request leaves them where the store refuses each later call. The handler can still answer

@@ -125,7 +125,7 @@ fn show_or_tell<F: DavFileSystem>(
     }
 }
 
-// The answer for a status of the conditions.
+// The outcome of a request whose conditions answer a status.
 fn judged(alloc: Global, status: StatusCode, found: &DavMetaData) -> DavResult<Reply>
     ensures { (next : Method Response) (s : StoreState) → Makes response_of (spec.judged (Some status) found.now next) s result s }
 {

@@ -111,7 +111,7 @@ fn add(bytes: &mut Vec<u8>, byte: u8, rest: &[u8]) -> Result<(), AllocError> {
     bytes.extend_from_slice(rest)
 }
 
-// The byte that an escape stands for, and what follows it. The text begins after the backslash.
+// The byte that an escape denotes, and what follows it. The text begins after the backslash.
 fn escape(text: &[u8]) -> Option<(u8, &[u8])> {
     match text {
         [b'r', rest @ ..] => Some((b'\r', rest)),

@@ -25,7 +25,7 @@ use dav_store::memls::MemLs;
 use std::alloc::Global;
 
 /// A request, and which calls of the store are refused while it is answered: one entry for each call, an error where that
-/// call is refused. Past the end no call is.
+/// call is refused. Past the end of the list no call is refused.
 #[derive(Drop)]
 pub struct Step<'a> {
     /// The request.

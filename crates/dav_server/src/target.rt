@@ -18,9 +18,9 @@ use std::alloc::Global;
 /// The path that the target of a request names, cut after a prefix (a slash at the prefix's end doesn't count).
 ///
 /// `*` names the server, whatever the prefix (RFC 9110, section 9.3.7); for other methods than OPTIONS it is
-/// `Status(BAD_REQUEST)`. A target that begins with a slash names the path that `DavPath::new` reads. Any other has to be a
-/// URI with a scheme and an authority and without `#`; the path is read in what follows the authority, or in `/` where
-/// nothing does. Else it is `Status(BAD_REQUEST)`. `InvalidPath` and `ForbiddenPath` are those of `DavPath::new`;
+/// `Status(BAD_REQUEST)`. A target that begins with a slash names the path that `DavPath::new` reads. Any other target has
+/// to be a URI with a scheme and an authority and without `#`, or it is `Status(BAD_REQUEST)`; the path is read in what
+/// follows the authority, or in `/` where nothing does. `InvalidPath` and `ForbiddenPath` are those of `DavPath::new`;
 /// `IllegalPath` where the path isn't at or below the prefix.
 pub fn path_of(alloc: Global, method: DavMethod, target: &str, prefix: &str) -> DavResult<DavPath>
     ensures { GivesPath prefix.now method target.now result }

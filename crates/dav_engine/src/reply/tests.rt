@@ -57,8 +57,8 @@ fn answers_errors(rt: HostRuntime) -> Result<(), Fail> {
     Ok(())
 }
 
-// A row: what is set, and of what, ` -> `, and the headers that are set. The second moment is the one of RFC 9110's own example of
-// a date (section 5.6.7).
+// A row: what is set, and of what, ` -> `, and the headers that are set. The second moment is the one of RFC 9110's own
+// example of a date (section 5.6.7).
 const ROWS: &str = r##"
 # The validators of a file with a change number, at a time in seconds
 file |2|1| -> etag: "2"; last-modified: Thu, 01 Jan 1970 00:00:01 GMT;

@@ -1,5 +1,5 @@
-//! Each call of the engine by itself, over a store and locks in memory. What is expected was worked out by hand from RFC 9110 and
-//! RFC 4918.
+//! Each call of the engine by itself, over a store and locks in memory. What is expected was worked out by hand from RFC
+//! 9110 and RFC 4918.
 use super::tests::{lock_for_anna, shown};
 use super::*;
 use crate::rows::{NoRow, Player, play_rows};
