@@ -29,8 +29,8 @@ pub fn cuts_are_like_refusals()
     ensures { CutsAreLikeRefusals }
 {}
 
-/// Headers say one thing as conditions, and a PUT, PATCH or MKCOL has one plan at most: its headers, its path, its body and its
-/// client determine what it does (RFC 9110, section 9.3.4; RFC 4918, sections 9.3 and 10.4).
+/// Headers say one thing as conditions, and a PUT, PATCH or MKCOL has one plan at most: its headers, its path, its body and
+/// its client determine what it does (RFC 9110, section 9.3.4; RFC 4918, sections 9.3 and 10.4).
 pub fn requests_have_one_plan()
     ensures conditions { OneReadingOfConditions }
     ensures put { OnePutPlan }

@@ -29,7 +29,7 @@ pub fn runs_are_determined()
     ensures { RunsAreDetermined }
 {}
 
-/// Equal entity tags show equal bytes: from a world, in whatever run, under whatever refusals, where two GETs are answered with
+/// Equal entity tags show equal bytes: from a world, in any run and under any refusals, where two GETs are answered with
 /// one tag, at any paths and moments, they are answered with the same bytes (RFC 9110, section 8.8.1).
 pub fn tags_tell_bytes()
     ensures { TagsTellBytes }

@@ -20,8 +20,8 @@ pub(crate) trait Player {
     fn answer(&mut self, alloc: Global, question: &'static str) -> Result<Vec<u8>, Fail>;
 }
 
-/// Plays the rows. The test fails at the first row whose answer is another than expected, and where a line is no row or a title
-/// has no rows.
+/// Plays the rows. The test fails at the first row whose answer isn't the expected one, and where a line is no row or a
+/// title has no rows.
 pub(crate) fn play_rows<R: Abort + AllocGlobal, P: Player>(
     rt: &R,
     player: &mut P,

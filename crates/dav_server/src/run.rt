@@ -68,8 +68,8 @@ fn answer_next<F: DavFileSystem, L: DavLockSystem>(
 }
 
 impl<F: DavFileSystem, L: DavLockSystem> DavHandler<F, L> {
-    /// Answers requests, one after another: the replies, the store and the locks are those of the machine's run. From a world,
-    /// equal entity tags show equal bytes.
+    /// Answers requests, one after another: the replies, the store and the locks are those of a run of the machine. From a
+    /// world, equal entity tags show equal bytes.
     ///
     /// `RunFault` where memory ran out outside the store, with the replies that were given before; they are those of a run
     /// of the machine, and of the next request at most the first calls of the store were made, each of them whole.
