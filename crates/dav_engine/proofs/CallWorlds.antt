@@ -1,4 +1,4 @@
--- What each call does to a world, whatever it is answered.
+-- What each call does to a world, whatever its answer.
 use Rattle.std.proofs.Common.{◌≡◌, ℕ, ◌<◌, ◌≤◌, Bool, true, false, if◌then◌else◌, List, [], ◌∷◌, Option, Some, None, Result, Ok, Err, refl, sym, ap, subst, ◌∙◌, arith}
 use Rattle.dav_core.specs.declared.errors.FsError.{FsError}
 use Rattle.dav_core.specs.declared.errors.FsError.TheVariants.{NotFound, Forbidden, Exists}
@@ -51,7 +51,7 @@ if_left : {A : Type 0} (b : Bool) (m : Meaning A) (a : A) (w : World) (r : A × 
 if_left true m a w r is h = cc
 if_left false m a w r is h = left a w r h
 
--- a file that is neither made nor emptied
+-- opening a file that is neither made nor emptied leaves the world
 open_left : (w : World) (p : Path) (how : Opening) (now : ℕ) (o : Option Node) (r : Handle × World)
     → how.truncate ≡ false → how.create ≡ false → how.create_new ≡ false → open_at w p how now o ≡ Ok r → r.1 ≡ w
 open_left w p how now None r whole make only h = cc
@@ -91,7 +91,7 @@ reads_leave (Seek file to) w r only h =
 reads_leave (Flush file) w r only h = told_left w (file_made_with file.made w.nodes) _ r h
 reads_leave (FileMetadata file) w r only h = told_left w (file_made_with file.made w.nodes) _ r h
 
--- What an asked call did to a world: it failed, and the world stays; or it was answered as it means.
+-- What a call did to a world: it failed, and the world stays; or it was answered as it means.
 pub data Did {A : Type 0} (m : Meaning A) (w : World) (answer : Result A FsError) (new : World) : Type 0 where
   stays : (e : FsError) → answer ≡ Err e → new ≡ w → Did m w answer new
   means : (r : A × World) → m ≡ Ok r → answer ≡ Ok r.0 → new ≡ r.1 → Did m w answer new
@@ -160,6 +160,6 @@ did_keep : (c : Call) (w new : World) (answer : Result (Answer c) FsError) → I
 did_keep c w new answer proper world (stays e is same) = kept_same w new world same
 did_keep c w new answer proper world (means r h is after) = subst (Kept w) (sym after) (kept_call c w r proper world h)
 
--- a call that a caller may make, whatever it is answered
+-- a call that a caller may make keeps worlds, whatever its answer
 pub asks_keep : {c : Call} {old new : StoreState} {answer : Result (Answer c) FsError} → IsProper c → IsWorld old.world → Asks c old answer new → Kept old.world new.world
 asks_keep {c} {old} {new} {answer} proper world one = did_keep c old.world new.world answer proper world (did one)

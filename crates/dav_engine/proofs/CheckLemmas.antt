@@ -1,4 +1,4 @@
--- What the answer of a list of locks says: whether the path is free.
+-- What the answer of a list of locks says: whether the path isn't locked against the requester.
 use Rattle.std.proofs.Common.{◌≡◌, Bool, true, false, not, List, Option, Some, Result, Ok, Err, refl, sym, ◌∙◌}
 use Rattle.std.proofs.lemmas.List.Sums.{AllPass-from_list_all}
 use Rattle.std.proofs.lemmas.List.Elements.{All-contains}
@@ -11,20 +11,20 @@ use Rattle.dav_engine.specs.ConditionView.{locks_in}
 use Rattle.dav_engine.specs.Method.{is_open}
 use Rattle.dav_core.proofs.LockLemmas.{free_is_nothing_in_the_way}
 
--- a lock in the way of a list: not all are out of the way
+-- where a lock conflicts, not every lock is without conflict
 not_free : (free blocks : Bool) → blocks ≡ true → (free ≡ true → not blocks ≡ true) → free ≡ false
 not_free false blocks b f = refl
 not_free true true b f = sym (f refl)
 not_free true false b f = sym b
 
--- a check answers `Ok` exactly where the path is free
+-- a check answers `Ok` exactly where no lock conflicts
 pub answered : (deep : Bool) (who : Asker) (p : Path) (ls : List Lock) (r : Result (Unit {0}) (Bor Lock)) → Checks deep who p ls (lent r) → is_ok r ≡ is_free_for deep who p ls
 answered deep who p ls (Ok u) (free is) = sym is
 answered deep who p ls (Err l) (in_the_way here blocks) = sym (not_free (is_free_for deep who p ls) (is_in_the_way deep who p ls l.now) blocks (λ is.
     All-contains (λ m. not (is_in_the_way deep who p ls m) ≡ true) ls l.now
     (AllPass-from_list_all (λ m. not (is_in_the_way deep who p ls m)) ls (sym (free_is_nothing_in_the_way deep who p ls) ∙ is)) here))
 
--- a path that is free of the locks that are lent is open
+-- a path on which no borrowed lock conflicts isn't locked against the requester
 pub opened : {L : Type 0} (locks : L → List Lock) (deep : Bool) (who : Asker) (p : Path) (ls : Option (Bor L)) (l : Bor L) (b : Bool)
     → ls ≡ Some l → b ≡ is_free_for deep who p (locks l.now) → b ≡ is_open deep who p (locks_in locks ls)
 opened locks deep who p ls l b is same = rw is same

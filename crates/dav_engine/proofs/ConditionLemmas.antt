@@ -1,4 +1,4 @@
--- How code follows the plans of conditions.
+-- How code follows the plans that evaluate conditions.
 use Rattle.std.proofs.Common.{◌≡◌, ◌==◌, ◌++◌, ◌&&◌, ◌||◌, not, bytes_eq, ℕ, ◌+◌, ◌<◌, Bool, true, false, true≢false, List, [], ◌∷◌, map, drop, length, get_or, codes, string_bytes, Option, Some, None, Result, Ok, Err, refl, sym, subst, ap, ◌∙◌, String, IsTrue, ◌≤◌, append-nil, append_assoc}
 use Rattle.std.specs.List.{starts_with, flat_map}
 use Rattle.std.specs.Option.{option_map}
@@ -31,9 +31,9 @@ use Rattle.dav_engine.specs.declared.conditional.Addressed as listed
 use Rattle.dav_headers.proofs.LoopLemmas.{drop_turn}
 use Rattle.dav_engine.proofs.Following.{ran_at, follows_done, follows_then, follows_err}
 
--- ---- items
+-- ---- items of a list
 
--- a token that is none of the namespace `DAV:`, of a path that is free or not for who submits it
+-- a token outside the namespace `DAV:`, of a path that is or isn't locked against a requester who submits it
 pub token_free : {L : Type 0} (locks : L → List Lock) (ls : Option (Bor L)) (l : Bor L) (token : List ℕ) (p : Path) (b : Bool)
     → ls ≡ Some l → starts_with ◌==◌ token (codes "DAV:") ≡ false → b ≡ is_free (asker_of (token ∷ []) true None) p (locks l.now)
     → b ≡ spec.token_holds token p (locks_in locks ls)
@@ -53,21 +53,21 @@ strong false false true x y to from = refl
 strong true false true x y to from = (to refl).1
 strong b false false x y to from = decided b (bytes_eq x y) (x ≡ y) (bytes_eq-Decides x y) (λ h. (to h).2) (λ e. from (refl, refl, e))
 
--- one tag is another exactly where it is the only tag of a list that matches it
+-- one tag equals another exactly where it is the only tag of a list that matches it
 pub one_tag : (b : Bool) (e f : EntityTag) → (IsTrue b → IsStrongMatch e f) → (IsStrongMatch e f → IsTrue b) → b ≡ spec.matches (tags (e ∷ [])) true (Some f)
 one_tag b e f to from = strong b e.weak f.weak e.tag f.tag to from
 
--- no item is true of no path
+-- where there is no path, no item is true
 pub item_of_none : (path : Option PathText) (i : Item) {s : StoreState} {ls : Locks} → path ≡ None → Follows (λ (b : Bool). b) (item_holds (option_map names path) i) s ls (Ok false) s ls
 item_of_none path i is = rw is (follows_done refl)
 
--- a state token is true or not of a path
+-- whether a state token is true of a path
 pub item_of_token : (path : Option PathText) (p : PathText) (item : IfItem) (t : String Global) (b : Bool) {s : StoreState} {ls : Locks}
     → path ≡ Some p → item ≡ StateToken t → b ≡ spec.token_holds (string_bytes t) (names p) ls
     → Follows (λ (b : Bool). b) (item_holds (option_map names path) (item_value item)) s ls (Ok b) s ls
 item_of_token path p item t b is holds same = rw (is, holds) (followed (ran_look (ran_at (ap Ok same))))
 
--- an entity tag is, as the store answers
+-- whether an entity tag is true of a path, as the store answers
 pub item_of_tag : (path : Option PathText) (p : PathText) (item : IfItem) (e : EntityTag) {s t : StoreState} {ls : Locks} {r : Result Bool DavError}
     → path ≡ Some p → item ≡ ETag e → Follows (λ (b : Bool). b) (spec.has_tag (names p) e) s ls r t ls
     → Follows (λ (b : Bool). b) (item_holds (option_map names path) (item_value item)) s ls r t ls
@@ -87,18 +87,18 @@ goes_on true false other = refl
 goes_on false true other = refl
 goes_on false false other = sym other
 
--- an item came to its end, and what follows too
+-- an item was evaluated, and then the rest of the list
 pub all_hold_more : (p : Option Path) (c : Condition) (cs : List Condition) (b : Bool) {s t u : StoreState} {ls : Locks} {r : Result Bool DavError}
     → Follows (λ (b : Bool). b) (item_holds p c.item) s ls (Ok b) t ls
     → Follows (λ (b : Bool). b) (while_true (condition_holds c.negated b) (all_hold p cs)) t ls r u ls
     → Follows (λ (b : Bool). b) (all_hold p (c ∷ cs)) s ls r u ls
 all_hold_more p c cs b one rest = follows_then (λ holds. while_true (condition_holds c.negated holds) (all_hold p cs)) one rest
 
--- Whatever the rest of a plan comes to, the whole of it comes to.
+-- Whatever the rest of a plan results in, the whole plan results in.
 abbrev pub Leads : Method Bool → StoreState → Method Bool → StoreState → Locks → Type 0
 Leads whole s rest t ls = (r : Result Bool DavError) (end : StoreState) → Follows (λ (b : Bool). b) rest t ls r end ls → Follows (λ (b : Bool). b) whole s ls r end ls
 
--- the rest of a list of conditions, from the one at this place on
+-- the rest of a list of conditions, from this place on
 pub all_hold_at : (p : Option Path) (cs : List IfCondition) (i : ℕ) (c : IfCondition) {s : StoreState} {ls : Locks} {r : Result Bool DavError} {end : StoreState}
     → i < length cs → c ≡ get_or cs i c
     → Follows (λ (b : Bool). b) (all_hold p (condition_value c ∷ map condition_value (drop (i + 1) cs))) s ls r end ls
@@ -113,7 +113,7 @@ pub some_holds_at : (xs : List listed.Addressed) (i : ℕ) (x : listed.Addressed
 some_holds_at xs i x {s} {ls} {r} {end} lt is more =
     subst (λ (rest : List listed.Addressed). Follows (λ (b : Bool). b) (some_holds (map list_of rest)) s ls r end ls) (sym (drop_turn xs i x lt is)) more
 
--- a condition holds: those behind it decide
+-- a condition holds: those after it decide
 pub condition_held : (p : Option Path) (c : Condition) (cs : List Condition) (b : Bool) {s t u : StoreState} {ls : Locks} {r : Result Bool DavError}
     → beq b c.negated ≡ false → Follows (λ (b : Bool). b) (item_holds p c.item) s ls (Ok b) t ls
     → Follows (λ (b : Bool). b) (all_hold p cs) t ls r u ls
@@ -121,14 +121,14 @@ pub condition_held : (p : Option Path) (c : Condition) (cs : List Condition) (b 
 condition_held p c cs b {s} {t} {u} {ls} {r} other one rest =
     all_hold_more p c cs b one (subst (λ (d : Bool). Follows (λ (b : Bool). b) (while_true d (all_hold p cs)) t ls r u ls) (sym (goes_on c.negated b other)) rest)
 
--- it doesn't: nor does the list
+-- a condition doesn't hold: nor does the list
 pub condition_failed : (p : Option Path) (c : Condition) (cs : List Condition) (b : Bool) {s t : StoreState} {ls : Locks}
     → beq b c.negated ≡ true → Follows (λ (b : Bool). b) (item_holds p c.item) s ls (Ok b) t ls
     → Follows (λ (b : Bool). b) (all_hold p (c ∷ cs)) s ls (Ok false) t ls
 condition_failed p c cs b {s} {t} {ls} is one =
     all_hold_more p c cs b one (subst (λ (d : Bool). Follows (λ (b : Bool). b) (while_true d (all_hold p cs)) t ls (Ok false) t ls) (sym (settled c.negated b is)) (follows_done refl))
 
--- memory ran out at it
+-- memory ran out at a condition
 pub condition_stopped : (p : Option Path) (c : Condition) (cs : List Condition) {s t : StoreState} {ls : Locks}
     → Follows (λ (b : Bool). b) (item_holds p c.item) s ls (Err dav.Memory) t ls
     → Follows (λ (b : Bool). b) (all_hold p (c ∷ cs)) s ls (Err dav.Memory) t ls
@@ -136,28 +136,28 @@ condition_stopped p c cs one = follows_err (λ holds. while_true (condition_hold
 
 -- ---- lists
 
--- a list came to its end, and what follows too
+-- a list was evaluated, and then the other lists
 pub some_holds_more : (l : Addressed) (more : List Addressed) (b : Bool) {s t u : StoreState} {ls : Locks} {r : Result Bool DavError}
     → Follows (λ (b : Bool). b) (all_hold l.path l.conditions) s ls (Ok b) t ls
     → Follows (λ (b : Bool). b) (while_false b (some_holds more)) t ls r u ls
     → Follows (λ (b : Bool). b) (some_holds (l ∷ more)) s ls r u ls
 some_holds_more l more b one rest = follows_then (λ holds. while_false holds (some_holds more)) one rest
 
--- what a list and its conditions, as they are lent, come to
+-- a borrowed list and its conditions have the same outcome
 lent_list : (x : listed.Addressed) (cs : List IfCondition) {s t : StoreState} {ls : Locks} {r : Result Bool DavError} → cs ≡ x.conditions.items
     → Follows (λ (b : Bool). b) (all_hold (option_map names x.path) (map condition_value cs)) s ls r t ls
     → Follows (λ (b : Bool). b) (all_hold (option_map names x.path) (map condition_value x.conditions.items)) s ls r t ls
 lent_list x cs {s} {t} {ls} {r} is one =
     subst (λ (ds : List IfCondition). Follows (λ (b : Bool). b) (all_hold (option_map names x.path) (map condition_value ds)) s ls r t ls) is one
 
--- a list holds: so do they
+-- a list holds: so do the lists
 pub list_held : (x : listed.Addressed) (cs : List IfCondition) (more : List Addressed) (b : Bool) {s t : StoreState} {ls : Locks} → cs ≡ x.conditions.items → b ≡ true
     → Follows (λ (b : Bool). b) (all_hold (option_map names x.path) (map condition_value cs)) s ls (Ok b) t ls
     → Follows (λ (b : Bool). b) (some_holds (list_of x ∷ more)) s ls (Ok true) t ls
 list_held x cs more true same is one = some_holds_more (list_of x) more true (lent_list x cs same one) (follows_done refl)
 list_held x cs more false same is one = absurd (true≢false (sym is))
 
--- it doesn't: those behind it decide
+-- a list doesn't hold: those after it decide
 pub list_failed : (x : listed.Addressed) (cs : List IfCondition) (more : List Addressed) (b : Bool) {s t u : StoreState} {ls : Locks} {r : Result Bool DavError} → cs ≡ x.conditions.items → b ≡ false
     → Follows (λ (b : Bool). b) (all_hold (option_map names x.path) (map condition_value cs)) s ls (Ok b) t ls
     → Follows (λ (b : Bool). b) (some_holds more) t ls r u ls
@@ -165,7 +165,7 @@ pub list_failed : (x : listed.Addressed) (cs : List IfCondition) (more : List Ad
 list_failed x cs more false same is one rest = some_holds_more (list_of x) more false (lent_list x cs same one) rest
 list_failed x cs more true same is one rest = absurd (true≢false is)
 
--- memory ran out at it
+-- memory ran out at a list
 pub list_stopped : (x : listed.Addressed) (cs : List IfCondition) (more : List Addressed) {s t : StoreState} {ls : Locks} → cs ≡ x.conditions.items
     → Follows (λ (b : Bool). b) (all_hold (option_map names x.path) (map condition_value cs)) s ls (Err dav.Memory) t ls
     → Follows (λ (b : Bool). b) (some_holds (list_of x ∷ more)) s ls (Err dav.Memory) t ls
@@ -185,7 +185,7 @@ some_holds_end xs i {s} {ls} le =
 
 -- ---- tokens
 
--- the tokens of the lists from this place on: those of the one there, and of those behind it
+-- the tokens of the lists from this place on: those of the list there, and of those after it
 pub submitted_at : (tokens : List (List ℕ)) (more : List (List ℕ)) (xs : List listed.Addressed) (i : ℕ) (x : listed.Addressed) (all : List (List ℕ))
     → i < length xs → x ≡ get_or xs i x
     → more ≡ tokens ++ flat_map (λ c. tokens_in c.item) (map condition_value x.conditions.items)
@@ -202,9 +202,9 @@ pub submitted_end : (tokens : List (List ℕ)) (xs : List listed.Addressed) (i :
 submitted_end tokens xs i all le before =
     sym (append-nil tokens) ∙ ap (λ rest. tokens ++ spec.submitted (Some (map list_of rest))) (sym (drop_all i xs le)) ∙ before
 
--- ---- the paths that lists speak of
+-- ---- the paths that lists apply to
 
--- one list more
+-- one more list
 AreAddressed-push : (prefix : List ℕ) (own : Path) (ls : List ConditionList) (lists : List Addressed) (l : ConditionList) (q : Option Path)
     → AreAddressed prefix own ls lists → SpeaksOf prefix own l.resource q
     → AreAddressed prefix own (ls ++ l ∷ []) (lists ++ record { path = q; conditions = l.conditions } ∷ [])

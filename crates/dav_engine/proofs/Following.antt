@@ -11,7 +11,7 @@ use Rattle.dav_engine.specs.Follows.{Follows, followed, gave_up, viewed}
 pub ran_at : {step : Step} {A : Type 0} {a b : A} {s : StoreState} {ls : Locks} → b ≡ a → Ran step (Done a) s ls b s ls
 ran_at {step} {A} {a} {b} {s} {ls} e = subst (λ (x : A). Ran step (Done a) s ls x s ls) (sym e) ran_done
 
--- the plan's first part came to its end, and then the rest
+-- the plan's first part ended, and then the rest
 pub ran_bind : {step : Step} {A B : Type 0} {plan : Method A} (f : A → Method B) {old mid new : StoreState} {ls ks ms : Locks} {r : Result A DavError} {b : Result B DavError}
     → Ran step plan old ls r mid ks → Ran step (then r f) mid ks b new ms → Ran step (plan >>= f) old ls b new ms
 ran_bind f ran_done more = more
@@ -19,7 +19,7 @@ ran_bind f (ran_ask one rest) more = ran_ask one (ran_bind f rest more)
 ran_bind f (ran_look rest) more = ran_look (ran_bind f rest more)
 ran_bind f (ran_keep rest) more = ran_keep (ran_bind f rest more)
 
--- the plan's first part came to its end, and memory ran out in the rest
+-- the plan's first part ended, and memory ran out in the rest
 pub cut_bind : {step : Step} {A B : Type 0} {first : Locks} {plan : Method A} (f : A → Method B) {old mid new : StoreState} {ls ks ms : Locks} {r : Result A DavError}
     → Ran step plan old ls r mid ks → Cut step first (then r f) mid ks new ms → Cut step first (plan >>= f) old ls new ms
 cut_bind f ran_done more = more
@@ -69,7 +69,7 @@ pub follows_on : {A B : Type 0} {view : A → B} (b : Bool) (e : DavError) (f : 
 follows_on true e f is more = more
 follows_on false e f is more = absurd (true≢false (sym is))
 
--- a test that doesn't is the end
+-- a test that doesn't hold ends the plan
 pub follows_out : {A B : Type 0} {view : A → B} (b : Bool) (e : DavError) (f : Unit {0} → Method B) {s : StoreState} {ls : Locks} {r : Result A DavError}
     → b ≡ false → viewed view r ≡ Err e → Follows view (require b e >>= f) s ls r s ls
 follows_out false e f is same = follows_done same

@@ -17,12 +17,12 @@ use Rattle.dav_engine.specs.Conditions.{Conditions, if_match_get_tokens, status_
 use Rattle.dav_engine.specs.ConditionView.{locks_in, texts_of, tokens_or_status}
 use Rattle.dav_engine.proofs.Following.{follows_done, follows_then, follows_err, follows_on, follows_out}
 
--- the list of locks was looked at, and the rest of the plan was followed
+-- the list of locks was read, and the rest of the plan was followed
 pub follows_look : {A X : Type 0} {view : X → A} {go : Locks → Method A} {old new : StoreState} {ls ms : Locks} {r : Result X DavError} → Follows view (go ls) old ls r new ms → Follows view (Look go) old ls r new ms
 follows_look (followed rest) = followed (ran_look rest)
 follows_look (gave_up e rest) = gave_up e (cut_look rest)
 
--- an outcome is the end, or the rest follows it
+-- a part that is done already: the rest goes on with its outcome, or its error is the end
 pub follows_ok : {A B Y : Type 0} {view : Y → B} (outcome : Result A DavError) (a : A) (f : A → Method B) {old new : StoreState} {ls ms : Locks} {r : Result Y DavError}
     → outcome ≡ Ok a → Follows view (f a) old ls r new ms → Follows view (Done outcome >>= f) old ls r new ms
 follows_ok {A} {view = view} outcome a f {old} {new} {ls} {ms} {r} is rest = subst (λ (o : Result A DavError). Follows view (Done o >>= f) old ls r new ms) (sym is) rest
@@ -31,7 +31,7 @@ pub follows_fails : {A B Y : Type 0} {view : Y → B} (outcome : Result A DavErr
     → outcome ≡ Err e → viewed view r ≡ Err e → Follows view (Done outcome >>= f) s ls r s ls
 follows_fails {A} {view = view} outcome e f {s} {ls} {r} is same = subst (λ (o : Result A DavError). Follows view (Done o >>= f) s ls r s ls) (sym is) (follows_done same)
 
--- a verdict as it was come to
+-- an evaluation of conditions that was followed, with equal arguments and an equal result
 come : {E : Type 0} (m : DavMethod) (c : Conditions) {before found : Option DavMetaData} {old new : StoreState} {ls : Locks} {r w : Result (Result (Vec (String Global)) ℕ) E}
     → before ≡ found → r ≡ w
     → Follows tokens_or_status (if_match_get_tokens m c before) old ls (or_memory r) new ls → Follows tokens_or_status (if_match_get_tokens m c found) old ls (or_memory w) new ls
@@ -60,7 +60,7 @@ guard_failed f m c before found go r verdict status {old} {mid} {ls} same was is
     let ends : Follows texts_of (guarded f m c found) old ls (Err (f status)) mid ls = follows_then (λ v. Done (status_as f v)) (come m c same (was ∙ ap Ok is) one) (follows_done refl) in
     follows_err go (f status) ends
 
--- memory ran out while conditions were judged
+-- memory ran out while conditions were evaluated
 pub guard_short : {E B Y : Type 0} {view : Y → B} (f : ℕ → DavError) (m : DavMethod) (c : Conditions) (before found : Option DavMetaData) (go : List (List ℕ) → Method B)
     (r : Result (Result (Vec (String Global)) ℕ) E) (e : E) {old mid : StoreState} {ls : Locks}
     → before ≡ found → r ≡ Err e
@@ -70,17 +70,17 @@ guard_short f m c before found go r e {old} {mid} {ls} same was one =
     let ends : Follows texts_of (guarded f m c found) old ls (Err dav.Memory) mid ls = follows_err (λ v. Done (status_as f v)) dav.Memory (come m c same was one) in
     follows_err go dav.Memory ends
 
--- what a look at the locks answered of the tokens that are submitted
+-- what the check of the locks answers for the submitted tokens
 pub open_to : (tokens : Vec (String Global)) (lent : List (String Global)) (principal : Option (List ℕ)) (deep : Bool) (p : Path) (ls : Locks) (b : Bool)
     → lent ≡ tokens.items → b ≡ is_open deep (asker_of (map string_bytes lent) false principal) p ls → b ≡ is_open deep (asker_of (texts_of tokens) false principal) p ls
 open_to tokens lent principal deep p ls b same is = is ∙ ap (λ (l : List (String Global)). is_open deep (asker_of (map string_bytes l) false principal) p ls) same
 
--- no lock is in the way, and the rest was followed
+-- no lock conflicts, and the rest was followed
 pub free_goes : {B Y : Type 0} {view : Y → B} (deep : Bool) (who : Asker) (p : Path) (e : DavError) (f : Unit {0} → Method B) (b : Bool) {old new : StoreState} {ls ms : Locks} {r : Result Y DavError}
     → b ≡ is_open deep who p ls → b ≡ true → Follows view (f tt) old ls r new ms → Follows view (require_free deep who p e >>= f) old ls r new ms
 free_goes deep who p e f b is freed rest = follows_look (follows_on _ e f (sym is ∙ freed) rest)
 
--- a lock is
+-- a lock conflicts
 pub locked_out : {B Y : Type 0} {view : Y → B} (deep : Bool) (who : Asker) (p : Path) (e : DavError) (f : Unit {0} → Method B) (b : Bool) {s : StoreState} {ls : Locks} {r : Result Y DavError}
     → b ≡ is_open deep who p ls → b ≡ false → viewed view r ≡ Err e → Follows view (require_free deep who p e >>= f) s ls r s ls
 locked_out deep who p e f b is shut same = follows_look (follows_out _ e f (sym is ∙ shut) same)
@@ -96,7 +96,7 @@ pub ends_locked : {Y : Type 0} {view : Y → Unit {0}} (deep : Bool) (who : Aske
 ends_locked {view = view} deep who p e b {s} {ls} {r} is shut same =
     follows_look (subst (λ t. Follows view (require t e) s ls r s ls) (sym (sym is ∙ shut)) (follows_done same))
 
--- what was followed with the locks that a borrow lends, with the locks themselves
+-- what was followed with borrowed locks is followed with the locks themselves
 pub carried : {L B Y : Type 0} {view : Y → B} {kind : Method B → Type 0} (locks : L → List Lock) (lent : Option (Bor L)) (held : Option L) (plan : Method B) {old new : StoreState} {r : Result Y DavError}
     → option_copied lent ≡ held → kind plan → Follows view plan old (locks_in locks lent) r new (locks_in locks lent)
     → Carries view kind old (option_map locks held) r new (option_map locks held)

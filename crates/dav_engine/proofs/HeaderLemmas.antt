@@ -1,4 +1,4 @@
--- Facts about what is read of headers.
+-- Facts about what is read in headers.
 use Rattle.std.proofs.Common.{◌≡◌, ◌⊎◌, inl, inr, true, false, Some, None}
 use Rattle.std.proofs.lemmas.Bool.{cases_Bool, cond-true, cond-false}
 use Rattle.std.proofs.lemmas.List.Sums.{AllPass-from_list_all, list_all-from_AllPass}
@@ -14,6 +14,6 @@ by_test : (v : FieldValue) → ¬ IsVisibleAscii v.bytes → (is_visible_text v.
 by_test v hidden (inl e) = absurd (hidden (AllPass-from_list_all is_visible_or_blank v.bytes e))
 by_test v hidden (inr e) = cond-false _ _ _ e
 
--- a value that isn't
+-- a value that isn't text
 pub text_none : (v : FieldValue) → ¬ IsVisibleAscii v.bytes → text_in (Some v) ≡ None
 text_none v hidden = by_test v hidden (cases_Bool _)

@@ -60,30 +60,30 @@ mkcol_locked c p who answer before r verdict tokens lent b {ls = ls} asks same w
     follows_ask asks (guard_passed dav.Status MkCol c before (result_ok answer) (rest p who) r verdict tokens same was is one
     (ends_locked false (asker who (texts_of tokens)) (names p) (dav.Status 423) b (open_to tokens lent who.principal false (names p) ls b tells looked) shut refl))
 
--- what follows it
+-- what follows the checks
 abbrev creates : PathText → Client → Unit {0} → Method Response
 creates p who _ = do
   _ ← ask_or create_error (CreateDir (names p) who.moment)
   gives (made p)
 
--- the folder may not be made
+-- the checks ended in an error
 pub mkcol_ends : (c : Conditions) (p : PathText) (who : Client) (e : DavError) {old new : StoreState} {ls : Locks}
     → Follows (λ (u : Unit {0}). u) (mkcol_allowed c p who) old ls (Err e) new ls → Follows response_of (mkcol c p who) old ls (Err e) new ls
 mkcol_ends c p who e one = follows_err (creates p who) e one
 
--- the store refuses it
+-- the store refuses to make the folder
 pub mkcol_refused : (c : Conditions) (p : PathText) (who : Client) (why : FsError) (e : DavError) {old mid new : StoreState} {ls : Locks}
     → Follows (λ (u : Unit {0}). u) (mkcol_allowed c p who) old ls (Ok tt) mid ls → Asks (CreateDir (names p) who.moment) mid (Err why) new → e ≡ create_error why
     → Follows response_of (mkcol c p who) old ls (Err e) new ls
 mkcol_refused c p who why e one asks is = follows_then (creates p who) one (follows_ask asks (follows_done (ap Err is)))
 
--- memory runs out behind it
+-- memory runs out after the folder was made
 pub mkcol_wants : (c : Conditions) (p : PathText) (who : Client) (done : Unit {0}) {old mid new : StoreState} {ls : Locks}
     → Follows (λ (u : Unit {0}). u) (mkcol_allowed c p who) old ls (Ok tt) mid ls → Asks (CreateDir (names p) who.moment) mid (Ok done) new
     → Follows response_of (mkcol c p who) old ls (Err dav.Memory) new ls
 mkcol_wants c p who done one asks = follows_then (creates p who) one (follows_ask asks follows_up_to)
 
--- it is made
+-- the folder is made
 pub mkcol_made : (c : Conditions) (p : PathText) (who : Client) (done : Unit {0}) (reply : Reply) {old mid new : StoreState} {ls : Locks}
     → Follows (λ (u : Unit {0}). u) (mkcol_allowed c p who) old ls (Ok tt) mid ls → Asks (CreateDir (names p) who.moment) mid (Ok done) new → response_of reply ≡ made p
     → Follows response_of (mkcol c p who) old ls (Ok reply) new ls

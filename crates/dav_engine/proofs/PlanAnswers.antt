@@ -1,4 +1,4 @@
--- The laws over plans, as they are stated of methods.
+-- The laws of plans, as they are stated for methods.
 use Rattle.dav_engine.specs.PlanLaws.{PlansAreDetermined, PlansEnd, WantIsLikeRefusals, CutsAreLikeRefusals}
 use Rattle.dav_engine.proofs.PlanLemmas.{ran_same, comes, ran_again, cut_again}
 

@@ -1,4 +1,4 @@
--- The laws over plans, each by recursion on what was done.
+-- The laws of plans, each by recursion on what was done.
 use Rattle.std.proofs.Common.{◌≡◌, ◌⊎◌, inl, inr, false, true≢false, List, [], ◌∷◌, Option, Some, None, Result, Err, refl, sym, subst, ap, ◌∙◌}
 use Rattle.dav_core.specs.declared.errors.FsError.{FsError}
 use Rattle.dav_core.specs.declared.errors.FsError.TheVariants.{GeneralFailure, InsufficientStorage}
@@ -7,7 +7,7 @@ use Rattle.dav_core.specs.World.{World}
 use Rattle.dav_engine.specs.Plan.{Plan, Done, Ask, Look, Keep, Locks, kept, Ran, ran_done, ran_ask, ran_look, ran_keep, Cut, cut_first, cut_refused, cut_ask, cut_look, cut_keep, Refused, refused_done, refused_ask, refused_look, refused_keep}
 use Rattle.dav_engine.specs.PlanLaws.{ample}
 
--- the flag is never taken back
+-- the flag for out of memory is never cleared
 asks_unset : {c : Call} {old new : StoreState} {answer : Result (Answer c) FsError} → Asks c old answer new → new.short ≡ false → old.short ≡ false
 asks_unset (asked is left flag) u = sym flag ∙ u
 asks_unset (ran_short takes ready allowed is same left flag) u = absurd (true≢false (sym flag ∙ u))
@@ -18,7 +18,7 @@ ran_unset (ran_ask one rest) u = asks_unset one (ran_unset rest u)
 ran_unset (ran_look rest) u = ran_unset rest u
 ran_unset (ran_keep rest) u = ran_unset rest u
 
--- where memory was not wanted, an answer and what is left are determined
+-- where the store never ran out of memory, an answer and the state that it leaves are determined
 asks_same : {c : Call} {old s t : StoreState} {a b : Result (Answer c) FsError} → Asks c old a s → s.short ≡ false → Asks c old b t → t.short ≡ false → (a ≡ b) × (s ≡ t)
 asks_same (asked is left flag) u (asked is' left' flag') u' =
     let both = is ∙ sym is' in
@@ -35,7 +35,7 @@ ran_same (ran_ask {go = go} {mid = mid} {ls = ls} {answer = x} one rest) u (ran_
 ran_same (ran_look rest) u (ran_look rest') u' = ran_same rest u rest' u'
 ran_same (ran_keep rest) u (ran_keep rest') u' = ran_same rest u rest' u'
 
--- what a plan comes to where memory is not wanted
+-- what a plan results in where the store doesn't run out of memory
 pub record Comes {A : Type 0} (plan : Plan A) (old : StoreState) (ls : Locks) : Type 0 where
   pub outcome : A
   pub new : StoreState
@@ -55,7 +55,7 @@ comes (Look go) old ls = let rest = comes (go ls) old ls in
 comes (Keep locks more) old ls = let rest = comes more old (kept ls locks) in
     record { outcome = rest.outcome; new = rest.new; locks = rest.locks; ran = ran_keep rest.ran; flag = rest.flag }
 
--- the entry of a list of refusals under which a call goes as it went
+-- the entry of a list of refusals under which a call has the same answer
 pub record Met (c : Call) (old : World) (answer : Result (Answer c) FsError) (new : World) : Type 0 where
   pub entry : Option FsError
   pub again : (more : List (Option FsError)) → Asks c (ample old (entry ∷ more)) answer (ample new more)
@@ -101,7 +101,7 @@ stopped (Look go) ls = let rest = stopped (go ls) ls in
 stopped (Keep locks more) ls = let rest = stopped more (kept ls locks) in
     record { refusals = rest.refusals; outcome = rest.outcome; locks = rest.locks; ran = λ w. ran_keep (rest.ran w) }
 
--- the same, where the list that it leaves is known
+-- the same, where the list of locks that it leaves is known
 pub record StoppedAt {A : Type 0} (plan : Plan A) (ls ms : Locks) : Type 0 where
   pub refusals : List (Option FsError)
   pub outcome : A

@@ -1,4 +1,4 @@
--- How code follows what is judged before the file of a PUT or PATCH is opened.
+-- How code follows the checks before the file of a PUT or PATCH is opened.
 use Rattle.std.proofs.Common.{◌≡◌, ℕ, Bool, true, false, List, map, string_bytes, String, Option, Result, Ok, Err, refl, sym, ap, ◌∙◌}
 use Rattle.std.specs.Global.{Vec, Global}
 use Rattle.std.specs.Option.{is_some}
@@ -27,7 +27,7 @@ some_ok : (answer : Result DavMetaData FsError) → is_some (result_ok answer) �
 some_ok (Ok m) = refl
 some_ok (Err e) = refl
 
--- what follows the look at the locks
+-- what follows the check of the locks
 abbrev length_next : Writing → Bool → List ℕ → Unit {0} → Method (Writing × Bool)
 length_next w exists bytes _ = do
   _ ← require (is_announced w.announced bytes) (dav.StatusClose 400)
@@ -37,11 +37,11 @@ length_next w exists bytes _ = do
 abbrev locks_next : Path → Client → List ℕ → Bool → Writing → List (List ℕ) → Method (Writing × Bool)
 locks_next p who bytes exists w tokens = require_free false (asker who tokens) p (dav.StatusClose 423) >>= length_next w exists bytes
 
--- what follows the place
+-- what follows the choice of the place
 abbrev conditions_next : DavMethod → PutHeaders → Path → Client → List ℕ → Result DavMetaData FsError → Writing → Method (Writing × Bool)
 conditions_next m h p who bytes answer w = guarded dav.StatusClose m h.conditions (result_ok answer) >>= locks_next p who bytes (is_ok answer) w
 
--- what was found has no such place
+-- the file that was found has no such place
 pub put_unplaced : (m : DavMethod) (h : PutHeaders) (p : Path) (who : Client) (bytes : List ℕ) (answer : Result DavMetaData FsError) (before : Option DavMetaData) (placed : Result Writing DavError) (e : DavError)
     {old mid : StoreState} {ls : Locks}
     → Asks (Metadata p) old answer mid → before ≡ result_ok answer → placed ≡ writing_of m h before → placed ≡ Err e
@@ -58,7 +58,7 @@ put_placed : (m : DavMethod) (h : PutHeaders) (p : Path) (who : Client) (bytes :
 put_placed m h p who bytes answer before placed w asks same there is rest =
     follows_ask asks (follows_ok (writing_of m h (result_ok answer)) w (conditions_next m h p who bytes answer) (ap (writing_of m h) (sym same) ∙ sym there ∙ is) rest)
 
--- memory ran out while conditions were judged
+-- memory ran out while conditions were evaluated
 pub put_short : {E : Type 0} (m : DavMethod) (h : PutHeaders) (p : Path) (who : Client) (bytes : List ℕ) (answer : Result DavMetaData FsError) (before : Option DavMetaData) (placed : Result Writing DavError) (w : Writing)
     (seen : Option DavMetaData) (r : Result (Result (Vec (String Global)) ℕ) E) (e : E) {old mid new : StoreState} {ls : Locks}
     → Asks (Metadata p) old answer mid → before ≡ result_ok answer → placed ≡ writing_of m h before → placed ≡ Ok w
@@ -89,7 +89,7 @@ put_passed m h p who bytes answer before placed w seen r verdict tokens asks sam
     put_placed m h p who bytes answer before placed w asks same there is
     (guard_passed dav.StatusClose m h.conditions seen (result_ok answer) (locks_next p who bytes (is_ok answer) w) r verdict tokens found was holds one rest)
 
--- a lock is in the way
+-- a lock conflicts
 pub put_locked : {E : Type 0} (m : DavMethod) (h : PutHeaders) (p : Path) (who : Client) (bytes : List ℕ) (answer : Result DavMetaData FsError) (before : Option DavMetaData) (placed : Result Writing DavError) (w : Writing)
     (seen : Option DavMetaData) (r : Result (Result (Vec (String Global)) ℕ) E) (verdict : Result (Vec (String Global)) ℕ) (tokens : Vec (String Global)) (lent : List (String Global)) (b : Bool) {old mid new : StoreState} {ls : Locks}
     → Asks (Metadata p) old answer mid → before ≡ result_ok answer → placed ≡ writing_of m h before → placed ≡ Ok w
@@ -100,7 +100,7 @@ put_locked m h p who bytes answer before placed w seen r verdict tokens lent b {
     put_passed m h p who bytes answer before placed w seen r verdict tokens asks same there is found was holds one
     (locked_out false (asker who (texts_of tokens)) p (dav.StatusClose 423) (length_next w (is_ok answer) bytes) b (open_to tokens lent who.principal false p ls b tells looked) shut refl)
 
--- the path is free, and the rest was followed
+-- the path isn't locked against the requester, and the rest was followed
 put_free : {E : Type 0} (m : DavMethod) (h : PutHeaders) (p : Path) (who : Client) (bytes : List ℕ) (answer : Result DavMetaData FsError) (before : Option DavMetaData) (placed : Result Writing DavError) (w : Writing)
     (seen : Option DavMetaData) (r : Result (Result (Vec (String Global)) ℕ) E) (verdict : Result (Vec (String Global)) ℕ) (tokens : Vec (String Global)) (lent : List (String Global)) (b : Bool) {old mid new : StoreState} {ls : Locks}
     {end : Result (Writing × Bool) DavError}

@@ -1,4 +1,4 @@
--- What is read of the headers of a PUT or PATCH.
+-- What is read in the headers of a PUT or PATCH.
 use Rattle.std.proofs.Common.{arith, ◌≡◌, inr, ℕ, ◌≤◌, List, [], ◌∷◌, length, get_or, Option, Some, None, Result, Ok, Err, IfOk, sym, subst, ap, ◌∙◌}
 use Rattle.std.proofs.lemmas.List.Elements.{All-cons, All-nil}
 use Rattle.http_header.specs.FieldValue.{FieldValue, plain_value}
@@ -20,7 +20,7 @@ number_in v n is = is.1 0 (plain_value []) is.0
 length_in : (v : FieldValue) (n : ℕ) → IsNumber v.bytes n → IsContentLength (v ∷ []) n
 length_in v n is = (grind arith, All-cons (λ (w : FieldValue). IsNumber w.bytes n) v [] is (All-nil (λ (w : FieldValue). IsNumber w.bytes n)))
 
--- the first value alone tells the expected length
+-- the first value alone is the expected length
 expected_of : (values : List FieldValue) (v : FieldValue) (vs : List FieldValue) (told : Option ℕ)
     → values ≡ v ∷ vs → Decodes IsContentLength (v ∷ []) told → Decodes IsExpectedLength values told
 unfolding first_or
@@ -38,7 +38,7 @@ expected_first values found one v (Ok told) same some is alone read =
     let all = same_first found v some is in
     expected_of values v all.0 told (sym same ∙ all.1) (subst (λ (vs : List FieldValue). Decodes IsContentLength vs told) alone read)
 
--- a range that is read tells its bounds
+-- a range that is read has these bounds
 tells_bounds : (values : List FieldValue) (bounds : Option (ℕ × ℕ)) (length : Option ℕ) → IsContentRange values bounds length → TellsBounds values (bounds_of bounds)
 tells_bounds values None length is = inr (length, is)
 tells_bounds values (Some (a, b)) length is = (length, is)

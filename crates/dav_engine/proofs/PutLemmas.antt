@@ -1,4 +1,4 @@
--- What PUT's parts come to.
+-- The outcomes of the parts of PUT.
 use Rattle.std.proofs.Common.{◌≡◌, if◌then◌else◌, ℕ, ◌==◌, Bool, true, false, List, length, Option, Some, None, Result, Ok, Err, refl, sym, subst, ap, ◌∙◌}
 use Rattle.dav_core.specs.declared.errors.FsError.{FsError}
 use Rattle.dav_core.specs.declared.errors.DavError.{DavError}
@@ -19,7 +19,7 @@ use Rattle.dav_core.specs.declared.fs.DavMetaData.{DavMetaData}
 use Rattle.std.specs.Result.{result_ok}
 use Rattle.dav_engine.proofs.Following.{follows_done, follows_ask, follows_then, follows_err, follows_up_to}
 
--- nothing was to be written
+-- there were no bytes to write
 pub written_none : {X : Type 0} {view : X → Handle} {s : StoreState} {ls : Locks} {r : Result X DavError} (file : Handle) (bytes : List ℕ) (now : ℕ)
     → (length bytes == 0) ≡ true → viewed view r ≡ Ok file → Follows view (written file bytes now) s ls r s ls
 written_none {view = view} {s} {ls} {r} file bytes now none is =
@@ -33,21 +33,21 @@ written_some {view = view} {old} {new} {ls} {r} file bytes copy now answer some 
     subst (λ b. Follows view (if b then gives file else ask_for (Write file bytes now)) old ls r new ls) (sym some)
     (follows_ask (subst (λ (l : List ℕ). Asks (Write file l now) old answer new) same one) (follows_done is))
 
--- a question about a file that is as it was
+-- the metadata of a file that is as it was
 pub told_same : {h k : Handle} {old new : StoreState} {answer : Result DavMetaData FsError} → k ≡ h → Asks (FileMetadata k) old answer new → Asks (FileMetadata h) old answer new
 told_same {old = old} {new} {answer} same one = subst (λ f. Asks (FileMetadata f) old answer new) same one
 
--- the reply, by what the store told
+-- the reply, by what the store reported
 pub stored_as : {r : Response} (found : Bool) (file : Option DavMetaData) (after : Result DavMetaData FsError)
     → r ≡ stored found file → file ≡ result_ok after → r ≡ stored found (result_ok after)
 stored_as found file after is two = is ∙ ap (stored found) two
 
--- the file isn't opened
+-- the checks ended in an error
 pub put_ends : (m : DavMethod) (h : PutHeaders) (p : Path) (who : Client) (bytes : List ℕ) (e : DavError) {old new : StoreState} {ls : Locks}
     → Follows (λ (x : Writing × Bool). x) (put_allowed m h p who bytes) old ls (Err e) new ls → Follows response_of (put m h p who bytes) old ls (Err e) new ls
 put_ends m h p who bytes e one = follows_err (λ (a : Writing × Bool). store (put_opening h a.0) a.0.from p bytes who.moment a.1) e one
 
--- memory runs out before it is
+-- memory runs out before the file is opened
 pub put_wants : (m : DavMethod) (h : PutHeaders) (p : Path) (who : Client) (bytes : List ℕ) (x : Writing × Bool) {old new : StoreState} {ls : Locks}
     → Follows (λ (x : Writing × Bool). x) (put_allowed m h p who bytes) old ls (Ok x) new ls → Follows response_of (put m h p who bytes) old ls (Err dav.Memory) new ls
 put_wants m h p who bytes x one = follows_then (λ (a : Writing × Bool). store (put_opening h a.0) a.0.from p bytes who.moment a.1) one follows_up_to
@@ -65,7 +65,7 @@ pub put_body_goes : (m : DavMethod) (h : PutHeaders) (p : Path) (who : Client) (
     → body ≡ Some bytes → Follows response_of (put m h p who bytes) old ls r new ls → Follows response_of (put_body m h p who body) old ls r new ls
 put_body_goes m h p who body bytes {old} {new} {ls} {r} is goes = subst (λ b. Follows response_of (put_body m h p who b) old ls r new ls) (sym is) goes
 
--- an element tree brings no bytes
+-- a body that isn't bytes is answered 415
 pub put_body_ends : (m : DavMethod) (h : PutHeaders) (p : Path) (who : Client) (body : Option (List ℕ)) {s : StoreState} {ls : Locks}
     → body ≡ None → Follows response_of (put_body m h p who body) s ls (Err (dav.Status 415)) s ls
 put_body_ends m h p who body {s} {ls} is = subst (λ b. Follows response_of (put_body m h p who b) s ls (Err (dav.Status 415)) s ls) (sym is) (follows_done refl)

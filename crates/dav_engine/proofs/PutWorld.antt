@@ -30,9 +30,9 @@ use Rattle.dav_engine.proofs.Following.{ran_bind}
 use Rattle.dav_engine.proofs.CallWorlds.{Did, stays, means, did}
 use Rattle.dav_engine.proofs.WorldPlans.{Only, only_done, only_ask, only_look, only_then, only_bind, only_require, only_reads, only_proper, proper_then, proper_bind, reading_leaves, ran_outcome, ran_split}
 
--- ---- what is judged first: the store is asked what is told of paths, and no more
+-- ---- the checks: the store is asked for the metadata of paths, and for nothing else
 
--- a call that asks what is told of a path
+-- a call that asks for the metadata of a path
 pub data IsLook : Call → Type 0 where
   looks : {p : Path} → IsLook (Metadata p)
 
@@ -71,7 +71,7 @@ only_unless : {A : Type 0} (status : Option ℕ) (next : Method (Result A ℕ)) 
 only_unless (Some status) next is = only_done
 only_unless None next is = is
 
--- conditions look at what is there, and at the locks
+-- conditions only look at what is there, and at the locks
 pub only_conditions : (m : DavMethod) (c : Conditions) (found : Option DavMetaData) → Only IsLook (if_match m c found)
 only_conditions m c found = only_bind (if_holds c.lists) _ (only_if c.lists) (λ holds. only_done)
 
@@ -81,7 +81,7 @@ only_tokens m c found = only_unless _ _ (only_bind (if_holds c.lists) _ (only_if
 pub only_guarded : (f : ℕ → DavError) (m : DavMethod) (c : Conditions) (found : Option DavMetaData) → Only IsLook (guarded f m c found)
 only_guarded f m c found = only_bind (if_match_get_tokens m c found) _ (only_tokens m c found) (λ verdict. only_done)
 
--- a lock is looked for in the list
+-- the check of the locks only reads their list
 pub only_free : (deep : Bool) (who : Asker) (p : Path) (e : DavError) → Only IsLook (require_free deep who p e)
 only_free deep who p e = only_look (λ ls. only_require _ e)
 
@@ -98,7 +98,7 @@ only_mkcol_allowed c p who = only_ask looks (λ answer.
     only_bind (guarded dav.Status MkCol c (result_ok answer)) _ (only_guarded dav.Status MkCol c (result_ok answer)) (λ tokens.
     only_free false (asker who tokens) (names p) (dav.Status 423)))
 
--- ---- an error of what is judged is the answer
+-- ---- an error of the checks is the outcome
 
 pub refused_put_leaves_all : RefusedPutLeavesAll
 refused_put_leaves_all m h p who bytes old new ls ms e ran =
@@ -150,7 +150,7 @@ mkcol_is_proper headers p who plan storable small (is_mkcol c are) = proper_mkco
 
 -- ---- If-None-Match `*`
 
--- where something is there, a file isn't made anew
+-- where something is there, a file isn't opened as a new one
 open_new : (w : World) (p : Path) (how : Opening) (now : ℕ) (o : Option Node) (r : Handle × World) → how.create_new ≡ true → open_at w p how now o ≡ Ok r → o ≡ None
 open_new w p how now None r new h = refl
 open_new w p how now (Some n) r new h =
@@ -162,7 +162,7 @@ opened_new : (w : World) (p : Path) (how : Opening) (now : ℕ) (r : Handle × W
 unfolding meaning
 opened_new w p how now r new h = open_new w p how now (node_at w p) r new h
 
--- an error isn't what a plan that is answered goes on by
+-- where a plan succeeds after its file was opened as a new one, nothing was at the path
 did_open : (w after : World) (p : Path) (how : Opening) (now : ℕ) (answer : Result Handle FsError) (f : Handle → Method Response) {mid new : StoreState} {ls ms : Locks} {r : Response}
     → how.create_new ≡ true → Did (meaning (Open p how now) w) w answer after → Ran Asks (followed_by (refused_as (open_error how) answer) f) mid ls (Ok r) new ms → node_at w p ≡ None
 did_open w after p how now answer f new (means file h is same) ran = opened_new w p how now file new h

@@ -30,13 +30,13 @@ follows_leaves reads (gave_up want cut) =
     let (world, locks) = reading_leaves reads again.ran in
     (world, either again.list locks)
 
--- code that carries out some plan of a kind, where each of this kind makes such calls
+-- code that carries out some plan of a kind, where each plan of the kind makes only calls that a caller may make
 pub carries_keeps : {A X : Type 0} {view : X → A} {kind : Method A → Type 0} {old new : StoreState} {ls ms : Locks} {r : Result X DavError}
     → ((plan : Method A) → kind plan → IsProperPlan plan) → IsWorld old.world → Carries view kind old ls r new ms → Kept old.world new.world
 carries_keeps proper world (served plan is follows) = follows_keeps (proper plan is) world follows
 carries_keeps {old = old} {new = new} proper world (not_begun want same locks) = kept_same old.world new.world world (ap (λ (s : StoreState). s.world) same)
 
--- where each of this kind only reads
+-- the same where each plan of the kind only reads
 pub carries_leaves : {A X : Type 0} {view : X → A} {kind : Method A → Type 0} {old new : StoreState} {ls ms : Locks} {r : Result X DavError}
     → ((plan : Method A) → kind plan → IsReading plan) → Carries view kind old ls r new ms → (new.world ≡ old.world) × (ms ≡ ls)
 carries_leaves reads (served plan is follows) = follows_leaves (reads plan is) follows

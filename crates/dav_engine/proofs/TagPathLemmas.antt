@@ -10,7 +10,7 @@ use Rattle.dav_core.specs.Target.{Reads, IsRefused}
 use Rattle.dav_core.proofs.TargetLemmas.{Reads-one, Reads-valid, Reads-allowed}
 use Rattle.dav_engine.specs.Conditions.{TagNames, SpeaksOf}
 
--- one whose path is refused names none
+-- a resource tag whose path is refused names none
 pub refused_names_none : (prefix : List ℕ) (url : Parts) (src : List ℕ) (e : ParseError) → src ≡ url.path → IsRefused src e → e ≢ parse.Memory → (q : Path) → ¬ TagNames prefix url q
 refused_names_none prefix url src parse.InvalidPath is refused other q named =
     Reads-valid src named.0 (subst (λ (s : List ℕ). Reads s named.0) (sym is) named.2) refused

@@ -1,4 +1,4 @@
--- How code follows the plans of what conditions answer.
+-- How code follows the plans that answer for all conditions.
 use Rattle.std.proofs.Common.{◌≡◌, ℕ, if◌then◌else◌, Bool, true, false, true≢false, List, Option, Some, None, Result, Ok, Err, IfOk, String, refl, sym, subst, ap}
 use Rattle.std.specs.Global.{Global, Vec}
 use Rattle.dav_core.specs.declared.errors.DavError.{DavError}
@@ -18,20 +18,20 @@ use Rattle.dav_engine.proofs.Following.{follows_done, follows_up_to, follows_the
 abbrev behind_if : DavMethod → Conditions → Option DavMetaData → Bool → Method (Option ℕ)
 behind_if m c found holds = gives (if holds then http_conditions m c.if_match c.if_none_match found else Some 412)
 
--- memory ran out in it
+-- memory ran out in If
 pub if_stopped : (m : DavMethod) (c : Conditions) (found : Option DavMetaData) {s t : StoreState} {ls : Locks}
     → Follows (λ (b : Bool). b) (if_holds c.lists) s ls (Err dav.Memory) t ls
     → Follows (λ (status : Option ℕ). status) (if_match m c found) s ls (Err dav.Memory) t ls
 if_stopped m c found one = follows_err (behind_if m c found) dav.Memory one
 
--- it doesn't hold
+-- If doesn't hold
 pub if_failed : (m : DavMethod) (c : Conditions) (found : Option DavMetaData) (b : Bool) {s t : StoreState} {ls : Locks}
     → b ≡ false → Follows (λ (b : Bool). b) (if_holds c.lists) s ls (Ok b) t ls
     → Follows (λ (status : Option ℕ). status) (if_match m c found) s ls (Ok (Some 412)) t ls
 if_failed m c found false is one = follows_then (behind_if m c found) one (follows_done refl)
 if_failed m c found true is one = absurd (true≢false is)
 
--- it holds: the other conditions decide
+-- If holds: the other conditions decide
 pub if_held : {E : Type 0} (m : DavMethod) (c : Conditions) (found : Option DavMetaData) (b : Bool) (r : Result (Option ℕ) E) {s t : StoreState} {ls : Locks}
     → b ≡ true → IfOk r (λ status. status ≡ http_conditions m c.if_match c.if_none_match found)
     → Follows (λ (b : Bool). b) (if_holds c.lists) s ls (Ok b) t ls
@@ -45,7 +45,7 @@ if_held m c found false r is says one = absurd (true≢false (sym is))
 abbrev pub token_plan : Conditions → Method (Result (List (List ℕ)) ℕ)
 token_plan c = if_holds c.lists >>= (λ holds. gives (if holds then Ok (submitted c.lists) else Err 412))
 
--- the tokens, or the status, as code has them
+-- the tokens, or the status, as the code has them
 abbrev pub Tokens : Type 0
 Tokens = Result (Vec (String Global)) ℕ
 
@@ -66,27 +66,27 @@ no_status_first m c found verdict {s} {t} {ls} {r} says is more =
     subst (λ (v : Option ℕ). Follows tokens_or_status (unless v (token_plan c)) s ls r t ls) says
     (subst (λ (v : Option ℕ). Follows tokens_or_status (unless v (token_plan c)) s ls r t ls) (sym is) more)
 
--- memory ran out in it
+-- memory ran out in If
 pub tokens_stopped : (c : Conditions) {s t : StoreState} {ls : Locks}
     → Follows (λ (b : Bool). b) (if_holds c.lists) s ls (Err dav.Memory) t ls
     → Follows {X = Tokens} tokens_or_status (token_plan c) s ls (Err dav.Memory) t ls
 tokens_stopped c one = follows_err (λ holds. gives (if holds then Ok (submitted c.lists) else Err 412)) dav.Memory one
 
--- it doesn't hold
+-- If doesn't hold
 pub tokens_failed : (c : Conditions) (b : Bool) {s t : StoreState} {ls : Locks}
     → b ≡ false → Follows (λ (b : Bool). b) (if_holds c.lists) s ls (Ok b) t ls
     → Follows {X = Tokens} tokens_or_status (token_plan c) s ls (Ok (Err 412)) t ls
 tokens_failed c false is one = follows_then (λ holds. gives (if holds then Ok (submitted c.lists) else Err 412)) one (follows_done refl)
 tokens_failed c true is one = absurd (true≢false is)
 
--- it holds: these are the tokens
+-- If holds: these are the tokens
 pub tokens_held : (c : Conditions) (b : Bool) (v : Vec (String Global)) {s t : StoreState} {ls : Locks}
     → b ≡ true → texts_of v ≡ submitted c.lists → Follows (λ (b : Bool). b) (if_holds c.lists) s ls (Ok b) t ls
     → Follows {X = Tokens} tokens_or_status (token_plan c) s ls (Ok (Ok v)) t ls
 tokens_held c true v is says one = follows_then (λ holds. gives (if holds then Ok (submitted c.lists) else Err 412)) one (follows_done (ap (λ ts. Ok (Ok ts)) says))
 tokens_held c false v is says one = absurd (true≢false (sym is))
 
--- and memory ran out as they were copied
+-- If holds, and memory ran out while the tokens were copied
 pub tokens_uncopied : (c : Conditions) (b : Bool) {s t : StoreState} {ls : Locks}
     → Follows (λ (b : Bool). b) (if_holds c.lists) s ls (Ok b) t ls
     → Follows {X = Tokens} tokens_or_status (token_plan c) s ls (Err dav.Memory) t ls

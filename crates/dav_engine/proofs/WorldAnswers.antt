@@ -1,4 +1,4 @@
--- The laws of plans and worlds, as they are stated of methods.
+-- The laws of plans and worlds, as they are stated for methods.
 use Rattle.dav_engine.specs.WorldLaws.{ReadingLeavesAll, ProperPlansKeepWorlds, PlansRemember}
 use Rattle.dav_engine.proofs.WorldPlans.{reading_leaves, proper_keeps}
 

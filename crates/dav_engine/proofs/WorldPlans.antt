@@ -1,4 +1,4 @@
--- What plans do to worlds, and how that goes through their parts.
+-- What plans do to worlds, and how that follows from their parts.
 use Rattle.std.proofs.Common.{◌≡◌, Bool, true, false, Result, Ok, Err, refl, ◌∙◌}
 use Rattle.dav_core.specs.declared.errors.FsError.{FsError}
 use Rattle.dav_core.specs.declared.errors.DavError.{DavError}
@@ -31,7 +31,7 @@ proper_keeps (proper_keep more) world (ran_keep rest) = proper_keeps more world 
 
 -- ---- plans of calls of one kind
 
--- a plan that makes calls of this kind alone, and doesn't change the list of locks
+-- a plan that makes only calls of this kind, and doesn't set the list of locks
 pub data Only (P : Call → Type 0) {A : Type 0} : Plan A → Type 0 where
   only_done : {a : A} → Only P (Done a)
   only_ask : {c : Call} {go : Result (Answer c) FsError → Plan A} → P c → ((answer : Result (Answer c) FsError) → Only P (go answer)) → Only P (Ask c go)
@@ -73,7 +73,7 @@ proper_bind plan f (proper_keep {rest = rest} is) more = proper_keep (proper_bin
 
 -- ---- a run in parts
 
--- a run of one part after another: the first came to its end, and then the rest
+-- a run of one part after another: the first ended, and then the rest
 pub record Split (step : Step) {A B : Type 0} (plan : Method A) (f : A → Method B) (old : StoreState) (ls : Locks) (b : Result B DavError) (new : StoreState) (ms : Locks) : Type 0 where
   pub outcome : Result A DavError
   pub mid : StoreState
@@ -94,6 +94,6 @@ ran_split (Keep locks rest) f (ran_keep more) =
     let parts = ran_split rest f more in
     record { outcome = parts.outcome; mid = parts.mid; ks = parts.ks; first = ran_keep parts.first; rest = parts.rest }
 
--- a plan that is done comes to its outcome
+-- a plan that is done has its outcome
 pub ran_outcome : {step : Step} {A : Type 0} {a b : A} {old new : StoreState} {ls ms : Locks} → Ran step (Done a) old ls b new ms → b ≡ a
 ran_outcome ran_done = refl

@@ -1,4 +1,4 @@
--- What contracts see of conditions, and of the calls that judge them.
+-- What contracts see of conditions, and of the calls that evaluate them.
 use Rattle.std.specs.Prelude.{◌≡◌, ℕ, Bool, List, map, codes, string_bytes, String, Option, Result, Ok, Err}
 use Rattle.std.specs.Option.{option_map, option_copied}
 use Rattle.std.specs.Global.{Global, Vec}
@@ -23,11 +23,11 @@ list_of l = record { path = option_map names l.path; conditions = map condition_
 abbrev pub conditions_of : declared.Conditions → Conditions
 conditions_of c = record { if_match = option_map tag_list c.if_match; if_none_match = option_map tag_list c.if_none_match; lists = option_map (λ ls. map list_of ls.items) c.lists }
 
--- the list of locks of a lock system that is lent, where there is one
+-- the list of locks of a borrowed lock system, where there is one
 abbrev pub locks_in : {L : Type 0} → (L → List Lock) → Option (Bor L) → Locks
 locks_in locks ls = option_map locks (option_copied ls)
 
--- texts by their bytes
+-- texts as their bytes
 abbrev pub texts_of : Vec (String Global) → List (List ℕ)
 texts_of v = map string_bytes v.items
 
@@ -35,7 +35,7 @@ abbrev pub tokens_or_status : Result (Vec (String Global)) ℕ → Result (List 
 tokens_or_status (Ok v) = Ok (texts_of v)
 tokens_or_status (Err status) = Err status
 
--- the status that If-Match and If-None-Match answer
+-- the status that If-Match and If-None-Match answer, if they do
 abbrev pub IsHttpVerdict : DavMethod → Headers → Option DavMetaData → Option ℕ → Type 0
 IsHttpVerdict m headers found status =
     (match : Option TagList) × (none_match : Option TagList)
@@ -43,17 +43,17 @@ IsHttpVerdict m headers found status =
     × Decodes IsTagList (get_all headers (codes "if-none-match")) none_match
     × (status ≡ http_conditions m match none_match found)
 
--- whether If holds, and the tokens that it submits
+-- the plan that finds out whether If holds, and gives the tokens that it submits
 pub data IsDavIf (headers : Headers) (prefix : List ℕ) (own : Path) : Method (Bool × List (List ℕ)) → Type 0 where
   is_dav_if : (lists : Option (List Addressed)) → Decodes (SaysLists prefix own) (get_all headers (codes "if")) lists
       → IsDavIf headers prefix own (do
         holds ← if_holds lists
         gives (holds, submitted lists))
 
--- the status that all conditions answer, If first
+-- the plan that gives the status that all conditions answer, with If evaluated first
 pub data IsIfMatch (m : DavMethod) (headers : Headers) (prefix : List ℕ) (own : Path) (found : Option DavMetaData) : Method (Option ℕ) → Type 0 where
   is_if_match : (c : Conditions) → AreConditions headers prefix own c → IsIfMatch m headers prefix own found (if_match m c found)
 
--- and with If last the tokens, or that status
+-- the plan that gives the submitted tokens, or the status that all conditions answer, with If evaluated last
 pub data IsIfMatchGetTokens (m : DavMethod) (headers : Headers) (prefix : List ℕ) (own : Path) (found : Option DavMetaData) : Method (Result (List (List ℕ)) ℕ) → Type 0 where
   is_if_match_get_tokens : (c : Conditions) → AreConditions headers prefix own c → IsIfMatchGetTokens m headers prefix own found (if_match_get_tokens m c found)

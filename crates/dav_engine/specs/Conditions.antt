@@ -1,4 +1,4 @@
--- Conditions of a request (RFC 9110, section 13; RFC 4918, section 10.4): what its headers say, and whether that holds.
+-- Conditions of a request (RFC 9110, section 13; RFC 4918, section 10.4): what its headers say, and whether they hold.
 use Rattle.std.specs.Prelude.{◌≡◌, ◌≢◌, ℕ, ◌==◌, ◌&&◌, Bool, true, false, not, List, [], ◌∷◌, codes, bytes_eq, if◌then◌else◌, Option, Some, None, Result, Ok, Err}
 use Rattle.std.specs.Fmt.{digits}
 use Rattle.std.specs.List.{flat_map, list_any, starts_with}
@@ -25,7 +25,7 @@ use Rattle.dav_engine.specs.Plan.{Locks, Done}
 
 -- ---- what the headers say
 
--- A list of conditions of an If header, and the path that it speaks of, where it speaks of one.
+-- A list of conditions of an If header, and the path that it applies to, where it applies to one.
 pub record Addressed : Type 0 where
   pub path : Option Path
   pub conditions : List Condition
@@ -36,30 +36,30 @@ pub record Conditions : Type 0 where
   pub if_none_match : Option TagList
   pub lists : Option (List Addressed)
 
--- the path of a URL names this one, below a prefix; `*` names none
+-- the path of a URL names this path, below a prefix; `*` names none
 abbrev pub TagNames : List ℕ → Parts → Path → Type 0
 TagNames prefix url q =
     (bytes : List ℕ) × (p : PathText)
     × Reads url.path bytes × (bytes ≢ server) × (prefix_cut (without_slash prefix) bytes ≡ Some p) × (q ≡ names p)
 
--- The path that a list speaks of: the one that its resource tag names, if it has one; else the request's own.
+-- The path that a list applies to: the one that its resource tag names, if it has one; else the request's own.
 abbrev pub SpeaksOf : List ℕ → Path → Option Parts → Option Path → Type 0
 SpeaksOf prefix own None q = q ≡ Some own
 SpeaksOf prefix own (Some url) (Some q) = TagNames prefix url q
 SpeaksOf prefix own (Some url) None = (q : Path) → ¬ TagNames prefix url q
 
--- the lists in order, each with the path that it speaks of
+-- the lists in order, each with the path that it applies to
 abbrev pub AreAddressed : List ℕ → Path → List ConditionList → List Addressed → Type 0
 AreAddressed prefix own [] lists = lists ≡ []
 AreAddressed prefix own (l ∷ ls) lists =
     (q : Option Path) × (more : List Addressed)
     × SpeaksOf prefix own l.resource q × (lists ≡ record { path = q; conditions = l.conditions } ∷ more) × AreAddressed prefix own ls more
 
--- the only value of an If header says these lists
+-- the only value of an If header holds these lists
 abbrev pub SaysLists : List ℕ → Path → List FieldValue → List Addressed → Type 0
 SaysLists prefix own values lists = (ls : List ConditionList) × IsIfHeader values ls × AreAddressed prefix own ls lists
 
--- What the headers say of a path, with the prefix of the request; what doesn't decode counts as absent.
+-- What the headers say of a path, with the prefix of the request; a header that doesn't decode counts as absent.
 pub record AreConditions (headers : Headers) (prefix : List ℕ) (own : Path) (c : Conditions) : Type 0 where
   pub match : Decodes IsTagList (get_all headers (codes "if-match")) c.if_match
   pub none_match : Decodes IsTagList (get_all headers (codes "if-none-match")) c.if_none_match
@@ -67,40 +67,40 @@ pub record AreConditions (headers : Headers) (prefix : List ℕ) (own : Path) (c
 
 -- ---- If-Match and If-None-Match (RFC 9110, sections 13.1.1 and 13.1.2)
 
--- the entity tag of what was found, which is strong: its number in lower-case hexadecimal (RFC 9110, section 8.8.3)
+-- the entity tag of what was found, which is strong: its change number in lower-case hexadecimal (RFC 9110, section 8.8.3)
 abbrev pub tag_found : Option DavMetaData → Option EntityTag
 tag_found None = None
 tag_found (Some m) = option_map (λ number. record { weak = false; tag = digits 16 false number }) m.number
 
--- the strong comparison (RFC 9110, section 8.8.3.2), in If-None-Match too, where the standard takes the weak one
+-- the strong comparison (RFC 9110, section 8.8.3.2), for If-None-Match too, where the standard uses the weak one
 abbrev pub is_strong_match : EntityTag → EntityTag → Bool
 is_strong_match e f = not e.weak && not f.weak && bytes_eq e.tag f.tag
 
--- a list matches what is there: `*` anything, tags what has one of them
+-- whether a list matches what is there: `*` matches anything, tags match what has one of them
 abbrev pub matches : TagList → Bool → Option EntityTag → Bool
 matches star exists tag = exists
 matches (tags ts) exists None = false
 matches (tags ts) exists (Some tag) = list_any (λ t. is_strong_match t tag) ts
 
--- a header's list is `*`
+-- whether a header's list is `*`
 abbrev pub is_star : Option TagList → Bool
 is_star None = false
 is_star (Some star) = true
 is_star (Some (tags ts)) = false
 
--- a header's list matches what was found, where there is one
+-- whether a header's list matches what was found; none without the header
 abbrev pub matches_found : Option TagList → Option DavMetaData → Option Bool
 matches_found None found = None
 matches_found (Some l) found = Some (matches l (is_some found) (tag_found found))
 
--- GET and HEAD
+-- whether the method is GET or HEAD
 abbrev pub is_reading : DavMethod → Bool
 is_reading Get = true
 is_reading Head = true
 is_reading _ = false
 
--- The status that these two conditions answer, if they do: 412 where If-Match doesn't match; and where If-None-Match does, 304
--- for GET and HEAD, 412 for other methods.
+-- The status that these two conditions answer, if they do: 412 where If-Match doesn't match; and where If-None-Match
+-- matches, 304 for GET and HEAD, 412 for other methods.
 abbrev pub http_conditions : DavMethod → Option TagList → Option TagList → Option DavMetaData → Option ℕ
 http_conditions m match none_match found =
     if not (unwrap_or (matches_found match found) true) then Some 412
@@ -109,13 +109,13 @@ http_conditions m match none_match found =
 
 -- ---- If (RFC 4918, section 10.4)
 
--- A state token is true of a path where its lock, or none, is in the way, whoever submits it; without locks none is. One of the
--- namespace `DAV:` never is (RFC 4918, section 10.4.8).
+-- A state token is true of a path that isn't locked against a requester who submits it, whoever that is; without a list of
+-- locks no token is true. A token of the namespace `DAV:` never is (RFC 4918, section 10.4.8).
 abbrev pub token_holds : List ℕ → Path → Locks → Bool
 token_holds token p None = false
 token_holds token p (Some ls) = not (starts_with ◌==◌ token (codes "DAV:")) && is_free (asker_of (token ∷ []) true None) p ls
 
--- an entity tag is true of what has it
+-- an entity tag is true of what the store reports to have it
 abbrev pub tag_holds : EntityTag → Result DavMetaData FsError → Bool
 tag_holds tag answer = matches (tags (tag ∷ [])) true (tag_found (result_ok answer))
 
@@ -125,7 +125,7 @@ has_tag p e = do
   found ← answer_of (Metadata p)
   gives (tag_holds e found)
 
--- whether an item is true of a path: none is true of no path
+-- whether an item is true of a path; where there is no path, no item is true
 abbrev pub item_holds : Option Path → Item → Method Bool
 item_holds None i = gives false
 item_holds (Some p) (state_token t) = do
@@ -133,7 +133,7 @@ item_holds (Some p) (state_token t) = do
   gives (token_holds t p locks)
 item_holds (Some p) (entity_tag e) = has_tag p e
 
--- what comes next, unless this is settled
+-- goes on, unless the answer is settled: by false for `while_true`, by true for `while_false`
 abbrev pub while_true : Bool → Method Bool → Method Bool
 while_true true next = next
 while_true false next = gives false
@@ -146,55 +146,56 @@ while_false false next = next
 abbrev pub condition_holds : Bool → Bool → Bool
 condition_holds negated holds = if negated then not holds else holds
 
--- all conditions of a list hold; they are looked at in order, up to the first that doesn't
+-- whether all conditions of a list hold; they are evaluated in order, up to the first that doesn't
 abbrev pub all_hold : Option Path → List Condition → Method Bool
 all_hold p [] = gives true
 all_hold p (c ∷ cs) = do
   holds ← item_holds p c.item
   while_true (condition_holds c.negated holds) (all_hold p cs)
 
--- one of the lists holds; they are looked at in order, up to the first that does
+-- whether one of the lists holds; they are evaluated in order, up to the first that does
 abbrev pub some_holds : List Addressed → Method Bool
 some_holds [] = gives false
 some_holds (l ∷ ls) = do
   holds ← all_hold l.path l.conditions
   while_false holds (some_holds ls)
 
--- no If holds of everything
+-- whether an If header holds; without the header the answer is yes
 abbrev pub if_holds : Option (List Addressed) → Method Bool
 if_holds None = gives true
 if_holds (Some ls) = some_holds ls
 
--- the state tokens that are submitted: all those of the lists in order, whatever held (RFC 4918, section 10.4.1)
+-- the state tokens that are submitted: all tokens of the lists in order, whether or not the lists hold (RFC 4918, section
+-- 10.4.1)
 abbrev pub submitted : Option (List Addressed) → List (List ℕ)
 submitted None = []
 submitted (Some ls) = flat_map (λ l. flat_map (λ c. tokens_in c.item) l.conditions) ls
 
--- ---- both
+-- ---- all conditions
 
--- If comes first: the status that the conditions answer, if they do. 412 where If doesn't hold.
+-- The status that all conditions answer, if they do, with If evaluated first: 412 where If doesn't hold.
 abbrev pub if_match : DavMethod → Conditions → Option DavMetaData → Method (Option ℕ)
 if_match m c found = do
   holds ← if_holds c.lists
   gives (if holds then http_conditions m c.if_match c.if_none_match found else Some 412)
 
--- what comes next, unless a status was answered
+-- goes on, unless a status was answered
 abbrev pub unless : {A : Type 0} → Option ℕ → Method (Result A ℕ) → Method (Result A ℕ)
 unless (Some status) next = gives (Err status)
 unless None next = next
 
--- If comes last: the tokens that are submitted, or the status that the conditions answer.
+-- The tokens that are submitted, or the status that the conditions answer, with If evaluated last.
 abbrev pub if_match_get_tokens : DavMethod → Conditions → Option DavMetaData → Method (Result (List (List ℕ)) ℕ)
 if_match_get_tokens m c found = unless (http_conditions m c.if_match c.if_none_match found) (do
   holds ← if_holds c.lists
   gives (if holds then Ok (submitted c.lists) else Err 412))
 
--- a status as an error of a method
+-- turns a status into an error of a method
 abbrev pub status_as : {A : Type 0} → (ℕ → DavError) → Result A ℕ → Result A DavError
 status_as f (Ok a) = Ok a
 status_as f (Err status) = Err (f status)
 
--- goes on with the tokens where the conditions hold; else their status is the end
+-- gives the tokens where the conditions hold; else ends with their status
 abbrev pub guarded : (ℕ → DavError) → DavMethod → Conditions → Option DavMetaData → Method (List (List ℕ))
 guarded f m c found = do
   verdict ← if_match_get_tokens m c found

@@ -6,19 +6,19 @@ use Rattle.httpdate.specs.Valid.{IsValid, parts_secs}
 use Rattle.dav_core.specs.World.{last_moment}
 use Rattle.httpdate.specs.declared.parts.Parts.{Parts}
 
--- A day so many days after the first of January of the year y: its year, and how many days of that year come before
--- it. Years are tried from y on, at most so many more.
+-- The year of the day that is this many days after 1 January of the year y, and how many days of that year come before the
+-- day. Years are tried from y on, at most so many more.
 unfoldable pub year_of : ℕ → ℕ → ℕ → ℕ × ℕ
 year_of zero y days = (y, days)
 year_of (suc years) y days = if nat_lt days (days_in_year y) then (y, days) else year_of years (y + 1) (days - days_in_year y)
 
--- A day so many days after the first of the month m: its month, and how many days of that month come before it.
--- Months are tried from m on, at most so many more.
+-- The month of the day that is this many days after the first of the month m of the year y, and how many days of that month
+-- come before the day. Months are tried from m on, at most so many more.
 unfoldable pub month_of : ℕ → ℕ → ℕ → ℕ → ℕ × ℕ
 month_of zero y m days = (m, days)
 month_of (suc months) y m days = if nat_lt days (days_in_month y m) then (m, days) else month_of months y (m + 1) (days - days_in_month y m)
 
--- the date of these many days after the first of January of 1970, with this year and month
+-- the date of the day that is this many days after 1 January 1970, given its year, its month, and the seconds since midnight
 abbrev pub date_on : ℕ × ℕ → ℕ × ℕ → ℕ → ℕ → Parts
 date_on year month days clock = record {
   year = year.0;
@@ -30,17 +30,17 @@ date_on year month days clock = record {
   wday = weekday days;
 }
 
--- The date of a moment, in seconds since 1970: from 1970 on 8029 more years are tried, which is up to 9999. That it
--- is the one date of the calendar with so many seconds is a law (`DatesOfMoments`).
+-- The date of a moment, which is in seconds since 1970. From 1970 on 8029 more years are tried, so up to 9999. That it is
+-- the one date of the calendar with so many seconds since 1970 is a law (`DatesOfMoments`).
 unfoldable pub date_of : ℕ → Parts
 date_of moment =
     let year = year_of 8029 1970 (moment / 86400) in
     date_on year (month_of 11 year.0 1 year.1) (moment / 86400) (moment % 86400)
 
--- `Thu, 01 Jan 1970 00:00:01 GMT`
+-- the text of that date, as in `Thu, 01 Jan 1970 00:00:01 GMT`
 abbrev pub date_text_of : ℕ → List ℕ
 date_text_of moment = imf_fixdate (date_of moment)
 
--- the date of each moment up to the end of 9999 is a date of the calendar, and has the moment's seconds
+-- the date of each moment up to the end of 9999 is a date of the calendar, and has the moment's seconds since 1970
 abbrev pub DatesOfMoments : Type 0
 DatesOfMoments = (moment : ℕ) → moment ≤ last_moment → IsValid (date_of moment) × (parts_secs (date_of moment) ≡ moment)

@@ -1,4 +1,4 @@
--- What contracts say of code that carries out a plan.
+-- What contracts say about code that carries out a plan.
 use Rattle.std.specs.Prelude.{◌≡◌, Result, Ok, Err}
 use Rattle.dav_core.specs.declared.errors.DavError.{DavError}
 use Rattle.dav_core.specs.declared.errors.DavError.TheVariants as dav
@@ -8,31 +8,31 @@ use Rattle.dav_engine.specs.Method.{Method}
 use Rattle.dav_engine.specs.Response.{Response, response_of}
 use Rattle.dav_engine.specs.declared.reply.Reply.{Reply}
 
--- a result, by what its value stands for
+-- a result with its value as contracts see it
 abbrev pub viewed : {A X : Type 0} → (X → A) → Result X DavError → Result A DavError
 viewed view (Ok x) = Ok (view x)
 viewed view (Err e) = Err e
 
--- The plan was carried out, on any lawful store, and came to this result; or the result is want of memory, the first calls of
--- the plan were made, and the list of locks is as before, or as the plan leaves it where each later call is refused.
+-- The plan was carried out on any lawful store, with this result; or the result is `Memory`: the first calls of the plan
+-- were made, and the list of locks is as before, or as the plan leaves it where each later call is refused.
 pub data Follows {A X : Type 0} (view : X → A) (plan : Method A) (old : StoreState) (ls : Locks) (result : Result X DavError) (new : StoreState) (ms : Locks) : Type 0 where
   followed : Ran Asks plan old ls (viewed view result) new ms → Follows view plan old ls result new ms
   gave_up : result ≡ Err dav.Memory → Cut Asks ls plan old ls new ms → Follows view plan old ls result new ms
 
--- The same of code that has the store alone: whatever the list of locks is, it stays.
+-- The same for code that has only the store: whatever the list of locks is, it stays.
 abbrev pub Makes : {A X : Type 0} → (X → A) → Method A → StoreState → Result X DavError → StoreState → Type 0
 Makes view plan old result new = (ls : Locks) → Follows view plan old ls result new ls
 
--- A result was come to as a plan of this kind says; or memory ran out before its plan was known, and nothing was done.
+-- The result is that of a plan of this kind; or memory ran out before its plan was known, and nothing was done.
 pub data Carries {A X : Type 0} (view : X → A) (kind : Method A → Type 0) (old : StoreState) (ls : Locks) (result : Result X DavError) (new : StoreState) (ms : Locks) : Type 0 where
   served : (plan : Method A) → kind plan → Follows view plan old ls result new ms → Carries view kind old ls result new ms
   not_begun : result ≡ Err dav.Memory → new ≡ old → ms ≡ ls → Carries view kind old ls result new ms
 
--- the same of a request that is answered
+-- the same for a request that is answered
 abbrev pub Serves : (Method Response → Type 0) → StoreState → Locks → Result Reply DavError → StoreState → Locks → Type 0
 Serves = Carries response_of
 
--- a result that want of memory alone may end, as one of a method
+-- a result whose only error is out of memory, as the result of a method
 abbrev pub or_memory : {X E : Type 0} → Result X E → Result X DavError
 or_memory (Ok x) = Ok x
 or_memory (Err e) = Err dav.Memory

@@ -7,12 +7,12 @@ use Rattle.http_header.specs.FieldValue.{FieldValue, is_visible_text}
 abbrev pub Headers : Type 0
 Headers = Entries FieldValue
 
--- What typed values a header's grammar finds in the field's values. What doesn't decode counts as absent.
+-- The typed value that a header's grammar finds in the field's values. What doesn't decode counts as absent.
 abbrev pub Decodes : {A : Type 0} → (List FieldValue → A → Type 0) → List FieldValue → Option A → Type 0
 Decodes grammar values (Some a) = grammar values a
 Decodes {A} grammar values None = (a : A) → ¬ grammar values a
 
--- a value where it is text
+-- the bytes of a value that is text
 abbrev pub text_in : Option FieldValue → Option (List ℕ)
 text_in None = None
 text_in (Some v) = if is_visible_text v.bytes then Some v.bytes else None

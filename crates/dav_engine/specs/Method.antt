@@ -1,4 +1,4 @@
--- Methods: plans that an error may end, and the words that they are written with.
+-- Methods: plans that an error may end, and the operations that they are written with.
 use Rattle.std.specs.Prelude.{Bool, true, false, Some, None, Result, Ok, Err}
 use Rattle.dav_core.specs.declared.errors.FsError.{FsError}
 use Rattle.dav_core.specs.declared.errors.DavError.{DavError}
@@ -12,7 +12,7 @@ use Rattle.dav_engine.specs.Plan.{Plan, Locks, Done, Ask, Look, Keep}
 abbrev pub Method : Type 0 → Type 0
 Method A = Plan (Result A DavError)
 
--- what follows a part that came to an end; an error is the end of all
+-- goes on with the outcome of a part; an error ends the whole plan
 abbrev pub then : {A B : Type 0} → Result A DavError → (A → Method B) → Method B
 then (Ok a) f = f a
 then (Err e) f = Done (Err e)
@@ -25,46 +25,48 @@ abbrev pub ◌>>=◌ : {A B : Type 0} → Method A → (A → Method B) → Meth
 (Look go) >>= f = Look (λ locks. go locks >>= f)
 (Keep locks rest) >>= f = Keep locks (rest >>= f)
 
--- the end, with this outcome
+-- ends with this outcome
 abbrev pub gives : {A : Type 0} → A → Method A
 gives a = Done (Ok a)
 
--- the end, with this error
+-- ends with this error
 abbrev pub fails : {A : Type 0} → DavError → Method A
 fails e = Done (Err e)
 
--- goes on where the test holds; else this error is the end
+-- goes on where the test holds; else ends with this error
 abbrev pub require : Bool → DavError → Method (Unit {0})
 require true e = Done (Ok tt)
 require false e = Done (Err e)
 
--- makes a call, and goes on by its answer, which may be a refusal
+-- makes a call and gives its answer, which may be a refusal
 abbrev pub answer_of : (c : Call) → Method (Result (Answer c) FsError)
 answer_of c = Ask c (λ answer. Done (Ok answer))
 
--- looks at the list of locks
+-- reads the list of locks
 abbrev pub look : Method Locks
 look = Look (λ locks. Done (Ok locks))
 
--- an answer; a refusal as an error of the method
+-- an answer, with a refusal turned into an error of the method
 abbrev pub refused_as : {A : Type 0} → (FsError → DavError) → Result A FsError → Result A DavError
 refused_as f (Ok a) = Ok a
 refused_as f (Err e) = Err (f e)
 
--- makes a call; where it is refused, this error is the end
+-- makes a call; where it is refused, ends with the error that f makes of the refusal
 abbrev pub ask_or : (FsError → DavError) → (c : Call) → Method (Answer c)
 ask_or f c = Ask c (λ answer. Done (refused_as f answer))
 
--- makes a call; where it is refused, its refusal is the end
+-- makes a call; where it is refused, ends with the refusal
 abbrev pub ask_for : (c : Call) → Method (Answer c)
 ask_for = ask_or dav.FsError
 
--- a path is free for who asks (RFC 4918, section 7.5); without locks each is
+-- whether a path isn't locked against the requester (RFC 4918, section 7.5), for infinite depth with everything below it;
+-- without a list of locks no path is locked
 abbrev pub is_open : Bool → Asker → Path → Locks → Bool
 is_open deep who p None = true
 is_open deep who p (Some ls) = is_free_for deep who p ls
 
--- goes on where the path is free, for a deep question with all below it; else this error is the end
+-- goes on where the path isn't locked against the requester, for infinite depth with everything below it; else ends with
+-- this error
 abbrev pub require_free : Bool → Asker → Path → DavError → Method (Unit {0})
 require_free deep who p e = do
   locks ← look

@@ -16,34 +16,35 @@ use Rattle.dav_engine.specs.Headers.{Headers}
 use Rattle.dav_engine.specs.Method.{Method, ◌>>=◌, require_free, answer_of, ask_or, gives}
 use Rattle.dav_engine.specs.Response.{Response, Header}
 
--- where a folder is: the text of its path in a URL, with its prefix (RFC 9110, section 8.7)
+-- Content-Location: the text of a folder's path in a URL, with its prefix (RFC 9110, section 8.7)
 abbrev pub content_location : PathText → Header
 content_location p = (codes "content-location", path_text (full_bytes p))
 
--- a folder was made; where its path ends in a slash, it is told
+-- the reply to a folder that was made: 201, with its location where its path ends in a slash
 abbrev pub made : PathText → Response
 made p = record { status = 201; headers = if is_collection p.bytes then content_location p ∷ [] else []; body = reply.Nothing }
 
--- a folder isn't made: 405 where something is there, 409 where no folder is above it; other refusals are as they are
+-- the error where the folder isn't made: 405 where something is there, 409 where no folder is above it; other refusals as
+-- they are
 abbrev pub create_error : FsError → DavError
 create_error fs.Exists = dav.Status 405
 create_error fs.NotFound = dav.Status 409
 create_error e = dav.FsError e
 
--- What is judged before the folder is made: 412 where a condition fails, 423 where a lock is in the way.
+-- The checks before the folder is made: 412 where a condition fails, 423 where a lock conflicts.
 abbrev pub mkcol_allowed : Conditions → PathText → Client → Method (Unit {0})
 mkcol_allowed c p who = do
   found ← answer_of (Metadata (names p))
   tokens ← guarded dav.Status MkCol c (result_ok found)
   require_free false (asker who tokens) (names p) (dav.Status 423)
 
--- MKCOL
+-- MKCOL, with the conditions of its headers
 abbrev pub mkcol : Conditions → PathText → Client → Method Response
 mkcol c p who = do
   _ ← mkcol_allowed c p who
   _ ← ask_or create_error (CreateDir (names p) who.moment)
   gives (made p)
 
--- The plan is that of a MKCOL with these headers, to a path.
+-- The plan of a MKCOL with these headers, to a path.
 pub data IsMkcol (headers : Headers) (p : PathText) (who : Client) : Method Response → Type 0 where
   is_mkcol : (c : Conditions) → AreConditions headers p.prefix (names p) c → IsMkcol headers p who (mkcol c p who)

@@ -1,4 +1,4 @@
--- A request has one plan at most: the laws.
+-- Laws: a request has one plan at most.
 use Rattle.std.specs.Prelude.{◌≡◌, List, ℕ}
 use Rattle.dav_core.specs.declared.method.DavMethod.{DavMethod}
 use Rattle.dav_core.specs.Path.{Path, PathText}
@@ -11,13 +11,13 @@ use Rattle.dav_engine.specs.Mkcol.{IsMkcol}
 use Rattle.dav_engine.specs.Put.{PutHeaders, ArePutHeaders, IsPut}
 use Rattle.dav_engine.specs.Response.{Response}
 
--- headers say one thing of a path, as conditions
+-- the headers of a request say one thing of a path, as conditions
 abbrev pub OneReadingOfConditions : Type 0
 OneReadingOfConditions =
     (headers : Headers) (prefix : List ℕ) (own : Path) (a b : Conditions)
     → AreConditions headers prefix own a → AreConditions headers prefix own b → a ≡ b
 
--- and as those of a PUT or PATCH
+-- the headers of a request say one thing as those of a PUT or PATCH
 abbrev pub OneReadingOfPut : Type 0
 OneReadingOfPut = (headers : Headers) (p : PathText) (a b : PutHeaders) → ArePutHeaders headers p a → ArePutHeaders headers p b → a ≡ b
 
@@ -27,7 +27,7 @@ OnePutPlan =
     (m : DavMethod) (headers : Headers) (p : PathText) (body : Body) (who : Client) (one other : Method Response)
     → IsPut m headers p body who one → IsPut m headers p body who other → one ≡ other
 
--- so has a MKCOL
+-- A MKCOL has one plan at most, too.
 abbrev pub OneMkcolPlan : Type 0
 OneMkcolPlan =
     (headers : Headers) (p : PathText) (who : Client) (one other : Method Response)

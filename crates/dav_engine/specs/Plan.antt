@@ -1,5 +1,5 @@
--- What a method of the server does, as data: which calls of the store it makes, how it goes on by their answers, and what it
--- makes of the list of locks. What a plan may come to under a store that may refuse any call.
+-- What a method of the server does, as data: which store calls it makes, how it goes on after each answer, and what it does
+-- with the list of locks. What a plan may result in on a store that may refuse any call.
 use Rattle.std.specs.Prelude.{List, Option, Some, None, Result, Err}
 use Rattle.dav_core.specs.declared.errors.FsError.{FsError}
 use Rattle.dav_core.specs.Asking.{Call, Answer, StoreState}
@@ -9,25 +9,25 @@ use Rattle.dav_core.specs.Locks.{Lock}
 abbrev pub Locks : Type 0
 Locks = Option (List Lock)
 
--- the list after it was set; without a lock system nothing is kept
+-- the list after it was set; without a lock system there is no list
 abbrev pub kept : Locks → List Lock → Locks
 kept None locks = None
 kept (Some old) locks = Some locks
 
--- A plan: it is done, with an outcome; or it asks the store, and goes on by the answer; or it looks at the list of locks,
--- and goes on by it; or it sets the list, and goes on.
+-- A plan: it is done, with an outcome; or it makes a store call, and its answer decides how it goes on; or it reads the
+-- list of locks, which decides how it goes on; or it sets the list, and goes on.
 pub data Plan (A : Type 0) : Type 0 where
   Done : A → Plan A
   Ask : (call : Call) → (Result (Answer call) FsError → Plan A) → Plan A
   Look : (Locks → Plan A) → Plan A
   Keep : List Lock → Plan A → Plan A
 
--- One call of a store, as a relation of the store before it, its answer and the store after it: that of every lawful store is
--- `Asks` of dav_core.
+-- One call of a store, as a relation between the store before it, its answer and the store after it: that of every lawful
+-- store is `Asks` of dav_core.
 abbrev pub Step : Type 1
 Step = (call : Call) → StoreState → Result (Answer call) FsError → StoreState → Type 0
 
--- From this store and this list of locks, the plan may come to this outcome, and leave this store and this list.
+-- From the first store and list of locks, the plan may end with this outcome, and leave the second store and list.
 pub data Ran (step : Step) {A : Type 0} : Plan A → StoreState → Locks → A → StoreState → Locks → Type 0 where
   ran_done : {a : A} {s : StoreState} {ls : Locks} → Ran step (Done a) s ls a s ls
   ran_ask : {c : Call} {go : Result (Answer c) FsError → Plan A} {old mid new : StoreState} {ls ms : Locks} {answer : Result (Answer c) FsError} {a : A}
@@ -35,14 +35,14 @@ pub data Ran (step : Step) {A : Type 0} : Plan A → StoreState → Locks → A 
   ran_look : {go : Locks → Plan A} {old new : StoreState} {ls ms : Locks} {a : A} → Ran step (go ls) old ls a new ms → Ran step (Look go) old ls a new ms
   ran_keep : {locks : List Lock} {rest : Plan A} {old new : StoreState} {ls ms : Locks} {a : A} → Ran step rest old (kept ls locks) a new ms → Ran step (Keep locks rest) old ls a new ms
 
--- From this list of locks the plan leaves this one where each of its calls is refused.
+-- From the first list of locks, the plan leaves the second one where each of its calls is refused.
 pub data Refused {A : Type 0} : Plan A → Locks → Locks → Type 0 where
   refused_done : {a : A} {ls : Locks} → Refused (Done a) ls ls
   refused_ask : {c : Call} {go : Result (Answer c) FsError → Plan A} {ls ms : Locks} (e : FsError) → Refused (go (Err e)) ls ms → Refused (Ask c go) ls ms
   refused_look : {go : Locks → Plan A} {ls ms : Locks} → Refused (go ls) ls ms → Refused (Look go) ls ms
   refused_keep : {locks : List Lock} {rest : Plan A} {ls ms : Locks} → Refused rest (kept ls locks) ms → Refused (Keep locks rest) ls ms
 
--- Memory ran out in a plan: the first of its calls were made, each of them whole. The list of locks is the first one again, or
+-- Memory ran out in a plan: the first of its calls were made, each of them whole. The list of locks is `first` again, or
 -- the one that the plan leaves where each later call is refused.
 pub data Cut (step : Step) {A : Type 0} (first : Locks) : Plan A → StoreState → Locks → StoreState → Locks → Type 0 where
   cut_first : {plan : Plan A} {s : StoreState} {ls : Locks} → Cut step first plan s ls s first

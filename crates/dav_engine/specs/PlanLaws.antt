@@ -1,4 +1,4 @@
--- Laws over plans: what may be said of every method, whatever its plan is.
+-- Laws of plans: what holds of every method, whatever its plan is.
 use Rattle.std.specs.Prelude.{◌≡◌, ◌⊎◌, false, List, [], Option, Result}
 use Rattle.dav_core.specs.declared.errors.FsError.{FsError}
 use Rattle.dav_core.specs.declared.errors.DavError.{DavError}
@@ -8,32 +8,35 @@ use Rattle.dav_engine.specs.Plan.{Locks, Ran, Cut}
 use Rattle.dav_engine.specs.Method.{Method}
 use Rattle.dav_engine.specs.Response.{Response}
 
--- a store that holds a world, will refuse these calls, and has never wanted memory
+-- a store that holds this world, will refuse these calls, and never ran out of memory
 abbrev pub ample : World → List (Option FsError) → StoreState
 ample w refusals = record { world = w; refusals = refusals; short = false }
 
--- Where memory was never wanted, what a plan comes to is determined: its outcome, and the store and the list that it leaves.
+-- Where the store never ran out of memory, the outcome of a plan is determined, and so are the store and the list of locks
+-- that it leaves.
 abbrev pub PlansAreDetermined : Type 0
 PlansAreDetermined =
     (plan : Method Response) (old s t : StoreState) (ls ks ms : Locks) (a b : Result Response DavError)
     → Ran Asks plan old ls a s ks → s.short ≡ false → Ran Asks plan old ls b t ms → t.short ≡ false
     → (a ≡ b) × (s ≡ t) × (ks ≡ ms)
 
--- Every plan comes to something, from any store and any list, and no memory need be wanted.
+-- Every plan ends with some outcome, from any store and any list of locks, and can do so without the store running out of
+-- memory.
 abbrev pub PlansEnd : Type 0
 PlansEnd =
     (plan : Method Response) (old : StoreState) (ls : Locks)
     → (a : Result Response DavError) × (new : StoreState) × (ms : Locks) × Ran Asks plan old ls a new ms × (new.short ≡ old.short)
 
--- Want of memory in the store is like refusals: under some list of refusals the plan comes to the same with memory enough.
+-- A store that runs out of memory is like one that refuses calls: under some list of refusals, the plan has the same
+-- outcome and leaves the same world and list of locks in a store with memory enough.
 abbrev pub WantIsLikeRefusals : Type 0
 WantIsLikeRefusals =
     (plan : Method Response) (old new : StoreState) (ls ms : Locks) (a : Result Response DavError)
     → Ran Asks plan old ls a new ms
     → (refusals : List (Option FsError)) × Ran Asks plan (ample old.world refusals) ls a (ample new.world []) ms
 
--- Want of memory in the midst of a plan leaves the store as some list of refusals leaves it with memory enough; the list of locks
--- is as they leave it, or as it was before the request.
+-- A plan in which memory runs out leaves the store as it does under some list of refusals with memory enough; the list of
+-- locks is as they leave it, or as it was before the request.
 abbrev pub CutsAreLikeRefusals : Type 0
 CutsAreLikeRefusals =
     (plan : Method Response) (old new : StoreState) (first ls ms : Locks)

@@ -38,8 +38,9 @@ use Rattle.dav_engine.specs.Response.{Response, content_length, validators}
 
 -- ---- what the headers say
 
--- What the headers of a PUT or PATCH say: its conditions; the length that is announced for the body; the part of the file that
--- Content-Range tells; whether the body is a partial update, and of which bytes; and the checksum that comes with it.
+-- What the headers of a PUT or PATCH say: its conditions; the length that is announced for the body; the part of the file
+-- that Content-Range names; whether the body is a partial update, and of which bytes; and the checksum that comes with the
+-- body.
 pub record PutHeaders : Type 0 where
   pub conditions : Conditions
   pub announced : Option ℕ
@@ -48,7 +49,7 @@ pub record PutHeaders : Type 0 where
   pub update : Option XUpdateRange
   pub checksum : Option (List ℕ)
 
--- X-Expected-Entity-Length: its first value is a number
+-- the length that X-Expected-Entity-Length announces: its first value, where that is a number
 abbrev pub IsExpectedLength : List FieldValue → ℕ → Type 0
 IsExpectedLength values n = (v : FieldValue) × (vs : List FieldValue) × (values ≡ v ∷ vs) × IsNumber v.bytes n
 
@@ -60,14 +61,14 @@ IsAnnounced headers announced =
     × Decodes IsExpectedLength (get_all headers (codes "x-expected-entity-length")) expected
     × (announced ≡ option_or length expected)
 
--- What Content-Range says (RFC 9110, section 14.4): unread where it stands in the head and is no range; the whole where it doesn't
--- stand there, or tells no bounds; else the bytes from one place to another.
+-- What Content-Range says (RFC 9110, section 14.4): unread where the header is there and is no range; the whole file where
+-- it isn't there, or has no bounds; else the bytes from one place to another.
 abbrev pub TellsBounds : List FieldValue → Bounds → Type 0
 TellsBounds values Unread = ((values ≡ []) → ⊥) × NoContentRange values
 TellsBounds values Whole = (values ≡ []) ⊎ ((length : Option ℕ) × IsContentRange values None length)
 TellsBounds values (Within a b) = (length : Option ℕ) × IsContentRange values (Some (a, b)) length
 
--- the part that a range tells
+-- the part of a file that a range names
 abbrev pub bounds_of : Option (ℕ × ℕ) → Bounds
 bounds_of None = Whole
 bounds_of (Some (a, b)) = Within a b
@@ -80,7 +81,7 @@ abbrev pub is_text : Option (List ℕ) → List ℕ → Bool
 is_text None wanted = false
 is_text (Some text) wanted = bytes_eq text wanted
 
--- the only value of Content-Type is that of a partial update
+-- whether the only value of Content-Type is the media type of a partial update
 abbrev pub is_partial_update : List FieldValue → Bool
 is_partial_update values = is_text (only_text values) partial_update
 
@@ -88,7 +89,7 @@ is_partial_update values = is_text (only_text values) partial_update
 abbrev pub checksum_in : Headers → Option (List ℕ)
 checksum_in headers = text_in (get headers (codes "oc-checksum"))
 
--- what the headers of a PUT or PATCH to p say; what doesn't decode counts as absent, but for Content-Range
+-- what the headers of a PUT or PATCH to p say; a header that doesn't decode counts as absent, except for Content-Range
 pub record ArePutHeaders (headers : Headers) (p : PathText) (h : PutHeaders) : Type 0 where
   pub conditions : AreConditions headers p.prefix (names p) h.conditions
   pub announced : IsAnnounced headers h.announced
@@ -99,20 +100,20 @@ pub record ArePutHeaders (headers : Headers) (p : PathText) (h : PutHeaders) : T
 
 -- ---- where the bytes go
 
--- the range isn't satisfiable (RFC 9110, section 15.5.17)
+-- the error for a range that isn't satisfiable (RFC 9110, section 15.5.17)
 abbrev pub unsatisfiable : DavError
 unsatisfiable = dav.StatusClose 416
 
--- from the first of two places to the second there are so many bytes
+-- whether there are n bytes from the first of two places to the second, both included
 abbrev pub spans : ℕ → ℕ → ℕ → Bool
 spans first last n = not (nat_lt last first) && (last - first + 1 == n)
 
--- the place that n bytes before the end of what was found have; 0 where nothing was
+-- the place that is n bytes before the end of the file that was found; 0 where nothing was found
 abbrev pub from_end : ℕ → Option DavMetaData → Result ℕ DavError
 from_end n None = Ok 0
 from_end n (Some m) = if nat_lt m.len n then Err unsatisfiable else Ok (m.len - n)
 
--- where a partial update of so many bytes begins
+-- where a partial update of n bytes begins
 abbrev pub update_from : XUpdateRange → ℕ → Option DavMetaData → Result ℕ DavError
 update_from (FromTo first last) n found = if spans first last n then Ok first else Err unsatisfiable
 update_from (AllFrom first) n found = Ok first
@@ -123,28 +124,29 @@ abbrev pub is_append : XUpdateRange → Bool
 is_append Append = true
 is_append _ = false
 
--- a place as that of a partial update
+-- what a partial update writes that begins at this place
 abbrev pub update_at : XUpdateRange → ℕ → Result ℕ DavError → Result Writing DavError
 update_at range n (Ok first) = Ok (record { from = Some first; appends = is_append range; announced = Some n })
 update_at range n (Err e) = Err e
 
--- 411 where no length is announced, 400 without X-Update-Range
+-- what a partial update writes: 411 where no length is announced, 400 without X-Update-Range
 abbrev pub updates : Option ℕ → Option XUpdateRange → Option DavMetaData → Result Writing DavError
 updates None range found = Err (dav.StatusClose 411)
 updates (Some n) None found = Err (dav.StatusClose 400)
 updates (Some n) (Some range) found = update_at range n (update_from range n found)
 
--- what a method writes by itself: PATCH a partial update, 415 for any other body; PUT the whole file
+-- what a method writes without a Content-Range: PATCH a partial update, with 415 for any other body; PUT the whole file
 abbrev pub written_by : DavMethod → PutHeaders → Option DavMetaData → Result Writing DavError
 written_by Patch h found = if h.is_partial then updates h.announced h.update found else Err (dav.StatusClose 415)
 written_by _ h found = Ok (record { from = None; appends = false; announced = h.announced })
 
--- n bytes from a place on: as many as were announced, where that was done; a length announces them where it is below 2^64
+-- n bytes from a place on: n has to be the announced length, where there is one; else n is announced, and has to be below
+-- 2^64
 abbrev pub placed : ℕ → ℕ → Writing → Option ℕ → Result Writing DavError
 placed first n w None = if nat_lt max_u64 n then Err unsatisfiable else Ok (record w { from = Some first; announced = Some n })
 placed first n w (Some k) = if n == k then Ok (record w { from = Some first }) else Err unsatisfiable
 
--- what Content-Range makes of it
+-- what is written with this Content-Range
 abbrev pub bounded : Bounds → Writing → Result Writing DavError
 bounded Unread w = Err (dav.StatusClose 400)
 bounded Whole w = Ok w
@@ -160,8 +162,8 @@ writing_of m h found = bounded_by h.range (written_by m h found)
 
 -- ---- the file
 
--- The file is emptied, unless bytes go to a place in it. It is made where nothing is there, unless If-Match is `*`; and with
--- If-None-Match `*` nothing may be there.
+-- How the file is opened: it is emptied, unless bytes go to a place in it. It is made where nothing is there, unless
+-- If-Match is `*`; and with If-None-Match `*` nothing may be there.
 abbrev pub put_opening : PutHeaders → Writing → Opening
 put_opening h w = record no_opening {
   write = true;
@@ -173,33 +175,34 @@ put_opening h w = record no_opening {
   checksum = h.checksum;
 }
 
--- what is missing or in the way: what a condition asked for, or a folder above the path
+-- the status where a file is missing or already there: 412 where a condition asked for that, else 409 (no folder is above
+-- the path)
 abbrev pub missing_status : Opening → ℕ
 missing_status how = if not how.create || how.create_new then 412 else 409
 
--- a file isn't opened; other refusals are as they are
+-- the error where the file isn't opened; other refusals as they are
 abbrev pub open_error : Opening → FsError → DavError
 open_error how fs.NotFound = dav.StatusClose (missing_status how)
 open_error how fs.Exists = dav.StatusClose (missing_status how)
 open_error how e = dav.FsError e
 
--- the place is sought, where there is one
+-- seeks the place, where there is one
 abbrev pub sought : Option ℕ → Handle → Method Handle
 sought None file = gives file
 sought (Some place) file = do
   moved ← ask_or (λ _. unsatisfiable) (Seek file (Start place))
   gives moved.1
 
--- the body has the length that is announced for it, where one is
+-- whether the body has the length that is announced for it, where one is
 abbrev pub is_announced : Option ℕ → List ℕ → Bool
 is_announced None bytes = true
 is_announced (Some n) bytes = n == length bytes
 
--- bytes are written, where there are any
+-- writes the bytes, where there are any
 abbrev pub written : Handle → List ℕ → ℕ → Method Handle
 written file bytes now = if length bytes == 0 then gives file else ask_for (Write file bytes now)
 
--- A file was stored: 204 where something was found before, else 201.
+-- The reply to a file that was stored: 204 where something was found before, else 201.
 abbrev pub stored : Bool → Option DavMetaData → Response
 stored found file = record {
   status = if found then 204 else 201;
@@ -207,8 +210,7 @@ stored found file = record {
   body = reply.Nothing;
 }
 
--- The bytes are stored: the file is opened, the place is sought, the bytes are written and flushed, and the file is asked for its
--- tag and time.
+-- Stores the bytes: opens the file, seeks the place, writes and flushes the bytes, and asks the file for its tag and time.
 abbrev pub store : Opening → Option ℕ → Path → List ℕ → ℕ → Bool → Method Response
 store how place p bytes now found = do
   file ← ask_or (open_error how) (Open p how now)
@@ -220,8 +222,8 @@ store how place p bytes now found = do
 
 -- ---- the method
 
--- What is judged before the file is opened: where the bytes go; 412 where a condition fails; 423 where a lock is in the way; 400
--- where the body isn't of the announced length. With where they go comes whether something was found at the path.
+-- The checks before the file is opened: where the bytes go; 412 where a condition fails; 423 where a lock conflicts; 400
+-- where the body isn't of the announced length. Gives where the bytes go, and whether something was found at the path.
 abbrev pub put_allowed : DavMethod → PutHeaders → Path → Client → List ℕ → Method (Writing × Bool)
 put_allowed m h p who bytes = do
   found ← answer_of (Metadata p)
@@ -237,18 +239,18 @@ put m h p who bytes = do
   allowed ← put_allowed m h p who bytes
   store (put_opening h allowed.0) allowed.0.from p bytes who.moment allowed.1
 
--- the bytes that a body brings; an element tree brings none
+-- the bytes of a body; none for an element tree and for a malformed one
 abbrev pub bytes_of_body : Body → Option (List ℕ)
 bytes_of_body body.None = Some []
 bytes_of_body (body.Bytes bytes) = Some bytes
 bytes_of_body (body.Tree tree) = None
 bytes_of_body body.Malformed = None
 
--- 415 for a body that isn't bytes
+-- PUT and PATCH with this body: 415 for one that isn't bytes
 abbrev pub put_body : DavMethod → PutHeaders → Path → Client → Option (List ℕ) → Method Response
 put_body m h p who None = fails (dav.Status 415)
 put_body m h p who (Some bytes) = put m h p who bytes
 
--- The plan is that of a PUT or PATCH with these headers and this body, to a path.
+-- The plan of a PUT or PATCH with these headers and this body, to a path.
 pub data IsPut (m : DavMethod) (headers : Headers) (p : PathText) (body : Body) (who : Client) : Method Response → Type 0 where
   is_put : (h : PutHeaders) → ArePutHeaders headers p h → IsPut m headers p body who (put_body m h (names p) who (bytes_of_body body))

@@ -1,4 +1,4 @@
--- What is answered: replies as contracts see them (RFC 9110, sections 8 and 15).
+-- Replies as contracts see them (RFC 9110, sections 8 and 15).
 use Rattle.std.specs.Prelude.{ℕ, ◌++◌, Bool, List, [], ◌∷◌, map, codes, if◌then◌else◌, Option, Some, None, Result, Ok, Err}
 use Rattle.std.specs.Fmt.{decimal}
 use Rattle.http_header.specs.HeaderMap.{Entries, pairs, insert}
@@ -30,46 +30,46 @@ headers_in headers = map (λ h. (h.0, h.1.bytes)) (pairs headers)
 abbrev pub response_of : Reply → Response
 response_of r = record { status = r.status; headers = headers_in r.headers; body = r.body }
 
--- how many bytes the body has (RFC 9110, section 8.6)
+-- Content-Length: how many bytes the body has (RFC 9110, section 8.6)
 abbrev pub content_length : ℕ → Header
 content_length n = (codes "content-length", decimal n)
 
--- the entity tag of a file or folder whose last change took this number (RFC 9110, section 8.8.3)
+-- ETag: the entity tag of a file or folder whose last change took this number (RFC 9110, section 8.8.3)
 abbrev pub etag : ℕ → Header
 etag number = (codes "etag", tag_of number)
 
--- when a file was last changed (RFC 9110, section 8.8.2)
+-- Last-Modified: when a file was last changed (RFC 9110, section 8.8.2)
 abbrev pub last_modified : ℕ → Header
 last_modified moment = (codes "last-modified", date_text_of moment)
 
--- the tag of what has a number
+-- the entity tag where there is a change number
 abbrev pub tag_headers : Option ℕ → List Header
 tag_headers None = []
 tag_headers (Some number) = etag number ∷ []
 
--- what a file is known by later: its tag, and when it was last changed; nothing where the store didn't tell
+-- the validators of a file: its tag, and when it was last changed; none where the store didn't report them
 abbrev pub validators : Option DavMetaData → List Header
 validators None = []
 validators (Some m) = tag_headers m.number ++ last_modified m.modified ∷ []
 
--- a map of headers with the tag of what has a number
+-- a map of headers after the tag was set, where there is a change number
 abbrev pub with_tag : Entries FieldValue → Option ℕ → Entries FieldValue
 with_tag headers None = headers
 with_tag headers (Some number) = insert headers (codes "etag") (plain_value (tag_of number))
 
--- a map of headers with what a file is known by later
+-- a map of headers after the validators of a file were set
 abbrev pub with_validators : Entries FieldValue → DavMetaData → Entries FieldValue
 with_validators headers m = insert (with_tag headers m.number) (codes "last-modified") (plain_value (date_text_of m.modified))
 
--- the connection closes behind the reply (RFC 9110, section 7.6.1)
+-- the connection closes after the reply (RFC 9110, section 7.6.1)
 abbrev pub closing : Bool → List Header
 closing close = if close then (codes "connection", codes "close") ∷ [] else []
 
--- an error: its status, without a body
+-- the reply to an error: its status, without a body
 abbrev pub error_reply : DavError → Response
 error_reply e = record { status = dav_status e; headers = closing (must_close e) ++ content_length 0 ∷ []; body = Nothing }
 
--- what a method's outcome is answered with
+-- the reply to a method's outcome
 abbrev pub reply_to : Result Response DavError → Response
 reply_to (Ok response) = response
 reply_to (Err e) = error_reply e

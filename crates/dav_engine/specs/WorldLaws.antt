@@ -1,4 +1,5 @@
--- What methods do to worlds: plans that only read, plans that a caller may carry out, and what entity tags tell of bytes.
+-- What methods do to worlds: plans that only read, plans that a caller may carry out, and what an entity tag says about
+-- bytes.
 use Rattle.std.specs.Prelude.{◌≡◌, ℕ, ◌<◌, ◌≤◌, ⊤, false, List, Some, None, Result, Ok, Err}
 use Rattle.dav_core.specs.declared.errors.FsError.{FsError}
 use Rattle.dav_core.specs.declared.errors.DavError.{DavError}
@@ -19,7 +20,7 @@ use Rattle.dav_engine.specs.Plan.{Plan, Done, Ask, Look, Keep, Locks, Ran}
 use Rattle.dav_engine.specs.Put.{PutHeaders, put, put_allowed, IsPut}
 use Rattle.dav_engine.specs.Response.{Response}
 
--- a call that leaves the world as it is, whatever it is answered
+-- a call that leaves the world as it is, whatever its answer
 abbrev pub OnlyReads : Call → Type 0
 OnlyReads (CreateDir p now) = ⊥
 OnlyReads (RemoveDir p now) = ⊥
@@ -31,13 +32,13 @@ OnlyReads (Open p how now) = (how.truncate ≡ false) × (how.create ≡ false) 
 OnlyReads (Write file bytes now) = ⊥
 OnlyReads _ = ⊤
 
--- a plan that makes such calls alone, and doesn't change the list of locks
+-- a plan that makes only such calls, and doesn't set the list of locks
 pub data IsReading {A : Type 0} : Plan A → Type 0 where
   reads_done : {a : A} → IsReading (Done a)
   reads_ask : {c : Call} {go : Result (Answer c) FsError → Plan A} → OnlyReads c → ((answer : Result (Answer c) FsError) → IsReading (go answer)) → IsReading (Ask c go)
   reads_look : {go : Locks → Plan A} → ((ls : Locks) → IsReading (go ls)) → IsReading (Look go)
 
--- a plan of calls that a caller may make
+-- a plan that makes only calls that a caller may make
 pub data IsProperPlan {A : Type 0} : Plan A → Type 0 where
   proper_done : {a : A} → IsProperPlan (Done a)
   proper_ask : {c : Call} {go : Result (Answer c) FsError → Plan A} → IsProper c → ((answer : Result (Answer c) FsError) → IsProperPlan (go answer)) → IsProperPlan (Ask c go)
@@ -50,51 +51,52 @@ ReadingLeavesAll =
     (plan : Method Response) (old new : StoreState) (ls ms : Locks) (a : Result Response DavError)
     → IsReading plan → Ran Asks plan old ls a new ms → (new.world ≡ old.world) × (ms ≡ ls)
 
--- A plan of calls that a caller may make keeps what makes a world a world (RFC 4918, section 5.1), and numbers never fall.
+-- A plan of calls that a caller may make keeps what makes a world a world (RFC 4918, section 5.1), and the next change
+-- number never falls.
 abbrev pub ProperPlansKeepWorlds : Type 0
 ProperPlansKeepWorlds =
     (plan : Method Response) (old new : StoreState) (ls ms : Locks) (a : Result Response DavError)
     → IsProperPlan plan → IsWorld old.world → Ran Asks plan old ls a new ms → IsWorld new.world × (old.world.next ≤ new.world.next)
 
--- PUT and PATCH of a path of names, at a moment that can be shown, make such calls alone.
+-- The plans of PUT and PATCH make only such calls, at a path of names and a moment that HTTP can write.
 abbrev pub PutIsProper : Type 0
 PutIsProper =
     (m : DavMethod) (headers : Headers) (p : PathText) (body : Body) (who : Client) (plan : Method Response)
     → IsStorable (names p) → who.moment ≤ last_moment → IsPut m headers p body who plan → IsProperPlan plan
 
--- so does MKCOL
+-- so does the plan of MKCOL
 abbrev pub MkcolIsProper : Type 0
 MkcolIsProper =
     (headers : Headers) (p : PathText) (who : Client) (plan : Method Response)
     → IsStorable (names p) → who.moment ≤ last_moment → IsMkcol headers p who plan → IsProperPlan plan
 
--- An error of what is judged before the file is opened is the answer, and leaves the world and the list of locks.
+-- An error of the checks before the file is opened is the outcome, and leaves the world and the list of locks as they are.
 abbrev pub RefusedPutLeavesAll : Type 0
 RefusedPutLeavesAll =
     (m : DavMethod) (h : PutHeaders) (p : Path) (who : Client) (bytes : List ℕ) (old new : StoreState) (ls ms : Locks) (e : DavError)
     → Ran Asks (put_allowed m h p who bytes) old ls (Err e) new ms
     → Ran Asks (put m h p who bytes) old ls (Err e) new ms × (new.world ≡ old.world) × (ms ≡ ls)
 
--- so it is before a folder is made
+-- the same for the checks before a folder is made
 abbrev pub RefusedMkcolLeavesAll : Type 0
 RefusedMkcolLeavesAll =
     (c : Conditions) (p : PathText) (who : Client) (old new : StoreState) (ls ms : Locks) (e : DavError)
     → Ran Asks (mkcol_allowed c p who) old ls (Err e) new ms
     → Ran Asks (mkcol c p who) old ls (Err e) new ms × (new.world ≡ old.world) × (ms ≡ ls)
 
--- A PUT or PATCH with If-None-Match `*` that succeeds found nothing at its path, also where the store refused to tell (RFC 9110,
--- section 13.1.2).
+-- A PUT or PATCH with If-None-Match `*` that succeeds found nothing at its path, also where the store refused to say what is
+-- there (RFC 9110, section 13.1.2).
 abbrev pub CreatesOnly : Type 0
 CreatesOnly =
     (m : DavMethod) (h : PutHeaders) (p : Path) (who : Client) (bytes : List ℕ) (old new : StoreState) (ls ms : Locks) (r : Response)
     → h.conditions.if_none_match ≡ Some star → Ran Asks (put m h p who bytes) old ls (Ok r) new ms → node_at old.world p ≡ None
 
--- The number was handed out, and whatever has it is a file of these bytes.
+-- The change number was handed out, and whatever has it is a file with these bytes.
 pub record Remembers (number : ℕ) (bytes : List ℕ) (w : World) : Type 0 where
   pub below : number < w.next
   pub bytes_are : (p : Path) (n : Node) → node_at w p ≡ Some n → n.number ≡ number → n.kind ≡ File bytes
 
--- Numbers tell bytes: what once holds of a number holds from then on (RFC 9110, section 8.8.1).
+-- A change number identifies bytes: what once holds of it holds from then on (RFC 9110, section 8.8.1).
 abbrev pub PlansRemember : Type 0
 PlansRemember =
     (plan : Method Response) (old new : StoreState) (ls ms : Locks) (a : Result Response DavError) (number : ℕ) (bytes : List ℕ)

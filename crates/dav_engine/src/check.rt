@@ -1,4 +1,4 @@
-//! Whether locks are in the way (RFC 4918, section 7).
+//! Whether locks conflict with a request (RFC 4918, section 7).
 ghost use Rattle.std.specs.Prelude.{◌≡◌, map, string_bytes, false};
 ghost use Rattle.std.specs.Option.{option_copied};
 ghost use Rattle.dav_core.specs.Locks.{asker_of};
@@ -9,8 +9,8 @@ ghost use Rattle.dav_engine.specs.Method.{is_open};
 use dav_core::davpath::DavPath;
 use dav_core::ls::DavLockSystem;
 
-/// Whether a path, for a deep question with all below it, is free for who submits these tokens as this principal (RFC 4918,
-/// section 7.5). Without locks each is. Takes no memory.
+/// Whether a path, for infinite depth with everything below it, isn't locked against the requester with these tokens and
+/// this principal (RFC 4918, section 7.5). Without a lock system no path is locked. Allocates nothing.
 pub fn is_open<L: DavLockSystem>(
     ls: Option<&L>,
     path: &DavPath,

@@ -32,7 +32,7 @@ use http_header::{HeaderMap, HeaderName};
 use std::alloc::Global;
 use url::Url;
 
-// A list of conditions, and the path that it speaks of, where it speaks of one.
+// A list of conditions, and the path that it applies to, where it applies to one.
 #[derive(Drop)]
 struct Addressed {
     path: Option<DavPath>,
@@ -48,7 +48,7 @@ pub struct Conditions {
 }
 
 /// Whether a list matches a resource that has this tag (RFC 9110, section 13.1): `*` where the resource exists, other lists
-/// where one of their tags is this one by the strong comparison. Takes no memory.
+/// where one of their tags is this one by the strong comparison. Allocates nothing.
 pub fn etaglist_match(list: &ETagList, exists: bool, tag: Option<&ETag>) -> bool
     ensures { result ≡ spec.matches (tag_list list.now) exists (option_copied tag.entry) }
 {
@@ -68,7 +68,8 @@ fn has_tag(list: &[ETag], tag: &ETag) -> bool
     list.iter().any(|t| t.strong_eq(tag))
 }
 
-/// Whether the tag of an If-Range is the one of a resource, by the strong comparison (RFC 9110, section 13.1.5). Takes no memory.
+/// Whether the tag of an If-Range is the one of a resource, by the strong comparison (RFC 9110, section 13.1.5). Allocates
+/// nothing.
 pub fn ifrange_match(range: &IfRange, tag: Option<&ETag>) -> bool
     ensures { result ≡ spec.matches (tags (range_tag range.now ∷ [])) true (option_copied tag.entry) }
 {
@@ -157,7 +158,7 @@ fn none_match_in(alloc: Global, headers: &HeaderMap) -> Result<Option<ETagList>,
     }
 }
 
-// No path, unless memory ran out.
+// No path where a text names none; `NoMemory` where memory ran out.
 fn no_path(error: ParseError) -> Result<Option<DavPath>, NoMemory>
     ensures { IfOk result (λ path. (path ≡ None) × (error ≢ ParseError.Memory)) }
 {
@@ -184,7 +185,7 @@ fn tagged_path(alloc: Global, prefix: &str, url: &Url) -> Result<Option<DavPath>
     }
 }
 
-// The path that a list speaks of, where it speaks of one.
+// The path that a list applies to, where it applies to one.
 fn spoken_of(
     alloc: Global,
     prefix: &str,
@@ -199,7 +200,7 @@ fn spoken_of(
     }
 }
 
-// The lists of an If header, each with the path that it speaks of.
+// The lists of an If header, each with the path that it applies to.
 fn lists_of(
     alloc: Global,
     prefix: &str,
@@ -250,7 +251,7 @@ fn token_holds<L: DavLockSystem>(ls: Option<&L>, path: &DavPath, token: &String)
         .is_ok()
 }
 
-// Whether what is at a path has a tag.
+// Whether what is at a path has this entity tag; the store is asked.
 fn tag_holds<F: DavFileSystem>(
     fs: &mut F,
     alloc: Global,
@@ -320,7 +321,7 @@ fn some_holds<F: DavFileSystem, L: DavLockSystem>(
     Ok(false)
 }
 
-// Whether an If header holds; none holds of everything.
+// Whether an If header holds; without the header the answer is yes.
 fn if_holds<F: DavFileSystem, L: DavLockSystem>(
     fs: &mut F,
     ls: Option<&L>,
@@ -347,7 +348,7 @@ fn push_tokens(tokens: &mut Vec<String>, conditions: &[IfCondition]) -> Result<(
     Ok(())
 }
 
-// The state tokens that are submitted.
+// The state tokens that are submitted, of all lists in order.
 fn submitted(alloc: Global, lists: &Option<Vec<Addressed>>) -> Result<Vec<String>, NoMemory>
     ensures { IfOk result (λ tokens. texts_of tokens ≡ spec.submitted (option_map (λ l. map list_of l.items) lists.now)) }
 {
@@ -361,8 +362,8 @@ fn submitted(alloc: Global, lists: &Option<Vec<Addressed>>) -> Result<Vec<String
 }
 
 impl Conditions {
-    /// The conditions that the headers of a request say of a path; what doesn't decode counts as absent. The resource tags of If
-    /// (RFC 4918, section 10.4.1) name paths below the prefix of the request's path.
+    /// The conditions that the headers of a request state for a path; a header that doesn't decode counts as absent. The
+    /// resource tags of If (RFC 4918, section 10.4.1) name paths below the prefix of the request's path.
     pub fn decode(
         alloc: Global,
         request: &DavRequest,
@@ -377,22 +378,23 @@ impl Conditions {
         })
     }
 
-    /// Whether only what is there already is to be changed: If-Match is `*`. Takes no memory.
+    /// Whether only what is there already is to be changed: If-Match is `*`. Allocates nothing.
     pub fn wants_something(&self) -> bool
         ensures { result ≡ spec.is_star (conditions_of self.now).if_match }
     {
         matches!(self.if_match, Some(ETagList::Star))
     }
 
-    /// Whether nothing may be there yet: If-None-Match is `*`. Takes no memory.
+    /// Whether nothing may be there yet: If-None-Match is `*`. Allocates nothing.
     pub fn wants_nothing(&self) -> bool
         ensures { result ≡ spec.is_star (conditions_of self.now).if_none_match }
     {
         matches!(self.if_none_match, Some(ETagList::Star))
     }
 
-    /// The status that the conditions answer, If first (RFC 4918, section 10.4; RFC 9110, section 13.2): 412 where If or If-Match
-    /// doesn't hold; where If-None-Match doesn't, 304 for GET and HEAD, else 412. An entity tag of If asks the store once.
+    /// The status that the conditions answer, with If evaluated first (RFC 4918, section 10.4; RFC 9110, section 13.2): 412
+    /// where If or If-Match doesn't hold; where If-None-Match doesn't, 304 for GET and HEAD, else 412. Each entity tag of
+    /// If that is evaluated asks the store once.
     pub fn if_match<F: DavFileSystem, L: DavLockSystem>(
         &self,
         alloc: Global,
@@ -409,7 +411,8 @@ impl Conditions {
         http_status(alloc, method, &self.if_match, &self.if_none_match, found)
     }
 
-    /// The tokens that If submits, all of them in order; or the status that the conditions answer, as `if_match` does, but If last.
+    /// The tokens that If submits, all of them in order; or the status that the conditions answer, as `if_match` does, but
+    /// with If evaluated last.
     pub fn if_match_get_tokens<F: DavFileSystem, L: DavLockSystem>(
         &self,
         alloc: Global,
@@ -432,8 +435,8 @@ impl Conditions {
 }
 
 /// The status that If-Match and If-None-Match answer, if they do (RFC 9110, sections 13.1.1 and 13.1.2): 412 where If-Match
-/// doesn't match what was found; and where If-None-Match does, 304 for GET and HEAD, 412 for other methods. Both compare
-/// strongly, and `*` matches whatever was found.
+/// doesn't match what was found; and where If-None-Match matches it, 304 for GET and HEAD, 412 for other methods. Both
+/// compare strongly, and `*` matches whatever was found.
 pub fn http_if_match(
     alloc: Global,
     request: &DavRequest,
@@ -446,8 +449,8 @@ pub fn http_if_match(
     http_status(alloc, request.method, &if_match, &if_none_match, found)
 }
 
-/// Whether the If header of a request holds (RFC 4918, section 10.4), and the tokens that it submits: those of all its lists, in
-/// order, whatever held. No If holds, and submits none.
+/// Whether the If header of a request holds (RFC 4918, section 10.4), and the tokens that it submits: those of all its
+/// lists, in order, whether or not they hold. Without the header the answer is yes, with no tokens.
 pub fn dav_if_match<F: DavFileSystem, L: DavLockSystem>(
     alloc: Global,
     request: &DavRequest,
@@ -462,7 +465,7 @@ pub fn dav_if_match<F: DavFileSystem, L: DavLockSystem>(
     Ok((holds, submitted(alloc, &lists)?))
 }
 
-/// The status that the conditions of a request answer, If first: as `Conditions::if_match`.
+/// The status that the conditions of a request answer, with If evaluated first: as `Conditions::if_match`.
 pub fn if_match<F: DavFileSystem, L: DavLockSystem>(
     alloc: Global,
     request: &DavRequest,
@@ -477,7 +480,7 @@ pub fn if_match<F: DavFileSystem, L: DavLockSystem>(
     conditions.if_match(alloc, request.method, found, fs, ls)
 }
 
-/// The tokens that If submits, or the status that the conditions of a request answer, If last: as
+/// The tokens that If submits, or the status that the conditions of a request answer, with If evaluated last: as
 /// `Conditions::if_match_get_tokens`.
 pub fn if_match_get_tokens<F: DavFileSystem, L: DavLockSystem>(
     alloc: Global,

@@ -1,20 +1,20 @@
-//! One request at work.
+//! One request while it is answered.
 use dav_core::fs::DavFileSystem;
 use dav_core::ls::DavLockSystem;
 use dav_core::method::DavMethodSet;
 
-/// Who asks, and when.
+/// Who makes a request, and when.
 #[derive(Clone, Copy)]
 pub struct Caller<'c> {
     /// Who makes the request, where that is known.
     pub principal: Option<&'c str>,
     /// When it is made, in seconds since 1970; at most 253402300799, which is the end of the year 9999.
     pub moment: u64,
-    /// The token that a lock takes which the request makes.
+    /// The token for a lock that the request creates.
     pub token: Option<&'c str>,
 }
 
-/// One request at work, on a store and locks that are lent to it. The methods of a server are its calls.
+/// One request while it is answered, on a borrowed store and borrowed locks. The methods of a server are its functions.
 #[derive(Drop)]
 pub struct DavInner<'a, 'b, 'c, F, L> {
     /// The store.
@@ -23,6 +23,6 @@ pub struct DavInner<'a, 'b, 'c, F, L> {
     pub ls: &'a mut Option<L>,
     /// The methods that are allowed.
     pub allow: DavMethodSet,
-    /// Who asks.
+    /// Who makes the request, and when.
     pub caller: &'b Caller<'c>,
 }

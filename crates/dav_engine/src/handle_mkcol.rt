@@ -22,7 +22,7 @@ use http::StatusCode;
 use http_header::HeaderMap;
 use std::alloc::Global;
 
-// What a folder that isn't made is answered.
+// The error where the store refuses to make a folder.
 fn create_error(error: FsError) -> DavError
     ensures { result ≡ spec.create_error error }
 {
@@ -48,7 +48,7 @@ fn made(alloc: Global, path: &DavPath) -> Result<Reply, NoMemory>
     })
 }
 
-// Whether a folder may be made at a path; else the error that says why not.
+// Checks whether a folder may be made at a path; else returns the error that says why not.
 fn allowed<F: DavFileSystem, L: DavLockSystem>(
     fs: &mut F,
     ls: Option<&L>,
@@ -93,11 +93,12 @@ fn mkcol<F: DavFileSystem, L: DavLockSystem>(
 }
 
 impl<'a, 'b, 'c, F: DavFileSystem, L: DavLockSystem> DavInner<'a, 'b, 'c, F, L> {
-    /// Makes a folder at the path of a request (RFC 4918, section 9.3): 201, with `content-location` where the target ends in a
-    /// slash.
+    /// Makes a folder at the path of a request (RFC 4918, section 9.3): 201, with `content-location` where the target ends
+    /// in a slash.
     ///
-    /// The first of these that applies is answered: 412 where a condition fails; 423 where a lock is in the way; 405 where something
-    /// is there; 409 where no folder is above it; each other refusal of the store is its own status. The body isn't looked at.
+    /// The first of these that applies is answered: 412 where a condition fails; 423 where a lock conflicts; 405 where
+    /// something is there; 409 where no folder is above it; each other refusal of the store is its own status. The body
+    /// isn't looked at.
     pub fn handle_mkcol(
         &mut self,
         alloc: Global,

@@ -31,14 +31,14 @@ use std::io::SeekFrom;
 
 const UNSATISFIABLE: DavError = DavError::StatusClose(StatusCode::RANGE_NOT_SATISFIABLE);
 
-// Whether from the first of two places to the second there are so many bytes.
+// Whether there are n bytes from the first of two places to the second, both included.
 fn spans(first: u64, last: u64, n: u64) -> bool
     ensures { result ≡ spec.spans first last n }
 {
     last >= first && (last - first).checked_add(1) == Some(n)
 }
 
-// The place that n bytes before the end of what was found have; 0 where nothing was.
+// The place that is n bytes before the end of the file that was found; 0 where nothing was found.
 fn from_end(n: u64, found: Option<&DavMetaData>) -> DavResult<u64>
     ensures { result ≡ spec.from_end n (option_copied found.entry) }
 {
@@ -49,7 +49,7 @@ fn from_end(n: u64, found: Option<&DavMetaData>) -> DavResult<u64>
     }
 }
 
-// Where a partial update of so many bytes begins.
+// Where a partial update of n bytes begins.
 fn update_from(range: &XUpdateRange, n: u64, found: Option<&DavMetaData>) -> DavResult<u64>
     ensures { result ≡ spec.update_from range.now n (option_copied found.entry) }
 {
@@ -94,7 +94,7 @@ fn updates(
     })
 }
 
-// What a method writes by itself.
+// What a method writes without a Content-Range.
 fn written_by(
     method: DavMethod,
     headers: &PutHeaders,
@@ -115,7 +115,7 @@ fn written_by(
     }
 }
 
-// The bytes between two places.
+// What is written with this Content-Range.
 fn bounded(range: Bounds, writing: Writing) -> DavResult<Writing>
     ensures { result ≡ spec.bounded range writing }
 {
@@ -168,7 +168,7 @@ fn is_announced(announced: Option<u64>, bytes: &Bytes) -> bool
     }
 }
 
-// What a file that isn't opened is answered.
+// The error where the store refuses to open the file.
 fn open_error(options: &OpenOptions, error: FsError) -> DavError
     ensures { result ≡ spec.open_error (opening_of options.now) error }
 {
@@ -179,7 +179,8 @@ fn open_error(options: &OpenOptions, error: FsError) -> DavError
     }
 }
 
-// What is missing or in the way: what a condition asked for, or a folder above the path.
+// The status where a file is missing or already there: 412 where a condition asked for that, else 409 (no folder is above
+// the path).
 fn missing_status(options: &OpenOptions) -> StatusCode
     ensures { result ≡ spec.missing_status (opening_of options.now) }
 {
@@ -297,7 +298,7 @@ fn store<F: DavFileSystem>(
     Ok(stored(alloc, found, after.ok())?)
 }
 
-// Where the bytes go, and whether something was found there, where they may be stored.
+// Checks whether bytes may be stored at a path: returns where they go, and whether something was found there.
 fn allowed<F: DavFileSystem, L: DavLockSystem>(
     fs: &mut F,
     ls: Option<&L>,
@@ -386,16 +387,16 @@ fn put_body<F: DavFileSystem, L: DavLockSystem>(
 }
 
 impl<'a, 'b, 'c, F: DavFileSystem, L: DavLockSystem> DavInner<'a, 'b, 'c, F, L> {
-    /// Stores a body at the path of a request: PUT all of a file (RFC 9110, section 9.3.4; RFC 4918, section 9.7), or the part that
-    /// Content-Range tells (RFC 9110, section 14.4); PATCH the part that X-Update-Range tells. 201 where nothing was found there
-    /// before, else 204, with the tag and the time of the file where the store tells them.
+    /// Stores a body at the path of a request: PUT all of a file (RFC 9110, section 9.3.4; RFC 4918, section 9.7), or the
+    /// part that Content-Range names (RFC 9110, section 14.4); PATCH the part that X-Update-Range names. 201 where nothing
+    /// was found there before, else 204, with the tag and the time of the file where the store reports them.
     ///
     /// Each of these closes the connection, and the first that applies is answered: for PATCH 415 where the body isn't
-    /// `application/x-sabredav-partialupdate`, 411 without a length, 400 without X-Update-Range, 416 for one that isn't as long as
-    /// announced or begins before the file; 400 for a Content-Range that isn't one, 416 for one that isn't as long as announced; 412
-    /// where a condition fails; 423 where a lock is in the way; 400 for a body that isn't of the announced length; 412 or 409 where
-    /// the file isn't there or is, or no folder is above it; 416 where the place isn't found. Each other refusal of the store is
-    /// its own status. 415 for an element tree, before anything else.
+    /// `application/x-sabredav-partialupdate`, 411 without a length, 400 without X-Update-Range, 416 for one that isn't as
+    /// long as announced or begins before the file; 400 for a Content-Range that isn't one, 416 for one that isn't as long
+    /// as announced; 412 where a condition fails; 423 where a lock conflicts; 400 for a body that isn't of the announced
+    /// length; 412 or 409 where the file isn't there or is, or no folder is above it; 416 where the seek to the place
+    /// fails. Each other refusal of the store is its own status. 415 for an element tree, before anything else.
     pub fn handle_put(
         &mut self,
         alloc: Global,

@@ -1,35 +1,36 @@
-//! Laws over what methods do. Each function does nothing: its contract is a theorem on the definitions.
+//! Laws of methods. Each function does nothing: its contract is a theorem on the definitions.
 ghost use Rattle.dav_engine.specs.Date.{DatesOfMoments};
 ghost use Rattle.dav_engine.specs.OnePlan.{OneReadingOfConditions, OnePutPlan, OneMkcolPlan};
 ghost use Rattle.dav_engine.specs.PlanLaws.{PlansAreDetermined, PlansEnd, WantIsLikeRefusals, CutsAreLikeRefusals};
 ghost use Rattle.dav_engine.specs.WorldLaws.{ReadingLeavesAll, ProperPlansKeepWorlds, PutIsProper, MkcolIsProper, RefusedPutLeavesAll, RefusedMkcolLeavesAll, CreatesOnly, PlansRemember};
 
-/// Where memory was never wanted, what a plan comes to is determined: its outcome, the store and the list of locks.
+/// Where the store never ran out of memory, the outcome of a plan is determined, and so are the store and the list of locks
+/// that it leaves.
 #[tactic(auto, using(crate::proofs::PlanAnswers::plans_are_determined))]
 pub fn plans_are_determined()
     ensures { PlansAreDetermined }
 {}
 
-/// Every plan comes to something, from any store and any list of locks.
+/// Every plan ends with some outcome, from any store and any list of locks.
 #[tactic(auto, using(crate::proofs::PlanAnswers::plans_end))]
 pub fn plans_end()
     ensures { PlansEnd }
 {}
 
-/// Want of memory in the store is like refusals of its calls.
+/// A store that runs out of memory is like one that refuses some of its calls.
 #[tactic(auto, using(crate::proofs::PlanAnswers::want_is_like_refusals))]
 pub fn want_is_like_refusals()
     ensures { WantIsLikeRefusals }
 {}
 
-/// Want of memory in the midst of a plan leaves the store as some refusals of its calls leave it.
+/// A plan in which memory runs out leaves the store as it does where some of its calls are refused.
 #[tactic(auto, using(crate::proofs::PlanAnswers::cuts_are_like_refusals))]
 pub fn cuts_are_like_refusals()
     ensures { CutsAreLikeRefusals }
 {}
 
-/// Headers say one thing as conditions, and a PUT, PATCH or MKCOL has one plan at most: its headers, its path, its body and its
-/// client determine what it does (RFC 9110, section 9.3.4; RFC 4918, sections 9.3 and 10.4).
+/// Headers say one thing as conditions, and a PUT, PATCH or MKCOL has one plan at most: its headers, its path, its body and
+/// its client determine what it does (RFC 9110, section 9.3.4; RFC 4918, sections 9.3 and 10.4).
 pub fn requests_have_one_plan()
     ensures conditions { OneReadingOfConditions }
     ensures put { OnePutPlan }
@@ -51,7 +52,8 @@ pub fn reading_leaves_all()
 {}
 
 /// A plan of calls that a caller may make keeps what makes a world a world (RFC 4918, section 5.1), and change numbers
-/// never fall. Of a path of names, at a moment until the end of the year 9999, PUT, PATCH and MKCOL are such plans.
+/// never fall. The plans of PUT, PATCH and MKCOL are such plans, for a path of names and a moment until the end of the year
+/// 9999.
 #[tactic(auto, using(crate::proofs::WorldAnswers::proper_plans_keep_worlds, crate::proofs::PutWorld::put_is_proper, crate::proofs::PutWorld::mkcol_is_proper))]
 pub fn proper_plans_keep_worlds()
     ensures kept { ProperPlansKeepWorlds }
@@ -59,9 +61,8 @@ pub fn proper_plans_keep_worlds()
     ensures mkcol { MkcolIsProper }
 {}
 
-/// Where what is judged before PUT, PATCH or MKCOL changes anything ends in an error, this error is the answer, and the
-/// world and the list of locks stay: a condition that fails, or a lock that is in the way (RFC 9110, section 13.2.1;
-/// RFC 4918, section 7).
+/// An error of the checks before PUT, PATCH or MKCOL changes anything is the outcome, and leaves the world and the list of
+/// locks as they are: a condition that fails, or a lock that conflicts (RFC 9110, section 13.2.1; RFC 4918, section 7).
 pub fn refused_writes_leave_all()
     ensures put { RefusedPutLeavesAll }
     ensures mkcol { RefusedMkcolLeavesAll }

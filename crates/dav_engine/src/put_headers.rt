@@ -19,12 +19,12 @@ use dav_headers::{ContentLength, ContentRange, ContentType, HeaderError, XUpdate
 use http_header::{HeaderMap, HeaderName, HeaderValue};
 use std::alloc::Global;
 
-/// The part of a file that Content-Range tells.
+/// The part of a file that Content-Range names.
 #[derive(Clone, Copy)]
 pub enum Bounds {
-    /// The header stands there, and is no range.
+    /// The header is there, and is no range.
     Unread,
-    /// All of the file: there is no such header, or it tells no bounds.
+    /// All of the file: there is no such header, or it has no bounds.
     Whole,
     /// From the first of these bytes to the second.
     Within(u64, u64),
@@ -46,9 +46,9 @@ pub struct PutHeaders {
 pub struct Writing {
     /// The place that they begin at; none where all of the file is replaced.
     pub from: Option<u64>,
-    /// Whether they go to the end.
+    /// Whether they are appended to the file.
     pub appends: bool,
-    /// How many there are to be.
+    /// How many of them are announced.
     pub announced: Option<u64>,
 }
 
@@ -75,7 +75,7 @@ fn expected_length(alloc: Global, headers: &HeaderMap) -> Result<Option<u64>, No
     }
 }
 
-// The number that all of these values are.
+// The number that all of these values state.
 fn decoded(alloc: Global, values: &[HeaderValue]) -> Result<Option<u64>, NoMemory>
     ensures { IfOk result (λ length. Decodes IsContentLength values.now length) }
 {
@@ -142,7 +142,7 @@ fn update_in(alloc: Global, headers: &HeaderMap) -> Result<Option<XUpdateRange>,
     }
 }
 
-// The text that a value is, where it is text.
+// The text of a value, where it is text.
 fn text_of(value: &HeaderValue) -> Option<&str>
     ensures { option_map (λ t. t.now) result ≡ text_in (Some value.now) }
 {
@@ -166,7 +166,8 @@ fn checksum_in(alloc: Global, headers: &HeaderMap) -> Result<Option<String>, NoM
 }
 
 impl PutHeaders {
-    /// What the headers of a request say of its path; what doesn't decode counts as absent, but for Content-Range.
+    /// What the headers of a request say of its path; a header that doesn't decode counts as absent, except for
+    /// Content-Range.
     pub fn decode(alloc: Global, request: &DavRequest) -> Result<PutHeaders, NoMemory>
         ensures { IfOk result (λ h. spec.ArePutHeaders request.now.headers request.now.path (put_headers_of h)) }
     {

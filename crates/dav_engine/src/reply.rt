@@ -43,7 +43,7 @@ pub struct Reply {
     pub body: ReplyBody,
 }
 
-/// Sets a header, in the place of those that it had.
+/// Sets a header, in place of the values that it had.
 pub fn set_header(
     headers: &mut HeaderMap,
     name: HeaderName,
@@ -65,7 +65,7 @@ fn tag_value(alloc: Global, number: u64) -> Result<HeaderValue, NoMemory>
     HeaderValue::from_string(tag).map_err(|_| NoMemory)
 }
 
-/// Sets the tag of what has a number (RFC 9110, section 8.8.3).
+/// Sets the entity tag of a change number, where there is one (RFC 9110, section 8.8.3).
 pub fn set_tag(alloc: Global, headers: &mut HeaderMap, number: Option<u64>) -> Result<(), NoMemory>
     ensures { OnOk result (headers.new ≡ with_tag headers.old number) }
 {
@@ -76,8 +76,8 @@ pub fn set_tag(alloc: Global, headers: &mut HeaderMap, number: Option<u64>) -> R
     set_header(headers, HeaderName::from_static("etag"), tag)
 }
 
-/// Sets what a file is known by later: its tag (RFC 9110, section 8.8.3), where it has a number, and when it was last
-/// changed (section 8.8.2).
+/// Sets the validators of a file: its tag (RFC 9110, section 8.8.3), where it has a number, and when it was last changed
+/// (section 8.8.2).
 pub fn set_validators(
     alloc: Global,
     headers: &mut HeaderMap,
@@ -91,7 +91,7 @@ pub fn set_validators(
     set_header(headers, HeaderName::from_static("last-modified"), date)
 }
 
-/// Sets how many bytes the body has (RFC 9110, section 8.6).
+/// Sets `content-length`: how many bytes the body has (RFC 9110, section 8.6).
 pub fn set_length(alloc: Global, headers: &mut HeaderMap, len: u64) -> Result<(), NoMemory>
     ensures { OnOk result (headers.new ≡ insert headers.old (codes "content-length") (plain_value (decimal len))) }
 {
@@ -99,7 +99,7 @@ pub fn set_length(alloc: Global, headers: &mut HeaderMap, len: u64) -> Result<()
     set_header(headers, HeaderName::from_static("content-length"), value)
 }
 
-/// Sets where something is: the text of its path in a URL, with the prefix (RFC 9110, section 8.7).
+/// Sets `content-location`: the text of the path in a URL, with the prefix (RFC 9110, section 8.7).
 pub fn set_location(alloc: Global, headers: &mut HeaderMap, path: &DavPath) -> Result<(), NoMemory>
     ensures { OnOk result (headers.new ≡ insert headers.old (codes "content-location") (plain_value (path_text (full_bytes path.now)))) }
 {
@@ -109,8 +109,8 @@ pub fn set_location(alloc: Global, headers: &mut HeaderMap, path: &DavPath) -> R
 }
 
 impl Reply {
-    /// The reply to a request that an error ended: its status without a body, and where it says so the connection closes
-    /// behind it (RFC 9110, section 7.6.1).
+    /// The reply to a request that an error ended: its status without a body, and for an error that says so the connection
+    /// closes after the reply (RFC 9110, section 7.6.1).
     pub fn of_error(alloc: Global, error: DavError) -> Result<Reply, NoMemory>
         ensures { IfOk result (λ r. response_of r ≡ error_reply error) }
     {

@@ -1,4 +1,4 @@
-//! What the methods are handed.
+//! What the methods are handed: requests and their bodies.
 
 use bytes::Bytes;
 use dav_core::davpath::DavPath;
@@ -24,8 +24,8 @@ pub enum Body {
     None,
     /// These bytes.
     Bytes(Bytes),
-    /// The element tree that its bytes stand for (RFC 4918, section 8.2).
+    /// The element tree that its bytes encode (RFC 4918, section 8.2).
     Tree(Element),
-    /// Bytes that were to stand for an element tree, and don't.
+    /// Bytes that were to encode an element tree, and don't.
     Malformed,
 }

@@ -1,4 +1,4 @@
--- What the parts of GET and HEAD come to.
+-- The outcomes of the parts of GET and HEAD.
 use Rattle.std.proofs.Common.{◌≡◌, ◌≢◌, ◌==◌, if◌then◌else◌, not, ℕ, true, false, Option, Some, Result, Ok, Err, refl, sym, subst}
 use Rattle.dav_core.specs.declared.errors.FsError.{FsError}
 use Rattle.dav_core.specs.declared.errors.DavError.{DavError}
@@ -22,7 +22,7 @@ use Rattle.dav_server.specs.Get.{get, show, show_or_tell, judged, not_modified}
 pub opened_as : {p : Path} {how other : Opening} {now : ℕ} {old new : StoreState} {answer : Result Handle FsError} → other ≡ how → Asks (Open p other now) old answer new → Asks (Open p how now) old answer new
 opened_as {p} {now = now} {old} {new} {answer} same one = subst (λ o. Asks (Open p o now) old answer new) same one
 
--- any method but HEAD shows the file
+-- any method but HEAD answers with the file's bytes
 pub shows : {s t : StoreState} {ls : Locks} {r : Result Reply DavError} (p : Path) (now : ℕ) (found : DavMetaData) (m : DavMethod) → m ≢ Head
     → Follows response_of (show p now found) s ls r t ls → Follows response_of (show_or_tell m p now found) s ls r t ls
 shows p now found Head other done = absurd (other refl)
@@ -58,19 +58,19 @@ refuses_it found next status {s} {ls} is =
 abbrev after : DavMethod → Path → ℕ → DavMetaData → Option ℕ → Method Response
 after m p now found verdict = judged verdict found (show_or_tell m p now found)
 
--- a verdict as it was come to
+-- an evaluation of conditions that was followed, with an equal result
 come : {E : Type 0} (m : DavMethod) (c : Conditions) (found : DavMetaData) {r w : Result (Option ℕ) E} {s t : StoreState} {ls : Locks} → r ≡ w
     → Follows (λ (v : Option ℕ). v) (if_match m c (Some found)) s ls (or_memory r) t ls → Follows (λ (v : Option ℕ). v) (if_match m c (Some found)) s ls (or_memory w) t ls
 come {E} m c found {s = s} {t} {ls} is one = subst (λ (x : Result (Option ℕ) E). Follows (λ (v : Option ℕ). v) (if_match m c (Some found)) s ls (or_memory x) t ls) is one
 
--- memory ran out while the conditions were judged
+-- memory ran out while the conditions were evaluated
 pub get_stopped : {E : Type 0} (m : DavMethod) (c : Conditions) (p : Path) (now : ℕ) (found : DavMetaData) (r : Result (Option ℕ) E) (e : E) {old mid new : StoreState} {ls : Locks}
     → Asks (Metadata p) old (Ok found) mid → not found.dir ≡ true → r ≡ Err e
     → Follows (λ (v : Option ℕ). v) (if_match m c (Some found)) mid ls (or_memory r) new ls
     → Follows response_of (get m c p now) old ls (Err dav.Memory) new ls
 get_stopped m c p now found r e asks file was one = follows_ask asks (follows_on _ _ _ file (follows_err (after m p now found) dav.Memory (come m c found was one)))
 
--- the conditions were judged, and the rest was followed
+-- the conditions were evaluated, and the rest was followed
 pub get_goes : {E : Type 0} (m : DavMethod) (c : Conditions) (p : Path) (now : ℕ) (found : DavMetaData) (r : Result (Option ℕ) E) (verdict told : Option ℕ) {old mid late new : StoreState} {ls : Locks} {end : Result Reply DavError}
     → Asks (Metadata p) old (Ok found) mid → not found.dir ≡ true → r ≡ Ok verdict → verdict ≡ told
     → Follows (λ (v : Option ℕ). v) (if_match m c (Some found)) mid ls (or_memory r) late ls

@@ -1,4 +1,4 @@
--- What GET does to worlds, and what a file that is shown tells of them.
+-- What GET does to worlds, and what the file that it shows says about them.
 use Rattle.std.proofs.Common.{◌≡◌, ℕ, zero, suc, ◌<◌, ◌≤◌, ◌==◌, Bool, true, false, not, if◌then◌else◌, List, [], ◌∷◌, length, take, drop, Contains, codes, Option, Some, None, Result, Ok, Err, refl, sym, ap, subst, ◌∙◌, arith}
 use Rattle.std.proofs.lemmas.Fmt.{digits_is_IsNumeral}
 use Rattle.std.proofs.lemmas.List.{append_cancel_right}
@@ -52,7 +52,7 @@ get_proper storable small c tells = tt
 get_proper storable small c opens = (storable, small)
 get_proper storable small c reads = tt
 
--- a look is such a call
+-- a call that asks for metadata is such a call
 look_gets : {p : Path} {now : ℕ} (c : Call) → IsLook c → IsGetCall p now c
 look_gets c looks = tells
 
@@ -89,15 +89,15 @@ get_is_reading m c p now = only_reads get_reads (only_get m c p now)
 pub get_is_proper : (m : DavMethod) (c : Conditions) (p : Path) (now : ℕ) → IsStorable p → now ≤ last_moment → IsProperPlan (get m c p now)
 get_is_proper m c p now storable small = only_proper (get_proper storable small) (only_get m c p now)
 
--- ---- runs of parts that come to a reply
+-- ---- runs of parts that end in a reply
 
--- what was required holds
+-- where the plan goes on after a test, the test holds
 pub required : {A : Type 0} (b : Bool) (e : DavError) (f : Unit {0} → Method A) {old new : StoreState} {ls ms : Locks} {a : A}
     → Ran Asks (require b e >>= f) old ls (Ok a) new ms → (b ≡ true) × Ran Asks (f tt) old ls (Ok a) new ms
 required true e f ran = (refl, ran)
 required false e f ran = let clash = ran_outcome ran in cc
 
--- what was asked for was answered
+-- where the plan goes on after a call, the call was answered
 pub answered_by : {A B : Type 0} (g : FsError → DavError) (answer : Result A FsError) (f : A → Method B) {old new : StoreState} {ls ms : Locks} {b : B}
     → Ran Asks (followed_by (refused_as g answer) f) old ls (Ok b) new ms → (a : A) × (answer ≡ Ok a) × Ran Asks (f a) old ls (Ok b) new ms
 answered_by g (Ok a) f ran = (a, refl, ran)
@@ -108,7 +108,7 @@ gone_on : {A B : Type 0} (outcome : Result A DavError) (f : A → Method B) {old
 gone_on (Ok a) f ran = (a, refl, ran)
 gone_on (Err e) f ran = let clash = ran_outcome ran in cc
 
--- A part that only reads came to something, in the same world, and the rest followed.
+-- A part that only reads had some outcome, in the same world, and the rest followed.
 pub record Followed {A B : Type 0} (plan : Method A) (f : A → Method B) (old : StoreState) (ls : Locks) (b : B) (new : StoreState) (ms : Locks) : Type 0 where
   pub value : A
   pub mid : StoreState
@@ -131,7 +131,7 @@ looked plan f {old} {ls = ls} is ran =
       rest = rest;
     }
 
--- ---- what is told of a file
+-- ---- the metadata of a file
 
 some_same : {A : Type 0} {a b : A} → ◌≡◌ {A = Option A} (Some a) (Some b) → a ≡ b
 some_same same = cc
@@ -139,7 +139,7 @@ some_same same = cc
 ok_same : {A E : Type 0} {a b : A} → ◌≡◌ {A = Result A E} (Ok a) (Ok b) → a ≡ b
 ok_same same = cc
 
--- what is told of a path is told of the node there
+-- the metadata of a path is that of the node there
 pub told_of : (w new : World) (p : Path) (answer : Result DavMetaData FsError) (d : DavMetaData) → Did (meaning (Metadata p) w) w answer new → answer ≡ Ok d
     → (n : Node) × (node_at w p ≡ Some n) × (d ≡ metadata_of n)
 unfolding meaning
@@ -148,7 +148,7 @@ told_of w new p answer d (means r h is after) ok =
     let (n, there, end) = found (node_at w p) _ r h in
     (n, there, sym (ap (λ (x : DavMetaData × World). x.0) (ok_same end) ∙ ok_same (sym is ∙ ok)))
 
--- an open file that was there
+-- a file that was there and was opened
 opened_at : (w : World) (p : Path) (now : ℕ) (n : Node) (r : Handle × World) → open_at w p reading now (Some n) ≡ Ok r → (is_folder_kind n.kind ≡ false) × (r.0 ≡ opened n.made reading)
 opened_at w p now n r h =
     let (plain, end) = went_on (is_folder_kind n.kind) Forbidden _ r h in
@@ -180,7 +180,7 @@ read_of w new p n file count answer bytes world there plain handle (means r h is
 
 -- ---- a file that is shown
 
--- At the path stands a file of these bytes, with the number that the tag tells.
+-- At the path there is a file of these bytes, with the number that the tag holds.
 pub record Stands (w : World) (p : Path) (tag bytes : List ℕ) : Type 0 where
   pub node : Node
   pub there : node_at w p ≡ Some node
@@ -206,7 +206,7 @@ tag_among len number modified tag (suc (suc (suc (suc k))), within, is) = absurd
 bytes_same : {a b : List ℕ} → reply.Bytes a ≡ reply.Bytes b → a ≡ b
 bytes_same same = cc
 
--- a response that shows a file shows the one that stands there
+-- a response with the bytes of a file shows the file that is there
 shown_stands : (w : World) (p : Path) (n : Node) (bytes : List ℕ) (tag others : List ℕ) → node_at w p ≡ Some n → n.kind ≡ File bytes
     → Shows tag others (shown (metadata_of n) bytes) → Stands w p tag others
 shown_stands w p n bytes tag others there kind shows =
@@ -247,7 +247,7 @@ shows_shown w p now n tag bytes world there same (ran_ask {old = old} {mid = mid
 no_bytes : (bytes : List ℕ) → ◌≡◌ {A = ReplyBody} reply.Nothing (reply.Bytes bytes) → ⊥
 no_bytes bytes same = cc
 
--- a file that isn't modified isn't shown
+-- a status that the conditions answer shows no file
 unmodified_shows_none : (b : Bool) (status : ℕ) (d : DavMetaData) (tag bytes : List ℕ) {old new : StoreState} {ls ms : Locks} {r : Response}
     → Ran Asks (if b then gives (not_modified d) else fails (dav.Status status)) old ls (Ok r) new ms → Shows tag bytes r → ⊥
 unmodified_shows_none true status d tag bytes ran shows = no_bytes bytes (sym (ap (λ (r : Response). r.body) (ok_same (ran_outcome ran))) ∙ shows.bytes_are)
@@ -292,15 +292,15 @@ shows_get c p now tag bytes world (ran_ask {old = old} {mid = mid} {answer = ans
 pub error_shows_none : (e : DavError) (tag bytes : List ℕ) → Shows tag bytes (reply_to (Err e)) → ⊥
 error_shows_none e tag bytes shows = no_bytes bytes shows.bytes_are
 
--- what a GET shows stands at its path, with its tag
+-- what a GET shows is at its path, with its tag
 pub get_shows : (c : Conditions) (p : Path) (now : ℕ) (outcome : Result Response DavError) {old new : StoreState} {ls ms : Locks} (tag bytes : List ℕ) → IsWorld old.world
     → Ran Asks (get Get c p now) old ls outcome new ms → Shows tag bytes (reply_to outcome) → Stands old.world p tag bytes
 get_shows c p now (Err e) tag bytes world ran shows = absurd (error_shows_none e tag bytes shows)
 get_shows c p now (Ok r) tag bytes world ran shows = shows_get c p now tag bytes world ran shows
 
--- ---- what a tag tells
+-- ---- what a tag says
 
--- A number that the tag tells was handed out, and whatever has it is a file of these bytes.
+-- A number that the tag holds was handed out, and whatever has it is a file of these bytes.
 pub record Known (w : World) (tag bytes : List ℕ) : Type 0 where
   pub number : ℕ
   pub tag_is : tag ≡ tag_of number

@@ -1,4 +1,4 @@
--- What is known of heads from their definition alone.
+-- What follows from the definition of heads alone.
 use Rattle.std.proofs.Common.{◌≡◌, ℕ, ◌≤◌, List, [], ◌∷◌, length, map, take, All, sym, ap, ◌∙◌, refl, arith, length-append}
 use Rattle.std.proofs.lemmas.List.Elements.{All-nil, All-cons, All-head, All-tail}
 use Rattle.std.specs.List.{flat_map}
@@ -14,7 +14,7 @@ use Rattle.http_header.specs.Token as header
 use Rattle.dav_server.specs.HeadInside.{AreHeadersOf}
 use Rattle.dav_server.specs.Head.{AreFields, OneHead, request_of_head}
 
--- bytes are a head in one way
+-- bytes are a head in one way at most
 pub one_head : OneHead
 one_head bytes a b (_, head, reads, _, is) (_, other, also, _, same) =
     is ∙ ap request_of_head (request_unique bytes head other [] [] reads also).0 ∙ sym same

@@ -16,7 +16,7 @@ use Rattle.dav_server.specs.Head.{is_same_name, values_of}
 use Rattle.dav_server.specs.Headers.{header_of, headers_of, KeepsValues}
 
 module _ {X : Type 0} where
-  -- one more behind a list is appended last
+  -- one more field after a list is appended last
   pub append_all-append : (m : Entries X) (items : List (List ℕ × X)) (item : List ℕ × X) → append_all m (items ++ item ∷ []) ≡ append (append_all m items) item.0 item.1
   append_all-append m [] item = refl
   append_all-append m (x ∷ items) item = append_all-append (append m x.0 x.1) items item
@@ -24,7 +24,7 @@ module _ {X : Type 0} where
   count_cons : (e : List ℕ × List X) (m : Entries X) → value_count (e ∷ m) ≡ length e.1 + value_count m
   count_cons e m = sum_by-cons (λ (x : List ℕ × List X). length x.1) e m
 
-  -- a value more, under one name more at most
+  -- one more value, under one more name at most
   count_more : (m : Entries X) (name : List ℕ) (value : X) → value_count (append m name value) ≡ value_count m + 1
   count_more [] name value = refl
   count_more (e ∷ m) name value =
@@ -66,7 +66,7 @@ module _ {X : Type 0} where
 pub headers_of-append : (fields : List (List ℕ × List ℕ)) (field : List ℕ × List ℕ) → headers_of (fields ++ field ∷ []) ≡ append (headers_of fields) (lowercase field.0) (plain_value field.1)
 headers_of-append fields field = rw map-append (append_all-append [] (map header_of fields) (header_of field))
 
--- there is room for one more value behind few fields
+-- there is room for one more value after fewer than 64 fields
 pub has_room : (fields : List (List ℕ × List ℕ)) (name : List ℕ) → length fields < 64 → ¬ RefusesAppend (headers_of fields) name
 has_room fields name few =
     let values = value_count-append_all [] (map header_of fields) in
@@ -77,7 +77,7 @@ has_room fields name few =
       | inr n ↦ elim n.1 [ inl k ↦ omega arith | inr v ↦ omega arith ]
     ]
 
--- the values of a name behind a map
+-- the values of a name in a map and in the fields that are appended to it
 values_behind : (m : Entries FieldValue) (name : List ℕ) (fields : List (List ℕ × List ℕ)) → get_all (append_all m (map header_of fields)) (lowercase name) ≡ get_all m (lowercase name) ++ map plain_value (values_of name fields)
 values_behind m name [] = sym (append-nil _)
 values_behind m name (f ∷ fields) =

@@ -60,7 +60,7 @@ served_or_not text m e one two = absurd (two.1 m one.0 one.1)
 one_get : {m : DavMethod} {headers : Headers} {p : PathText} {now : ℕ} {plan other : Method Response} → IsGet m headers p now plan → IsGet m headers p now other → plan ≡ other
 one_get {m} {headers} {p} {now} (is_get a h) (is_get b k) = ap (λ (c : Conditions). get m c (names p) now) (one_conditions headers p.prefix (names p) a b h k)
 
--- a method that is served is
+-- no method is both served and not served yet
 never : {A : Type 0} → ◌≡◌ {A = Bool} true false → A
 never same = absurd (true≢false same)
 
@@ -113,7 +113,7 @@ one_of {s} {x} {r} {m} {other = other} (method p body has named good is) (method
     one_plan is (subst (λ (t : PathText). PlanOf (headers_of r.fields) t body (client x) m other) (sym path)
     (subst (λ (b : Body). PlanOf (headers_of r.fields) q b (client x) m other) (sym same) too))
 
--- a request comes to one plan
+-- a request results in one plan
 pub one_means : {s : Settings} {x : Asked} {plan other : Method Response} → Means s x plan → Means s x other → plan ≡ other
 one_means (no_head out) (no_head also) = refl
 one_means (no_head out) (no_method r e is gives) = absurd (out r is)
@@ -130,7 +130,7 @@ one_means {s} {x} {plan} {other} (known r m is gives means) (known q n is' gives
     let same : n ≡ m = one_method r.method n m (subst (λ (h : Request). GivesServed h.method (Ok n)) head gives') gives in
     one_of means (subst (λ (k : DavMethod). MeansOf s x r k other) same (subst (λ (h : Request). MeansOf s x h n other) head means'))
 
--- the flag is never taken back
+-- the flag for out of memory is never cleared
 steps_unset : {s : Settings} {x : Asked} {old new : StoreState} {ls ms : Locks} {reply : Response} → Steps s x old ls reply new ms → new.short ≡ false → old.short ≡ false
 steps_unset (steps plan outcome means ran) u = ran_unset ran u
 

@@ -59,13 +59,13 @@ cut_long : (q : List ℕ) (t : Bool) (p : PathText) → cut_at q (if t then None
 cut_long q true p h = cc
 cut_long q false p h = cc
 
--- behind a prefix of the star path are no names
+-- after a prefix of the star path there are no names
 star_cut : (q : List ℕ) (p : PathText) → prefix_cut q star ≡ Some p → names p ≡ []
 star_cut [] p h = ap names (sym (some_same h))
 star_cut (b ∷ []) p h = cut_short b (b == 42) p h
 star_cut (b ∷ c ∷ q) p h = cut_long (b ∷ c ∷ q) (b == 42) p h
 
--- behind a prefix of a path of names are names of it
+-- after a prefix of a path of names there are names of it
 named_cut : (ns : Path) (closed : Bool) (q : List ℕ) (p : PathText) → All IsName ns → All (All (λ b. b < 256)) ns → prefix_cut q (path_bytes ns closed) ≡ Some p → IsStorable (names p)
 named_cut ns closed q p are small cut =
     let (rest, end, split, behind) = cut_keeps_names ns closed q p are cut in
@@ -81,7 +81,7 @@ read_cut text bytes q p (inr (ns, closed, named, is)) cut =
     let small : All (All (λ b. b < 256)) ns = subst (All (All (λ b. b < 256))) (ap names_of is ∙ names_kept ns closed are) (Reads-bytes text bytes (inr (ns, closed, named, is))) in
     named_cut ns closed q p are small (subst (λ (b : List ℕ). prefix_cut q b ≡ Some p) is cut)
 
--- a node may stand at the path that a target names
+-- there may be a node at the path that a target names
 pub target_storable : {prefix target : List ℕ} {m : DavMethod} {p : PathText} → TargetNames prefix m target (Ok p) → IsStorable (names p)
 target_storable (server is options) = storable_root
 target_storable {prefix} (path {text} {bytes} {p} has reads cut) = read_cut text bytes (without_slash prefix) p reads cut

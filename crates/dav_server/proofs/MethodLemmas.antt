@@ -26,7 +26,7 @@ is_not_done Report g h p q k = refl
 is_not_done MkCalendar g h p q k = refl
 is_not_done MkAddressbook g h p q k = refl
 
--- a method that is served stands among the first
+-- a method that is served is among the first thirteen
 pub served_within : (m : DavMethod) → IsServed m → place_of m < 13
 served_within Head is = omega arith
 served_within Get is = omega arith
@@ -52,7 +52,7 @@ served = Head ∷ Get ∷ Put ∷ Patch ∷ Options ∷ PropFind ∷ PropPatch �
 pub are_served : All IsServed served
 are_served = search (rules, All-nil, All-cons) depth 16
 
--- a method stands at its place
+-- a method is at its place
 at_place : (m d : DavMethod) → place_of m < 13 → get_or served (place_of m) d ≡ m
 at_place Head d within = refl
 at_place Get d within = refl

@@ -1,4 +1,4 @@
--- A 304 tells the truth: the file has the bytes that were shown with its tag, or will be.
+-- A 304 is true: the file has the bytes that a GET of the run shows with its tag, before or after it.
 use Rattle.std.proofs.Common.{◌≡◌, ◌⊎◌, inl, inr, ℕ, ◌≤◌, ◌==◌, ◌||◌, ◌&&◌, ◌++◌, Bool, true, false, not, if◌then◌else◌, List, [], ◌∷◌, codes, Option, Some, None, Result, Ok, Err, refl, sym, ap, subst, ◌∙◌, arith}
 use Rattle.std.proofs.lemmas.Bool.{eqb-true}
 use Rattle.std.proofs.lemmas.Slice.Eq.{bytes_eq-Decides}
@@ -74,7 +74,7 @@ none_matched true b t h = no_412 h
 none_matched false true t h = refl
 none_matched false false t h = cc
 
--- where If-None-Match says one tag, the conditions answer 304 for what has this tag alone
+-- where If-None-Match says one tag, the conditions answer 304 only for what has this tag
 has_tag : (m : DavMethod) (match none_match : Option TagList) (n : Node) (tag : EntityTag) → none_match ≡ Some (tags (tag ∷ [])) → http_conditions m match none_match (Some (metadata_of n)) ≡ Some 304
     → tag_text tag.weak tag.tag ≡ tag_of n.number
 has_tag m match none_match n tag says h =
@@ -82,7 +82,7 @@ has_tag m match none_match n tag says h =
 
 -- ---- one GET or HEAD
 
--- the status that a plan was answered with which failed
+-- the status of the reply where a plan failed
 failed_status : {A : Type 0} {e : DavError} {outcome : Result Response DavError} {old new : StoreState} {ls ms : Locks} → IsOther e → Ran Asking (fails e) old ls outcome new ms → (reply_to outcome).status ≡ 304 → A
 failed_status other ran is = absurd (other (sym (ap (λ (o : Result Response DavError). (reply_to o).status) (ran_outcome ran)) ∙ is))
 
@@ -125,7 +125,7 @@ not_true : (b : Bool) → not b ≡ true → b ≡ false
 not_true true h = sym h
 not_true false h = refl
 
--- a file of some bytes stands at the path, with the number that the tag tells
+-- at the path there is a file of some bytes, with the number that the tag holds
 abbrev pub SomeStands : World → Path → List ℕ → Type 0
 SomeStands w p tag = (bytes : List ℕ) × Stands w p tag bytes
 
@@ -211,7 +211,7 @@ turn_304 t p tag old lacks step is = subst (λ w. SomeStands w (names p) (tag_te
 
 -- ---- whole runs
 
--- what is shown in a run is shown before a request, or by it or behind it
+-- what is shown in a run is shown before a request, by it, or after it
 among_parts : {s : Settings} {front : List Turn} {old mid : StoreState} {ls ks : Locks} {replies : List Response} (t : Turn) (back : List Turn) (reply : Response) (more : List Response) (tag bytes : List ℕ)
     → Runs s front old ls replies mid ks → ShownAmong (front ++ t ∷ back) (replies ++ reply ∷ more) tag bytes → ShownAmong front replies tag bytes ⊎ ShownAmong (t ∷ back) (reply ∷ more) tag bytes
 among_parts t back reply more tag bytes no_more is = inr is

@@ -1,4 +1,4 @@
--- Which statuses plans come to: 304 is that of conditions of GET and HEAD alone.
+-- Which statuses plans result in: 304 is that of the conditions of GET and HEAD alone.
 use Rattle.std.proofs.Common.{◌≡◌, ◌≢◌, ◌⊎◌, inl, inr, ℕ, ◌==◌, ◌||◌, Bool, true, false, true≢false, not, if◌then◌else◌, nat_lt, length, List, [], ◌∷◌, Option, Some, None, Result, Ok, Err, refl, arith, ◌-◌, ◌+◌}
 use Rattle.std.specs.Bool.{⊤}
 use Rattle.std.specs.Option.{unwrap_or}
@@ -32,7 +32,7 @@ use Rattle.dav_engine.specs.Put.{PutHeaders, from_end, update_from, update_at, u
 use Rattle.dav_engine.specs.Response.{Response, reply_to}
 use Rattle.dav_server.specs.Get.{show, show_or_tell}
 
--- ---- what plans come to
+-- ---- the outcomes of plans
 
 -- an outcome is of this kind: its value, or its error
 abbrev pub Outcome : (DavError → Type 0) → {A : Type 0} → (A → Type 0) → Result A DavError → Type 0
@@ -70,15 +70,15 @@ ends_require false e is = ends_done is
 
 -- ---- statuses
 
--- another status than 304
+-- a status other than 304
 abbrev pub IsOtherStatus : ℕ → Type 0
 IsOtherStatus status = status ≢ 304
 
--- an error of another status
+-- an error of another status than 304
 abbrev pub IsOther : DavError → Type 0
 IsOther e = IsOtherStatus (dav_status e)
 
--- a response of another status
+-- a response of another status than 304
 abbrev pub AnswersOther : Response → Type 0
 AnswersOther r = IsOtherStatus r.status
 

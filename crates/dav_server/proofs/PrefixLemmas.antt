@@ -21,6 +21,6 @@ invalid_not_kept text bad kept = Reads-valid text text kept bad
 pub climbing_not_kept : (text : List ℕ) → IsRefused text ForbiddenPath → ¬ Reads text text
 climbing_not_kept text climbs kept = Reads-allowed text text kept climbs
 
--- what is never true
+-- the test of what never holds
 pub never : {P : Type 0} → ¬ P → (IsTrue false → P) × (P → IsTrue false)
 never not = (λ yes. absurd (cc), λ p. absurd (not p))

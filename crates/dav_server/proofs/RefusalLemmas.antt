@@ -10,7 +10,7 @@ over_refused [] inner e h = cc
 over_refused (Some x ∷ list) inner e h = (h, refl)
 over_refused (None ∷ list) inner e h = cc
 
--- without one the call is the store's to refuse
+-- without one it is the store's own refusals that decide
 pub over_passed : (list inner : List (Option FsError)) → next_refusal list ≡ None → (next_refusal (over list inner) ≡ next_refusal inner) × (rest_of (over list inner) ≡ over (rest_of list) (rest_of inner))
 over_passed [] inner h = (refl, refl)
 over_passed (Some x ∷ list) inner h = cc

@@ -14,7 +14,7 @@ use Rattle.std.specs.Option.{option_map}
 use Rattle.dav_server.specs.Machine.{Asked, Settings, Steps, StepCut}
 use Rattle.dav_server.specs.Run.{Turn, begun, Runs, no_more, one_more}
 
--- one step more at the end of a run
+-- one more step at the end of a run
 pub run_more : {s : Settings} {ts : List Turn} {old mid new : StoreState} {ls ks ms : Locks} {replies : List Response} (t : Turn) (reply : Response)
     → Runs s ts old ls replies mid ks → Steps s t.asked (begun t.refusals mid) ks reply new ms → Runs s (ts ++ t ∷ []) old ls (replies ++ reply ∷ []) new ms
 run_more t reply no_more step = one_more step no_more
@@ -27,7 +27,7 @@ pub run_added : {s : Settings} {ts : List Turn} {old mid new : StoreState} {ls k
 run_added {s} {ts} {old} {mid} {new} {ls} {ks} {ms} before after t reply ran is step =
     subst (λ (l : List Response). Runs s (ts ++ t ∷ []) old ls l new ms) (sym (ap (map response_of) is ∙ map_push response_of before reply)) (run_more t (response_of reply) ran step)
 
--- the run of a longer front
+-- the run of one more turn
 pub run_further : {X : Type 0} (view : X → Turn) (xs : List X) (k : ℕ) (x : X) {s : Settings} {old mid new : StoreState} {ls ks ms : Locks} (before after : List Reply) (reply : Reply)
     → k < length xs → x ≡ get_or xs k x → Runs s (map view (take k xs)) old ls (map response_of before) mid ks
     → after ≡ before ++ reply ∷ [] → Steps s (view x).asked (begun (view x).refusals mid) ks (response_of reply) new ms → Runs s (map view (take (k + 1) xs)) old ls (map response_of after) new ms
@@ -50,11 +50,11 @@ steps_at {x = x} {old} {new} {ls} {ms} {reply} same step = subst (λ u. Steps u 
 pub cut_at : {s t : Settings} {x : Asked} {old new : StoreState} {ls ms : Locks} → s ≡ t → StepCut s x old ls new ms → StepCut t x old ls new ms
 cut_at {x = x} {old} {new} {ls} {ms} same step = subst (λ u. StepCut u x old ls new ms) same step
 
--- the run of a list of replies that is the same
+-- a run has an equal list of replies
 pub ran_to : {s : Settings} {ts : List Turn} {old new : StoreState} {ls ms : Locks} (before after : List Reply) → after ≡ before → Runs s ts old ls (map response_of before) new ms → Runs s ts old ls (map response_of after) new ms
 ran_to {s} {ts} {old} {new} {ls} {ms} before after same ran = subst (λ (l : List Reply). Runs s ts old ls (map response_of l) new ms) (sym same) ran
 
--- a list that was loaded before no other
+-- a list of refusals over none is the list itself
 pub over_nothing : (list : List (Option FsError)) → over list [] ≡ list
 over_nothing [] = refl
 over_nothing (Some e ∷ list) = ap (λ l. Some e ∷ l) (over_nothing list)
@@ -64,7 +64,7 @@ over_nothing (None ∷ list) = ap (λ l. None ∷ l) (over_nothing list)
 pub loaded_state : (was now : BehindList Store) (list : List (Option FsError)) → now ≡ record was { coming = list } → memory_state now ≡ begun (Some list) (memory_state was)
 loaded_state was now list is = ap memory_state is ∙ ap (λ l. record (state_of was.inner) { refusals = l }) (over_nothing list)
 
--- the list of locks of a store in memory is what it stands for
+-- the list of locks of a store in memory is its own view
 same_locks : (ls : Locks) → option_map (λ (l : List Lock). l) ls ≡ ls
 same_locks None = refl
 same_locks (Some l) = refl
@@ -82,7 +82,7 @@ cut_from {s} {x} {old} {from} {new} ls ms same step =
     subst (λ o. StepCut s x o ls new ms) same
     (subst (λ k. StepCut s x old k new ms) (same_locks ls) (subst (λ k. StepCut s x old (option_map (λ (l : List Lock). l) ls) new k) (same_locks ms) step))
 
--- one reply more, in the same way
+-- one more reply, by the store when its step begins
 pub added_from : {s : Settings} {x : Asked} {old from new : StoreState} (ls ms : Locks) (before after : List Reply) → old ≡ from
     → AddsReply s x old (option_map (λ (l : List Lock). l) ls) before after new (option_map (λ (l : List Lock). l) ms) → AddsReply s x from ls before after new ms
 added_from ls ms before after same added = (added.0, added.1, steps_from ls ms same added.2)
@@ -95,6 +95,6 @@ rest_after_one all yielded rest rest' x is one = is ∙ ap (λ l. yielded ++ l) 
 pub turns_of : {X : Type 0} (view : X → Turn) (all yielded rest rest' : List X) (x : X) → all ≡ yielded ++ rest → rest ≡ x ∷ rest' → map view all ≡ map view yielded ++ view x ∷ map view rest'
 turns_of view all yielded rest rest' x is one = ap (map view) (is ∙ ap (λ l. yielded ++ l) one) ∙ map-append view yielded (x ∷ rest')
 
--- the run of a list of turns that is the same
+-- an equal list of turns has the same run
 pub ran_for : {s : Settings} {ts us : List Turn} {old new : StoreState} {ls ms : Locks} {replies : List Response} → ts ≡ us → Runs s us old ls replies new ms → Runs s ts old ls replies new ms
 ran_for {s} {old = old} {new} {ls} {ms} {replies} same ran = subst (λ (l : List Turn). Runs s l old ls replies new ms) (sym same) ran

@@ -43,7 +43,7 @@ cut_of_ran (ran_ask one rest) = cut_ask one (cut_of_ran rest)
 cut_of_ran (ran_look rest) = cut_look (cut_of_ran rest)
 cut_of_ran (ran_keep rest) = cut_keep (cut_of_ran rest)
 
--- whatever was answered, no more was done than a front of the plan
+-- whatever the reply, no more was done than the first calls of the plan
 pub served_cut : {s : Settings} {x : Asked} {old new : StoreState} {ls ms : Locks} {r : Result Reply DavError} → Serves (Means s x) old ls r new ms → StepCut s x old ls new ms
 served_cut (served plan means (followed ran)) = cut plan means (cut_of_ran ran)
 served_cut (served plan means (gave_up is front)) = cut plan means front
@@ -55,30 +55,30 @@ served_ok (served plan means (followed ran)) = steps plan _ means ran
 served_ok (served plan means (gave_up is front)) = absurd (cc)
 served_ok (not_begun is same kept) = absurd (cc)
 
--- so is the reply to an error, but for want of memory
+-- so is the reply to an error, other than out of memory
 pub served_err : {s : Settings} {x : Asked} {old new : StoreState} {ls ms : Locks} {e : DavError} {response : Response} → Serves (Means s x) old ls (Err e) new ms
     → response ≡ error_reply e → (e ≡ dav.Memory → ⊥) → Steps s x old ls response new ms
 served_err {s} {x} {old} {new} {ls} {ms} {e} (served plan means (followed ran)) is other = subst (λ r. Steps s x old ls r new ms) (sym is) (steps plan (Err e) means ran)
 served_err (served plan means (gave_up is' front)) is other = absurd (other (cc))
 served_err (not_begun is' same kept) is other = absurd (other (cc))
 
--- a plan of a method, by what the method is
+-- a plan of a method is one of an equal method
 pub plan_at : {headers : Headers} {p : PathText} {body : Body} {who : Client} {m n : DavMethod} {plan : Method Response} → m ≡ n → PlanOf headers p body who n plan → PlanOf headers p body who m plan
 plan_at {headers} {p} {body} {who} {plan = plan} same is = subst (λ k. PlanOf headers p body who k plan) (sym same) is
 
--- a method, by the bytes of its name
+-- what an equal name gives as method
 pub served_at : {text name : List ℕ} (result : Result DavMethod DavError) → text ≡ name → GivesServed text result → GivesServed name result
 served_at result same is = subst (λ t. GivesServed t result) same is
 
--- the same for its headers
+-- a plan with headers is one with equal headers
 pub plan_with : {headers others : Headers} {p : PathText} {body : Body} {who : Client} {m : DavMethod} {plan : Method Response} → others ≡ headers → PlanOf others p body who m plan → PlanOf headers p body who m plan
 plan_with {p = p} {body} {who} {m} {plan} same is = subst (λ h. PlanOf h p body who m plan) same is
 
--- a target, by its bytes and those of the prefix
+-- what an equal target names below an equal prefix
 pub path_at : {prefix given target text : List ℕ} (m : DavMethod) (result : Result PathText DavError) → given ≡ prefix → text ≡ target → GivesPath given m text result → GivesPath prefix m target result
 path_at {prefix} {text = text} m result one two is = subst (λ t. GivesPath prefix m t result) two (subst (λ x. GivesPath x m text result) one is)
 
--- a body, by which one is handed on
+-- a body, by which one the method is handed
 pub handed_at : {s : Settings} {x : Asked} {r : Request} {m : DavMethod} {p : PathText} (g k : Given) {old new : StoreState} {ls ms : Locks} {result : Result Reply DavError}
     → Has s.allowed m → TargetNames s.prefix m r.target (Ok p) → body_for (taken_by m) x.body ≡ Ok (handed g x.body) → g ≡ k
     → Serves (PlanOf (headers_of r.fields) p (handed k x.body) (client x) m) old ls result new ms → Serves (MeansOf s x r m) old ls result new ms
@@ -89,11 +89,11 @@ pub any_err : {A E P : Type 0} (r : Result A E) → P → OnErr r P
 any_err (Ok a) p = tt
 any_err (Err e) p = p
 
--- a kind of plan, by what its method is
+-- the same, by equal kinds of plans
 pub serves_by : {K J : Method Response → Type 0} {old new : StoreState} {ls ms : Locks} {r : Result Reply DavError} → K ≡ J → Serves K old ls r new ms → Serves J old ls r new ms
 serves_by {old = old} {new} {ls} {ms} {r} same done = subst (λ (k : Method Response → Type 0). Serves k old ls r new ms) same done
 
--- what was answered with the locks that a borrow lends, with the locks themselves
+-- what was answered with borrowed locks is answered with the locks themselves
 pub serves_held : {L : Type 0} {K : Method Response → Type 0} (locks : L → List Lock) (lent : Option (Bor L)) (held : Option L) {old new : StoreState} {r : Result Reply DavError}
     → option_copied lent ≡ held → Serves K old (locks_in locks lent) r new (locks_in locks lent) → Serves K old (option_map locks held) r new (option_map locks held)
 serves_held {K = K} locks lent held {old} {new} {r} same done = subst (λ l. Serves K old (option_map locks l) r new (option_map locks l)) same done

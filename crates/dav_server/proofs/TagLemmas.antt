@@ -26,7 +26,7 @@ use Rattle.dav_server.proofs.MeansWorld.{asks_one, begun_world, turn_keeps}
 
 -- ---- one GET
 
--- a file of these bytes stands somewhere, with the number that the tag tells
+-- somewhere there is a file of these bytes, with the number that the tag holds
 abbrev pub StandsSomewhere : World → List ℕ → List ℕ → Type 0
 StandsSomewhere w tag bytes = (p : Path) × Stands w p tag bytes
 
@@ -59,7 +59,7 @@ means_shows x outcome tag bytes asks world (known r n head gives means) ran show
 step_shows : {s : Settings} (x : Asked) {old new : StoreState} {ls ms : Locks} {reply : Response} (tag bytes : List ℕ) → Asks Get x → IsWorld old.world → Steps s x old ls reply new ms → Shows tag bytes reply → StandsSomewhere old.world tag bytes
 step_shows x tag bytes asks world (steps plan outcome means ran) shows = means_shows x outcome tag bytes asks world means ran shows
 
--- what the GET of a turn shows stands in the world before it
+-- what the GET of a turn shows is in the world before it
 pub turn_shows : {s : Settings} (t : Turn) (old : StoreState) {new : StoreState} {ls ms : Locks} {reply : Response} (tag bytes : List ℕ) → Asks Get t.asked → IsWorld old.world → Steps s t.asked (begun t.refusals old) ls reply new ms → Shows tag bytes reply
     → StandsSomewhere old.world tag bytes
 turn_shows t old tag bytes asks world step shows =
@@ -68,7 +68,7 @@ turn_shows t old tag bytes asks world step shows =
 
 -- ---- what is shown in a run
 
--- a GET among these requests was answered so, request by request
+-- a GET among these requests was answered with these bytes and this tag, request by request
 abbrev pub ShownAmong : List Turn → List Response → List ℕ → List ℕ → Type 0
 ShownAmong [] replies tag bytes = ⊥
 ShownAmong (t ∷ ts) [] tag bytes = ⊥

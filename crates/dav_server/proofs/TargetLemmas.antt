@@ -1,4 +1,4 @@
--- Targets: the text that is to name a path, and what it comes to.
+-- Targets: the text that is to name a path, and what it results in.
 use Rattle.std.proofs.Common.{rules, arith, length, ◌∷◌, ◌≡◌, ◌≢◌, ◌⊎◌, ℕ, List, [], Contains, Option, Some, None, Result, Ok, Err, ◌||◌, not, is_some, if◌then◌else◌, refl, sym, ap, ap₂, subst, ◌∙◌, inl, inr}
 use Rattle.http_uri.specs.declared.uri.Uri.{Uri}
 use Rattle.http_uri.specs.Grammar.{IsUriText, or_slash}
@@ -26,7 +26,7 @@ uri_of scheme authority behind = record {
   authority_alone = search rules;
 }
 
--- a URI has the parts that its text shows
+-- a URI has the parts that its text has
 parts_of : (target scheme authority behind : List ℕ) (uri : Uri) → Spells target uri → IsUriText target (Some scheme) (Some authority) behind → (uri_scheme uri ≡ Some scheme) × (uri_authority uri ≡ Some authority) × (uri_data uri ≡ behind)
 unfolding uri_of
 parts_of target scheme authority behind uri spelled form =
@@ -57,12 +57,12 @@ spells_both target a b scheme authority behind is has spelled =
     subst (λ (y : Option (List ℕ)). IsUriText target (Some scheme) y behind) has
     (subst (λ (x : Option (List ℕ)). IsUriText target x b behind) is spelled)
 
--- a URI with both has the text behind its authority
+-- a URI with both has the text after its authority
 pub absolute_text : (target text : List ℕ) (uri : Uri) → ¬ BeginsWithSlash target → ¬ Contains target 35 → Spells target uri → GivesTail uri (Some text) → HasPathText target text
 absolute_text target text uri bare clean spelled (scheme, authority, is, has, same) =
     inr (bare, (clean, scheme, authority, uri_data uri, spells_both target _ _ scheme authority _ is has spelled, same))
 
--- what a URI with a scheme shows as its path and query is what it keeps
+-- the path and query of a URI with a scheme are the data that it keeps
 pub shown_data : (uri : Uri) (scheme shown : List ℕ) → uri_scheme uri ≡ Some scheme → Some shown ≡ uri_path_and_query uri → shown ≡ uri_data uri
 shown_data uri scheme shown is has =
     let kept : uri_path_and_query uri ≡ Some (uri_data uri) = ap (λ (x : Option (List ℕ)). if is_some x || not (is_some (uri_authority uri)) then Some (uri_data uri) else None) is in
@@ -92,21 +92,21 @@ server_named prefix method target (Err e) is options given =
           ]
     ]
 
--- what the text in a target comes to is what the target comes to
+-- what the text in a target results in is what is read in the target
 pub read_named : (target text : List ℕ) (r : Result PathText DavError) → HasPathText target text → GivesNamed text r → GivesRead target r
 read_named target text (Ok p) has is = (is.0, text, has, is.1)
 read_named target text (Err e) has (inl memory) = inl memory
 read_named target text (Err e) has (inr (inl bad)) = inr (subst (IsUnreadable target) (sym bad.0) (invalid has bad.1))
 read_named target text (Err e) has (inr (inr climbs)) = inr (subst (IsUnreadable target) (sym climbs.0) (climbing has climbs.1))
 
--- and the path behind the prefix is what the target names
+-- and the path after the prefix is what the target names
 pub names_cut : (prefix : List ℕ) (method : DavMethod) (target : List ℕ) (p : PathText) (r : Result PathText DavError) → GivesRead target (Ok p) → GivesCut (prefix_cut (without_slash prefix) (full_bytes p)) r → GivesPath prefix method target r
 names_cut prefix method target p (Ok q) (bare, text, has, reads) is = path has reads (rw bare at is)
 names_cut prefix method target p (Err e) (bare, text, has, reads) (inl memory) = inl memory
 names_cut prefix method target p (Err e) (bare, text, has, reads) (inr none) =
     inr (subst (λ (x : DavError). TargetNames prefix method target (Err x)) (sym none.0) (outside has reads (rw bare at none.1)))
 
--- a target holds one text
+-- a target has one text at most
 one_text : (target a b : List ℕ) → HasPathText target a → HasPathText target b → a ≡ b
 unfolding uri_of
 one_text target a b (inl (_, is)) (inl (_, also)) = is ∙ sym also
@@ -115,7 +115,7 @@ one_text target a b (inr (bare, _)) (inl (slash, _)) = absurd (bare slash)
 one_text target a b (inr (_, (_, s, t, behind, form, is))) (inr (_, (_, other, authority, end, also, same))) =
     is ∙ ap or_slash (Spells_unique target (uri_of s t behind) (uri_of other authority end) form also).2 ∙ sym same
 
--- `*` holds none
+-- `*` has none
 star_formless : (target text : List ℕ) → target ≡ star → ¬ HasPathText target text
 star_formless target text is has =
     elim has [
@@ -145,12 +145,12 @@ unreadable_once target _ _ (climbing {text} has climbs) (invalid {text = other} 
     absurd (refused_once other bad (subst (λ (x : List ℕ). IsRefused x parse.ForbiddenPath) (one_text target text other has also) climbs))
 unreadable_once target _ _ (climbing _ _) (climbing _ _) = refl
 
--- what a path comes to that is cut or isn't
+-- the outcome of a path that is cut or isn't
 cut_outcome : Option PathText → Result PathText DavError
 cut_outcome None = Err dav.IllegalPath
 cut_outcome (Some p) = Ok p
 
--- what `*` comes to
+-- what `*` results in
 at_star : (prefix : List ℕ) (method : DavMethod) (target : List ℕ) (b : Result PathText DavError) → target ≡ star → TargetNames prefix method target b → ((method ≡ Options) × (b ≡ Ok (record { prefix = []; bytes = star }))) ⊎ ((method ≢ Options) × (b ≡ Err (dav.Status 400)))
 at_star prefix method target _ is (server _ options) = inl (options, refl)
 at_star prefix method target _ is (reserved _ other) = inr (other, refl)
@@ -158,7 +158,7 @@ at_star prefix method target _ is (unreadable apart _) = absurd (apart is)
 at_star prefix method target _ is (outside {text} has _ _) = absurd (star_formless target text is has)
 at_star prefix method target _ is (path {text} has _ _) = absurd (star_formless target text is has)
 
--- what an unreadable target comes to
+-- what an unreadable target results in
 when_unreadable : (prefix : List ℕ) (method : DavMethod) (target : List ℕ) (e : DavError) (b : Result PathText DavError) → target ≢ star → IsUnreadable target e → TargetNames prefix method target b → b ≡ Err e
 when_unreadable prefix method target e _ apart why (server is _) = absurd (apart is)
 when_unreadable prefix method target e _ apart why (reserved is _) = absurd (apart is)
@@ -166,7 +166,7 @@ when_unreadable prefix method target e _ apart why (unreadable {e = other} _ als
 when_unreadable prefix method target e _ apart why (outside {text} {bytes} has reads _) = absurd (read_once target text bytes e has reads why)
 when_unreadable prefix method target e _ apart why (path {text} {bytes} has reads _) = absurd (read_once target text bytes e has reads why)
 
--- what a target that is read comes to
+-- what a target that is read results in
 when_read : (prefix : List ℕ) (method : DavMethod) (target text bytes : List ℕ) (b : Result PathText DavError) → HasPathText target text → Reads text bytes → TargetNames prefix method target b → b ≡ cut_outcome (prefix_cut (without_slash prefix) bytes)
 unfolding cut_outcome
 when_read prefix method target text bytes _ has reads (server is _) = absurd (star_formless target text is has)
@@ -179,7 +179,7 @@ when_read prefix method target text bytes _ has reads (path {text = other} {byte
     let same = Reads-one text bytes found reads (subst (λ (x : List ℕ). Reads x found) (one_text target other text also has) read) in
     ap cut_outcome (sym cut ∙ ap (prefix_cut (without_slash prefix)) (sym same))
 
--- one target comes to one outcome
+-- a target results in one outcome
 pub one_outcome : OneOutcome
 unfolding cut_outcome
 one_outcome prefix method target _ b (server is options) also =

@@ -14,34 +14,34 @@ use Rattle.dav_engine.specs.Headers.{Headers}
 use Rattle.dav_engine.specs.Method.{Method, ◌>>=◌, require, ask_for, gives, fails}
 use Rattle.dav_engine.specs.Response.{Response, Header, content_length, tag_headers, last_modified}
 
--- what is told of a file that has so many bytes
+-- the headers of a reply about a file with this many bytes
 abbrev pub file_headers : ℕ → DavMetaData → List Header
 file_headers len file = content_length len ∷ (codes "content-type", codes "application/octet-stream") ∷ (tag_headers file.number ++ last_modified file.modified ∷ [])
 
--- a file that is shown
+-- the reply with a file's bytes
 abbrev pub shown : DavMetaData → List ℕ → Response
 shown file bytes = record { status = 200; headers = file_headers (length bytes) file; body = reply.Bytes bytes }
 
--- a file that is told of
+-- the reply that reports a file without its bytes
 abbrev pub told : DavMetaData → Response
 told file = record { status = 200; headers = file_headers file.len file; body = reply.Nothing }
 
--- a file that its client has already: the tag alone (RFC 9110, section 15.4.5)
+-- the reply where the client has the file already: the tag alone (RFC 9110, section 15.4.5)
 abbrev pub not_modified : DavMetaData → Response
 not_modified file = record { status = 304; headers = tag_headers file.number; body = reply.Nothing }
 
--- opened for reading alone
+-- opened for reading only
 abbrev pub reading : Opening
 reading = record no_opening { read = true }
 
--- A file is shown: it is opened for reading, and as many bytes are read as it was said to have.
+-- Answers with the file's bytes: opens the file for reading, and reads as many bytes as its length was reported to be.
 abbrev pub show : Path → ℕ → DavMetaData → Method Response
 show p now found = do
   file ← ask_for (Open p reading now)
   bytes ← ask_for (Read file found.len)
   gives (shown found bytes.0)
 
--- HEAD tells of the file, and GET shows it
+-- HEAD reports the file, GET answers with its bytes
 abbrev pub show_or_tell : DavMethod → Path → ℕ → DavMetaData → Method Response
 show_or_tell Head p now found = gives (told found)
 show_or_tell _ p now found = show p now found

@@ -6,14 +6,14 @@ use Rattle.std.specs.List.{starts_with}
 abbrev pub barred : List ℕ
 barred = 34 ∷ codes "()<>[]{}"
 
--- printable ASCII, and neither blank nor barred
+-- printable ASCII, and neither a space nor barred
 abbrev pub IsTokenByte : ℕ → Type 0
 IsTokenByte b = (32 < b) × (b < 127) × ¬ Contains barred b
 
--- `DAV:` stands in front: the name of a token that no lock has (RFC 4918, section 10.4.8)
+-- it begins with `DAV:`, as a token that no lock has (RFC 4918, section 10.4.8)
 abbrev pub IsReserved : List ℕ → Type 0
 IsReserved text = IsTrue (starts_with ◌==◌ text (codes "DAV:"))
 
--- some such bytes, that are not reserved
+-- one or more such bytes, not reserved
 abbrev pub IsGrantToken : List ℕ → Type 0
 IsGrantToken text = (text ≢ []) × All IsTokenByte text × ¬ IsReserved text

@@ -7,7 +7,8 @@ use Rattle.httparse.specs.Spans.{name_and_value}
 use Rattle.http_header.specs.FieldName.{IsFieldName}
 use Rattle.http_header.specs.FieldValue.{IsFieldValue}
 
--- What a head says: its method, its target, and its fields, each a name and the value without the blanks at its ends.
+-- What a head says: its method, its target, and its fields, each a name and the value without the optional whitespace (OWS)
+-- around it.
 pub record Request : Type 0 where
   pub method : List ℕ
   pub target : List ℕ
@@ -17,13 +18,13 @@ pub record Request : Type 0 where
 abbrev pub request_of_head : RequestHead → Request
 request_of_head h = record { method = h.method; target = h.target; fields = map name_and_value h.fields }
 
--- The bytes are a head that says this: at most 65,536 bytes, at most 64 fields, and nothing behind it.
+-- The bytes are a head that says this: at most 65,536 bytes, at most 64 fields, and nothing after it.
 abbrev pub IsHead : List ℕ → Request → Type 0
 IsHead bytes r =
     (length bytes ≤ 65536)
     × (h : RequestHead) × ReadsRequest bytes h [] × (length h.fields ≤ 64) × (r ≡ request_of_head h)
 
--- the names are the same, where ASCII case makes no difference (RFC 9110, section 5.1)
+-- whether the names are the same, ASCII case ignored (RFC 9110, section 5.1)
 abbrev pub is_same_name : List ℕ → List ℕ → Bool
 is_same_name a b = bytes_eq (map to_ascii_lowercase a) (map to_ascii_lowercase b)
 
@@ -35,6 +36,6 @@ values_of name fields = map (λ field. field.1) (filter (λ field. is_same_name 
 abbrev pub AreFields : List (List ℕ × List ℕ) → Type 0
 AreFields fields = All (λ field. IsFieldName field.0 × IsFieldValue field.1) fields
 
--- bytes are a head that says one thing
+-- bytes are a head in one way at most
 abbrev pub OneHead : Type 0
 OneHead = (bytes : List ℕ) (a b : Request) → IsHead bytes a → IsHead bytes b → a ≡ b

@@ -5,7 +5,7 @@ use Rattle.httparse.specs.Spans.{IsHeaderWithin, header_bytes}
 use Rattle.dav_server.specs.declared.head.RequestView.TheInside.{Inside}
 use Rattle.dav_server.specs.Head.{AreFields}
 
--- each lies in the head, and covers a name and a value
+-- each header lies in the head, and covers a name and a value
 pub record AreHeadersOf (head : List ℕ) (headers : List HeaderSpan) : Type 0 where
   pub within : All (IsHeaderWithin (length head)) headers
   pub fields : AreFields (map (header_bytes head) headers)

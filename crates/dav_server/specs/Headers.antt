@@ -9,7 +9,7 @@ use Rattle.dav_server.specs.Head.{values_of}
 abbrev pub header_of : List ℕ × List ℕ → List ℕ × FieldValue
 header_of field = (lowercase field.0, plain_value field.1)
 
--- the fields one after another, each value behind those of its name (RFC 9110, section 5.3)
+-- the fields one after another, each value after the others of its name (RFC 9110, section 5.3)
 abbrev pub headers_of : List (List ℕ × List ℕ) → Entries FieldValue
 headers_of fields = append_all [] (map header_of fields)
 

@@ -1,4 +1,4 @@
--- The machine: what each request is answered, from the bytes of its head on, and what it leaves.
+-- The machine: the reply to each request, from the bytes of its head on, and the store and the locks that it leaves.
 use Rattle.std.specs.Prelude.{◌≡◌, ℕ, Bool, true, false, List, [], ◌∷◌, nat_lt, if◌then◌else◌, Option, Result, Ok, Err}
 use Rattle.dav_core.specs.declared.errors.DavError.{DavError}
 use Rattle.dav_core.specs.declared.errors.DavError.TheVariants as dav
@@ -23,8 +23,7 @@ use Rattle.dav_server.specs.Headers.{headers_of}
 use Rattle.dav_server.specs.Method.{GivesServed}
 use Rattle.dav_server.specs.Target.{TargetNames}
 
--- A request as it comes in: the bytes of its head, its body, who makes it, when, and the token that a lock takes which it
--- makes.
+-- A request as it comes in: the bytes of its head, its body, who makes it, when, and the token for a lock that it creates.
 pub record Asked : Type 0 where
   pub head : List ℕ
   pub body : Body
@@ -51,12 +50,12 @@ taken_by PropPatch = TakesTree
 taken_by Lock = TakesTree
 taken_by _ = TakesNone
 
--- a tree that isn't too deep: 400 for one of more than 64 elements, each in the one before
+-- a tree of at most 64 levels of nested elements; 400 for a tree of more levels
 abbrev pub given_tree : ElementTree → Result Body DavError
 given_tree tree = if nat_lt 64 (depth_of tree) then Err (dav.Status 400) else Ok (body.Tree tree)
 
--- The body that a method is handed, or the error that answers the request: 415 for one that the method doesn't take (RFC 9110,
--- section 15.5.16). No bytes are no body; other bytes are no element tree.
+-- The body that a method is handed, or the error that answers the request: 415 for one that the method doesn't take (RFC
+-- 9110, section 15.5.16). An empty body counts as none; other bytes are no element tree.
 abbrev pub body_for : Taken → Body → Result Body DavError
 body_for taken body.None = Ok body.None
 body_for taken (body.Bytes []) = Ok body.None
@@ -74,7 +73,7 @@ body_for TakesNone body.Malformed = Err (dav.Status 415)
 abbrev pub client : Asked → Client
 client x = record { principal = x.principal; moment = x.moment; token = x.token }
 
--- the methods that are served by now
+-- whether a method is served yet
 abbrev pub is_done : DavMethod → Bool
 is_done Get = true
 is_done Head = true
@@ -83,7 +82,7 @@ is_done Patch = true
 is_done MkCol = true
 is_done _ = false
 
--- The plan of a method, with its headers, its path and its body. The methods that aren't served yet: 501.
+-- The plan of a method, with its headers, its path and its body. 501 for a method that isn't served yet.
 pub data PlanOf (headers : Headers) (p : PathText) (body : Body) (who : Client) : DavMethod → Method Response → Type 0 where
   gets : {plan : Method Response} → IsGet Get headers p who.moment plan → PlanOf headers p body who Get plan
   heads : {plan : Method Response} → IsGet Head headers p who.moment plan → PlanOf headers p body who Head plan
@@ -92,9 +91,9 @@ pub data PlanOf (headers : Headers) (p : PathText) (body : Body) (who : Client) 
   makes : {plan : Method Response} → IsMkcol headers p who plan → PlanOf headers p body who MkCol plan
   not_yet : {m : DavMethod} → is_done m ≡ false → PlanOf headers p body who m (fails (dav.Status 501))
 
--- The plan that a request comes to whose head says this, with this method. It is refused, before anything is asked of the store,
--- for the first of these: 405 for a method that isn't allowed, and the connection closes; then what its target comes to, below
--- the prefix; then what its body comes to.
+-- The plan that a request results in, given what its head says and its method. It is refused, before anything is asked of
+-- the store, for the first of these: 405 for a method that isn't allowed, and the connection closes; then the error of its
+-- target, below the prefix; then the error of its body.
 pub data MeansOf (s : Settings) (x : Asked) (r : Request) (m : DavMethod) : Method Response → Type 0 where
   not_allowed : ¬ Has s.allowed m → MeansOf s x r m (fails (dav.StatusClose 405))
   no_path : (e : DavError) → Has s.allowed m → TargetNames s.prefix m r.target (Err e) → MeansOf s x r m (fails e)
@@ -102,15 +101,15 @@ pub data MeansOf (s : Settings) (x : Asked) (r : Request) (m : DavMethod) : Meth
   method : (p : PathText) (body : Body) {plan : Method Response} → Has s.allowed m → TargetNames s.prefix m r.target (Ok p) → body_for (taken_by m) x.body ≡ Ok body
       → PlanOf (headers_of r.fields) p body (client x) m plan → MeansOf s x r m plan
 
--- The plan that a request comes to. 400 for bytes that are no head, and 501 for a method that isn't known; then what its method
--- comes to.
+-- The plan that a request results in. 400 for bytes that are no head, and 501 for a method that isn't known; then the plan
+-- with its method.
 pub data Means (s : Settings) (x : Asked) : Method Response → Type 0 where
   no_head : ((r : Request) → ¬ IsHead x.head r) → Means s x (fails (dav.Status 400))
   no_method : (r : Request) (e : DavError) → IsHead x.head r → GivesServed r.method (Err e) → Means s x (fails e)
   known : (r : Request) (m : DavMethod) {plan : Method Response} → IsHead x.head r → GivesServed r.method (Ok m) → MeansOf s x r m plan → Means s x plan
 
--- One step of the machine over stores that answer each call by this relation: the reply to a request, and the store and the list of
--- locks that it leaves.
+-- One step of the machine over stores that answer each call by this relation: the reply to a request, and the store and the
+-- list of locks that it leaves.
 pub data StepsBy (step : Step) (s : Settings) (x : Asked) (old : StoreState) (ls : Locks) : Response → StoreState → Locks → Type 0 where
   steps : (plan : Method Response) (outcome : Result Response DavError) {new : StoreState} {ms : Locks}
       → Means s x plan → Ran step plan old ls outcome new ms → StepsBy step s x old ls (reply_to outcome) new ms
@@ -119,8 +118,8 @@ pub data StepsBy (step : Step) (s : Settings) (x : Asked) (old : StoreState) (ls
 abbrev pub Steps : Settings → Asked → StoreState → Locks → Response → StoreState → Locks → Type 0
 Steps = StepsBy Asks
 
--- Memory ran out in a step: nothing was done, or the first calls of its plan were made, each of them whole. The list of locks is
--- as before, or as the plan leaves it where each later call is refused.
+-- Memory ran out in a step: nothing was done, or the first calls of its plan were made, each of them whole. The list of
+-- locks is as before, or as the plan leaves it where each later call is refused.
 pub data StepCutBy (step : Step) (s : Settings) (x : Asked) (old : StoreState) (ls : Locks) : StoreState → Locks → Type 0 where
   untouched : StepCutBy step s x old ls old ls
   cut : (plan : Method Response) {new : StoreState} {ms : Locks} → Means s x plan → Cut step ls plan old ls new ms → StepCutBy step s x old ls new ms

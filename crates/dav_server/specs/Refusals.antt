@@ -3,14 +3,14 @@ use Rattle.std.specs.Prelude.{List, [], ◌∷◌, Option, Some, None}
 use Rattle.dav_core.specs.declared.errors.FsError.{FsError}
 use Rattle.dav_core.specs.Asking.{StoreState}
 
--- What contracts see of a store with a list before it: the store, and the entries of the list that are left, one for each
--- call to come, an error where that call is refused.
+-- What contracts see of a store with a list of refusals before it: the store, and the entries that are left of the list,
+-- one for each call to come, an error where that call is refused.
 pub record BehindList (F : Type 0) : Type 0 where
   pub inner : F
   pub coming : List (Option FsError)
 
--- The refusals to come of a list before those of the store behind it. A call that the list refuses doesn't reach the store,
--- and so uses up none of its own refusals.
+-- The refusals to come of a store that has a list before its own refusals. A call that the list refuses doesn't reach the
+-- store, and so uses up none of the store's own refusals.
 abbrev pub over : List (Option FsError) → List (Option FsError) → List (Option FsError)
 over [] inner = inner
 over (Some e ∷ list) inner = Some e ∷ over list inner

@@ -6,7 +6,7 @@ use Rattle.dav_engine.specs.Plan.{Locks, Step}
 use Rattle.dav_engine.specs.Response.{Response}
 use Rattle.dav_server.specs.Machine.{Asked, Settings, StepsBy, StepCutBy}
 
--- A turn: a request, and where it says so the list of the calls that the store will refuse from then on.
+-- A turn: a request, and where there is one the list of the store's calls that are refused from then on.
 pub record Turn : Type 0 where
   pub asked : Asked
   pub refusals : Option (List (Option FsError))
@@ -16,8 +16,8 @@ abbrev pub begun : Option (List (Option FsError)) → StoreState → StoreState
 begun None s = s
 begun (Some refusals) s = record s { refusals = refusals }
 
--- A run of the machine over stores that answer each call by this relation: the replies to the requests, one step after another, and
--- the store and the list of locks that are left.
+-- A run of the machine over stores that answer each call by this relation: the replies to the requests, one step after
+-- another, and the store and the list of locks that are left.
 pub data RunsBy (step : Step) (s : Settings) : List Turn → StoreState → Locks → List Response → StoreState → Locks → Type 0 where
   no_more : {old : StoreState} {ls : Locks} → RunsBy step s [] old ls [] old ls
   one_more : {t : Turn} {ts : List Turn} {old mid new : StoreState} {ls ks ms : Locks} {reply : Response} {replies : List Response}
@@ -28,7 +28,8 @@ pub data RunsBy (step : Step) (s : Settings) : List Turn → StoreState → Lock
 abbrev pub Runs : Settings → List Turn → StoreState → Locks → List Response → StoreState → Locks → Type 0
 Runs = RunsBy Asks
 
--- These replies, perhaps none, are those of a run of the first requests; in the next one memory ran out, and this is left.
+-- These replies, perhaps none, are those of a run of the first requests; in the next one memory ran out, and this store and
+-- this list of locks are left.
 abbrev pub RanInPartBy : Step → Settings → List Turn → StoreState → Locks → List Response → StoreState → Locks → Type 0
 RanInPartBy step s ts old ls replies new ms =
     (front : List Turn) × (t : Turn) × (rest : List Turn) × (mid : StoreState) × (ks : Locks)
@@ -38,7 +39,7 @@ RanInPartBy step s ts old ls replies new ms =
 abbrev pub RanInPart : Settings → List Turn → StoreState → Locks → List Response → StoreState → Locks → Type 0
 RanInPart = RanInPartBy Asks
 
--- Where memory was never wanted, a run is determined: its replies, and what it leaves.
+-- Where the store never ran out of memory, a run is determined: its replies, and what it leaves.
 abbrev pub RunsAreDetermined : Type 0
 RunsAreDetermined =
     (s : Settings) (ts : List Turn) (old new other : StoreState) (ls ks ms : Locks) (replies others : List Response)

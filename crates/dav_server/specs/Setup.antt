@@ -9,7 +9,7 @@ use Rattle.dav_server.specs.declared.davhandler.HandlerError.TheVariants.{BadPre
 use Rattle.dav_server.specs.Machine.{Asked, Settings}
 use Rattle.dav_server.specs.Target.{BeginsWithSlash}
 
--- an exchange as the machine sees it
+-- an exchange as a request of the machine
 abbrev pub asked : Exchange → Asked
 asked x = record { head = x.head.now; body = x.body; principal = option_copied x.principal; moment = x.moment.seconds; token = x.token }
 

@@ -1,4 +1,4 @@
--- Entity tags over whole runs (RFC 9110, sections 8.8.1 and 13), and what reading leaves.
+-- Entity tags over whole runs (RFC 9110, sections 8.8.1 and 13), and what GET and HEAD leave.
 use Rattle.std.specs.Prelude.{◌≡◌, ℕ, ◌≤◌, ◌++◌, true, List, [], ◌∷◌, All, Contains, codes, Some, Ok}
 use Rattle.std.specs.List.{zip}
 use Rattle.http_header.specs.HeaderMap.{get_all}
@@ -20,7 +20,7 @@ use Rattle.dav_server.specs.Method.{GivesServed}
 use Rattle.dav_server.specs.Run.{Turn, begun, Runs}
 use Rattle.dav_server.specs.Target.{TargetNames}
 
--- a request has this method, by its head
+-- the head of a request names this method
 abbrev pub Asks : DavMethod → Asked → Type 0
 Asks m x = (r : Request) × IsHead x.head r × GivesServed r.method (Ok m)
 
@@ -30,7 +30,7 @@ pub record Shows (tag bytes : List ℕ) (reply : Response) : Type 0 where
   pub tag_is : Contains reply.headers (codes "etag", tag)
   pub bytes_are : reply.body ≡ body.Bytes bytes
 
--- a GET among these requests was answered so
+-- a GET among these requests was answered with these bytes and this tag
 abbrev pub ShownIn : List Turn → List Response → List ℕ → List ℕ → Type 0
 ShownIn ts replies tag bytes =
     (t : Turn) × (reply : Response) × Contains (zip ts replies) (t, reply) × Asks Get t.asked × Shows tag bytes reply
@@ -40,7 +40,7 @@ abbrev pub EqualTagsShowEqualBytes : List Turn → List Response → Type 0
 EqualTagsShowEqualBytes ts replies =
     (tag bytes others : List ℕ) → ShownIn ts replies tag bytes → ShownIn ts replies tag others → bytes ≡ others
 
--- the moments of the requests can be shown
+-- the requests are made at moments that HTTP can write
 abbrev pub AreShowable : List Turn → Type 0
 AreShowable ts = All (λ t. t.asked.moment ≤ last_moment) ts
 

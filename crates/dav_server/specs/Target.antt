@@ -9,19 +9,19 @@ use Rattle.dav_core.specs.declared.method.DavMethod.TheVariants.{Options}
 use Rattle.dav_core.specs.Path.{PathText, prefix_cut, star, without_slash}
 use Rattle.dav_core.specs.Target.{Reads, IsRefused}
 
--- a slash in front: the origin form (RFC 9112, section 3.2.1)
+-- it begins with a slash: the origin form (RFC 9112, section 3.2.1)
 abbrev pub BeginsWithSlash : List ℕ → Type 0
 BeginsWithSlash target = (rest : List ℕ) × (target ≡ 47 ∷ rest)
 
--- The absolute form (RFC 9112, section 3.2.2): a URI with a scheme and an authority and without `#`. What stands
--- behind the authority is the text; nothing counts as a slash.
+-- The absolute form (RFC 9112, section 3.2.2): a URI with a scheme and an authority and without `#`. What follows the
+-- authority is the text; where nothing does, it is a slash.
 abbrev pub IsAbsolute : List ℕ → List ℕ → Type 0
 IsAbsolute target text =
     ¬ Contains target 35
     × (scheme : List ℕ) × (authority : List ℕ) × (behind : List ℕ)
     × IsUriText target (Some scheme) (Some authority) behind × (text ≡ or_slash behind)
 
--- the text in the target that is to name a path: in origin form all of it
+-- the text in the target that is to name a path: in origin form the whole target
 abbrev pub HasPathText : List ℕ → List ℕ → Type 0
 HasPathText target text =
     (BeginsWithSlash target × (text ≡ target)) ⊎ (¬ BeginsWithSlash target × IsAbsolute target text)
@@ -32,8 +32,8 @@ pub data IsUnreadable (target : List ℕ) : DavError → Type 0 where
   invalid : {text : List ℕ} → HasPathText target text → IsRefused text parse.InvalidPath → IsUnreadable target dav.InvalidPath
   climbing : {text : List ℕ} → HasPathText target text → IsRefused text parse.ForbiddenPath → IsUnreadable target dav.ForbiddenPath
 
--- What the target of a request with this method names, below a prefix: a path, cut behind the prefix without the slash at
--- its end, or the error that answers the request. `*` names the server, whatever the prefix, and is for OPTIONS alone
+-- What the target of a request with this method names, below a prefix: a path, cut after the prefix (without a slash at the
+-- prefix's end), or the error that answers the request. `*` names the server, whatever the prefix, and is for OPTIONS alone
 -- (RFC 9110, section 9.3.7).
 pub data TargetNames (prefix : List ℕ) (method : DavMethod) (target : List ℕ) : Result PathText DavError → Type 0 where
   server : target ≡ star → method ≡ Options → TargetNames prefix method target (Ok (record { prefix = []; bytes = star }))
@@ -42,7 +42,7 @@ pub data TargetNames (prefix : List ℕ) (method : DavMethod) (target : List ℕ
   outside : {text bytes : List ℕ} → HasPathText target text → Reads text bytes → prefix_cut (without_slash prefix) bytes ≡ None → TargetNames prefix method target (Err dav.IllegalPath)
   path : {text bytes : List ℕ} {p : PathText} → HasPathText target text → Reads text bytes → prefix_cut (without_slash prefix) bytes ≡ Some p → TargetNames prefix method target (Ok p)
 
--- one target comes to one outcome
+-- a target results in one path or one error
 abbrev pub OneOutcome : Type 0
 OneOutcome =
     (prefix : List ℕ) (method : DavMethod) (target : List ℕ) (a b : Result PathText DavError)

@@ -1,4 +1,4 @@
--- What the code that reads targets answers.
+-- What the code that reads targets returns.
 use Rattle.std.specs.Prelude.{◌≡◌, ◌≢◌, ◌⊎◌, ℕ, List, [], Option, Some, None, Result, Ok, Err}
 use Rattle.http_uri.specs.Grammar.{or_slash}
 use Rattle.http_uri.specs.Uri.{uri_scheme, uri_authority, uri_data}
@@ -11,28 +11,28 @@ use Rattle.dav_core.specs.Path.{PathText}
 use Rattle.dav_core.specs.Target.{Reads, IsRefused}
 use Rattle.dav_server.specs.Target.{HasPathText, IsUnreadable, TargetNames}
 
--- what the target names, or want of memory
+-- what the target names, or out of memory
 abbrev pub GivesPath : List ℕ → DavMethod → List ℕ → Result PathText DavError → Type 0
 GivesPath prefix method target (Ok p) = TargetNames prefix method target (Ok p)
 GivesPath prefix method target (Err e) = (e ≡ dav.Memory) ⊎ TargetNames prefix method target (Err e)
 
--- the path that the target holds, without a prefix, or why none is read in it, or want of memory
+-- the path in the target, without a prefix, or why none is read in it, or out of memory
 abbrev pub GivesRead : List ℕ → Result PathText DavError → Type 0
 GivesRead target (Ok p) = (p.prefix ≡ []) × (text : List ℕ) × HasPathText target text × Reads text p.bytes
 GivesRead target (Err e) = (e ≡ dav.Memory) ⊎ IsUnreadable target e
 
--- the path that the text names, why it names none, or want of memory
+-- the path that the text names, why it names none, or out of memory
 abbrev pub GivesNamed : List ℕ → Result PathText DavError → Type 0
 GivesNamed text (Ok p) = (p.prefix ≡ []) × Reads text p.bytes
 GivesNamed text (Err e) =
     (e ≡ dav.Memory) ⊎ (((e ≡ dav.InvalidPath) × IsRefused text parse.InvalidPath) ⊎ ((e ≡ dav.ForbiddenPath) × IsRefused text parse.ForbiddenPath))
 
--- the path that was cut, or why it is not, or want of memory
+-- the path that was cut, or why it is not, or out of memory
 abbrev pub GivesCut : Option PathText → Result PathText DavError → Type 0
 GivesCut path (Ok p) = path ≡ Some p
 GivesCut path (Err e) = (e ≡ dav.Memory) ⊎ ((e ≡ dav.IllegalPath) × (path ≡ None))
 
--- of a URI with a scheme and an authority, what stands behind the authority, or a slash
+-- what follows the authority of a URI with a scheme and an authority, or a slash where nothing does
 abbrev pub GivesTail : Uri → Option (List ℕ) → Type 0
 GivesTail uri None = (scheme authority : List ℕ) → uri_scheme uri ≡ Some scheme → uri_authority uri ≢ Some authority
 GivesTail uri (Some text) = (scheme : List ℕ) × (authority : List ℕ) × (uri_scheme uri ≡ Some scheme) × (uri_authority uri ≡ Some authority) × (text ≡ or_slash (uri_data uri))

@@ -1,10 +1,10 @@
--- What is answered to a text that is to be a token.
+-- What the constructor of tokens returns for a text.
 use Rattle.std.specs.Prelude.{◌≡◌, ℕ, List, codes, Result, Ok, Err}
 use Rattle.dav_server.specs.declared.exchange.TokenError.{TokenError}
 use Rattle.dav_server.specs.declared.exchange.TokenError.TheVariants.{Refused, Memory}
 use Rattle.dav_server.specs.GrantToken.{IsGrantToken}
 
--- the token of the text, which is refused exactly where it is none
+-- the token of the text; `Refused` where the text can be none; `Memory` only for a text that can be one
 abbrev pub GivesToken : List ℕ → Result (List ℕ) TokenError → Type 0
 GivesToken text (Ok token) = IsGrantToken text × (token ≡ text)
 GivesToken text (Err Refused) = ¬ IsGrantToken text

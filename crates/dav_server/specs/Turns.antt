@@ -12,19 +12,19 @@ use Rattle.dav_server.specs.Refusals.{BehindList, behind}
 use Rattle.dav_server.specs.Run.{Turn}
 use Rattle.dav_server.specs.Setup.{asked}
 
--- a request by itself
+-- a request without a list of refusals
 abbrev pub turn_of : Exchange → Turn
 turn_of x = record { asked = asked x; refusals = None }
 
--- a request with the calls that are refused
+-- a request with its list of the calls that are refused
 abbrev pub step_turn : Step → Turn
 step_turn s = record { asked = asked s.exchange; refusals = Some s.refusals.items }
 
--- a store in memory behind a list of refusals, as a store is seen
+-- the state of a store in memory that has a list of refusals before it
 abbrev pub memory_state : BehindList Store → StoreState
 memory_state r = behind r.coming (state_of r.inner)
 
--- One reply more: that of a step from one state to the other.
+-- The list has one more reply, which is that of a step from the one state to the other.
 abbrev pub AddsReply : Settings → Asked → StoreState → Locks → List Reply → List Reply → StoreState → Locks → Type 0
 AddsReply s x old ls before after new ms =
     (reply : Reply) × (after ≡ before ++ reply ∷ []) × Steps s x old ls (response_of reply) new ms

@@ -8,7 +8,7 @@ use dav_core::method::DavMethod;
 use dav_engine::Body;
 use http::StatusCode;
 
-/// The most elements, each in the one before, that a tree may have.
+/// The most levels of nested elements that a tree may have.
 pub const MOST_DEPTH: usize = 64;
 
 /// The body that a method is handed.
@@ -18,12 +18,12 @@ pub enum Given {
     Whole,
     /// None.
     None,
-    /// Bytes that stand for no element tree.
+    /// Bytes that are no element tree.
     Malformed,
 }
 
-/// The body that a method is handed: no bytes are none, and other bytes are no element tree. 415 for one that the method
-/// doesn't take (RFC 9110, section 15.5.16); 400 for a tree that is deeper than [`MOST_DEPTH`].
+/// The body that a method is handed: an empty one counts as none, and other bytes are no element tree. 415 for one that the
+/// method doesn't take (RFC 9110, section 15.5.16); 400 for a tree of more than [`MOST_DEPTH`] levels.
 pub fn body_for(method: DavMethod, body: &Body) -> DavResult<Given>
     ensures { GivesBody (body_for (taken_by method) body.now) body.now result }
 {

@@ -42,7 +42,7 @@ use std::fmt;
 /// Why a handler isn't made.
 #[derive(Clone, Copy, Debug, PartialEq, Eq)]
 pub enum HandlerError {
-    /// The prefix isn't one.
+    /// The text isn't a prefix.
     BadPrefix,
     /// Memory ran out.
     Memory,
@@ -120,10 +120,10 @@ fn is_prefix(alloc: Global, text: &str) -> Result<bool, NoMemory>
 }
 
 impl<F: DavFileSystem + Drop, L: DavLockSystem + Drop> DavHandler<F, L> {
-    /// A handler of a store, and of locks where there is a lock system, for the paths below a prefix and the methods that are
-    /// allowed. `BadPrefix` for a prefix that isn't empty and isn't a text that begins with a slash and that `DavPath::new`
-    /// keeps byte for byte; `Memory` for want of memory, and not for a text that begins with another byte. A refusal drops the
-    /// store and the locks.
+    /// A handler of a store, and of locks where there is a lock system, for the paths below a prefix and the methods that
+    /// are allowed. `BadPrefix` for a prefix that isn't empty and isn't a text that begins with a slash and that
+    /// `DavPath::new` keeps byte for byte; `Memory` where memory runs out, never for a text that begins with another byte.
+    /// A refusal drops the store and the locks.
     pub fn new(
         alloc: Global,
         prefix: &str,
@@ -148,7 +148,7 @@ impl<F: DavFileSystem + Drop, L: DavLockSystem + Drop> DavHandler<F, L> {
     }
 }
 
-// The token that a lock takes which a request makes.
+// The token for a lock that a request creates.
 fn token_of(token: &Option<GrantToken>) -> Option<&str>
     ensures { option_copied result ≡ token.now }
 {
@@ -158,7 +158,7 @@ fn token_of(token: &Option<GrantToken>) -> Option<&str>
     }
 }
 
-// Who makes a request.
+// Who makes a request, when, and the token for a lock that it creates.
 fn caller_of<'c>(exchange: &'c Exchange<'_>) -> Caller<'c>
     ensures client { client_of result ≡ client (asked exchange.now) }
     ensures moment { result.moment ≤ last_moment }
@@ -212,7 +212,7 @@ fn mkcol<F: DavFileSystem, L: DavLockSystem>(
     inner.handle_mkcol(alloc, request, body)
 }
 
-// Shows a file, or tells of it.
+// Answers a GET or HEAD.
 fn show<F: DavFileSystem, L: DavLockSystem>(
     handler: &mut DavHandler<F, L>,
     alloc: Global,
@@ -269,7 +269,7 @@ fn answer_with<F: DavFileSystem, L: DavLockSystem>(
     serve(handler, alloc, &request, body, exchange)
 }
 
-// What a request comes to whose method is known.
+// The outcome of a request whose method is known.
 fn answer_method<F: DavFileSystem, L: DavLockSystem>(
     handler: &mut DavHandler<F, L>,
     alloc: Global,
@@ -303,7 +303,7 @@ fn answer_method<F: DavFileSystem, L: DavLockSystem>(
     }
 }
 
-// What a request comes to.
+// The outcome of a request, from the bytes of its head on.
 fn answer<F: DavFileSystem, L: DavLockSystem>(
     handler: &mut DavHandler<F, L>,
     alloc: Global,
@@ -321,24 +321,26 @@ fn answer<F: DavFileSystem, L: DavLockSystem>(
 }
 
 impl<F: DavFileSystem, L: DavLockSystem> DavHandler<F, L> {
-    /// The store. Takes no memory.
+    /// The store. Allocates nothing.
     pub fn fs(&self) -> &F
         ensures { result.now ≡ self.now.fs }
     {
         &self.fs
     }
 
-    /// The locks, where there is a lock system. Takes no memory.
+    /// The locks, where there is a lock system. Allocates nothing.
     pub fn locks(&self) -> Option<&L>
         ensures { option_copied result ≡ self.now.ls }
     {
         self.ls.as_ref()
     }
 
-    /// Answers a request: the reply, the store and the locks are those of one step of the machine, from the bytes of the head on.
+    /// Answers a request: the reply, the store and the locks are those of one step of the machine, from the bytes of the
+    /// head on.
     ///
-    /// `NoMemory` where memory ran out outside the store: then each call of the store that was made is whole, and the locks are as
-    /// before, or as the request leaves them where the store refuses each later call. The handler goes on answering.
+    /// `NoMemory` where memory ran out outside the store: then each call of the store that was made is whole, and the locks
+    /// are as before, or as the request leaves them where the store refuses each later call. The handler can still answer
+    /// requests.
     pub fn handle(&mut self, alloc: Global, exchange: &Exchange<'_>) -> Result<Reply, NoMemory>
         ensures same { settings self.new ≡ settings self.old }
         ensures ok { IfOk result (λ reply. Steps (settings self.old) (asked exchange.now) (F.state self.old.fs) (option_map L.locks self.old.ls) (response_of reply) (F.state self.new.fs) (option_map L.locks self.new.ls)) }
@@ -351,7 +353,7 @@ impl<F: DavFileSystem, L: DavLockSystem> DavHandler<F, L> {
     }
 }
 
-// The reply to a request that an error ended. Want of memory has none.
+// The reply to a request that an error ended. Out of memory has none.
 fn refuse(alloc: Global, error: DavError) -> Result<Reply, NoMemory>
     ensures { IfOk result (λ reply. (response_of reply ≡ error_reply error) × (error ≢ Memory)) }
 {

@@ -39,8 +39,8 @@ impl GrantToken {
     ghost use Rattle.dav_server.specs.GrantToken.{IsGrantToken};
     ghost use Rattle.dav_server.specs.Token.{GivesToken};
 
-    /// The token of a text. `Refused` where the text is empty, begins with `DAV:`, or has another byte than printable
-    /// ASCII without blanks, quotes `"` and the brackets `()<>[]{}`; `Memory` for want of memory.
+    /// The token of a text. `Refused` where the text is empty, begins with `DAV:`, or has a byte other than printable ASCII
+    /// without spaces, quotes `"` and the brackets `()<>[]{}`; `Memory` where memory runs out.
     pub fn new(alloc: Global, text: &str) -> Result<GrantToken, TokenError>
         ensures { GivesToken text.now result }
     {
@@ -143,8 +143,8 @@ impl<'a> Exchange<'a> {
     ghost use Rattle.std.specs.Option.{option_copied};
     ghost use Rattle.dav_server.specs.Setup.{asked};
 
-    /// A request: the bytes of its head, its body, who makes it, when, in seconds since 1970, and the token that a lock takes
-    /// which it makes. `BadMoment` past 253402300799, the end of the year 9999. Takes no memory.
+    /// A request: the bytes of its head, its body, who makes it, when, in seconds since 1970, and the token for a lock that
+    /// it creates. `BadMoment` past 253402300799, the end of the year 9999. Allocates nothing.
     pub fn new(
         head: &'a [u8],
         body: Body,

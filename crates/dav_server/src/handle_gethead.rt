@@ -22,7 +22,7 @@ use http::StatusCode;
 use http_header::{HeaderMap, HeaderName, HeaderValue};
 use std::alloc::Global;
 
-// What is told of a file that has so many bytes.
+// The headers of a reply about a file with this many bytes.
 fn file_headers(alloc: Global, len: u64, file: &DavMetaData) -> Result<HeaderMap, NoMemory>
     requires { file.now.modified ≤ last_moment }
     ensures { IfOk result (λ headers. headers_in headers ≡ spec.file_headers len file.now) }
@@ -35,7 +35,7 @@ fn file_headers(alloc: Global, len: u64, file: &DavMetaData) -> Result<HeaderMap
     Ok(headers)
 }
 
-// The reply that shows a file.
+// The reply with a file's bytes.
 fn shown(alloc: Global, file: &DavMetaData, bytes: Bytes) -> Result<Reply, NoMemory>
     requires { file.now.modified ≤ last_moment }
     ensures { IfOk result (λ r. response_of r ≡ spec.shown file.now bytes) }
@@ -48,7 +48,7 @@ fn shown(alloc: Global, file: &DavMetaData, bytes: Bytes) -> Result<Reply, NoMem
     })
 }
 
-// The reply that tells of a file.
+// The reply that reports a file without its bytes.
 fn told(alloc: Global, file: &DavMetaData) -> Result<Reply, NoMemory>
     requires { file.now.modified ≤ last_moment }
     ensures { IfOk result (λ r. response_of r ≡ spec.told file.now) }
@@ -61,7 +61,7 @@ fn told(alloc: Global, file: &DavMetaData) -> Result<Reply, NoMemory>
     })
 }
 
-// The reply for a file that its client has already.
+// The reply where the client has the file already: the tag alone.
 fn not_modified(alloc: Global, file: &DavMetaData) -> Result<Reply, NoMemory>
     ensures { IfOk result (λ r. response_of r ≡ spec.not_modified file.now) }
 {
@@ -83,7 +83,7 @@ fn open<F: DavFileSystem>(fs: &mut F, alloc: Global, path: &DavPath, now: u64) -
     fs.open(alloc, path, &options, now)
 }
 
-// Shows a file.
+// Answers with the bytes of a file.
 fn show<F: DavFileSystem>(
     fs: &mut F,
     alloc: Global,
@@ -106,7 +106,7 @@ fn show<F: DavFileSystem>(
     Ok(shown(alloc, found, bytes)?)
 }
 
-// Tells of a file for HEAD, and shows it for GET.
+// Reports the file for HEAD, and answers with its bytes for GET.
 fn show_or_tell<F: DavFileSystem>(
     fs: &mut F,
     alloc: Global,
@@ -125,7 +125,7 @@ fn show_or_tell<F: DavFileSystem>(
     }
 }
 
-// What the conditions answer.
+// The outcome of a request whose conditions answer a status.
 fn judged(alloc: Global, status: StatusCode, found: &DavMetaData) -> DavResult<Reply>
     ensures { (next : Method Response) (s : StoreState) → Makes response_of (spec.judged (Some status) found.now next) s result s }
 {
@@ -136,7 +136,7 @@ fn judged(alloc: Global, status: StatusCode, found: &DavMetaData) -> DavResult<R
     }
 }
 
-// Shows or tells of the file at a path, where the conditions allow it.
+// Reports the file at a path or answers with its bytes, where the conditions allow it.
 fn get<F: DavFileSystem, L: DavLockSystem>(
     fs: &mut F,
     ls: Option<&L>,
@@ -162,12 +162,12 @@ fn get<F: DavFileSystem, L: DavLockSystem>(
     }
 }
 
-/// Shows the file at the path of a GET (RFC 9110, section 9.3.1), and tells of that of a HEAD (section 9.3.2): 200 with its length,
+/// Answers a GET (RFC 9110, section 9.3.1) or HEAD (section 9.3.2) of the file at the request's path: 200 with its length,
 /// its tag and its time, and for GET with its bytes.
 ///
-/// The first of these that applies is answered: the refusal of a store that doesn't tell what is there; 405 for a folder; 412 where
-/// If or If-Match doesn't hold, and 304 with the tag alone where If-None-Match doesn't (section 13.2); each other refusal of the
-/// store is its own status.
+/// The first of these that applies is answered: the refusal of a store that doesn't report what is there; 405 for a folder;
+/// 412 where If or If-Match doesn't hold, and 304 with the tag alone where If-None-Match doesn't (section 13.2); each other
+/// refusal of the store is its own status.
 pub fn handle_gethead<F: DavFileSystem, L: DavLockSystem>(
     fs: &mut F,
     ls: Option<&L>,

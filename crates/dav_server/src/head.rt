@@ -48,22 +48,22 @@ impl<'a> Model for RequestView<'a> {
 }
 
 impl<'a> RequestView<'a> {
-    /// The method, as it stands in the request line (RFC 9112, section 3.1).
+    /// The method, as it is in the request line (RFC 9112, section 3.1).
     pub fn method(&self) -> &'a [u8]
         ensures { result.now ≡ self.now.method }
     {
         self.method
     }
 
-    /// The target, as it stands in the request line (RFC 9112, section 3.2).
+    /// The target, as it is in the request line (RFC 9112, section 3.2).
     pub fn target(&self) -> &'a str
         ensures { result.now ≡ self.now.target }
     {
         self.target
     }
 
-    /// The values of the fields with this name, in order, without the blanks at their ends. ASCII case makes no difference
-    /// in a name (RFC 9110, section 5.1).
+    /// The values of the fields with this name, in order, without the optional whitespace (OWS) around them. ASCII case
+    /// makes no difference in a name (RFC 9110, section 5.1).
     pub fn values<'n>(&'n self, name: &'n str) -> Values<'a, 'n>
         ensures { result ≡ values_of name.now self.now.fields }
     {

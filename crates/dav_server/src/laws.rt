@@ -5,7 +5,7 @@ ghost use Rattle.dav_server.specs.Run.{RunsAreDetermined};
 ghost use Rattle.dav_server.specs.TagLaws.{TagsTellBytes, NotModifiedIsTrue, ReadingLeaves, RunsKeepWorlds};
 ghost use Rattle.dav_server.specs.Target.{OneOutcome};
 
-/// Bytes are a head in one way.
+/// Bytes are a head in one way at most.
 pub fn heads_say_one_thing()
     ensures { OneHead }
 {}
@@ -17,26 +17,26 @@ pub fn headers_keep_values()
     ensures { KeepsValues }
 {}
 
-/// The target of a request comes to one path, or to one error.
+/// The target of a request results in one path, or in one error.
 pub fn targets_name_one_thing()
     ensures { OneOutcome }
 {}
 
-/// Where memory was never wanted, a run is determined: from one store and one list of locks the same requests have one run at
-/// most, with one list of replies, and it leaves one store and one list.
+/// Where the store never ran out of memory, a run is determined: from one store and one list of locks the same requests
+/// have one run at most, with one list of replies, and it leaves one store and one list.
 #[tactic(auto, using(crate::proofs::MeansLemmas::runs_are_determined))]
 pub fn runs_are_determined()
     ensures { RunsAreDetermined }
 {}
 
-/// Equal entity tags show equal bytes: from a world, in whatever run, under whatever refusals, where two GETs are answered with
+/// Equal entity tags show equal bytes: from a world, in any run and under any refusals, where two GETs are answered with
 /// one tag, at any paths and moments, they are answered with the same bytes (RFC 9110, section 8.8.1).
 pub fn tags_tell_bytes()
     ensures { TagsTellBytes }
 {}
 
-/// A 304 tells the truth: where If-None-Match said one tag, the file has the bytes that any GET of the run shows with that tag,
-/// before or behind it (RFC 9110, section 15.4.5).
+/// A 304 is true: where If-None-Match named one tag, the file has the bytes that any GET of the run shows with that tag,
+/// before or after it (RFC 9110, section 15.4.5).
 pub fn not_modified_is_true()
     ensures { NotModifiedIsTrue }
 {}

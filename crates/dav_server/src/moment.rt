@@ -1,4 +1,4 @@
-//! Moments that HTTP can show.
+//! Moments that HTTP can write.
 ghost use Rattle.std.specs.Prelude.{◌≡◌, ◌≤◌, ◌<◌, ◌↔◌, IsOk, IfOk};
 
 use std::error::Error;
@@ -12,7 +12,7 @@ pub struct Moment {
     ghost in_range: { seconds ≤ 253_402_300_799 },
 }
 
-/// The last moment that HTTP can show.
+/// The last moment that HTTP can write.
 pub const LAST_MOMENT: u64 = 253_402_300_799;
 
 /// The moment is past the year 9999.
@@ -36,7 +36,7 @@ impl Moment {
     /// The beginning of 1970.
     pub const START: Moment = Moment { seconds: 0 };
 
-    /// The moment so many seconds after 1970 begins; `BadMoment` past the year 9999.
+    /// The moment that is this many seconds after the beginning of 1970; `BadMoment` past the year 9999.
     pub fn new(seconds: u64) -> Result<Moment, BadMoment>
         ensures ok { IsOk result ↔ (seconds ≤ 253_402_300_799) }
         ensures value { IfOk result (λ m. m.seconds ≡ seconds) }

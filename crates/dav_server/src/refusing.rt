@@ -38,7 +38,7 @@ impl<F: DavFileSystem> Refusing<F> {
     ghost use Rattle.dav_server.specs.Refusals.{behind};
     ghost use Rattle.dav_core.specs.Asking.{rest_of, next_refusal};
 
-    /// A store without refusals but its own. Takes no memory.
+    /// A store without refusals but its own. Allocates nothing.
     pub fn new(inner: F) -> Refusing<F>
         ensures value { result ≡ record { inner = inner; coming = [] } }
         ensures state { ⟦<Refusing<F> as DavFileSystem>⟧.state result ≡ F.state inner }
@@ -50,7 +50,7 @@ impl<F: DavFileSystem> Refusing<F> {
         }
     }
 
-    /// Puts a list in place of the one that was loaded before, of which nothing is left. Takes no memory.
+    /// Puts a list in place of the one that was loaded before, of which nothing is left. Allocates nothing.
     pub fn load(&mut self, refusals: Vec<Option<FsError>>)
         ensures value { self.new ≡ record self.old { coming = refusals.items } }
         ensures state { ⟦<Refusing<F> as DavFileSystem>⟧.state self.new ≡ behind refusals.items (F.state self.old.inner) }
@@ -59,7 +59,7 @@ impl<F: DavFileSystem> Refusing<F> {
         self.at = 0;
     }
 
-    /// The store as it is. Takes no memory.
+    /// The store as it is. Allocates nothing.
     pub fn into_inner(self) -> F
         ensures { result ≡ self.inner }
     {
@@ -67,7 +67,7 @@ impl<F: DavFileSystem> Refusing<F> {
         inner
     }
 
-    // Uses up the next entry, and tells the error in it.
+    // Uses up the next entry, and returns the error in it.
     fn take(&mut self) -> Option<FsError>
         ensures inner { self.new.inner ≡ self.old.inner }
         ensures first { result ≡ next_refusal self.old.coming }

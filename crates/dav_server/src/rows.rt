@@ -1,7 +1,7 @@
 //! Tests as rows of text: a question, ` -> `, and the answer that is expected.
 //!
-//! A line `# ..` is the title of the rows after it, which begin anew. Bytes that don't stand well in a line are written
-//! `\r`, `\n`, `\t` or, in hexadecimal digits, `\x7F`.
+//! A line `# ..` is the title of the rows after it, which begin with a fresh state. Bytes that would break a line or can't
+//! be seen in it are written `\r`, `\n`, `\t` or, in hexadecimal digits, `\x7F`.
 use std::alloc::{AllocError, AllocGlobal, Global};
 use std::process::Abort;
 use std::str;
@@ -11,7 +11,7 @@ use std::test::Fail;
 #[derive(Clone, Copy, Debug)]
 pub(crate) struct NoRow(pub(crate) &'static str);
 
-/// Who answers the questions of a topic.
+/// What answers the questions of rows.
 pub(crate) trait Player {
     /// Forgets what the rows before did.
     fn begin(&mut self, alloc: Global) -> Result<(), Fail>;
@@ -20,8 +20,8 @@ pub(crate) trait Player {
     fn answer(&mut self, alloc: Global, question: &'static str) -> Result<Vec<u8>, Fail>;
 }
 
-/// Plays the rows. The test fails at the first row whose answer is another than expected, and where a line is no row or a title
-/// has no rows.
+/// Plays the rows. The test fails at the first row whose answer isn't the expected one, and where a line is no row or a
+/// title has no rows.
 pub(crate) fn play_rows<R: Abort + AllocGlobal, P: Player>(
     rt: &R,
     player: &mut P,
@@ -111,7 +111,7 @@ fn add(bytes: &mut Vec<u8>, byte: u8, rest: &[u8]) -> Result<(), AllocError> {
     bytes.extend_from_slice(rest)
 }
 
-// The byte that an escape stands for, and what follows it. The backslash is cut off.
+// The byte that an escape denotes, and what follows it. The text begins after the backslash.
 fn escape(text: &[u8]) -> Option<(u8, &[u8])> {
     match text {
         [b'r', rest @ ..] => Some((b'\r', rest)),
@@ -127,7 +127,7 @@ fn of_digits(high: u8, low: u8) -> Option<u8> {
     Some(value_of(high)?.wrapping_mul(16) | value_of(low)?)
 }
 
-// What a hexadecimal digit counts.
+// The value of a hexadecimal digit.
 fn value_of(digit: u8) -> Option<u8> {
     match digit {
         b'0'..=b'9' => Some(digit - b'0'),

@@ -25,7 +25,7 @@ use dav_store::memls::MemLs;
 use std::alloc::Global;
 
 /// A request, and which calls of the store are refused while it is answered: one entry for each call, an error where that
-/// call is refused. Past the end no call is.
+/// call is refused. Past the end of the list no call is refused.
 #[derive(Drop)]
 pub struct Step<'a> {
     /// The request.
@@ -68,11 +68,11 @@ fn answer_next<F: DavFileSystem, L: DavLockSystem>(
 }
 
 impl<F: DavFileSystem, L: DavLockSystem> DavHandler<F, L> {
-    /// Answers requests, one after another: the replies, the store and the locks are those of the machine's run. From a world,
-    /// equal entity tags show equal bytes.
+    /// Answers requests, one after another: the replies, the store and the locks are those of a run of the machine. From a
+    /// world, equal entity tags show equal bytes.
     ///
-    /// `RunFault` where memory ran out outside the store, with the replies that were given before; they are a run of the machine,
-    /// and of the request that met it some first calls of the store were made, each of them whole.
+    /// `RunFault` where memory ran out outside the store, with the replies that were given before; they are those of a run
+    /// of the machine, and of the next request at most the first calls of the store were made, each of them whole.
     pub fn run(&mut self, alloc: Global, exchanges: &[Exchange<'_>]) -> Result<Vec<Reply>, RunFault>
         ensures same { settings self.new ≡ settings self.old }
         ensures run { IfOk result (λ replies. Runs (settings self.old) (map turn_of exchanges.now) (F.state self.old.fs) (option_map L.locks self.old.ls) (map response_of replies.items) (F.state self.new.fs) (option_map L.locks self.new.ls)) }
@@ -108,11 +108,11 @@ fn answer_step(
 }
 
 /// Answers requests, one after another, on a store in memory that refuses the calls which each step names: the replies, the
-/// store and the locks are those of a run of the machine, the only one that leaves the store's flag unset, where `was_short` says
-/// that it is. From a world, equal entity tags show equal bytes, whatever is refused.
+/// store and the locks are those of a run of the machine, and where the store's `was_short` is false, no other run leaves
+/// it so. From a world, equal entity tags show equal bytes, whatever is refused.
 ///
-/// `RunFault` where memory ran out outside the store, with the replies that were given before; they are a run of the machine,
-/// and of the request that met it some first calls of the store were made, each of them whole.
+/// `RunFault` where memory ran out outside the store, with the replies that were given before; they are those of a run of
+/// the machine, and of the next request at most the first calls of the store were made, each of them whole.
 pub fn run_refused(
     handler: &mut DavHandler<Refusing<MemFs>, MemLs>,
     alloc: Global,

@@ -15,12 +15,12 @@ use http::StatusCode;
 use http_uri::{Uri, UriError};
 use std::alloc::Global;
 
-/// The path that the target of a request names, cut behind a prefix (its slash at the end doesn't count).
+/// The path that the target of a request names, cut after a prefix (a slash at the prefix's end doesn't count).
 ///
 /// `*` names the server, whatever the prefix (RFC 9110, section 9.3.7); for other methods than OPTIONS it is
-/// `Status(BAD_REQUEST)`. A target that begins with a slash names the path that `DavPath::new` reads. Of any other, which
-/// has to be a URI with a scheme and an authority and without `#`, that is read which follows the authority, or `/` where
-/// nothing does; else it is `Status(BAD_REQUEST)`. `InvalidPath` and `ForbiddenPath` are those of `DavPath::new`;
+/// `Status(BAD_REQUEST)`. A target that begins with a slash names the path that `DavPath::new` reads. Any other target has
+/// to be a URI with a scheme and an authority and without `#`, or it is `Status(BAD_REQUEST)`; the path is read in what
+/// follows the authority, or in `/` where nothing does. `InvalidPath` and `ForbiddenPath` are those of `DavPath::new`;
 /// `IllegalPath` where the path isn't at or below the prefix.
 pub fn path_of(alloc: Global, method: DavMethod, target: &str, prefix: &str) -> DavResult<DavPath>
     ensures { GivesPath prefix.now method target.now result }
@@ -71,7 +71,7 @@ fn named(alloc: Global, text: &str) -> DavResult<DavPath>
     Ok(DavPath::new(alloc, text)?)
 }
 
-// The path behind a prefix.
+// The path after a prefix.
 fn cut(mut path: DavPath, prefix: &str) -> DavResult<DavPath>
     ensures { GivesCut (prefix_cut (without_slash prefix.now) (full_bytes path)) result }
 {

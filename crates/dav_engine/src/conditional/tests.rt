@@ -146,7 +146,7 @@ fn paths(alloc: Global, lists: &Option<Vec<Addressed>>) -> Result<String, Fail> 
     Ok(out)
 }
 
-// The paths of the lists of an If and the tokens that are submitted, each with a semicolon after it.
+// The paths of the lists of an If header and the tokens that are submitted, each with a semicolon after it.
 fn spoken(alloc: Global, text: &str) -> Result<String, Fail> {
     let mut request = request_of(alloc, DavMethod::Put)?;
     append(&mut request, alloc, "if", text)?;
@@ -162,7 +162,7 @@ fn spoken(alloc: Global, text: &str) -> Result<String, Fail> {
     Ok(out)
 }
 
-// What is given of the texts of a row.
+// What a function returns for the texts of a row.
 fn outcome(alloc: Global, name: &str, texts: &str) -> Result<String, Fail> {
     match name {
         "if" => spoken(alloc, texts),

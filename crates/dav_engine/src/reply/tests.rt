@@ -19,7 +19,7 @@ fn shown(alloc: Global, headers: &HeaderMap) -> Result<String, Fail> {
     Ok(out)
 }
 
-// The status of each answer to an error, its headers, and whether it has no body.
+// The status of the reply to an error, its headers, and whether it has no body.
 const ERROR_ROWS: &str = "
 501 content-length: 0; true
 423 content-length: 0; true
@@ -30,7 +30,7 @@ const ERROR_ROWS: &str = "
 507 content-length: 0; true
 ";
 
-// The answer to an error as a row.
+// The reply to an error as a row.
 fn error_row(alloc: Global, error: DavError) -> Result<String, Fail> {
     let reply = Reply::of_error(alloc, error)?;
     let headers = shown(alloc, &reply.headers)?;
@@ -57,8 +57,8 @@ fn answers_errors(rt: HostRuntime) -> Result<(), Fail> {
     Ok(())
 }
 
-// A row: what is set, and of what, ` -> `, and the headers that are set. The second moment is the one of RFC 9110's own example of
-// a date (section 5.6.7).
+// A row: what is set, and of what, ` -> `, and the headers that are set. The second moment is the one of RFC 9110's own
+// example of a date (section 5.6.7).
 const ROWS: &str = r##"
 # The validators of a file with a change number, at a time in seconds
 file |2|1| -> etag: "2"; last-modified: Thu, 01 Jan 1970 00:00:01 GMT;

@@ -1,5 +1,5 @@
-//! Each call of the engine by itself, over a store and locks in memory. What is expected was worked out by hand from RFC 9110 and
-//! RFC 4918.
+//! Each call of the engine by itself, over a store and locks in memory. What is expected was worked out by hand from RFC
+//! 9110 and RFC 4918.
 use super::tests::{lock_for_anna, shown};
 use super::*;
 use crate::rows::{NoRow, Player, play_rows};
@@ -11,7 +11,7 @@ use dav_store::memls::MemLs;
 use http_header::{HeaderMap, HeaderName, HeaderValue};
 use std::test::Fail;
 
-// A call, the method and the path of its request, its headers and its bytes, and what it answers.
+// A call, the method and the path of its request, its headers and its bytes, and what it returns.
 const CALLS: &str = r##"# a file is stored
 handle_put | PUT /a | bytes one -> 201\naccept-ranges: bytes\ncontent-length: 0\netag: "2"\nlast-modified: Thu, 01 Jan 1970 00:00:01 GMT\n
 # a part of a file is replaced
@@ -71,7 +71,7 @@ fn request_of(alloc: Global, text: &'static str) -> Result<EngineRequest, Fail> 
     Ok(EngineRequest { request, body })
 }
 
-// A status that conditions answer, in words.
+// A status that conditions answer, as text.
 fn status_text(alloc: Global, status: Option<StatusCode>) -> Result<String, Fail> {
     match status {
         Some(status) => Ok(format!(in alloc; "{}", status.as_u16())?),
@@ -106,7 +106,7 @@ impl Engine {
         }
     }
 
-    // A call of the handler, in words.
+    // What a call of the handler returns, as text.
     fn handled(
         &mut self,
         alloc: Global,
@@ -124,14 +124,14 @@ impl Engine {
         self.fs.metadata(&request.path).ok()
     }
 
-    // `dav_if_match`, in words.
+    // What `dav_if_match` returns, as text.
     fn holds(&mut self, alloc: Global, request: &DavRequest) -> Result<String, Fail> {
         let ls = self.ls.as_ref();
         let (holds, tokens) = dav_if_match(alloc, request, &mut self.fs, ls, &request.path)?;
         Ok(format!(in alloc; "{holds}, {} tokens", tokens.len())?)
     }
 
-    // `if_match`, in words.
+    // What `if_match` returns, as text.
     fn status(&mut self, alloc: Global, request: &DavRequest) -> Result<String, Fail> {
         let found = self.found(request);
         let ls = self.ls.as_ref();
@@ -140,7 +140,7 @@ impl Engine {
         status_text(alloc, status)
     }
 
-    // `if_match_get_tokens`, in words.
+    // What `if_match_get_tokens` returns, as text.
     fn tokens(&mut self, alloc: Global, request: &DavRequest) -> Result<String, Fail> {
         let found = self.found(request);
         let ls = self.ls.as_ref();
@@ -151,7 +151,7 @@ impl Engine {
         }
     }
 
-    // A call, in words.
+    // What a call returns, as text.
     fn call(
         &mut self,
         alloc: Global,

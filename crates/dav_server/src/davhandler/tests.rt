@@ -10,8 +10,8 @@ use dav_store::memls::MemLs;
 use http_header::{HeaderName, HeaderValue};
 use std::test::Fail;
 
-// A request one second after 1970 began, and its reply. After ` | ` comes a body, as `bytes x`, `tree 64` (so many elements, each in
-// the one before) or `malformed`, or who makes the request, as `by anna`.
+// A request one second after 1970 began, and its reply. After ` | ` comes a body, as `bytes x`, `tree 64` (that many nested
+// elements) or `malformed`, or who makes the request, as `by anna`.
 const REQUESTS: &str = r##"# a file is stored and read
 PUT /a HTTP/1.1\r\nContent-Length: 3\r\n\r\n | bytes one -> 201\naccept-ranges: bytes\ncontent-length: 0\netag: "2"\nlast-modified: Thu, 01 Jan 1970 00:00:01 GMT\n
 GET /a HTTP/1.1\r\n\r\n -> 200\ncontent-length: 3\ncontent-type: application/octet-stream\netag: "2"\nlast-modified: Thu, 01 Jan 1970 00:00:01 GMT\n\none
@@ -93,7 +93,7 @@ fn lock(
     Ok(granted.is_ok())
 }
 
-/// Asks for such a lock for anna; the answer in words.
+/// Requests such a lock for anna; the answer as text.
 pub(super) fn lock_for_anna(
     alloc: Global,
     ls: &mut Option<MemLs>,
@@ -107,7 +107,7 @@ pub(super) fn lock_for_anna(
     Ok(Vec::from_slice(alloc, answer.as_bytes())?)
 }
 
-// A tree of so many elements, each in the one before; 1 at least.
+// A tree of this many nested elements; 1 at least.
 fn nested(alloc: Global, depth: usize) -> Result<Element, NoMemory> {
     let mut tree = Element::new(alloc, "x")?;
     for _ in 1..depth {

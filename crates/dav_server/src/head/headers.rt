@@ -16,7 +16,7 @@ use http_header::{
 use httparse::spans::HeaderSpan;
 use std::alloc::Global;
 
-/// The fields of a head, each value behind those of its name (RFC 9110, section 5.3), with the names in lower case.
+/// The fields of a head, each value after the others of its name (RFC 9110, section 5.3), with the names in lower case.
 pub fn headers_of(alloc: Global, view: &RequestView<'_>) -> Result<HeaderMap, NoMemory>
     ensures { IfOk result (λ headers. headers ≡ headers_of view.now.fields) }
 {
@@ -62,7 +62,7 @@ fn value_of(alloc: Global, value: &[u8]) -> Result<HeaderValue, NoMemory>
     }
 }
 
-// Puts a value behind those of its name, where there is room for it.
+// Adds a value after the others of its name, where there is room for it.
 fn append(headers: &mut HeaderMap, name: HeaderName, value: HeaderValue) -> Result<(), NoMemory>
     requires { ¬ RefusesAppend headers.old name }
     ensures { OnOk result (headers.new ≡ append headers.old name value) }

@@ -8,7 +8,7 @@ use http::StatusCode;
 use httparse::Status;
 use httparse::spans::{EMPTY_HEADER_SPAN, parse_request};
 
-/// Reads a head that is all of the bytes. Takes no memory.
+/// Reads a head that is all of the bytes. Allocates nothing.
 ///
 /// `BAD_REQUEST` where the bytes are no head of HTTP/1.x (RFC 9112, sections 2 to 5), where bytes follow it, and where it
 /// has more than `MOST_BYTES` bytes or `MOST_FIELDS` fields.

@@ -52,7 +52,7 @@ fn kind_of(found: FsResult<DavMetaData>) -> FsResult<Answer> {
     }
 }
 
-// The refusal that a word names; no row names the general failure, so other words show.
+// The refusal with this name; no row names the general failure, so a name that isn't known shows.
 fn refusal_of(word: &str) -> Option<FsError> {
     match word {
         "-" => None,
@@ -66,7 +66,7 @@ fn refusal_of(word: &str) -> Option<FsError> {
     }
 }
 
-// The list of refusals that words name.
+// The list of refusals with these names.
 fn refusals_of(alloc: Global, words: &str) -> Result<Vec<Option<FsError>>, AllocError> {
     let mut refusals = Vec::new(alloc);
     for word in words.split(' ') {

@@ -67,8 +67,8 @@ fn runs_requests_in_order(rt: HostRuntime) -> Result<(), Fail> {
     Ok(())
 }
 
-// The file of one byte keeps none of them: the write is refused after the truncation. The entry after it isn't used up, and the
-// next request doesn't meet it.
+// The file of one byte keeps none of them: the write is refused after the truncation. The entry after it isn't used up, and
+// the next request doesn't meet it.
 const CUT_SHORT: &str = "201
 accept-ranges: bytes
 content-length: 0

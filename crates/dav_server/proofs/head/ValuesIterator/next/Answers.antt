@@ -6,7 +6,7 @@ use Rattle.httparse.specs.Spans.{IsHeaderWithin, header_bytes}
 use Rattle.dav_server.specs.Head.{is_same_name, values_of}
 use Rattle.dav_server.proofs.head.ValuesIterator.next.Goals as goal
 
--- the headers behind the first lie in the head too
+-- the headers after the first lie in the head too
 within_tail : (n : ℕ) (h : HeaderSpan) (hs rest : List HeaderSpan) → rest ≡ h ∷ hs → All (IsHeaderWithin n) rest → All (IsHeaderWithin n) hs
 within_tail n h hs rest is all = All-tail (IsHeaderWithin n) h hs (rw is at all)
 
