@@ -178,7 +178,7 @@ impl DavPath {
     /// Makes a text, without the slash at its end, the prefix of the path. The text may be empty, all of the path (a slash is
     /// then added after it), or followed by a slash in the path.
     ///
-    /// `PrefixMismatch` where it is none of these. After an error the path is as it was.
+    /// `PrefixMismatch` where it is none of these; `Memory`. After an error the path is as it was.
     pub fn set_prefix(&mut self, prefix: &str) -> Result<(), ParseError>
         ensures ok { OnOk result (prefix_cut (without_slash prefix.now) (full_bytes self.old) ≡ Some self.new) }
         ensures err { IfErr result (IsCutRefused (prefix_cut (without_slash prefix.now) (full_bytes self.old))) }

@@ -188,9 +188,9 @@ pub trait DavDirEntry: Drop {
 /// A store of files and folders, which may refuse any call.
 ///
 /// What a store holds is a map from paths to folders and files, with the number that the next change takes. Each call is
-/// answered by what it means (`specs/Calls.antt`), unless the store refuses it: then nothing of the map changes. Where memory
-/// really runs out, the answer is `InsufficientStorage`, and `was_short` is true from then on. Moments are in seconds since
-/// 1970.
+/// answered by what it means (`specs/Calls.antt`), unless the store refuses it: then nothing of the map changes. A call that
+/// allocates answers `InsufficientStorage` where that fails, after all refusals that its docstring names, and `was_short` is true from
+/// then on. Moments are in seconds since 1970, and one that is stored is at most 253402300799, the end of the year 9999.
 pub trait DavFileSystem {
     ghost use Rattle.std.specs.Prelude.{◌≡◌, ◌≤◌, ◌∷◌, [], ◌++◌, ℕ, Bool, true, false, List, All, map, Option, Result, Ok, Err, IfOk, OnErr};
     ghost use Rattle.std.specs.Result.{result_unwrap_or};
@@ -201,7 +201,7 @@ pub trait DavFileSystem {
     ghost use Rattle.dav_core.specs.Handle.{Handle};
     ghost use Rattle.dav_core.specs.Asking.{Asks, StoreState, seen, Metadata, ReadDir, EntryMetadata, CreateDir, RemoveDir, RemoveFile, Rename, Copy, HaveProps, PatchProps, GetProps, GetProp, GetQuota, SetAccessed, SetModified, Open, Read, Write, Seek, Flush, FileMetadata};
 
-    /// An open file. It refers to the same file through renames, until that file is removed.
+    /// An open file. It refers to the same file through renames, until that file is removed, or another one is renamed onto its path.
     type File: Drop;
 
     /// An entry of a listing.

@@ -11,7 +11,7 @@ use std::marker::Model;
 /// A write lock.
 #[derive(Debug, Drop)]
 pub struct DavLock {
-    /// The token, which distinguishes this lock from others.
+    /// The token, by which clients name this lock; two locks of one list may have the same token.
     pub token: String,
     /// The path that it is on.
     pub path: DavPath,
@@ -93,7 +93,7 @@ pub trait DavLockSystem {
     ghost locks: { Self → List Lock };
 
     /// Grants a lock (RFC 4918, section 9.10). `Conflict` for an exclusive lock where any lock covers the path, for a
-    /// shared one where an exclusive lock does, and for one of infinite depth where any lock is below the path.
+    /// shared one where an exclusive lock does, and for one of infinite depth where any lock is below the path; `Memory`.
     fn lock(
         &mut self,
         alloc: Global,
@@ -119,7 +119,7 @@ pub trait DavLockSystem {
         ensures err { OnErr result ((unlocked token.now (names path.now) (locks self.old) ≡ None) × (locks self.new ≡ locks self.old)) };
 
     /// Gives the lock that a token and a path mean, as for `unlock`, a new timeout (RFC 4918, section 9.10.2). `NotThere`
-    /// where there is none.
+    /// where there is none; `Memory`.
     fn refresh(
         &mut self,
         alloc: Global,

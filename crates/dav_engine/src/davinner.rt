@@ -3,7 +3,7 @@ use dav_core::fs::DavFileSystem;
 use dav_core::ls::DavLockSystem;
 use dav_core::method::DavMethodSet;
 
-/// Who makes a request, and when.
+/// Who makes a request, when, and the token of the lock that it may be granted.
 #[derive(Clone, Copy)]
 pub struct Caller<'c> {
     /// Who makes the request, where that is known.

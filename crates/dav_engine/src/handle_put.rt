@@ -396,7 +396,8 @@ impl<'a, 'b, 'c, F: DavFileSystem, L: DavLockSystem> DavInner<'a, 'b, 'c, F, L> 
     /// long as announced or begins before the file; 400 for a Content-Range that isn't one, 416 for one that isn't as long
     /// as announced; 412 where a condition fails; 423 where a lock conflicts; 400 for a body that isn't of the announced
     /// length; 412 or 409 where the file isn't there or is, or no folder is above it; 416 where the seek to the place
-    /// fails. Each other refusal of the store is its own status. 415 for an element tree, before anything else.
+    /// fails. Each other refusal of the store is its own status. 415 for a body that is an element tree, or that was to be one and is
+    /// malformed, before anything else. `Memory` where memory runs out.
     pub fn handle_put(
         &mut self,
         alloc: Global,

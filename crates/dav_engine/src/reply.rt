@@ -109,8 +109,8 @@ pub fn set_location(alloc: Global, headers: &mut HeaderMap, path: &DavPath) -> R
 }
 
 impl Reply {
-    /// The reply to a request that an error ended: its status without a body, and for an error that says so the connection
-    /// closes after the reply (RFC 9110, section 7.6.1).
+    /// The reply to a request that an error ended: its status without a body, with `content-length: 0`, and with
+    /// `connection: close` exactly where the error closes the connection (RFC 9110, sections 7.6.1 and 8.6).
     pub fn of_error(alloc: Global, error: DavError) -> Result<Reply, NoMemory>
         ensures { IfOk result (λ r. response_of r ≡ error_reply error) }
     {

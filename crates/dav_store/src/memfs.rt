@@ -32,6 +32,9 @@ use std::marker::Model;
 pub const MAX_FILE_LEN: u64 = 2_147_483_647;
 
 /// Files and folders in memory.
+///
+/// A call that allocates answers `InsufficientStorage` where that fails, after all refusals that its docstring names. It changes nothing
+/// then, and `was_short` is true from then on.
 #[derive(Drop)]
 pub struct MemFs {
     entries: Vec<(Names, Node)>,
