@@ -18,3 +18,4 @@ pub mod CheckLemmas
 pub mod ConditionLemmas
 pub mod TagPathLemmas
 pub mod VerdictLemmas
+pub mod ModelLemmas

@@ -13,11 +13,11 @@ use Rattle.dav_core.specs.Path.{PathText, names}
 use Rattle.dav_engine.specs.Client.{Client, asker}
 use Rattle.dav_engine.specs.Plan.{Locks}
 use Rattle.dav_engine.specs.Method.{Method, ◌>>=◌, require_free, is_open, ask_or, gives}
-use Rattle.dav_engine.specs.Follows.{Follows, or_memory}
+use Rattle.dav_engine.specs.Follows.{as_is, Follows, or_memory}
 use Rattle.dav_engine.specs.Conditions.{Conditions, if_match_get_tokens}
 use Rattle.dav_engine.specs.ConditionView.{texts_of, tokens_or_status}
 use Rattle.dav_engine.specs.Mkcol.{mkcol_allowed, mkcol, create_error, made}
-use Rattle.dav_engine.specs.Response.{Response, response_of}
+use Rattle.dav_engine.specs.Response.{Response}
 use Rattle.dav_engine.specs.declared.reply.Reply.{Reply}
 use Rattle.dav_engine.proofs.Following.{follows_done, follows_ask, follows_then, follows_err, follows_up_to}
 use Rattle.dav_engine.proofs.GuardLemmas.{guard_passed, guard_failed, guard_short, open_to, ends_free, ends_locked}
@@ -68,23 +68,23 @@ creates p who _ = do
 
 -- the checks ended in an error
 pub mkcol_ends : (c : Conditions) (p : PathText) (who : Client) (e : DavError) {old new : StoreState} {ls : Locks}
-    → Follows (λ (u : Unit {0}). u) (mkcol_allowed c p who) old ls (Err e) new ls → Follows response_of (mkcol c p who) old ls (Err e) new ls
+    → Follows (λ (u : Unit {0}). u) (mkcol_allowed c p who) old ls (Err e) new ls → Follows as_is (mkcol c p who) old ls (Err e) new ls
 mkcol_ends c p who e one = follows_err (creates p who) e one
 
 -- the store refuses to make the folder
 pub mkcol_refused : (c : Conditions) (p : PathText) (who : Client) (why : FsError) (e : DavError) {old mid new : StoreState} {ls : Locks}
     → Follows (λ (u : Unit {0}). u) (mkcol_allowed c p who) old ls (Ok tt) mid ls → Asks (CreateDir (names p) who.moment) mid (Err why) new → e ≡ create_error why
-    → Follows response_of (mkcol c p who) old ls (Err e) new ls
+    → Follows as_is (mkcol c p who) old ls (Err e) new ls
 mkcol_refused c p who why e one asks is = follows_then (creates p who) one (follows_ask asks (follows_done (ap Err is)))
 
 -- memory runs out after the folder was made
 pub mkcol_wants : (c : Conditions) (p : PathText) (who : Client) (done : Unit {0}) {old mid new : StoreState} {ls : Locks}
     → Follows (λ (u : Unit {0}). u) (mkcol_allowed c p who) old ls (Ok tt) mid ls → Asks (CreateDir (names p) who.moment) mid (Ok done) new
-    → Follows response_of (mkcol c p who) old ls (Err dav.Memory) new ls
+    → Follows as_is (mkcol c p who) old ls (Err dav.Memory) new ls
 mkcol_wants c p who done one asks = follows_then (creates p who) one (follows_ask asks follows_up_to)
 
 -- the folder is made
 pub mkcol_made : (c : Conditions) (p : PathText) (who : Client) (done : Unit {0}) (reply : Reply) {old mid new : StoreState} {ls : Locks}
-    → Follows (λ (u : Unit {0}). u) (mkcol_allowed c p who) old ls (Ok tt) mid ls → Asks (CreateDir (names p) who.moment) mid (Ok done) new → response_of reply ≡ made p
-    → Follows response_of (mkcol c p who) old ls (Ok reply) new ls
+    → Follows (λ (u : Unit {0}). u) (mkcol_allowed c p who) old ls (Ok tt) mid ls → Asks (CreateDir (names p) who.moment) mid (Ok done) new → reply ≡ made p
+    → Follows as_is (mkcol c p who) old ls (Ok reply) new ls
 mkcol_made c p who done reply one asks is = follows_then (creates p who) one (follows_ask asks (follows_done (ap Ok is)))

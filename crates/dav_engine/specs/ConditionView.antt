@@ -11,7 +11,7 @@ use Rattle.dav_core.specs.Path.{Path, names}
 use Rattle.dav_headers.specs.ETagList.{TagList, IsTagList, tag_list}
 use Rattle.dav_headers.specs.IfView.{condition_value}
 use Rattle.dav_engine.specs.declared.conditional.Addressed as declared_list
-use Rattle.dav_engine.specs.declared.conditional.Conditions as declared
+use Rattle.dav_engine.specs.declared.conditional.Conditions.TheInside.{Inside}
 use Rattle.dav_engine.specs.Conditions.{Addressed, Conditions, AreConditions, SaysLists, http_conditions, if_holds, submitted, if_match, if_match_get_tokens}
 use Rattle.dav_engine.specs.Headers.{Headers, Decodes}
 use Rattle.dav_engine.specs.Method.{Method, ◌>>=◌, gives}
@@ -20,7 +20,7 @@ use Rattle.dav_engine.specs.Plan.{Locks}
 abbrev pub list_of : declared_list.Addressed → Addressed
 list_of l = record { path = option_map names l.path; conditions = map condition_value l.conditions.items }
 
-abbrev pub conditions_of : declared.Conditions → Conditions
+abbrev pub conditions_of : Inside → Conditions
 conditions_of c = record { if_match = option_map tag_list c.if_match; if_none_match = option_map tag_list c.if_none_match; lists = option_map (λ ls. map list_of ls.items) c.lists }
 
 -- the list of locks of a borrowed lock system, where there is one

@@ -3,10 +3,13 @@ use Rattle.std.specs.Prelude.{◌≡◌, Result, Ok, Err}
 use Rattle.dav_core.specs.declared.errors.DavError.{DavError}
 use Rattle.dav_core.specs.declared.errors.DavError.TheVariants as dav
 use Rattle.dav_core.specs.Asking.{StoreState, Asks}
-use Rattle.dav_engine.specs.Plan.{Locks, Ran, Cut}
+use Rattle.dav_engine.specs.Plan.{Locks, ServerState, Ran, Cut}
 use Rattle.dav_engine.specs.Method.{Method}
-use Rattle.dav_engine.specs.Response.{Response, response_of}
-use Rattle.dav_engine.specs.declared.reply.Reply.{Reply}
+use Rattle.dav_engine.specs.Response.{Response}
+
+-- what stands for itself
+abbrev pub as_is : {A : Type 0} → A → A
+as_is x = x
 
 -- a result with its value as contracts see it
 abbrev pub viewed : {A X : Type 0} → (X → A) → Result X DavError → Result A DavError
@@ -19,7 +22,11 @@ pub data Follows {A X : Type 0} (view : X → A) (plan : Method A) (old : StoreS
   followed : Ran Asks plan old ls (viewed view result) new ms → Follows view plan old ls result new ms
   gave_up : result ≡ Err dav.Memory → Cut Asks ls plan old ls new ms → Follows view plan old ls result new ms
 
--- The same for code that has only the store: whatever the list of locks is, it stays.
+-- the same of code that looks at the list of locks, and leaves it
+abbrev pub Heeds : {A X : Type 0} → Locks → (X → A) → Method A → StoreState → Result X DavError → StoreState → Type 0
+Heeds locks view plan old result new = Follows view plan old locks result new locks
+
+-- The same of code that has the store alone: whatever the list of locks is, it stays.
 abbrev pub Makes : {A X : Type 0} → (X → A) → Method A → StoreState → Result X DavError → StoreState → Type 0
 Makes view plan old result new = (ls : Locks) → Follows view plan old ls result new ls
 
@@ -28,9 +35,9 @@ pub data Carries {A X : Type 0} (view : X → A) (kind : Method A → Type 0) (o
   served : (plan : Method A) → kind plan → Follows view plan old ls result new ms → Carries view kind old ls result new ms
   not_begun : result ≡ Err dav.Memory → new ≡ old → ms ≡ ls → Carries view kind old ls result new ms
 
--- the same for a request that is answered
-abbrev pub Serves : (Method Response → Type 0) → StoreState → Locks → Result Reply DavError → StoreState → Locks → Type 0
-Serves = Carries response_of
+-- the same of a request that is answered
+abbrev pub Serves : (Method Response → Type 0) → ServerState → Result Response DavError → ServerState → Type 0
+Serves kind old result new = Carries as_is kind old.store old.locks result new.store new.locks
 
 -- a result whose only error is out of memory, as the result of a method
 abbrev pub or_memory : {X E : Type 0} → Result X E → Result X DavError

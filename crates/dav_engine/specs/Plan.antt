@@ -9,7 +9,12 @@ use Rattle.dav_core.specs.Locks.{Lock}
 abbrev pub Locks : Type 0
 Locks = Option (List Lock)
 
--- the list after it was set; without a lock system there is no list
+-- what a server serves from: its store, and its list of locks
+pub record ServerState : Type 0 where
+  pub store : StoreState
+  pub locks : Locks
+
+-- the list after it was set; without a lock system nothing is kept
 abbrev pub kept : Locks → List Lock → Locks
 kept None locks = None
 kept (Some old) locks = Some locks

@@ -7,7 +7,6 @@ use Rattle.dav_core.specs.declared.errors.DavError.{DavError}
 use Rattle.dav_core.specs.declared.fs.DavMetaData.{DavMetaData}
 use Rattle.dav_core.specs.Metadata.{tag_of}
 use Rattle.dav_core.specs.Status.{dav_status, must_close}
-use Rattle.dav_engine.specs.declared.reply.Reply.{Reply}
 use Rattle.dav_engine.specs.declared.reply.ReplyBody.{ReplyBody}
 use Rattle.dav_engine.specs.declared.reply.ReplyBody.TheVariants.{Nothing}
 use Rattle.dav_engine.specs.Date.{date_text_of}
@@ -26,11 +25,7 @@ pub record Response : Type 0 where
 abbrev pub headers_in : Entries FieldValue → List Header
 headers_in headers = map (λ h. (h.0, h.1.bytes)) (pairs headers)
 
--- what contracts see of a reply
-abbrev pub response_of : Reply → Response
-response_of r = record { status = r.status; headers = headers_in r.headers; body = r.body }
-
--- Content-Length: how many bytes the body has (RFC 9110, section 8.6)
+-- how many bytes the body has (RFC 9110, section 8.6)
 abbrev pub content_length : ℕ → Header
 content_length n = (codes "content-length", decimal n)
 

@@ -10,8 +10,8 @@ ghost use Rattle.dav_headers.specs.If.{tokens_in};
 ghost use Rattle.dav_engine.specs.Plan.{Locks};
 ghost use Rattle.dav_headers.specs.IfView.{item_value, condition_value, if_lists};
 ghost use Rattle.dav_engine.specs.Conditions as spec;
-ghost use Rattle.dav_engine.specs.ConditionView.{list_of, conditions_of, locks_in, texts_of, tokens_or_status, IsHttpVerdict, IsDavIf, IsIfMatch, IsIfMatchGetTokens};
-ghost use Rattle.dav_engine.specs.Follows.{Follows, Carries, or_memory};
+ghost use Rattle.dav_engine.specs.ConditionView.{list_of, locks_in, texts_of, tokens_or_status, IsHttpVerdict, IsDavIf, IsIfMatch, IsIfMatchGetTokens};
+ghost use Rattle.dav_engine.specs.Follows.{Follows, Carries, or_memory, Heeds};
 ghost use Rattle.dav_engine.specs.Headers.{Decodes};
 
 #[cfg(test)]
@@ -30,6 +30,7 @@ use dav_headers::{
 use http::StatusCode;
 use http_header::{HeaderMap, HeaderName};
 use std::alloc::Global;
+use std::marker::Model;
 use url::Url;
 
 // A list of conditions, and the path that it applies to, where it applies to one.
@@ -45,6 +46,16 @@ pub struct Conditions {
     if_match: Option<ETagList>,
     if_none_match: Option<ETagList>,
     lists: Option<Vec<Addressed>>,
+}
+
+impl Model for Conditions {
+    ghost use Rattle.dav_engine.specs.Conditions as said;
+
+    ghost Value = { said.Conditions };
+
+    ghost use Rattle.dav_engine.specs.ConditionView.{conditions_of};
+
+    ghost view = { conditions_of };
 }
 
 /// Whether a list matches a resource that has this tag (RFC 9110, section 13.1): `*` where the resource exists, other lists
@@ -71,7 +82,8 @@ fn has_tag(list: &[ETag], tag: &ETag) -> bool
 /// Whether the tag of an If-Range is the one of a resource, by the strong comparison (RFC 9110, section 13.1.5). Allocates
 /// nothing.
 pub fn ifrange_match(range: &IfRange, tag: Option<&ETag>) -> bool
-    ensures { result ≡ spec.matches (tags (range_tag range.now ∷ [])) true (option_copied tag.entry) }
+    ensures { result
+        ≡ spec.matches (tags (range_tag range.now ∷ [])) true (option_copied tag.entry) }
 {
     match (range, tag) {
         (IfRange::ETag(wanted), Some(tag)) => wanted.strong_eq(tag),
@@ -114,7 +126,8 @@ fn http_status(
     if_none_match: &Option<ETagList>,
     found: Option<&DavMetaData>,
 ) -> Result<Option<StatusCode>, NoMemory>
-    ensures { IfOk result (λ status. status ≡ spec.http_conditions method (option_map tag_list if_match.now) (option_map tag_list if_none_match.now) (option_copied found.entry)) }
+    ensures { IfOk result (λ status.
+        status ≡ spec.http_conditions method (option_map tag_list if_match.now) (option_map tag_list if_none_match.now) (option_copied found.entry)) }
 {
     let exists = found.is_some();
     let tag = tag_found(alloc, found)?;
@@ -136,7 +149,8 @@ fn http_status(
 
 // The list of an If-Match header.
 fn match_in(alloc: Global, headers: &HeaderMap) -> Result<Option<ETagList>, NoMemory>
-    ensures { IfOk result (λ list. Decodes IsTagList (get_all headers.now (codes "if-match")) (option_map tag_list list)) }
+    ensures { IfOk result (λ list.
+        Decodes IsTagList (get_all headers.now (codes "if-match")) (option_map tag_list list)) }
 {
     let values = values_of(alloc, headers, HeaderName::from_static("if-match"))?;
     match IfMatch::decode(alloc, &values) {
@@ -148,7 +162,8 @@ fn match_in(alloc: Global, headers: &HeaderMap) -> Result<Option<ETagList>, NoMe
 
 // The list of an If-None-Match header.
 fn none_match_in(alloc: Global, headers: &HeaderMap) -> Result<Option<ETagList>, NoMemory>
-    ensures { IfOk result (λ list. Decodes IsTagList (get_all headers.now (codes "if-none-match")) (option_map tag_list list)) }
+    ensures { IfOk result (λ list.
+        Decodes IsTagList (get_all headers.now (codes "if-none-match")) (option_map tag_list list)) }
 {
     let values = values_of(alloc, headers, HeaderName::from_static("if-none-match"))?;
     match IfNoneMatch::decode(alloc, &values) {
@@ -170,7 +185,8 @@ fn no_path(error: ParseError) -> Result<Option<DavPath>, NoMemory>
 
 // The path that a resource tag names below a prefix, where it names one.
 fn tagged_path(alloc: Global, prefix: &str, url: &Url) -> Result<Option<DavPath>, NoMemory>
-    ensures { IfOk result (λ path. spec.SpeaksOf prefix.now [] (Some url.now) (option_map names path)) }
+    ensures { IfOk result (λ path.
+        spec.SpeaksOf prefix.now [] (Some url.now) (option_map names path)) }
 {
     let mut path = match DavPath::new(alloc, url.path()) {
         Ok(path) => path,
@@ -192,7 +208,8 @@ fn spoken_of(
     own: &DavPath,
     resource: &Option<Url>,
 ) -> Result<Option<DavPath>, NoMemory>
-    ensures { IfOk result (λ path. spec.SpeaksOf prefix.now (names own.now) resource.now (option_map names path)) }
+    ensures { IfOk result (λ path.
+        spec.SpeaksOf prefix.now (names own.now) resource.now (option_map names path)) }
 {
     match resource {
         Some(url) => tagged_path(alloc, prefix, url),
@@ -207,7 +224,8 @@ fn lists_of(
     own: &DavPath,
     header: If,
 ) -> Result<Vec<Addressed>, NoMemory>
-    ensures { IfOk result (λ lists. spec.AreAddressed prefix.now (names own.now) (if_lists header) (map list_of lists.items)) }
+    ensures { IfOk result (λ lists.
+        spec.AreAddressed prefix.now (names own.now) (if_lists header) (map list_of lists.items)) }
 {
     let If(lists) = header;
     let mut all = Vec::new(alloc);
@@ -227,7 +245,8 @@ fn lists_in(
     request: &DavRequest,
     own: &DavPath,
 ) -> Result<Option<Vec<Addressed>>, NoMemory>
-    ensures { IfOk result (λ lists. Decodes (spec.SaysLists request.now.path.prefix (names own.now)) (get_all request.now.headers (codes "if")) (option_map (λ ls. map list_of ls.items) lists)) }
+    ensures { IfOk result (λ lists.
+        Decodes (spec.SaysLists request.now.path.prefix (names own.now)) (get_all request.now.headers (codes "if")) (option_map (λ ls. map list_of ls.items) lists)) }
 {
     let values = values_of(alloc, &request.headers, HeaderName::from_static("if"))?;
     match If::decode(alloc, &values) {
@@ -239,7 +258,8 @@ fn lists_in(
 
 // Whether a state token is true of a path.
 fn token_holds<L: DavLockSystem>(ls: Option<&L>, path: &DavPath, token: &String) -> bool
-    ensures { result ≡ spec.token_holds (string_bytes token.now) (names path.now) (locks_in L.locks ls.entry) }
+    ensures { result
+        ≡ spec.token_holds (string_bytes token.now) (names path.now) (locks_in L.locks ls.entry) }
 {
     let Some(ls) = ls else {
         return false;
@@ -258,7 +278,8 @@ fn tag_holds<F: DavFileSystem>(
     path: &DavPath,
     tag: &ETag,
 ) -> Result<bool, NoMemory>
-    ensures { (ls : Locks) → Follows (λ b. b) (spec.has_tag (names path.now) tag.now) (F.state fs.old) ls (or_memory result) (F.state fs.new) ls }
+    ensures { (ls : Locks) → Follows (λ b. b) (spec.has_tag (names path.now) tag.now)
+        (F.state fs.old) ls (or_memory result) (F.state fs.new) ls }
 {
     let found = fs.metadata(path).ok();
     match tag_found(alloc, found.as_ref())? {
@@ -275,7 +296,9 @@ fn item_holds<F: DavFileSystem, L: DavLockSystem>(
     path: &Option<DavPath>,
     item: &IfItem,
 ) -> Result<bool, NoMemory>
-    ensures { Follows (λ b. b) (spec.item_holds (option_map names path.now) (item_value item.now)) (F.state fs.old) (locks_in L.locks ls.entry) (or_memory result) (F.state fs.new) (locks_in L.locks ls.entry) }
+    ensures { Heeds (locks_in L.locks ls.entry) (λ b. b)
+        (spec.item_holds (option_map names path.now) (item_value item.now))
+        (F.state fs.old) (or_memory result) (F.state fs.new) }
 {
     let Some(path) = path else {
         return Ok(false);
@@ -294,7 +317,9 @@ fn all_hold<F: DavFileSystem, L: DavLockSystem>(
     path: &Option<DavPath>,
     conditions: &[IfCondition],
 ) -> Result<bool, NoMemory>
-    ensures { Follows (λ b. b) (spec.all_hold (option_map names path.now) (map condition_value conditions.now)) (F.state fs.old) (locks_in L.locks ls.entry) (or_memory result) (F.state fs.new) (locks_in L.locks ls.entry) }
+    ensures { Heeds (locks_in L.locks ls.entry) (λ b. b)
+        (spec.all_hold (option_map names path.now) (map condition_value conditions.now))
+        (F.state fs.old) (or_memory result) (F.state fs.new) }
 {
     for condition in conditions {
         if item_holds(fs, ls, alloc, path, &condition.item)? == condition.not {
@@ -311,7 +336,9 @@ fn some_holds<F: DavFileSystem, L: DavLockSystem>(
     alloc: Global,
     lists: &[Addressed],
 ) -> Result<bool, NoMemory>
-    ensures { Follows (λ b. b) (spec.some_holds (map list_of lists.now)) (F.state fs.old) (locks_in L.locks ls.entry) (or_memory result) (F.state fs.new) (locks_in L.locks ls.entry) }
+    ensures { Heeds (locks_in L.locks ls.entry) (λ b. b)
+        (spec.some_holds (map list_of lists.now))
+        (F.state fs.old) (or_memory result) (F.state fs.new) }
 {
     for list in lists {
         if all_hold(fs, ls, alloc, &list.path, &list.conditions)? {
@@ -328,7 +355,9 @@ fn if_holds<F: DavFileSystem, L: DavLockSystem>(
     alloc: Global,
     lists: &Option<Vec<Addressed>>,
 ) -> Result<bool, NoMemory>
-    ensures { Follows (λ b. b) (spec.if_holds (option_map (λ l. map list_of l.items) lists.now)) (F.state fs.old) (locks_in L.locks ls.entry) (or_memory result) (F.state fs.new) (locks_in L.locks ls.entry) }
+    ensures { Heeds (locks_in L.locks ls.entry) (λ b. b)
+        (spec.if_holds (option_map (λ l. map list_of l.items) lists.now))
+        (F.state fs.old) (or_memory result) (F.state fs.new) }
 {
     match lists {
         Some(lists) => some_holds(fs, ls, alloc, lists),
@@ -338,7 +367,8 @@ fn if_holds<F: DavFileSystem, L: DavLockSystem>(
 
 // Adds the state tokens of a list.
 fn push_tokens(tokens: &mut Vec<String>, conditions: &[IfCondition]) -> Result<(), NoMemory>
-    ensures { OnOk result (texts_of tokens.new ≡ texts_of tokens.old ++ flat_map (λ c. tokens_in c.item) (map condition_value conditions.now)) }
+    ensures { OnOk result (texts_of tokens.new ≡ texts_of tokens.old ++ flat_map (λ c.
+        tokens_in c.item) (map condition_value conditions.now)) }
 {
     for condition in conditions {
         if let IfItem::StateToken(token) = &condition.item {
@@ -350,7 +380,8 @@ fn push_tokens(tokens: &mut Vec<String>, conditions: &[IfCondition]) -> Result<(
 
 // The state tokens that are submitted, of all lists in order.
 fn submitted(alloc: Global, lists: &Option<Vec<Addressed>>) -> Result<Vec<String>, NoMemory>
-    ensures { IfOk result (λ tokens. texts_of tokens ≡ spec.submitted (option_map (λ l. map list_of l.items) lists.now)) }
+    ensures { IfOk result (λ tokens.
+        texts_of tokens ≡ spec.submitted (option_map (λ l. map list_of l.items) lists.now)) }
 {
     let mut tokens = Vec::new(alloc);
     if let Some(lists) = lists {
@@ -369,7 +400,8 @@ impl Conditions {
         request: &DavRequest,
         path: &DavPath,
     ) -> Result<Conditions, NoMemory>
-        ensures { IfOk result (λ c. spec.AreConditions request.now.headers request.now.path.prefix (names path.now) (conditions_of c)) }
+        ensures { IfOk result (λ c.
+            spec.AreConditions request.now.headers request.now.path.prefix (names path.now) c) }
     {
         Ok(Conditions {
             if_match: match_in(alloc, &request.headers)?,
@@ -380,14 +412,14 @@ impl Conditions {
 
     /// Whether only what is there already is to be changed: If-Match is `*`. Allocates nothing.
     pub fn wants_something(&self) -> bool
-        ensures { result ≡ spec.is_star (conditions_of self.now).if_match }
+        ensures { result ≡ spec.is_star self.now.if_match }
     {
         matches!(self.if_match, Some(ETagList::Star))
     }
 
     /// Whether nothing may be there yet: If-None-Match is `*`. Allocates nothing.
     pub fn wants_nothing(&self) -> bool
-        ensures { result ≡ spec.is_star (conditions_of self.now).if_none_match }
+        ensures { result ≡ spec.is_star self.now.if_none_match }
     {
         matches!(self.if_none_match, Some(ETagList::Star))
     }
@@ -403,7 +435,9 @@ impl Conditions {
         fs: &mut F,
         ls: Option<&L>,
     ) -> Result<Option<StatusCode>, NoMemory>
-        ensures { Follows (λ status. status) (spec.if_match method (conditions_of self.now) (option_copied found.entry)) (F.state fs.old) (locks_in L.locks ls.entry) (or_memory result) (F.state fs.new) (locks_in L.locks ls.entry) }
+        ensures { Heeds (locks_in L.locks ls.entry) (λ status. status)
+            (spec.if_match method self.now (option_copied found.entry))
+            (F.state fs.old) (or_memory result) (F.state fs.new) }
     {
         if !if_holds(fs, ls, alloc, &self.lists)? {
             return Ok(Some(StatusCode::PRECONDITION_FAILED));
@@ -421,7 +455,9 @@ impl Conditions {
         fs: &mut F,
         ls: Option<&L>,
     ) -> Result<Result<Vec<String>, StatusCode>, NoMemory>
-        ensures { Follows tokens_or_status (spec.if_match_get_tokens method (conditions_of self.now) (option_copied found.entry)) (F.state fs.old) (locks_in L.locks ls.entry) (or_memory result) (F.state fs.new) (locks_in L.locks ls.entry) }
+        ensures { Heeds (locks_in L.locks ls.entry) tokens_or_status
+            (spec.if_match_get_tokens method self.now (option_copied found.entry))
+            (F.state fs.old) (or_memory result) (F.state fs.new) }
     {
         let status = http_status(alloc, method, &self.if_match, &self.if_none_match, found)?;
         if let Some(status) = status {
@@ -458,7 +494,8 @@ pub fn dav_if_match<F: DavFileSystem, L: DavLockSystem>(
     ls: Option<&L>,
     path: &DavPath,
 ) -> Result<(bool, Vec<String>), NoMemory>
-    ensures { Carries (λ r. (r.0, texts_of r.1)) (IsDavIf request.now.headers request.now.path.prefix (names path.now)) (F.state fs.old) (locks_in L.locks ls.entry) (or_memory result) (F.state fs.new) (locks_in L.locks ls.entry) }
+    ensures { Carries (λ r. (r.0, texts_of r.1)) (IsDavIf request.now.headers request.now.path.prefix (names path.now))
+        (F.state fs.old) (locks_in L.locks ls.entry) (or_memory result) (F.state fs.new) (locks_in L.locks ls.entry) }
 {
     let lists = lists_in(alloc, request, path)?;
     let holds = if_holds(fs, ls, alloc, &lists)?;
@@ -474,7 +511,8 @@ pub fn if_match<F: DavFileSystem, L: DavLockSystem>(
     ls: Option<&L>,
     path: &DavPath,
 ) -> Result<Option<StatusCode>, NoMemory>
-    ensures { Carries (λ status. status) (IsIfMatch request.now.method request.now.headers request.now.path.prefix (names path.now) (option_copied found.entry)) (F.state fs.old) (locks_in L.locks ls.entry) (or_memory result) (F.state fs.new) (locks_in L.locks ls.entry) }
+    ensures { Carries (λ status. status) (IsIfMatch request.now.method request.now.headers request.now.path.prefix (names path.now) (option_copied found.entry))
+        (F.state fs.old) (locks_in L.locks ls.entry) (or_memory result) (F.state fs.new) (locks_in L.locks ls.entry) }
 {
     let conditions = Conditions::decode(alloc, request, path)?;
     conditions.if_match(alloc, request.method, found, fs, ls)
@@ -490,7 +528,8 @@ pub fn if_match_get_tokens<F: DavFileSystem, L: DavLockSystem>(
     ls: Option<&L>,
     path: &DavPath,
 ) -> Result<Result<Vec<String>, StatusCode>, NoMemory>
-    ensures { Carries tokens_or_status (IsIfMatchGetTokens request.now.method request.now.headers request.now.path.prefix (names path.now) (option_copied found.entry)) (F.state fs.old) (locks_in L.locks ls.entry) (or_memory result) (F.state fs.new) (locks_in L.locks ls.entry) }
+    ensures { Carries tokens_or_status (IsIfMatchGetTokens request.now.method request.now.headers request.now.path.prefix (names path.now) (option_copied found.entry))
+        (F.state fs.old) (locks_in L.locks ls.entry) (or_memory result) (F.state fs.new) (locks_in L.locks ls.entry) }
 {
     let conditions = Conditions::decode(alloc, request, path)?;
     conditions.if_match_get_tokens(alloc, request.method, found, fs, ls)

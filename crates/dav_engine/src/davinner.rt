@@ -2,9 +2,10 @@
 use dav_core::fs::DavFileSystem;
 use dav_core::ls::DavLockSystem;
 use dav_core::method::DavMethodSet;
+use std::marker::Model;
 
-/// Who makes a request, when, and the token of the lock that it may be granted.
-#[derive(Clone, Copy)]
+/// Who asks, and when.
+#[derive(Drop)]
 pub struct Caller<'c> {
     /// Who makes the request, where that is known.
     pub principal: Option<&'c str>,
@@ -14,13 +15,43 @@ pub struct Caller<'c> {
     pub token: Option<&'c str>,
 }
 
-/// One request while it is answered, on a borrowed store and borrowed locks. The methods of a server are its functions.
+impl<'c> Model for Caller<'c> {
+    ghost use Rattle.dav_engine.specs.Client.{Client};
+
+    ghost Value = { Client };
+
+    ghost use Rattle.dav_engine.specs.CallerView.{client_of};
+
+    ghost view = { client_of };
+}
+
+/// What a server serves from: a store, and locks where it has a lock system.
 #[derive(Drop)]
-pub struct DavInner<'a, 'b, 'c, F, L> {
+pub struct Backend<F: DavFileSystem, L: DavLockSystem> {
     /// The store.
-    pub fs: &'a mut F,
+    pub fs: F,
     /// The locks, where there is a lock system.
-    pub ls: &'a mut Option<L>,
+    pub ls: Option<L>,
+}
+
+impl<F: DavFileSystem, L: DavLockSystem> Model for Backend<F, L> {
+    ghost use Rattle.std.specs.Option.{option_map};
+    ghost use Rattle.dav_engine.specs.Plan.{ServerState};
+    ghost use Rattle.dav_engine.specs.StateCode.{coded_state};
+    ghost use Rattle.dav_core.specs.contracts.errors.FsError as fs_error;
+
+    ghost Value = { ServerState };
+
+    ghost coded = { coded_state fs_error.the_row.coded };
+
+    ghost view = { λ b. record { store = F.state b.fs; locks = option_map L.locks b.ls } };
+}
+
+/// One request at work, on what a server lends to it. The methods of a server are its calls.
+#[derive(Drop)]
+pub struct DavInner<'a, 'b, 'c, F: DavFileSystem, L: DavLockSystem> {
+    /// The store and the locks.
+    pub backend: &'a mut Backend<F, L>,
     /// The methods that are allowed.
     pub allow: DavMethodSet,
     /// Who makes the request, and when.

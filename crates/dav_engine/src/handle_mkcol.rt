@@ -1,12 +1,11 @@
 //! MKCOL (RFC 4918, section 9.3).
-ghost use Rattle.std.specs.Prelude.{◌≡◌, ◌≤◌, option_map, IfOk};
+ghost use Rattle.std.specs.Prelude.{◌≡◌, ◌≤◌, IfOk};
 ghost use Rattle.dav_core.specs.World.{last_moment};
 ghost use Rattle.dav_core.specs.Path.{names};
-ghost use Rattle.dav_engine.specs.Client.{client_of};
-ghost use Rattle.dav_engine.specs.ConditionView.{conditions_of, locks_in};
-ghost use Rattle.dav_engine.specs.Follows.{Follows, Serves};
+ghost use Rattle.dav_engine.specs.AtWork.{KeepsLent, ServesFrom, MkcolOf};
+ghost use Rattle.dav_engine.specs.ConditionView.{locks_in};
+ghost use Rattle.dav_engine.specs.Follows.{as_is, Heeds};
 ghost use Rattle.dav_engine.specs.Mkcol as spec;
-ghost use Rattle.dav_engine.specs.Response.{response_of};
 
 use crate::check::is_open;
 use crate::conditional::Conditions;
@@ -35,7 +34,7 @@ fn create_error(error: FsError) -> DavError
 
 // The reply to a folder that was made.
 fn made(alloc: Global, path: &DavPath) -> Result<Reply, NoMemory>
-    ensures { IfOk result (λ r. response_of r ≡ spec.made path.now) }
+    ensures { IfOk result (λ r. r ≡ spec.made path.now) }
 {
     let mut headers = HeaderMap::new(alloc);
     if path.is_collection() {
@@ -57,7 +56,9 @@ fn allowed<F: DavFileSystem, L: DavLockSystem>(
     path: &DavPath,
     caller: &Caller<'_>,
 ) -> DavResult<()>
-    ensures { Follows (λ u. u) (spec.mkcol_allowed (conditions_of conditions.now) path.now (client_of caller.now)) (F.state fs.old) (locks_in L.locks ls.entry) result (F.state fs.new) (locks_in L.locks ls.entry) }
+    ensures { Heeds (locks_in L.locks ls.entry) (λ u. u)
+        (spec.mkcol_allowed conditions.now path.now caller.now)
+        (F.state fs.old) result (F.state fs.new) }
 {
     let found = fs.metadata(path).ok();
     let verdict = conditions.if_match_get_tokens(alloc, DavMethod::MkCol, found.as_ref(), fs, ls)?;
@@ -82,7 +83,9 @@ fn mkcol<F: DavFileSystem, L: DavLockSystem>(
     caller: &Caller<'_>,
 ) -> DavResult<Reply>
     requires { caller.now.moment ≤ last_moment }
-    ensures { Follows response_of (spec.mkcol (conditions_of conditions.now) path.now (client_of caller.now)) (F.state fs.old) (locks_in L.locks ls.entry) result (F.state fs.new) (locks_in L.locks ls.entry) }
+    ensures { Heeds (locks_in L.locks ls.entry) as_is
+        (spec.mkcol conditions.now path.now caller.now)
+        (F.state fs.old) result (F.state fs.new) }
 {
     allowed(fs, ls, alloc, conditions, path, caller)?;
     match fs.create_dir(alloc, path, caller.moment) {
@@ -106,17 +109,14 @@ impl<'a, 'b, 'c, F: DavFileSystem, L: DavLockSystem> DavInner<'a, 'b, 'c, F, L> 
         _body: &Body,
     ) -> DavResult<Reply>
         requires { self.old.caller.now.moment ≤ last_moment }
-        ensures same_fs { self.new.fs.ghost_name ≡ self.old.fs.ghost_name }
-        ensures same_ls { self.new.ls.ghost_name ≡ self.old.ls.ghost_name }
-        ensures same_allow { self.new.allow ≡ self.old.allow }
-        ensures same_caller { self.new.caller ≡ self.old.caller }
-        ensures same_locks { option_map L.locks self.new.ls.now ≡ option_map L.locks self.old.ls.now }
-        ensures serves { Serves (spec.IsMkcol request.now.headers request.now.path (client_of self.old.caller.now)) (F.state self.old.fs.now) (option_map L.locks self.old.ls.now) result (F.state self.new.fs.now) (option_map L.locks self.new.ls.now) }
+        ensures lent { KeepsLent self.old self.new }
+        ensures serves { ServesFrom (MkcolOf request.now) self.old result self.new }
     {
         let conditions = Conditions::decode(alloc, request, &request.path)?;
+        let backend = &mut *self.backend;
         mkcol(
-            self.fs,
-            self.ls.as_ref(),
+            &mut backend.fs,
+            backend.ls.as_ref(),
             alloc,
             &conditions,
             &request.path,

@@ -4,13 +4,11 @@ ghost use Rattle.std.specs.Option.{option_copied};
 ghost use Rattle.dav_core.specs.World.{last_moment};
 ghost use Rattle.dav_core.specs.Metadata.{opening_of};
 ghost use Rattle.dav_core.specs.Path.{names};
-ghost use Rattle.dav_engine.specs.Client.{client_of, asker};
+ghost use Rattle.dav_engine.specs.AtWork.{KeepsLent, ServesFrom, PutOf};
 ghost use Rattle.dav_engine.specs.ConditionView.{locks_in};
-ghost use Rattle.dav_engine.specs.Follows.{Follows, Makes, Serves};
+ghost use Rattle.dav_engine.specs.Follows.{as_is, Makes, Heeds};
 ghost use Rattle.dav_engine.specs.Plan.{Locks};
 ghost use Rattle.dav_engine.specs.Put as spec;
-ghost use Rattle.dav_engine.specs.PutView.{put_headers_of};
-ghost use Rattle.dav_engine.specs.Response.{response_of};
 
 use crate::check::is_open;
 use crate::davinner::{Caller, DavInner};
@@ -100,7 +98,7 @@ fn written_by(
     headers: &PutHeaders,
     found: Option<&DavMetaData>,
 ) -> DavResult<Writing>
-    ensures { result ≡ spec.written_by method (put_headers_of headers.now) (option_copied found.entry) }
+    ensures { result ≡ spec.written_by method headers.now (option_copied found.entry) }
 {
     match method {
         DavMethod::Patch if headers.is_partial => {
@@ -153,7 +151,7 @@ fn writing_of(
     headers: &PutHeaders,
     found: Option<&DavMetaData>,
 ) -> DavResult<Writing>
-    ensures { result ≡ spec.writing_of method (put_headers_of headers.now) (option_copied found.entry) }
+    ensures { result ≡ spec.writing_of method headers.now (option_copied found.entry) }
 {
     bounded(headers.range, written_by(method, headers, found)?)
 }
@@ -193,7 +191,7 @@ fn missing_status(options: &OpenOptions) -> StatusCode
 
 // How the file is opened.
 fn put_opening(headers: &PutHeaders, writing: Writing) -> Result<OpenOptions, NoMemory>
-    ensures { IfOk result (λ options. opening_of options ≡ spec.put_opening (put_headers_of headers.now) writing) }
+    ensures { IfOk result (λ options. opening_of options ≡ spec.put_opening headers.now writing) }
 {
     Ok(OpenOptions {
         write: true,
@@ -210,7 +208,7 @@ fn put_opening(headers: &PutHeaders, writing: Writing) -> Result<OpenOptions, No
 // The reply to a file that was stored.
 fn stored(alloc: Global, found: bool, file: Option<DavMetaData>) -> Result<Reply, NoMemory>
     requires { IfSome file (λ m. m.modified ≤ last_moment) }
-    ensures { IfOk result (λ r. response_of r ≡ spec.stored found file) }
+    ensures { IfOk result (λ r. r ≡ spec.stored found file) }
 {
     let mut headers = HeaderMap::new(alloc);
     let ranges = HeaderValue::from_static("bytes");
@@ -239,7 +237,8 @@ fn stored(alloc: Global, found: bool, file: Option<DavMetaData>) -> Result<Reply
 
 // Seeks a place in an open file, where there is one.
 fn seek<F: DavFileSystem>(fs: &mut F, file: &mut F::File, place: Option<u64>) -> DavResult<()>
-    ensures { Makes (λ _. F.handle file.new) (spec.sought place (F.handle file.old)) (F.state fs.old) result (F.state fs.new) }
+    ensures { Makes (λ _. F.handle file.new) (spec.sought place (F.handle file.old))
+        (F.state fs.old) result (F.state fs.new) }
 {
     let Some(place) = place else {
         return Ok(());
@@ -259,7 +258,8 @@ fn write<F: DavFileSystem>(
     now: u64,
 ) -> DavResult<()>
     requires { now ≤ last_moment }
-    ensures { Makes (λ _. F.handle file.new) (spec.written (F.handle file.old) bytes.now now) (F.state fs.old) result (F.state fs.new) }
+    ensures { Makes (λ _. F.handle file.new) (spec.written (F.handle file.old) bytes.now now)
+        (F.state fs.old) result (F.state fs.new) }
 {
     if bytes.is_empty() {
         return Ok(());
@@ -282,7 +282,8 @@ fn store<F: DavFileSystem>(
     found: bool,
 ) -> DavResult<Reply>
     requires { now ≤ last_moment }
-    ensures { Makes response_of (spec.store (opening_of options.now) place (names path.now) bytes.now now found) (F.state fs.old) result (F.state fs.new) }
+    ensures { Makes as_is (spec.store (opening_of options.now) place (names path.now) bytes.now now found)
+        (F.state fs.old) result (F.state fs.new) }
 {
     let mut file = match fs.open(alloc, path, options, now) {
         Ok(file) => file,
@@ -309,7 +310,9 @@ fn allowed<F: DavFileSystem, L: DavLockSystem>(
     caller: &Caller<'_>,
     bytes: &Bytes,
 ) -> DavResult<(Writing, bool)>
-    ensures { Follows (λ r. r) (spec.put_allowed method (put_headers_of headers.now) (names path.now) (client_of caller.now) bytes.now) (F.state fs.old) (locks_in L.locks ls.entry) result (F.state fs.new) (locks_in L.locks ls.entry) }
+    ensures { Heeds (locks_in L.locks ls.entry) (λ r. r)
+        (spec.put_allowed method headers.now (names path.now) caller.now bytes.now)
+        (F.state fs.old) result (F.state fs.new) }
 {
     let found = fs.metadata(path).ok();
     let writing = writing_of(method, headers, found.as_ref())?;
@@ -339,7 +342,9 @@ fn put<F: DavFileSystem, L: DavLockSystem>(
     bytes: &Bytes,
 ) -> DavResult<Reply>
     requires { caller.now.moment ≤ last_moment }
-    ensures { Follows response_of (spec.put method (put_headers_of headers.now) (names path.now) (client_of caller.now) bytes.now) (F.state fs.old) (locks_in L.locks ls.entry) result (F.state fs.new) (locks_in L.locks ls.entry) }
+    ensures { Heeds (locks_in L.locks ls.entry) as_is
+        (spec.put method headers.now (names path.now) caller.now bytes.now)
+        (F.state fs.old) result (F.state fs.new) }
 {
     let (writing, found) = allowed(fs, ls, alloc, method, headers, path, caller, bytes)?;
     let options = put_opening(headers, writing)?;
@@ -366,7 +371,9 @@ fn put_body<F: DavFileSystem, L: DavLockSystem>(
     body: &Body,
 ) -> DavResult<Reply>
     requires { caller.now.moment ≤ last_moment }
-    ensures { Follows response_of (spec.put_body request.now.method (put_headers_of headers.now) (names request.now.path) (client_of caller.now) (spec.bytes_of_body body.now)) (F.state fs.old) (locks_in L.locks ls.entry) result (F.state fs.new) (locks_in L.locks ls.entry) }
+    ensures { Heeds (locks_in L.locks ls.entry) as_is
+        (spec.put_body request.now.method headers.now (names request.now.path) caller.now (spec.bytes_of_body body.now))
+        (F.state fs.old) result (F.state fs.new) }
 {
     let path = &request.path;
     match body {
@@ -405,17 +412,14 @@ impl<'a, 'b, 'c, F: DavFileSystem, L: DavLockSystem> DavInner<'a, 'b, 'c, F, L> 
         body: &Body,
     ) -> DavResult<Reply>
         requires { self.old.caller.now.moment ≤ last_moment }
-        ensures same_fs { self.new.fs.ghost_name ≡ self.old.fs.ghost_name }
-        ensures same_ls { self.new.ls.ghost_name ≡ self.old.ls.ghost_name }
-        ensures same_allow { self.new.allow ≡ self.old.allow }
-        ensures same_caller { self.new.caller ≡ self.old.caller }
-        ensures same_locks { option_map L.locks self.new.ls.now ≡ option_map L.locks self.old.ls.now }
-        ensures serves { Serves (spec.IsPut request.now.method request.now.headers request.now.path body.now (client_of self.old.caller.now)) (F.state self.old.fs.now) (option_map L.locks self.old.ls.now) result (F.state self.new.fs.now) (option_map L.locks self.new.ls.now) }
+        ensures lent { KeepsLent self.old self.new }
+        ensures serves { ServesFrom (PutOf request.now body.now) self.old result self.new }
     {
         let headers = PutHeaders::decode(alloc, request)?;
+        let backend = &mut *self.backend;
         put_body(
-            self.fs,
-            self.ls.as_ref(),
+            &mut backend.fs,
+            backend.ls.as_ref(),
             alloc,
             request,
             &headers,

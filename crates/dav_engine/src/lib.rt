@@ -15,6 +15,6 @@ mod put_headers;
 pub mod reply;
 pub mod request;
 
-pub use davinner::{Caller, DavInner};
+pub use davinner::{Backend, Caller, DavInner};
 pub use reply::{Reply, ReplyBody};
 pub use request::{Body, DavRequest};

@@ -6,7 +6,6 @@ ghost use Rattle.dav_headers.specs.Length.{IsContentLength};
 ghost use Rattle.dav_headers.specs.UpdateRange.{IsUpdateRange};
 ghost use Rattle.dav_engine.specs.Headers.{Decodes, text_in};
 ghost use Rattle.dav_engine.specs.Put as spec;
-ghost use Rattle.dav_engine.specs.PutView.{put_headers_of};
 
 #[cfg(test)]
 mod tests;
@@ -18,6 +17,7 @@ use dav_core::errors::NoMemory;
 use dav_headers::{ContentLength, ContentRange, ContentType, HeaderError, XUpdateRange};
 use http_header::{HeaderMap, HeaderName, HeaderValue};
 use std::alloc::Global;
+use std::marker::Model;
 
 /// The part of a file that Content-Range names.
 #[derive(Clone, Copy)]
@@ -41,6 +41,16 @@ pub struct PutHeaders {
     pub checksum: Option<String>,
 }
 
+impl Model for PutHeaders {
+    ghost use Rattle.dav_engine.specs.Put as said;
+
+    ghost Value = { said.PutHeaders };
+
+    ghost use Rattle.dav_engine.specs.PutView.{put_headers_of};
+
+    ghost view = { put_headers_of };
+}
+
 /// Where the bytes go, and how many are announced.
 #[derive(Clone, Copy)]
 pub struct Writing {
@@ -54,7 +64,8 @@ pub struct Writing {
 
 // The length that Content-Length announces.
 fn content_length(alloc: Global, headers: &HeaderMap) -> Result<Option<u64>, NoMemory>
-    ensures { IfOk result (λ length. Decodes IsContentLength (get_all headers.now (codes "content-length")) length) }
+    ensures { IfOk result (λ length.
+        Decodes IsContentLength (get_all headers.now (codes "content-length")) length) }
 {
     let values = values_of(alloc, headers, HeaderName::from_static("content-length"))?;
     decoded(alloc, &values)
@@ -62,7 +73,8 @@ fn content_length(alloc: Global, headers: &HeaderMap) -> Result<Option<u64>, NoM
 
 // The length that X-Expected-Entity-Length announces.
 fn expected_length(alloc: Global, headers: &HeaderMap) -> Result<Option<u64>, NoMemory>
-    ensures { IfOk result (λ length. Decodes spec.IsExpectedLength (get_all headers.now (codes "x-expected-entity-length")) length) }
+    ensures { IfOk result (λ length.
+        Decodes spec.IsExpectedLength (get_all headers.now (codes "x-expected-entity-length")) length) }
 {
     let values = values_of(
         alloc,
@@ -97,7 +109,8 @@ fn announced_length(alloc: Global, headers: &HeaderMap) -> Result<Option<u64>, N
 
 // What Content-Range says.
 fn bounds_in(alloc: Global, headers: &HeaderMap) -> Result<Bounds, NoMemory>
-    ensures { IfOk result (λ bounds. spec.TellsBounds (get_all headers.now (codes "content-range")) bounds) }
+    ensures { IfOk result (λ bounds.
+        spec.TellsBounds (get_all headers.now (codes "content-range")) bounds) }
 {
     let values = values_of(alloc, headers, HeaderName::from_static("content-range"))?;
     if values.is_empty() {
@@ -121,7 +134,8 @@ fn bounds_of(range: &ContentRange) -> Bounds
 
 // Whether the body is a partial update.
 fn is_partial_update(alloc: Global, headers: &HeaderMap) -> Result<bool, NoMemory>
-    ensures { IfOk result (λ it. it ≡ spec.is_partial_update (get_all headers.now (codes "content-type"))) }
+    ensures { IfOk result (λ it.
+        it ≡ spec.is_partial_update (get_all headers.now (codes "content-type"))) }
 {
     let values = values_of(alloc, headers, HeaderName::from_static("content-type"))?;
     match ContentType::decode(alloc, &values) {
@@ -133,7 +147,8 @@ fn is_partial_update(alloc: Global, headers: &HeaderMap) -> Result<bool, NoMemor
 
 // The bytes that a partial update replaces.
 fn update_in(alloc: Global, headers: &HeaderMap) -> Result<Option<XUpdateRange>, NoMemory>
-    ensures { IfOk result (λ range. Decodes IsUpdateRange (get_all headers.now (codes "x-update-range")) range) }
+    ensures { IfOk result (λ range.
+        Decodes IsUpdateRange (get_all headers.now (codes "x-update-range")) range) }
 {
     let values = values_of(alloc, headers, HeaderName::from_static("x-update-range"))?;
     match XUpdateRange::decode(alloc, &values) {
@@ -154,7 +169,8 @@ fn text_of(value: &HeaderValue) -> Option<&str>
 
 // The checksum that comes with a body, where it is text.
 fn checksum_in(alloc: Global, headers: &HeaderMap) -> Result<Option<String>, NoMemory>
-    ensures { IfOk result (λ checksum. option_map string_bytes checksum ≡ spec.checksum_in headers.now) }
+    ensures { IfOk result (λ checksum.
+        option_map string_bytes checksum ≡ spec.checksum_in headers.now) }
 {
     let Some(value) = headers.get(HeaderName::from_static("oc-checksum")) else {
         return Ok(None);
@@ -169,7 +185,7 @@ impl PutHeaders {
     /// What the headers of a request say of its path; a header that doesn't decode counts as absent, except for
     /// Content-Range.
     pub fn decode(alloc: Global, request: &DavRequest) -> Result<PutHeaders, NoMemory>
-        ensures { IfOk result (λ h. spec.ArePutHeaders request.now.headers request.now.path (put_headers_of h)) }
+        ensures { IfOk result (λ h. spec.ArePutHeaders request.now.headers request.now.path h) }
     {
         let headers = &request.headers;
         Ok(PutHeaders {

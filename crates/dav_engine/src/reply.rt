@@ -6,7 +6,7 @@ ghost use Rattle.dav_core.specs.Metadata.{tag_of};
 ghost use Rattle.dav_core.specs.Path.{full_bytes};
 ghost use Rattle.dav_core.specs.UrlText.{path_text};
 ghost use Rattle.dav_core.specs.World.{last_moment};
-ghost use Rattle.dav_engine.specs.Response.{response_of, error_reply, with_tag, with_validators};
+ghost use Rattle.dav_engine.specs.Response.{error_reply, with_tag, with_validators};
 
 #[cfg(test)]
 mod tests;
@@ -20,6 +20,7 @@ use dav_core::fs::DavMetaData;
 use http::StatusCode;
 use http_header::{HeaderMap, HeaderName, HeaderValue};
 use std::alloc::Global;
+use std::marker::Model;
 
 /// The body of a reply.
 #[derive(Drop)]
@@ -43,7 +44,23 @@ pub struct Reply {
     pub body: ReplyBody,
 }
 
-/// Sets a header, in place of the values that it had.
+impl Model for Reply {
+    ghost use Rattle.dav_engine.specs.Response.{Response, headers_in};
+    ghost use Rattle.dav_engine.specs.StateCode.{coded_response};
+    ghost use Rattle.dav_engine.specs.contracts.reply.ReplyBody as reply_body;
+
+    ghost Value = { Response };
+
+    ghost coded = { coded_response reply_body.the_row.coded };
+
+    ghost view = { λ r. record {
+      status = r.status;
+      headers = headers_in r.headers;
+      body = r.body;
+    } };
+}
+
+/// Sets a header, in the place of those that it had.
 pub fn set_header(
     headers: &mut HeaderMap,
     name: HeaderName,
@@ -93,7 +110,8 @@ pub fn set_validators(
 
 /// Sets `content-length`: how many bytes the body has (RFC 9110, section 8.6).
 pub fn set_length(alloc: Global, headers: &mut HeaderMap, len: u64) -> Result<(), NoMemory>
-    ensures { OnOk result (headers.new ≡ insert headers.old (codes "content-length") (plain_value (decimal len))) }
+    ensures { OnOk result (headers.new
+        ≡ insert headers.old (codes "content-length") (plain_value (decimal len))) }
 {
     let value = HeaderValue::from_u64(alloc, len)?;
     set_header(headers, HeaderName::from_static("content-length"), value)
@@ -101,7 +119,8 @@ pub fn set_length(alloc: Global, headers: &mut HeaderMap, len: u64) -> Result<()
 
 /// Sets `content-location`: the text of the path in a URL, with the prefix (RFC 9110, section 8.7).
 pub fn set_location(alloc: Global, headers: &mut HeaderMap, path: &DavPath) -> Result<(), NoMemory>
-    ensures { OnOk result (headers.new ≡ insert headers.old (codes "content-location") (plain_value (path_text (full_bytes path.now)))) }
+    ensures { OnOk result (headers.new
+        ≡ insert headers.old (codes "content-location") (plain_value (path_text (full_bytes path.now)))) }
 {
     let text = path.with_prefix().as_url_string(alloc)?;
     let value = HeaderValue::from_string(text).map_err(|_| NoMemory)?;
@@ -112,7 +131,7 @@ impl Reply {
     /// The reply to a request that an error ended: its status without a body, with `content-length: 0`, and with
     /// `connection: close` exactly where the error closes the connection (RFC 9110, sections 7.6.1 and 8.6).
     pub fn of_error(alloc: Global, error: DavError) -> Result<Reply, NoMemory>
-        ensures { IfOk result (λ r. response_of r ≡ error_reply error) }
+        ensures { IfOk result (λ r. r ≡ error_reply error) }
     {
         let mut headers = HeaderMap::new(alloc);
         if error.must_close() {

@@ -11,10 +11,10 @@ use Rattle.dav_core.specs.Handle.{Handle, Opening}
 use Rattle.dav_core.specs.Path.{Path}
 use Rattle.dav_engine.specs.declared.reply.Reply.{Reply}
 use Rattle.dav_engine.specs.Conditions.{Conditions, if_match}
-use Rattle.dav_engine.specs.Follows.{Follows, viewed, or_memory}
+use Rattle.dav_engine.specs.Follows.{as_is, Follows, viewed, or_memory}
 use Rattle.dav_engine.specs.Method.{Method, gives, fails}
 use Rattle.dav_engine.specs.Plan.{Locks}
-use Rattle.dav_engine.specs.Response.{Response, response_of}
+use Rattle.dav_engine.specs.Response.{Response}
 use Rattle.dav_engine.proofs.Following.{follows_ask, follows_done, follows_on, follows_then, follows_err}
 use Rattle.dav_server.specs.Get.{get, show, show_or_tell, judged, not_modified}
 
@@ -24,7 +24,7 @@ opened_as {p} {now = now} {old} {new} {answer} same one = subst (λ o. Asks (Ope
 
 -- any method but HEAD answers with the file's bytes
 pub shows : {s t : StoreState} {ls : Locks} {r : Result Reply DavError} (p : Path) (now : ℕ) (found : DavMetaData) (m : DavMethod) → m ≢ Head
-    → Follows response_of (show p now found) s ls r t ls → Follows response_of (show_or_tell m p now found) s ls r t ls
+    → Follows as_is (show p now found) s ls r t ls → Follows as_is (show_or_tell m p now found) s ls r t ls
 shows p now found Head other done = absurd (other refl)
 shows p now found Get other done = done
 shows p now found Put other done = done
@@ -44,15 +44,15 @@ shows p now found MkAddressbook other done = done
 
 -- the client has the file already
 pub has_it : (found : DavMetaData) (next : Method Response) (status : ℕ) {s : StoreState} {ls : Locks} {r : Result Reply DavError}
-    → (status == 304) ≡ true → viewed response_of r ≡ Ok (not_modified found) → Follows response_of (judged (Some status) found next) s ls r s ls
+    → (status == 304) ≡ true → viewed as_is r ≡ Ok (not_modified found) → Follows as_is (judged (Some status) found next) s ls r s ls
 has_it found next status {s} {ls} {r} is same =
-    subst (λ b. Follows response_of (if b then gives (not_modified found) else fails (dav.Status status)) s ls r s ls) (sym is) (follows_done same)
+    subst (λ b. Follows as_is (if b then gives (not_modified found) else fails (dav.Status status)) s ls r s ls) (sym is) (follows_done same)
 
 -- a condition fails
 pub refuses_it : (found : DavMetaData) (next : Method Response) (status : ℕ) {s : StoreState} {ls : Locks}
-    → (status == 304) ≡ false → Follows response_of (judged (Some status) found next) s ls (Err (dav.Status status)) s ls
+    → (status == 304) ≡ false → Follows as_is (judged (Some status) found next) s ls (Err (dav.Status status)) s ls
 refuses_it found next status {s} {ls} is =
-    subst (λ b. Follows response_of (if b then gives (not_modified found) else fails (dav.Status status)) s ls (Err (dav.Status status)) s ls) (sym is) (follows_done refl)
+    subst (λ b. Follows as_is (if b then gives (not_modified found) else fails (dav.Status status)) s ls (Err (dav.Status status)) s ls) (sym is) (follows_done refl)
 
 -- what follows the conditions
 abbrev after : DavMethod → Path → ℕ → DavMetaData → Option ℕ → Method Response
@@ -67,15 +67,15 @@ come {E} m c found {s = s} {t} {ls} is one = subst (λ (x : Result (Option ℕ) 
 pub get_stopped : {E : Type 0} (m : DavMethod) (c : Conditions) (p : Path) (now : ℕ) (found : DavMetaData) (r : Result (Option ℕ) E) (e : E) {old mid new : StoreState} {ls : Locks}
     → Asks (Metadata p) old (Ok found) mid → not found.dir ≡ true → r ≡ Err e
     → Follows (λ (v : Option ℕ). v) (if_match m c (Some found)) mid ls (or_memory r) new ls
-    → Follows response_of (get m c p now) old ls (Err dav.Memory) new ls
+    → Follows as_is (get m c p now) old ls (Err dav.Memory) new ls
 get_stopped m c p now found r e asks file was one = follows_ask asks (follows_on _ _ _ file (follows_err (after m p now found) dav.Memory (come m c found was one)))
 
 -- the conditions were evaluated, and the rest was followed
 pub get_goes : {E : Type 0} (m : DavMethod) (c : Conditions) (p : Path) (now : ℕ) (found : DavMetaData) (r : Result (Option ℕ) E) (verdict told : Option ℕ) {old mid late new : StoreState} {ls : Locks} {end : Result Reply DavError}
     → Asks (Metadata p) old (Ok found) mid → not found.dir ≡ true → r ≡ Ok verdict → verdict ≡ told
     → Follows (λ (v : Option ℕ). v) (if_match m c (Some found)) mid ls (or_memory r) late ls
-    → Follows response_of (judged told found (show_or_tell m p now found)) late ls end new ls
-    → Follows response_of (get m c p now) old ls end new ls
+    → Follows as_is (judged told found (show_or_tell m p now found)) late ls end new ls
+    → Follows as_is (get m c p now) old ls end new ls
 get_goes m c p now found r verdict told {late = late} {new} {ls} {end} asks file was is one rest =
     follows_ask asks (follows_on _ _ _ file (follows_then (after m p now found) (come m c found was one)
-    (subst (λ (v : Option ℕ). Follows response_of (after m p now found v) late ls end new ls) (sym is) rest)))
+    (subst (λ (v : Option ℕ). Follows as_is (after m p now found v) late ls end new ls) (sym is) rest)))

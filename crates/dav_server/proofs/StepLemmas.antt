@@ -1,16 +1,12 @@
 -- What the handler does is a step of the machine.
-use Rattle.std.proofs.Common.{◌≡◌, ℕ, List, OnErr, Bor, Option, Result, Ok, Err, refl, sym, subst, ap, ◌∙◌}
-use Rattle.std.specs.Option.{option_map, option_copied}
-use Rattle.dav_core.specs.Locks.{Lock}
-use Rattle.dav_engine.specs.ConditionView.{locks_in}
+use Rattle.std.proofs.Common.{◌≡◌, ℕ, List, OnErr, Result, Ok, Err, refl, sym, subst, ap, ◌∙◌}
 use Rattle.dav_core.specs.declared.errors.DavError.{DavError}
 use Rattle.dav_core.specs.declared.errors.DavError.TheVariants as dav
 use Rattle.dav_core.specs.Asking.{StoreState, Asks}
-use Rattle.dav_engine.specs.declared.reply.Reply.{Reply}
 use Rattle.dav_engine.specs.Follows.{followed, gave_up, Serves, served, not_begun}
 use Rattle.dav_engine.specs.Method.{Method, fails}
-use Rattle.dav_engine.specs.Plan.{Plan, Locks, Ran, ran_done, ran_ask, ran_look, ran_keep, Cut, cut_refused, cut_ask, cut_look, cut_keep, refused_done}
-use Rattle.dav_engine.specs.Response.{Response, response_of, error_reply}
+use Rattle.dav_engine.specs.Plan.{Plan, Locks, ServerState, Ran, ran_done, ran_ask, ran_look, ran_keep, Cut, cut_refused, cut_ask, cut_look, cut_keep, refused_done}
+use Rattle.dav_engine.specs.Response.{Response, error_reply}
 use Rattle.dav_engine.proofs.Following.{follows_done}
 use Rattle.dav_core.specs.declared.method.DavMethod.{DavMethod}
 use Rattle.dav_core.specs.Path.{PathText}
@@ -25,15 +21,16 @@ use Rattle.dav_server.specs.Headers.{headers_of}
 use Rattle.dav_server.specs.Target.{TargetNames}
 use Rattle.dav_server.specs.Method.{GivesServed}
 use Rattle.dav_server.specs.TargetCode.{GivesPath}
+use Rattle.dav_server.specs.Server.{Server}
 use Rattle.dav_server.specs.Machine.{client, PlanOf, MeansOf, method, body_for, taken_by, Asked, Settings, Means, Steps, steps, StepCut, untouched, cut}
 
 -- what is served as one kind of plan is served as another that has each of its plans
-pub serves_as : {K J : Method Response → Type 0} {old new : StoreState} {ls ms : Locks} {r : Result Reply DavError} → ((plan : Method Response) → K plan → J plan) → Serves K old ls r new ms → Serves J old ls r new ms
+pub serves_as : {K J : Method Response → Type 0} {old new : ServerState} {r : Result Response DavError} → ((plan : Method Response) → K plan → J plan) → Serves K old r new → Serves J old r new
 serves_as f (served plan k done) = served plan (f plan k) done
 serves_as f (not_begun is same kept) = not_begun is same kept
 
 -- an error before anything is asked
-pub serves_error : {K : Method Response → Type 0} {s : StoreState} {ls : Locks} (e : DavError) → K (fails e) → Serves K s ls (Err e) s ls
+pub serves_error : {K : Method Response → Type 0} {s : ServerState} (e : DavError) → K (fails e) → Serves K s (Err e) s
 serves_error e k = served (fails e) k (follows_done refl)
 
 -- a plan that was followed to its end was also begun
@@ -43,22 +40,24 @@ cut_of_ran (ran_ask one rest) = cut_ask one (cut_of_ran rest)
 cut_of_ran (ran_look rest) = cut_look (cut_of_ran rest)
 cut_of_ran (ran_keep rest) = cut_keep (cut_of_ran rest)
 
--- whatever the reply, no more was done than the first calls of the plan
-pub served_cut : {s : Settings} {x : Asked} {old new : StoreState} {ls ms : Locks} {r : Result Reply DavError} → Serves (Means s x) old ls r new ms → StepCut s x old ls new ms
+-- whatever was answered, no more was done than a front of the plan
+pub served_cut : {s : Settings} {x : Asked} {old new : ServerState} {r : Result Response DavError} → Serves (Means s x) old r new → StepCut s x old.store old.locks new.store new.locks
 served_cut (served plan means (followed ran)) = cut plan means (cut_of_ran ran)
 served_cut (served plan means (gave_up is front)) = cut plan means front
-served_cut {s} {x} {old} {ls = ls} {ms = ms} (not_begun is same kept) = subst (λ m. StepCut s x old ls m ms) (sym same) (subst (λ k. StepCut s x old ls old k) (sym kept) untouched)
+served_cut {s} {x} {old} {new} (not_begun is same kept) =
+    subst (λ m. StepCut s x old.store old.locks m new.locks) (sym same) (subst (λ k. StepCut s x old.store old.locks old.store k) (sym kept) untouched)
 
 -- a reply is that of a step
-pub served_ok : {s : Settings} {x : Asked} {old new : StoreState} {ls ms : Locks} {reply : Reply} → Serves (Means s x) old ls (Ok reply) new ms → Steps s x old ls (response_of reply) new ms
+pub served_ok : {s : Settings} {x : Asked} {old new : ServerState} {reply : Response} → Serves (Means s x) old (Ok reply) new → Steps s x old.store old.locks reply new.store new.locks
 served_ok (served plan means (followed ran)) = steps plan _ means ran
 served_ok (served plan means (gave_up is front)) = absurd (cc)
 served_ok (not_begun is same kept) = absurd (cc)
 
--- so is the reply to an error, other than out of memory
-pub served_err : {s : Settings} {x : Asked} {old new : StoreState} {ls ms : Locks} {e : DavError} {response : Response} → Serves (Means s x) old ls (Err e) new ms
-    → response ≡ error_reply e → (e ≡ dav.Memory → ⊥) → Steps s x old ls response new ms
-served_err {s} {x} {old} {new} {ls} {ms} {e} (served plan means (followed ran)) is other = subst (λ r. Steps s x old ls r new ms) (sym is) (steps plan (Err e) means ran)
+-- so is the reply to an error, but for want of memory
+pub served_err : {s : Settings} {x : Asked} {old new : ServerState} {e : DavError} {response : Response} → Serves (Means s x) old (Err e) new
+    → response ≡ error_reply e → (e ≡ dav.Memory → ⊥) → Steps s x old.store old.locks response new.store new.locks
+served_err {s} {x} {old} {new} {e} (served plan means (followed ran)) is other =
+    subst (λ r. Steps s x old.store old.locks r new.store new.locks) (sym is) (steps plan (Err e) means ran)
 served_err (served plan means (gave_up is' front)) is other = absurd (other (cc))
 served_err (not_begun is' same kept) is other = absurd (other (cc))
 
@@ -78,22 +77,28 @@ plan_with {p = p} {body} {who} {m} {plan} same is = subst (λ h. PlanOf h p body
 pub path_at : {prefix given target text : List ℕ} (m : DavMethod) (result : Result PathText DavError) → given ≡ prefix → text ≡ target → GivesPath given m text result → GivesPath prefix m target result
 path_at {prefix} {text = text} m result one two is = subst (λ t. GivesPath prefix m t result) two (subst (λ x. GivesPath x m text result) one is)
 
--- a body, by which one the method is handed
-pub handed_at : {s : Settings} {x : Asked} {r : Request} {m : DavMethod} {p : PathText} (g k : Given) {old new : StoreState} {ls ms : Locks} {result : Result Reply DavError}
-    → Has s.allowed m → TargetNames s.prefix m r.target (Ok p) → body_for (taken_by m) x.body ≡ Ok (handed g x.body) → g ≡ k
-    → Serves (PlanOf (headers_of r.fields) p (handed k x.body) (client x) m) old ls result new ms → Serves (MeansOf s x r m) old ls result new ms
-handed_at {x = x} {p = p} g k has named is same done = serves_as (λ plan one. method p (handed k x.body) has named (is ∙ ap (λ h. Ok (handed h x.body)) same) one) done
+-- a body, by which one is handed on
+pub handed_at : {s : Settings} {x : Asked} {r : Request} {m : DavMethod} {p : PathText} (g k : Given) (b : Body) {old new : ServerState} {result : Result Response DavError}
+    → Has s.allowed m → TargetNames s.prefix m r.target (Ok p) → b ≡ x.body → body_for (taken_by m) b ≡ Ok (handed g b) → g ≡ k
+    → Serves (PlanOf (headers_of r.fields) p (handed k b) (client x) m) old result new → Serves (MeansOf s x r m) old result new
+handed_at {x = x} {r} {m} {p} g k b has named here is same done =
+    serves_as (λ plan one. method p (handed k b) has named (subst (λ c. body_for (taken_by m) c ≡ Ok (handed k b)) here (is ∙ ap (λ h. Ok (handed h b)) same)) one) done
 
 -- what holds anyway holds where there is an error
 pub any_err : {A E P : Type 0} (r : Result A E) → P → OnErr r P
 any_err (Ok a) p = tt
 any_err (Err e) p = p
 
--- the same, by equal kinds of plans
-pub serves_by : {K J : Method Response → Type 0} {old new : StoreState} {ls ms : Locks} {r : Result Reply DavError} → K ≡ J → Serves K old ls r new ms → Serves J old ls r new ms
-serves_by {old = old} {new} {ls} {ms} {r} same done = subst (λ (k : Method Response → Type 0). Serves k old ls r new ms) same done
+-- a kind of plan, by what its method is
+pub serves_by : {K J : Method Response → Type 0} {old new : ServerState} {r : Result Response DavError} → K ≡ J → Serves K old r new → Serves J old r new
+serves_by {old = old} {new} {r} same done = subst (λ (k : Method Response → Type 0). Serves k old r new) same done
 
--- what was answered with borrowed locks is answered with the locks themselves
-pub serves_held : {L : Type 0} {K : Method Response → Type 0} (locks : L → List Lock) (lent : Option (Bor L)) (held : Option L) {old new : StoreState} {r : Result Reply DavError}
-    → option_copied lent ≡ held → Serves K old (locks_in locks lent) r new (locks_in locks lent) → Serves K old (option_map locks held) r new (option_map locks held)
-serves_held {K = K} locks lent held {old} {new} {r} same done = subst (λ l. Serves K old (option_map locks l) r new (option_map locks l)) same done
+-- what was served from what a server holds, by the server
+pub serves_held : {K : Method Response → Type 0} {one other : Server} {new : ServerState} {r : Result Response DavError}
+    → one ≡ other → Serves K one.state r new → Serves K other.state r new
+serves_held {K} {new = new} {r} same done = subst (λ s. Serves K s.state r new) same done
+
+-- what was answered, by the request
+pub serves_asked : (K : Asked → Method Response → Type 0) {one other : Asked} {old new : ServerState} {r : Result Response DavError}
+    → one ≡ other → Serves (K one) old r new → Serves (K other) old r new
+serves_asked K {old = old} {new} {r} same done = subst (λ x. Serves (K x) old r new) same done

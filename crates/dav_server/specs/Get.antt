@@ -9,6 +9,7 @@ use Rattle.dav_core.specs.Handle.{Opening}
 use Rattle.dav_core.specs.Metadata.{no_opening}
 use Rattle.dav_core.specs.Path.{Path, PathText, names}
 use Rattle.dav_engine.specs.declared.reply.ReplyBody.TheVariants as reply
+use Rattle.dav_engine.specs.declared.request.DavRequest.{DavRequest}
 use Rattle.dav_engine.specs.Conditions.{Conditions, AreConditions, if_match}
 use Rattle.dav_engine.specs.Headers.{Headers}
 use Rattle.dav_engine.specs.Method.{Method, ◌>>=◌, require, ask_for, gives, fails}
@@ -62,3 +63,7 @@ get m c p now = do
 -- The plan is that of a GET or HEAD with these headers, of a path, at a moment.
 pub data IsGet (m : DavMethod) (headers : Headers) (p : PathText) (now : ℕ) : Method Response → Type 0 where
   is_get : (c : Conditions) → AreConditions headers p.prefix (names p) c → IsGet m headers p now (get m c (names p) now)
+
+-- the plans of a GET or HEAD at a moment
+abbrev pub GetOf : DavRequest → ℕ → Method Response → Type 0
+GetOf request now = IsGet request.method request.headers request.path now

@@ -13,5 +13,7 @@ pub mod Machine
 pub mod Run
 pub mod Setup
 pub mod GivenBody
-pub mod Turns
 pub mod TagLaws
+pub mod Server
+pub mod ServerCode
+pub mod ExchangeView

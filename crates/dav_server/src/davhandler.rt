@@ -1,19 +1,19 @@
 //! The handler: from a request to its reply (RFC 9110; RFC 4918).
-ghost use Rattle.std.specs.Prelude.{◌≡◌, ◌≢◌, ◌≤◌, ◌↔◌, ◌⊎◌, [], IsTrue, Ok, IfOk, OnErr};
+ghost use Rattle.std.specs.Prelude.{◌≡◌, ◌≢◌, ◌≤◌, ◌↔◌, ◌⊎◌, [], IsTrue, Ok, IfOk, OnOk, OnErr};
 ghost use Rattle.dav_core.specs.Method.{Has};
 ghost use Rattle.std.specs.Option.{option_map, option_copied};
 ghost use Rattle.dav_core.specs.declared.errors.DavError.TheVariants.{Memory};
 ghost use Rattle.dav_engine.specs.Follows.{Serves};
 ghost use Rattle.dav_core.specs.World.{last_moment};
-ghost use Rattle.dav_engine.specs.Client.{client_of};
-ghost use Rattle.dav_engine.specs.Mkcol.{IsMkcol};
-ghost use Rattle.dav_engine.specs.Put.{IsPut};
-ghost use Rattle.dav_server.specs.Get.{IsGet};
-ghost use Rattle.dav_engine.specs.Response.{response_of, error_reply};
-ghost use Rattle.dav_server.specs.Machine.{client, PlanOf, Means, MeansOf, Steps, StepCut};
+ghost use Rattle.dav_engine.specs.AtWork.{MkcolOf, PutOf};
+ghost use Rattle.dav_engine.specs.ConditionView.{locks_in};
+ghost use Rattle.dav_server.specs.Get.{GetOf};
+ghost use Rattle.dav_engine.specs.Response.{error_reply};
+ghost use Rattle.dav_server.specs.Machine.{client, PlanOf, Means, MeansOf};
+ghost use Rattle.dav_server.specs.Server.{Answers, StopsIn};
 ghost use Rattle.dav_server.specs.Headers.{headers_of};
 ghost use Rattle.dav_core.specs.Target.{Reads};
-ghost use Rattle.dav_server.specs.Setup.{IsPrefix, settings, asked};
+ghost use Rattle.dav_server.specs.Setup.{IsPrefix};
 ghost use Rattle.dav_server.specs.Target.{BeginsWithSlash};
 ghost use Rattle.std.specs.Result.{IsErrOf};
 
@@ -33,11 +33,12 @@ use dav_core::errors::{DavError, DavResult, NoMemory, ParseError};
 use dav_core::fs::DavFileSystem;
 use dav_core::ls::DavLockSystem;
 use dav_core::method::{DavMethod, DavMethodSet};
-use dav_engine::{Body, Caller, DavInner, DavRequest, Reply};
+use dav_engine::{Backend, Body, Caller, DavInner, DavRequest, Reply};
 use http::StatusCode;
 use std::alloc::Global;
 use std::error::Error;
 use std::fmt;
+use std::marker::Model;
 
 /// Why a handler isn't made.
 #[derive(Clone, Copy, Debug, PartialEq, Eq)]
@@ -78,11 +79,26 @@ impl From<NoMemory> for HandlerError {
 
 /// A server of files: a store, and locks where it has a lock system.
 #[derive(Drop)]
-pub struct DavHandler<F, L> {
+pub struct DavHandler<F: DavFileSystem, L: DavLockSystem> {
     prefix: String,
     allowed: DavMethodSet,
-    pub(crate) fs: F,
-    ls: Option<L>,
+    pub(crate) backend: Backend<F, L>,
+}
+
+impl<F: DavFileSystem, L: DavLockSystem> Model for DavHandler<F, L> {
+    ghost use Rattle.std.specs.Prelude.{string_bytes};
+    ghost use Rattle.dav_core.specs.contracts.errors.FsError as fs_error;
+    ghost use Rattle.dav_server.specs.Server.{Server};
+    ghost use Rattle.dav_server.specs.ServerCode.{coded_server};
+
+    ghost Value = { Server };
+
+    ghost coded = { coded_server fs_error.the_row.coded };
+
+    ghost view = { λ h. record {
+      settings = record { prefix = string_bytes h.prefix; allowed = h.allowed };
+      state = h.backend;
+    } };
 }
 
 // Whether the bytes are the same.
@@ -131,9 +147,18 @@ impl<F: DavFileSystem + Drop, L: DavLockSystem + Drop> DavHandler<F, L> {
         fs: F,
         ls: Option<L>,
     ) -> Result<DavHandler<F, L>, HandlerError>
-        ensures ok { IfOk result (λ h. IsPrefix prefix.now × (settings h ≡ record { prefix = prefix.now; allowed = allowed }) × (h.fs ≡ fs) × (h.ls ≡ ls)) }
+        ensures prefix { OnOk result (IsPrefix prefix.now) }
+        ensures settings { IfOk result (λ h. h.settings ≡ record {
+          prefix = prefix.now;
+          allowed = allowed;
+        }) }
+        ensures state { IfOk result (λ h. h.state ≡ record {
+          store = F.state fs;
+          locks = option_map L.locks ls;
+        }) }
         ensures bad { IsErrOf result HandlerError.BadPrefix → ¬ IsPrefix prefix.now }
-        ensures memory { IsErrOf result HandlerError.Memory → (prefix.now ≡ []) ⊎ BeginsWithSlash prefix.now }
+        ensures memory { IsErrOf result HandlerError.Memory
+            → (prefix.now ≡ []) ⊎ BeginsWithSlash prefix.now }
     {
         if !is_prefix(alloc, prefix)? {
             return Err(HandlerError::BadPrefix);
@@ -142,8 +167,7 @@ impl<F: DavFileSystem + Drop, L: DavLockSystem + Drop> DavHandler<F, L> {
         Ok(DavHandler {
             prefix,
             allowed,
-            fs,
-            ls,
+            backend: Backend { fs, ls },
         })
     }
 }
@@ -160,7 +184,7 @@ fn token_of(token: &Option<GrantToken>) -> Option<&str>
 
 // Who makes a request, when, and the token for a lock that it creates.
 fn caller_of<'c>(exchange: &'c Exchange<'_>) -> Caller<'c>
-    ensures client { client_of result ≡ client (asked exchange.now) }
+    ensures client { result ≡ client exchange.now }
     ensures moment { result.moment ≤ last_moment }
 {
     Caller {
@@ -178,13 +202,13 @@ fn put<F: DavFileSystem, L: DavLockSystem>(
     body: &Body,
     exchange: &Exchange<'_>,
 ) -> DavResult<Reply>
-    ensures same { settings handler.new ≡ settings handler.old }
-    ensures serves { Serves (IsPut request.now.method request.now.headers request.now.path body.now (client (asked exchange.now))) (F.state handler.old.fs) (option_map L.locks handler.old.ls) result (F.state handler.new.fs) (option_map L.locks handler.new.ls) }
+    ensures same { handler.new.settings ≡ handler.old.settings }
+    ensures serves { Serves (PutOf request.now body.now (client exchange.now))
+        handler.old.state result handler.new.state }
 {
     let caller = caller_of(exchange);
     let mut inner = DavInner {
-        fs: &mut handler.fs,
-        ls: &mut handler.ls,
+        backend: &mut handler.backend,
         allow: handler.allowed,
         caller: &caller,
     };
@@ -199,13 +223,13 @@ fn mkcol<F: DavFileSystem, L: DavLockSystem>(
     body: &Body,
     exchange: &Exchange<'_>,
 ) -> DavResult<Reply>
-    ensures same { settings handler.new ≡ settings handler.old }
-    ensures serves { Serves (IsMkcol request.now.headers request.now.path (client (asked exchange.now))) (F.state handler.old.fs) (option_map L.locks handler.old.ls) result (F.state handler.new.fs) (option_map L.locks handler.new.ls) }
+    ensures same { handler.new.settings ≡ handler.old.settings }
+    ensures serves { Serves (MkcolOf request.now (client exchange.now))
+        handler.old.state result handler.new.state }
 {
     let caller = caller_of(exchange);
     let mut inner = DavInner {
-        fs: &mut handler.fs,
-        ls: &mut handler.ls,
+        backend: &mut handler.backend,
         allow: handler.allowed,
         caller: &caller,
     };
@@ -219,11 +243,12 @@ fn show<F: DavFileSystem, L: DavLockSystem>(
     request: &DavRequest,
     exchange: &Exchange<'_>,
 ) -> DavResult<Reply>
-    ensures same { settings handler.new ≡ settings handler.old }
-    ensures serves { Serves (IsGet request.now.method request.now.headers request.now.path exchange.now.moment.seconds) (F.state handler.old.fs) (option_map L.locks handler.old.ls) result (F.state handler.new.fs) (option_map L.locks handler.new.ls) }
+    ensures same { handler.new.settings ≡ handler.old.settings }
+    ensures serves { Serves (GetOf request.now exchange.now.moment)
+        handler.old.state result handler.new.state }
 {
     let now = exchange.moment.seconds;
-    handle_gethead(&mut handler.fs, handler.ls.as_ref(), alloc, request, now)
+    handle_gethead(&mut handler.backend, alloc, request, now)
 }
 
 // Hands a request to its method.
@@ -234,8 +259,9 @@ fn serve<F: DavFileSystem, L: DavLockSystem>(
     body: &Body,
     exchange: &Exchange<'_>,
 ) -> DavResult<Reply>
-    ensures same { settings handler.new ≡ settings handler.old }
-    ensures serves { Serves (PlanOf request.now.headers request.now.path body.now (client (asked exchange.now)) request.now.method) (F.state handler.old.fs) (option_map L.locks handler.old.ls) result (F.state handler.new.fs) (option_map L.locks handler.new.ls) }
+    ensures same { handler.new.settings ≡ handler.old.settings }
+    ensures serves { Serves (PlanOf request.now.headers request.now.path body.now
+        (client exchange.now) request.now.method) handler.old.state result handler.new.state }
 {
     match request.method {
         DavMethod::Get => show(handler, alloc, request, exchange),
@@ -257,8 +283,9 @@ fn answer_with<F: DavFileSystem, L: DavLockSystem>(
     body: &Body,
     exchange: &Exchange<'_>,
 ) -> DavResult<Reply>
-    ensures same { settings handler.new ≡ settings handler.old }
-    ensures serves { Serves (PlanOf (headers_of view.now.fields) path body.now (client (asked exchange.now)) method) (F.state handler.old.fs) (option_map L.locks handler.old.ls) result (F.state handler.new.fs) (option_map L.locks handler.new.ls) }
+    ensures same { handler.new.settings ≡ handler.old.settings }
+    ensures serves { Serves (PlanOf (headers_of view.now.fields) path body.now
+        (client exchange.now) method) handler.old.state result handler.new.state }
 {
     let headers = headers_of(alloc, view)?;
     let request = DavRequest {
@@ -277,8 +304,9 @@ fn answer_method<F: DavFileSystem, L: DavLockSystem>(
     method: DavMethod,
     exchange: &Exchange<'_>,
 ) -> DavResult<Reply>
-    ensures same { settings handler.new ≡ settings handler.old }
-    ensures serves { Serves (MeansOf (settings handler.old) (asked exchange.now) view.now method) (F.state handler.old.fs) (option_map L.locks handler.old.ls) result (F.state handler.new.fs) (option_map L.locks handler.new.ls) }
+    ensures same { handler.new.settings ≡ handler.old.settings }
+    ensures serves { Serves (MeansOf handler.old.settings exchange.now view.now method)
+        handler.old.state result handler.new.state }
 {
     if !handler.allowed.contains(method) {
         return Err(DavError::StatusClose(StatusCode::METHOD_NOT_ALLOWED));
@@ -309,8 +337,9 @@ fn answer<F: DavFileSystem, L: DavLockSystem>(
     alloc: Global,
     exchange: &Exchange<'_>,
 ) -> DavResult<Reply>
-    ensures same { settings handler.new ≡ settings handler.old }
-    ensures serves { Serves (Means (settings handler.old) (asked exchange.now)) (F.state handler.old.fs) (option_map L.locks handler.old.ls) result (F.state handler.new.fs) (option_map L.locks handler.new.ls) }
+    ensures same { handler.new.settings ≡ handler.old.settings }
+    ensures serves { Serves (Means handler.old.settings exchange.now)
+        handler.old.state result handler.new.state }
 {
     let view = match read_head(exchange.head) {
         Ok(view) => view,
@@ -323,16 +352,18 @@ fn answer<F: DavFileSystem, L: DavLockSystem>(
 impl<F: DavFileSystem, L: DavLockSystem> DavHandler<F, L> {
     /// The store. Allocates nothing.
     pub fn fs(&self) -> &F
-        ensures { result.now ≡ self.now.fs }
+        ensures { F.state result.now ≡ self.now.state.store }
     {
-        &self.fs
+        let backend = &self.backend;
+        &backend.fs
     }
 
     /// The locks, where there is a lock system. Allocates nothing.
     pub fn locks(&self) -> Option<&L>
-        ensures { option_copied result ≡ self.now.ls }
+        ensures { locks_in L.locks result ≡ self.now.state.locks }
     {
-        self.ls.as_ref()
+        let backend = &self.backend;
+        backend.ls.as_ref()
     }
 
     /// Answers a request: the reply, the store and the locks are those of one step of the machine, from the bytes of the
@@ -342,9 +373,9 @@ impl<F: DavFileSystem, L: DavLockSystem> DavHandler<F, L> {
     /// are as before, or as the request leaves them where the store refuses each later call. The handler can still answer
     /// requests.
     pub fn handle(&mut self, alloc: Global, exchange: &Exchange<'_>) -> Result<Reply, NoMemory>
-        ensures same { settings self.new ≡ settings self.old }
-        ensures ok { IfOk result (λ reply. Steps (settings self.old) (asked exchange.now) (F.state self.old.fs) (option_map L.locks self.old.ls) (response_of reply) (F.state self.new.fs) (option_map L.locks self.new.ls)) }
-        ensures err { OnErr result (StepCut (settings self.old) (asked exchange.now) (F.state self.old.fs) (option_map L.locks self.old.ls) (F.state self.new.fs) (option_map L.locks self.new.ls)) }
+        ensures same { self.new.settings ≡ self.old.settings }
+        ensures ok { IfOk result (λ reply. Answers self.old exchange.now reply self.new) }
+        ensures err { OnErr result (StopsIn self.old exchange.now self.new) }
     {
         match answer(self, alloc, exchange) {
             Ok(reply) => Ok(reply),
@@ -355,7 +386,7 @@ impl<F: DavFileSystem, L: DavLockSystem> DavHandler<F, L> {
 
 // The reply to a request that an error ended. Out of memory has none.
 fn refuse(alloc: Global, error: DavError) -> Result<Reply, NoMemory>
-    ensures { IfOk result (λ reply. (response_of reply ≡ error_reply error) × (error ≢ Memory)) }
+    ensures { IfOk result (λ reply. (reply ≡ error_reply error) × (error ≢ Memory)) }
 {
     match error {
         DavError::Memory => Err(NoMemory),

@@ -138,10 +138,23 @@ pub struct Exchange<'a> {
     pub(crate) token: Option<GrantToken>,
 }
 
+impl<'a> Model for Exchange<'a> {
+    ghost use Rattle.dav_engine.specs.contracts.request.Body as request_body;
+    ghost use Rattle.dav_server.specs.Machine.{Asked};
+    ghost use Rattle.dav_server.specs.ServerCode.{coded_asked};
+
+    ghost Value = { Asked };
+
+    ghost coded = { coded_asked request_body.the_row.coded };
+
+    ghost use Rattle.dav_server.specs.ExchangeView.{asked};
+
+    ghost view = { asked };
+}
+
 impl<'a> Exchange<'a> {
     ghost use Rattle.std.specs.Prelude.{◌≡◌, ◌≤◌, ◌↔◌, IsOk, IfOk};
     ghost use Rattle.std.specs.Option.{option_copied};
-    ghost use Rattle.dav_server.specs.Setup.{asked};
 
     /// A request: the bytes of its head, its body, who makes it, when, in seconds since 1970, and the token for a lock that
     /// it creates. `BadMoment` past 253402300799, the end of the year 9999. Allocates nothing.
@@ -153,7 +166,13 @@ impl<'a> Exchange<'a> {
         token: Option<GrantToken>,
     ) -> Result<Exchange<'a>, BadMoment>
         ensures ok { IsOk result ↔ (moment ≤ 253402300799) }
-        ensures value { IfOk result (λ x. asked x ≡ record { head = head.now; body = body; principal = option_copied principal.entry; moment = moment; token = token }) }
+        ensures value { IfOk result (λ x. x ≡ record {
+          head = head.now;
+          body = body;
+          principal = option_copied principal.entry;
+          moment = moment;
+          token = token;
+        }) }
     {
         let moment = Moment::new(moment)?;
         Ok(Exchange {

@@ -3,10 +3,10 @@ ghost use Rattle.std.specs.Prelude.{◌≡◌, ◌≤◌, Some, IfOk};
 ghost use Rattle.dav_core.specs.Asking.{Asks, Open, StoreState, seen};
 ghost use Rattle.dav_core.specs.Path.{names};
 ghost use Rattle.dav_core.specs.World.{last_moment};
-ghost use Rattle.dav_engine.specs.ConditionView.{conditions_of, locks_in};
-ghost use Rattle.dav_engine.specs.Follows.{Follows, Makes, Serves};
+ghost use Rattle.dav_engine.specs.ConditionView.{locks_in};
+ghost use Rattle.dav_engine.specs.Follows.{as_is, Makes, Serves, Heeds};
 ghost use Rattle.dav_engine.specs.Method.{Method};
-ghost use Rattle.dav_engine.specs.Response.{Response, response_of, headers_in};
+ghost use Rattle.dav_engine.specs.Response.{Response, headers_in};
 ghost use Rattle.dav_server.specs.Get as spec;
 
 use bytes::Bytes;
@@ -17,7 +17,7 @@ use dav_core::ls::DavLockSystem;
 use dav_core::method::DavMethod;
 use dav_engine::conditional::Conditions;
 use dav_engine::reply::{set_header, set_length, set_tag, set_validators};
-use dav_engine::{DavRequest, Reply, ReplyBody};
+use dav_engine::{Backend, DavRequest, Reply, ReplyBody};
 use http::StatusCode;
 use http_header::{HeaderMap, HeaderName, HeaderValue};
 use std::alloc::Global;
@@ -38,7 +38,7 @@ fn file_headers(alloc: Global, len: u64, file: &DavMetaData) -> Result<HeaderMap
 // The reply with a file's bytes.
 fn shown(alloc: Global, file: &DavMetaData, bytes: Bytes) -> Result<Reply, NoMemory>
     requires { file.now.modified ≤ last_moment }
-    ensures { IfOk result (λ r. response_of r ≡ spec.shown file.now bytes) }
+    ensures { IfOk result (λ r. r ≡ spec.shown file.now bytes) }
 {
     let headers = file_headers(alloc, bytes.len() as u64, file)?;
     Ok(Reply {
@@ -51,7 +51,7 @@ fn shown(alloc: Global, file: &DavMetaData, bytes: Bytes) -> Result<Reply, NoMem
 // The reply that reports a file without its bytes.
 fn told(alloc: Global, file: &DavMetaData) -> Result<Reply, NoMemory>
     requires { file.now.modified ≤ last_moment }
-    ensures { IfOk result (λ r. response_of r ≡ spec.told file.now) }
+    ensures { IfOk result (λ r. r ≡ spec.told file.now) }
 {
     let headers = file_headers(alloc, file.len, file)?;
     Ok(Reply {
@@ -63,7 +63,7 @@ fn told(alloc: Global, file: &DavMetaData) -> Result<Reply, NoMemory>
 
 // The reply where the client has the file already: the tag alone.
 fn not_modified(alloc: Global, file: &DavMetaData) -> Result<Reply, NoMemory>
-    ensures { IfOk result (λ r. response_of r ≡ spec.not_modified file.now) }
+    ensures { IfOk result (λ r. r ≡ spec.not_modified file.now) }
 {
     let mut headers = HeaderMap::new(alloc);
     set_tag(alloc, &mut headers, file.number)?;
@@ -77,7 +77,8 @@ fn not_modified(alloc: Global, file: &DavMetaData) -> Result<Reply, NoMemory>
 // Opens a file for reading.
 fn open<F: DavFileSystem>(fs: &mut F, alloc: Global, path: &DavPath, now: u64) -> FsResult<F::File>
     requires { now ≤ last_moment }
-    ensures { Asks (Open (names path.now) spec.reading now) (F.state fs.old) (seen F.handle result) (F.state fs.new) }
+    ensures { Asks (Open (names path.now) spec.reading now)
+        (F.state fs.old) (seen F.handle result) (F.state fs.new) }
 {
     let options = OpenOptions::read();
     fs.open(alloc, path, &options, now)
@@ -93,7 +94,8 @@ fn show<F: DavFileSystem>(
 ) -> DavResult<Reply>
     requires at { now ≤ last_moment }
     requires shown { found.now.modified ≤ last_moment }
-    ensures { Makes response_of (spec.show (names path.now) now found.now) (F.state fs.old) result (F.state fs.new) }
+    ensures { Makes as_is (spec.show (names path.now) now found.now)
+        (F.state fs.old) result (F.state fs.new) }
 {
     let mut file = match open(fs, alloc, path, now) {
         Ok(file) => file,
@@ -117,7 +119,8 @@ fn show_or_tell<F: DavFileSystem>(
 ) -> DavResult<Reply>
     requires at { now ≤ last_moment }
     requires shown { found.now.modified ≤ last_moment }
-    ensures { Makes response_of (spec.show_or_tell method (names path.now) now found.now) (F.state fs.old) result (F.state fs.new) }
+    ensures { Makes as_is (spec.show_or_tell method (names path.now) now found.now)
+        (F.state fs.old) result (F.state fs.new) }
 {
     match method {
         DavMethod::Head => Ok(told(alloc, found)?),
@@ -127,7 +130,8 @@ fn show_or_tell<F: DavFileSystem>(
 
 // The outcome of a request whose conditions answer a status.
 fn judged(alloc: Global, status: StatusCode, found: &DavMetaData) -> DavResult<Reply>
-    ensures { (next : Method Response) (s : StoreState) → Makes response_of (spec.judged (Some status) found.now next) s result s }
+    ensures { (next : Method Response) (s : StoreState)
+        → Makes as_is (spec.judged (Some status) found.now next) s result s }
 {
     if status.as_u16() == 304 {
         Ok(not_modified(alloc, found)?)
@@ -146,7 +150,9 @@ fn get<F: DavFileSystem, L: DavLockSystem>(
     now: u64,
 ) -> DavResult<Reply>
     requires { now ≤ last_moment }
-    ensures { Follows response_of (spec.get request.now.method (conditions_of conditions.now) (names request.now.path) now) (F.state fs.old) (locks_in L.locks ls.entry) result (F.state fs.new) (locks_in L.locks ls.entry) }
+    ensures { Heeds (locks_in L.locks ls.entry) as_is
+        (spec.get request.now.method conditions.now (names request.now.path) now)
+        (F.state fs.old) result (F.state fs.new) }
 {
     let path = &request.path;
     let found = match fs.metadata(path) {
@@ -169,15 +175,21 @@ fn get<F: DavFileSystem, L: DavLockSystem>(
 /// 412 where If or If-Match doesn't hold, and 304 with the tag alone where If-None-Match doesn't (section 13.2); each other
 /// refusal of the store is its own status.
 pub fn handle_gethead<F: DavFileSystem, L: DavLockSystem>(
-    fs: &mut F,
-    ls: Option<&L>,
+    backend: &mut Backend<F, L>,
     alloc: Global,
     request: &DavRequest,
     now: u64,
 ) -> DavResult<Reply>
     requires { now ≤ last_moment }
-    ensures { Serves (spec.IsGet request.now.method request.now.headers request.now.path now) (F.state fs.old) (locks_in L.locks ls.entry) result (F.state fs.new) (locks_in L.locks ls.entry) }
+    ensures { Serves (spec.GetOf request.now now) backend.old result backend.new }
 {
     let conditions = Conditions::decode(alloc, request, &request.path)?;
-    get(fs, ls, alloc, request, &conditions, now)
+    get(
+        &mut backend.fs,
+        backend.ls.as_ref(),
+        alloc,
+        request,
+        &conditions,
+        now,
+    )
 }

@@ -1,14 +1,8 @@
 //! Whole runs: requests one after another.
-ghost use Rattle.std.specs.Prelude.{◌≡◌, ◌<◌, ◌++◌, ◌∷◌, [], vec_len, map, IfOk, IfErr, OnOk, OnErr};
-ghost use Rattle.std.specs.Option.{option_map};
+ghost use Rattle.std.specs.Prelude.{◌≡◌, ◌<◌, ◌≤◌, ◌++◌, ◌∷◌, [], vec_len, IfOk, IfErr, OnOk, OnErr};
 ghost use Rattle.std.specs.Vec.{vec_capacity};
-ghost use Rattle.dav_core.specs.World.{IsWorld};
-ghost use Rattle.dav_engine.specs.Response.{response_of};
-ghost use Rattle.dav_server.specs.Machine.{StepCut};
-ghost use Rattle.dav_server.specs.Run.{Runs, RanInPart, begun};
-ghost use Rattle.dav_server.specs.Setup.{asked, settings};
-ghost use Rattle.dav_server.specs.TagLaws.{EqualTagsShowEqualBytes};
-ghost use Rattle.dav_server.specs.Turns.{turn_of, step_turn, memory_state, AddsReply};
+ghost use Rattle.dav_core.specs.World.{last_moment};
+ghost use Rattle.dav_server.specs.Server.{AddsReply, AnswersAll, AnswersSome, StopsIn, TagsTell, at_turn, turns};
 
 #[cfg(test)]
 mod tests;
@@ -23,6 +17,7 @@ use dav_engine::Reply;
 use dav_store::memfs::MemFs;
 use dav_store::memls::MemLs;
 use std::alloc::Global;
+use std::marker::Model;
 
 /// A request, and which calls of the store are refused while it is answered: one entry for each call, an error where that
 /// call is refused. Past the end of the list no call is refused.
@@ -32,6 +27,20 @@ pub struct Step<'a> {
     pub exchange: Exchange<'a>,
     /// The entries.
     pub refusals: Vec<Option<FsError>>,
+}
+
+impl<'a> Model for Step<'a> {
+    ghost use Rattle.std.specs.Prelude.{Some};
+    ghost use Rattle.dav_core.specs.contracts.errors.FsError as fs_error;
+    ghost use Rattle.dav_engine.specs.contracts.request.Body as request_body;
+    ghost use Rattle.dav_server.specs.Run.{Turn};
+    ghost use Rattle.dav_server.specs.ServerCode.{coded_turn};
+
+    ghost Value = { Turn };
+
+    ghost coded = { coded_turn request_body.the_row.coded fs_error.the_row.coded };
+
+    ghost view = { λ s. record { asked = s.exchange; refusals = Some s.refusals.items } };
 }
 
 /// Memory ran out: the replies that were given before.
@@ -56,11 +65,14 @@ fn answer_next<F: DavFileSystem, L: DavLockSystem>(
     exchange: &Exchange<'_>,
     replies: &mut Vec<Reply>,
 ) -> Result<(), NoMemory>
-    ensures same { settings handler.new ≡ settings handler.old }
-    ensures ok { OnOk result (AddsReply (settings handler.old) (asked exchange.now) (F.state handler.old.fs) (option_map L.locks handler.old.ls) replies.old.items replies.new.items (F.state handler.new.fs) (option_map L.locks handler.new.ls)) }
+    ensures same { handler.new.settings ≡ handler.old.settings }
+    ensures ok { OnOk result (AddsReply handler.old exchange.now
+        replies.old.items replies.new.items handler.new) }
     ensures replies { OnErr result (replies.new.items ≡ replies.old.items) }
-    ensures cut { OnErr result (StepCut (settings handler.old) (asked exchange.now) (F.state handler.old.fs) (option_map L.locks handler.old.ls) (F.state handler.new.fs) (option_map L.locks handler.new.ls)) }
+    ensures cut { OnErr result (StopsIn handler.old exchange.now handler.new) }
+    ensures moment { exchange.now.moment ≤ last_moment }
 {
+    let _ = &exchange.moment;
     replies.reserve(1)?;
     let reply = handler.handle(alloc, exchange)?;
     add(replies, reply);
@@ -74,10 +86,13 @@ impl<F: DavFileSystem, L: DavLockSystem> DavHandler<F, L> {
     /// `RunFault` where memory ran out outside the store, with the replies that were given before; they are those of a run
     /// of the machine, and of the next request at most the first calls of the store were made, each of them whole.
     pub fn run(&mut self, alloc: Global, exchanges: &[Exchange<'_>]) -> Result<Vec<Reply>, RunFault>
-        ensures same { settings self.new ≡ settings self.old }
-        ensures run { IfOk result (λ replies. Runs (settings self.old) (map turn_of exchanges.now) (F.state self.old.fs) (option_map L.locks self.old.ls) (map response_of replies.items) (F.state self.new.fs) (option_map L.locks self.new.ls)) }
-        ensures tags { IfOk result (λ replies. IsWorld (F.state self.old.fs).world → EqualTagsShowEqualBytes (map turn_of exchanges.now) (map response_of replies.items)) }
-        ensures fault { IfErr result (λ fault. RanInPart (settings self.old) (map turn_of exchanges.now) (F.state self.old.fs) (option_map L.locks self.old.ls) (map response_of fault.replies.items) (F.state self.new.fs) (option_map L.locks self.new.ls)) }
+        ensures same { self.new.settings ≡ self.old.settings }
+        ensures run { IfOk result (λ replies.
+            AnswersAll self.old (turns exchanges.now) replies.items self.new) }
+        ensures tags { IfOk result (λ replies.
+            TagsTell self.old (turns exchanges.now) replies.items) }
+        ensures fault { IfErr result (λ fault.
+            AnswersSome self.old (turns exchanges.now) fault.replies.items self.new) }
     {
         let mut replies = Vec::new(alloc);
         for exchange in exchanges {
@@ -97,13 +112,17 @@ fn answer_step(
     step: Step<'_>,
     replies: &mut Vec<Reply>,
 ) -> Result<(), NoMemory>
-    ensures same { settings handler.new ≡ settings handler.old }
-    ensures ok { OnOk result (AddsReply (settings handler.old) (step_turn step.entry).asked (begun (step_turn step.entry).refusals (memory_state handler.old.fs)) handler.old.ls replies.old.items replies.new.items (memory_state handler.new.fs) handler.new.ls) }
+    ensures same { handler.new.settings ≡ handler.old.settings }
+    ensures ok { OnOk result (AddsReply (at_turn step.entry handler.old) step.entry.asked
+        replies.old.items replies.new.items handler.new) }
     ensures replies { OnErr result (replies.new.items ≡ replies.old.items) }
-    ensures cut { OnErr result (StepCut (settings handler.old) (step_turn step.entry).asked (begun (step_turn step.entry).refusals (memory_state handler.old.fs)) handler.old.ls (memory_state handler.new.fs) handler.new.ls) }
+    ensures cut { OnErr result (StopsIn (at_turn step.entry handler.old)
+        step.entry.asked handler.new) }
+    ensures moment { step.entry.asked.moment ≤ last_moment }
 {
     let Step { exchange, refusals } = step;
-    handler.fs.load(refusals);
+    let backend = &mut handler.backend;
+    backend.fs.load(refusals);
     answer_next(handler, alloc, &exchange, replies)
 }
 
@@ -118,10 +137,12 @@ pub fn run_refused(
     alloc: Global,
     steps: Vec<Step<'_>>,
 ) -> Result<Vec<Reply>, RunFault>
-    ensures same { settings handler.new ≡ settings handler.old }
-    ensures run { IfOk result (λ replies. Runs (settings handler.old) (map step_turn steps.entry.items) (memory_state handler.old.fs) handler.old.ls (map response_of replies.items) (memory_state handler.new.fs) handler.new.ls) }
-    ensures tags { IfOk result (λ replies. IsWorld (memory_state handler.old.fs).world → EqualTagsShowEqualBytes (map step_turn steps.entry.items) (map response_of replies.items)) }
-    ensures fault { IfErr result (λ fault. RanInPart (settings handler.old) (map step_turn steps.entry.items) (memory_state handler.old.fs) handler.old.ls (map response_of fault.replies.items) (memory_state handler.new.fs) handler.new.ls) }
+    ensures same { handler.new.settings ≡ handler.old.settings }
+    ensures run { IfOk result (λ replies.
+        AnswersAll handler.old steps.entry.items replies.items handler.new) }
+    ensures tags { IfOk result (λ replies. TagsTell handler.old steps.entry.items replies.items) }
+    ensures fault { IfErr result (λ fault.
+        AnswersSome handler.old steps.entry.items fault.replies.items handler.new) }
 {
     let mut replies = Vec::new(alloc);
     for step in steps {

@@ -1,23 +1,22 @@
 use Rattle.std.proofs.Common.{◌∙◌}
 use Rattle.std.proofs.lemmas.Result.{err_from_is_err_and}
-use Rattle.dav_engine.specs.Client.{client_of}
-use Rattle.dav_engine.specs.ConditionView.{conditions_of}
+use Rattle.dav_engine.specs.CallerView.{client_of}
 use Rattle.dav_engine.proofs.MkcolLemmas.{mkcol_short, mkcol_failed, mkcol_free, mkcol_locked}
 use Rattle.dav_engine.proofs.handle_mkcol.allowed.Goals as goal
 
 pub returns-in_err-verdict : goal.returns-in_err-verdict
 returns-in_err-verdict g c =
     let p = err_from_is_err_and c.from_residual.result c.from_residual.ensures.1 in
-    rw (p.1, p.2) (mkcol_short (conditions_of c.args.conditions.now) c.args.path.now (client_of c.args.caller.now) _ _ _ _ c.metadata.ensures.asks (c.as_ref.ensures.value ∙ c.ok-found.ensures.value) c.in_err-verdict.was c.if_match_get_tokens.ensures)
+    rw (p.1, p.2) (mkcol_short c.args.conditions.now c.args.path.now c.args.caller.now _ _ _ _ c.metadata.ensures.asks (c.as_ref.ensures.value ∙ c.ok-found.ensures.value) c.in_err-verdict.was c.if_match_get_tokens.ensures)
 
 pub returns-in-Err : goal.returns-in-Err
-returns-in-Err g c = mkcol_failed (conditions_of c.args.conditions.now) c.args.path.now (client_of c.args.caller.now) _ _ _ _ _
+returns-in-Err g c = mkcol_failed c.args.conditions.now c.args.path.now c.args.caller.now _ _ _ _ _
     c.metadata.ensures.asks (c.as_ref.ensures.value ∙ c.ok-found.ensures.value) c.in_ok-verdict.was c.in-Err.is c.if_match_get_tokens.ensures
 
 pub returns-then-is_open : goal.returns-then-is_open
-returns-then-is_open g c = mkcol_free (conditions_of c.args.conditions.now) c.args.path.now (client_of c.args.caller.now) _ _ _ _ c.in-Ok.tokens c.deref.result.now c.is_open.result
-    c.metadata.ensures.asks (c.as_ref.ensures.value ∙ c.ok-found.ensures.value) c.in_ok-verdict.was c.in-Ok.is c.if_match_get_tokens.ensures c.deref.ensures.value c.is_open.ensures c.if-is_open.true
+returns-then-is_open g c = rw (← c.caller.view_is) (mkcol_free c.args.conditions.now c.args.path.now (client_of c.caller.inside) _ _ _ _ c.in-Ok.tokens c.deref.result.now c.is_open.result
+    c.metadata.ensures.asks (c.as_ref.ensures.value ∙ c.ok-found.ensures.value) c.in_ok-verdict.was c.in-Ok.is c.if_match_get_tokens.ensures c.deref.ensures.value c.is_open.ensures c.if-is_open.true)
 
 pub returns : goal.returns
-returns g c = mkcol_locked (conditions_of c.args.conditions.now) c.args.path.now (client_of c.args.caller.now) _ _ _ _ c.in-Ok.tokens c.deref.result.now c.is_open.result
-    c.metadata.ensures.asks (c.as_ref.ensures.value ∙ c.ok-found.ensures.value) c.in_ok-verdict.was c.in-Ok.is c.if_match_get_tokens.ensures c.deref.ensures.value c.is_open.ensures c.if-is_open.false
+returns g c = rw (← c.caller.view_is) (mkcol_locked c.args.conditions.now c.args.path.now (client_of c.caller.inside) _ _ _ _ c.in-Ok.tokens c.deref.result.now c.is_open.result
+    c.metadata.ensures.asks (c.as_ref.ensures.value ∙ c.ok-found.ensures.value) c.in_ok-verdict.was c.in-Ok.is c.if_match_get_tokens.ensures c.deref.ensures.value c.is_open.ensures c.if-is_open.false)

@@ -2,22 +2,21 @@ use Rattle.std.proofs.Common.{subst}
 use Rattle.dav_engine.specs.Put.{IsPut}
 use Rattle.dav_server.specs.Get.{IsGet}
 use Rattle.dav_server.specs.Machine.{client, gets, heads, puts, patches, makes, not_yet}
-use Rattle.dav_server.specs.Setup.{asked}
 use Rattle.dav_server.proofs.MethodLemmas.{is_not_done}
 use Rattle.dav_server.proofs.StepLemmas.{serves_as, serves_error, plan_at}
 use Rattle.dav_server.proofs.davhandler.serve.Goals as goal
 
 pub returns-in-Get-clause-serves : goal.returns-in-Get-clause-serves
-returns-in-Get-clause-serves g c = serves_as (λ plan is. plan_at c.in-Get.is (gets (subst (λ m. IsGet m c.args.request.now.headers c.args.request.now.path c.args.exchange.now.moment.seconds plan) c.in-Get.is is))) c.show.ensures.serves
+returns-in-Get-clause-serves g c = serves_as (λ plan is. plan_at c.in-Get.is (gets (subst (λ m. IsGet m c.args.request.now.headers c.args.request.now.path c.args.exchange.now.moment plan) c.in-Get.is is))) c.show.ensures.serves
 
 pub returns-in-Head-clause-serves : goal.returns-in-Head-clause-serves
-returns-in-Head-clause-serves g c = serves_as (λ plan is. plan_at c.in-Head.is (heads (subst (λ m. IsGet m c.args.request.now.headers c.args.request.now.path c.args.exchange.now.moment.seconds plan) c.in-Head.is is))) c.show-in-Head.ensures.serves
+returns-in-Head-clause-serves g c = serves_as (λ plan is. plan_at c.in-Head.is (heads (subst (λ m. IsGet m c.args.request.now.headers c.args.request.now.path c.args.exchange.now.moment plan) c.in-Head.is is))) c.show-in-Head.ensures.serves
 
 pub returns-in-Put-clause-serves : goal.returns-in-Put-clause-serves
-returns-in-Put-clause-serves g c = serves_as (λ plan is. plan_at c.in-Put.is (puts (subst (λ m. IsPut m c.args.request.now.headers c.args.request.now.path c.args.body.now (client (asked c.args.exchange.now)) plan) c.in-Put.is is))) c.put.ensures.serves
+returns-in-Put-clause-serves g c = serves_as (λ plan is. plan_at c.in-Put.is (puts (subst (λ m. IsPut m c.args.request.now.headers c.args.request.now.path c.args.body.now (client c.args.exchange.now) plan) c.in-Put.is is))) c.put.ensures.serves
 
 pub returns-in-Patch-clause-serves : goal.returns-in-Patch-clause-serves
-returns-in-Patch-clause-serves g c = serves_as (λ plan is. plan_at c.in-Patch.is (patches (subst (λ m. IsPut m c.args.request.now.headers c.args.request.now.path c.args.body.now (client (asked c.args.exchange.now)) plan) c.in-Patch.is is))) c.put-in-Patch.ensures.serves
+returns-in-Patch-clause-serves g c = serves_as (λ plan is. plan_at c.in-Patch.is (patches (subst (λ m. IsPut m c.args.request.now.headers c.args.request.now.path c.args.body.now (client c.args.exchange.now) plan) c.in-Patch.is is))) c.put-in-Patch.ensures.serves
 
 pub returns-in-MkCol-clause-serves : goal.returns-in-MkCol-clause-serves
 returns-in-MkCol-clause-serves g c = serves_as (λ plan is. plan_at c.in-MkCol.is (makes is)) c.mkcol.ensures.serves

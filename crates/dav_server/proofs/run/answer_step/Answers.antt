@@ -1,13 +1,14 @@
+use Rattle.std.proofs.Common.{ap}
 use Rattle.std.proofs.lemmas.Result.{on_ok_weaker, on_err_weaker}
-use Rattle.dav_server.proofs.RunLemmas.{loaded_state, added_from, cut_from}
+use Rattle.dav_server.proofs.RunLemmas.{loaded_server, added_from, stops_from}
 use Rattle.dav_server.proofs.run.answer_step.Goals as goal
 
 pub returns-clause-ok : goal.returns-clause-ok
 returns-clause-ok c =
-    let same = loaded_state c.args.handler.now.fs c.load.new.self c.args.step.refusals.items c.load.ensures.value in
-    on_ok_weaker _ (added_from c.args.handler.now.ls c.answer_next.new.handler.ls c.args.replies.now.items c.answer_next.new.replies.items same) c.answer_next.ensures.ok
+    let same = loaded_server c.backend.inside.fs c.load.new.self c.step.inside.refusals.items _ _ c.load.ensures.value c.backend.view_is c.handler.view_is c.step.view_is in
+    on_ok_weaker _ (added_from c.answer_next.new.handler c.args.replies.now.items c.answer_next.new.replies.items same (ap (λ t. t.asked) c.step.view_is)) c.answer_next.ensures.ok
 
 pub returns-clause-cut : goal.returns-clause-cut
 returns-clause-cut c =
-    let same = loaded_state c.args.handler.now.fs c.load.new.self c.args.step.refusals.items c.load.ensures.value in
-    on_err_weaker _ (cut_from c.args.handler.now.ls c.answer_next.new.handler.ls same) c.answer_next.ensures.cut
+    let same = loaded_server c.backend.inside.fs c.load.new.self c.step.inside.refusals.items _ _ c.load.ensures.value c.backend.view_is c.handler.view_is c.step.view_is in
+    on_err_weaker _ (stops_from c.answer_next.new.handler same (ap (λ t. t.asked) c.step.view_is)) c.answer_next.ensures.cut

@@ -1,31 +1,29 @@
-use Rattle.std.proofs.Common.{◌∙◌, [], map, refl, sym, ap}
-use Rattle.std.proofs.lemmas.List.{map_push}
+use Rattle.std.proofs.Common.{◌∙◌, [], refl, sym}
 use Rattle.dav_server.specs.Run.{no_more}
-use Rattle.dav_server.specs.Turns.{step_turn, memory_state}
 use Rattle.dav_server.proofs.RunLemmas.{run_added, steps_at, cut_at, ran_to, ran_for, rest_after_one, turns_of}
-use Rattle.dav_server.proofs.TurnLemmas.{all_yielded, steps_tell}
+use Rattle.dav_server.proofs.TurnLemmas.{all_yielded, run_tells, none_showable, showable_more, showable_for}
 use Rattle.dav_server.proofs.run.run_refused.Goals as goal
 
 pub loop-step-init : goal.loop-step-init
-loop-step-init c = (refl, ran_to [] _ c.new-replies.ensures.items no_more, sym c.into_iter-step-iterator.ensures.into_iter_gives.0)
+loop-step-init c = (refl, ran_to [] _ c.new-replies.ensures.items no_more, none_showable, sym c.into_iter-step-iterator.ensures.into_iter_gives.0)
 
 pub loop-step-preserved : goal.loop-step-preserved
 loop-step-preserved c =
     let added = c.in-Ok.ensures.ok in (
       c.in-Ok.ensures.same ∙ c.loop-step.invariant.0,
-      ran_for (map_push step_turn c.loop-step.yielded c.in-Some.step)
-          (run_added c.loop-step.replies.items c.answer_step.new.replies.items (step_turn c.in-Some.step) added.0 c.loop-step.invariant.1 added.1 (steps_at c.loop-step.invariant.0 added.2)),
-      rest_after_one _ _ _ _ _ c.loop-step.invariant.2 c.in-Some.ensures.steps.0,
+      run_added c.loop-step.replies.items c.answer_step.new.replies.items c.in-Some.step added.0 c.loop-step.invariant.1 added.1 (steps_at c.loop-step.invariant.0 added.2),
+      showable_more c.loop-step.yielded c.in-Some.step c.loop-step.invariant.2 c.in-Ok.ensures.moment,
+      rest_after_one _ _ _ _ _ c.loop-step.invariant.3 c.in-Some.ensures.steps.0,
     )
 
 pub returns-in-Err-clause-fault : goal.returns-in-Err-clause-fault
 returns-in-Err-clause-fault c = (
-  map step_turn c.loop-step.yielded,
-  step_turn c.in-Some.step,
-  map step_turn c.next.new.self.rest.items,
-  memory_state c.loop-step.handler.fs,
-  c.loop-step.handler.ls,
-  turns_of step_turn _ _ _ _ _ c.loop-step.invariant.2 c.in-Some.ensures.steps.0,
+  c.loop-step.yielded,
+  c.in-Some.step,
+  c.next.new.self.rest.items,
+  c.loop-step.handler.state.store,
+  c.loop-step.handler.state.locks,
+  turns_of _ _ _ _ _ c.loop-step.invariant.3 c.in-Some.ensures.steps.0,
   ran_to c.loop-step.replies.items c.answer_step.new.replies.items c.in-Err.ensures.replies c.loop-step.invariant.1,
   cut_at c.loop-step.invariant.0 c.in-Err.ensures.cut,
 )
@@ -33,5 +31,5 @@ returns-in-Err-clause-fault c = (
 pub returns-clause-tags : goal.returns-clause-tags
 returns-clause-tags c =
     let rest = c.loop-step.step-iterator.rest in
-    let whole = all_yielded c.args.steps.items c.loop-step.yielded rest.items rest.len c.loop-step.invariant.2 rest.ok.0 c.in-None.ensures.steps.0 in
-    steps_tell c.args.steps.items (ran_for (ap (map step_turn) whole) c.loop-step.invariant.1)
+    let whole = all_yielded c.args.steps.items c.loop-step.yielded rest.items rest.len c.loop-step.invariant.3 rest.ok.0 c.in-None.ensures.steps.0 in
+    run_tells c.args.steps.items (showable_for whole c.loop-step.invariant.2) (ran_for whole c.loop-step.invariant.1)

@@ -1,13 +1,12 @@
 use Rattle.std.proofs.Common.{◌∙◌, [], ◌+◌, map, take, drop, refl}
-use Rattle.std.specs.Option.{option_map}
 use Rattle.dav_server.specs.Run.{no_more}
-use Rattle.dav_server.specs.Turns.{turn_of}
+use Rattle.dav_server.specs.Server.{turn_of}
 use Rattle.dav_server.proofs.RunLemmas.{run_further, parts_of, steps_at, cut_at, ran_to}
-use Rattle.dav_server.proofs.TurnLemmas.{ran_all, exchanges_tell}
+use Rattle.dav_server.proofs.TurnLemmas.{ran_all, run_tells, none_showable, showable_further, showable_all}
 use Rattle.dav_server.proofs.davhandler.DavHandler.run.Goals as goal
 
 pub loop-exchange-init : goal.loop-exchange-init
-loop-exchange-init g c = (refl, ran_to [] _ c.new-replies.ensures.items no_more)
+loop-exchange-init g c = (refl, ran_to [] _ c.new-replies.ensures.items no_more, none_showable)
 
 pub loop-exchange-preserved : goal.loop-exchange-preserved
 loop-exchange-preserved g c =
@@ -15,6 +14,7 @@ loop-exchange-preserved g c =
       c.in-Ok.ensures.same ∙ c.loop-exchange.invariant.0,
       run_further turn_of c.args.exchanges.now c.loop-exchange.exchange-index c.exchange-item.result c.loop-exchange.replies.items c.answer_next.new.replies.items added.0
           c.loop-exchange-test.true c.exchange-item.is c.loop-exchange.invariant.1 added.1 (steps_at c.loop-exchange.invariant.0 added.2),
+      showable_further c.args.exchanges.now c.loop-exchange.exchange-index c.exchange-item.result c.loop-exchange-test.true c.exchange-item.is c.loop-exchange.invariant.2 c.in-Ok.ensures.moment,
     )
 
 pub returns-in-Err-clause-fault : goal.returns-in-Err-clause-fault
@@ -22,12 +22,15 @@ returns-in-Err-clause-fault g c = (
   map turn_of (take c.loop-exchange.exchange-index c.args.exchanges.now),
   turn_of c.exchange-item.result,
   map turn_of (drop (c.loop-exchange.exchange-index + 1) c.args.exchanges.now),
-  g.F.DavFileSystem.state c.loop-exchange.self.fs,
-  option_map g.L.DavLockSystem.locks c.loop-exchange.self.ls,
+  c.loop-exchange.self.state.store,
+  c.loop-exchange.self.state.locks,
   parts_of turn_of c.args.exchanges.now c.loop-exchange.exchange-index c.exchange-item.result c.loop-exchange-test.true c.exchange-item.is,
   ran_to c.loop-exchange.replies.items c.answer_next.new.replies.items c.in-Err.ensures.replies c.loop-exchange.invariant.1,
   cut_at c.loop-exchange.invariant.0 c.in-Err.ensures.cut,
 )
 
 pub returns-clause-tags : goal.returns-clause-tags
-returns-clause-tags g c = exchanges_tell c.args.exchanges.now (ran_all turn_of c.args.exchanges.now c.loop-exchange.exchange-index c.loop-exchange-test.false c.loop-exchange.invariant.1)
+returns-clause-tags g c =
+    run_tells (map turn_of c.args.exchanges.now)
+    (showable_all c.args.exchanges.now c.loop-exchange.exchange-index c.loop-exchange-test.false c.loop-exchange.invariant.2)
+    (ran_all turn_of c.args.exchanges.now c.loop-exchange.exchange-index c.loop-exchange-test.false c.loop-exchange.invariant.1)

@@ -1,0 +1,31 @@
+-- What contracts see of a request at work.
+use Rattle.std.specs.Prelude.{◌≡◌, Result}
+use Rattle.dav_core.specs.declared.errors.DavError.{DavError}
+use Rattle.dav_engine.specs.declared.davinner.DavInner.{DavInner}
+use Rattle.dav_engine.specs.declared.request.Body.{Body}
+use Rattle.dav_engine.specs.declared.request.DavRequest.{DavRequest}
+use Rattle.dav_engine.specs.Client.{Client}
+use Rattle.dav_engine.specs.Follows.{Serves}
+use Rattle.dav_engine.specs.Method.{Method}
+use Rattle.dav_engine.specs.Mkcol.{IsMkcol}
+use Rattle.dav_engine.specs.Put.{IsPut}
+use Rattle.dav_engine.specs.Response.{Response}
+
+-- what was lent to a request, and how it is set up, is as it was
+pub record KeepsLent {F A B L : Type 0} (old new : DavInner F A B L) : Type 0 where
+  pub backend : new.backend.ghost_name ≡ old.backend.ghost_name
+  pub allow : new.allow ≡ old.allow
+  pub caller : new.caller ≡ old.caller
+  pub locks : new.backend.now.locks ≡ old.backend.now.locks
+
+-- a request was served as its caller asks, from what was lent
+abbrev pub ServesFrom : {F A B L : Type 0} → (Client → Method Response → Type 0) → DavInner F A B L → Result Response DavError → DavInner F A B L → Type 0
+ServesFrom kind old result new = Serves (kind old.caller.now) old.backend.now result new.backend.now
+
+-- the plans of a MKCOL
+abbrev pub MkcolOf : DavRequest → Client → Method Response → Type 0
+MkcolOf request who = IsMkcol request.headers request.path who
+
+-- and of a PUT or PATCH with this body
+abbrev pub PutOf : DavRequest → Body → Client → Method Response → Type 0
+PutOf request body who = IsPut request.method request.headers request.path body who

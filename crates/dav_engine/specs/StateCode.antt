@@ -1,0 +1,29 @@
+-- How the logic stores what a server serves from, and replies.
+use Rattle.std.specs.Prelude.{ℕ, Bool, List, Option, refl}
+use Rattle.std.specs.Coded.{Coded, code_by, coded_ℕ, coded_bool, coded_list, coded_option, coded×}
+use Rattle.dav_core.specs.declared.errors.FsError.{FsError}
+use Rattle.dav_core.specs.Asking.{StoreState}
+use Rattle.dav_core.specs.Locks.{Lock}
+use Rattle.dav_core.specs.LockCode.{lock_code}
+use Rattle.dav_core.specs.World.{World}
+use Rattle.dav_core.specs.WorldCode.{coded_world}
+use Rattle.dav_engine.specs.declared.reply.ReplyBody.{ReplyBody}
+use Rattle.dav_engine.specs.Plan.{ServerState}
+use Rattle.dav_engine.specs.Response.{Header, Response}
+
+-- a store, by the code of its refusals
+abbrev pub coded_store : Coded FsError → Coded StoreState
+coded_store refusal =
+    code_by (World × (List (Option FsError) × Bool)) (coded× coded_world (coded× (coded_list (coded_option refusal)) coded_bool))
+    (λ s. (s.world, (s.refusals, s.short))) (λ p. record { world = p.0; refusals = p.1.0; short = p.1.1 }) (λ _. refl)
+
+abbrev pub coded_state : Coded FsError → Coded ServerState
+coded_state refusal =
+    code_by (StoreState × Option (List Lock)) (coded× (coded_store refusal) (coded_option (coded_list lock_code)))
+    (λ s. (s.store, s.locks)) (λ p. record { store = p.0; locks = p.1 }) (λ _. refl)
+
+-- a reply, by the code of its body
+abbrev pub coded_response : Coded ReplyBody → Coded Response
+coded_response body =
+    code_by (ℕ × (List Header × ReplyBody)) (coded× coded_ℕ (coded× (coded_list (coded× (coded_list coded_ℕ) (coded_list coded_ℕ))) body))
+    (λ r. (r.status, (r.headers, r.body))) (λ p. record { status = p.0; headers = p.1.0; body = p.1.1 }) (λ _. refl)

@@ -1,0 +1,33 @@
+-- How the logic stores servers and what they are asked.
+use Rattle.std.specs.Prelude.{ℕ, List, Option, refl}
+use Rattle.std.specs.Coded.{Coded, code_by, coded_ℕ, coded_list, coded_option, coded×}
+use Rattle.dav_core.specs.declared.errors.FsError.{FsError}
+use Rattle.dav_engine.specs.declared.request.Body.{Body}
+use Rattle.dav_engine.specs.Plan.{ServerState}
+use Rattle.dav_engine.specs.StateCode.{coded_state}
+use Rattle.dav_server.specs.Machine.{Asked, Settings}
+use Rattle.dav_server.specs.Run.{Turn}
+use Rattle.dav_server.specs.Server.{Server}
+
+abbrev bytes_code : Coded (List ℕ)
+bytes_code = coded_list coded_ℕ
+
+abbrev settings_code : Coded Settings
+settings_code = code_by (List ℕ × ℕ) (coded× bytes_code coded_ℕ) (λ s. (s.prefix, s.allowed)) (λ p. record { prefix = p.0; allowed = p.1 }) (λ _. refl)
+
+abbrev pub coded_server : Coded FsError → Coded Server
+coded_server refusal =
+    code_by (Settings × ServerState) (coded× settings_code (coded_state refusal))
+    (λ s. (s.settings, s.state)) (λ p. record { settings = p.0; state = p.1 }) (λ _. refl)
+
+abbrev pub coded_asked : Coded Body → Coded Asked
+coded_asked body =
+    code_by (List ℕ × (Body × (Option (List ℕ) × (ℕ × Option (List ℕ)))))
+    (coded× bytes_code (coded× body (coded× (coded_option bytes_code) (coded× coded_ℕ (coded_option bytes_code)))))
+    (λ x. (x.head, (x.body, (x.principal, (x.moment, x.token)))))
+    (λ p. record { head = p.0; body = p.1.0; principal = p.1.1.0; moment = p.1.1.1.0; token = p.1.1.1.1 }) (λ _. refl)
+
+abbrev pub coded_turn : Coded Body → Coded FsError → Coded Turn
+coded_turn body refusal =
+    code_by (Asked × Option (List (Option FsError))) (coded× (coded_asked body) (coded_option (coded_list (coded_option refusal))))
+    (λ t. (t.asked, t.refusals)) (λ p. record { asked = p.0; refusals = p.1 }) (λ _. refl)
