@@ -1,19 +1,22 @@
--- What each call does to a world, whatever its answer.
-use Rattle.std.proofs.Common.{◌≡◌, ℕ, ◌<◌, ◌≤◌, Bool, true, false, if◌then◌else◌, List, [], ◌∷◌, Option, Some, None, Result, Ok, Err, refl, sym, ap, subst, ◌∙◌, arith}
+-- What each call does to a world, whatever it is answered.
+use Rattle.std.proofs.Common.{◌≡◌, ℕ, ◌<◌, ◌≤◌, Bool, true, false, if◌then◌else◌, List, [], ◌∷◌, ◌++◌, Option, Some, None, Result, Ok, Err, refl, sym, ap, subst, ◌∙◌, arith}
 use Rattle.dav_core.specs.declared.errors.FsError.{FsError}
 use Rattle.dav_core.specs.declared.errors.FsError.TheVariants.{NotFound, Forbidden, Exists}
 use Rattle.dav_core.specs.Element.{ElementTree}
-use Rattle.dav_core.specs.Path.{Path}
+use Rattle.dav_core.specs.Path.{Path, IsName}
 use Rattle.dav_core.specs.World.{World, Node, File, node_at, is_missing, is_file, members, file_made_with, is_folder_kind, IsWorld}
 use Rattle.dav_core.specs.Handle.{Handle, Opening, opened}
 use Rattle.dav_core.specs.Meaning.{Meaning, refuse_if, at_node}
 use Rattle.dav_core.specs.Calls.{read_dir, open_at, sought, stored_tree}
 use Rattle.dav_core.specs.Asking.{Call, Metadata, ReadDir, EntryMetadata, CreateDir, RemoveDir, RemoveFile, Rename, Copy, HaveProps, PatchProps, GetProps, GetProp, GetQuota, SetAccessed, SetModified, Open, Read, Write, Seek, Flush, FileMetadata, Answer, meaning, StoreState, Asks, asked, ran_short, ask, answered}
-use Rattle.dav_core.specs.CallLaws.{IsProper}
+use Rattle.dav_core.specs.CallLaws.{IsProper, IsStorable}
 use Rattle.dav_core.proofs.StepLemmas.{went_on, found}
 use Rattle.dav_core.proofs.KeptLemmas.{calls_keep_worlds, numbers_rise}
 use Rattle.dav_core.proofs.FollowLemmas.{numbers_look_back}
-use Rattle.dav_engine.specs.WorldLaws.{OnlyReads, Remembers}
+use Rattle.dav_core.proofs.MemberLemmas.{lists_what_stands}
+use Rattle.std.specs.List.{Contains, All}
+use Rattle.std.proofs.lemmas.List.Elements.{All-weaker, All-contains_itself, All-cons, All-nil, All-contains, Contains-push}
+use Rattle.dav_engine.specs.WorldLaws.{OnlyReads, Remembers, MayTell}
 
 world_after : {A : Type 0} → World → Meaning A → World
 world_after w (Ok r) = r.1
@@ -163,3 +166,58 @@ did_keep c w new answer proper world (means r h is after) = subst (Kept w) (sym 
 -- a call that a caller may make keeps worlds, whatever its answer
 pub asks_keep : {c : Call} {old new : StoreState} {answer : Result (Answer c) FsError} → IsProper c → IsWorld old.world → Asks c old answer new → Kept old.world new.world
 asks_keep {c} {old} {new} {answer} proper world one = did_keep c old.world new.world answer proper world (did one)
+
+-- ---- what a call may tell
+
+stored_name : (p : Path) (name : List ℕ) → IsStorable (p ++ name ∷ []) → IsStorable (name ∷ [])
+stored_name p name storable =
+    let last = Contains-push p name in
+    (All-cons IsName name [] (All-contains IsName (p ++ name ∷ []) name storable.0 last) (All-nil IsName),
+     All-cons (All (λ b. b < 256)) name [] (All-contains (All (λ b. b < 256)) (p ++ name ∷ []) name storable.1 last) (All-nil (All (λ b. b < 256))))
+
+listed_name : (p : Path) (w : World) → IsWorld w → (e : List ℕ × Bool) → Contains (members p w.nodes) e → IsStorable (e.0 ∷ [])
+listed_name p w world (name, dir) there =
+    let (n, stands, kind) = (lists_what_stands p name dir w world).0 there in
+    let sound = world.sound (p ++ name ∷ []) n stands in
+    stored_name p name (sound.names, sound.bytes)
+
+all_listed : (p : Path) (w : World) → IsWorld w → All (λ e. IsStorable (e.0 ∷ [])) (members p w.nodes)
+all_listed p w world = All-weaker (Contains (members p w.nodes)) (λ e. IsStorable (e.0 ∷ [])) (listed_name p w world) (members p w.nodes) (All-contains_itself (members p w.nodes))
+
+answer_is : {A : Type 0} (a : A) (w : World) (r : A × World) → ◌≡◌ {A = Meaning A} (Ok (a, w)) (Ok r) → r.0 ≡ a
+answer_is a w r h = let same : (a, w) ≡ r = cc in sym (ap (λ x. x.0) same)
+
+tell_listed : (p : Path) (w new : World) (answer : Result (List (List ℕ × Bool)) FsError) → IsWorld w → Did (meaning (ReadDir p) w) w answer new → MayTell (ReadDir p) answer
+unfolding meaning
+tell_listed p w new answer world (stays e is same) = subst (MayTell (ReadDir p)) (sym is) tt
+tell_listed p w new answer world (means r h is after) =
+    let (some, more) = went_on (is_missing w p) NotFound _ r h in
+    let (folder, end) = went_on (is_file w p) Forbidden _ r more in
+    subst (MayTell (ReadDir p)) (sym is) (subst (All (λ e. IsStorable (e.0 ∷ []))) (sym (answer_is (members p w.nodes) w r end)) (all_listed p w world))
+
+did_tell : (c : Call) (w new : World) (answer : Result (Answer c) FsError) → IsWorld w → Did (meaning c w) w answer new → MayTell c answer
+did_tell (ReadDir p) w new answer world one = tell_listed p w new answer world one
+did_tell (Metadata p) w new answer world one = tt
+did_tell (EntryMetadata p) w new answer world one = tt
+did_tell (CreateDir p now) w new answer world one = tt
+did_tell (RemoveDir p now) w new answer world one = tt
+did_tell (RemoveFile p now) w new answer world one = tt
+did_tell (Rename from to now) w new answer world one = tt
+did_tell (Copy from to now) w new answer world one = tt
+did_tell (HaveProps p) w new answer world one = tt
+did_tell (PatchProps p patches) w new answer world one = tt
+did_tell (GetProps p content) w new answer world one = tt
+did_tell (GetProp p key) w new answer world one = tt
+did_tell GetQuota w new answer world one = tt
+did_tell (SetAccessed p time) w new answer world one = tt
+did_tell (SetModified p time) w new answer world one = tt
+did_tell (Open p how now) w new answer world one = tt
+did_tell (Read file count) w new answer world one = tt
+did_tell (Write file bytes now) w new answer world one = tt
+did_tell (Seek file to) w new answer world one = tt
+did_tell (Flush file) w new answer world one = tt
+did_tell (FileMetadata file) w new answer world one = tt
+
+-- of a world a call tells what it may
+pub asks_tell : {c : Call} {old new : StoreState} {answer : Result (Answer c) FsError} → IsWorld old.world → Asks c old answer new → MayTell c answer
+asks_tell {c} {old} {new} {answer} world one = did_tell c old.world new.world answer world (did one)

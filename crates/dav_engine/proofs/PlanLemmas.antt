@@ -101,20 +101,19 @@ stopped (Look go) ls = let rest = stopped (go ls) ls in
 stopped (Keep locks more) ls = let rest = stopped more (kept ls locks) in
     record { refusals = rest.refusals; outcome = rest.outcome; locks = rest.locks; ran = λ w. ran_keep (rest.ran w) }
 
--- the same, where the list of locks that it leaves is known
-pub record StoppedAt {A : Type 0} (plan : Plan A) (ls ms : Locks) : Type 0 where
+-- the same, where the outcome and the list that it leaves are known
+pub record StoppedAt {A : Type 0} (plan : Plan A) (ls : Locks) (outcome : A) (ms : Locks) : Type 0 where
   pub refusals : List (Option FsError)
-  pub outcome : A
   pub ran : (w : World) → Ran Asks plan (ample w refusals) ls outcome (ample w []) ms
 
-stopped_at : {A : Type 0} {plan : Plan A} {ls ms : Locks} → Refused plan ls ms → StoppedAt plan ls ms
-stopped_at (refused_done {a = a}) = record { refusals = []; outcome = a; ran = λ w. ran_done }
+stopped_at : {A : Type 0} {plan : Plan A} {ls ms : Locks} {a : A} → Refused plan ls a ms → StoppedAt plan ls a ms
+stopped_at refused_done = record { refusals = []; ran = λ w. ran_done }
 stopped_at (refused_ask e left) = let rest = stopped_at left in
-    record { refusals = Some e ∷ rest.refusals; outcome = rest.outcome; ran = λ w. ran_ask (asked refl refl refl) (rest.ran w) }
+    record { refusals = Some e ∷ rest.refusals; ran = λ w. ran_ask (asked refl refl refl) (rest.ran w) }
 stopped_at (refused_look left) = let rest = stopped_at left in
-    record { refusals = rest.refusals; outcome = rest.outcome; ran = λ w. ran_look (rest.ran w) }
+    record { refusals = rest.refusals; ran = λ w. ran_look (rest.ran w) }
 stopped_at (refused_keep left) = let rest = stopped_at left in
-    record { refusals = rest.refusals; outcome = rest.outcome; ran = λ w. ran_keep (rest.ran w) }
+    record { refusals = rest.refusals; ran = λ w. ran_keep (rest.ran w) }
 
 pub record CutAgain {A : Type 0} (plan : Plan A) (old new : World) (first ls ms : Locks) : Type 0 where
   pub refusals : List (Option FsError)
@@ -126,8 +125,8 @@ pub record CutAgain {A : Type 0} (plan : Plan A) (old new : World) (first ls ms 
 pub cut_again : {A : Type 0} {first : Locks} {plan : Plan A} {old new : StoreState} {ls ms : Locks} → Cut Asks first plan old ls new ms → CutAgain plan old.world new.world first ls ms
 cut_again (cut_first {plan = plan} {s = s} {ls = ls}) = let rest = stopped plan ls in
     record { refusals = rest.refusals; outcome = rest.outcome; locks = rest.locks; ran = rest.ran s.world; list = inl refl }
-cut_again (cut_refused {s = s} {ms = ms} left) = let rest = stopped_at left in
-    record { refusals = rest.refusals; outcome = rest.outcome; locks = ms; ran = rest.ran s.world; list = inr refl }
+cut_again (cut_refused {s = s} {ms = ms} {a = a} left) = let rest = stopped_at left in
+    record { refusals = rest.refusals; outcome = a; locks = ms; ran = rest.ran s.world; list = inr refl }
 cut_again (cut_ask one rest) =
     let met = asks_met one in
     let more = cut_again rest in

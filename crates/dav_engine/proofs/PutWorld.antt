@@ -36,10 +36,10 @@ use Rattle.dav_engine.proofs.WorldPlans.{Only, only_done, only_ask, only_look, o
 pub data IsLook : Call → Type 0 where
   looks : {p : Path} → IsLook (Metadata p)
 
-look_reads : (c : Call) → IsLook c → OnlyReads c
+pub look_reads : (c : Call) → IsLook c → OnlyReads c
 look_reads c looks = tt
 
-look_proper : (c : Call) → IsLook c → IsProper c
+pub look_proper : (c : Call) → IsLook c → IsProper c
 look_proper c looks = tt
 
 only_item : (p : Option Path) (i : Item) → Only IsLook (item_holds p i)
@@ -63,7 +63,7 @@ only_some : (ls : List Addressed) → Only IsLook (some_holds ls)
 only_some [] = only_done
 only_some (l ∷ ls) = only_bind (all_hold l.path l.conditions) _ (only_all l.path l.conditions) (λ holds. only_while_false _ (some_holds ls) (only_some ls))
 
-only_if : (lists : Option (List Addressed)) → Only IsLook (if_holds lists)
+pub only_if : (lists : Option (List Addressed)) → Only IsLook (if_holds lists)
 only_if None = only_done
 only_if (Some ls) = only_some ls
 
@@ -114,7 +114,7 @@ refused_mkcol_leaves_all c p who old new ls ms e ran =
 
 proper_sought : (place : Option ℕ) (file : Handle) → IsProperPlan (sought place file)
 proper_sought None file = proper_done
-proper_sought (Some k) file = proper_ask tt (λ answer. proper_then (refused_as (λ e. unsatisfiable) answer) _ (λ moved. proper_done))
+proper_sought (Some k) file = proper_ask tt (λ answer tells. proper_then (refused_as (λ e. unsatisfiable) answer) _ (λ moved. proper_done))
 
 proper_if : {A : Type 0} (b : Bool) (one other : Method A) → IsProperPlan one → IsProperPlan other → IsProperPlan (if b then one else other)
 proper_if true one other is is' = is
@@ -122,14 +122,14 @@ proper_if false one other is is' = is'
 
 proper_written : (file : Handle) (bytes : List ℕ) (now : ℕ) → now ≤ last_moment → IsProperPlan (written file bytes now)
 proper_written file bytes now small =
-    proper_if (length bytes == 0) (gives file) (ask_for (Write file bytes now)) proper_done (proper_ask small (λ answer. proper_done))
+    proper_if (length bytes == 0) (gives file) (ask_for (Write file bytes now)) proper_done (proper_ask small (λ answer tells. proper_done))
 
 proper_store : (how : Opening) (place : Option ℕ) (p : Path) (bytes : List ℕ) (now : ℕ) (found : Bool) → IsStorable p → now ≤ last_moment → IsProperPlan (store how place p bytes now found)
-proper_store how place p bytes now found storable small = proper_ask (storable, small) (λ answer.
+proper_store how place p bytes now found storable small = proper_ask (storable, small) (λ answer tells.
     proper_then (refused_as (open_error how) answer) _ (λ file.
     proper_bind (sought place file) _ (proper_sought place file) (λ file.
     proper_bind (written file bytes now) _ (proper_written file bytes now small) (λ file.
-    proper_ask tt (λ answer. proper_then (refused_as dav.FsError answer) _ (λ done. proper_ask tt (λ answer. proper_done)))))))
+    proper_ask tt (λ answer tells. proper_then (refused_as dav.FsError answer) _ (λ done. proper_ask tt (λ answer tells. proper_done)))))))
 
 proper_put : (m : DavMethod) (h : PutHeaders) (p : Path) (who : Client) (bytes : Option (List ℕ)) → IsStorable p → who.moment ≤ last_moment → IsProperPlan (put_body m h p who bytes)
 proper_put m h p who None storable small = proper_done
@@ -143,7 +143,7 @@ put_is_proper m headers p body who plan storable small (is_put h are) = proper_p
 proper_mkcol : (c : Conditions) (p : PathText) (who : Client) → IsStorable (names p) → who.moment ≤ last_moment → IsProperPlan (mkcol c p who)
 proper_mkcol c p who storable small =
     proper_bind (mkcol_allowed c p who) _ (only_proper look_proper (only_mkcol_allowed c p who)) (λ allowed.
-    proper_ask (storable, small) (λ answer. proper_then (refused_as create_error answer) _ (λ done. proper_done)))
+    proper_ask (storable, small) (λ answer tells. proper_then (refused_as create_error answer) _ (λ done. proper_done)))
 
 pub mkcol_is_proper : MkcolIsProper
 mkcol_is_proper headers p who plan storable small (is_mkcol c are) = proper_mkcol c p who storable small

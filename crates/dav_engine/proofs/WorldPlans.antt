@@ -8,7 +8,7 @@ use Rattle.dav_core.specs.CallLaws.{IsProper}
 use Rattle.dav_engine.specs.Plan.{Plan, Done, Ask, Look, Keep, Step, Locks, Ran, ran_done, ran_ask, ran_look, ran_keep}
 use Rattle.dav_engine.specs.Method.{Method, then, ◌>>=◌, require}
 use Rattle.dav_engine.specs.WorldLaws.{OnlyReads, IsReading, reads_done, reads_ask, reads_look, IsProperPlan, proper_done, proper_ask, proper_look, proper_keep}
-use Rattle.dav_engine.proofs.CallWorlds.{did, did_leave, Kept, kept_same, kept_on, asks_keep}
+use Rattle.dav_engine.proofs.CallWorlds.{did, did_leave, Kept, kept_same, kept_on, asks_keep, asks_tell}
 
 -- a plan that only reads leaves the world and the list of locks
 pub reading_leaves : {A : Type 0} {plan : Plan A} {old new : StoreState} {ls ms : Locks} {a : A}
@@ -25,7 +25,7 @@ pub proper_keeps : {A : Type 0} {plan : Plan A} {old new : StoreState} {ls ms : 
 proper_keeps proper_done world (ran_done {s = s}) = kept_same s.world s.world world refl
 proper_keeps (proper_ask proper more) world (ran_ask {old = old} {mid = mid} {new = new} {answer = answer} one rest) =
     let first = asks_keep proper world one in
-    kept_on old.world mid.world new.world first (proper_keeps (more answer) first.world rest)
+    kept_on old.world mid.world new.world first (proper_keeps (more answer (asks_tell world one)) first.world rest)
 proper_keeps (proper_look more) world (ran_look {ls = ls} rest) = proper_keeps (more ls) world rest
 proper_keeps (proper_keep more) world (ran_keep rest) = proper_keeps more world rest
 
@@ -44,7 +44,7 @@ only_reads reads (only_look more) = reads_look (λ ls. only_reads reads (more ls
 
 pub only_proper : {P : Call → Type 0} {A : Type 0} {plan : Plan A} → ((c : Call) → P c → IsProper c) → Only P plan → IsProperPlan plan
 only_proper proper only_done = proper_done
-only_proper proper (only_ask {c = c} is more) = proper_ask (proper c is) (λ answer. only_proper proper (more answer))
+only_proper proper (only_ask {c = c} is more) = proper_ask (proper c is) (λ answer tells. only_proper proper (more answer))
 only_proper proper (only_look more) = proper_look (λ ls. only_proper proper (more ls))
 
 pub only_then : {P : Call → Type 0} {A B : Type 0} (r : Result A DavError) (f : A → Method B) → ((a : A) → Only P (f a)) → Only P (then r f)
@@ -67,7 +67,7 @@ proper_then (Err e) f more = proper_done
 -- plans of calls that a caller may make, one after another
 pub proper_bind : {A B : Type 0} (plan : Method A) (f : A → Method B) → IsProperPlan plan → ((a : A) → IsProperPlan (f a)) → IsProperPlan (plan >>= f)
 proper_bind plan f (proper_done {a = r}) more = proper_then r f more
-proper_bind plan f (proper_ask {go = go} is rest) more = proper_ask is (λ answer. proper_bind (go answer) f (rest answer) more)
+proper_bind plan f (proper_ask {go = go} is rest) more = proper_ask is (λ answer tells. proper_bind (go answer) f (rest answer tells) more)
 proper_bind plan f (proper_look {go = go} rest) more = proper_look (λ ls. proper_bind (go ls) f (rest ls) more)
 proper_bind plan f (proper_keep {rest = rest} is) more = proper_keep (proper_bind rest f is more)
 

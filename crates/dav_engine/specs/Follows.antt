@@ -16,11 +16,17 @@ abbrev pub viewed : {A X : Type 0} → (X → A) → Result X DavError → Resul
 viewed view (Ok x) = Ok (view x)
 viewed view (Err e) = Err e
 
--- The plan was carried out on any lawful store, with this result; or the result is `Memory`: the first calls of the plan
--- were made, and the list of locks is as before, or as the plan leaves it where each later call is refused.
-pub data Follows {A X : Type 0} (view : X → A) (plan : Method A) (old : StoreState) (ls : Locks) (result : Result X DavError) (new : StoreState) (ms : Locks) : Type 0 where
-  followed : Ran Asks plan old ls (viewed view result) new ms → Follows view plan old ls result new ms
-  gave_up : result ≡ Err dav.Memory → Cut Asks ls plan old ls new ms → Follows view plan old ls result new ms
+-- A part of a request was carried out that began with the list `first`: its plan came to this result; or the result is want of
+-- memory, the first calls of the plan were made, and the list of locks is `first` again, or as the plan leaves it where each later
+-- call is refused.
+pub data FollowsFrom {A X : Type 0} (first : Locks) (view : X → A) (plan : Method A) (old : StoreState) (ls : Locks) (result : Result X DavError) (new : StoreState) (ms : Locks) : Type 0 where
+  followed : Ran Asks plan old ls (viewed view result) new ms → FollowsFrom first view plan old ls result new ms
+  gave_up : result ≡ Err dav.Memory → Cut Asks first plan old ls new ms → FollowsFrom first view plan old ls result new ms
+
+-- The plan was carried out, on any lawful store, and came to this result; or the result is want of memory, the first calls of
+-- the plan were made, and the list of locks is as before, or as the plan leaves it where each later call is refused.
+abbrev pub Follows : {A X : Type 0} → (X → A) → Method A → StoreState → Locks → Result X DavError → StoreState → Locks → Type 0
+Follows view plan old ls = FollowsFrom ls view plan old ls
 
 -- the same of code that looks at the list of locks, and leaves it
 abbrev pub Heeds : {A X : Type 0} → Locks → (X → A) → Method A → StoreState → Result X DavError → StoreState → Type 0

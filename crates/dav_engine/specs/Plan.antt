@@ -40,18 +40,18 @@ pub data Ran (step : Step) {A : Type 0} : Plan A → StoreState → Locks → A 
   ran_look : {go : Locks → Plan A} {old new : StoreState} {ls ms : Locks} {a : A} → Ran step (go ls) old ls a new ms → Ran step (Look go) old ls a new ms
   ran_keep : {locks : List Lock} {rest : Plan A} {old new : StoreState} {ls ms : Locks} {a : A} → Ran step rest old (kept ls locks) a new ms → Ran step (Keep locks rest) old ls a new ms
 
--- From the first list of locks, the plan leaves the second one where each of its calls is refused.
-pub data Refused {A : Type 0} : Plan A → Locks → Locks → Type 0 where
-  refused_done : {a : A} {ls : Locks} → Refused (Done a) ls ls
-  refused_ask : {c : Call} {go : Result (Answer c) FsError → Plan A} {ls ms : Locks} (e : FsError) → Refused (go (Err e)) ls ms → Refused (Ask c go) ls ms
-  refused_look : {go : Locks → Plan A} {ls ms : Locks} → Refused (go ls) ls ms → Refused (Look go) ls ms
-  refused_keep : {locks : List Lock} {rest : Plan A} {ls ms : Locks} → Refused rest (kept ls locks) ms → Refused (Keep locks rest) ls ms
+-- From this list of locks the plan comes to this outcome, and leaves this list, where each of its calls is refused.
+pub data Refused {A : Type 0} : Plan A → Locks → A → Locks → Type 0 where
+  refused_done : {a : A} {ls : Locks} → Refused (Done a) ls a ls
+  refused_ask : {c : Call} {go : Result (Answer c) FsError → Plan A} {ls ms : Locks} {a : A} (e : FsError) → Refused (go (Err e)) ls a ms → Refused (Ask c go) ls a ms
+  refused_look : {go : Locks → Plan A} {ls ms : Locks} {a : A} → Refused (go ls) ls a ms → Refused (Look go) ls a ms
+  refused_keep : {locks : List Lock} {rest : Plan A} {ls ms : Locks} {a : A} → Refused rest (kept ls locks) a ms → Refused (Keep locks rest) ls a ms
 
 -- Memory ran out in a plan: the first of its calls were made, each of them whole. The list of locks is `first` again, or
 -- the one that the plan leaves where each later call is refused.
 pub data Cut (step : Step) {A : Type 0} (first : Locks) : Plan A → StoreState → Locks → StoreState → Locks → Type 0 where
   cut_first : {plan : Plan A} {s : StoreState} {ls : Locks} → Cut step first plan s ls s first
-  cut_refused : {plan : Plan A} {s : StoreState} {ls ms : Locks} → Refused plan ls ms → Cut step first plan s ls s ms
+  cut_refused : {plan : Plan A} {s : StoreState} {ls ms : Locks} {a : A} → Refused plan ls a ms → Cut step first plan s ls s ms
   cut_ask : {c : Call} {go : Result (Answer c) FsError → Plan A} {old mid new : StoreState} {ls ms : Locks} {answer : Result (Answer c) FsError}
       → step c old answer mid → Cut step first (go answer) mid ls new ms → Cut step first (Ask c go) old ls new ms
   cut_look : {go : Locks → Plan A} {old new : StoreState} {ls ms : Locks} → Cut step first (go ls) old ls new ms → Cut step first (Look go) old ls new ms

@@ -1,10 +1,9 @@
--- What methods do to worlds: plans that only read, plans that a caller may carry out, and what an entity tag says about
--- bytes.
-use Rattle.std.specs.Prelude.{◌≡◌, ℕ, ◌<◌, ◌≤◌, ⊤, false, List, Some, None, Result, Ok, Err}
+-- What methods do to worlds: plans that only read, plans that a caller may carry out, and what entity tags tell of bytes.
+use Rattle.std.specs.Prelude.{◌≡◌, ℕ, ◌<◌, ◌≤◌, ⊤, false, List, [], ◌∷◌, All, Some, None, Result, Ok, Err}
 use Rattle.dav_core.specs.declared.errors.FsError.{FsError}
 use Rattle.dav_core.specs.declared.errors.DavError.{DavError}
 use Rattle.dav_core.specs.declared.method.DavMethod.{DavMethod}
-use Rattle.dav_core.specs.Asking.{Call, Answer, StoreState, Asks, CreateDir, RemoveDir, RemoveFile, Rename, Copy, PatchProps, Open, Write}
+use Rattle.dav_core.specs.Asking.{Call, Answer, StoreState, Asks, ReadDir, CreateDir, RemoveDir, RemoveFile, Rename, Copy, PatchProps, Open, Write}
 use Rattle.dav_core.specs.CallLaws.{IsProper, IsStorable}
 use Rattle.dav_core.specs.Locks.{Lock}
 use Rattle.dav_core.specs.Path.{Path, PathText, names}
@@ -38,10 +37,15 @@ pub data IsReading {A : Type 0} : Plan A → Type 0 where
   reads_ask : {c : Call} {go : Result (Answer c) FsError → Plan A} → OnlyReads c → ((answer : Result (Answer c) FsError) → IsReading (go answer)) → IsReading (Ask c go)
   reads_look : {go : Locks → Plan A} → ((ls : Locks) → IsReading (go ls)) → IsReading (Look go)
 
--- a plan that makes only calls that a caller may make
+-- What a call may be told of a world: what is listed in a folder are names that a path may have.
+abbrev pub MayTell : (call : Call) → Result (Answer call) FsError → Type 0
+MayTell (ReadDir p) (Ok entries) = All (λ e. IsStorable (e.0 ∷ [])) entries
+MayTell _ _ = ⊤
+
+-- a plan of calls that a caller may make, as long as it is told what a world may tell
 pub data IsProperPlan {A : Type 0} : Plan A → Type 0 where
   proper_done : {a : A} → IsProperPlan (Done a)
-  proper_ask : {c : Call} {go : Result (Answer c) FsError → Plan A} → IsProper c → ((answer : Result (Answer c) FsError) → IsProperPlan (go answer)) → IsProperPlan (Ask c go)
+  proper_ask : {c : Call} {go : Result (Answer c) FsError → Plan A} → IsProper c → ((answer : Result (Answer c) FsError) → MayTell c answer → IsProperPlan (go answer)) → IsProperPlan (Ask c go)
   proper_look : {go : Locks → Plan A} → ((ls : Locks) → IsProperPlan (go ls)) → IsProperPlan (Look go)
   proper_keep : {locks : List Lock} {rest : Plan A} → IsProperPlan rest → IsProperPlan (Keep locks rest)
 
