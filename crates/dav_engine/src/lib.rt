@@ -7,7 +7,6 @@ mod check;
 pub mod conditional;
 mod date;
 pub mod davinner;
-mod handle_delete;
 mod handle_mkcol;
 mod handle_put;
 mod headers;
