@@ -4,9 +4,10 @@ use Rattle.dav_core.specs.declared.errors.FsError.{FsError}
 use Rattle.dav_core.specs.declared.errors.DavError.{DavError}
 use Rattle.dav_core.specs.declared.errors.DavError.TheVariants as dav
 use Rattle.dav_core.specs.Asking.{Call, Answer, StoreState, Asks}
-use Rattle.dav_engine.specs.Plan.{Done, Ask, Step, Locks, Ran, ran_done, ran_ask, ran_look, ran_keep, Cut, cut_first, cut_refused, cut_ask, cut_look, cut_keep}
+use Rattle.dav_engine.specs.Plan.{Done, Ask, Step, Locks, Ran, ran_done, ran_ask, ran_look, ran_keep}
 use Rattle.dav_engine.specs.Method.{Method, then, ◌>>=◌, require}
 use Rattle.dav_engine.specs.Follows.{Follows, followed, gave_up, viewed}
+use Rattle.dav_engine.proofs.CutPlans.{cut_first, cut_ask, cut_bind, cut_in}
 
 pub ran_at : {step : Step} {A : Type 0} {a b : A} {s : StoreState} {ls : Locks} → b ≡ a → Ran step (Done a) s ls b s ls
 ran_at {step} {A} {a} {b} {s} {ls} e = subst (λ (x : A). Ran step (Done a) s ls x s ls) (sym e) ran_done
@@ -19,23 +20,6 @@ ran_bind f (ran_ask one rest) more = ran_ask one (ran_bind f rest more)
 ran_bind f (ran_look rest) more = ran_look (ran_bind f rest more)
 ran_bind f (ran_keep rest) more = ran_keep (ran_bind f rest more)
 
--- the plan's first part ended, and memory ran out in the rest
-pub cut_bind : {step : Step} {A B : Type 0} {first : Locks} {plan : Method A} (f : A → Method B) {old mid new : StoreState} {ls ks ms : Locks} {r : Result A DavError}
-    → Ran step plan old ls r mid ks → Cut step first (then r f) mid ks new ms → Cut step first (plan >>= f) old ls new ms
-cut_bind f ran_done more = more
-cut_bind f (ran_ask one rest) more = cut_ask one (cut_bind f rest more)
-cut_bind f (ran_look rest) more = cut_look (cut_bind f rest more)
-cut_bind f (ran_keep rest) more = cut_keep (cut_bind f rest more)
-
--- memory ran out in the plan's first part, which left the list of locks as it was
-pub cut_in : {step : Step} {A B : Type 0} {first : Locks} {plan : Method A} (f : A → Method B) {old new : StoreState} {ls ms : Locks}
-    → Cut step first plan old ls new ms → ms ≡ first → Cut step first (plan >>= f) old ls new ms
-cut_in f cut_first same = cut_first
-cut_in {step} {first = first} {plan = plan} f (cut_refused {s = s} {ls = ls} left) same = subst (λ ks. Cut step first (plan >>= f) s ls s ks) (sym same) cut_first
-cut_in f (cut_ask one rest) same = cut_ask one (cut_in f rest same)
-cut_in f (cut_look rest) same = cut_look (cut_in f rest same)
-cut_in f (cut_keep rest) same = cut_keep (cut_in f rest same)
-
 -- the plan is done, with this result
 pub follows_done : {A X : Type 0} {view : X → A} {a : Result A DavError} {s : StoreState} {ls : Locks} {r : Result X DavError} → viewed view r ≡ a → Follows view (Done a) s ls r s ls
 follows_done e = followed (ran_at e)
@@ -44,7 +28,7 @@ follows_done e = followed (ran_at e)
 pub follows_ask : {A X : Type 0} {view : X → A} {c : Call} {go : Result (Answer c) FsError → Method A} {old mid new : StoreState} {ls ms : Locks} {answer : Result (Answer c) FsError} {r : Result X DavError}
     → Asks c old answer mid → Follows view (go answer) mid ls r new ms → Follows view (Ask c go) old ls r new ms
 follows_ask one (followed rest) = followed (ran_ask one rest)
-follows_ask one (gave_up e rest) = gave_up e (cut_ask one rest)
+follows_ask {answer = answer} one (gave_up e rest) = gave_up e (cut_ask answer one rest)
 
 -- memory ran out here
 pub follows_up_to : {A X : Type 0} {view : X → A} {plan : Method A} {s : StoreState} {ls : Locks} → Follows view plan s ls (Err dav.Memory) s ls

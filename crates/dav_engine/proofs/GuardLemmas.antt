@@ -10,7 +10,8 @@ use Rattle.dav_core.specs.declared.method.DavMethod.{DavMethod}
 use Rattle.dav_core.specs.Asking.{StoreState}
 use Rattle.dav_core.specs.Locks.{Asker, Lock, asker_of}
 use Rattle.dav_core.specs.Path.{Path}
-use Rattle.dav_engine.specs.Plan.{Locks, Look, Done, ran_look, cut_look}
+use Rattle.dav_engine.specs.Plan.{Locks, Look, Done, ran_look}
+use Rattle.dav_engine.proofs.CutPlans.{cut_look}
 use Rattle.dav_engine.specs.Method.{Method, ◌>>=◌, require, require_free, is_open}
 use Rattle.dav_engine.specs.Follows.{Follows, followed, gave_up, viewed, or_memory, Carries, served}
 use Rattle.dav_engine.specs.Conditions.{Conditions, if_match_get_tokens, status_as, guarded}

@@ -1,4 +1,5 @@
 pub mod DateLemmas
+pub mod CutPlans
 pub mod Following
 pub mod PlanLemmas
 pub mod OnePlanLemmas
@@ -19,3 +20,4 @@ pub mod ConditionLemmas
 pub mod TagPathLemmas
 pub mod VerdictLemmas
 pub mod ModelLemmas
+pub mod LaterLemmas

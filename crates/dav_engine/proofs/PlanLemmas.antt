@@ -1,10 +1,10 @@
 -- The laws of plans, each by recursion on what was done.
-use Rattle.std.proofs.Common.{◌≡◌, ◌⊎◌, inl, inr, false, true≢false, List, [], ◌∷◌, Option, Some, None, Result, Err, refl, sym, subst, ap, ◌∙◌}
+use Rattle.std.proofs.Common.{◌≡◌, ◌⊎◌, inl, inr, false, true≢false, List, [], ◌∷◌, ◌++◌, Option, Some, None, Result, Err, refl, sym, subst, ap, ◌∙◌}
 use Rattle.dav_core.specs.declared.errors.FsError.{FsError}
 use Rattle.dav_core.specs.declared.errors.FsError.TheVariants.{GeneralFailure, InsufficientStorage}
 use Rattle.dav_core.specs.Asking.{Call, Answer, StoreState, Asks, asked, ran_short, ask, rest_of}
 use Rattle.dav_core.specs.World.{World}
-use Rattle.dav_engine.specs.Plan.{Plan, Done, Ask, Look, Keep, Locks, kept, Ran, ran_done, ran_ask, ran_look, ran_keep, Cut, cut_first, cut_refused, cut_ask, cut_look, cut_keep, Refused, refused_done, refused_ask, refused_look, refused_keep}
+use Rattle.dav_engine.specs.Plan.{Plan, Done, Ask, Look, Keep, Locks, kept, Ran, ran_done, ran_ask, ran_look, ran_keep, RanUpTo, up_to_here, up_to_ask, up_to_look, up_to_keep, Cut, Refused, refused_done, refused_ask, refused_look, refused_keep}
 use Rattle.dav_engine.specs.PlanLaws.{ample}
 
 -- the flag for out of memory is never cleared
@@ -122,16 +122,28 @@ pub record CutAgain {A : Type 0} (plan : Plan A) (old new : World) (first ls ms 
   pub ran : Ran Asks plan (ample old refusals) ls outcome (ample new []) locks
   pub list : (ms ≡ first) ⊎ (ms ≡ locks)
 
-pub cut_again : {A : Type 0} {first : Locks} {plan : Plan A} {old new : StoreState} {ls ms : Locks} → Cut Asks first plan old ls new ms → CutAgain plan old.world new.world first ls ms
-cut_again (cut_first {plan = plan} {s = s} {ls = ls}) = let rest = stopped plan ls in
-    record { refusals = rest.refusals; outcome = rest.outcome; locks = rest.locks; ran = rest.ran s.world; list = inl refl }
-cut_again (cut_refused {s = s} {ms = ms} {a = a} left) = let rest = stopped_at left in
-    record { refusals = rest.refusals; outcome = a; locks = ms; ran = rest.ran s.world; list = inr refl }
-cut_again (cut_ask one rest) =
+-- the refusals under which the first part of a plan is run again, before those under which the rest is
+pub record UpToAgain {A : Type 0} (plan rest : Plan A) (old new : World) (ls ks : Locks) : Type 0 where
+  pub before : List (Option FsError)
+  pub again : {a : A} {end : World} {ms : Locks} (after : List (Option FsError)) → Ran Asks rest (ample new after) ks a (ample end []) ms → Ran Asks plan (ample old (before ++ after)) ls a (ample end []) ms
+
+up_to_again : {A : Type 0} {plan rest : Plan A} {old new : StoreState} {ls ks : Locks} → RanUpTo Asks plan old ls rest new ks → UpToAgain plan rest old.world new.world ls ks
+up_to_again up_to_here = record { before = []; again = λ after ran. ran }
+up_to_again (up_to_ask one more) =
     let met = asks_met one in
-    let more = cut_again rest in
-    record { refusals = met.entry ∷ more.refusals; outcome = more.outcome; locks = more.locks; ran = ran_ask (met.again more.refusals) more.ran; list = more.list }
-cut_again (cut_look rest) = let more = cut_again rest in
-    record { refusals = more.refusals; outcome = more.outcome; locks = more.locks; ran = ran_look more.ran; list = more.list }
-cut_again (cut_keep rest) = let more = cut_again rest in
-    record { refusals = more.refusals; outcome = more.outcome; locks = more.locks; ran = ran_keep more.ran; list = more.list }
+    let part = up_to_again more in
+    record { before = met.entry ∷ part.before; again = λ after ran. ran_ask (met.again (part.before ++ after)) (part.again after ran) }
+up_to_again (up_to_look more) = let part = up_to_again more in record { before = part.before; again = λ after ran. ran_look (part.again after ran) }
+up_to_again (up_to_keep more) = let part = up_to_again more in record { before = part.before; again = λ after ran. ran_keep (part.again after ran) }
+
+cut_from : {A : Type 0} {plan rest : Plan A} {old new : World} {first ls ks ms : Locks} → UpToAgain plan rest old new ls ks
+    → (ms ≡ first) ⊎ ((outcome : A) × Refused rest ks outcome ms) → CutAgain plan old new first ls ms
+cut_from {rest = rest} {new = new} {ks = ks} part (inl same) =
+    let stop = stopped rest ks in
+    record { refusals = part.before ++ stop.refusals; outcome = stop.outcome; locks = stop.locks; ran = part.again stop.refusals (stop.ran new); list = inl same }
+cut_from {new = new} {ms = ms} part (inr (a, left)) =
+    let stop = stopped_at left in
+    record { refusals = part.before ++ stop.refusals; outcome = a; locks = ms; ran = part.again stop.refusals (stop.ran new); list = inr refl }
+
+pub cut_again : {A : Type 0} {first : Locks} {plan : Plan A} {old new : StoreState} {ls ms : Locks} → Cut Asks first plan old ls new ms → CutAgain plan old.world new.world first ls ms
+cut_again part = cut_from (up_to_again part.ran) part.list

@@ -1,6 +1,6 @@
 -- What a method of the server does, as data: which store calls it makes, how it goes on after each answer, and what it does
 -- with the list of locks. What a plan may result in on a store that may refuse any call.
-use Rattle.std.specs.Prelude.{List, Option, Some, None, Result, Err}
+use Rattle.std.specs.Prelude.{◌≡◌, ◌⊎◌, List, Option, Some, None, Result, Err}
 use Rattle.dav_core.specs.declared.errors.FsError.{FsError}
 use Rattle.dav_core.specs.Asking.{Call, Answer, StoreState}
 use Rattle.dav_core.specs.Locks.{Lock}
@@ -9,12 +9,12 @@ use Rattle.dav_core.specs.Locks.{Lock}
 abbrev pub Locks : Type 0
 Locks = Option (List Lock)
 
--- what a server serves from: its store, and its list of locks
+-- the state of a server: its store, and its list of locks
 pub record ServerState : Type 0 where
   pub store : StoreState
   pub locks : Locks
 
--- the list after it was set; without a lock system nothing is kept
+-- the list after it was set; without a lock system there is no list
 abbrev pub kept : Locks → List Lock → Locks
 kept None locks = None
 kept (Some old) locks = Some locks
@@ -40,19 +40,25 @@ pub data Ran (step : Step) {A : Type 0} : Plan A → StoreState → Locks → A 
   ran_look : {go : Locks → Plan A} {old new : StoreState} {ls ms : Locks} {a : A} → Ran step (go ls) old ls a new ms → Ran step (Look go) old ls a new ms
   ran_keep : {locks : List Lock} {rest : Plan A} {old new : StoreState} {ls ms : Locks} {a : A} → Ran step rest old (kept ls locks) a new ms → Ran step (Keep locks rest) old ls a new ms
 
--- From this list of locks the plan comes to this outcome, and leaves this list, where each of its calls is refused.
+-- From the first list of locks, the plan ends with this outcome and leaves the second list where each of its calls is refused.
 pub data Refused {A : Type 0} : Plan A → Locks → A → Locks → Type 0 where
   refused_done : {a : A} {ls : Locks} → Refused (Done a) ls a ls
   refused_ask : {c : Call} {go : Result (Answer c) FsError → Plan A} {ls ms : Locks} {a : A} (e : FsError) → Refused (go (Err e)) ls a ms → Refused (Ask c go) ls a ms
   refused_look : {go : Locks → Plan A} {ls ms : Locks} {a : A} → Refused (go ls) ls a ms → Refused (Look go) ls a ms
   refused_keep : {locks : List Lock} {rest : Plan A} {ls ms : Locks} {a : A} → Refused rest (kept ls locks) a ms → Refused (Keep locks rest) ls a ms
 
--- Memory ran out in a plan: the first of its calls were made, each of them whole. The list of locks is `first` again, or
--- the one that the plan leaves where each later call is refused.
-pub data Cut (step : Step) {A : Type 0} (first : Locks) : Plan A → StoreState → Locks → StoreState → Locks → Type 0 where
-  cut_first : {plan : Plan A} {s : StoreState} {ls : Locks} → Cut step first plan s ls s first
-  cut_refused : {plan : Plan A} {s : StoreState} {ls ms : Locks} {a : A} → Refused plan ls a ms → Cut step first plan s ls s ms
-  cut_ask : {c : Call} {go : Result (Answer c) FsError → Plan A} {old mid new : StoreState} {ls ms : Locks} {answer : Result (Answer c) FsError}
-      → step c old answer mid → Cut step first (go answer) mid ls new ms → Cut step first (Ask c go) old ls new ms
-  cut_look : {go : Locks → Plan A} {old new : StoreState} {ls ms : Locks} → Cut step first (go ls) old ls new ms → Cut step first (Look go) old ls new ms
-  cut_keep : {locks : List Lock} {rest : Plan A} {old new : StoreState} {ls ms : Locks} → Cut step first rest old (kept ls locks) new ms → Cut step first (Keep locks rest) old ls new ms
+-- The first calls of a plan were made, each of them whole; this list of locks was then set, and `rest` of the plan is left.
+pub data RanUpTo (step : Step) {A : Type 0} : Plan A → StoreState → Locks → Plan A → StoreState → Locks → Type 0 where
+  up_to_here : {plan : Plan A} {s : StoreState} {ls : Locks} → RanUpTo step plan s ls plan s ls
+  up_to_ask : {c : Call} {go : Result (Answer c) FsError → Plan A} {old mid new : StoreState} {ls ms : Locks} {answer : Result (Answer c) FsError} {rest : Plan A}
+      → step c old answer mid → RanUpTo step (go answer) mid ls rest new ms → RanUpTo step (Ask c go) old ls rest new ms
+  up_to_look : {go : Locks → Plan A} {old new : StoreState} {ls ms : Locks} {rest : Plan A} → RanUpTo step (go ls) old ls rest new ms → RanUpTo step (Look go) old ls rest new ms
+  up_to_keep : {locks : List Lock} {more : Plan A} {old new : StoreState} {ls ms : Locks} {rest : Plan A} → RanUpTo step more old (kept ls locks) rest new ms → RanUpTo step (Keep locks more) old ls rest new ms
+
+-- Memory ran out in a plan: its first calls were made, and `rest` is left. The list of locks is `first` again, or the one that
+-- the rest leaves where each of its calls is refused.
+pub record Cut (step : Step) {A : Type 0} (first : Locks) (plan : Plan A) (old : StoreState) (ls : Locks) (new : StoreState) (ms : Locks) : Type 0 where
+  pub rest : Plan A
+  pub locks : Locks
+  pub ran : RanUpTo step plan old ls rest new locks
+  pub list : (ms ≡ first) ⊎ ((outcome : A) × Refused rest locks outcome ms)

@@ -5,7 +5,8 @@ use Rattle.dav_core.specs.declared.errors.DavError.TheVariants as dav
 use Rattle.dav_core.specs.Asking.{StoreState, Asks}
 use Rattle.dav_engine.specs.Follows.{followed, gave_up, Serves, served, not_begun}
 use Rattle.dav_engine.specs.Method.{Method, fails}
-use Rattle.dav_engine.specs.Plan.{Plan, Locks, ServerState, Ran, ran_done, ran_ask, ran_look, ran_keep, Cut, cut_refused, cut_ask, cut_look, cut_keep, refused_done}
+use Rattle.dav_engine.specs.Plan.{Plan, Locks, ServerState, Ran, ran_done, ran_ask, ran_look, ran_keep, Cut, refused_done}
+use Rattle.dav_engine.proofs.CutPlans.{cut_refused, cut_ask, cut_look, cut_keep}
 use Rattle.dav_engine.specs.Response.{Response, error_reply}
 use Rattle.dav_engine.proofs.Following.{follows_done}
 use Rattle.dav_core.specs.declared.method.DavMethod.{DavMethod}
@@ -36,7 +37,7 @@ serves_error e k = served (fails e) k (follows_done refl)
 -- a plan that was followed to its end was also begun
 cut_of_ran : {A : Type 0} {first : Locks} {plan : Plan A} {old new : StoreState} {ls ms : Locks} {a : A} → Ran Asks plan old ls a new ms → Cut Asks first plan old ls new ms
 cut_of_ran ran_done = cut_refused refused_done
-cut_of_ran (ran_ask one rest) = cut_ask one (cut_of_ran rest)
+cut_of_ran (ran_ask {answer = answer} one rest) = cut_ask answer one (cut_of_ran rest)
 cut_of_ran (ran_look rest) = cut_look (cut_of_ran rest)
 cut_of_ran (ran_keep rest) = cut_keep (cut_of_ran rest)
 
