@@ -21,9 +21,13 @@ pub record Response : Type 0 where
   pub headers : List Header
   pub body : ReplyBody
 
+-- names with their values, as headers
+abbrev pub header_pairs : List (List ℕ × FieldValue) → List Header
+header_pairs named = map (λ h. (h.0, h.1.bytes)) named
+
 -- the headers of a map in order, each with its value
 abbrev pub headers_in : Entries FieldValue → List Header
-headers_in headers = map (λ h. (h.0, h.1.bytes)) (pairs headers)
+headers_in headers = header_pairs (pairs headers)
 
 -- how many bytes the body has (RFC 9110, section 8.6)
 abbrev pub content_length : ℕ → Header

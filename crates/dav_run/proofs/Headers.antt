@@ -4,12 +4,10 @@ use Rattle.std.specs.Cmp.Lexicographic.{slice_cmp}
 use Rattle.std.specs.Ordering.{match_ordering}
 use Rattle.std.specs.Prelude.{ℕ, ◌||◌}
 use Rattle.std.specs.Str.Lossy.{utf8_lossy}
-use Rattle.http_header.specs.FieldValue.{FieldValue}
-use Rattle.http_header.specs.HeaderMap.{pairs}
 use Rattle.serde_json.specs.Data.{string, Members, no_members, member, put}
 use Rattle.serde_json.specs.Written.{has_float, members_have_float}
 use Rattle.dav_run.specs.Print.{headers_over, body_data, reply_data}
-use Rattle.dav_engine.specs.declared.reply.Reply.{Reply}
+use Rattle.dav_engine.specs.Response.{Response, Header}
 use Rattle.dav_engine.specs.declared.reply.ReplyBody.{ReplyBody}
 use Rattle.dav_engine.specs.declared.reply.ReplyBody.TheVariants.{Nothing, Bytes, Tree}
 use Rattle.dav_run.proofs.TreeLemmas.{tree_body_plain}
@@ -35,10 +33,10 @@ text_put k s (member l e ms) h =
     let parts = neither (has_float e) (members_have_float ms) h in
     among (slice_cmp nat_cmp k l) _ _ _ h parts.1 (both (has_float e) _ parts.0 (text_put k s ms parts.1))
 
-headers_plain : (hs : List (List ℕ × FieldValue)) (found : Members) → members_have_float found ≡ false
+headers_plain : (hs : List Header) (found : Members) → members_have_float found ≡ false
     → members_have_float (headers_over hs found) ≡ false
 headers_plain [] found h = h
-headers_plain (x ∷ hs) found h = headers_plain hs (put x.0 (string (utf8_lossy x.1.bytes)) found) (text_put x.0 (utf8_lossy x.1.bytes) found h)
+headers_plain (x ∷ hs) found h = headers_plain hs (put x.0 (string (utf8_lossy x.1)) found) (text_put x.0 (utf8_lossy x.1) found h)
 
 body_plain : (b : ReplyBody) → has_float (body_data b) ≡ false
 body_plain Nothing = refl
@@ -46,7 +44,7 @@ body_plain (Bytes bytes) = refl
 body_plain (Tree tree) = tree_body_plain tree
 
 -- a reply's JSON has no fraction
-pub reply_plain : (r : Reply) → has_float (reply_data r) ≡ false
+pub reply_plain : (r : Response) → has_float (reply_data r) ≡ false
 reply_plain r =
     both (has_float (body_data r.body)) _ (body_plain r.body)
-    (both (members_have_float (headers_over (pairs r.headers) no_members)) _ (headers_plain (pairs r.headers) no_members refl) refl)
+    (both (members_have_float (headers_over r.headers no_members)) _ (headers_plain r.headers no_members refl) refl)

@@ -2,27 +2,26 @@
 use Rattle.std.proofs.Common.{◌≡◌, ℕ, List, [], map, Option, Some, None, Result, Ok, Err, OnOk, IfSome, IsSomeAnd, refl, sym, subst, ◌∙◌}
 use Rattle.serde_json.specs.Data.{Data}
 use Rattle.serde_json.specs.Read.{read}
-use Rattle.dav_core.specs.Asking.{StoreState}
-use Rattle.dav_engine.specs.declared.reply.Reply.{Reply}
-use Rattle.dav_engine.specs.Plan.{Locks}
-use Rattle.dav_engine.specs.Response.{response_of}
+use Rattle.dav_engine.specs.Plan.{ServerState}
+use Rattle.dav_engine.specs.Response.{Response}
 use Rattle.dav_server.specs.Machine.{Settings}
-use Rattle.dav_server.specs.Run.{Turn, Runs}
+use Rattle.dav_server.specs.Run.{Turn}
+use Rattle.dav_server.specs.Server.{Server, AnswersAll}
 use Rattle.dav_server.specs.Setup.{IsPrefix}
 use Rattle.dav_run.specs.declared.play.Fault.{Fault}
 use Rattle.dav_run.specs.Print.{lines_of}
 use Rattle.dav_run.specs.Script as script
 use Rattle.dav_run.specs.Script.{ScriptContent, IsShort, IsScript, IsScriptValue}
-use Rattle.dav_run.specs.Play.{Plays, IsPlayable, settings_for, new_store, turn_for}
+use Rattle.dav_run.specs.Play.{Plays, IsPlayable, new_server, turn_for}
 
 -- a script that was read, the run of its requests and the lines of the replies meet `Plays`
-pub together : {E : Type 0} (result : Result (Unit {0}) E) (o : Option (List ℕ)) (Wrote : List ℕ → Type 0) (s : ScriptContent) (replies : List Reply) (left : StoreState) (locks : Locks)
+pub together : {E : Type 0} (result : Result (Unit {0}) E) (o : Option (List ℕ)) (Wrote : List ℕ → Type 0) (s : ScriptContent) (replies : List Response) (left : Server)
     → IfSome o (λ text. IsShort text × IsScript text s) → IsPrefix s.prefix
-    → Runs (settings_for s) (map turn_for s.requests) (new_store s) (Some []) (map response_of replies) left locks
+    → AnswersAll (new_server s) (map turn_for s.requests) replies left
     → OnOk result (Wrote (lines_of replies)) → OnOk result (IfSome o (λ text. (lines : List ℕ) × Plays text lines × Wrote lines))
-together (Ok x) (Some text) Wrote s replies left locks read prefix run wrote = (lines_of replies, (s, replies, left, locks, read.0, read.1, prefix, run, refl), wrote)
-together (Ok x) None Wrote s replies left locks read prefix run wrote = tt
-together (Err e) o Wrote s replies left locks read prefix run wrote = tt
+together (Ok x) (Some text) Wrote s replies left read prefix run wrote = (lines_of replies, (s, replies, left, read.0, read.1, prefix, run, refl), wrote)
+together (Ok x) None Wrote s replies left read prefix run wrote = tt
+together (Err e) o Wrote s replies left read prefix run wrote = tt
 
 -- a member is one text
 one_text : (o : Option Data) (a b : List ℕ) → script.IsPrefix o a → script.IsPrefix o b → a ≡ b
@@ -43,14 +42,13 @@ pub unplayable : (o : Option (List ℕ)) (s : ScriptContent) → IfSome o (λ te
 unplayable None s read bad = tt
 unplayable (Some text) s read bad = λ can. bad (subst IsPrefix (one_prefix text can.0 s can.2 read.1) can.3)
 
--- the run of a server with this setup
-pub run_set_up : {s t : Settings} {ts us : List Turn} {old from left : StoreState} {ls ks locks : Locks} (replies : List Reply) → s ≡ t → ts ≡ us → old ≡ from → ls ≡ ks
-    → Runs s ts old ls (map response_of replies) left locks → Runs t us from ks (map response_of replies) left locks
-run_set_up {s} {t} {ts} {us} {old} {from} {left} {ls} {ks} {locks} replies one two three four run =
-    subst (λ (k : Locks). Runs t us from k (map response_of replies) left locks) four
-    (subst (λ (o : StoreState). Runs t us o ls (map response_of replies) left locks) three
-    (subst (λ (l : List Turn). Runs t l old ls (map response_of replies) left locks) two
-    (subst (λ (c : Settings). Runs c ts old ls (map response_of replies) left locks) one run)))
+-- the run of a server with these settings and this state
+pub run_set_up : {one : Server} {s : Settings} {from : ServerState} {ts us : List Turn} (replies : List Response) (left : Server) → one.settings ≡ s → one.state ≡ from → ts ≡ us
+    → AnswersAll one ts replies left → AnswersAll (record { settings = s; state = from }) us replies left
+run_set_up {one} {s} {from} {ts} {us} replies left settings state turns run =
+    subst (λ (l : List Turn). AnswersAll (record { settings = s; state = from }) l replies left) turns
+    (subst (λ (o : ServerState). AnswersAll (record { settings = s; state = o }) ts replies left) state
+    (subst (λ (c : Settings). AnswersAll (record { settings = c; state = one.state }) ts replies left) settings run))
 
 -- where two results are the same error, so are the errors
 pub same_error : {A : Type 0} {a b : Fault} → ◌≡◌ {A = Result A Fault} (Err a) (Err b) → a ≡ b

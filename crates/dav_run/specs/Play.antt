@@ -2,11 +2,11 @@
 use Rattle.std.specs.Prelude.{◌≡◌, ℕ, max, false, List, [], map, Some, None}
 use Rattle.dav_core.specs.Asking.{StoreState}
 use Rattle.dav_core.specs.World.{empty_from}
-use Rattle.dav_engine.specs.declared.reply.Reply.{Reply}
-use Rattle.dav_engine.specs.Plan.{Locks}
-use Rattle.dav_engine.specs.Response.{response_of}
+use Rattle.dav_engine.specs.Plan.{ServerState}
+use Rattle.dav_engine.specs.Response.{Response}
 use Rattle.dav_server.specs.Machine.{Settings}
-use Rattle.dav_server.specs.Run.{Turn, Runs}
+use Rattle.dav_server.specs.Run.{Turn}
+use Rattle.dav_server.specs.Server.{Server, AnswersAll}
 use Rattle.dav_server.specs.Setup.{IsPrefix}
 use Rattle.dav_run.specs.Script.{ScriptRequest, ScriptContent, IsShort, IsScript}
 use Rattle.dav_run.specs.Print.{lines_of}
@@ -28,17 +28,25 @@ settings_for s = record { prefix = s.prefix; allowed = s.methods }
 abbrev pub new_store : ScriptContent → StoreState
 new_store s = record { world = empty_from (max s.next 1); refusals = []; short = false }
 
+-- its state: that store, and no locks
+abbrev pub new_state : ScriptContent → ServerState
+new_state s = record { store = new_store s; locks = Some [] }
+
+-- the server that a script sets up
+abbrev pub new_server : ScriptContent → Server
+new_server s = record { settings = settings_for s; state = new_state s }
+
 -- bytes that can be played: a script that is short enough, and whose prefix a server accepts
 abbrev pub IsPlayable : List ℕ → Type 0
 IsPlayable text = (s : ScriptContent) × IsShort text × IsScript text s × IsPrefix s.prefix
 
--- The text is a script, and the lines are the replies of the machine's run of its requests, on a new server with no
--- locks.
+-- The text is a script, and the lines are the replies of the machine's run of its requests, from the server that it sets
+-- up.
 abbrev pub Plays : List ℕ → List ℕ → Type 0
 Plays text lines =
-    (s : ScriptContent) × (replies : List Reply) × (left : StoreState) × (locks : Locks)
+    (s : ScriptContent) × (replies : List Response) × (left : Server)
     × IsShort text × IsScript text s × IsPrefix s.prefix
-    × Runs (settings_for s) (map turn_for s.requests) (new_store s) (Some []) (map response_of replies) left locks
+    × AnswersAll (new_server s) (map turn_for s.requests) replies left
     × (lines ≡ lines_of replies)
 
 -- the exit status of the program after a fault

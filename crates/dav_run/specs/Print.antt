@@ -3,11 +3,9 @@ use Rattle.std.specs.Prelude.{ℕ, List, [], ◌∷◌, ◌++◌, codes}
 use Rattle.std.specs.List.{flat_map}
 use Rattle.std.specs.Str.Lossy.{utf8_lossy}
 use Rattle.hex.specs.Hex.{encode_lower}
-use Rattle.http_header.specs.FieldValue.{FieldValue}
-use Rattle.http_header.specs.HeaderMap.{Entries, pairs}
 use Rattle.serde_json.specs.Data.{Data, null, number, string, object, unsigned, Members, no_members, member, put}
 use Rattle.serde_json.specs.Written.{compact_text}
-use Rattle.dav_engine.specs.declared.reply.Reply.{Reply}
+use Rattle.dav_engine.specs.Response.{Response, Header}
 use Rattle.dav_engine.specs.declared.reply.ReplyBody.{ReplyBody}
 use Rattle.dav_engine.specs.declared.reply.ReplyBody.TheVariants.{Nothing, Bytes, Tree}
 use Rattle.dav_run.specs.TreeData.{tree_body}
@@ -19,16 +17,16 @@ body_data (Bytes bytes) = object (member (codes "hex") (string (encode_lower byt
 body_data (Tree tree) = tree_body tree
 
 -- headers as members, each added to those before it: of a name with several values the last one counts
-abbrev pub headers_over : List (List ℕ × FieldValue) → Members → Members
+abbrev pub headers_over : List Header → Members → Members
 headers_over [] found = found
-headers_over (h ∷ more) found = headers_over more (put h.0 (string (utf8_lossy h.1.bytes)) found)
+headers_over (h ∷ more) found = headers_over more (put h.0 (string (utf8_lossy h.1)) found)
 
 -- all headers, in byte order of their names
-abbrev pub headers_data : Entries FieldValue → Data
-headers_data headers = object (headers_over (pairs headers) no_members)
+abbrev pub headers_data : List Header → Data
+headers_data headers = object (headers_over headers no_members)
 
 -- a reply as an object
-abbrev pub reply_data : Reply → Data
+abbrev pub reply_data : Response → Data
 reply_data r =
     object
     (member (codes "body") (body_data r.body)
@@ -36,9 +34,9 @@ reply_data r =
     (member (codes "status") (number (unsigned r.status)) no_members)))
 
 -- the line of a reply: its JSON text without white space, and a newline
-abbrev pub line_of : Reply → List ℕ
+abbrev pub line_of : Response → List ℕ
 line_of r = compact_text (reply_data r) ++ 10 ∷ []
 
 -- the lines of the replies, in order
-abbrev pub lines_of : List Reply → List ℕ
+abbrev pub lines_of : List Response → List ℕ
 lines_of rs = flat_map line_of rs

@@ -3,9 +3,8 @@ ghost use Rattle.std.specs.Prelude.{◌≡◌, ◌≢◌, ◌↔◌, ◌≤◌, 
 ghost use Rattle.std.specs.Io.KnownBytes.{Appends};
 ghost use Rattle.dav_run.specs.Print.{lines_of};
 ghost use Rattle.dav_run.specs.Script.{IsScript, IsShort, script_request, script_content};
-ghost use Rattle.dav_server.specs.Setup.{IsPrefix, settings};
-ghost use Rattle.dav_server.specs.Turns.{step_turn, memory_state};
-ghost use Rattle.dav_run.specs.Play.{Plays, IsPlayable, settings_for, new_store, turn_for, fault_status};
+ghost use Rattle.dav_server.specs.Setup.{IsPrefix};
+ghost use Rattle.dav_run.specs.Play.{Plays, IsPlayable, settings_for, new_state, turn_for, fault_status};
 ghost use Rattle.dav_run.specs.declared.play.Fault.TheVariants.{NotScript, Io, Memory};
 
 use crate::print::reply_line;
@@ -183,8 +182,9 @@ fn read_bytes<R: Read>(alloc: Global, reader: &mut R) -> Result<Vec<u8>, Fault>
 
 // The server that a script sets up.
 fn server_of(alloc: Global, script: &Script) -> Result<DavHandler<Refusing<MemFs>, MemLs>, Fault>
-    ensures ok { IfOk result (λ h. IsPrefix (script_content script.now).prefix × (settings h ≡ settings_for (script_content script.now))
-        × (memory_state h.fs ≡ new_store (script_content script.now)) × (h.ls ≡ Some [])) }
+    ensures prefix { OnOk result (IsPrefix (script_content script.now).prefix) }
+    ensures settings { IfOk result (λ h. h.settings ≡ settings_for (script_content script.now)) }
+    ensures state { IfOk result (λ h. h.state ≡ new_state (script_content script.now)) }
     ensures bad { IsErrOf result NotScript → ¬ IsPrefix (script_content script.now).prefix }
 {
     let fs = Refusing::new(MemFs::new_at(alloc, script.next)?);
@@ -194,7 +194,8 @@ fn server_of(alloc: Global, script: &Script) -> Result<DavHandler<Refusing<MemFs
 
 // The steps of a script.
 fn steps_of(alloc: Global, script: &Script) -> Result<Vec<Step<'_>>, NoMemory>
-    ensures { IfOk result (λ steps. map step_turn steps.items ≡ map turn_for (map script_request script.now.requests.items)) }
+    ensures { IfOk result (λ steps.
+        steps.items ≡ map turn_for (map script_request script.now.requests.items)) }
 {
     let mut steps = Vec::new(alloc);
     for request in &script.requests {
@@ -205,7 +206,7 @@ fn steps_of(alloc: Global, script: &Script) -> Result<Vec<Step<'_>>, NoMemory>
 
 // The step of a request. The exchange accepts its moment.
 fn step_of(request: &Request) -> Result<Step<'_>, NoMemory>
-    ensures { IfOk result (λ step. step_turn step ≡ turn_for (script_request request.now)) }
+    ensures { IfOk result (λ step. step ≡ turn_for (script_request request.now)) }
 {
     let body = body_of(&request.body)?;
     let refusals = request.refusals.clone()?;
@@ -227,7 +228,8 @@ fn body_of(body: &Body) -> Result<Body, NoMemory>
 
 // Writes one line for each reply. A line is flushed before the next one is made.
 fn write_replies<W: Write>(alloc: Global, replies: &[Reply], writer: &mut W) -> Result<(), Fault>
-    ensures written { OnOk result (Appends (W.contents writer.old) (W.contents writer.new) (lines_of replies.now)) }
+    ensures written { OnOk result
+        (Appends (W.contents writer.old) (W.contents writer.new) (lines_of replies.now)) }
     ensures err { IfErr result (λ e. e ≢ NotScript) }
 {
     for reply in replies {

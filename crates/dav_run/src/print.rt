@@ -1,6 +1,7 @@
 //! Replies as JSON.
 ghost use Rattle.std.specs.Prelude.{◌≡◌, IfOk, string_bytes};
 ghost use Rattle.serde_json.specs.View.{view};
+ghost use Rattle.dav_engine.specs.Response.{headers_in};
 ghost use Rattle.dav_run.specs.Print.{body_data, headers_data, reply_data, line_of};
 
 use crate::tree::tree_value;
@@ -51,7 +52,7 @@ fn body_value(alloc: Global, body: &ReplyBody) -> Result<Value, AllocError>
 
 // The headers as JSON.
 fn headers_value(alloc: Global, headers: &HeaderMap) -> Result<Value, AllocError>
-    ensures { IfOk result (λ value. view value ≡ headers_data headers.now) }
+    ensures { IfOk result (λ value. view value ≡ headers_data (headers_in headers.now)) }
 {
     let mut members = Map::new(alloc);
     for (name, value) in headers.iter() {
