@@ -171,9 +171,10 @@ asks_keep {c} {old} {new} {answer} proper world one = did_keep c old.world new.w
 
 stored_name : (p : Path) (name : List ℕ) → IsStorable (p ++ name ∷ []) → IsStorable (name ∷ [])
 stored_name p name storable =
-    let last = Contains-push p name in
-    (All-cons IsName name [] (All-contains IsName (p ++ name ∷ []) name storable.0 last) (All-nil IsName),
-     All-cons (All (λ b. b < 256)) name [] (All-contains (All (λ b. b < 256)) (p ++ name ∷ []) name storable.1 last) (All-nil (All (λ b. b < 256))))
+    let last = Contains-push p name in (
+      All-cons IsName name [] (All-contains IsName (p ++ name ∷ []) name storable.0 last) (All-nil IsName),
+      All-cons (All (λ b. b < 256)) name [] (All-contains (All (λ b. b < 256)) (p ++ name ∷ []) name storable.1 last) (All-nil (All (λ b. b < 256))),
+    )
 
 listed_name : (p : Path) (w : World) → IsWorld w → (e : List ℕ × Bool) → Contains (members p w.nodes) e → IsStorable (e.0 ∷ [])
 listed_name p w world (name, dir) there =

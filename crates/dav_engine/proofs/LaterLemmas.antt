@@ -83,7 +83,7 @@ cut_only f {ls = ls} is leaves part =
     let left = still_only is part.ran in
     let stop = only_quits part.locks left.only in
     let all : Refused (part.rest >>= f) part.locks (leaves stop.outcome).outcome ls =
-        refused_bind f stop.refused (subst (λ ks. Refused (then stop.outcome f) ks (leaves stop.outcome).outcome ls) (sym left.kept) (leaves stop.outcome).refused) in
+    refused_bind f stop.refused (subst (λ ks. Refused (then stop.outcome f) ks (leaves stop.outcome).outcome ls) (sym left.kept) (leaves stop.outcome).refused) in
     record { rest = part.rest >>= f; locks = part.locks; ran = up_to_in f part.ran; list = inr ((leaves stop.outcome).outcome, all) }
 
 -- the first part was refused, or memory ran out in it

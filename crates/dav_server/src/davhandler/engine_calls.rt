@@ -79,11 +79,10 @@ fn status_text(alloc: Global, status: Option<StatusCode>) -> Result<String, Fail
     }
 }
 
-// A store, and locks.
+// Plays calls of the engine on a store and locks.
 #[derive(Drop)]
 struct Engine {
-    fs: MemFs,
-    ls: Option<MemLs>,
+    backend: Backend<MemFs, MemLs>,
 }
 
 impl Engine {
@@ -95,8 +94,7 @@ impl Engine {
             token: None,
         };
         let mut inner = DavInner {
-            fs: &mut self.fs,
-            ls: &mut self.ls,
+            backend: &mut self.backend,
             allow: DavMethodSet::all(),
             caller: &caller,
         };
@@ -121,31 +119,35 @@ impl Engine {
 
     // What is at the path of a request.
     fn found(&mut self, request: &DavRequest) -> Option<DavMetaData> {
-        self.fs.metadata(&request.path).ok()
+        let backend = &mut self.backend;
+        backend.fs.metadata(&request.path).ok()
     }
 
     // What `dav_if_match` returns, as text.
     fn holds(&mut self, alloc: Global, request: &DavRequest) -> Result<String, Fail> {
-        let ls = self.ls.as_ref();
-        let (holds, tokens) = dav_if_match(alloc, request, &mut self.fs, ls, &request.path)?;
+        let backend = &mut self.backend;
+        let ls = backend.ls.as_ref();
+        let (holds, tokens) = dav_if_match(alloc, request, &mut backend.fs, ls, &request.path)?;
         Ok(format!(in alloc; "{holds}, {} tokens", tokens.len())?)
     }
 
     // What `if_match` returns, as text.
     fn status(&mut self, alloc: Global, request: &DavRequest) -> Result<String, Fail> {
         let found = self.found(request);
-        let ls = self.ls.as_ref();
+        let backend = &mut self.backend;
+        let ls = backend.ls.as_ref();
         let path = &request.path;
-        let status = if_match(alloc, request, found.as_ref(), &mut self.fs, ls, path)?;
+        let status = if_match(alloc, request, found.as_ref(), &mut backend.fs, ls, path)?;
         status_text(alloc, status)
     }
 
     // What `if_match_get_tokens` returns, as text.
     fn tokens(&mut self, alloc: Global, request: &DavRequest) -> Result<String, Fail> {
         let found = self.found(request);
-        let ls = self.ls.as_ref();
+        let backend = &mut self.backend;
+        let ls = backend.ls.as_ref();
         let path = &request.path;
-        match if_match_get_tokens(alloc, request, found.as_ref(), &mut self.fs, ls, path)? {
+        match if_match_get_tokens(alloc, request, found.as_ref(), &mut backend.fs, ls, path)? {
             Ok(tokens) => Ok(format!(in alloc; "{} tokens", tokens.len())?),
             Err(status) => status_text(alloc, Some(status)),
         }
@@ -175,14 +177,16 @@ impl Engine {
 
 impl Player for Engine {
     fn begin(&mut self, alloc: Global) -> Result<(), Fail> {
-        self.fs = MemFs::new(alloc)?;
-        self.ls = Some(MemLs::new(alloc)?);
+        let backend = &mut self.backend;
+        backend.fs = MemFs::new(alloc)?;
+        backend.ls = Some(MemLs::new(alloc)?);
         Ok(())
     }
 
     fn answer(&mut self, alloc: Global, question: &'static str) -> Result<Vec<u8>, Fail> {
         if let Some(path) = question.strip_prefix("anna locks ") {
-            return lock_for_anna(alloc, &mut self.ls, path);
+            let backend = &mut self.backend;
+            return lock_for_anna(alloc, &mut backend.ls, path);
         }
         let (call, rest) = question.split_once(" | ").ok_or(NoRow(question))?;
         let asked = request_of(alloc, rest)?;
@@ -194,5 +198,6 @@ impl Player for Engine {
 fn calls_the_engine(rt: HostRuntime) -> Result<(), Fail> {
     let fs = MemFs::new(rt.alloc())?;
     let ls = Some(MemLs::new(rt.alloc())?);
-    play_rows(&rt, &mut Engine { fs, ls }, CALLS)
+    let backend = Backend { fs, ls };
+    play_rows(&rt, &mut Engine { backend }, CALLS)
 }

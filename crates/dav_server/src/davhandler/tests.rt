@@ -161,7 +161,10 @@ impl Player for Requests {
 
     fn answer(&mut self, alloc: Global, question: &'static str) -> Result<Vec<u8>, Fail> {
         match question.strip_prefix("anna locks ") {
-            Some(path) => lock_for_anna(alloc, &mut self.server.ls, path),
+            Some(path) => {
+                let backend = &mut self.server.backend;
+                lock_for_anna(alloc, &mut backend.ls, path)
+            }
             None => Ok(self.reply(alloc, question)?.into_bytes()),
         }
     }
