@@ -30,6 +30,7 @@ pub mod MemberLemmas
 pub mod FollowLemmas
 pub mod GoneLemmas
 pub mod CopyLemmas
+pub mod CoverLemmas
 pub mod EqualLemmas
 pub mod ListedLocks
 pub mod CoveringLocks

@@ -13,7 +13,7 @@ use Rattle.dav_core.specs.declared.fs.DavMetaData.{DavMetaData}
 use Rattle.dav_core.specs.declared.method.DavMethod.{DavMethod}
 use Rattle.dav_core.specs.declared.method.DavMethod.TheVariants.{Get, Head}
 use Rattle.dav_core.specs.Asking.{Metadata}
-use Rattle.dav_core.specs.Locks.{asker_of, is_free}
+use Rattle.dav_core.specs.Locks.{requester_of, is_free}
 use Rattle.dav_core.specs.Path.{Path, PathText, names, star as server, prefix_cut, without_slash}
 use Rattle.dav_core.specs.Target.{Reads}
 use Rattle.dav_headers.specs.ETag.{EntityTag}
@@ -113,7 +113,7 @@ http_conditions m match none_match found =
 -- locks no token is true. A token of the namespace `DAV:` never is (RFC 4918, section 10.4.8).
 abbrev pub token_holds : List ℕ → Path → Locks → Bool
 token_holds token p None = false
-token_holds token p (Some ls) = not (starts_with ◌==◌ token (codes "DAV:")) && is_free (asker_of (token ∷ []) true None) p ls
+token_holds token p (Some ls) = not (starts_with ◌==◌ token (codes "DAV:")) && is_free (requester_of (token ∷ []) true None) p ls
 
 -- an entity tag is true of what the store reports to have it
 abbrev pub tag_holds : EntityTag → Result DavMetaData FsError → Bool

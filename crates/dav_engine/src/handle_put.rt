@@ -4,7 +4,7 @@ ghost use Rattle.std.specs.Option.{option_copied};
 ghost use Rattle.dav_core.specs.World.{last_moment};
 ghost use Rattle.dav_core.specs.Metadata.{opening_of};
 ghost use Rattle.dav_core.specs.Path.{names};
-ghost use Rattle.dav_engine.specs.Client.{client_of, asker};
+ghost use Rattle.dav_engine.specs.Client.{client_of, requester};
 ghost use Rattle.dav_engine.specs.ConditionView.{locks_in};
 ghost use Rattle.dav_engine.specs.Follows.{Follows, Makes, Serves};
 ghost use Rattle.dav_engine.specs.Plan.{Locks};
