@@ -106,8 +106,8 @@ did_asked c w new (None ∷ rs) answer h = did_answered (meaning c w) w new answ
 did_asked c w new (Some e ∷ rs) answer h = stays e (ap (λ x. x.0) h) (ap (λ x. x.1) h)
 
 pub did : {c : Call} {old new : StoreState} {answer : Result (Answer c) FsError} → Asks c old answer new → Did (meaning c old.world) old.world answer new.world
-did {c} {old} {new} {answer} (asked is rest flag) = did_asked c old.world new.world old.refusals answer is
-did (ran_short takes head allowed is same rest flag) = stays _ is same
+did {c} {old} {new} {answer} (asked h) = did_asked c old.world new.world old.refusals answer h.as_asked
+did (ran_short h) = stays _ h.answer_is h.world
 
 pub did_leave : (c : Call) (w new : World) (answer : Result (Answer c) FsError) → OnlyReads c → Did (meaning c w) w answer new → new ≡ w
 did_leave c w new answer only (stays e is same) = same
