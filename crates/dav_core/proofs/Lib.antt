@@ -8,7 +8,9 @@ pub mod UrlLemmas
 pub mod EndLemmas
 pub mod PathLemmas
 pub mod AddedLemmas
+pub mod CutOnce
 pub mod CutLemmas
+pub mod ParentLemmas
 pub mod NodesLemmas
 pub mod WorldLemmas
 pub mod Rows
@@ -34,3 +36,4 @@ pub mod CoverLemmas
 pub mod EqualLemmas
 pub mod ListedLocks
 pub mod CoveringLocks
+pub mod Theorems

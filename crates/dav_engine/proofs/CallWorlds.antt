@@ -10,9 +10,7 @@ use Rattle.dav_core.specs.Meaning.{Meaning, refuse_if, at_node}
 use Rattle.dav_core.specs.Calls.{read_dir, open_at, sought, stored_tree}
 use Rattle.dav_core.specs.Asking.{Call, Metadata, ReadDir, EntryMetadata, CreateDir, RemoveDir, RemoveFile, Rename, Copy, HaveProps, PatchProps, GetProps, GetProp, GetQuota, SetAccessed, SetModified, Open, Read, Write, Seek, Flush, FileMetadata, Answer, meaning, StoreState, Asks, asked, ran_short, ask, answered}
 use Rattle.dav_core.specs.CallLaws.{IsProper}
-use Rattle.dav_core.proofs.StepLemmas.{went_on, found}
-use Rattle.dav_core.proofs.KeptLemmas.{calls_keep_worlds, numbers_rise}
-use Rattle.dav_core.proofs.FollowLemmas.{numbers_look_back}
+use Rattle.dav_core.proofs.Theorems.{went_on, found, calls_keep_worlds, numbers_rise, numbers_look_back}
 use Rattle.dav_engine.specs.WorldLaws.{OnlyReads, Remembers}
 
 world_after : {A : Type 0} → World → Meaning A → World

@@ -9,7 +9,7 @@ use Rattle.std.specs.Result.{is_ok}
 use Rattle.dav_core.specs.Locks.{lent}
 use Rattle.dav_engine.specs.ConditionView.{locks_in}
 use Rattle.dav_engine.specs.Method.{is_open}
-use Rattle.dav_core.proofs.LockLemmas.{free_is_no_conflict}
+use Rattle.dav_core.proofs.Theorems.{free_is_no_conflict}
 
 -- where a lock conflicts, not every lock is without conflict
 not_free : (free blocks : Bool) → blocks ≡ true → (free ≡ true → not blocks ≡ true) → free ≡ false

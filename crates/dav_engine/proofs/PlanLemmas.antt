@@ -4,7 +4,7 @@ use Rattle.dav_core.specs.declared.errors.FsError.{FsError}
 use Rattle.dav_core.specs.declared.errors.FsError.TheVariants.{GeneralFailure, InsufficientStorage}
 use Rattle.dav_core.specs.Asking.{Call, Answer, StoreState, Asks, asked, ran_short, ask, rest_of}
 use Rattle.dav_core.specs.World.{World}
-use Rattle.dav_core.proofs.AskingLemmas.{answered_as}
+use Rattle.dav_core.proofs.Theorems.{answered_as}
 use Rattle.dav_engine.specs.Plan.{Plan, Done, Ask, Look, Keep, Locks, kept, Ran, ran_done, ran_ask, ran_look, ran_keep, Cut, cut_first, cut_refused, cut_ask, cut_look, cut_keep, Refused, refused_done, refused_ask, refused_look, refused_keep}
 use Rattle.dav_engine.specs.PlanLaws.{ample}
 

@@ -16,7 +16,7 @@ use Rattle.dav_core.specs.Locks.{Requester}
 use Rattle.dav_core.specs.Path.{Path, PathText, names}
 use Rattle.dav_core.specs.World.{World, Node, node_at, is_folder_kind, last_moment}
 use Rattle.dav_headers.specs.If.{Item, state_token, entity_tag, Condition}
-use Rattle.dav_core.proofs.StepLemmas.{went_on}
+use Rattle.dav_core.proofs.Theorems.{went_on}
 use Rattle.dav_engine.specs.declared.put_headers.Writing.{Writing}
 use Rattle.dav_engine.specs.Client.{Client, requester}
 use Rattle.dav_engine.specs.Conditions.{Conditions, Addressed, is_star, item_holds, while_true, while_false, all_hold, some_holds, if_holds, unless, if_match_get_tokens, guarded, if_match}

@@ -14,7 +14,7 @@ use Rattle.dav_core.specs.declared.method.DavMethod.{DavMethod}
 use Rattle.dav_core.specs.declared.method.DavMethod.TheVariants.{Get, Head}
 use Rattle.dav_core.specs.Asking.{Metadata}
 use Rattle.dav_core.specs.Locks.{requester_of, is_free}
-use Rattle.dav_core.specs.Path.{Path, PathText, names, star as server, prefix_cut, without_slash}
+use Rattle.dav_core.specs.Path.{Path, PathText, names, star as server, IsCut, without_slash}
 use Rattle.dav_core.specs.Target.{Reads}
 use Rattle.dav_headers.specs.ETag.{EntityTag}
 use Rattle.dav_headers.specs.ETagList.{TagList, star, tags, IsTagList}
@@ -40,7 +40,7 @@ pub record Conditions : Type 0 where
 abbrev pub TagNames : List ℕ → Parts → Path → Type 0
 TagNames prefix url q =
     (bytes : List ℕ) × (p : PathText)
-    × Reads url.path bytes × (bytes ≢ server) × (prefix_cut (without_slash prefix) bytes ≡ Some p) × (q ≡ names p)
+    × Reads url.path bytes × (bytes ≢ server) × IsCut (without_slash prefix) bytes p × (q ≡ names p)
 
 -- The path that a list applies to: the one that its resource tag names, if it has one; else the request's own.
 abbrev pub SpeaksOf : List ℕ → Path → Option Parts → Option Path → Type 0

@@ -9,7 +9,7 @@ use Rattle.dav_core.specs.Handle.{Handle, Opening}
 use Rattle.dav_core.specs.Meaning.{Meaning}
 use Rattle.dav_core.specs.Calls as calls
 use Rattle.dav_core.specs.Asking.{Call, Answer, Metadata, ReadDir, EntryMetadata, CreateDir, RemoveDir, RemoveFile, Rename, Copy, HaveProps, PatchProps, GetProps, GetProp, GetQuota, SetAccessed, SetModified, Open, Read, Write, Seek, Flush, FileMetadata, TakesMemory, IsAnswered, Asks, ran_short, answered, meaning}
-use Rattle.dav_core.proofs.AskingLemmas.{answered_as}
+use Rattle.dav_core.proofs.Theorems.{answered_as}
 use Rattle.dav_store.specs.Store.{Store, Answers, AnswersExactly, state_of}
 
 step : (call : Call) → TakesMemory call → (old new : Store) (r : Result (Answer call) FsError) (m : Meaning (Answer call))

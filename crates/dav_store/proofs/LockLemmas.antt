@@ -4,8 +4,7 @@ use Rattle.std.specs.List.{list_any, list_all, position}
 use Rattle.std.proofs.lemmas.List.Quantifiers.{position-Some}
 use Rattle.dav_core.specs.Path.{Path, names, is_at_or_below}
 use Rattle.dav_core.specs.Locks.{Lock, Requester, covers, is_held, is_free_for, conflicts}
-use Rattle.dav_core.proofs.CoverLemmas.{some_held}
-use Rattle.dav_core.proofs.LockLemmas.{free_is_no_conflict}
+use Rattle.dav_core.proofs.Theorems.{some_held, free_is_no_conflict}
 use Rattle.dav_store.proofs.Place.{NonePasses, none_passes}
 
 -- a test on the bytes of texts is one on the texts

@@ -3,7 +3,7 @@ use Rattle.std.specs.List.{list_any}
 use Rattle.std.specs.Option.{option_copied}
 use Rattle.dav_core.specs.Path.{names, is_below}
 use Rattle.dav_core.specs.Locks.{Lock, new_lock, is_grantable, covers}
-use Rattle.dav_core.proofs.CoverLemmas.{grantable_by_tests}
+use Rattle.dav_core.proofs.Theorems.{grantable_by_tests}
 use Rattle.dav_store.proofs.LockLemmas.{grantable_if_none, not_grantable_if_some}
 use Rattle.dav_store.proofs.memls.MemLsDavLockSystem.lock.Goals as goal
 
