@@ -3,12 +3,17 @@ use Rattle.std.proofs.Common.{◌≡◌, Bool, true, false, List, [], ◌∷◌,
 use Rattle.dav_core.specs.declared.errors.FsError.{FsError}
 use Rattle.dav_core.specs.World.{World}
 use Rattle.dav_core.specs.Meaning.{Meaning}
-use Rattle.dav_core.specs.Asking.{Call, Answer, IsAnswered, meaning, asked, ran_short, ask, answered, rest_of, next_refusal}
+use Rattle.dav_core.specs.Asking.{Call, Answer, IsAnswered, meaning, StoreState, Answered, Asks, asked, ran_short, ask, answered, rest_of, next_refusal}
 use Rattle.dav_core.specs.CallLaws.{AskingIsDetermined, ErrorsLeaveWorlds, RulesComeFirst, RefusalsAreUsedUp, RefusalIsAnswered, CanBeAsked}
 
+-- a call that is answered as `ask` says
+pub answered_as : {call : Call} {old new : StoreState} {answer : Result (Answer call) FsError}
+    → (answer, new.world) ≡ ask call old.world old.refusals → new.refusals ≡ rest_of old.refusals → new.short ≡ old.short → Asks call old answer new
+answered_as is used flag = asked (record { as_asked = is; refusals = used; short = flag })
+
 pub asking_is_determined : AskingIsDetermined
-asking_is_determined call old answer new (asked is used flag) unset = (sym flag ∙ unset, is)
-asking_is_determined call old answer new (ran_short takes head allowed is same used flag) unset = cc
+asking_is_determined call old answer new (asked h) unset = (sym h.short ∙ unset, h.as_asked)
+asking_is_determined call old answer new (ran_short h) unset = let set = h.short in cc
 
 is_error : {A : Type 0} → Result A FsError → Bool
 is_error (Ok a) = false
@@ -25,12 +30,12 @@ error_asked call w new (None ∷ rs) e h = error_leaves w (meaning call w) e new
 error_asked call w new (Some f ∷ rs) e h = ap (λ x. x.1) h
 
 pub errors_leave_worlds : ErrorsLeaveWorlds
-errors_leave_worlds call old e new (asked is used flag) = error_asked call old.world new.world old.refusals e is
-errors_leave_worlds call old e new (ran_short takes head allowed is same used flag) = same
+errors_leave_worlds call old e new (asked h) = error_asked call old.world new.world old.refusals e h.as_asked
+errors_leave_worlds call old e new (ran_short h) = h.world
 
 pub refusals_are_used_up : RefusalsAreUsedUp
-refusals_are_used_up call old answer new (asked is used flag) = used
-refusals_are_used_up call old answer new (ran_short takes head allowed is same used flag) = used
+refusals_are_used_up call old answer new (asked h) = h.refusals
+refusals_are_used_up call old answer new (ran_short h) = h.refusals
 
 rules_answer : (call : Call) (w new : World) (refusals : List (Option FsError)) (answer : Result (Answer call) FsError) (e : FsError)
     → next_refusal refusals ≡ None → meaning call w ≡ Err e → (answer, new) ≡ ask call w refusals → answer ≡ Err e
@@ -39,8 +44,8 @@ rules_answer call w new (None ∷ rs) answer e head rule is = ap (λ x. x.0) (is
 rules_answer call w new (Some f ∷ rs) answer e head rule is = cc
 
 pub rules_come_first : RulesComeFirst
-rules_come_first call old answer new e (asked is used flag) head rule = rules_answer call old.world new.world old.refusals answer e head rule is
-rules_come_first call old answer new e (ran_short takes head allowed is same used flag) free rule = absurd (subst IsAnswered rule allowed)
+rules_come_first call old answer new e (asked h) head rule = rules_answer call old.world new.world old.refusals answer e head rule h.as_asked
+rules_come_first call old answer new e (ran_short h) free rule = absurd (subst IsAnswered rule h.allowed)
 
 pub refusal_is_answered : RefusalIsAnswered
 refusal_is_answered call w e refusals = refl
@@ -48,4 +53,4 @@ refusal_is_answered call w e refusals = refl
 pub can_be_asked : CanBeAsked
 can_be_asked call old =
     let both = ask call old.world old.refusals in
-    (both.0, record { world = both.1; refusals = rest_of old.refusals; short = old.short }, asked refl refl refl, refl)
+    (both.0, record { world = both.1; refusals = rest_of old.refusals; short = old.short }, answered_as refl refl refl, refl)

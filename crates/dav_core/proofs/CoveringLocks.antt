@@ -6,7 +6,7 @@ use Rattle.dav_core.specs.Path.{Path, names, fronts, is_same_path}
 use Rattle.dav_core.specs.Locks.{Lock, covers, discovered}
 use Rattle.dav_core.specs.LockLaws.{DiscoveredAreCovering}
 use Rattle.dav_core.proofs.NodesLemmas.{path-itself}
-use Rattle.dav_core.proofs.SharedLemmas.{covering, front_of}
+use Rattle.dav_core.proofs.SharedLemmas.{covering_way, front_of}
 
 first_is_contained : {X : Type 0} (x : X) (xs : List X) → Contains (x ∷ xs) x
 first_is_contained x xs = Contains-append_left (x ∷ []) xs x (Contains-push [] x)
@@ -94,7 +94,7 @@ discovered_are_covering p ls l = (
         both_true (is_same_path (names l.path) q) (covers l p) (All-contains (λ m. at_front p q m ≡ true) (filter (at_front p q) ls) l (filter_passes (at_front p q) ls) found),
       ),
   λ h.
-      let (r, is) = front_of l p (covering l p h.1) in
+      let (r, is) = front_of l p (covering_way l p h.1) in
       joined_keeps (λ q. filter (at_front p q) ls) (fronts p) (names l.path) l
       (subst (λ q. Contains (fronts q) (names l.path)) (sym is) (front_is_listed (names l.path) r))
       (passing_is_kept (at_front p (names l.path)) ls l h.0 (together (is_same_path (names l.path) (names l.path)) (covers l p) (path-itself (names l.path)) h.1)),

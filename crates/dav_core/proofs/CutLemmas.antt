@@ -3,45 +3,29 @@ use Rattle.std.proofs.Common.{◌≡◌, ◌≢◌, ℕ, ◌==◌, Bool, true, f
 use Rattle.std.proofs.lemmas.Bool.{eqb-true, eq-eqb}
 use Rattle.std.proofs.lemmas.List.{append-nil}
 use Rattle.std.proofs.lemmas.List.Elements.{All-head, All-tail, All-cons, All-nil}
-use Rattle.dav_core.specs.Path.{Path, PathText, IsName, joined, path_bytes, names_of, behind, cut_at}
+use Rattle.dav_core.specs.Path.{Path, PathText, IsName, joined, path_bytes, names_of, IsCut, at_start, at_slash, at_end}
 use Rattle.dav_core.specs.Laws.{CutsAtNames, CutKeepsNames}
 use Rattle.dav_core.proofs.TargetLemmas.{ending, names_kept}
 
 -- ---- after names
 
--- what follows a front of a text
-behind_front : (p rest : List ℕ) → behind p (p ++ rest) ≡ Some rest
-behind_front [] rest = refl
-behind_front (b ∷ p) rest = ap (λ c. cond c (behind p (p ++ rest)) None) (eq-eqb b b refl) ∙ behind_front p rest
-
 joined-append : (ps ns : Path) → joined (ps ++ ns) ≡ joined ps ++ joined ns
 joined-append [] ns = refl
 joined-append (p ∷ ps) ns = ap (λ xs. (47 ∷ p) ++ xs) (joined-append ps ns) ∙ sym (append_assoc (47 ∷ p) (joined ps) (joined ns))
 
-cut_rest : (p : List ℕ) (ns : Path) (closed : Bool) → cut_at p (Some (joined ns ++ ending closed)) ≡ Some (record { prefix = p; bytes = path_bytes ns closed })
-cut_rest p [] true = refl
-cut_rest p [] false = refl
-cut_rest p (n ∷ ns) closed = refl
+rest_of : (p : List ℕ) (ns : Path) (closed : Bool) → p ≢ [] → IsCut p (p ++ (joined ns ++ ending closed)) (record { prefix = p; bytes = path_bytes ns closed })
+rest_of p [] true some = at_slash refl refl
+rest_of p [] false some = at_end some (append-nil p) refl
+rest_of p (n ∷ ns) closed some = at_slash refl refl
 
 pub cuts_at_names : CutsAtNames
-cuts_at_names [] ns closed = refl
+cuts_at_names [] ns closed = at_start refl refl
 cuts_at_names (p ∷ ps) ns closed =
     let whole : path_bytes (p ∷ (ps ++ ns)) closed ≡ joined (p ∷ ps) ++ (joined ns ++ ending closed) = ap (λ xs. xs ++ ending closed) (joined-append (p ∷ ps) ns) ∙ append_assoc (joined (p ∷ ps)) (joined ns) (ending closed) in
-    ap (λ xs. cut_at (joined (p ∷ ps)) (behind (joined (p ∷ ps)) xs)) whole
-    ∙ ap (cut_at (joined (p ∷ ps))) (behind_front (joined (p ∷ ps)) (joined ns ++ ending closed))
-    ∙ cut_rest (joined (p ∷ ps)) ns closed
+    subst (λ xs. IsCut (joined (p ∷ ps)) xs (record { prefix = joined (p ∷ ps); bytes = path_bytes ns closed })) (sym whole)
+    (rest_of (joined (p ∷ ps)) ns closed (λ e. cc))
 
 -- ---- after any prefix
-
-behind_step : (b c : ℕ) (p bytes rest : List ℕ) (t : Bool) → (b == c) ≡ t → (behind p bytes ≡ Some rest → bytes ≡ p ++ rest) → cond t (behind p bytes) None ≡ Some rest → c ∷ bytes ≡ b ∷ (p ++ rest)
-behind_step b c p bytes rest true is ih h = let same : b ≡ c = eqb-true b c is in let tail = ih h in λ i. sym same i ∷ tail i
-behind_step b c p bytes rest false is ih h = cc
-
--- a text is its front and what follows it
-from_behind : (p bytes rest : List ℕ) → behind p bytes ≡ Some rest → bytes ≡ p ++ rest
-from_behind [] bytes rest h = cc
-from_behind (b ∷ p) [] rest h = cc
-from_behind (b ∷ p) (c ∷ bytes) rest h = behind_step b c p bytes rest (b == c) refl (from_behind p bytes rest) h
 
 -- a text that begins with a name, and with bytes that a slash follows: the bytes begin with the name
 past_name : (n t p bs : List ℕ) → All (λ b. (b ≢ 0) × (b ≢ 47)) n → n ++ t ≡ p ++ 47 ∷ bs → (q : List ℕ) × (p ≡ n ++ q) × (t ≡ q ++ 47 ∷ bs)
@@ -103,37 +87,25 @@ names_joined (p ∷ ps) names = ap names_of (sym (append-nil (joined (p ∷ ps))
 abbrev CutBetween : Path → List ℕ → PathText → Type 0
 CutBetween names prefix cut = (ns : Path) × (end : Bool) × (names ≡ names_of prefix ++ ns) × (cut.bytes ≡ path_bytes ns end)
 
-cut_bytes : (p bytes : List ℕ) (cut : PathText) → ◌≡◌ {A = Option PathText} (Some (record { prefix = p; bytes = bytes })) (Some cut) → cut.bytes ≡ bytes
-cut_bytes p bytes cut h = cc
+cut_bytes : (p bytes : List ℕ) (cut : PathText) → cut ≡ record { prefix = p; bytes = bytes } → cut.bytes ≡ bytes
+cut_bytes p bytes cut h = ap (λ (t : PathText). t.bytes) h
 
 -- a path of names as its names and what comes after the last
 ended : (names : Path) (closed : Bool) → (end : Bool) × (path_bytes names closed ≡ joined names ++ ending end)
 ended [] closed = (true, refl)
 ended (n ∷ ns) closed = (closed, refl)
 
-module _ (names : Path) (are : All IsName names) (b : ℕ) (p : List ℕ) (cut : PathText) where
-  cut_slash : (closed : Bool) (c : ℕ) (bs : List ℕ) (t : Bool) → (c == 47) ≡ t → joined names ++ ending closed ≡ (b ∷ p) ++ c ∷ bs
-      → (if t then Some (record { prefix = b ∷ p; bytes = c ∷ bs }) else None) ≡ Some cut → CutBetween names (b ∷ p) cut
-  cut_slash closed c bs false is whole h = cc
-  cut_slash closed c bs true is whole h =
-      let slash : c ≡ 47 = eqb-true c 47 is in
-      let parts : Parted names closed (b ∷ p) bs = parted names closed (b ∷ p) bs are (whole ∙ ap (λ x. (b ∷ p) ++ x ∷ bs) slash) in
-      let front : names_of (b ∷ p) ≡ parts.front = ap names_of parts.is ∙ names_joined parts.front (front_all parts.front parts.back (subst (All IsName) parts.all are)) in (
-        parts.back,
-        closed,
-        parts.all ∙ ap (λ (x : Path). x ++ parts.back) (sym front),
-        cut_bytes (b ∷ p) (c ∷ bs) cut h ∙ ap (λ x. x ∷ bs) slash ∙ parts.rest,
-      )
-
-  cut_by : (closed : Bool) (o : Option (List ℕ)) → behind (b ∷ p) (path_bytes names closed) ≡ o → cut_at (b ∷ p) o ≡ Some cut → CutBetween names (b ∷ p) cut
-  cut_by closed None is h = cc
-  cut_by closed (Some []) is h =
-      let whole : path_bytes names closed ≡ b ∷ p = from_behind (b ∷ p) (path_bytes names closed) [] is ∙ append-nil (b ∷ p) in
-      ([], false, sym (append-nil (names_of (b ∷ p)) ∙ ap names_of (sym whole) ∙ names_kept names closed are), cut_bytes (b ∷ p) (47 ∷ []) cut h)
-  cut_by closed (Some (c ∷ bs)) is h =
-      let (end, path) = ended names closed in
-      cut_slash end c bs (c == 47) refl (sym path ∙ from_behind (b ∷ p) (path_bytes names closed) (c ∷ bs) is) h
-
 pub cut_keeps_names : CutKeepsNames
-cut_keeps_names names closed [] cut are h = (names, closed, refl, cut_bytes [] (path_bytes names closed) cut h)
-cut_keeps_names names closed (b ∷ p) cut are h = cut_by names are b p cut closed (behind (b ∷ p) (path_bytes names closed)) refl h
+cut_keeps_names names closed prefix cut are (at_start empty is) =
+    (names, closed, ap (λ p. names_of p ++ names) (sym empty), cut_bytes [] (path_bytes names closed) cut is)
+cut_keeps_names names closed prefix cut are (at_slash {rest} whole is) =
+    let (end, path) = ended names closed in
+    let parts : Parted names end prefix rest = parted names end prefix rest are (sym path ∙ whole) in
+    let front : names_of prefix ≡ parts.front = ap names_of parts.is ∙ names_joined parts.front (front_all parts.front parts.back (subst (All IsName) parts.all are)) in (
+      parts.back,
+      end,
+      parts.all ∙ ap (λ (x : Path). x ++ parts.back) (sym front),
+      cut_bytes prefix (47 ∷ rest) cut is ∙ parts.rest,
+    )
+cut_keeps_names names closed prefix cut are (at_end some whole is) =
+    ([], false, sym (append-nil (names_of prefix) ∙ ap names_of (sym whole) ∙ names_kept names closed are), cut_bytes prefix (47 ∷ []) cut is)

@@ -8,7 +8,8 @@ use Rattle.dav_core.specs.World.{empty_from}
 use Rattle.dav_core.specs.Handle.{Handle, Opening}
 use Rattle.dav_core.specs.Meaning.{Meaning, refuse_if}
 use Rattle.dav_core.specs.Property.{Patch, PropertyKey}
-use Rattle.dav_core.specs.Asking.{Call, Answer, Metadata, ReadDir, RemoveDir, RemoveFile, HaveProps, GetQuota, SetAccessed, SetModified, EntryMetadata, Read, Write, Seek, Flush, FileMetadata, CreateDir, Open, Rename, Copy, PatchProps, GetProps, GetProp, StoreState, TakesMemory, IsAnswered, Asks, asked, ran_short, answered, meaning}
+use Rattle.dav_core.specs.Asking.{Call, Answer, Metadata, ReadDir, RemoveDir, RemoveFile, HaveProps, GetQuota, SetAccessed, SetModified, EntryMetadata, Read, Write, Seek, Flush, FileMetadata, CreateDir, Open, Rename, Copy, PatchProps, GetProps, GetProp, StoreState, TakesMemory, IsAnswered, Asks, ran_short, answered, meaning}
+use Rattle.dav_core.proofs.AskingLemmas.{answered_as}
 
 -- the store, which ran out of memory at some time or not
 abbrev pub empty_store : Bool → StoreState
@@ -16,11 +17,19 @@ empty_store short = record { world = empty_from 1; refusals = []; short = short 
 
 -- a call that no rule refuses and that allocates, in a store that is out of memory
 short_of : (call : Call) (short : Bool) (new : StoreState) → TakesMemory call → IsAnswered (meaning call (empty_from 1)) → new ≡ empty_store true → Asks call (empty_store short) (Err InsufficientStorage) new
-short_of call short new takes allowed is = ran_short takes refl allowed refl (ap (λ (s : StoreState). s.world) is) (ap (λ (s : StoreState). s.refusals) is) (ap (λ (s : StoreState). s.short) is)
+short_of call short new takes allowed is = ran_short (record {
+  takes_memory = takes;
+  not_refused = refl;
+  allowed = allowed;
+  answer_is = refl;
+  world = ap (λ (s : StoreState). s.world) is;
+  refusals = ap (λ (s : StoreState). s.refusals) is;
+  short = ap (λ (s : StoreState). s.short) is;
+})
 
 -- a call that changes nothing is answered by what it means
 told : (call : Call) (short : Bool) (answer : Result (Answer call) FsError) → (answer, empty_from 1) ≡ answered (empty_from 1) (meaning call (empty_from 1)) → Asks call (empty_store short) answer (empty_store short)
-told call short answer is = asked is refl refl
+told call short answer is = answered_as is refl refl
 
 pub root_is_told : (p : Path) (short : Bool) → is_root p ≡ true → Asks (Metadata p) (empty_store short) (Ok (record { len = 0; dir = true; created = 0; modified = 0; number = Some 0 })) (empty_store short)
 unfolding meaning

@@ -3,8 +3,8 @@ use Rattle.std.proofs.Common.{◌≡◌, ◌≢◌, ℕ, ◌+◌, ◌-◌, ◌<�
 use Rattle.std.proofs.lemmas.Bool.{cases_Bool, eqb-true}
 use Rattle.std.proofs.lemmas.Bool.Decides.{Decides-eqb, nat_tests}
 use Rattle.std.proofs.lemmas.List.{take_more, take_all, take_at, drop_at, take-take, drop-take, append-nil}
-use Rattle.dav_core.specs.Path.{is_nonempty, onto_end, without_end, before_last_name, parent_bytes, behind, cut_at, prefix_cut}
-use Rattle.dav_core.specs.PathRef.{CutsAt}
+use Rattle.dav_core.specs.Path.{is_nonempty}
+use Rattle.dav_core.specs.PathEnds.{onto_end, without_end, before_last_name, parent_bytes}
 
 -- a byte at the end that passes is left out
 pub without_end_more : (p : ℕ → Bool) (xs : List ℕ) (c : ℕ) → p c ≡ true → without_end p (xs ++ c ∷ []) ≡ without_end p xs
@@ -82,47 +82,3 @@ parent_text full k =
 
 pub parent_prefix : (full : List ℕ) (k m : ℕ) → take k (take (k + m) full) ≡ take k full
 parent_prefix full k m = take-take k (k + m) full (omega arith)
-
--- what follows a front
-pub behind_front : (p rest : List ℕ) → behind p (p ++ rest) ≡ Some rest
-behind_front [] rest = refl
-behind_front (b ∷ p) rest = rw ((Decides-eqb b b).1 refl) (behind_front p rest)
-
-pub behind_other : (p bytes : List ℕ) → ((rest : List ℕ) → bytes ≢ p ++ rest) → behind p bytes ≡ None
-behind_other [] bytes other = absurd (other bytes refl)
-behind_other (b ∷ p) [] other = refl
-behind_other (b ∷ p) (c ∷ bytes) other =
-    elim (cases_Bool (b == c)) [
-      | inl e ↦
-          rw e (behind_other p bytes (λ rest f. other rest (rw (eqb-true b c e, f) refl)))
-      | inr e ↦ rw e refl
-    ]
-
-cut_behind : (p bytes : List ℕ) → p ≢ [] → prefix_cut p bytes ≡ cut_at p (behind p bytes)
-cut_behind [] bytes some = absurd (some refl)
-cut_behind (b ∷ p) bytes some = refl
-
--- where a path is cut: after all of it, before a slash, or nowhere
-pub cuts_whole : (p bytes rest : List ℕ) → p ≢ [] → bytes ≡ p ++ rest → length rest ≡ 0 → CutsAt p bytes (Some true)
-cuts_whole p bytes [] some e none = (
-  omega (arith, ap length e, length-append p []),
-  cut_behind p bytes some ∙ rw (e, behind_front p [], take_at p [] (length p) refl, drop_at p [] (length p) refl) refl,
-)
-cuts_whole p bytes (b ∷ rest) some e none = absurd (omega (arith, none))
-
-pub cuts_slash : (p bytes rest : List ℕ) → p ≢ [] → bytes ≡ p ++ rest → 0 < length rest → get_or rest 0 0 ≡ 47 → CutsAt p bytes (Some false)
-cuts_slash p bytes [] some e more slash = absurd (omega (arith, more))
-cuts_slash p bytes (b ∷ rest) some e more slash = (
-  omega (arith, ap length e, length-append p (b ∷ rest)),
-  cut_behind p bytes some ∙ rw (e, behind_front p (b ∷ rest), take_at p (b ∷ rest) (length p) refl, drop_at p (b ∷ rest) (length p) refl, append-nil (b ∷ rest), (Decides-eqb b 47).1 slash) refl,
-)
-
-pub cuts_inside : (p bytes rest : List ℕ) → p ≢ [] → bytes ≡ p ++ rest → 0 < length rest → get_or rest 0 0 ≢ 47 → CutsAt p bytes None
-cuts_inside p bytes [] some e more other = absurd (omega (arith, more))
-cuts_inside p bytes (b ∷ rest) some e more other =
-    let differ : (b == 47) ≡ false = grind (arith, nat_tests) in
-    cut_behind p bytes some ∙ rw (e, behind_front p (b ∷ rest), differ) refl
-
-pub cuts_other : (p bytes : List ℕ) → p ≢ [] → ((rest : List ℕ) → bytes ≢ p ++ rest) → CutsAt p bytes None
-cuts_other p bytes some other =
-    cut_behind p bytes some ∙ ap (cut_at p) (behind_other p bytes other)

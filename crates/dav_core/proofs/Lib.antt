@@ -8,7 +8,9 @@ pub mod UrlLemmas
 pub mod EndLemmas
 pub mod PathLemmas
 pub mod AddedLemmas
+pub mod CutOnce
 pub mod CutLemmas
+pub mod ParentLemmas
 pub mod NodesLemmas
 pub mod WorldLemmas
 pub mod Rows
@@ -30,6 +32,8 @@ pub mod MemberLemmas
 pub mod FollowLemmas
 pub mod GoneLemmas
 pub mod CopyLemmas
+pub mod CoverLemmas
 pub mod EqualLemmas
 pub mod ListedLocks
 pub mod CoveringLocks
+pub mod Theorems

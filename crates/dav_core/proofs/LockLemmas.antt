@@ -10,10 +10,11 @@ use Rattle.std.proofs.lemmas.List.Folds.{list_any-append}
 use Rattle.std.proofs.lemmas.Map.Text.{is_eq-slice_cmp}
 use Rattle.std.proofs.lemmas.List.Elements.{All-contains, All-weaker}
 use Rattle.dav_core.specs.Path.{Path, names, is_at_or_below, is_same_path, fronts}
-use Rattle.dav_core.specs.Locks.{Lock, Asker, covers, is_held, is_free, is_free_for, is_named, lock_front, unlocked, discovered}
+use Rattle.dav_core.specs.Locks.{Lock, Requester, covers, is_held, is_free, is_free_for, is_named, lock_front, unlocked, discovered}
 use Rattle.dav_core.specs.Lists.{without_first}
-use Rattle.dav_core.specs.LockLaws.{FreeHoldsExclusive, FreeDeepHoldsBelow, FreeIsNothingInTheWay, GrantedCanBeUnlocked, TakenBack}
+use Rattle.dav_core.specs.LockLaws.{FreeHoldsExclusive, FreeDeepHoldsBelow, FreeIsNoConflict, GrantedCanBeUnlocked, TakenBack}
 use Rattle.std.proofs.lemmas.Slice.Eq.{bytes_eq-Decides}
+use Rattle.dav_core.proofs.CoverLemmas.{some_held, free_by_tests}
 use Rattle.std.proofs.lemmas.List.Folds.{list_any_none}
 use Rattle.dav_core.proofs.NodesLemmas.{apart}
 
@@ -31,7 +32,7 @@ is_exclusive_held false s c passed covering exclusive = grind arith
 
 pub free_holds_exclusive : FreeHoldsExclusive
 free_holds_exclusive who p ls l free here covering exclusive =
-    is_exclusive_held (is_held who l) l.shared (covers l p) (passes (λ m. is_held who m || m.shared || not (covers m p)) ls l (both _ _ free).0 here) covering exclusive
+    is_exclusive_held (is_held who l) l.shared (covers l p) (passes (λ m. is_held who m || m.shared || not (covers m p)) ls l (both _ _ (sym (free_by_tests who p ls) ∙ free)).0 here) covering exclusive
 
 is_below_held : (h a : Bool) → (h || not a) ≡ true → a ≡ true → h ≡ true
 is_below_held true a passed below = refl
@@ -49,7 +50,7 @@ parted_step h s c a b deep all covered below e = grind arith
 
 -- no lock conflicts: none by covering the path, and none by being at it or below it, where the path is checked with
 -- everything below
-parted : (deep : Bool) (who : Asker) (p : Path) (b : Bool) (ls : List Lock)
+parted : (deep : Bool) (who : Requester) (p : Path) (b : Bool) (ls : List Lock)
     → list_all (λ l. not (not (is_held who l) && ((covers l p && (not l.shared || not b)) || (deep && is_at_or_below p (names l.path))))) ls
     ≡ (list_all (λ l. is_held who l || (l.shared && b) || not (covers l p)) ls && (not deep || list_all (λ l. is_held who l || not (is_at_or_below p (names l.path))) ls))
 parted true who p b [] = refl
@@ -58,7 +59,7 @@ parted deep who p b (l ∷ ls) =
     parted_step (is_held who l) l.shared (covers l p) (is_at_or_below p (names l.path)) b deep _ _ _ (parted deep who p b ls)
 
 -- where some lock is held that covers the path, shared ones that cover it don't conflict
-with_one_held : (who : Asker) (p : Path) (ls : List Lock)
+with_one_held : (who : Requester) (p : Path) (ls : List Lock)
     → list_all (λ l. is_held who l || (l.shared && true) || not (covers l p)) ls ≡ list_all (λ l. is_held who l || l.shared || not (covers l p)) ls
 with_one_held who p [] = refl
 with_one_held who p (l ∷ ls) =
@@ -71,30 +72,30 @@ without_step h s c x y any false none e = let e : x ≡ (y && not any) = e refl 
 without_step h s c x y any true none e = grind arith
 
 -- where none is held that covers it, each covering lock conflicts
-with_none_held : (who : Asker) (p : Path) (ls : List Lock)
+with_none_held : (who : Requester) (p : Path) (ls : List Lock)
     → list_any (λ l. covers l p && is_held who l) ls ≡ false
     → list_all (λ l. is_held who l || (l.shared && false) || not (covers l p)) ls ≡ (list_all (λ l. is_held who l || l.shared || not (covers l p)) ls && not (list_any (λ l. covers l p) ls))
 with_none_held who p [] none = refl
 with_none_held who p (l ∷ ls) none =
     without_step (is_held who l) l.shared (covers l p) _ _ _ _ none (with_none_held who p ls)
 
-covering_step : (b : Bool) (who : Asker) (p : Path) (ls : List Lock)
+covering_step : (b : Bool) (who : Requester) (p : Path) (ls : List Lock)
     → list_any (λ l. covers l p && is_held who l) ls ≡ b
     → list_all (λ l. is_held who l || (l.shared && b) || not (covers l p)) ls ≡ is_free who p ls
 covering_step true who p ls some =
     let step : (x y any held : Bool) → x ≡ y → held ≡ true → x ≡ (y && (held || not any)) = λ x y any held e f. grind arith in
-    step _ _ _ _ (with_one_held who p ls) some
+    step _ _ _ _ (with_one_held who p ls) some ∙ sym (free_by_tests who p ls)
 covering_step false who p ls none =
     let step : (x y any held : Bool) → x ≡ (y && not any) → held ≡ false → x ≡ (y && (held || not any)) = λ x y any held e f. grind arith in
-    step _ _ _ _ (with_none_held who p ls none) none
+    step _ _ _ _ (with_none_held who p ls none) none ∙ sym (free_by_tests who p ls)
 
 deep_step : (deep x free below : Bool) → x ≡ (free && (not deep || below)) → (if deep then (free && below) else free) ≡ x
 deep_step true x free below e = sym e
 deep_step false x free below e = grind arith
 
-pub free_is_nothing_in_the_way : FreeIsNothingInTheWay
-free_is_nothing_in_the_way deep who p ls =
-    deep_step deep _ _ _ (parted deep who p _ ls ∙ ap (λ x. x && (not deep || list_all (λ l. is_held who l || not (is_at_or_below p (names l.path))) ls)) (covering_step _ who p ls refl))
+pub free_is_no_conflict : FreeIsNoConflict
+free_is_no_conflict deep who p ls =
+    deep_step deep _ _ _ (parted deep who p _ ls ∙ ap (λ x. x && (not deep || list_all (λ l. is_held who l || not (is_at_or_below p (names l.path))) ls)) (covering_step _ who p ls (sym (some_held who p ls))))
 
 some_of_cond : {X : Type 0} (b : Bool) (x : X) (o : Option X) → (b || is_some o) ≡ true → is_some (cond b (Some x) o) ≡ true
 some_of_cond true x o h = refl
@@ -206,6 +207,6 @@ pub none_is_discovered : (p : Path) → discovered p [] ≡ []
 none_is_discovered p = none_for_each (fronts p)
 
 -- without locks every path is free
-pub all_is_free : (deep : Bool) (who : Asker) (p : Path) → is_free_for deep who p [] ≡ true
+pub all_is_free : (deep : Bool) (who : Requester) (p : Path) → is_free_for deep who p [] ≡ true
 all_is_free true who p = refl
 all_is_free false who p = refl

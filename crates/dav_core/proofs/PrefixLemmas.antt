@@ -1,13 +1,14 @@
 -- The prefix of a path is a text.
-use Rattle.std.proofs.Common.{◌≡◌, ℕ, ◌+◌, ◌-◌, ◌≤◌, ◌==◌, ◌++◌, Bool, true, false, List, [], ◌∷◌, length, get_or, take, Option, Some, None, if◌then◌else◌, refl, ap, ◌∙◌, length-append, inl, inr, arith}
+use Rattle.std.proofs.Common.{◌≡◌, ℕ, ◌+◌, ◌-◌, ◌≤◌, ◌==◌, ◌++◌, Bool, true, false, List, [], ◌∷◌, length, get_or, take, drop, not, Option, Some, None, sym, subst, if◌then◌else◌, refl, ap, ◌∙◌, length-append, inl, inr, arith}
 use Rattle.std.specs.Str.{IsUtf8}
 use Rattle.std.proofs.lemmas.Bool.{cases_Bool}
 use Rattle.std.proofs.lemmas.Bool.Decides.{Decides-eqb}
-use Rattle.std.proofs.lemmas.List.{length-take-le, get_or_push, take-append-le}
+use Rattle.std.proofs.lemmas.List.{length-take-le, get_or_push, take-append-le, take-append-drop, drop-append-le}
 use Rattle.std.proofs.lemmas.Slice.Eq.{ends_is}
 use Rattle.std.proofs.lemmas.Str.{IsUtf8-take, IsCharBoundary-before_ascii}
-use Rattle.dav_core.specs.Path.{PathText, is_collection, without_slash, prefix_cut, cut_at, behind}
+use Rattle.dav_core.specs.Path.{PathText, is_collection, without_slash, full_bytes, end_for, IsCut}
 use Rattle.dav_core.specs.PathRef.{CutsAt}
+use Rattle.dav_core.proofs.CutOnce.{cut_prefix}
 
 -- a text without the slash at its end is a text
 cut_slash : (bs : List ℕ) → IsUtf8 bs → is_collection bs ≡ true → IsUtf8 (take (length bs - 1) bs)
@@ -22,24 +23,29 @@ pub text_without_slash : (bs : List ℕ) → IsUtf8 bs → IsUtf8 (without_slash
 text_without_slash bs text =
     elim (cases_Bool (is_collection bs)) [ inl e ↦ rw e (cut_slash bs text e) | inr e ↦ rw e text ]
 
--- a path that is cut after a prefix has this prefix
-cut_has : (p : List ℕ) (rest : Option (List ℕ)) (r : PathText) → cut_at p rest ≡ Some r → r.prefix ≡ p
-cut_has p None r e = cc
-cut_has p (Some []) r e = cc
-cut_has p (Some (b ∷ bs)) r e = by (b == 47) e
-  where
-    by : (t : Bool) → (if t then Some (record { prefix = p; bytes = b ∷ bs }) else None) ≡ Some r → r.prefix ≡ p
-    by true f = cc
-    by false f = cc
-
-prefix_has : (p bytes : List ℕ) (r : PathText) → prefix_cut p bytes ≡ Some r → r.prefix ≡ p
-prefix_has [] bytes r e = cc
-prefix_has (b ∷ p) bytes r e = cut_has (b ∷ p) (behind (b ∷ p) bytes) r e
-
 -- so the path begins with this prefix, also where more is added at its end, and the prefix is a text
 pub prefix_fits : (text p bytes more full : List ℕ) (lacks_slash : Bool) → IsUtf8 text → p ≡ without_slash text → CutsAt p bytes (Some lacks_slash) → full ≡ bytes ++ more → (length p ≤ length full) × IsUtf8 (take (length p) full)
 prefix_fits text p bytes more full lacks_slash utf8 is cut whole =
-    let front : take (length p) full ≡ p = rw whole (take-append-le (length p) bytes more cut.0 ∙ prefix_has p bytes _ cut.1) in (
+    let front : take (length p) full ≡ p = rw whole (take-append-le (length p) bytes more cut.0 ∙ cut_prefix p bytes _ cut.1) in (
       omega (arith, cut.0, ap length whole, length-append bytes more),
       rw (front, is) (text_without_slash text utf8),
     )
+
+-- and it is cut after the prefix
+pub cut_made : (text old p bytes full : List ℕ) (lacks_slash : Bool) → p ≡ text → bytes ≡ old → CutsAt p bytes (Some lacks_slash) → full ≡ bytes ++ end_for (not lacks_slash)
+    → IsCut text old (record { prefix = take (length p) full; bytes = drop (length p) full })
+cut_made text old p bytes full lacks_slash same is cut whole =
+    let front : take (length p) full ≡ take (length p) bytes = ap (take (length p)) whole ∙ take-append-le (length p) bytes (end_for (not lacks_slash)) cut.0 in
+    let back : drop (length p) full ≡ drop (length p) bytes ++ end_for (not lacks_slash) = ap (drop (length p)) whole ∙ drop-append-le (length p) bytes (end_for (not lacks_slash)) cut.0 in
+    let made : IsCut p bytes (record { prefix = take (length p) full; bytes = drop (length p) full }) = subst (IsCut p bytes) (λ i. record { prefix = sym front i; bytes = sym back i }) cut.1 in
+    subst (λ (t : List ℕ). IsCut t old (record { prefix = take (length p) full; bytes = drop (length p) full })) same
+    (subst (λ (o : List ℕ). IsCut p o (record { prefix = take (length p) full; bytes = drop (length p) full })) is made)
+
+-- the same cut of the same texts
+pub cut_also : (text old p bytes : List ℕ) (cut : PathText) → p ≡ text → bytes ≡ old → IsCut text old cut → IsCut p bytes cut
+cut_also text old p bytes cut same is h =
+    subst (λ (t : List ℕ). IsCut t bytes cut) (sym same) (subst (λ (o : List ℕ). IsCut text o cut) (sym is) h)
+
+-- the bytes of a path with a prefix of k bytes are all its bytes
+pub full_is : (t : PathText) (full : List ℕ) (k : ℕ) → record { prefix = take k full; bytes = drop k full } ≡ t → full ≡ full_bytes t
+full_is t full k is = sym (take-append-drop k full) ∙ ap full_bytes is

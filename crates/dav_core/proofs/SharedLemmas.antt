@@ -12,6 +12,7 @@ use Rattle.dav_core.specs.Path.{Path, names, rest_after, has_names, is_at_or_bel
 use Rattle.dav_core.specs.Locks.{Lock, covers, refreshed_lock, is_named, lock_front}
 use Rattle.dav_core.specs.LockLaws.{CoveringAreShared, GrantedAreShared, UnlockedAreShared, RefreshedAreShared, DeletedAreShared}
 use Rattle.dav_core.proofs.NodesLemmas.{path-itself, same_path}
+use Rattle.dav_core.proofs.CoverLemmas.{grantable_by_tests}
 use Rattle.dav_core.proofs.FrontLemmas.{rest_after-append, from_rest}
 
 -- of two fronts of one path one is a front of the other
@@ -45,18 +46,18 @@ either_way false true false h = cc
 either_way false false c h = cc
 
 -- how a lock covers a path: it is on it, or it is of infinite depth and on a proper front of it
-abbrev pub Covering : Lock → Path → Type 0
-Covering l p = (names l.path ≡ p) ⊎ ((x : List ℕ) × (r : Path) × (l.deep ≡ true) × (p ≡ names l.path ++ x ∷ r))
+abbrev pub CoveringWay : Lock → Path → Type 0
+CoveringWay l p = (names l.path ≡ p) ⊎ ((x : List ℕ) × (r : Path) × (l.deep ≡ true) × (p ≡ names l.path ++ x ∷ r))
 
-pub covering : (l : Lock) (p : Path) → covers l p ≡ true → Covering l p
-covering l p h =
-    elim (either_way (is_same_path (names l.path) p) l.deep (is_below (names l.path) p) h) as (λ _. Covering l p) [
+pub covering_way : (l : Lock) (p : Path) → covers l p ≡ true → CoveringWay l p
+covering_way l p h =
+    elim (either_way (is_same_path (names l.path) p) l.deep (is_below (names l.path) p) h) as (λ _. CoveringWay l p) [
       | inl same ↦ inl (same_path (names l.path) p same)
       | inr both ↦ let (x, r, is) = below_rest (names l.path) p (rest_after (names l.path) p) refl both.1 in inr (x, r, both.0, is)
     ]
 
 -- in both ways it is on a front of the path
-pub front_of : (l : Lock) (p : Path) → Covering l p → (r : Path) × (p ≡ names l.path ++ r)
+pub front_of : (l : Lock) (p : Path) → CoveringWay l p → (r : Path) × (p ≡ names l.path ++ r)
 front_of l p (inl e) = ([], sym (append-nil (names l.path) ∙ e))
 front_of l p (inr (x, r, deep, e)) = (x ∷ r, e)
 
@@ -70,7 +71,7 @@ is_below-append : (a : Path) (x : List ℕ) (r : Path) → is_below a (a ++ x �
 is_below-append a x r = ap has_names (rest_after-append a (x ∷ r))
 
 -- it covers each path between its own and the covered one
-covers_between : (l : Lock) (b p t s : Path) → Covering l p → b ≡ names l.path ++ t → p ≡ b ++ s → covers l b ≡ true
+covers_between : (l : Lock) (b p t s : Path) → CoveringWay l p → b ≡ names l.path ++ t → p ≡ b ++ s → covers l b ≡ true
 covers_between l b p [] s way e f =
     let same : is_same_path (names l.path) b ≡ true = ap (is_same_path (names l.path)) (e ∙ append-nil (names l.path)) ∙ path-itself (names l.path) in
     ap (λ c. c || (l.deep && is_below (names l.path) b)) same
@@ -92,7 +93,7 @@ none_deep false b h k clash = cc
 
 -- where a new lock may be granted beside a lock, both are shared if they cover one path
 module _ (l new : Lock) (no_cover : (covers l (names new.path) && not (l.shared && new.shared)) ≡ false) (none_below : (new.deep && is_below (names new.path) (names l.path)) ≡ false) where
-  shares_by : (p : Path) → Covering l p → Covering new p → (s : Path) → p ≡ names new.path ++ s
+  shares_by : (p : Path) → CoveringWay l p → CoveringWay new p → (s : Path) → p ≡ names new.path ++ s
       → ((t : Path) × (names new.path ≡ names l.path ++ t)) ⊎ ((x : List ℕ) × (t : Path) × (names l.path ≡ names new.path ++ x ∷ t))
       → (r : Path) → p ≡ names l.path ++ r → (l.shared ≡ true) × (new.shared ≡ true)
   shares_by p way its s f (inl (t, e)) r g = shared_by (covers l (names new.path)) l.shared new.shared (covers_between l (names new.path) p t s way e f) no_cover
@@ -103,8 +104,8 @@ module _ (l new : Lock) (no_cover : (covers l (names new.path) && not (l.shared 
 
   shares : (p : Path) → covers l p ≡ true → covers new p ≡ true → (l.shared ≡ true) × (new.shared ≡ true)
   shares p h k =
-      let way : Covering l p = covering l p h in
-      let its : Covering new p = covering new p k in
+      let way : CoveringWay l p = covering_way l p h in
+      let its : CoveringWay new p = covering_way new p k in
       let (r, g) = front_of l p way in
       let (s, f) = front_of new p its in
       shares_by p way its s f (fronts_meet (names l.path) (names new.path) r s (sym g ∙ f)) r g
@@ -131,7 +132,7 @@ pub granted_are_shared : GrantedAreShared
 granted_are_shared new ls before grantable =
     let refusal = λ (l : Lock). covers l (names new.path) && not (l.shared && new.shared) in
     let below = λ (l : Lock). is_below (names new.path) (names l.path) in
-    let (none, none_below) = granted_by (list_any refusal ls) new.deep (list_any below ls) grantable in
+    let (none, none_below) = granted_by (list_any refusal ls) new.deep (list_any below ls) (sym (grantable_by_tests new ls) ∙ grantable) in
     all_pairs_push Shared ls new before
     (λ k d small. shares (get_or ls k d) new (no_test refusal ls k d small none _ refl)
     (none_too new.deep (list_any below ls) (below (get_or ls k d)) none_below (λ h. no_test below ls k d small h _ refl)))

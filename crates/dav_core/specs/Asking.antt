@@ -132,12 +132,28 @@ abbrev pub IsAnswered : {A : Type 0} → Meaning A → Type 0
 IsAnswered (Ok r) = ⊤
 IsAnswered (Err e) = ⊥
 
--- A store in state `old` may give this answer to the call, and be in state `new` afterwards. Either the answer is that of
--- `ask`; or neither the list nor the call's own rules refuse it, but it allocates and an allocation failed: then the answer
--- is InsufficientStorage, the world stays, and the store remembers that memory ran out. The head of the refusals is used up.
+-- A call is answered as `ask` says, and the head of the refusals is used up.
+pub record Answered (call : Call) (old : StoreState) (answer : Result (Answer call) FsError) (new : StoreState) : Type 0 where
+  pub as_asked : (answer, new.world) ≡ ask call old.world old.refusals
+  pub refusals : new.refusals ≡ rest_of old.refusals
+  pub short : new.short ≡ old.short
+
+-- Memory runs out in a call that allocates and that neither the list nor its own rules refuse: the answer is
+-- InsufficientStorage, the world stays, the head of the refusals is used up, and the store remembers that memory ran out.
+pub record RanShort (call : Call) (old : StoreState) (answer : Result (Answer call) FsError) (new : StoreState) : Type 0 where
+  pub takes_memory : TakesMemory call
+  pub not_refused : next_refusal old.refusals ≡ None
+  pub allowed : IsAnswered (meaning call old.world)
+  pub answer_is : answer ≡ Err InsufficientStorage
+  pub world : new.world ≡ old.world
+  pub refusals : new.refusals ≡ rest_of old.refusals
+  pub short : new.short ≡ true
+
+-- A store in state `old` may give this answer to the call, and be in state `new` afterwards: the call is answered, or it
+-- ran short of memory.
 pub data Asks (call : Call) (old : StoreState) (answer : Result (Answer call) FsError) (new : StoreState) : Type 0 where
-  asked : (answer, new.world) ≡ ask call old.world old.refusals → new.refusals ≡ rest_of old.refusals → new.short ≡ old.short → Asks call old answer new
-  ran_short : TakesMemory call → next_refusal old.refusals ≡ None → IsAnswered (meaning call old.world) → answer ≡ Err InsufficientStorage → new.world ≡ old.world → new.refusals ≡ rest_of old.refusals → new.short ≡ true → Asks call old answer new
+  asked : Answered call old answer new → Asks call old answer new
+  ran_short : RanShort call old answer new → Asks call old answer new
 
 -- an answer, with what its value stands for in place of the value
 abbrev pub seen : {A B : Type 0} → (A → B) → Result A FsError → Result B FsError

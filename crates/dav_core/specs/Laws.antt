@@ -1,7 +1,7 @@
 -- What holds of every text, path, world and set of methods: the statements of the laws.
 use Rattle.std.specs.Prelude.{◌≡◌, ◌≢◌, ◌↔◌, ◌++◌, ◌∷◌, ℕ, ◌+◌, ◌^◌, ◌<◌, ◌≤◌, Bool, true, false, T, List, [], All, Contains, Some, None}
 use Rattle.dav_core.specs.declared.errors.ParseError.TheVariants.{InvalidPath, ForbiddenPath}
-use Rattle.dav_core.specs.Path.{Path, PathText, IsName, IsSegment, parent_of, joined, path_bytes, star, names_of, parent_bytes, with_slash, prefix_cut, are_equal}
+use Rattle.dav_core.specs.Path.{Path, PathText, IsName, IsSegment, parent_of, joined, path_bytes, star, names_of, IsParent, with_slash, IsCut, are_equal}
 use Rattle.dav_core.specs.Target.{Leaves, Climbs, HasBadPiece, Reads, IsRefused}
 use Rattle.dav_core.specs.UrlText.{url_text, IsTextOf}
 use Rattle.dav_core.specs.declared.method.DavMethod.{DavMethod}
@@ -110,20 +110,28 @@ NameIsSegment = (n : List ℕ) → IsName n → IsSegment n
 abbrev pub CutsAtNames : Type 0
 CutsAtNames =
     (ps ns : Path) (closed : Bool)
-    → prefix_cut (joined ps) (path_bytes (ps ++ ns) closed) ≡ Some (record { prefix = joined ps; bytes = path_bytes ns closed })
+    → IsCut (joined ps) (path_bytes (ps ++ ns) closed) (record { prefix = joined ps; bytes = path_bytes ns closed })
 
 -- and where a path of names is cut after any prefix, the names after those of the prefix are left
 abbrev pub CutKeepsNames : Type 0
 CutKeepsNames =
     (names : Path) (closed : Bool) (prefix : List ℕ) (cut : PathText)
-    → All IsName names → prefix_cut prefix (path_bytes names closed) ≡ Some cut
+    → All IsName names → IsCut prefix (path_bytes names closed) cut
     → (ns : Path) × (end : Bool) × (names ≡ names_of prefix ++ ns) × (cut.bytes ≡ path_bytes ns end)
 
 -- the parent of a path of names has all names but the last
 abbrev pub ParentOfNames : Type 0
 ParentOfNames =
     (ns : Path) (closed : Bool)
-    → All IsName ns → parent_bytes (path_bytes ns closed) ≡ path_bytes (parent_of ns) true
+    → All IsName ns → IsParent (path_bytes ns closed) (path_bytes (parent_of ns) true)
+
+-- a path has one parent
+abbrev pub OneParent : Type 0
+OneParent = (bytes a b : List ℕ) → IsParent bytes a → IsParent bytes b → a ≡ b
+
+-- and a prefix cuts it in one way
+abbrev pub OneCut : Type 0
+OneCut = (prefix bytes : List ℕ) (a b : PathText) → IsCut prefix bytes a → IsCut prefix bytes b → a ≡ b
 
 -- a text names one method at most, also where ASCII case is ignored
 abbrev pub OneMethod : Type 0

@@ -10,6 +10,7 @@ pub mod ErrorNames
 pub mod Status
 pub mod Method
 pub mod Buffer
+pub mod PathEnds
 pub mod PathRef
 pub mod Laws
 pub mod Handle

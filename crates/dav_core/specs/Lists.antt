@@ -1,5 +1,9 @@
--- Lists in which one item is left out or changed.
-use Rattle.std.specs.Prelude.{Bool, List, [], ◌∷◌, if◌then◌else◌}
+-- Lists without items, and lists in which one item is left out or changed.
+use Rattle.std.specs.Prelude.{Bool, true, false, List, [], ◌∷◌, if◌then◌else◌}
+
+abbrev pub is_empty : {X : Type 0} → List X → Bool
+is_empty [] = true
+is_empty (x ∷ xs) = false
 
 -- the list without the first item that passes the test
 abbrev pub without_first : {X : Type 0} → (X → Bool) → List X → List X

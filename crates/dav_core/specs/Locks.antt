@@ -4,7 +4,7 @@ use denote.Ref.{Bor}
 use Rattle.std.specs.List.{filter, flat_map, list_any, list_all, find as first}
 use Rattle.std.specs.Option.{option_map, option_and_then, option_eq}
 use Rattle.dav_core.specs.Element.{ElementTree}
-use Rattle.dav_core.specs.Lists.{without_first, change_first}
+use Rattle.dav_core.specs.Lists.{is_empty, without_first, change_first}
 use Rattle.dav_core.specs.Path.{Path, PathText, names, is_same_path, is_below, is_at_or_below, fronts}
 
 -- A lock: its token, the path that it is on, its principal, the element in which its owner describes itself, when it ends
@@ -23,51 +23,64 @@ pub record Lock : Type 0 where
 abbrev pub covers : Lock → Path → Bool
 covers l p = is_same_path (names l.path) p || (l.deep && is_below (names l.path) p)
 
--- A requester: the tokens that it submits, and the principal whose locks they must be; none where that isn't checked.
-pub record Asker : Type 0 where
+-- the locks of the list that cover a path
+abbrev pub covering : Path → List Lock → List Lock
+covering p ls = filter (λ l. covers l p) ls
+
+-- the locks of the list that are below a path
+abbrev pub locks_below : Path → List Lock → List Lock
+locks_below p ls = filter (λ l. is_below p (names l.path)) ls
+
+-- Who may hold a lock: anyone who submits its token, or only the one with this principal, which may be none.
+pub data Claimant : Type 0 where
+  Anyone : Claimant
+  By : Option (List ℕ) → Claimant
+
+-- A requester: the tokens that it submits, and the principal that it claims, where that is checked.
+pub record Requester : Type 0 where
   pub tokens : List (List ℕ)
-  pub principal : Option (Option (List ℕ))
+  pub principal : Claimant
 
 -- the requester that submits these tokens, with a principal that is ignored or checked
-abbrev pub asker_of : List (List ℕ) → Bool → Option (List ℕ) → Asker
-asker_of tokens ignored principal = record { tokens = tokens; principal = if ignored then None else Some principal }
+abbrev pub requester_of : List (List ℕ) → Bool → Option (List ℕ) → Requester
+requester_of tokens ignored principal = record { tokens = tokens; principal = if ignored then Anyone else By principal }
 
 abbrev pub is_same_principal : Option (List ℕ) → Option (List ℕ) → Bool
 is_same_principal = option_eq bytes_eq
 
-abbrev pub is_of : Option (Option (List ℕ)) → Lock → Bool
-is_of None l = true
-is_of (Some principal) l = is_same_principal l.principal principal
+abbrev pub is_of : Claimant → Lock → Bool
+is_of Anyone l = true
+is_of (By principal) l = is_same_principal l.principal principal
 
 -- a requester holds a lock if it submits the lock's token, and is the lock's principal where that is checked
-abbrev pub is_held : Asker → Lock → Bool
+abbrev pub is_held : Requester → Lock → Bool
 is_held who l = list_any (bytes_eq l.token) who.tokens && is_of who.principal l
 
 -- A path is free for a requester that holds every exclusive lock covering it, and at least one covering lock if there is any.
-abbrev pub is_free : Asker → Path → List Lock → Bool
+abbrev pub is_free : Requester → Path → List Lock → Bool
 is_free who p ls =
-    list_all (λ l. is_held who l || l.shared || not (covers l p)) ls
-    && (list_any (λ l. covers l p && is_held who l) ls || not (list_any (λ l. covers l p) ls))
+    list_all (λ l. is_held who l || l.shared) (covering p ls)
+    && (list_any (is_held who) (covering p ls) || is_empty (covering p ls))
 
 -- a path is free with everything below: it is free, and the requester holds every lock at it or below it
-abbrev pub is_free_deep : Asker → Path → List Lock → Bool
+abbrev pub is_free_deep : Requester → Path → List Lock → Bool
 is_free_deep who p ls = is_free who p ls && list_all (λ l. is_held who l || not (is_at_or_below p (names l.path))) ls
 
-abbrev pub is_free_for : Bool → Asker → Path → List Lock → Bool
+abbrev pub is_free_for : Bool → Requester → Path → List Lock → Bool
 is_free_for deep who p ls = if deep then is_free_deep who p ls else is_free who p ls
 
 -- A lock conflicts: the requester doesn't hold it, and it covers the path and is exclusive, or covers it while no covering
 -- lock is held; or it is at the path or below it, where the path is checked with everything below.
-abbrev pub is_in_the_way : Bool → Asker → Path → List Lock → Lock → Bool
-is_in_the_way deep who p ls l =
+abbrev pub conflicts : Bool → Requester → Path → List Lock → Lock → Bool
+conflicts deep who p ls l =
     not (is_held who l)
-    && ((covers l p && (not l.shared || not (list_any (λ m. covers m p && is_held who m) ls)))
+    && ((covers l p && (not l.shared || not (list_any (is_held who) (covering p ls))))
     || (deep && is_at_or_below p (names l.path)))
 
 -- The answer to a check whether a path is free: yes, or one lock that conflicts.
-pub data Checks (deep : Bool) (who : Asker) (p : Path) (ls : List Lock) : Result (Unit {0}) Lock → Type 0 where
+pub data Checks (deep : Bool) (who : Requester) (p : Path) (ls : List Lock) : Result (Unit {0}) Lock → Type 0 where
   free : is_free_for deep who p ls ≡ true → Checks deep who p ls (Ok tt)
-  in_the_way : {l : Lock} → Contains ls l → is_in_the_way deep who p ls l ≡ true → Checks deep who p ls (Err l)
+  conflicting : {l : Lock} → Contains ls l → conflicts deep who p ls l ≡ true → Checks deep who p ls (Err l)
 
 -- an answer that lends the lock that conflicts
 abbrev pub lent : Result (Unit {0}) (Bor Lock) → Result (Unit {0}) Lock
@@ -78,8 +91,8 @@ lent (Err l) = Err l.now
 -- and one of infinite depth only where no lock is below its path either.
 abbrev pub is_grantable : Lock → List Lock → Bool
 is_grantable new ls =
-    not (list_any (λ l. covers l (names new.path) && not (l.shared && new.shared)) ls)
-    && not (new.deep && list_any (λ l. is_below (names new.path) (names l.path)) ls)
+    list_all (λ l. l.shared && new.shared) (covering (names new.path) ls)
+    && (not new.deep || is_empty (locks_below (names new.path) ls))
 
 -- the moment when a lock ends that has this timeout, in seconds; none without a timeout
 abbrev pub ends_at : ℕ → Option ℕ → Option ℕ

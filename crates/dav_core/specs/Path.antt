@@ -136,24 +136,21 @@ without_first_slash (b ∷ bs) = if b == 47 then bs else b ∷ bs
 abbrev pub trimmed : List ℕ → List ℕ
 trimmed bytes = if nat_lt 1 (length bytes) then without_slash bytes else bytes
 
--- a byte before a text, which is left out where it passes p and no text follows
-abbrev pub onto_end : (ℕ → Bool) → ℕ → List ℕ → List ℕ
-onto_end p b [] = if p b then [] else b ∷ []
-onto_end p b (c ∷ cs) = b ∷ c ∷ cs
+-- A path ends in a segment below this parent: the parent ends in a slash, the segment follows it, and slashes or nothing
+-- follow the segment.
+pub record IsAbove (parent bytes : List ℕ) : Type 0 where
+  pub front : List ℕ
+  pub segment : List ℕ
+  pub slashes : List ℕ
+  pub ends : parent ≡ front ++ 47 ∷ []
+  pub named : IsSegment segment
+  pub closing : All (λ b. b ≡ 47) slashes
+  pub whole : bytes ≡ parent ++ segment ++ slashes
 
--- the text without the bytes at its end that pass p
-abbrev pub without_end : (ℕ → Bool) → List ℕ → List ℕ
-without_end p [] = []
-without_end p (b ∷ bs) = onto_end p b (without_end p bs)
-
--- everything up to and with the slash before the last name
-abbrev pub before_last_name : List ℕ → List ℕ
-before_last_name bytes = without_end (λ b. not (b == 47)) (without_end (λ b. b == 47) bytes)
-
--- The parent of a path: everything before its last name. A path without a slash before a name, as the root and
--- the star path, is its own parent.
-abbrev pub parent_bytes : List ℕ → List ℕ
-parent_bytes bytes = if is_nonempty (before_last_name bytes) then before_last_name bytes else bytes
+-- The parent of a path: everything before its last segment. A path without a slash before a segment, as the root and the
+-- star path, is its own parent.
+abbrev pub IsParent : List ℕ → List ℕ → Type 0
+IsParent bytes parent = IsAbove parent bytes ⊎ ((parent ≡ bytes) × ((q : List ℕ) → ¬ IsAbove q bytes))
 
 -- the last of the names, or nothing where there are none
 abbrev pub last_name : List ℕ → List ℕ
@@ -180,20 +177,13 @@ with_bytes p bytes = record { prefix = p.prefix; bytes = bytes }
 abbrev pub names : PathText → Path
 names p = names_of p.bytes
 
--- what follows p in a text; none where the text doesn't begin with p
-abbrev pub behind : List ℕ → List ℕ → Option (List ℕ)
-behind [] bytes = Some bytes
-behind (b ∷ p) [] = None
-behind (b ∷ p) (c ∷ bytes) = if b == c then behind p bytes else None
+-- How a path is cut after a prefix: an empty prefix leaves all of it; a prefix that a slash follows leaves what begins with
+-- that slash; and one that is all of the path leaves a slash, which is added.
+pub data IsCut (prefix bytes : List ℕ) (cut : PathText) : Type 0 where
+  at_start : prefix ≡ [] → cut ≡ record { prefix = []; bytes = bytes } → IsCut prefix bytes cut
+  at_slash : {rest : List ℕ} → bytes ≡ prefix ++ 47 ∷ rest → cut ≡ record { prefix = prefix; bytes = 47 ∷ rest } → IsCut prefix bytes cut
+  at_end : prefix ≢ [] → bytes ≡ prefix → cut ≡ record { prefix = prefix; bytes = 47 ∷ [] } → IsCut prefix bytes cut
 
--- A path whose prefix is p, from what follows p in it: p may be all of the path, which then gets a slash after it,
--- or be followed by a slash.
-abbrev pub cut_at : List ℕ → Option (List ℕ) → Option PathText
-cut_at p None = None
-cut_at p (Some []) = Some (record { prefix = p; bytes = 47 ∷ [] })
-cut_at p (Some (b ∷ bs)) = if b == 47 then Some (record { prefix = p; bytes = b ∷ bs }) else None
-
--- The path with these bytes, cut after the prefix p; none where p is no prefix of it. An empty prefix is always one.
-abbrev pub prefix_cut : List ℕ → List ℕ → Option PathText
-prefix_cut [] bytes = Some (record { prefix = []; bytes = bytes })
-prefix_cut (b ∷ p) bytes = cut_at (b ∷ p) (behind (b ∷ p) bytes)
+-- the path can't be cut after the prefix
+abbrev pub HasNoCut : List ℕ → List ℕ → Type 0
+HasNoCut prefix bytes = (cut : PathText) → ¬ IsCut prefix bytes cut

@@ -1,12 +1,12 @@
 -- What contracts see of a lent path, and of the names that an iterator has left.
-use Rattle.std.specs.Prelude.{◌≡◌, ℕ, ◌≤◌, ◌++◌, ⊤, Bool, not, List, length, take, drop, Option, Some, None}
+use Rattle.std.specs.Prelude.{◌≡◌, ◌≢◌, ℕ, ◌≤◌, ◌++◌, Bool, true, not, List, [], length, take, drop, Option, Some, None}
 use Rattle.std.specs.Str.{IsUtf8}
 use denote.Ref.{Bor}
 use Rattle.dav_core.specs.declared.errors.ParseError.{ParseError}
 use Rattle.dav_core.specs.declared.errors.ParseError.TheVariants.{InvalidPath, PrefixMismatch, ForbiddenPath, Memory}
 use Rattle.dav_core.specs.declared.davpath.DavPathRef.{DavPathRef}
 use Rattle.dav_core.specs.declared.davpath.Segments.{Segments}
-use Rattle.dav_core.specs.Path.{Path, PathText, names_in, end_for, prefix_cut}
+use Rattle.dav_core.specs.Path.{Path, PathText, names_in, end_for, IsCut, HasNoCut}
 
 -- the bytes of the path
 abbrev pub ref_bytes : DavPathRef → List ℕ
@@ -21,15 +21,18 @@ abbrev pub GivesText : Type 0 → List ℕ → Option (Bor (List ℕ)) → Type 
 GivesText Wanted bytes None = ¬ (Wanted × IsUtf8 bytes)
 GivesText Wanted bytes (Some s) = Wanted × (s.now ≡ bytes)
 
--- why a prefix is refused: it isn't one of the path, or memory ran out
-abbrev pub IsCutRefused : Option PathText → ParseError → Type 0
-IsCutRefused cut InvalidPath = ⊥
-IsCutRefused cut PrefixMismatch = cut ≡ None
-IsCutRefused cut ForbiddenPath = ⊥
-IsCutRefused cut Memory = ⊤
+-- why a prefix is refused: the path can't be cut after it; or memory ran out for the slash that is added where the prefix is
+-- all of the path
+abbrev pub IsCutRefused : List ℕ → List ℕ → ParseError → Type 0
+IsCutRefused prefix bytes InvalidPath = ⊥
+IsCutRefused prefix bytes PrefixMismatch = HasNoCut prefix bytes
+IsCutRefused prefix bytes ForbiddenPath = ⊥
+IsCutRefused prefix bytes Memory = (prefix ≢ []) × (bytes ≡ prefix)
 
 -- whether a path can be cut after the prefix p, and if so whether a slash is added there
 abbrev pub CutsAt : List ℕ → List ℕ → Option Bool → Type 0
-CutsAt p bytes None = prefix_cut p bytes ≡ None
+CutsAt p bytes None = HasNoCut p bytes
 CutsAt p bytes (Some lacks_slash) =
-    (length p ≤ length bytes) × (prefix_cut p bytes ≡ Some (record { prefix = take (length p) bytes; bytes = drop (length p) bytes ++ end_for (not lacks_slash) }))
+    (length p ≤ length bytes)
+    × IsCut p bytes (record { prefix = take (length p) bytes; bytes = drop (length p) bytes ++ end_for (not lacks_slash) })
+    × (lacks_slash ≡ true → (p ≢ []) × (bytes ≡ p))

@@ -40,7 +40,7 @@ impl Model for DavPath {
 
 impl DavPath {
     ghost use Rattle.std.specs.Prelude.{◌≡◌, ◌≢◌, ◌++◌, ⊤, Some, if◌then◌else◌, [], IfOk, IfErr, OnOk, OnErr, string_bytes};
-    ghost use Rattle.dav_core.specs.Path.{full_bytes, is_collection, last_name, names, parent_bytes, prefix_cut, with_bytes, with_slash, without_first_slash, without_slash};
+    ghost use Rattle.dav_core.specs.Path.{full_bytes, is_collection, last_name, names, IsCut, IsParent, with_bytes, with_slash, without_first_slash, without_slash};
     ghost use Rattle.dav_core.specs.Target.{Reads, IsRefused};
     ghost use Rattle.dav_core.specs.PathRef.{ref_bytes, names_left, GivesText, IsCutRefused};
     ghost use Rattle.dav_core.specs.UrlText.{IsTextOf};
@@ -166,7 +166,7 @@ impl DavPath {
     /// The parent, after the same prefix: the path up to and with the slash before its last name; the root and `*` are their
     /// own parents.
     pub fn parent(&self) -> Result<DavPath, NoMemory>
-        ensures { IfOk result (λ p. p ≡ with_bytes self.now (parent_bytes self.now.bytes)) }
+        ensures { IfOk result (λ p. (p.prefix ≡ self.now.prefix) × IsParent self.now.bytes p.bytes) }
     {
         let len = self.prefix_len + self.as_ref().parent().as_bytes().len();
         Ok(DavPath {
@@ -175,13 +175,14 @@ impl DavPath {
         })
     }
 
-    /// Makes a text, without the slash at its end, the prefix of the path. The text may be empty, all of the path (a slash is
-    /// then added after it), or followed by a slash in the path.
+    /// Makes a text, without the slash at its end, the prefix of the path, in place of the one that it had. The text may be
+    /// empty, all of the path with its old prefix (a slash is then added after it), or followed by a slash there.
     ///
-    /// `PrefixMismatch` where it is none of these; `Memory`. After an error the path is as it was.
+    /// `PrefixMismatch` where it is none of these; `Memory` only where a slash is to be added. After an error the path is as
+    /// it was.
     pub fn set_prefix(&mut self, prefix: &str) -> Result<(), ParseError>
-        ensures ok { OnOk result (prefix_cut (without_slash prefix.now) (full_bytes self.old) ≡ Some self.new) }
-        ensures err { IfErr result (IsCutRefused (prefix_cut (without_slash prefix.now) (full_bytes self.old))) }
+        ensures ok { OnOk result (IsCut (without_slash prefix.now) (full_bytes self.old) self.new) }
+        ensures err { IfErr result (IsCutRefused (without_slash prefix.now) (full_bytes self.old)) }
         ensures unchanged { OnErr result (self.new ≡ self.old) }
     {
         let prefix = without_slash(prefix.as_bytes());
@@ -310,7 +311,7 @@ pub struct DavPathRef<'a> {
 impl<'a> DavPathRef<'a> {
     ghost use Rattle.std.specs.Prelude.{◌≡◌, ◌≢◌, ⊤, [], None, IfOk, string_bytes, option_copied};
     ghost use Rattle.std.specs.List.{last_or};
-    ghost use Rattle.dav_core.specs.Path.{is_collection, last_name, names_of, parent_bytes, without_first_slash};
+    ghost use Rattle.dav_core.specs.Path.{is_collection, last_name, names_of, IsParent, without_first_slash};
     ghost use Rattle.dav_core.specs.PathRef.{ref_bytes, names_left, GivesText};
     ghost use Rattle.dav_core.specs.UrlText.{IsTextOf};
 
@@ -330,7 +331,7 @@ impl<'a> DavPathRef<'a> {
 
     /// The parent: the path up to and with the slash before its last name; the root and `*` are their own parents.
     pub fn parent(self) -> DavPathRef<'a>
-        ensures { ref_bytes result ≡ parent_bytes (ref_bytes self.entry) }
+        ensures { IsParent (ref_bytes self.entry) (ref_bytes result) }
     {
         DavPathRef {
             bytes: ends::parent(self.bytes),

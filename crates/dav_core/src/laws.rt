@@ -3,8 +3,8 @@
 pub mod calls;
 
 ghost use Rattle.std.specs.Prelude.{◌≡◌, [], ◌∷◌};
-ghost use Rattle.dav_core.specs.Laws.{LeavesOnePath, LeavesNoFault, OneFault, ReadsOnePath, ReadIsNotRefused, OneRefusal, KeepsNames, ReadsNames, StarHasNoNames, ReadsAgain, NamesReadAgain, SameText, SlashKeepsNames, AddsName, AddsSegment, NamesAreSegments, NameIsSegment, ParentOfNames, CutsAtNames, CutKeepsNames, EmptyIsWorld, NewKeepsWorld, ChangeKeepsWorld, OneMethod, NameNames, MembersAreHad, SameMethodsSameSet, EqualToItself, EqualBothWays, EqualThrough};
-ghost use Rattle.dav_core.specs.LockLaws.{FreeHoldsExclusive, FreeDeepHoldsBelow, FreeIsNothingInTheWay, GrantedCanBeUnlocked, TakenBack, CoveringAreShared, GrantedAreShared, UnlockedAreShared, RefreshedAreShared, DeletedAreShared, UnlockTakesOne, RefreshChangesOne, DiscoveredAreCovering};
+ghost use Rattle.dav_core.specs.Laws.{LeavesOnePath, LeavesNoFault, OneFault, ReadsOnePath, ReadIsNotRefused, OneRefusal, KeepsNames, ReadsNames, StarHasNoNames, ReadsAgain, NamesReadAgain, SameText, SlashKeepsNames, AddsName, AddsSegment, NamesAreSegments, NameIsSegment, ParentOfNames, OneParent, CutsAtNames, CutKeepsNames, OneCut, EmptyIsWorld, NewKeepsWorld, ChangeKeepsWorld, OneMethod, NameNames, MembersAreHad, SameMethodsSameSet, EqualToItself, EqualBothWays, EqualThrough};
+ghost use Rattle.dav_core.specs.LockLaws.{FreeHoldsExclusive, FreeDeepHoldsBelow, FreeIsNoConflict, GrantedCanBeUnlocked, TakenBack, CoveringAreShared, GrantedAreShared, UnlockedAreShared, RefreshedAreShared, DeletedAreShared, UnlockTakesOne, RefreshChangesOne, DiscoveredAreCovering};
 ghost use Rattle.dav_core.specs.Method.{all_methods, members};
 
 use crate::method::{DavMethod, DavMethodSet};
@@ -49,14 +49,17 @@ pub fn equal_paths_are_alike()
 {}
 
 /// A slash at the end changes no name, a name or segment that is added is the last, and the parent has all names but the
-/// last. A path that is cut after a prefix has the names that follow those of the prefix.
+/// last. A path that is cut after a prefix has the names that follow those of the prefix. A path has one parent, and a prefix
+/// cuts it in one way.
 pub fn names_are_added()
     ensures slash { SlashKeepsNames }
     ensures name { AddsName }
     ensures segment { AddsSegment }
     ensures parent { ParentOfNames }
     ensures cut { CutsAtNames }
-    ensures behind { CutKeepsNames }
+    ensures after { CutKeepsNames }
+    ensures one_parent { OneParent }
+    ensures one_cut { OneCut }
 {}
 
 /// The empty world is a world; so is a world with one more node, and one in which a node was changed: the root and every
@@ -74,7 +77,7 @@ pub fn worlds_are_kept()
 pub fn free_paths_are_held()
     ensures exclusive { FreeHoldsExclusive }
     ensures below { FreeDeepHoldsBelow }
-    ensures way { FreeIsNothingInTheWay }
+    ensures conflict { FreeIsNoConflict }
     ensures granted { GrantedCanBeUnlocked }
     ensures back { TakenBack }
 {}

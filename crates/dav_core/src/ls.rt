@@ -87,7 +87,7 @@ pub trait DavLockSystem {
     ghost use Rattle.dav_core.specs.Numbers.{max_u64};
     ghost use Rattle.dav_core.specs.LockRefusals.{IsRefusedGrant, IsRefusedRefresh};
     ghost use Rattle.dav_core.specs.Path.{names};
-    ghost use Rattle.dav_core.specs.Locks.{Lock, Asker, Checks, is_grantable, ends_at, new_lock, asker_of, lent, named_lock, unlocked, refreshed, refreshed_lock, discovered, deleted};
+    ghost use Rattle.dav_core.specs.Locks.{Lock, Requester, Checks, is_grantable, ends_at, new_lock, requester_of, lent, named_lock, unlocked, refreshed, refreshed_lock, discovered, deleted};
 
     /// The locks, in the order of granting.
     ghost locks: { Self → List Lock };
@@ -145,7 +145,7 @@ pub trait DavLockSystem {
         deep: bool,
         tokens: &[String],
     ) -> Result<(), &DavLock>
-        ensures { Checks deep (asker_of (map string_bytes tokens.now) ignore_principal (option_copied principal.entry)) (names path.now) (locks self.now) (lent result) };
+        ensures { Checks deep (requester_of (map string_bytes tokens.now) ignore_principal (option_copied principal.entry)) (names path.now) (locks self.now) (lent result) };
 
     /// The locks that cover a path, the shortest path first, and of one path the first that was granted.
     fn discover(&self, alloc: Global, path: &DavPath) -> Result<Vec<DavLock>, NoMemory>

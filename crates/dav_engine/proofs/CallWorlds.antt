@@ -10,10 +10,7 @@ use Rattle.dav_core.specs.Meaning.{Meaning, refuse_if, at_node}
 use Rattle.dav_core.specs.Calls.{read_dir, open_at, sought, stored_tree}
 use Rattle.dav_core.specs.Asking.{Call, Metadata, ReadDir, EntryMetadata, CreateDir, RemoveDir, RemoveFile, Rename, Copy, HaveProps, PatchProps, GetProps, GetProp, GetQuota, SetAccessed, SetModified, Open, Read, Write, Seek, Flush, FileMetadata, Answer, meaning, StoreState, Asks, asked, ran_short, ask, answered}
 use Rattle.dav_core.specs.CallLaws.{IsProper, IsStorable}
-use Rattle.dav_core.proofs.StepLemmas.{went_on, found}
-use Rattle.dav_core.proofs.KeptLemmas.{calls_keep_worlds, numbers_rise}
-use Rattle.dav_core.proofs.FollowLemmas.{numbers_look_back}
-use Rattle.dav_core.proofs.MemberLemmas.{lists_what_stands}
+use Rattle.dav_core.proofs.Theorems.{went_on, found, calls_keep_worlds, numbers_rise, numbers_look_back, lists_what_stands}
 use Rattle.std.specs.List.{Contains, All}
 use Rattle.std.proofs.lemmas.List.Elements.{All-weaker, All-contains_itself, All-cons, All-nil, All-contains, Contains-push}
 use Rattle.dav_engine.specs.WorldLaws.{OnlyReads, Remembers, MayTell}
@@ -109,8 +106,8 @@ did_asked c w new (None ∷ rs) answer h = did_answered (meaning c w) w new answ
 did_asked c w new (Some e ∷ rs) answer h = stays e (ap (λ x. x.0) h) (ap (λ x. x.1) h)
 
 pub did : {c : Call} {old new : StoreState} {answer : Result (Answer c) FsError} → Asks c old answer new → Did (meaning c old.world) old.world answer new.world
-did {c} {old} {new} {answer} (asked is rest flag) = did_asked c old.world new.world old.refusals answer is
-did (ran_short takes head allowed is same rest flag) = stays _ is same
+did {c} {old} {new} {answer} (asked h) = did_asked c old.world new.world old.refusals answer h.as_asked
+did (ran_short h) = stays _ h.answer_is h.world
 
 pub did_leave : (c : Call) (w new : World) (answer : Result (Answer c) FsError) → OnlyReads c → Did (meaning c w) w answer new → new ≡ w
 did_leave c w new answer only (stays e is same) = same

@@ -11,7 +11,7 @@ use denote.Ref.{Bor}
 use Rattle.dav_core.specs.declared.errors.DavError.{DavError}
 use Rattle.dav_core.specs.declared.errors.DavError.TheVariants as dav
 use Rattle.dav_core.specs.Asking.{StoreState}
-use Rattle.dav_core.specs.Locks.{Lock, asker_of, is_free}
+use Rattle.dav_core.specs.Locks.{Lock, requester_of, is_free}
 use Rattle.dav_core.specs.Path.{Path, PathText, names}
 use Rattle.dav_headers.specs.ETag.{EntityTag, IsStrongMatch}
 use Rattle.dav_headers.specs.ETagList.{tags}
@@ -35,10 +35,10 @@ use Rattle.dav_engine.proofs.Following.{ran_at, follows_done, follows_then, foll
 
 -- a token outside the namespace `DAV:`, of a path that is or isn't locked against a requester who submits it
 pub token_free : {L : Type 0} (locks : L → List Lock) (ls : Option (Bor L)) (l : Bor L) (token : List ℕ) (p : Path) (b : Bool)
-    → ls ≡ Some l → starts_with ◌==◌ token (codes "DAV:") ≡ false → b ≡ is_free (asker_of (token ∷ []) true None) p (locks l.now)
+    → ls ≡ Some l → starts_with ◌==◌ token (codes "DAV:") ≡ false → b ≡ is_free (requester_of (token ∷ []) true None) p (locks l.now)
     → b ≡ spec.token_holds token p (locks_in locks ls)
 token_free locks ls l token p b is other same =
-    same ∙ ap (λ d. not d && is_free (asker_of (token ∷ []) true None) p (locks l.now)) (sym other) ∙ ap (λ x. spec.token_holds token p (locks_in locks x)) (sym is)
+    same ∙ ap (λ d. not d && is_free (requester_of (token ∷ []) true None) p (locks l.now)) (sym other) ∙ ap (λ x. spec.token_holds token p (locks_in locks x)) (sym is)
 
 decided : (b d : Bool) (P : Type 0) → Decides d P → (IsTrue b → P) → (P → IsTrue b) → b ≡ (d || false)
 decided true true P d to from = refl

@@ -8,7 +8,7 @@ use Rattle.dav_core.specs.declared.errors.DavError.TheVariants as dav
 use Rattle.dav_core.specs.declared.fs.DavMetaData.{DavMetaData}
 use Rattle.dav_core.specs.declared.method.DavMethod.{DavMethod}
 use Rattle.dav_core.specs.Asking.{StoreState}
-use Rattle.dav_core.specs.Locks.{Asker, Lock, asker_of}
+use Rattle.dav_core.specs.Locks.{Requester, Lock, requester_of}
 use Rattle.dav_core.specs.Path.{Path}
 use Rattle.dav_engine.specs.Plan.{Locks, Look, Done, ran_look}
 use Rattle.dav_engine.proofs.CutPlans.{cut_look}
@@ -73,26 +73,26 @@ guard_short f m c before found go r e {old} {mid} {ls} same was one =
 
 -- what the check of the locks answers for the submitted tokens
 pub open_to : (tokens : Vec (String Global)) (lent : List (String Global)) (principal : Option (List ℕ)) (deep : Bool) (p : Path) (ls : Locks) (b : Bool)
-    → lent ≡ tokens.items → b ≡ is_open deep (asker_of (map string_bytes lent) false principal) p ls → b ≡ is_open deep (asker_of (texts_of tokens) false principal) p ls
-open_to tokens lent principal deep p ls b same is = is ∙ ap (λ (l : List (String Global)). is_open deep (asker_of (map string_bytes l) false principal) p ls) same
+    → lent ≡ tokens.items → b ≡ is_open deep (requester_of (map string_bytes lent) false principal) p ls → b ≡ is_open deep (requester_of (texts_of tokens) false principal) p ls
+open_to tokens lent principal deep p ls b same is = is ∙ ap (λ (l : List (String Global)). is_open deep (requester_of (map string_bytes l) false principal) p ls) same
 
 -- no lock conflicts, and the rest was followed
-pub free_goes : {B Y : Type 0} {view : Y → B} (deep : Bool) (who : Asker) (p : Path) (e : DavError) (f : Unit {0} → Method B) (b : Bool) {old new : StoreState} {ls ms : Locks} {r : Result Y DavError}
+pub free_goes : {B Y : Type 0} {view : Y → B} (deep : Bool) (who : Requester) (p : Path) (e : DavError) (f : Unit {0} → Method B) (b : Bool) {old new : StoreState} {ls ms : Locks} {r : Result Y DavError}
     → b ≡ is_open deep who p ls → b ≡ true → Follows view (f tt) old ls r new ms → Follows view (require_free deep who p e >>= f) old ls r new ms
 free_goes deep who p e f b is freed rest = follows_look (follows_on _ e f (sym is ∙ freed) rest)
 
 -- a lock conflicts
-pub locked_out : {B Y : Type 0} {view : Y → B} (deep : Bool) (who : Asker) (p : Path) (e : DavError) (f : Unit {0} → Method B) (b : Bool) {s : StoreState} {ls : Locks} {r : Result Y DavError}
+pub locked_out : {B Y : Type 0} {view : Y → B} (deep : Bool) (who : Requester) (p : Path) (e : DavError) (f : Unit {0} → Method B) (b : Bool) {s : StoreState} {ls : Locks} {r : Result Y DavError}
     → b ≡ is_open deep who p ls → b ≡ false → viewed view r ≡ Err e → Follows view (require_free deep who p e >>= f) s ls r s ls
 locked_out deep who p e f b is shut same = follows_look (follows_out _ e f (sym is ∙ shut) same)
 
 -- the same at the end of a plan
-pub ends_free : {Y : Type 0} {view : Y → Unit {0}} (deep : Bool) (who : Asker) (p : Path) (e : DavError) (b : Bool) {s : StoreState} {ls : Locks} {r : Result Y DavError}
+pub ends_free : {Y : Type 0} {view : Y → Unit {0}} (deep : Bool) (who : Requester) (p : Path) (e : DavError) (b : Bool) {s : StoreState} {ls : Locks} {r : Result Y DavError}
     → b ≡ is_open deep who p ls → b ≡ true → viewed view r ≡ Ok tt → Follows view (require_free deep who p e) s ls r s ls
 ends_free {view = view} deep who p e b {s} {ls} {r} is freed same =
     follows_look (subst (λ t. Follows view (require t e) s ls r s ls) (sym (sym is ∙ freed)) (follows_done same))
 
-pub ends_locked : {Y : Type 0} {view : Y → Unit {0}} (deep : Bool) (who : Asker) (p : Path) (e : DavError) (b : Bool) {s : StoreState} {ls : Locks} {r : Result Y DavError}
+pub ends_locked : {Y : Type 0} {view : Y → Unit {0}} (deep : Bool) (who : Requester) (p : Path) (e : DavError) (b : Bool) {s : StoreState} {ls : Locks} {r : Result Y DavError}
     → b ≡ is_open deep who p ls → b ≡ false → viewed view r ≡ Err e → Follows view (require_free deep who p e) s ls r s ls
 ends_locked {view = view} deep who p e b {s} {ls} {r} is shut same =
     follows_look (subst (λ t. Follows view (require t e) s ls r s ls) (sym (sym is ∙ shut)) (follows_done same))

@@ -8,9 +8,9 @@ use Rattle.dav_core.specs.declared.errors.DavError.TheVariants as dav
 use Rattle.dav_core.specs.declared.fs.DavMetaData.{DavMetaData}
 use Rattle.dav_core.specs.declared.method.DavMethod.TheVariants.{MkCol}
 use Rattle.dav_core.specs.Asking.{StoreState, Asks, Metadata, CreateDir}
-use Rattle.dav_core.specs.Locks.{asker_of}
+use Rattle.dav_core.specs.Locks.{requester_of}
 use Rattle.dav_core.specs.Path.{PathText, names}
-use Rattle.dav_engine.specs.Client.{Client, asker}
+use Rattle.dav_engine.specs.Client.{Client, requester}
 use Rattle.dav_engine.specs.Plan.{Locks}
 use Rattle.dav_engine.specs.Method.{Method, ◌>>=◌, require_free, is_open, ask_or, gives}
 use Rattle.dav_engine.specs.Follows.{as_is, Follows, or_memory}
@@ -24,7 +24,7 @@ use Rattle.dav_engine.proofs.GuardLemmas.{guard_passed, guard_failed, guard_shor
 
 -- what follows the conditions
 abbrev rest : PathText → Client → List (List ℕ) → Method (Unit {0})
-rest p who tokens = require_free false (asker who tokens) (names p) (dav.Status 423)
+rest p who tokens = require_free false (requester who tokens) (names p) (dav.Status 423)
 
 pub mkcol_short : {E : Type 0} (c : Conditions) (p : PathText) (who : Client) (answer : Result DavMetaData FsError) (before : Option DavMetaData) (r : Result (Result (Vec (String Global)) ℕ) E) (e : E)
     {old mid new : StoreState} {ls : Locks}
@@ -44,21 +44,21 @@ pub mkcol_free : {E : Type 0} (c : Conditions) (p : PathText) (who : Client) (an
     (lent : List (String Global)) (b : Bool) {old mid new : StoreState} {ls : Locks}
     → Asks (Metadata (names p)) old answer mid → before ≡ result_ok answer → r ≡ Ok verdict → verdict ≡ Ok tokens
     → Follows tokens_or_status (if_match_get_tokens MkCol c before) mid ls (or_memory r) new ls
-    → lent ≡ tokens.items → b ≡ is_open false (asker_of (map string_bytes lent) false who.principal) (names p) ls → b ≡ true
+    → lent ≡ tokens.items → b ≡ is_open false (requester_of (map string_bytes lent) false who.principal) (names p) ls → b ≡ true
     → Follows (λ (u : Unit {0}). u) (mkcol_allowed c p who) old ls (Ok tt) new ls
 mkcol_free c p who answer before r verdict tokens lent b {ls = ls} asks same was is one tells looked freed =
     follows_ask asks (guard_passed dav.Status MkCol c before (result_ok answer) (rest p who) r verdict tokens same was is one
-    (ends_free false (asker who (texts_of tokens)) (names p) (dav.Status 423) b (open_to tokens lent who.principal false (names p) ls b tells looked) freed refl))
+    (ends_free false (requester who (texts_of tokens)) (names p) (dav.Status 423) b (open_to tokens lent who.principal false (names p) ls b tells looked) freed refl))
 
 pub mkcol_locked : {E : Type 0} (c : Conditions) (p : PathText) (who : Client) (answer : Result DavMetaData FsError) (before : Option DavMetaData) (r : Result (Result (Vec (String Global)) ℕ) E) (verdict : Result (Vec (String Global)) ℕ) (tokens : Vec (String Global))
     (lent : List (String Global)) (b : Bool) {old mid new : StoreState} {ls : Locks}
     → Asks (Metadata (names p)) old answer mid → before ≡ result_ok answer → r ≡ Ok verdict → verdict ≡ Ok tokens
     → Follows tokens_or_status (if_match_get_tokens MkCol c before) mid ls (or_memory r) new ls
-    → lent ≡ tokens.items → b ≡ is_open false (asker_of (map string_bytes lent) false who.principal) (names p) ls → b ≡ false
+    → lent ≡ tokens.items → b ≡ is_open false (requester_of (map string_bytes lent) false who.principal) (names p) ls → b ≡ false
     → Follows (λ (u : Unit {0}). u) (mkcol_allowed c p who) old ls (Err (dav.Status 423)) new ls
 mkcol_locked c p who answer before r verdict tokens lent b {ls = ls} asks same was is one tells looked shut =
     follows_ask asks (guard_passed dav.Status MkCol c before (result_ok answer) (rest p who) r verdict tokens same was is one
-    (ends_locked false (asker who (texts_of tokens)) (names p) (dav.Status 423) b (open_to tokens lent who.principal false (names p) ls b tells looked) shut refl))
+    (ends_locked false (requester who (texts_of tokens)) (names p) (dav.Status 423) b (open_to tokens lent who.principal false (names p) ls b tells looked) shut refl))
 
 -- what follows the checks
 abbrev creates : PathText → Client → Unit {0} → Method Response

@@ -6,8 +6,8 @@ use Rattle.http_header.specs.FieldValue.{FieldValue}
 use Rattle.http_header.specs.HeaderMap.{get_all}
 use Rattle.url.specs.Parts.{Parts}
 use Rattle.dav_core.specs.declared.method.DavMethod.{DavMethod}
-use Rattle.dav_core.specs.Path.{Path, PathText, names, prefix_cut, without_slash}
-use Rattle.dav_core.proofs.TargetLemmas.{Reads-one}
+use Rattle.dav_core.specs.Path.{Path, PathText, names, IsCut, without_slash}
+use Rattle.dav_core.proofs.Theorems.{Reads-one, one_cut}
 use Rattle.dav_headers.specs.ContentRange.{IsContentRange}
 use Rattle.dav_headers.specs.ETagList.{IsTagList}
 use Rattle.dav_headers.specs.If.{ConditionList, IsIf, IsIfHeader}
@@ -45,7 +45,7 @@ some_one same = cc
 names_one : (prefix : List ℕ) (url : Parts) (q r : Path) → TagNames prefix url q → TagNames prefix url r → q ≡ r
 names_one prefix url q r (a, p, reads, star, cut, is) (b, s, also, _, split, too) =
     let same : a ≡ b = Reads-one url.path a b reads also in
-    is ∙ ap names (some_one (sym cut ∙ ap (prefix_cut (without_slash prefix)) same ∙ split)) ∙ sym too
+    is ∙ ap names (one_cut (without_slash prefix) b p s (subst (λ (x : List ℕ). IsCut (without_slash prefix) x p) same cut) split) ∙ sym too
 
 speaks_one : (prefix : List ℕ) (own : Path) (url : Option Parts) (q r : Option Path) → SpeaksOf prefix own url q → SpeaksOf prefix own url r → q ≡ r
 speaks_one prefix own None q r h k = h ∙ sym k

@@ -4,13 +4,14 @@ use Rattle.dav_core.specs.declared.errors.FsError.{FsError}
 use Rattle.dav_core.specs.declared.errors.FsError.TheVariants.{GeneralFailure, InsufficientStorage}
 use Rattle.dav_core.specs.Asking.{Call, Answer, StoreState, Asks, asked, ran_short, ask, rest_of}
 use Rattle.dav_core.specs.World.{World}
+use Rattle.dav_core.proofs.Theorems.{answered_as}
 use Rattle.dav_engine.specs.Plan.{Plan, Done, Ask, Look, Keep, Locks, kept, Ran, ran_done, ran_ask, ran_look, ran_keep, RanUpTo, up_to_here, up_to_ask, up_to_look, up_to_keep, Cut, Refused, refused_done, refused_ask, refused_look, refused_keep}
 use Rattle.dav_engine.specs.PlanLaws.{ample}
 
 -- the flag for out of memory is never cleared
 asks_unset : {c : Call} {old new : StoreState} {answer : Result (Answer c) FsError} → Asks c old answer new → new.short ≡ false → old.short ≡ false
-asks_unset (asked is left flag) u = sym flag ∙ u
-asks_unset (ran_short takes ready allowed is same left flag) u = absurd (true≢false (sym flag ∙ u))
+asks_unset (asked h) u = sym h.short ∙ u
+asks_unset (ran_short h) u = absurd (true≢false (sym h.short ∙ u))
 
 pub ran_unset : {A : Type 0} {plan : Plan A} {old new : StoreState} {ls ms : Locks} {a : A} → Ran Asks plan old ls a new ms → new.short ≡ false → old.short ≡ false
 ran_unset ran_done u = u
@@ -20,11 +21,11 @@ ran_unset (ran_keep rest) u = ran_unset rest u
 
 -- where the store never ran out of memory, an answer and the state that it leaves are determined
 asks_same : {c : Call} {old s t : StoreState} {a b : Result (Answer c) FsError} → Asks c old a s → s.short ≡ false → Asks c old b t → t.short ≡ false → (a ≡ b) × (s ≡ t)
-asks_same (asked is left flag) u (asked is' left' flag') u' =
-    let both = is ∙ sym is' in
-    (ap (λ p. p.0) both, λ i. record { world = (both i).1; refusals = (left ∙ sym left') i; short = (flag ∙ sym flag') i })
-asks_same (ran_short takes ready allowed is same left flag) u other u' = absurd (true≢false (sym flag ∙ u))
-asks_same (asked is left flag) u (ran_short takes ready allowed is' same left' flag') u' = absurd (true≢false (sym flag' ∙ u'))
+asks_same (asked h) u (asked h') u' =
+    let both = h.as_asked ∙ sym h'.as_asked in
+    (ap (λ p. p.0) both, λ i. record { world = (both i).1; refusals = (h.refusals ∙ sym h'.refusals) i; short = (h.short ∙ sym h'.short) i })
+asks_same (ran_short h) u other u' = absurd (true≢false (sym h.short ∙ u))
+asks_same (asked h) u (ran_short h') u' = absurd (true≢false (sym h'.short ∙ u'))
 
 pub ran_same : {A : Type 0} {plan : Plan A} {old s t : StoreState} {ls ks ms : Locks} {a b : A}
     → Ran Asks plan old ls a s ks → s.short ≡ false → Ran Asks plan old ls b t ms → t.short ≡ false → (a ≡ b) × (s ≡ t) × (ks ≡ ms)
@@ -49,7 +50,7 @@ comes (Ask c go) old ls =
     let both = ask c old.world old.refusals in
     let mid : StoreState = record { world = both.1; refusals = rest_of old.refusals; short = old.short } in
     let rest = comes (go both.0) mid ls in
-    record { outcome = rest.outcome; new = rest.new; locks = rest.locks; ran = ran_ask (asked refl refl refl) rest.ran; flag = rest.flag }
+    record { outcome = rest.outcome; new = rest.new; locks = rest.locks; ran = ran_ask (answered_as refl refl refl) rest.ran; flag = rest.flag }
 comes (Look go) old ls = let rest = comes (go ls) old ls in
     record { outcome = rest.outcome; new = rest.new; locks = rest.locks; ran = ran_look rest.ran; flag = rest.flag }
 comes (Keep locks more) old ls = let rest = comes more old (kept ls locks) in
@@ -61,15 +62,15 @@ pub record Met (c : Call) (old : World) (answer : Result (Answer c) FsError) (ne
   pub again : (more : List (Option FsError)) → Asks c (ample old (entry ∷ more)) answer (ample new more)
 
 met_at : {c : Call} {answer : Result (Answer c) FsError} (w v : World) (refusals : List (Option FsError)) → (answer, v) ≡ ask c w refusals → Met c w answer v
-met_at w v [] is = record { entry = None; again = λ more. asked is refl refl }
-met_at w v (None ∷ rs) is = record { entry = None; again = λ more. asked is refl refl }
-met_at w v (Some e ∷ rs) is = record { entry = Some e; again = λ more. asked is refl refl }
+met_at w v [] is = record { entry = None; again = λ more. answered_as is refl refl }
+met_at w v (None ∷ rs) is = record { entry = None; again = λ more. answered_as is refl refl }
+met_at w v (Some e ∷ rs) is = record { entry = Some e; again = λ more. answered_as is refl refl }
 
 pub asks_met : {c : Call} {old new : StoreState} {answer : Result (Answer c) FsError} → Asks c old answer new → Met c old.world answer new.world
-asks_met {old = old} {new = new} (asked is left flag) = met_at old.world new.world old.refusals is
-asks_met (ran_short takes ready allowed is same left flag) = record {
+asks_met {old = old} {new = new} (asked h) = met_at old.world new.world old.refusals h.as_asked
+asks_met (ran_short h) = record {
   entry = Some InsufficientStorage;
-  again = λ more. asked (λ i. (is i, same i)) refl refl;
+  again = λ more. answered_as (λ i. (h.answer_is i, h.world i)) refl refl;
 }
 
 pub record Again {A : Type 0} (plan : Plan A) (old new : World) (ls ms : Locks) (a : A) : Type 0 where
@@ -95,7 +96,7 @@ pub record Stopped {A : Type 0} (plan : Plan A) (ls : Locks) : Type 0 where
 stopped : {A : Type 0} (plan : Plan A) (ls : Locks) → Stopped plan ls
 stopped (Done a) ls = record { refusals = []; outcome = a; locks = ls; ran = λ w. ran_done }
 stopped (Ask c go) ls = let rest = stopped (go (Err GeneralFailure)) ls in
-    record { refusals = Some GeneralFailure ∷ rest.refusals; outcome = rest.outcome; locks = rest.locks; ran = λ w. ran_ask (asked refl refl refl) (rest.ran w) }
+    record { refusals = Some GeneralFailure ∷ rest.refusals; outcome = rest.outcome; locks = rest.locks; ran = λ w. ran_ask (answered_as refl refl refl) (rest.ran w) }
 stopped (Look go) ls = let rest = stopped (go ls) ls in
     record { refusals = rest.refusals; outcome = rest.outcome; locks = rest.locks; ran = λ w. ran_look (rest.ran w) }
 stopped (Keep locks more) ls = let rest = stopped more (kept ls locks) in
@@ -109,7 +110,7 @@ pub record StoppedAt {A : Type 0} (plan : Plan A) (ls : Locks) (outcome : A) (ms
 stopped_at : {A : Type 0} {plan : Plan A} {ls ms : Locks} {a : A} → Refused plan ls a ms → StoppedAt plan ls a ms
 stopped_at refused_done = record { refusals = []; ran = λ w. ran_done }
 stopped_at (refused_ask e left) = let rest = stopped_at left in
-    record { refusals = Some e ∷ rest.refusals; ran = λ w. ran_ask (asked refl refl refl) (rest.ran w) }
+    record { refusals = Some e ∷ rest.refusals; ran = λ w. ran_ask (answered_as refl refl refl) (rest.ran w) }
 stopped_at (refused_look left) = let rest = stopped_at left in
     record { refusals = rest.refusals; ran = λ w. ran_look (rest.ran w) }
 stopped_at (refused_keep left) = let rest = stopped_at left in

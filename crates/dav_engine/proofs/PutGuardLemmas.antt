@@ -9,10 +9,10 @@ use Rattle.dav_core.specs.declared.errors.DavError.TheVariants as dav
 use Rattle.dav_core.specs.declared.fs.DavMetaData.{DavMetaData}
 use Rattle.dav_core.specs.declared.method.DavMethod.{DavMethod}
 use Rattle.dav_core.specs.Asking.{StoreState, Asks, Metadata}
-use Rattle.dav_core.specs.Locks.{asker_of}
+use Rattle.dav_core.specs.Locks.{requester_of}
 use Rattle.dav_core.specs.Path.{Path}
 use Rattle.dav_engine.specs.declared.put_headers.Writing.{Writing}
-use Rattle.dav_engine.specs.Client.{Client, asker}
+use Rattle.dav_engine.specs.Client.{Client, requester}
 use Rattle.dav_engine.specs.Plan.{Locks}
 use Rattle.dav_engine.specs.Method.{Method, ◌>>=◌, gives, require, require_free, is_open}
 use Rattle.dav_engine.specs.Follows.{Follows, or_memory}
@@ -35,7 +35,7 @@ length_next w exists bytes _ = do
 
 -- what follows the conditions
 abbrev locks_next : Path → Client → List ℕ → Bool → Writing → List (List ℕ) → Method (Writing × Bool)
-locks_next p who bytes exists w tokens = require_free false (asker who tokens) p (dav.StatusClose 423) >>= length_next w exists bytes
+locks_next p who bytes exists w tokens = require_free false (requester who tokens) p (dav.StatusClose 423) >>= length_next w exists bytes
 
 -- what follows the choice of the place
 abbrev conditions_next : DavMethod → PutHeaders → Path → Client → List ℕ → Result DavMetaData FsError → Writing → Method (Writing × Bool)
@@ -94,11 +94,11 @@ pub put_locked : {E : Type 0} (m : DavMethod) (h : PutHeaders) (p : Path) (who :
     (seen : Option DavMetaData) (r : Result (Result (Vec (String Global)) ℕ) E) (verdict : Result (Vec (String Global)) ℕ) (tokens : Vec (String Global)) (lent : List (String Global)) (b : Bool) {old mid new : StoreState} {ls : Locks}
     → Asks (Metadata p) old answer mid → before ≡ result_ok answer → placed ≡ writing_of m h before → placed ≡ Ok w
     → seen ≡ result_ok answer → r ≡ Ok verdict → verdict ≡ Ok tokens → Follows tokens_or_status (if_match_get_tokens m h.conditions seen) mid ls (or_memory r) new ls
-    → lent ≡ tokens.items → b ≡ is_open false (asker_of (map string_bytes lent) false who.principal) p ls → b ≡ false
+    → lent ≡ tokens.items → b ≡ is_open false (requester_of (map string_bytes lent) false who.principal) p ls → b ≡ false
     → Follows (λ (x : Writing × Bool). x) (put_allowed m h p who bytes) old ls (Err (dav.StatusClose 423)) new ls
 put_locked m h p who bytes answer before placed w seen r verdict tokens lent b {ls = ls} asks same there is found was holds one tells looked shut =
     put_passed m h p who bytes answer before placed w seen r verdict tokens asks same there is found was holds one
-    (locked_out false (asker who (texts_of tokens)) p (dav.StatusClose 423) (length_next w (is_ok answer) bytes) b (open_to tokens lent who.principal false p ls b tells looked) shut refl)
+    (locked_out false (requester who (texts_of tokens)) p (dav.StatusClose 423) (length_next w (is_ok answer) bytes) b (open_to tokens lent who.principal false p ls b tells looked) shut refl)
 
 -- the path isn't locked against the requester, and the rest was followed
 put_free : {E : Type 0} (m : DavMethod) (h : PutHeaders) (p : Path) (who : Client) (bytes : List ℕ) (answer : Result DavMetaData FsError) (before : Option DavMetaData) (placed : Result Writing DavError) (w : Writing)
@@ -106,19 +106,19 @@ put_free : {E : Type 0} (m : DavMethod) (h : PutHeaders) (p : Path) (who : Clien
     {end : Result (Writing × Bool) DavError}
     → Asks (Metadata p) old answer mid → before ≡ result_ok answer → placed ≡ writing_of m h before → placed ≡ Ok w
     → seen ≡ result_ok answer → r ≡ Ok verdict → verdict ≡ Ok tokens → Follows tokens_or_status (if_match_get_tokens m h.conditions seen) mid ls (or_memory r) new ls
-    → lent ≡ tokens.items → b ≡ is_open false (asker_of (map string_bytes lent) false who.principal) p ls → b ≡ true
+    → lent ≡ tokens.items → b ≡ is_open false (requester_of (map string_bytes lent) false who.principal) p ls → b ≡ true
     → Follows (λ (x : Writing × Bool). x) (length_next w (is_ok answer) bytes tt) new ls end new ls
     → Follows (λ (x : Writing × Bool). x) (put_allowed m h p who bytes) old ls end new ls
 put_free m h p who bytes answer before placed w seen r verdict tokens lent b {ls = ls} asks same there is found was holds one tells looked freed rest =
     put_passed m h p who bytes answer before placed w seen r verdict tokens asks same there is found was holds one
-    (free_goes false (asker who (texts_of tokens)) p (dav.StatusClose 423) (length_next w (is_ok answer) bytes) b (open_to tokens lent who.principal false p ls b tells looked) freed rest)
+    (free_goes false (requester who (texts_of tokens)) p (dav.StatusClose 423) (length_next w (is_ok answer) bytes) b (open_to tokens lent who.principal false p ls b tells looked) freed rest)
 
 -- the body isn't of the announced length
 pub put_other_length : {E : Type 0} (m : DavMethod) (h : PutHeaders) (p : Path) (who : Client) (bytes : List ℕ) (answer : Result DavMetaData FsError) (before : Option DavMetaData) (placed : Result Writing DavError) (w : Writing)
     (seen : Option DavMetaData) (r : Result (Result (Vec (String Global)) ℕ) E) (verdict : Result (Vec (String Global)) ℕ) (tokens : Vec (String Global)) (lent : List (String Global)) (b fits : Bool) {old mid new : StoreState} {ls : Locks}
     → Asks (Metadata p) old answer mid → before ≡ result_ok answer → placed ≡ writing_of m h before → placed ≡ Ok w
     → seen ≡ result_ok answer → r ≡ Ok verdict → verdict ≡ Ok tokens → Follows tokens_or_status (if_match_get_tokens m h.conditions seen) mid ls (or_memory r) new ls
-    → lent ≡ tokens.items → b ≡ is_open false (asker_of (map string_bytes lent) false who.principal) p ls → b ≡ true
+    → lent ≡ tokens.items → b ≡ is_open false (requester_of (map string_bytes lent) false who.principal) p ls → b ≡ true
     → fits ≡ is_announced w.announced bytes → fits ≡ false
     → Follows (λ (x : Writing × Bool). x) (put_allowed m h p who bytes) old ls (Err (dav.StatusClose 400)) new ls
 put_other_length m h p who bytes answer before placed w seen r verdict tokens lent b fits asks same there is found was holds one tells looked freed compared differs =
@@ -131,7 +131,7 @@ pub put_agreed : {E : Type 0} (m : DavMethod) (h : PutHeaders) (p : Path) (who :
     {old mid new : StoreState} {ls : Locks}
     → Asks (Metadata p) old answer mid → before ≡ result_ok answer → placed ≡ writing_of m h before → placed ≡ Ok w
     → seen ≡ result_ok answer → r ≡ Ok verdict → verdict ≡ Ok tokens → Follows tokens_or_status (if_match_get_tokens m h.conditions seen) mid ls (or_memory r) new ls
-    → lent ≡ tokens.items → b ≡ is_open false (asker_of (map string_bytes lent) false who.principal) p ls → b ≡ true
+    → lent ≡ tokens.items → b ≡ is_open false (requester_of (map string_bytes lent) false who.principal) p ls → b ≡ true
     → fits ≡ is_announced w.announced bytes → fits ≡ true → exists ≡ is_some file → file ≡ result_ok answer
     → Follows (λ (x : Writing × Bool). x) (put_allowed m h p who bytes) old ls (Ok (w, exists)) new ls
 put_agreed m h p who bytes answer before placed w seen r verdict tokens lent b fits exists file asks same there is found was holds one tells looked freed compared agrees told kept =

@@ -12,13 +12,13 @@ use Rattle.dav_core.specs.Asking.{Call, Metadata, Open, Write, meaning, StoreSta
 use Rattle.dav_core.specs.CallLaws.{IsProper, IsStorable}
 use Rattle.dav_core.specs.Calls.{open_at}
 use Rattle.dav_core.specs.Handle.{Handle, Opening}
-use Rattle.dav_core.specs.Locks.{Asker}
+use Rattle.dav_core.specs.Locks.{Requester}
 use Rattle.dav_core.specs.Path.{Path, PathText, names}
 use Rattle.dav_core.specs.World.{World, Node, node_at, is_folder_kind, last_moment}
 use Rattle.dav_headers.specs.If.{Item, state_token, entity_tag, Condition}
-use Rattle.dav_core.proofs.StepLemmas.{went_on}
+use Rattle.dav_core.proofs.Theorems.{went_on}
 use Rattle.dav_engine.specs.declared.put_headers.Writing.{Writing}
-use Rattle.dav_engine.specs.Client.{Client, asker}
+use Rattle.dav_engine.specs.Client.{Client, requester}
 use Rattle.dav_engine.specs.Conditions.{Conditions, Addressed, is_star, item_holds, while_true, while_false, all_hold, some_holds, if_holds, unless, if_match_get_tokens, guarded, if_match}
 use Rattle.dav_engine.specs.Method.{Method, then as followed_by, gives, ask_for, require, require_free, refused_as}
 use Rattle.dav_engine.specs.Mkcol.{mkcol, mkcol_allowed, create_error, is_mkcol}
@@ -82,21 +82,21 @@ pub only_guarded : (f : ℕ → DavError) (m : DavMethod) (c : Conditions) (foun
 only_guarded f m c found = only_bind (if_match_get_tokens m c found) _ (only_tokens m c found) (λ verdict. only_done)
 
 -- the check of the locks only reads their list
-pub only_free : (deep : Bool) (who : Asker) (p : Path) (e : DavError) → Only IsLook (require_free deep who p e)
+pub only_free : (deep : Bool) (who : Requester) (p : Path) (e : DavError) → Only IsLook (require_free deep who p e)
 only_free deep who p e = only_look (λ ls. only_require _ e)
 
 pub only_put_allowed : (m : DavMethod) (h : PutHeaders) (p : Path) (who : Client) (bytes : List ℕ) → Only IsLook (put_allowed m h p who bytes)
 only_put_allowed m h p who bytes = only_ask looks (λ answer.
     only_then (writing_of m h (result_ok answer)) _ (λ w.
     only_bind (guarded dav.StatusClose m h.conditions (result_ok answer)) _ (only_guarded dav.StatusClose m h.conditions (result_ok answer)) (λ tokens.
-    only_bind (require_free false (asker who tokens) p (dav.StatusClose 423)) _ (only_free false (asker who tokens) p (dav.StatusClose 423)) (λ free.
+    only_bind (require_free false (requester who tokens) p (dav.StatusClose 423)) _ (only_free false (requester who tokens) p (dav.StatusClose 423)) (λ free.
     only_bind (require (is_announced w.announced bytes) (dav.StatusClose 400)) _ (only_require (is_announced w.announced bytes) (dav.StatusClose 400)) (λ long.
     only_done)))))
 
 pub only_mkcol_allowed : (c : Conditions) (p : PathText) (who : Client) → Only IsLook (mkcol_allowed c p who)
 only_mkcol_allowed c p who = only_ask looks (λ answer.
     only_bind (guarded dav.Status MkCol c (result_ok answer)) _ (only_guarded dav.Status MkCol c (result_ok answer)) (λ tokens.
-    only_free false (asker who tokens) (names p) (dav.Status 423)))
+    only_free false (requester who tokens) (names p) (dav.Status 423)))
 
 -- ---- an error of the checks is the outcome
 

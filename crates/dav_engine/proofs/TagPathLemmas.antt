@@ -4,10 +4,10 @@ use Rattle.std.specs.Option.{option_map}
 use Rattle.url.specs.Parts.{Parts}
 use Rattle.dav_core.specs.declared.errors.ParseError.{ParseError}
 use Rattle.dav_core.specs.declared.errors.ParseError.TheVariants as parse
-use Rattle.dav_core.specs.Path.{Path, PathText, names, full_bytes, prefix_cut, without_slash}
+use Rattle.dav_core.specs.Path.{Path, PathText, names, full_bytes, star, IsCut, without_slash}
 use Rattle.dav_core.specs.PathRef.{IsCutRefused}
 use Rattle.dav_core.specs.Target.{Reads, IsRefused}
-use Rattle.dav_core.proofs.TargetLemmas.{Reads-one, Reads-valid, Reads-allowed}
+use Rattle.dav_core.proofs.Theorems.{Reads-one, Reads-valid, Reads-allowed}
 use Rattle.dav_engine.specs.Conditions.{TagNames, SpeaksOf}
 
 -- a resource tag whose path is refused names none
@@ -21,14 +21,25 @@ refused_names_none prefix url src parse.Memory is refused other q named = other 
 
 -- nor does one whose path isn't below the prefix
 pub outside_names_none : (prefix : List ℕ) (url : Parts) (src : List ℕ) (p : PathText) (e : ParseError) → src ≡ url.path → p.prefix ≡ [] → Reads src p.bytes
-    → IsCutRefused (prefix_cut (without_slash prefix) (full_bytes p)) e → e ≢ parse.Memory → (q : Path) → ¬ TagNames prefix url q
+    → IsCutRefused (without_slash prefix) (full_bytes p) e → e ≢ parse.Memory → (q : Path) → ¬ TagNames prefix url q
 outside_names_none prefix url src p parse.PrefixMismatch is bare reads refused other q named =
     let same : full_bytes p ≡ named.0 = ap (λ x. x ++ p.bytes) bare ∙ Reads-one src p.bytes named.0 reads (subst (λ (s : List ℕ). Reads s named.0) (sym is) named.2) in
-    let cut : None ≡ Some named.1 = sym refused ∙ ap (prefix_cut (without_slash prefix)) same ∙ named.4 in
-    cc
+    refused named.1 (subst (λ (x : List ℕ). IsCut (without_slash prefix) x named.1) (sym same) named.4)
 outside_names_none prefix url src p parse.InvalidPath is bare reads refused other q named = refused
 outside_names_none prefix url src p parse.ForbiddenPath is bare reads refused other q named = refused
 outside_names_none prefix url src p parse.Memory is bare reads refused other q named = other refl
+
+-- one whose path is below the prefix names what follows the prefix
+pub below_names : (prefix : List ℕ) (url : Parts) (src : List ℕ) (p q : PathText) → src ≡ url.path → p.prefix ≡ [] → Reads src p.bytes
+    → p.bytes ≢ star → IsCut (without_slash prefix) (full_bytes p) q → TagNames prefix url (names q)
+below_names prefix url src p q is bare reads apart cut = (
+  p.bytes,
+  q,
+  subst (λ (s : List ℕ). Reads s p.bytes) is reads,
+  apart,
+  subst (λ (x : List ℕ). IsCut (without_slash prefix) x q) (ap (λ x. x ++ p.bytes) bare) cut,
+  refl,
+)
 
 -- so there is no path, unless memory ran out
 pub speaks_of_none : {E : Type 0} (prefix : List ℕ) (url : Parts) (e : ParseError) (result : Result (Option PathText) E)

@@ -13,8 +13,8 @@ use Rattle.dav_core.specs.declared.fs.DavMetaData.{DavMetaData}
 use Rattle.dav_core.specs.declared.method.DavMethod.{DavMethod}
 use Rattle.dav_core.specs.declared.method.DavMethod.TheVariants.{Get, Head}
 use Rattle.dav_core.specs.Asking.{Metadata}
-use Rattle.dav_core.specs.Locks.{asker_of, is_free}
-use Rattle.dav_core.specs.Path.{Path, PathText, names, star as server, prefix_cut, without_slash}
+use Rattle.dav_core.specs.Locks.{requester_of, is_free}
+use Rattle.dav_core.specs.Path.{Path, PathText, names, star as server, IsCut, without_slash}
 use Rattle.dav_core.specs.Target.{Reads}
 use Rattle.dav_headers.specs.ETag.{EntityTag}
 use Rattle.dav_headers.specs.ETagList.{TagList, star, tags, IsTagList}
@@ -40,7 +40,7 @@ pub record Conditions : Type 0 where
 abbrev pub TagNames : List ℕ → Parts → Path → Type 0
 TagNames prefix url q =
     (bytes : List ℕ) × (p : PathText)
-    × Reads url.path bytes × (bytes ≢ server) × (prefix_cut (without_slash prefix) bytes ≡ Some p) × (q ≡ names p)
+    × Reads url.path bytes × (bytes ≢ server) × IsCut (without_slash prefix) bytes p × (q ≡ names p)
 
 -- The path that a list applies to: the one that its resource tag names, if it has one; else the request's own.
 abbrev pub SpeaksOf : List ℕ → Path → Option Parts → Option Path → Type 0
@@ -113,7 +113,7 @@ http_conditions m match none_match found =
 -- locks no token is true. A token of the namespace `DAV:` never is (RFC 4918, section 10.4.8).
 abbrev pub token_holds : List ℕ → Path → Locks → Bool
 token_holds token p None = false
-token_holds token p (Some ls) = not (starts_with ◌==◌ token (codes "DAV:")) && is_free (asker_of (token ∷ []) true None) p ls
+token_holds token p (Some ls) = not (starts_with ◌==◌ token (codes "DAV:")) && is_free (requester_of (token ∷ []) true None) p ls
 
 -- an entity tag is true of what the store reports to have it
 abbrev pub tag_holds : EntityTag → Result DavMetaData FsError → Bool

@@ -4,7 +4,7 @@ use Rattle.dav_core.specs.declared.errors.FsError.{FsError}
 use Rattle.dav_core.specs.declared.errors.DavError.{DavError}
 use Rattle.dav_core.specs.declared.errors.DavError.TheVariants as dav
 use Rattle.dav_core.specs.Asking.{Call, Answer}
-use Rattle.dav_core.specs.Locks.{Lock, Asker, is_free_for, deleted}
+use Rattle.dav_core.specs.Locks.{Lock, Requester, is_free_for, deleted}
 use Rattle.dav_core.specs.Path.{Path}
 use Rattle.dav_engine.specs.Plan.{Plan, Locks, Done, Ask, Look, Keep}
 
@@ -61,13 +61,13 @@ ask_for = ask_or dav.FsError
 
 -- whether a path isn't locked against the requester (RFC 4918, section 7.5), for infinite depth with everything below it;
 -- without a list of locks no path is locked
-abbrev pub is_open : Bool → Asker → Path → Locks → Bool
+abbrev pub is_open : Bool → Requester → Path → Locks → Bool
 is_open deep who p None = true
 is_open deep who p (Some ls) = is_free_for deep who p ls
 
 -- goes on where the path isn't locked against the requester, for infinite depth with everything below it; else ends with
 -- this error
-abbrev pub require_free : Bool → Asker → Path → DavError → Method (Unit {0})
+abbrev pub require_free : Bool → Requester → Path → DavError → Method (Unit {0})
 require_free deep who p e = do
   locks ← look
   require (is_open deep who p locks) e

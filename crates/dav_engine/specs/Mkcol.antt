@@ -10,7 +10,7 @@ use Rattle.dav_core.specs.Asking.{Metadata, CreateDir}
 use Rattle.dav_core.specs.Path.{PathText, names, full_bytes, is_collection}
 use Rattle.dav_core.specs.UrlText.{path_text}
 use Rattle.dav_engine.specs.declared.reply.ReplyBody.TheVariants as reply
-use Rattle.dav_engine.specs.Client.{Client, asker}
+use Rattle.dav_engine.specs.Client.{Client, requester}
 use Rattle.dav_engine.specs.Conditions.{Conditions, AreConditions, guarded}
 use Rattle.dav_engine.specs.Headers.{Headers}
 use Rattle.dav_engine.specs.Method.{Method, ◌>>=◌, require_free, answer_of, ask_or, gives}
@@ -36,7 +36,7 @@ abbrev pub mkcol_allowed : Conditions → PathText → Client → Method (Unit {
 mkcol_allowed c p who = do
   found ← answer_of (Metadata (names p))
   tokens ← guarded dav.Status MkCol c (result_ok found)
-  require_free false (asker who tokens) (names p) (dav.Status 423)
+  require_free false (requester who tokens) (names p) (dav.Status 423)
 
 -- MKCOL, with the conditions of its headers
 abbrev pub mkcol : Conditions → PathText → Client → Method Response

@@ -29,7 +29,7 @@ use Rattle.dav_engine.specs.declared.put_headers.Writing.{Writing}
 use Rattle.dav_engine.specs.declared.reply.ReplyBody.TheVariants as reply
 use Rattle.dav_engine.specs.declared.request.Body.{Body}
 use Rattle.dav_engine.specs.declared.request.Body.TheVariants as body
-use Rattle.dav_engine.specs.Client.{Client, asker}
+use Rattle.dav_engine.specs.Client.{Client, requester}
 use Rattle.dav_engine.specs.Conditions.{Conditions, AreConditions, is_star, guarded}
 use Rattle.dav_engine.specs.Method.{Method, ◌>>=◌, require, require_free, answer_of, ask_or, ask_for, gives, fails}
 use Rattle.dav_engine.specs.Plan.{Done}
@@ -229,7 +229,7 @@ put_allowed m h p who bytes = do
   found ← answer_of (Metadata p)
   w ← Done (writing_of m h (result_ok found))
   tokens ← guarded dav.StatusClose m h.conditions (result_ok found)
-  _ ← require_free false (asker who tokens) p (dav.StatusClose 423)
+  _ ← require_free false (requester who tokens) p (dav.StatusClose 423)
   _ ← require (is_announced w.announced bytes) (dav.StatusClose 400)
   gives (w, is_ok found)
 

@@ -5,6 +5,7 @@ ghost use Rattle.dav_core.specs.World.{last_moment};
 ghost use Rattle.dav_core.specs.Metadata.{opening_of};
 ghost use Rattle.dav_core.specs.Path.{names};
 ghost use Rattle.dav_engine.specs.AtWork.{KeepsLent, ServesFrom, PutOf};
+ghost use Rattle.dav_engine.specs.Client.{requester};
 ghost use Rattle.dav_engine.specs.ConditionView.{locks_in};
 ghost use Rattle.dav_engine.specs.Follows.{as_is, Makes, Heeds};
 ghost use Rattle.dav_engine.specs.Plan.{Locks};

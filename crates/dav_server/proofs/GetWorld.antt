@@ -19,8 +19,7 @@ use Rattle.dav_core.specs.Handle.{Handle, opened}
 use Rattle.dav_core.specs.Metadata.{tag_of}
 use Rattle.dav_core.specs.Path.{Path}
 use Rattle.dav_core.specs.World.{World, Node, Kind, Folder, File, node_at, bytes_of, is_folder_kind, file_made_with, last_moment, last_number, IsWorld}
-use Rattle.dav_core.proofs.StepLemmas.{went_on, found}
-use Rattle.dav_core.proofs.FollowLemmas.{made_stands_there}
+use Rattle.dav_core.proofs.Theorems.{went_on, found, made_stands_there}
 use Rattle.dav_engine.specs.declared.reply.ReplyBody.{ReplyBody}
 use Rattle.dav_engine.specs.declared.reply.ReplyBody.TheVariants as reply
 use Rattle.dav_engine.specs.Conditions.{Conditions, if_match}

@@ -1,5 +1,5 @@
 -- What the plans of requests do to worlds.
-use Rattle.std.proofs.Common.{◌≡◌, ℕ, ◌<◌, ◌≤◌, ◌==◌, Bool, true, false, true≢false, if◌then◌else◌, List, [], ◌∷◌, ◌++◌, map, All, Option, Some, None, Ok, inl, inr, refl, sym, ap, subst, ◌∙◌}
+use Rattle.std.proofs.Common.{◌≡◌, ℕ, ◌<◌, ◌≤◌, ◌==◌, Bool, true, false, true≢false, if◌then◌else◌, List, [], ◌∷◌, ◌++◌, map, All, Option, Some, None, Ok, inl, inr, refl, sym, ap, subst, ◌∙◌, ◌≢◌, length, length-append, get_or, arith}
 use Rattle.std.proofs.lemmas.List.Elements.{All-nil, All-cons, All-head, All-tail}
 use Rattle.std.specs.Char.{to_ascii_lowercase}
 use Rattle.dav_core.specs.declared.errors.FsError.{FsError}
@@ -7,13 +7,10 @@ use Rattle.dav_core.specs.declared.method.DavMethod.{DavMethod}
 use Rattle.dav_core.specs.declared.method.DavMethod.TheVariants.{Get, Head, Put, Patch}
 use Rattle.dav_core.specs.Asking.{StoreState}
 use Rattle.dav_core.specs.CallLaws.{IsStorable}
-use Rattle.dav_core.specs.Path.{Path, PathText, IsName, names, names_of, path_bytes, prefix_cut, cut_at, without_slash, star}
+use Rattle.dav_core.specs.Path.{Path, PathText, IsName, names, names_of, path_bytes, IsCut, at_start, at_slash, at_end, without_slash, star}
 use Rattle.dav_core.specs.Target.{Reads}
 use Rattle.dav_core.specs.World.{IsWorld, last_moment}
-use Rattle.dav_core.proofs.TargetLemmas.{Leaves-names, names_kept}
-use Rattle.dav_core.proofs.CutLemmas.{cut_keeps_names}
-use Rattle.dav_core.proofs.NamedLemmas.{named_once}
-use Rattle.dav_core.proofs.UrlLemmas.{Reads-bytes}
+use Rattle.dav_core.proofs.Theorems.{Leaves-names, names_kept, cut_keeps_names, named_once, Reads-bytes}
 use Rattle.dav_engine.specs.declared.request.Body.{Body}
 use Rattle.dav_engine.specs.Client.{Client}
 use Rattle.dav_engine.specs.Conditions.{is_reading}
@@ -45,41 +42,37 @@ pub all_back : {X : Type 0} (P : X → Type 0) (xs ys : List X) → All P (xs ++
 all_back P [] ys h = h
 all_back P (x ∷ xs) ys h = all_back P xs ys (All-tail P x (xs ++ ys) h)
 
-some_same : {A : Type 0} {a b : A} → ◌≡◌ {A = Option A} (Some a) (Some b) → a ≡ b
-some_same same = cc
-
 storable_root : IsStorable []
 storable_root = (All-nil IsName, All-nil (All (λ b. b < 256)))
 
-cut_short : (b : ℕ) (t : Bool) (p : PathText) → cut_at (b ∷ []) (if t then Some [] else None) ≡ Some p → names p ≡ []
-cut_short b true p h = ap names (sym (some_same h))
-cut_short b false p h = cc
-
-cut_long : (q : List ℕ) (t : Bool) (p : PathText) → cut_at q (if t then None else None) ≡ Some p → names p ≡ []
-cut_long q true p h = cc
-cut_long q false p h = cc
+-- a text of one other byte holds no slash
+one_other : (c : ℕ) (p rest : List ℕ) → c ≢ 47 → c ∷ [] ≡ p ++ 47 ∷ rest → ⊥
+one_other c [] rest apart e = apart (ap (λ (bs : List ℕ). get_or bs 0 0) e)
+one_other c (b ∷ p) rest apart e =
+    let short : 1 ≡ length ((b ∷ p) ++ 47 ∷ rest) = ap length e in
+    omega (arith, short, length-append (b ∷ p) (47 ∷ rest))
 
 -- after a prefix of the star path there are no names
-star_cut : (q : List ℕ) (p : PathText) → prefix_cut q star ≡ Some p → names p ≡ []
-star_cut [] p h = ap names (sym (some_same h))
-star_cut (b ∷ []) p h = cut_short b (b == 42) p h
-star_cut (b ∷ c ∷ q) p h = cut_long (b ∷ c ∷ q) (b == 42) p h
+star_cut : (q : List ℕ) (p : PathText) → IsCut q star p → names p ≡ []
+star_cut q p (at_start empty is) = ap names is
+star_cut q p (at_slash {rest} whole is) = absurd (one_other 42 q rest (λ same. absurd (omega (arith, same))) whole)
+star_cut q p (at_end some whole is) = ap names is
 
 -- after a prefix of a path of names there are names of it
-named_cut : (ns : Path) (closed : Bool) (q : List ℕ) (p : PathText) → All IsName ns → All (All (λ b. b < 256)) ns → prefix_cut q (path_bytes ns closed) ≡ Some p → IsStorable (names p)
+named_cut : (ns : Path) (closed : Bool) (q : List ℕ) (p : PathText) → All IsName ns → All (All (λ b. b < 256)) ns → IsCut q (path_bytes ns closed) p → IsStorable (names p)
 named_cut ns closed q p are small cut =
     let (rest, end, split, behind) = cut_keeps_names ns closed q p are cut in
     let kept : All IsName rest = all_back IsName (names_of q) rest (subst (All IsName) split are) in
     let below : All (All (λ b. b < 256)) rest = all_back (All (λ b. b < 256)) (names_of q) rest (subst (All (All (λ b. b < 256))) split small) in
     subst IsStorable (sym (ap names_of behind ∙ names_kept rest end kept)) (kept, below)
 
-read_cut : (text bytes q : List ℕ) (p : PathText) → Reads text bytes → prefix_cut q bytes ≡ Some p → IsStorable (names p)
+read_cut : (text bytes q : List ℕ) (p : PathText) → Reads text bytes → IsCut q bytes p → IsStorable (names p)
 read_cut text bytes q p (inl (is, star_is)) cut =
-    subst IsStorable (sym (star_cut q p (subst (λ (b : List ℕ). prefix_cut q b ≡ Some p) star_is cut))) storable_root
+    subst IsStorable (sym (star_cut q p (subst (λ (b : List ℕ). IsCut q b p) star_is cut))) storable_root
 read_cut text bytes q p (inr (ns, closed, named, is)) cut =
     let are : All IsName ns = Leaves-names _ ns named.leaves in
     let small : All (All (λ b. b < 256)) ns = subst (All (All (λ b. b < 256))) (ap names_of is ∙ names_kept ns closed are) (Reads-bytes text bytes (inr (ns, closed, named, is))) in
-    named_cut ns closed q p are small (subst (λ (b : List ℕ). prefix_cut q b ≡ Some p) is cut)
+    named_cut ns closed q p are small (subst (λ (b : List ℕ). IsCut q b p) is cut)
 
 -- there may be a node at the path that a target names
 pub target_storable : {prefix target : List ℕ} {m : DavMethod} {p : PathText} → TargetNames prefix m target (Ok p) → IsStorable (names p)

@@ -12,7 +12,7 @@ use Rattle.dav_core.specs.declared.method.DavMethod.{DavMethod}
 use Rattle.dav_core.specs.declared.method.DavMethod.TheVariants.{Head, Patch, MkCol}
 use Rattle.dav_core.specs.Asking.{Call, Answer, StoreState, Asks, Write}
 use Rattle.dav_core.specs.Handle.{Handle, Opening}
-use Rattle.dav_core.specs.Locks.{Asker}
+use Rattle.dav_core.specs.Locks.{Requester}
 use Rattle.dav_core.specs.Numbers.{max_u64}
 use Rattle.dav_core.specs.Path.{Path, PathText, names}
 use Rattle.dav_core.specs.Status.{dav_status, fs_status}
@@ -23,7 +23,7 @@ use Rattle.dav_headers.specs.declared.range.XUpdateRange.TheVariants.{FromTo, Al
 use Rattle.dav_engine.specs.declared.put_headers.Bounds.{Bounds}
 use Rattle.dav_engine.specs.declared.put_headers.Bounds.TheVariants.{Unread, Whole, Within}
 use Rattle.dav_engine.specs.declared.put_headers.Writing.{Writing}
-use Rattle.dav_engine.specs.Client.{Client, asker}
+use Rattle.dav_engine.specs.Client.{Client, requester}
 use Rattle.dav_engine.specs.Conditions.{Conditions, Addressed, is_reading, matches_found, item_holds, while_true, while_false, all_hold, some_holds, if_holds, http_conditions, if_match, unless, status_as, guarded}
 use Rattle.dav_engine.specs.Method.{Method, then as followed_by, ◌>>=◌, gives, require, require_free, refused_as, ask_for}
 use Rattle.dav_engine.specs.Mkcol.{mkcol, create_error}
@@ -190,7 +190,7 @@ ends_guarded f m c found other writes =
     (ends_bind _ (ends_if c.lists) (λ holds any. ends_done (judges_if holds _))))
     (λ verdict is. ends_done (status_other f other verdict is))
 
-ends_free : (deep : Bool) (who : Asker) (p : Path) (e : DavError) → IsOther e → Ends IsOther Any (require_free deep who p e)
+ends_free : (deep : Bool) (who : Requester) (p : Path) (e : DavError) → IsOther e → Ends IsOther Any (require_free deep who p e)
 ends_free deep who p e other = ends_look (λ ls. ends_require _ e other)
 
 -- ---- PUT and PATCH
@@ -238,7 +238,7 @@ ends_put_allowed : (m : DavMethod) (h : PutHeaders) (p : Path) (who : Client) (b
 ends_put_allowed m h p who bytes writes = ends_ask (λ answer.
     ends_then (writing_of m h (result_ok answer)) _ (writing_other m h (result_ok answer)) (λ w any.
     ends_bind _ (ends_guarded dav.StatusClose m h.conditions (result_ok answer) closed writes) (λ tokens any.
-    ends_bind _ (ends_free false (asker who tokens) p (dav.StatusClose 423) (λ same. absurd (omega (arith, same)))) (λ free any.
+    ends_bind _ (ends_free false (requester who tokens) p (dav.StatusClose 423) (λ same. absurd (omega (arith, same)))) (λ free any.
     ends_bind _ (ends_require (is_announced w.announced bytes) (dav.StatusClose 400) (λ same. absurd (omega (arith, same)))) (λ long any.
     ends_done tt)))))
 
@@ -304,7 +304,7 @@ pub ends_mkcol : (c : Conditions) (p : PathText) (who : Client) → Ends IsOther
 ends_mkcol c p who =
     ends_bind _ (ends_ask (λ answer.
     ends_bind _ (ends_guarded dav.Status MkCol c (result_ok answer) (λ status other. other) refl) (λ tokens any.
-    ends_free false (asker who tokens) (names p) (dav.Status 423) (λ same. absurd (omega (arith, same)))))) (λ allowed any.
+    ends_free false (requester who tokens) (names p) (dav.Status 423) (λ same. absurd (omega (arith, same)))))) (λ allowed any.
     ends_ask (λ answer. ends_then (refused_as create_error answer) _ (asked_other create_error create_other answer) (λ done any. ends_done (λ same. absurd (omega (arith, same))))))
 
 -- ---- GET and HEAD, where the conditions hold

@@ -3,7 +3,7 @@ use Rattle.std.proofs.Common.{◌≡◌, ℕ, ◌++◌, List, [], Bool, false, I
 use Rattle.dav_core.specs.declared.errors.ParseError.TheVariants.{InvalidPath, ForbiddenPath}
 use Rattle.dav_core.specs.Path.{PathText, full_bytes}
 use Rattle.dav_core.specs.Target.{Reads, IsRefused}
-use Rattle.dav_core.proofs.TargetLemmas.{Reads-one, Reads-valid, Reads-allowed}
+use Rattle.dav_core.proofs.Theorems.{Reads-one, Reads-valid, Reads-allowed}
 
 -- a text that names a path is kept where the path's bytes are its own
 pub kept_iff : (text given : List ℕ) (p : PathText) (same : Bool) → p.prefix ≡ [] → Reads text p.bytes → given ≡ full_bytes p

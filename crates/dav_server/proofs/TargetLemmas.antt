@@ -8,10 +8,10 @@ use Rattle.dav_core.specs.declared.errors.DavError.{DavError}
 use Rattle.dav_core.specs.declared.errors.DavError.TheVariants as dav
 use Rattle.dav_core.specs.declared.method.DavMethod.{DavMethod}
 use Rattle.dav_core.specs.declared.method.DavMethod.TheVariants.{Options}
-use Rattle.dav_core.specs.Path.{star, PathText, full_bytes, prefix_cut, without_slash}
+use Rattle.dav_core.specs.Path.{star, PathText, full_bytes, IsCut, HasNoCut, without_slash}
 use Rattle.dav_core.specs.declared.errors.ParseError.TheVariants as parse
 use Rattle.dav_core.specs.Target.{Reads, IsRefused}
-use Rattle.dav_core.proofs.TargetLemmas.{Reads-one, Reads-valid, Reads-allowed, refused_once}
+use Rattle.dav_core.proofs.Theorems.{one_cut, Reads-one, Reads-valid, Reads-allowed, refused_once}
 use Rattle.http_uri.proofs.UriLemmas.{cut_long}
 use Rattle.dav_server.specs.Target.{BeginsWithSlash, HasPathText, IsUnreadable, formless, invalid, climbing, TargetNames, server, reserved, unreadable, outside, path, OneOutcome}
 use Rattle.dav_server.specs.TargetCode.{GivesPath, GivesRead, GivesNamed, GivesCut, GivesTail}
@@ -100,7 +100,7 @@ read_named target text (Err e) has (inr (inl bad)) = inr (subst (IsUnreadable ta
 read_named target text (Err e) has (inr (inr climbs)) = inr (subst (IsUnreadable target) (sym climbs.0) (climbing has climbs.1))
 
 -- and the path after the prefix is what the target names
-pub names_cut : (prefix : List ℕ) (method : DavMethod) (target : List ℕ) (p : PathText) (r : Result PathText DavError) → GivesRead target (Ok p) → GivesCut (prefix_cut (without_slash prefix) (full_bytes p)) r → GivesPath prefix method target r
+pub names_cut : (prefix : List ℕ) (method : DavMethod) (target : List ℕ) (p : PathText) (r : Result PathText DavError) → GivesRead target (Ok p) → GivesCut (without_slash prefix) (full_bytes p) r → GivesPath prefix method target r
 names_cut prefix method target p (Ok q) (bare, text, has, reads) is = path has reads (rw bare at is)
 names_cut prefix method target p (Err e) (bare, text, has, reads) (inl memory) = inl memory
 names_cut prefix method target p (Err e) (bare, text, has, reads) (inr none) =
@@ -145,11 +145,6 @@ unreadable_once target _ _ (climbing {text} has climbs) (invalid {text = other} 
     absurd (refused_once other bad (subst (λ (x : List ℕ). IsRefused x parse.ForbiddenPath) (one_text target text other has also) climbs))
 unreadable_once target _ _ (climbing _ _) (climbing _ _) = refl
 
--- the outcome of a path that is cut or isn't
-cut_outcome : Option PathText → Result PathText DavError
-cut_outcome None = Err dav.IllegalPath
-cut_outcome (Some p) = Ok p
-
 -- what `*` results in
 at_star : (prefix : List ℕ) (method : DavMethod) (target : List ℕ) (b : Result PathText DavError) → target ≡ star → TargetNames prefix method target b → ((method ≡ Options) × (b ≡ Ok (record { prefix = []; bytes = star }))) ⊎ ((method ≢ Options) × (b ≡ Err (dav.Status 400)))
 at_star prefix method target _ is (server _ options) = inl (options, refl)
@@ -166,28 +161,40 @@ when_unreadable prefix method target e _ apart why (unreadable {e = other} _ als
 when_unreadable prefix method target e _ apart why (outside {text} {bytes} has reads _) = absurd (read_once target text bytes e has reads why)
 when_unreadable prefix method target e _ apart why (path {text} {bytes} has reads _) = absurd (read_once target text bytes e has reads why)
 
--- what a target that is read results in
-when_read : (prefix : List ℕ) (method : DavMethod) (target text bytes : List ℕ) (b : Result PathText DavError) → HasPathText target text → Reads text bytes → TargetNames prefix method target b → b ≡ cut_outcome (prefix_cut (without_slash prefix) bytes)
-unfolding cut_outcome
+-- what a target that is read results in: the path cut after the prefix, where there is one
+CutOutcome : List ℕ → List ℕ → Result PathText DavError → Type 0
+CutOutcome prefix bytes (Ok p) = IsCut prefix bytes p
+CutOutcome prefix bytes (Err e) = (e ≡ dav.IllegalPath) × HasNoCut prefix bytes
+
+when_read : (prefix : List ℕ) (method : DavMethod) (target text bytes : List ℕ) (b : Result PathText DavError) → HasPathText target text → Reads text bytes → TargetNames prefix method target b → CutOutcome (without_slash prefix) bytes b
+unfolding CutOutcome
 when_read prefix method target text bytes _ has reads (server is _) = absurd (star_formless target text is has)
 when_read prefix method target text bytes _ has reads (reserved is _) = absurd (star_formless target text is has)
 when_read prefix method target text bytes _ has reads (unreadable {e} _ why) = absurd (read_once target text bytes e has reads why)
 when_read prefix method target text bytes _ has reads (outside {text = other} {bytes = found} also read cut) =
     let same = Reads-one text bytes found reads (subst (λ (x : List ℕ). Reads x found) (one_text target other text also has) read) in
-    ap cut_outcome (sym cut ∙ ap (prefix_cut (without_slash prefix)) (sym same))
-when_read prefix method target text bytes _ has reads (path {text = other} {bytes = found} also read cut) =
+    (refl, subst (HasNoCut (without_slash prefix)) (sym same) cut)
+when_read prefix method target text bytes _ has reads (path {text = other} {bytes = found} {p} also read cut) =
     let same = Reads-one text bytes found reads (subst (λ (x : List ℕ). Reads x found) (one_text target other text also has) read) in
-    ap cut_outcome (sym cut ∙ ap (prefix_cut (without_slash prefix)) (sym same))
+    subst (λ (x : List ℕ). IsCut (without_slash prefix) x p) (sym same) cut
+
+-- a path is cut in one way, or in none
+cut_once : (prefix bytes : List ℕ) (a b : Result PathText DavError) → CutOutcome prefix bytes a → CutOutcome prefix bytes b → a ≡ b
+unfolding CutOutcome
+cut_once prefix bytes (Ok p) (Ok q) h k = ap Ok (one_cut prefix bytes p q h k)
+cut_once prefix bytes (Ok p) (Err e) h k = absurd (k.1 p h)
+cut_once prefix bytes (Err e) (Ok q) h k = absurd (h.1 q k)
+cut_once prefix bytes (Err e) (Err f) h k = ap Err (h.0 ∙ sym k.0)
 
 -- a target results in one outcome
 pub one_outcome : OneOutcome
-unfolding cut_outcome
+unfolding CutOutcome
 one_outcome prefix method target _ b (server is options) also =
     elim (at_star prefix method target b is also) [ inl s ↦ sym s.1 | inr r ↦ absurd (r.0 options) ]
 one_outcome prefix method target _ b (reserved is other) also =
     elim (at_star prefix method target b is also) [ inl s ↦ absurd (other s.0) | inr r ↦ sym r.1 ]
 one_outcome prefix method target _ b (unreadable {e} apart why) also = sym (when_unreadable prefix method target e b apart why also)
 one_outcome prefix method target _ b (outside {text} {bytes} has reads cut) also =
-    sym (when_read prefix method target text bytes b has reads also ∙ ap cut_outcome cut)
-one_outcome prefix method target _ b (path {text} {bytes} has reads cut) also =
-    sym (when_read prefix method target text bytes b has reads also ∙ ap cut_outcome cut)
+    cut_once (without_slash prefix) bytes (Err dav.IllegalPath) b (refl, cut) (when_read prefix method target text bytes b has reads also)
+one_outcome prefix method target _ b (path {text} {bytes} {p} has reads cut) also =
+    cut_once (without_slash prefix) bytes (Ok p) b cut (when_read prefix method target text bytes b has reads also)

@@ -1,12 +1,12 @@
 -- What the target of a request names (RFC 9112, section 3.2).
-use Rattle.std.specs.Prelude.{◌≡◌, ◌≢◌, ◌⊎◌, ℕ, List, [], ◌∷◌, Contains, Some, None, Result, Ok, Err}
+use Rattle.std.specs.Prelude.{◌≡◌, ◌≢◌, ◌⊎◌, ℕ, List, [], ◌∷◌, Contains, Some, Result, Ok, Err}
 use Rattle.http_uri.specs.Grammar.{IsUriText, or_slash}
 use Rattle.dav_core.specs.declared.errors.ParseError.TheVariants as parse
 use Rattle.dav_core.specs.declared.errors.DavError.{DavError}
 use Rattle.dav_core.specs.declared.errors.DavError.TheVariants as dav
 use Rattle.dav_core.specs.declared.method.DavMethod.{DavMethod}
 use Rattle.dav_core.specs.declared.method.DavMethod.TheVariants.{Options}
-use Rattle.dav_core.specs.Path.{PathText, prefix_cut, star, without_slash}
+use Rattle.dav_core.specs.Path.{PathText, IsCut, HasNoCut, star, without_slash}
 use Rattle.dav_core.specs.Target.{Reads, IsRefused}
 
 -- it begins with a slash: the origin form (RFC 9112, section 3.2.1)
@@ -39,8 +39,8 @@ pub data TargetNames (prefix : List ℕ) (method : DavMethod) (target : List ℕ
   server : target ≡ star → method ≡ Options → TargetNames prefix method target (Ok (record { prefix = []; bytes = star }))
   reserved : target ≡ star → method ≢ Options → TargetNames prefix method target (Err (dav.Status 400))
   unreadable : {e : DavError} → target ≢ star → IsUnreadable target e → TargetNames prefix method target (Err e)
-  outside : {text bytes : List ℕ} → HasPathText target text → Reads text bytes → prefix_cut (without_slash prefix) bytes ≡ None → TargetNames prefix method target (Err dav.IllegalPath)
-  path : {text bytes : List ℕ} {p : PathText} → HasPathText target text → Reads text bytes → prefix_cut (without_slash prefix) bytes ≡ Some p → TargetNames prefix method target (Ok p)
+  outside : {text bytes : List ℕ} → HasPathText target text → Reads text bytes → HasNoCut (without_slash prefix) bytes → TargetNames prefix method target (Err dav.IllegalPath)
+  path : {text bytes : List ℕ} {p : PathText} → HasPathText target text → Reads text bytes → IsCut (without_slash prefix) bytes p → TargetNames prefix method target (Ok p)
 
 -- a target results in one path or one error
 abbrev pub OneOutcome : Type 0

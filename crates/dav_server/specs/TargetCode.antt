@@ -7,7 +7,7 @@ use Rattle.dav_core.specs.declared.errors.ParseError.TheVariants as parse
 use Rattle.dav_core.specs.declared.errors.DavError.{DavError}
 use Rattle.dav_core.specs.declared.errors.DavError.TheVariants as dav
 use Rattle.dav_core.specs.declared.method.DavMethod.{DavMethod}
-use Rattle.dav_core.specs.Path.{PathText}
+use Rattle.dav_core.specs.Path.{PathText, IsCut, HasNoCut}
 use Rattle.dav_core.specs.Target.{Reads, IsRefused}
 use Rattle.dav_server.specs.Target.{HasPathText, IsUnreadable, TargetNames}
 
@@ -27,10 +27,10 @@ GivesNamed text (Ok p) = (p.prefix ≡ []) × Reads text p.bytes
 GivesNamed text (Err e) =
     (e ≡ dav.Memory) ⊎ (((e ≡ dav.InvalidPath) × IsRefused text parse.InvalidPath) ⊎ ((e ≡ dav.ForbiddenPath) × IsRefused text parse.ForbiddenPath))
 
--- the path that was cut, or why it is not, or out of memory
-abbrev pub GivesCut : Option PathText → Result PathText DavError → Type 0
-GivesCut path (Ok p) = path ≡ Some p
-GivesCut path (Err e) = (e ≡ dav.Memory) ⊎ ((e ≡ dav.IllegalPath) × (path ≡ None))
+-- the path that was cut after a prefix, or why it is not, or out of memory
+abbrev pub GivesCut : List ℕ → List ℕ → Result PathText DavError → Type 0
+GivesCut prefix bytes (Ok p) = IsCut prefix bytes p
+GivesCut prefix bytes (Err e) = (e ≡ dav.Memory) ⊎ ((e ≡ dav.IllegalPath) × HasNoCut prefix bytes)
 
 -- what follows the authority of a URI with a scheme and an authority, or a slash where nothing does
 abbrev pub GivesTail : Uri → Option (List ℕ) → Type 0

@@ -1,7 +1,7 @@
 //! The target of a request (RFC 9112, section 3.2).
 ghost use Rattle.std.specs.Prelude.{◌≡◌, ◌↔◌, ℕ, List, Contains, IsTrue};
 ghost use Rattle.std.specs.Option.{option_copied};
-ghost use Rattle.dav_core.specs.Path.{star, full_bytes, prefix_cut, without_slash};
+ghost use Rattle.dav_core.specs.Path.{star, full_bytes, without_slash};
 ghost use Rattle.dav_server.specs.Target.{BeginsWithSlash};
 ghost use Rattle.dav_server.specs.TargetCode.{GivesPath, GivesRead, GivesNamed, GivesCut, GivesTail};
 
@@ -73,7 +73,7 @@ fn named(alloc: Global, text: &str) -> DavResult<DavPath>
 
 // The path after a prefix.
 fn cut(mut path: DavPath, prefix: &str) -> DavResult<DavPath>
-    ensures { GivesCut (prefix_cut (without_slash prefix.now) (full_bytes path)) result }
+    ensures { GivesCut (without_slash prefix.now) (full_bytes path) result }
 {
     path.set_prefix(prefix)?;
     Ok(path)

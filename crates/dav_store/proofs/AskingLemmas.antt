@@ -8,24 +8,33 @@ use Rattle.dav_core.specs.Property.{PropertyKey, Patch}
 use Rattle.dav_core.specs.Handle.{Handle, Opening}
 use Rattle.dav_core.specs.Meaning.{Meaning}
 use Rattle.dav_core.specs.Calls as calls
-use Rattle.dav_core.specs.Asking.{Call, Answer, Metadata, ReadDir, EntryMetadata, CreateDir, RemoveDir, RemoveFile, Rename, Copy, HaveProps, PatchProps, GetProps, GetProp, GetQuota, SetAccessed, SetModified, Open, Read, Write, Seek, Flush, FileMetadata, TakesMemory, IsAnswered, Asks, asked, ran_short, answered, meaning}
+use Rattle.dav_core.specs.Asking.{Call, Answer, Metadata, ReadDir, EntryMetadata, CreateDir, RemoveDir, RemoveFile, Rename, Copy, HaveProps, PatchProps, GetProps, GetProp, GetQuota, SetAccessed, SetModified, Open, Read, Write, Seek, Flush, FileMetadata, TakesMemory, IsAnswered, Asks, ran_short, answered, meaning}
+use Rattle.dav_core.proofs.Theorems.{answered_as}
 use Rattle.dav_store.specs.Store.{Store, Answers, AnswersExactly, state_of}
 
 step : (call : Call) → TakesMemory call → (old new : Store) (r : Result (Answer call) FsError) (m : Meaning (Answer call))
     → m ≡ meaning call old.world → Answers m r old new → Asks call (state_of old) r (state_of new)
 step call takes old new r (Err e) means h =
-    asked (ap (λ x. (x, new.world)) h.0 ∙ ap (λ (s : Store). (Err e, s.world)) h.1 ∙ ap (answered old.world) means) refl (ap (λ (s : Store). s.short) h.1)
+    answered_as (ap (λ x. (x, new.world)) h.0 ∙ ap (λ (s : Store). (Err e, s.world)) h.1 ∙ ap (answered old.world) means) refl (ap (λ (s : Store). s.short) h.1)
 step call takes old new r (Ok (a, w)) means (inl h) =
-    asked (ap (λ x. (x, new.world)) h.0 ∙ ap (λ (s : Store). (Ok a, s.world)) h.1 ∙ ap (answered old.world) means) refl (ap (λ (s : Store). s.short) h.1)
+    answered_as (ap (λ x. (x, new.world)) h.0 ∙ ap (λ (s : Store). (Ok a, s.world)) h.1 ∙ ap (answered old.world) means) refl (ap (λ (s : Store). s.short) h.1)
 step call takes old new r (Ok (a, w)) means (inr h) =
-    ran_short takes refl (subst IsAnswered means tt) h.0 (ap (λ (s : Store). s.world) h.1) refl (ap (λ (s : Store). s.short) h.1)
+    ran_short (record {
+      takes_memory = takes;
+      not_refused = refl;
+      allowed = subst IsAnswered means tt;
+      answer_is = h.0;
+      world = ap (λ (s : Store). s.world) h.1;
+      refusals = refl;
+      short = ap (λ (s : Store). s.short) h.1;
+    })
 
 exact_step : (call : Call) (old new : Store) (r : Result (Answer call) FsError) (m : Meaning (Answer call))
     → m ≡ meaning call old.world → AnswersExactly m r old new → Asks call (state_of old) r (state_of new)
 exact_step call old new r (Err e) means h =
-    asked (ap (λ x. (x, new.world)) h.0 ∙ ap (λ (s : Store). (Err e, s.world)) h.1 ∙ ap (answered old.world) means) refl (ap (λ (s : Store). s.short) h.1)
+    answered_as (ap (λ x. (x, new.world)) h.0 ∙ ap (λ (s : Store). (Err e, s.world)) h.1 ∙ ap (answered old.world) means) refl (ap (λ (s : Store). s.short) h.1)
 exact_step call old new r (Ok (a, w)) means h =
-    asked (ap (λ x. (x, new.world)) h.0 ∙ ap (λ (s : Store). (Ok a, s.world)) h.1 ∙ ap (answered old.world) means) refl (ap (λ (s : Store). s.short) h.1)
+    answered_as (ap (λ x. (x, new.world)) h.0 ∙ ap (λ (s : Store). (Ok a, s.world)) h.1 ∙ ap (answered old.world) means) refl (ap (λ (s : Store). s.short) h.1)
 
 pub asks_open : (p : Path) (how : Opening) (now : ℕ) (old new : Store) (r : Result (Answer (Open p how now)) FsError) → Answers (calls.open_file old.world p how now) r old new → Asks (Open p how now) (state_of old) r (state_of new)
 unfolding meaning
@@ -97,16 +106,16 @@ asks_file_metadata file old new r h = exact_step (FileMetadata file) old new r _
 
 pub asks_get_quota : (s : Store) → Asks (GetQuota) (state_of s) (Err NotImplemented) (state_of s)
 unfolding meaning
-asks_get_quota s = asked refl refl refl
+asks_get_quota s = answered_as refl refl refl
 
 pub asks_set_accessed : (p : Path) (time : ℕ) (s : Store) → Asks (SetAccessed p time) (state_of s) (Err NotImplemented) (state_of s)
 unfolding meaning
-asks_set_accessed p time s = asked refl refl refl
+asks_set_accessed p time s = answered_as refl refl refl
 
 pub asks_set_modified : (p : Path) (time : ℕ) (s : Store) → Asks (SetModified p time) (state_of s) (Err NotImplemented) (state_of s)
 unfolding meaning
-asks_set_modified p time s = asked refl refl refl
+asks_set_modified p time s = answered_as refl refl refl
 
 pub asks_have_props : (p : Path) (s : Store) → Asks (HaveProps p) (state_of s) (Ok true) (state_of s)
 unfolding meaning
-asks_have_props p s = asked refl refl refl
+asks_have_props p s = answered_as refl refl refl

@@ -3,8 +3,8 @@ use Rattle.std.proofs.Common.{◌≡◌, ℕ, ◌&&◌, ◌||◌, Bool, true, fa
 use Rattle.std.specs.List.{list_any, list_all, position}
 use Rattle.std.proofs.lemmas.List.Quantifiers.{position-Some}
 use Rattle.dav_core.specs.Path.{Path, names, is_at_or_below}
-use Rattle.dav_core.specs.Locks.{Lock, Asker, covers, is_held, is_free_for, is_in_the_way}
-use Rattle.dav_core.proofs.LockLemmas.{free_is_nothing_in_the_way}
+use Rattle.dav_core.specs.Locks.{Lock, Requester, covers, is_held, is_free_for, conflicts}
+use Rattle.dav_core.proofs.Theorems.{some_held, free_is_no_conflict}
 use Rattle.dav_store.proofs.Place.{NonePasses, none_passes}
 
 -- a test on the bytes of texts is one on the texts
@@ -12,7 +12,7 @@ pub any_mapped : {S X : Type 0} (f : S → X) (test : X → Bool) (xs : List S) 
 any_mapped f test [] = refl
 any_mapped f test (x ∷ xs) = ap (λ b. test (f x) || b) (any_mapped f test xs)
 
-abbrev way : Bool → Asker → Path → Bool → Lock → Bool
+abbrev way : Bool → Requester → Path → Bool → Lock → Bool
 way deep who p some l = not (is_held who l) && ((covers l p && (not l.shared || not some)) || (deep && is_at_or_below p (names l.path)))
 
 all_step : (b c : Bool) → b ≡ false → c ≡ true → (not b && c) ≡ true
@@ -24,22 +24,27 @@ none_true test [] h = refl
 none_true test (x ∷ xs) h = all_step (test x) _ h.0 (none_true test xs h.1)
 
 -- where no lock is found to conflict, the path is free
-pub free_if_none : (deep : Bool) (who : Asker) (p : Path) (ls : List Lock) (some : Bool)
+pub free_if_none : (deep : Bool) (who : Requester) (p : Path) (ls : List Lock) (some : Bool)
     → some ≡ list_any (λ l. covers l p && is_held who l) ls → position (way deep who p some) ls ≡ None → is_free_for deep who p ls ≡ true
 free_if_none deep who p ls some held none =
-    let all : position (is_in_the_way deep who p ls) ls ≡ None = subst (λ b. position (way deep who p b) ls ≡ None) held none in
-    free_is_nothing_in_the_way deep who p ls ∙ none_true (is_in_the_way deep who p ls) ls (none_passes (is_in_the_way deep who p ls) ls all)
+    let all : position (conflicts deep who p ls) ls ≡ None = subst (λ b. position (way deep who p b) ls ≡ None) (held ∙ sym (some_held who p ls)) none in
+    free_is_no_conflict deep who p ls ∙ none_true (conflicts deep who p ls) ls (none_passes (conflicts deep who p ls) ls all)
 
 -- a lock that is found is in the list, and conflicts
-pub stands_if_some : (deep : Bool) (who : Asker) (p : Path) (ls : List Lock) (some : Bool) (i : ℕ) (l : Lock)
+pub stands_if_some : (deep : Bool) (who : Requester) (p : Path) (ls : List Lock) (some : Bool) (i : ℕ) (l : Lock)
     → some ≡ list_any (λ m. covers m p && is_held who m) ls → position (way deep who p some) ls ≡ Some i → l ≡ get_or ls i l
-    → Contains ls l × (is_in_the_way deep who p ls l ≡ true)
+    → Contains ls l × (conflicts deep who p ls l ≡ true)
 stands_if_some deep who p ls some i l held found is =
-    let here : position (is_in_the_way deep who p ls) ls ≡ Some i = subst (λ b. position (way deep who p b) ls ≡ Some i) held found in
-    let at = position-Some (is_in_the_way deep who p ls) ls i l here in
-    ((i, at.0, sym is), subst (λ (m : Lock). is_in_the_way deep who p ls m ≡ true) (sym is) at.1)
+    let here : position (conflicts deep who p ls) ls ≡ Some i = subst (λ b. position (way deep who p b) ls ≡ Some i) (held ∙ sym (some_held who p ls)) found in
+    let at = position-Some (conflicts deep who p ls) ls i l here in
+    ((i, at.0, sym is), subst (λ (m : Lock). conflicts deep who p ls m ≡ true) (sym is) at.1)
 
 -- where no lock conflicts with it, a new one may be granted
 pub grantable_if_none : (a deep b : Bool) → (a || (deep && b)) ≡ false → (not a && not (deep && b)) ≡ true
 grantable_if_none true deep b h = cc
 grantable_if_none false deep b h = ap not h
+
+-- and where some lock does, it isn't granted
+pub not_grantable_if_some : (a deep b : Bool) → (a || (deep && b)) ≡ true → (not a && not (deep && b)) ≡ false
+not_grantable_if_some true deep b h = refl
+not_grantable_if_some false deep b h = ap not h

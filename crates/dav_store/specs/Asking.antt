@@ -3,11 +3,11 @@ use Rattle.std.specs.Prelude.{◌≡◌, ℕ, List, Option, Some, None, map, str
 use Rattle.std.specs.List.{position}
 use Rattle.dav_core.specs.Path.{Path}
 use Rattle.std.specs.Option.{option_copied}
-use Rattle.dav_core.specs.Locks.{Lock, Asker as Seen, asker_of, lock_front, is_named}
+use Rattle.dav_core.specs.Locks.{Lock, Requester as Seen, requester_of, lock_front, is_named}
 use Rattle.dav_store.specs.declared.memls.Asker.{Asker}
 
 abbrev pub asker_in : Asker → Seen
-asker_in who = asker_of (map string_bytes who.tokens.now) who.ignore_principal (option_copied who.principal)
+asker_in who = requester_of (map string_bytes who.tokens.now) who.ignore_principal (option_copied who.principal)
 
 -- the place in the list of the lock that a token and a path mean; none where they mean none
 abbrev pub IsNamedPlace : List ℕ → Path → List Lock → Option ℕ → Type 0

@@ -3,7 +3,7 @@ ghost use Rattle.std.specs.Prelude.{◌≡◌, ◌&&◌, ◌||◌, ◌+◌, ◌+
 ghost use Rattle.std.specs.List.{list_any, filter};
 ghost use Rattle.std.specs.Option.{option_map};
 ghost use Rattle.dav_core.specs.Path.{names, is_same_path, is_below, is_at_or_below};
-ghost use Rattle.dav_core.specs.Locks.{Lock, Checks, lent, covers, asker_of, is_held, is_of, is_free_for, is_in_the_way, ends_at, new_lock, named_lock, unlocked, refreshed, refreshed_lock, discovered, deleted};
+ghost use Rattle.dav_core.specs.Locks.{Lock, Checks, lent, covers, requester_of, is_held, is_of, is_free_for, conflicts, ends_at, new_lock, named_lock, unlocked, refreshed, refreshed_lock, discovered, deleted};
 ghost use Rattle.dav_core.specs.LockRefusals.{IsRefusedRefresh};
 ghost use Rattle.dav_core.specs.Numbers.{max_u64};
 ghost use Rattle.dav_store.specs.Asking.{asker_in, IsNamedPlace};
@@ -69,7 +69,7 @@ struct Asker<'a> {
 
 // Whether a lock has this principal, or the principal is ignored.
 fn is_of(lock: &DavLock, principal: Option<&str>, ignore_principal: bool) -> bool
-    ensures { result ≡ is_of (asker_of [] ignore_principal (option_copied principal.entry)).principal lock.now }
+    ensures { result ≡ is_of (requester_of [] ignore_principal (option_copied principal.entry)).principal lock.now }
 {
     ignore_principal || lock.principal.as_deref() == principal
 }
@@ -125,7 +125,7 @@ fn conflict_in<'a>(
     who: Asker<'_>,
     deep: bool,
 ) -> Option<&'a DavLock>
-    ensures { MatchOption result (is_free_for deep (asker_in who.entry) (names path.now) locks.now ≡ true) (λ l. Contains locks.now l.now × (is_in_the_way deep (asker_in who.entry) (names path.now) locks.now l.now ≡ true)) }
+    ensures { MatchOption result (is_free_for deep (asker_in who.entry) (names path.now) locks.now ≡ true) (λ l. Contains locks.now l.now × (conflicts deep (asker_in who.entry) (names path.now) locks.now l.now ≡ true)) }
 {
     let some_held = any_held(locks, path, who);
     match place_in_the_way(locks, path, who, deep, some_held) {

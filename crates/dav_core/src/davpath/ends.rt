@@ -1,6 +1,7 @@
 //! The end of a path: the slash there, the last name, and what comes before it.
 ghost use Rattle.std.specs.Prelude.{◌≡◌, ◌≢◌, ℕ, List, MatchOption, ◌==◌, ◌++◌, [], ◌∷◌, not, if◌then◌else◌, OnOk, OnErr};
-ghost use Rattle.dav_core.specs.Path.{is_collection, without_first_slash, without_slash, trimmed, without_end, parent_bytes, end_for};
+ghost use Rattle.dav_core.specs.Path.{is_collection, without_first_slash, without_slash, trimmed, end_for};
+ghost use Rattle.dav_core.specs.PathEnds.{without_end, parent_bytes};
 ghost use Rattle.dav_core.specs.PathRef.{CutsAt};
 
 use crate::errors::NoMemory;

@@ -4,7 +4,7 @@ use std::process::Abort;
 use std::str;
 use std::test::Fail;
 
-// A row: what is done, one or two texts between bars, ` -> `, and the outcome: results between bars, or an error's name.
+// A row: what is done, texts between bars, ` -> `, and the outcome: results between bars, or an error's name.
 const ROWS: &str = "
 # The bytes of a path
 new |/a/./b//c/../d%20e/?q=1| -> |/a/b/d e/|
@@ -58,6 +58,15 @@ prefix |/dav/a|/dav//| -> PrefixMismatch ||/dav/a|/dav/a|
 prefix |/dav/a|/dav/a/b| -> PrefixMismatch ||/dav/a|/dav/a|
 prefix |/dav/a|/x| -> PrefixMismatch ||/dav/a|/dav/a|
 prefix |/dav/x/y/|/da| -> PrefixMismatch ||/dav/x/y/|/dav/x/y/|
+
+# The same after two prefixes, each of all of the path: the second takes the place of the first, or leaves it
+prefix |/dav/a/b|/dav|/dav/a| -> |/dav/a|/b|/dav/a/b|
+prefix |/dav/a/b|/dav/a|/dav/| -> |/dav|/a/b|/dav/a/b|
+prefix |/dav/a|/dav|/dav/a| -> |/dav/a|/|/dav/a/|
+prefix |/dav|/dav|/dav| -> |/dav|/|/dav/|
+prefix |/dav|/dav|/| -> ||/dav/|/dav/|
+prefix |/dav/a|/dav|/a| -> PrefixMismatch |/dav|/a|/dav/a|
+prefix |/dav/a|/dav|/x| -> PrefixMismatch |/dav|/a|/dav/a|
 
 # The same of the parent of a path with a prefix
 parent |/dav/x/y/|/dav| -> |/dav|/x/|/dav/x/|
@@ -131,13 +140,16 @@ fn placed(alloc: Global, path: &DavPath) -> Result<String, NoMemory> {
     )
 }
 
-// A path and what it is after a prefix is set.
-fn with_prefix(alloc: Global, text: &str, prefix: &str) -> Result<String, ParseError> {
+// A path and what it is after prefixes, with bars between them, are set in turn.
+fn with_prefixes(alloc: Global, text: &str, prefixes: &str) -> Result<String, ParseError> {
     let mut path = DavPath::new(alloc, text)?;
     if !path.prefix().is_empty() {
         return Ok(String::from_str(alloc, "a new path has a prefix")?);
     }
-    let refused = path.set_prefix(prefix).err();
+    let mut refused = None;
+    for prefix in prefixes.split('|') {
+        refused = path.set_prefix(prefix).err();
+    }
     let placed = placed(alloc, &path)?;
     match refused {
         Some(error) => Ok(format!(in alloc; "{error} {placed}")?),
@@ -231,7 +243,7 @@ fn outcome_of_path(alloc: Global, name: &str, path: &DavPath) -> Result<String, 
 fn outcome(alloc: Global, name: &str, text: &str, second: &str) -> Result<String, ParseError> {
     match name {
         "uri" => uri_path(alloc, text),
-        "prefix" => with_prefix(alloc, text, second),
+        "prefix" => with_prefixes(alloc, text, second),
         "parent" => Ok(placed(alloc, &below(alloc, text, second)?.parent()?)?),
         "display" => {
             let path = below(alloc, text, second)?;
@@ -268,7 +280,7 @@ fn gives_paths(rt: HostRuntime) -> Result<(), Fail> {
             count = count.wrapping_add(1);
         }
     }
-    same(&rt, &count, &67);
+    same(&rt, &count, &74);
     Ok(())
 }
 

@@ -1,8 +1,8 @@
-use Rattle.dav_core.specs.Locks.{free, in_the_way}
+use Rattle.dav_core.specs.Locks.{free, conflicting}
 use Rattle.dav_store.proofs.memls.check_in.Goals as goal
 
 pub returns-in-None : goal.returns-in-None
 returns-in-None c = free c.in-None.ensures
 
 pub returns-in-Some : goal.returns-in-Some
-returns-in-Some c = in_the_way c.in-Some.ensures.0 c.in-Some.ensures.1
+returns-in-Some c = conflicting c.in-Some.ensures.0 c.in-Some.ensures.1

@@ -1,5 +1,5 @@
 use Rattle.std.proofs.Common.{◌≡◌, ◌==◌, not, length}
-use Rattle.dav_core.specs.Path.{without_end}
+use Rattle.dav_core.specs.PathEnds.{without_end}
 use Rattle.dav_core.proofs.davpath.ends.through_last_slash.Given as goal
 
 abbrev pub invariant-loop-bytes : goal.invariant-loop-bytes

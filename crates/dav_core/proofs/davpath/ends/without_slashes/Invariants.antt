@@ -1,5 +1,5 @@
 use Rattle.std.proofs.Common.{◌≡◌, ◌==◌, length}
-use Rattle.dav_core.specs.Path.{without_end}
+use Rattle.dav_core.specs.PathEnds.{without_end}
 use Rattle.dav_core.proofs.davpath.ends.without_slashes.Given as goal
 
 abbrev pub invariant-loop-bytes : goal.invariant-loop-bytes
