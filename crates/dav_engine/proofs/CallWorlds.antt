@@ -164,7 +164,7 @@ did_keep c w new answer proper world (means r h is after) = subst (Kept w) (sym 
 pub asks_keep : {c : Call} {old new : StoreState} {answer : Result (Answer c) FsError} → IsProper c → IsWorld old.world → Asks c old answer new → Kept old.world new.world
 asks_keep {c} {old} {new} {answer} proper world one = did_keep c old.world new.world answer proper world (did one)
 
--- ---- what a call may tell
+-- ---- what a call may answer
 
 stored_name : (p : Path) (name : List ℕ) → IsStorable (p ++ name ∷ []) → IsStorable (name ∷ [])
 stored_name p name storable =
@@ -216,6 +216,6 @@ did_tell (Seek file to) w new answer world one = tt
 did_tell (Flush file) w new answer world one = tt
 did_tell (FileMetadata file) w new answer world one = tt
 
--- of a world a call tells what it may
+-- a store that holds a world answers what it may answer
 pub asks_tell : {c : Call} {old new : StoreState} {answer : Result (Answer c) FsError} → IsWorld old.world → Asks c old answer new → MayTell c answer
 asks_tell {c} {old} {new} {answer} world one = did_tell c old.world new.world answer world (did one)

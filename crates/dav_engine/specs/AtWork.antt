@@ -1,4 +1,4 @@
--- What contracts see of a request at work.
+-- What contracts see of a request while it is answered.
 use Rattle.std.specs.Prelude.{◌≡◌, Result}
 use Rattle.dav_core.specs.declared.errors.DavError.{DavError}
 use Rattle.dav_engine.specs.declared.davinner.DavInner.{DavInner}
@@ -11,21 +11,22 @@ use Rattle.dav_engine.specs.Mkcol.{IsMkcol}
 use Rattle.dav_engine.specs.Put.{IsPut}
 use Rattle.dav_engine.specs.Response.{Response}
 
--- what was lent to a request, and how it is set up, is as it was
+-- the request still borrows the same state of a server, and all else of it is as before: the allowed methods, the caller, and
+-- what else the borrowed state's contracts read
 pub record KeepsLent {F A B L : Type 0} (old new : DavInner F A B L) : Type 0 where
   pub backend : new.backend.ghost_name ≡ old.backend.ghost_name
   pub allow : new.allow ≡ old.allow
   pub caller : new.caller ≡ old.caller
   pub locks : new.backend.now.locks ≡ old.backend.now.locks
 
--- a request was served as its caller asks, from what was lent
+-- the request was answered by a plan of this kind for its caller, on the state that it borrows
 abbrev pub ServesFrom : {F A B L : Type 0} → (Client → Method Response → Type 0) → DavInner F A B L → Result Response DavError → DavInner F A B L → Type 0
 ServesFrom kind old result new = Serves (kind old.caller.now) old.backend.now result new.backend.now
 
--- the plans of a MKCOL
+-- the plans of a MKCOL, by who makes it
 abbrev pub MkcolOf : DavRequest → Client → Method Response → Type 0
 MkcolOf request who = IsMkcol request.headers request.path who
 
--- and of a PUT or PATCH with this body
+-- the plans of a PUT or PATCH with this body, by who makes it
 abbrev pub PutOf : DavRequest → Body → Client → Method Response → Type 0
 PutOf request body who = IsPut request.method request.headers request.path body who

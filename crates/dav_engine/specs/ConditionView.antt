@@ -7,11 +7,12 @@ use Rattle.http_header.specs.HeaderMap.{get_all}
 use Rattle.dav_core.specs.declared.fs.DavMetaData.{DavMetaData}
 use Rattle.dav_core.specs.declared.method.DavMethod.{DavMethod}
 use Rattle.dav_core.specs.Locks.{Lock}
-use Rattle.dav_core.specs.Path.{Path, names}
+use Rattle.dav_core.specs.Path.{PathText, names}
 use Rattle.dav_headers.specs.ETagList.{TagList, IsTagList, tag_list}
 use Rattle.dav_headers.specs.IfView.{condition_value}
 use Rattle.dav_engine.specs.declared.conditional.Addressed as declared_list
 use Rattle.dav_engine.specs.declared.conditional.Conditions.TheInside.{Inside}
+use Rattle.dav_engine.specs.declared.request.DavRequest.{DavRequest}
 use Rattle.dav_engine.specs.Conditions.{Addressed, Conditions, AreConditions, SaysLists, http_conditions, if_holds, submitted, if_match, if_match_get_tokens}
 use Rattle.dav_engine.specs.Headers.{Headers, Decodes}
 use Rattle.dav_engine.specs.Method.{Method, ◌>>=◌, gives}
@@ -44,16 +45,16 @@ IsHttpVerdict m headers found status =
     × (status ≡ http_conditions m match none_match found)
 
 -- the plan that finds out whether If holds, and gives the tokens that it submits
-pub data IsDavIf (headers : Headers) (prefix : List ℕ) (own : Path) : Method (Bool × List (List ℕ)) → Type 0 where
-  is_dav_if : (lists : Option (List Addressed)) → Decodes (SaysLists prefix own) (get_all headers (codes "if")) lists
-      → IsDavIf headers prefix own (do
+pub data IsDavIf (request : DavRequest) (path : PathText) : Method (Bool × List (List ℕ)) → Type 0 where
+  is_dav_if : (lists : Option (List Addressed)) → Decodes (SaysLists request.path.prefix (names path)) (get_all request.headers (codes "if")) lists
+      → IsDavIf request path (do
         holds ← if_holds lists
         gives (holds, submitted lists))
 
 -- the plan that gives the status that all conditions answer, with If evaluated first
-pub data IsIfMatch (m : DavMethod) (headers : Headers) (prefix : List ℕ) (own : Path) (found : Option DavMetaData) : Method (Option ℕ) → Type 0 where
-  is_if_match : (c : Conditions) → AreConditions headers prefix own c → IsIfMatch m headers prefix own found (if_match m c found)
+pub data IsIfMatch (request : DavRequest) (path : PathText) (found : Option DavMetaData) : Method (Option ℕ) → Type 0 where
+  is_if_match : (c : Conditions) → AreConditions request.headers request.path.prefix (names path) c → IsIfMatch request path found (if_match request.method c found)
 
 -- the plan that gives the submitted tokens, or the status that all conditions answer, with If evaluated last
-pub data IsIfMatchGetTokens (m : DavMethod) (headers : Headers) (prefix : List ℕ) (own : Path) (found : Option DavMetaData) : Method (Result (List (List ℕ)) ℕ) → Type 0 where
-  is_if_match_get_tokens : (c : Conditions) → AreConditions headers prefix own c → IsIfMatchGetTokens m headers prefix own found (if_match_get_tokens m c found)
+pub data IsIfMatchGetTokens (request : DavRequest) (path : PathText) (found : Option DavMetaData) : Method (Result (List (List ℕ)) ℕ) → Type 0 where
+  is_if_match_get_tokens : (c : Conditions) → AreConditions request.headers request.path.prefix (names path) c → IsIfMatchGetTokens request path found (if_match_get_tokens request.method c found)

@@ -1,4 +1,4 @@
--- Methods: plans that an error may end, and the words that they are written with.
+-- Methods: plans that an error may end, and the operations that they are written with.
 use Rattle.std.specs.Prelude.{ℕ, Bool, true, false, List, Option, Some, None, Result, Ok, Err}
 use Rattle.dav_core.specs.declared.errors.FsError.{FsError}
 use Rattle.dav_core.specs.declared.errors.DavError.{DavError}
@@ -72,32 +72,33 @@ require_free deep who p e = do
   locks ← look
   require (is_open deep who p locks) e
 
--- a lock system is there
+-- whether there is a lock system
 abbrev pub has_locks : Locks → Bool
 has_locks None = false
 has_locks (Some ls) = true
 
--- goes on where a lock system is there; else this error is the end
+-- goes on where there is a lock system; else the plan ends with this error
 abbrev pub require_locks : DavError → Method (Unit {0})
 require_locks e = do
   locks ← look
   require (has_locks locks) e
 
--- makes this of the list of locks; without a lock system nothing
+-- sets the list of locks to `f` of it; without a lock system it changes nothing
 abbrev pub set_by : (List Lock → List Lock) → Locks → Method (Unit {0})
 set_by f None = Done (Ok tt)
 set_by f (Some ls) = Keep (f ls) (Done (Ok tt))
 
+-- the same of the list as it is now
 abbrev pub change_locks : (List Lock → List Lock) → Method (Unit {0})
 change_locks f = do
   locks ← look
   set_by f locks
 
--- the locks at a path and below it end
+-- ends the locks at a path and below it
 abbrev pub drop_locks : Path → Method (Unit {0})
 drop_locks p = change_locks (deleted p)
 
--- goes on, unless a status was answered
+-- goes on, unless there is a status, with which the plan ends
 abbrev pub unless_status : Option ℕ → Method (Unit {0})
 unless_status None = Done (Ok tt)
 unless_status (Some status) = Done (Err (dav.Status status))

@@ -1,4 +1,4 @@
--- How the logic stores what a server serves from, and replies.
+-- Codes of states and replies, which a Model wants of its Value.
 use Rattle.std.specs.Prelude.{ℕ, Bool, List, Option, refl}
 use Rattle.std.specs.Coded.{Coded, code_by, coded_ℕ, coded_bool, coded_list, coded_option, coded×}
 use Rattle.dav_core.specs.declared.errors.FsError.{FsError}
@@ -11,12 +11,13 @@ use Rattle.dav_engine.specs.declared.reply.ReplyBody.{ReplyBody}
 use Rattle.dav_engine.specs.Plan.{ServerState}
 use Rattle.dav_engine.specs.Response.{Header, Response}
 
--- a store, by the code of its refusals
+-- the state of a store, by the code of an error
 abbrev pub coded_store : Coded FsError → Coded StoreState
 coded_store refusal =
     code_by (World × (List (Option FsError) × Bool)) (coded× coded_world (coded× (coded_list (coded_option refusal)) coded_bool))
     (λ s. (s.world, (s.refusals, s.short))) (λ p. record { world = p.0; refusals = p.1.0; short = p.1.1 }) (λ _. refl)
 
+-- the state of a server, by the same
 abbrev pub coded_state : Coded FsError → Coded ServerState
 coded_state refusal =
     code_by (StoreState × Option (List Lock)) (coded× (coded_store refusal) (coded_option (coded_list lock_code)))

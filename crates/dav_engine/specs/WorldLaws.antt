@@ -1,4 +1,5 @@
--- What methods do to worlds: plans that only read, plans that a caller may carry out, and what entity tags tell of bytes.
+-- What methods do to worlds: plans that only read, plans that a caller may carry out, and what an entity tag says about
+-- bytes.
 use Rattle.std.specs.Prelude.{◌≡◌, ℕ, ◌<◌, ◌≤◌, ⊤, false, List, [], ◌∷◌, All, Some, None, Result, Ok, Err}
 use Rattle.dav_core.specs.declared.errors.FsError.{FsError}
 use Rattle.dav_core.specs.declared.errors.DavError.{DavError}
@@ -37,12 +38,12 @@ pub data IsReading {A : Type 0} : Plan A → Type 0 where
   reads_ask : {c : Call} {go : Result (Answer c) FsError → Plan A} → OnlyReads c → ((answer : Result (Answer c) FsError) → IsReading (go answer)) → IsReading (Ask c go)
   reads_look : {go : Locks → Plan A} → ((ls : Locks) → IsReading (go ls)) → IsReading (Look go)
 
--- What a call may be told of a world: what is listed in a folder are names that a path may have.
+-- What a store that holds a world may answer: the names that it lists are names that a path may have.
 abbrev pub MayTell : (call : Call) → Result (Answer call) FsError → Type 0
 MayTell (ReadDir p) (Ok entries) = All (λ e. IsStorable (e.0 ∷ [])) entries
 MayTell _ _ = ⊤
 
--- a plan of calls that a caller may make, as long as it is told what a world may tell
+-- a plan that makes only calls that a caller may make, as long as the answers are those of a store that holds a world
 pub data IsProperPlan {A : Type 0} : Plan A → Type 0 where
   proper_done : {a : A} → IsProperPlan (Done a)
   proper_ask : {c : Call} {go : Result (Answer c) FsError → Plan A} → IsProper c → ((answer : Result (Answer c) FsError) → MayTell c answer → IsProperPlan (go answer)) → IsProperPlan (Ask c go)

@@ -18,7 +18,9 @@ pub fn is_open<L: DavLockSystem>(
     deep: bool,
     tokens: &[String],
 ) -> bool
-    ensures { result ≡ is_open deep (requester_of (map string_bytes tokens.now) false (option_copied principal.entry)) (names path.now) (locks_in L.locks ls.entry) }
+    ensures { result ≡ is_open deep
+        (requester_of (map string_bytes tokens.now) false (option_copied principal.entry))
+        (names path.now) (locks_in L.locks ls.entry) }
 {
     match ls {
         Some(ls) => ls.check(path, principal, false, deep, tokens).is_ok(),

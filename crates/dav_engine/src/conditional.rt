@@ -11,7 +11,7 @@ ghost use Rattle.dav_engine.specs.Plan.{Locks};
 ghost use Rattle.dav_headers.specs.IfView.{item_value, condition_value, if_lists};
 ghost use Rattle.dav_engine.specs.Conditions as spec;
 ghost use Rattle.dav_engine.specs.ConditionView.{list_of, locks_in, texts_of, tokens_or_status, IsHttpVerdict, IsDavIf, IsIfMatch, IsIfMatchGetTokens};
-ghost use Rattle.dav_engine.specs.Follows.{Follows, Carries, or_memory, Heeds};
+ghost use Rattle.dav_engine.specs.Follows.{Follows, Consults, or_memory, Heeds};
 ghost use Rattle.dav_engine.specs.Headers.{Decodes};
 
 #[cfg(test)]
@@ -478,7 +478,8 @@ pub fn http_if_match(
     request: &DavRequest,
     found: Option<&DavMetaData>,
 ) -> Result<Option<StatusCode>, NoMemory>
-    ensures { IfOk result (IsHttpVerdict request.now.method request.now.headers (option_copied found.entry)) }
+    ensures { IfOk result
+        (IsHttpVerdict request.now.method request.now.headers (option_copied found.entry)) }
 {
     let if_match = match_in(alloc, &request.headers)?;
     let if_none_match = none_match_in(alloc, &request.headers)?;
@@ -494,8 +495,8 @@ pub fn dav_if_match<F: DavFileSystem, L: DavLockSystem>(
     ls: Option<&L>,
     path: &DavPath,
 ) -> Result<(bool, Vec<String>), NoMemory>
-    ensures { Carries (λ r. (r.0, texts_of r.1)) (IsDavIf request.now.headers request.now.path.prefix (names path.now))
-        (F.state fs.old) (locks_in L.locks ls.entry) (or_memory result) (F.state fs.new) (locks_in L.locks ls.entry) }
+    ensures { Consults (locks_in L.locks ls.entry) (λ r. (r.0, texts_of r.1))
+        (IsDavIf request.now path.now) (F.state fs.old) result (F.state fs.new) }
 {
     let lists = lists_in(alloc, request, path)?;
     let holds = if_holds(fs, ls, alloc, &lists)?;
@@ -511,8 +512,9 @@ pub fn if_match<F: DavFileSystem, L: DavLockSystem>(
     ls: Option<&L>,
     path: &DavPath,
 ) -> Result<Option<StatusCode>, NoMemory>
-    ensures { Carries (λ status. status) (IsIfMatch request.now.method request.now.headers request.now.path.prefix (names path.now) (option_copied found.entry))
-        (F.state fs.old) (locks_in L.locks ls.entry) (or_memory result) (F.state fs.new) (locks_in L.locks ls.entry) }
+    ensures { Consults (locks_in L.locks ls.entry) (λ status. status)
+        (IsIfMatch request.now path.now (option_copied found.entry))
+        (F.state fs.old) result (F.state fs.new) }
 {
     let conditions = Conditions::decode(alloc, request, path)?;
     conditions.if_match(alloc, request.method, found, fs, ls)
@@ -528,8 +530,9 @@ pub fn if_match_get_tokens<F: DavFileSystem, L: DavLockSystem>(
     ls: Option<&L>,
     path: &DavPath,
 ) -> Result<Result<Vec<String>, StatusCode>, NoMemory>
-    ensures { Carries tokens_or_status (IsIfMatchGetTokens request.now.method request.now.headers request.now.path.prefix (names path.now) (option_copied found.entry))
-        (F.state fs.old) (locks_in L.locks ls.entry) (or_memory result) (F.state fs.new) (locks_in L.locks ls.entry) }
+    ensures { Consults (locks_in L.locks ls.entry) tokens_or_status
+        (IsIfMatchGetTokens request.now path.now (option_copied found.entry))
+        (F.state fs.old) result (F.state fs.new) }
 {
     let conditions = Conditions::decode(alloc, request, path)?;
     conditions.if_match_get_tokens(alloc, request.method, found, fs, ls)

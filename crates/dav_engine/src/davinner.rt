@@ -4,7 +4,7 @@ use dav_core::ls::DavLockSystem;
 use dav_core::method::DavMethodSet;
 use std::marker::Model;
 
-/// Who asks, and when.
+/// Who makes a request, when, and the token of the lock that it may be granted.
 #[derive(Drop)]
 pub struct Caller<'c> {
     /// Who makes the request, where that is known.
@@ -25,7 +25,7 @@ impl<'c> Model for Caller<'c> {
     ghost view = { client_of };
 }
 
-/// What a server serves from: a store, and locks where it has a lock system.
+/// The state of a server: its store, and its locks where there is a lock system.
 #[derive(Drop)]
 pub struct Backend<F: DavFileSystem, L: DavLockSystem> {
     /// The store.
@@ -47,7 +47,7 @@ impl<F: DavFileSystem, L: DavLockSystem> Model for Backend<F, L> {
     ghost view = { λ b. record { store = F.state b.fs; locks = option_map L.locks b.ls } };
 }
 
-/// One request at work, on what a server lends to it. The methods of a server are its calls.
+/// One request while it is answered, on the borrowed state of a server. The methods of a server are its functions.
 #[derive(Drop)]
 pub struct DavInner<'a, 'b, 'c, F: DavFileSystem, L: DavLockSystem> {
     /// The store and the locks.

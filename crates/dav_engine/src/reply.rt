@@ -60,7 +60,7 @@ impl Model for Reply {
     } };
 }
 
-/// Sets a header, in the place of those that it had.
+/// Sets a header, in place of the values that it had.
 pub fn set_header(
     headers: &mut HeaderMap,
     name: HeaderName,

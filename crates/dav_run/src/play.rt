@@ -100,9 +100,11 @@ impl From<ScriptError> for Fault {
 /// [`IO_FAILED`].
 pub fn play<R: Read, W: Write>(alloc: Global, reader: &mut R, writer: &mut W) -> u8
     ensures status { result ≤ 3 }
-    ensures played { result ≡ 0 → IfSome (R.remaining reader.old) (λ text. (lines : List ℕ) × Plays text lines
+    ensures played { result ≡ 0 → IfSome (R.remaining reader.old) (λ text.
+        (lines : List ℕ) × Plays text lines
         × Appends (W.contents writer.old) (W.contents writer.new) lines) }
-    ensures not_script { result ≡ 1 → IfSome (R.remaining reader.old) (λ text. ¬ IsPlayable text) }
+    ensures not_script { result ≡ 1
+        → IfSome (R.remaining reader.old) (λ text. ¬ IsPlayable text) }
     ensures untouched { result ≡ 1 → writer.new ≡ writer.old }
 {
     match play_through(alloc, reader, writer) {
@@ -128,7 +130,8 @@ fn play_through<R: Read, W: Write>(
     reader: &mut R,
     writer: &mut W,
 ) -> Result<(), Fault>
-    ensures played { OnOk result (IfSome (R.remaining reader.old) (λ text. (lines : List ℕ) × Plays text lines
+    ensures played { OnOk result (IfSome (R.remaining reader.old) (λ text.
+        (lines : List ℕ) × Plays text lines
         × Appends (W.contents writer.old) (W.contents writer.new) lines)) }
     ensures not_script { IsErrOf result NotScript
         → IfSome (R.remaining reader.old) (λ text. ¬ IsPlayable text) }

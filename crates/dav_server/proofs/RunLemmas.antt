@@ -24,12 +24,12 @@ pub run_added : {s : Settings} {ts : List Turn} {old mid new : StoreState} {ls k
 run_added {s} {ts} {old} {mid} {new} {ls} {ks} {ms} before after t reply ran is step =
     subst (λ (l : List Response). Runs s (ts ++ t ∷ []) old ls l new ms) (sym is) (run_more t reply ran step)
 
--- a longer front
+-- the first turns and one more
 pub front_more : {X : Type 0} (view : X → Turn) (xs : List X) (k : ℕ) (x : X) → k < length xs → x ≡ get_or xs k x
     → map view (take (k + 1) xs) ≡ map view (take k xs) ++ view x ∷ []
 front_more view xs k x within here = ap (map view) (take_more xs k x within ∙ ap (λ y. take k xs ++ y ∷ []) (sym here)) ∙ map_push view (take k xs) x
 
--- the run of a longer front
+-- the run of one more turn
 pub run_further : {X : Type 0} (view : X → Turn) (xs : List X) (k : ℕ) (x : X) {s : Settings} {old mid new : StoreState} {ls ks ms : Locks} (before after : List Response) (reply : Response)
     → k < length xs → x ≡ get_or xs k x → Runs s (map view (take k xs)) old ls before mid ks
     → after ≡ before ++ reply ∷ [] → Steps s (view x).asked (begun (view x).refusals mid) ks reply new ms → Runs s (map view (take (k + 1) xs)) old ls after new ms
@@ -50,7 +50,7 @@ steps_at {x = x} {old} {new} {ls} {ms} {reply} same step = subst (λ u. Steps u 
 pub cut_at : {s t : Settings} {x : Asked} {old new : StoreState} {ls ms : Locks} → s ≡ t → StepCut s x old ls new ms → StepCut t x old ls new ms
 cut_at {x = x} {old} {new} {ls} {ms} same step = subst (λ u. StepCut u x old ls new ms) same step
 
--- the run of a list of replies that is the same
+-- a run has an equal list of replies
 pub ran_to : {s : Settings} {ts : List Turn} {old new : StoreState} {ls ms : Locks} (before after : List Response) → after ≡ before → Runs s ts old ls before new ms → Runs s ts old ls after new ms
 ran_to {s} {ts} {old} {new} {ls} {ms} before after same ran = subst (λ (l : List Response). Runs s ts old ls l new ms) (sym same) ran
 
@@ -67,7 +67,7 @@ loaded_store was list = ap (λ l. record (state_of was.inner) { refusals = l }) 
 abbrev server : Settings → StoreState → Locks → Server
 server settings store locks = record { settings = settings; state = record { store = store; locks = locks } }
 
--- the server in memory when a step begins, from the fields of what holds it
+-- the server in memory when a step begins, by its fields
 pub loaded_server : (was now : BehindList Store) (list : List (Option FsError)) (settings : Settings) (locks : Locks) {held : ServerState} {old : Server} {x : Asked} {t : Turn}
     → now ≡ record was { coming = list } → ◌≡◌ {A = ServerState} (record { store = behind was.coming (state_of was.inner); locks = locks }) held
     → ◌≡◌ {A = Server} (record { settings = settings; state = held }) old → ◌≡◌ {A = Turn} (record { asked = x; refusals = Some list }) t
@@ -79,7 +79,7 @@ loaded_server was now list settings locks {held} {old} {x} {t} is holds serves a
     ∙ ap (at_turn (record { asked = x; refusals = Some list })) serves
     ∙ ap (λ (u : Turn). at_turn u old) asks
 
--- a step of a server, by the server when it begins and by the request
+-- a step of a server, by an equal server and an equal request
 pub added_from : {one from : Server} (new : Server) {x y : Asked} (before after : List Response) → one ≡ from → x ≡ y → AddsReply one x before after new → AddsReply from y before after new
 added_from {from = from} new {x} before after same this added =
     subst (λ z. AddsReply from z before after new) this (subst (λ s. AddsReply s x before after new) same added)

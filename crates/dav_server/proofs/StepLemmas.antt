@@ -41,7 +41,7 @@ cut_of_ran (ran_ask {answer = answer} one rest) = cut_ask answer one (cut_of_ran
 cut_of_ran (ran_look rest) = cut_look (cut_of_ran rest)
 cut_of_ran (ran_keep rest) = cut_keep (cut_of_ran rest)
 
--- whatever was answered, no more was done than a front of the plan
+-- whatever the reply, no more was done than the first calls of the plan
 pub served_cut : {s : Settings} {x : Asked} {old new : ServerState} {r : Result Response DavError} → Serves (Means s x) old r new → StepCut s x old.store old.locks new.store new.locks
 served_cut (served plan means (followed ran)) = cut plan means (cut_of_ran ran)
 served_cut (served plan means (gave_up is front)) = cut plan means front
@@ -54,7 +54,7 @@ served_ok (served plan means (followed ran)) = steps plan _ means ran
 served_ok (served plan means (gave_up is front)) = absurd (cc)
 served_ok (not_begun is same kept) = absurd (cc)
 
--- so is the reply to an error, but for want of memory
+-- so is the reply to an error, other than out of memory
 pub served_err : {s : Settings} {x : Asked} {old new : ServerState} {e : DavError} {response : Response} → Serves (Means s x) old (Err e) new
     → response ≡ error_reply e → (e ≡ dav.Memory → ⊥) → Steps s x old.store old.locks response new.store new.locks
 served_err {s} {x} {old} {new} {e} (served plan means (followed ran)) is other =
@@ -78,7 +78,7 @@ plan_with {p = p} {body} {who} {m} {plan} same is = subst (λ h. PlanOf h p body
 pub path_at : {prefix given target text : List ℕ} (m : DavMethod) (result : Result PathText DavError) → given ≡ prefix → text ≡ target → GivesPath given m text result → GivesPath prefix m target result
 path_at {prefix} {text = text} m result one two is = subst (λ t. GivesPath prefix m t result) two (subst (λ x. GivesPath x m text result) one is)
 
--- a body, by which one is handed on
+-- a body, by which one the method is handed
 pub handed_at : {s : Settings} {x : Asked} {r : Request} {m : DavMethod} {p : PathText} (g k : Given) (b : Body) {old new : ServerState} {result : Result Response DavError}
     → Has s.allowed m → TargetNames s.prefix m r.target (Ok p) → b ≡ x.body → body_for (taken_by m) b ≡ Ok (handed g b) → g ≡ k
     → Serves (PlanOf (headers_of r.fields) p (handed k b) (client x) m) old result new → Serves (MeansOf s x r m) old result new
@@ -90,16 +90,16 @@ pub any_err : {A E P : Type 0} (r : Result A E) → P → OnErr r P
 any_err (Ok a) p = tt
 any_err (Err e) p = p
 
--- a kind of plan, by what its method is
+-- the same, by equal kinds of plans
 pub serves_by : {K J : Method Response → Type 0} {old new : ServerState} {r : Result Response DavError} → K ≡ J → Serves K old r new → Serves J old r new
 serves_by {old = old} {new} {r} same done = subst (λ (k : Method Response → Type 0). Serves k old r new) same done
 
--- what was served from what a server holds, by the server
+-- what was served on the state of a server was served on that of an equal one
 pub serves_held : {K : Method Response → Type 0} {one other : Server} {new : ServerState} {r : Result Response DavError}
     → one ≡ other → Serves K one.state r new → Serves K other.state r new
 serves_held {K} {new = new} {r} same done = subst (λ s. Serves K s.state r new) same done
 
--- what was answered, by the request
+-- the same, by equal requests
 pub serves_asked : (K : Asked → Method Response → Type 0) {one other : Asked} {old new : ServerState} {r : Result Response DavError}
     → one ≡ other → Serves (K one) old r new → Serves (K other) old r new
 serves_asked K {old = old} {new} {r} same done = subst (λ x. Serves (K x) old r new) same done

@@ -1,4 +1,4 @@
--- What is handed to a handler is a list of turns whose moments can be shown.
+-- What a handler is handed is a list of turns at moments that HTTP can write.
 use Rattle.std.proofs.Common.{◌≡◌, ℕ, ◌<◌, ◌≤◌, ◌+◌, ◌++◌, get_or, length, take, sym, ap, subst, ◌∙◌, List, [], ◌∷◌, map}
 use Rattle.std.proofs.lemmas.List.{append-nil, nil_from_length, take_all}
 use Rattle.std.proofs.lemmas.List.Elements.{All-nil, All-push}
@@ -13,16 +13,16 @@ use Rattle.dav_server.specs.Run.{Turn, Runs}
 use Rattle.dav_server.specs.TagLaws.{AreShowable, EqualTagsShowEqualBytes}
 use Rattle.dav_server.proofs.TagLemmas.{tags_tell_bytes}
 
--- one more request whose moment can be shown
+-- one more turn whose moment can be written
 pub showable_more : (front : List Turn) (t : Turn) → AreShowable front → t.asked.moment ≤ last_moment → AreShowable (front ++ t ∷ [])
 showable_more front t some one = All-push (λ (u : Turn). u.asked.moment ≤ last_moment) front t some one
 
--- the same for a longer front of requests
+-- the same for the first turns and one more
 pub showable_further : (xs : List Asked) (k : ℕ) (x : Asked) → k < length xs → x ≡ get_or xs k x
     → AreShowable (map turn_of (take k xs)) → x.moment ≤ last_moment → AreShowable (map turn_of (take (k + 1) xs))
 showable_further xs k x within here some one = subst AreShowable (sym (front_more turn_of xs k x within here)) (showable_more (map turn_of (take k xs)) (turn_of x) some one)
 
--- for all of them
+-- and for all of them
 pub showable_all : (xs : List Asked) (k : ℕ) → length xs ≤ k → AreShowable (map turn_of (take k xs)) → AreShowable (map turn_of xs)
 showable_all xs k past some = subst (λ (l : List Asked). AreShowable (map turn_of l)) (take_all k xs past) some
 
@@ -38,11 +38,11 @@ ran_all {X} view xs k {s} {old} {new} {ls} {ms} {replies} past ran = subst (λ (
 pub all_yielded : {X : Type 0} (all yielded rest : List X) (len : ℕ) → all ≡ yielded ++ rest → len ≡ length rest → len ≡ 0 → all ≡ yielded
 all_yielded all yielded rest len is long none = is ∙ ap (λ l. yielded ++ l) (nil_from_length rest (sym long ∙ none)) ∙ append-nil yielded
 
--- a list of turns that is the same
+-- the same for an equal list of turns
 pub showable_for : {ts us : List Turn} → ts ≡ us → AreShowable us → AreShowable ts
 showable_for same some = subst AreShowable (sym same) some
 
--- In a run that begins with a world equal tags show equal bytes.
+-- In a run that begins with a world, equal tags show equal bytes.
 pub run_tells : {s : Settings} (ts : List Turn) {old new : StoreState} {ls ms : Locks} {replies : List Response}
     → AreShowable ts → Runs s ts old ls replies new ms → IsWorld old.world → EqualTagsShowEqualBytes ts replies
 run_tells {s} ts {old} {new} {ls} {ms} {replies} moments ran world = tags_tell_bytes s ts old new ls ms replies world moments ran

@@ -3,6 +3,6 @@ use Rattle.std.specs.Option.{option_copied}
 use Rattle.dav_server.specs.declared.exchange.Exchange.TheInside.{Inside}
 use Rattle.dav_server.specs.Machine.{Asked}
 
--- an exchange as the machine sees it
+-- an exchange as a request of the machine
 abbrev pub asked : Inside → Asked
 asked x = record { head = x.head.now; body = x.body; principal = option_copied x.principal; moment = x.moment.seconds; token = x.token }

@@ -64,6 +64,6 @@ get m c p now = do
 pub data IsGet (m : DavMethod) (headers : Headers) (p : PathText) (now : ℕ) : Method Response → Type 0 where
   is_get : (c : Conditions) → AreConditions headers p.prefix (names p) c → IsGet m headers p now (get m c (names p) now)
 
--- the plans of a GET or HEAD at a moment
+-- the plans of a GET or HEAD, by its moment
 abbrev pub GetOf : DavRequest → ℕ → Method Response → Type 0
 GetOf request now = IsGet request.method request.headers request.path now

@@ -1,4 +1,4 @@
--- How the logic stores servers and what they are asked.
+-- Codes of servers, requests and turns, which a Model wants of its Value.
 use Rattle.std.specs.Prelude.{ℕ, List, Option, refl}
 use Rattle.std.specs.Coded.{Coded, code_by, coded_ℕ, coded_list, coded_option, coded×}
 use Rattle.dav_core.specs.declared.errors.FsError.{FsError}
