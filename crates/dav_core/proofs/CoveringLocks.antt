@@ -6,6 +6,7 @@ use Rattle.dav_core.specs.Path.{Path, names, fronts, is_same_path}
 use Rattle.dav_core.specs.Locks.{Lock, covers, discovered}
 use Rattle.dav_core.specs.LockLaws.{DiscoveredAreCovering}
 use Rattle.dav_core.proofs.NodesLemmas.{path-itself}
+use Rattle.dav_core.proofs.Tests.{both}
 use Rattle.dav_core.proofs.SharedLemmas.{covering_way, front_of}
 
 first_is_contained : {X : Type 0} (x : X) (xs : List X) → Contains (x ∷ xs) x
@@ -75,10 +76,6 @@ front_is_listed [] (x ∷ r) = first_is_contained [] (map (λ p. x ∷ p) (front
 front_is_listed (x ∷ q) r =
     others_are_contained [] (map (λ p. x ∷ p) (fronts (q ++ r))) (x ∷ q) (mapped_is_contained (λ p. x ∷ p) (fronts (q ++ r)) q (front_is_listed q r))
 
-both_true : (a b : Bool) → (a && b) ≡ true → b ≡ true
-both_true true b h = h
-both_true false b h = cc
-
 together : (a b : Bool) → a ≡ true → b ≡ true → (a && b) ≡ true
 together true b h k = k
 together false b h k = cc
@@ -91,7 +88,7 @@ discovered_are_covering p ls l = (
   λ h.
       let (q, found) = in_one (λ q. filter (at_front p q) ls) (fronts p) l h in (
         All-contains (Contains ls) (filter (at_front p q) ls) l (All-filter (at_front p q) (Contains ls) ls (All-contains_itself ls)) found,
-        both_true (is_same_path (names l.path) q) (covers l p) (All-contains (λ m. at_front p q m ≡ true) (filter (at_front p q) ls) l (filter_passes (at_front p q) ls) found),
+        (both (is_same_path (names l.path) q) (covers l p) (All-contains (λ m. at_front p q m ≡ true) (filter (at_front p q) ls) l (filter_passes (at_front p q) ls) found)).1,
       ),
   λ h.
       let (r, is) = front_of l p (covering_way l p h.1) in

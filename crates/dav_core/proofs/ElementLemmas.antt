@@ -7,6 +7,7 @@ use Rattle.std.specs.Option.{unwrap_or}
 use Rattle.dav_core.specs.ElementEq.{tree_eq, trees_eq}
 use Rattle.dav_core.specs.Element.{ElementTree, ElementTrees, no_trees, tree_then, tree_list, trees, joined_texts, depth_of, depth_among}
 use Rattle.dav_core.specs.Lists.{without_first}
+use Rattle.dav_core.proofs.Tests.{neither}
 
 pub tree_list_trees : (ts : List ElementTree) → tree_list (trees ts) ≡ ts
 tree_list_trees [] = refl
@@ -15,10 +16,6 @@ tree_list_trees (t ∷ ts) = ap (λ us. t ∷ us) (tree_list_trees ts)
 pub trees_tree_list : (ts : ElementTrees) → trees (tree_list ts) ≡ ts
 trees_tree_list no_trees = refl
 trees_tree_list (tree_then t ts) = ap (λ us. tree_then t us) (trees_tree_list ts)
-
-pub neither : (a b : Bool) → (a || b) ≡ false → (a ≡ false) × (b ≡ false)
-neither false b e = (refl, e)
-neither true b e = cc
 
 past : (b : Bool) (m n : ℕ) (rest : Bool) → cond (not b) (1 + m) 0 ≡ suc n → (m ≡ n → rest ≡ false) → (b || rest) ≡ false
 past false m n rest e h = h (omega (arith, e))

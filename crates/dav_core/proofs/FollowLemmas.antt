@@ -4,7 +4,7 @@ use Rattle.std.specs.Option.{option_map, unwrap_or, is_some}
 use Rattle.std.specs.FinMap.{find, put}
 use Rattle.dav_core.specs.declared.errors.FsError.TheVariants.{GeneralFailure, Exists, NotFound, Forbidden}
 use Rattle.dav_core.specs.Path.{Path, path_cmp, is_same_path, is_at_or_below, is_below, is_root, rest_after, parent_of}
-use Rattle.dav_core.specs.World.{World, Node, Nodes, Kind, File, fresh, node_at, is_folder_kind, is_folder, is_missing, has_members, prune, moved, touched, modified_at, with_new, adjust, change_first, is_file_made_with, file_made_with, last_number, IsWorld, Renumbers}
+use Rattle.dav_core.specs.World.{World, Node, Nodes, Kind, File, fresh, node_at, is_folder_kind, is_folder, is_missing, has_members, prune, moved, touched, modified_at, with_new, adjust, change_node, is_file_made_with, file_made_with, last_number, IsWorld, Renumbers}
 use Rattle.dav_core.specs.Property.{Properties}
 use Rattle.dav_core.specs.Handle.{Handle, Opening, opened}
 use Rattle.dav_core.specs.Meaning.{Meaning}
@@ -182,7 +182,7 @@ step_rests call w new world (renumbers q x f there room change may brings is) p 
     rests_there (record { nodes = adjust q f w.nodes; next = w.next + 1 }) new p (brought call p) n is (brings p)
     (rests-adjusted w q f (w.next + 1) p n stood (λ e. left_alone (subst (λ (y : Path). MayChange call y n) e (may n))))
 step_rests call w new world (writes made x f first room change may brings is) p n stood kept left_alone =
-    rests_there (record { nodes = change_first (is_file_made_with made) f w.nodes; next = w.next + 1 }) new p (brought call p) n is (brings p)
+    rests_there (record { nodes = change_node (is_file_made_with made) f w.nodes; next = w.next + 1 }) new p (brought call p) n is (brings p)
     (n, find-change_other made f p n (decided ((n.made == made) && not (is_folder_kind n.kind)) (λ h. let (same, file) = passed made n h in left_alone (may p n (sym same) file))) w.nodes stood, refl)
 step_rests call w new world (patches q f same may brings is) p n stood kept left_alone =
     rests_there (record w { nodes = adjust q f w.nodes }) new p (brought call p) n is (brings p)

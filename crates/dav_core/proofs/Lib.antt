@@ -1,3 +1,4 @@
+pub mod Tests
 pub mod ElementLemmas
 pub mod NodeLemmas
 pub mod TargetLemmas

@@ -9,6 +9,7 @@ use Rattle.dav_core.specs.Locks.{Lock, is_named, lock_front, refreshed_lock}
 use Rattle.dav_core.specs.LockLaws.{IsMeant, UnlockTakesOne, RefreshChangesOne}
 use Rattle.dav_core.proofs.NodesLemmas.{same_path}
 use Rattle.dav_core.proofs.FrontLemmas.{rest_after-append}
+use Rattle.dav_core.proofs.Tests.{both}
 
 -- the items before the first one that passes, that one, and the others
 pub record Parted {X : Type 0} (test : X → Bool) (xs : List X) : Type 0 where
@@ -83,21 +84,16 @@ first_front : (p : Path) (test : Path → Bool) (q : Path) → first test (front
 first_front [] test q h = root_only test q (test []) refl h
 first_front (x ∷ p) test q h = front_step test x p q (test []) refl (first_front p (λ y. test (x ∷ y))) h
 
-both_true : (a b : Bool) → (a && b) ≡ true → (a ≡ true) × (b ≡ true)
-both_true true true h = (refl, refl)
-both_true true false h = cc
-both_true false b h = cc
-
 -- a lock with this token on a front of the path is one that they can mean
 is_meant : (token : List ℕ) (p q rest : Path) (l : Lock) → p ≡ q ++ rest → is_named token q l ≡ true → IsMeant token p l
 is_meant token p q rest l e h =
-    let (same, at) = both_true (bytes_eq l.token token) (is_same_path (names l.path) q) h in
+    let (same, at) = both (bytes_eq l.token token) (is_same_path (names l.path) q) h in
     record {
       token_is = (bytes_eq-Decides l.token token).0 same;
       above = ap (λ y. is_at_or_below y p) (same_path (names l.path) q at) ∙ ap (is_at_or_below q) e ∙ ap is_some (rest_after-append q rest);
     }
 
-mapped_some : {X Y : Type 0} (f : X → Y) (o : Option X) (y : Y) → option_map f o ≡ Some y → (x : X) × (o ≡ Some x) × (y ≡ f x)
+pub mapped_some : {X Y : Type 0} (f : X → Y) (o : Option X) (y : Y) → option_map f o ≡ Some y → (x : X) × (o ≡ Some x) × (y ≡ f x)
 mapped_some f None y h = cc
 mapped_some f (Some x) y h = (x, refl, let same : f x ≡ y = cc in sym same)
 

@@ -16,15 +16,12 @@ use Rattle.dav_core.specs.LockLaws.{FreeHoldsExclusive, FreeDeepHoldsBelow, Free
 use Rattle.std.proofs.lemmas.Slice.Eq.{bytes_eq-Decides}
 use Rattle.dav_core.proofs.CoverLemmas.{some_held, free_by_tests}
 use Rattle.std.proofs.lemmas.List.Folds.{list_any_none}
-use Rattle.dav_core.proofs.NodesLemmas.{apart}
+use Rattle.dav_core.proofs.NodesLemmas.{apart, path-itself}
+use Rattle.dav_core.proofs.Tests.{both, neither}
 
 -- what passes for all of a list passes for one of it
 passes : {X : Type 0} (test : X → Bool) (xs : List X) (x : X) → list_all test xs ≡ true → Contains xs x → test x ≡ true
 passes test xs x all here = All-contains (λ y. test y ≡ true) xs x (AllPass-from_list_all test xs all) here
-
-both : (a b : Bool) → (a && b) ≡ true → (a ≡ true) × (b ≡ true)
-both true b h = (refl, h)
-both false b h = cc
 
 is_exclusive_held : (h s c : Bool) → (h || s || not c) ≡ true → c ≡ true → s ≡ false → h ≡ true
 is_exclusive_held true s c passed covering exclusive = refl
@@ -120,13 +117,10 @@ some_of_map : {X Y : Type 0} (f : X → Y) (o : Option X) → is_some o ≡ true
 some_of_map f None h = cc
 some_of_map f (Some x) h = refl
 
-path_itself : (p : Path) → is_same_path p p ≡ true
-path_itself p = ap is_eq (tied_itself (lists_total nat_list_cmp_total) p)
-
 pub granted_can_be_unlocked : GrantedCanBeUnlocked
 granted_can_be_unlocked l ls =
     let token : bytes_eq l.token l.token ≡ true = sym (is_eq-slice_cmp l.token l.token) ∙ ap is_eq (tied_itself nat_list_cmp_total l.token) in
-    let named : is_named l.token (names l.path) l ≡ true = ap (λ b. b && is_same_path (names l.path) (names l.path)) token ∙ path_itself (names l.path) in
+    let named : is_named l.token (names l.path) l ≡ true = ap (λ b. b && is_same_path (names l.path) (names l.path)) token ∙ path-itself (names l.path) in
     let any : list_any (is_named l.token (names l.path)) (ls ++ l ∷ []) ≡ true = list_any-append (is_named l.token (names l.path)) ls (l ∷ []) ∙ grind arith in
     some_of_map _ _ (some_front (names l.path) (λ q. list_any (is_named l.token q) (ls ++ l ∷ [])) any)
 
@@ -135,10 +129,6 @@ first_mapped_step : (f : Path → Path) (test : Path → Bool) (q : Path) (ps : 
     → cond b (Some q) (first (λ x. test (f x)) ps) ≡ Some p → cond b (Some (f q)) (first test (map f ps)) ≡ Some (f p)
 first_mapped_step f test q ps p true ih h = let same : q ≡ p = cc in ap (λ x. Some (f x)) same
 first_mapped_step f test q ps p false ih h = ih h
-
-neither : (a b : Bool) → (a || b) ≡ false → (a ≡ false) × (b ≡ false)
-neither true b h = cc
-neither false b h = (refl, h)
 
 or_false : (b : Bool) → (b || false) ≡ b
 or_false true = refl
@@ -183,9 +173,9 @@ taken_back l ls others =
     list_any-append (is_named l.token q) ls (l ∷ []) ∙ ap (λ b. b || ((bytes_eq l.token l.token && is_same_path (names l.path) q) || false)) (none_named l q ls others)
     ∙ ap (λ b. (b && is_same_path (names l.path) q) || false) (token_itself l) ∙ or_false (is_same_path (names l.path) q) in
     let front : lock_front l.token (names l.path) (ls ++ l ∷ []) ≡ Some (names l.path) =
-    only_front (names l.path) test (only (names l.path) ∙ path_itself (names l.path)) (λ q differ. only q ∙ apart (names l.path) q (λ e. differ (sym e))) in
+    only_front (names l.path) test (only (names l.path) ∙ path-itself (names l.path)) (λ q differ. only q ∙ apart (names l.path) q (λ e. differ (sym e))) in
     ap (option_map (λ q. without_first (is_named l.token q) (ls ++ l ∷ []))) front
-    ∙ ap (λ (ms : List Lock). Some ms) (last_left_out (is_named l.token (names l.path)) l ls (ap (λ b. b && is_same_path (names l.path) (names l.path)) (token_itself l) ∙ path_itself (names l.path)) (none_named l (names l.path) ls others))
+    ∙ ap (λ (ms : List Lock). Some ms) (last_left_out (is_named l.token (names l.path)) l ls (ap (λ b. b && is_same_path (names l.path) (names l.path)) (token_itself l) ∙ path-itself (names l.path)) (none_named l (names l.path) ls others))
 
 abbrev no_locks : List Lock
 no_locks = []

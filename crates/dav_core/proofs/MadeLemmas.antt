@@ -9,7 +9,7 @@ use Rattle.std.specs.List.{find as first}
 use Rattle.std.specs.FinMap.{find, is_sorted}
 use Rattle.std.specs.FinMap.Entries.{below_all}
 use Rattle.dav_core.specs.Path.{Path, path_cmp, is_same_path}
-use Rattle.dav_core.specs.World.{Node, Nodes, World, change_first, adjust, is_folder_kind, is_file_made_with, file_made_with, node_at, IsWorld}
+use Rattle.dav_core.specs.World.{Node, Nodes, World, change_node, adjust, is_folder_kind, is_file_made_with, file_made_with, node_at, IsWorld}
 use Rattle.dav_core.proofs.NodesLemmas.{path_total, path-itself}
 use Rattle.dav_core.proofs.NodesAfter.{left_true, right_true}
 
@@ -65,8 +65,8 @@ module _ (test : Path × Node → Bool) (e : Path × Node) where
 
   module _ (f : Node → Node) where
     change_step : (d : Path × Node) (es : Nodes) (b : Bool) → T (below_all path_cmp d.0 es)
-        → (first test es ≡ Some e → change_first test f es ≡ adjust e.0 f es) → cond b (Some d) (first test es) ≡ Some e
-        → (if b then (d.0, f d.1) ∷ es else d ∷ change_first test f es) ≡ adjust e.0 f (d ∷ es)
+        → (first test es ≡ Some e → change_node test f es ≡ adjust e.0 f es) → cond b (Some d) (first test es) ≡ Some e
+        → (if b then (d.0, f d.1) ∷ es else d ∷ change_node test f es) ≡ adjust e.0 f (d ∷ es)
     change_step d es true below ih h =
         let same : d ≡ e = cc in
         subst (λ (y : Path × Node). (d.0, f d.1) ∷ es ≡ adjust y.0 f (d ∷ es)) same
@@ -76,7 +76,7 @@ module _ (test : Path × Node → Bool) (e : Path × Node) where
         ∙ sym (ap (λ b. cond b ((d.0, f d.1) ∷ es) (d ∷ adjust e.0 f es)) (not_before d.0 e.0 (first_below d.0 test e es below h)))
 
     -- a change of the first that passes the test is the change at its path
-    pub change_at : (ns : Nodes) → T (is_sorted path_cmp ns) → first test ns ≡ Some e → change_first test f ns ≡ adjust e.0 f ns
+    pub change_at : (ns : Nodes) → T (is_sorted path_cmp ns) → first test ns ≡ Some e → change_node test f ns ≡ adjust e.0 f ns
     change_at [] sorted h = cc
     change_at (d ∷ es) sorted h =
         change_step d es (test d) (left_true (below_all path_cmp d.0 es) (is_sorted path_cmp es) sorted)
@@ -107,7 +107,7 @@ made_stands made ns sorted n h =
 
 -- and a change of it is the change there
 pub change_made : (made : ℕ) (f : Node → Node) (ns : Nodes) → T (is_sorted path_cmp ns) → (n : Node) → file_made_with made ns ≡ Some n
-    → (p : Path) × (find path_cmp p ns ≡ Some n) × (change_first (is_file_made_with made) f ns ≡ adjust p f ns)
+    → (p : Path) × (find path_cmp p ns ≡ Some n) × (change_node (is_file_made_with made) f ns ≡ adjust p f ns)
 change_made made f ns sorted n h =
     let (p, is) = entry_of (first (is_file_made_with made) ns) n h in
     (p, first_at (is_file_made_with made) (p, n) ns sorted is, change_at (is_file_made_with made) (p, n) f ns sorted is)
@@ -150,7 +150,7 @@ module _ (made : ℕ) (f : Node → Node) (q : Path) (n : Node) (other : ((n.mad
   other_step d es rest false false is ih same h = ap (λ b. cond b (Some d.1) (find path_cmp q rest)) same ∙ ih h
 
   -- everything but the file that was created under the number is as it was
-  pub find-change_other : (ns : Nodes) → find path_cmp q ns ≡ Some n → find path_cmp q (change_first (is_file_made_with made) f ns) ≡ Some n
+  pub find-change_other : (ns : Nodes) → find path_cmp q ns ≡ Some n → find path_cmp q (change_node (is_file_made_with made) f ns) ≡ Some n
   find-change_other [] h = cc
   find-change_other (d ∷ es) h =
-      other_step d es (change_first (is_file_made_with made) f es) (is_file_made_with made d) (is_same_path q d.0) refl (find-change_other es) refl h
+      other_step d es (change_node (is_file_made_with made) f es) (is_file_made_with made d) (is_same_path q d.0) refl (find-change_other es) refl h

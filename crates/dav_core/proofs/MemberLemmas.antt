@@ -7,6 +7,7 @@ use Rattle.std.specs.Option.{option_map, is_some}
 use Rattle.std.specs.List.{cons_option, slice_index_or}
 use Rattle.std.specs.FinMap.{find, is_sorted, slice_cmp-IsAntisymmetric, nat_cmp-IsAntisymmetric}
 use Rattle.std.specs.FinMap.Entries.{below_all, same_entries}
+use Rattle.std.proofs.lemmas.List.Elements.{All-nil}
 use Rattle.dav_core.specs.Path.{Path, parent_of, is_nonempty, is_at_or_below, name_cmp, path_cmp, is_same_path, rest_after, only_name}
 use Rattle.dav_core.specs.World.{World, IsWorld, is_folder_node, is_folder, has_members, IsTree, Node, Nodes, node_at, members, is_folder_kind}
 use Rattle.std.proofs.lemmas.List.Elements.{All-contains, All-cons, Contains-get_or, Contains-append_right}
@@ -118,11 +119,8 @@ contained x d (e ∷ es) h = contained_step x d e es (is_eq (name_cmp x e.0)) re
 combined : {X : Type 0} (P Q R : X → Type 0) → ((x : X) → P x → Q x → R x) → (xs : List X) → All P xs → All Q xs → All R xs
 combined P Q R f xs a b = λ k d lt. f (slice_index_or xs k d) (a k d lt) (b k d lt)
 
-none_of : {X : Type 0} (P : X → Type 0) → All P []
-none_of P = λ k d h. absurd (omega arith)
-
 below_each : (x : List ℕ) (es : Listing) → T (below_all name_cmp x es) → All (λ e. T (is_lt (name_cmp x e.0))) es
-below_each x [] h = none_of (λ e. T (is_lt (name_cmp x e.0)))
+below_each x [] h = All-nil (λ e. T (is_lt (name_cmp x e.0)))
 below_each x (e ∷ es) h =
     All-cons (λ e. T (is_lt (name_cmp x e.0))) e es (left_true (is_lt (name_cmp x e.0)) (below_all name_cmp x es) h)
     (below_each x es (right_true (is_lt (name_cmp x e.0)) (below_all name_cmp x es) h))
@@ -134,7 +132,7 @@ passed e f es h less =
 
 -- what is in a listing in order is found under its name
 each_found : (es : Listing) → T (is_sorted name_cmp es) → All (λ e. find name_cmp e.0 es ≡ Some e.1) es
-each_found [] h = none_of (λ e. find name_cmp e.0 [] ≡ Some e.1)
+each_found [] h = All-nil (λ e. find name_cmp e.0 [] ≡ Some e.1)
 each_found (e ∷ es) h =
     All-cons (λ f. find name_cmp f.0 (e ∷ es) ≡ Some f.1) e es (ap (λ b. cond b (Some e.1) (find name_cmp e.0 es)) (name-itself e.0))
     (combined (λ f. find name_cmp f.0 es ≡ Some f.1) (λ f. T (is_lt (name_cmp e.0 f.0))) (λ f. find name_cmp f.0 (e ∷ es) ≡ Some f.1) (λ f. passed e f es) es

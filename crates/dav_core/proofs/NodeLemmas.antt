@@ -14,7 +14,8 @@ use Rattle.dav_core.specs.Element.{ElementTree, element, text, trees, children_o
 use Rattle.dav_core.specs.ElementEq.{attribute_eq}
 use Rattle.dav_core.specs.Lists.{without_first}
 use Rattle.dav_core.specs.ElementView.{tree_of, node_tree, is_node_named, attribute_bytes, has_name}
-use Rattle.dav_core.proofs.ElementLemmas.{tree_list_trees, trees_tree_list, neither, find_at, find_none, joined_texts_more, depth_among_more}
+use Rattle.dav_core.proofs.Tests.{neither}
+use Rattle.dav_core.proofs.ElementLemmas.{tree_list_trees, trees_tree_list, find_at, find_none, joined_texts_more, depth_among_more}
 
 -- a list with one more item, under a map
 pub map_turn : {X Y : Type 0} (f : X → Y) (xs : List X) (i : ℕ) (d : X) → i < length xs → map f (take (i + 1) xs) ≡ map f (take i xs) ++ f (slice_index_or xs i d) ∷ []

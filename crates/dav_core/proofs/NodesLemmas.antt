@@ -9,7 +9,7 @@ use Rattle.std.specs.Cmp.Lexicographic.{lists_total, nat_list_cmp_total}
 use Rattle.std.specs.FinMap.{IsAntisymmetric, slice_cmp-IsAntisymmetric, nat_cmp-IsAntisymmetric, find, put, is_sorted}
 use Rattle.std.specs.FinMap.Entries.{find-put, is_sorted-put, below_all}
 use Rattle.dav_core.specs.Path.{Path, path_cmp, is_same_path}
-use Rattle.dav_core.specs.World.{Node, Nodes, change_first, adjust, is_folder_kind, is_folder_node}
+use Rattle.dav_core.specs.World.{Node, Nodes, change_node, adjust, is_folder_kind, is_folder_node}
 
 -- paths are in one order, in which only equal ones tie
 pub path_total : IsTotalOrder path_cmp
@@ -74,18 +74,18 @@ below_change_step x f e es rest true ih = refl
 below_change_step x f e es rest false ih = ap (λ b. is_lt (path_cmp x e.0) && b) ih
 
 -- a change of one node keeps the paths, and so their order
-below-change : (x : Path) (test : Path × Node → Bool) (f : Node → Node) (ns : Nodes) → below_all path_cmp x (change_first test f ns) ≡ below_all path_cmp x ns
+below-change : (x : Path) (test : Path × Node → Bool) (f : Node → Node) (ns : Nodes) → below_all path_cmp x (change_node test f ns) ≡ below_all path_cmp x ns
 below-change x test f [] = refl
-below-change x test f (e ∷ es) = below_change_step x f e es (change_first test f es) (test e) (below-change x test f es)
+below-change x test f (e ∷ es) = below_change_step x f e es (change_node test f es) (test e) (below-change x test f es)
 
 sorted_change_step : (f : Node → Node) (e : Path × Node) (es rest : Nodes) (b : Bool) → below_all path_cmp e.0 rest ≡ below_all path_cmp e.0 es → is_sorted path_cmp rest ≡ is_sorted path_cmp es
     → is_sorted path_cmp (if b then (e.0, f e.1) ∷ es else e ∷ rest) ≡ is_sorted path_cmp (e ∷ es)
 sorted_change_step f e es rest true below ih = refl
 sorted_change_step f e es rest false below ih = ap (λ b. b && is_sorted path_cmp rest) below ∙ ap (λ b. below_all path_cmp e.0 es && b) ih
 
-pub sorted-change : (test : Path × Node → Bool) (f : Node → Node) (ns : Nodes) → is_sorted path_cmp (change_first test f ns) ≡ is_sorted path_cmp ns
+pub sorted-change : (test : Path × Node → Bool) (f : Node → Node) (ns : Nodes) → is_sorted path_cmp (change_node test f ns) ≡ is_sorted path_cmp ns
 sorted-change test f [] = refl
-sorted-change test f (e ∷ es) = sorted_change_step f e es (change_first test f es) (test e) (below-change e.0 test f es) (sorted-change test f es)
+sorted-change test f (e ∷ es) = sorted_change_step f e es (change_node test f es) (test e) (below-change e.0 test f es) (sorted-change test f es)
 
 -- what is at a path after a node was put at one path
 pub find-put_node : (q p : Path) (n : Node) (ns : Nodes) → find path_cmp q (put path_cmp p n ns) ≡ cond (is_same_path q p) (Some n) (find path_cmp q ns)

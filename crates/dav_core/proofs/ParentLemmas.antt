@@ -12,6 +12,7 @@ use Rattle.dav_core.proofs.BufferLemmas.{snoc_cases, joined_push}
 use Rattle.dav_core.proofs.EndLemmas.{without_end_more, without_end_stop}
 use Rattle.dav_core.proofs.PathLemmas.{closed_at, open_at}
 use Rattle.dav_core.proofs.AddedLemmas.{name_is_segment}
+use Rattle.dav_core.proofs.Tests.{no_slash}
 
 -- what is taken off the end of a text, and what the rest ends in
 record Ends (p : ℕ → Bool) (xs kept : List ℕ) : Type 0 where
@@ -52,17 +53,14 @@ is_slash b h = grind (arith, nat_tests)
 not_slash : (b : ℕ) → b ≢ 47 → not (b == 47) ≡ true
 not_slash b h = grind (arith, nat_tests)
 
-no_slash : (b : ℕ) → not (b == 47) ≡ true → b ≢ 47
-no_slash b h = grind (arith, nat_tests)
+none_is_slash : (b : ℕ) → not (b == 47) ≡ true → b ≢ 47
+none_is_slash b h = grind (arith, nat_tests)
 
 differs : (b : ℕ) → b ≢ 47 → (b == 47) ≡ false
 differs b h = grind (arith, nat_tests)
 
 slash_from : (b : ℕ) → not (b == 47) ≡ false → b ≡ 47
 slash_from b h = grind (arith, nat_tests)
-
-other_from : (b : ℕ) → (b == 47) ≡ false → b ≢ 47
-other_from b h = grind (arith, nat_tests)
 
 some_slash : (xs : List ℕ) → is_nonempty (xs ++ 47 ∷ []) ≡ true
 some_slash [] = refl
@@ -111,9 +109,9 @@ above_by bytes a b front is = record {
         let bare : without_end (λ c. c == 47) bytes ≡ front ++ 47 ∷ [] = b.whole ∙ ap (λ ys. before_last_name bytes ++ ys) empty ∙ append-nil (before_last_name bytes) ∙ is in
         elim a.last [
           | inl none ↦ let clash : true ≡ false = sym (some_slash front) ∙ ap is_nonempty (sym bare ∙ none) in cc
-          | inr (other, c, e, apart) ↦ ends_once front other c (other_from c apart) (sym bare ∙ e)
+          | inr (other, c, e, apart) ↦ ends_once front other c (no_slash c apart) (sym bare ∙ e)
         ],
-    All-weaker (λ c. not (c == 47) ≡ true) (λ c. c ≢ 47) no_slash b.rest b.all,
+    All-weaker (λ c. not (c == 47) ≡ true) (λ c. c ≢ 47) none_is_slash b.rest b.all,
   );
   closing = All-weaker (λ c. (c == 47) ≡ true) (λ c. c ≡ 47) (λ c e. eqb-true c 47 e) a.rest a.all;
   whole = a.whole ∙ ap (λ ys. ys ++ a.rest) b.whole;

@@ -4,9 +4,7 @@ use Rattle.std.specs.List.{filter, slice_split, prefix_len, position_or_len}
 use Rattle.std.proofs.lemmas.Bool.{eqb-true, cases_Bool}
 use Rattle.std.proofs.lemmas.Bool.Decides.{nat_tests}
 use Rattle.dav_core.specs.Path.{names_in, is_nonempty}
-
-different : (b : ℕ) → (b == 47) ≡ false → b ≢ 47
-different b h e = grind (arith, nat_tests)
+use Rattle.dav_core.proofs.Tests.{no_slash}
 
 -- slashes at the beginning change no name
 pub names_behind : (bs : List ℕ) → names_in (drop (prefix_len (λ b. b == 47) bs) bs) ≡ names_in bs
@@ -51,5 +49,5 @@ bare_behind (b ∷ bs) rest =
       | inl h ↦
           let step : 1 + prefix_len (λ b. b == 47) bs ≡ suc (prefix_len (λ b. b == 47) bs) = omega arith in
           rw (h, step) (bare_behind bs rest)
-      | inr h ↦ rw h (λ e. let same : b ≡ 47 = cc in different b h same)
+      | inr h ↦ rw h (λ e. let same : b ≡ 47 = cc in no_slash b h same)
     ]

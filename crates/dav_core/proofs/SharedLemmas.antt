@@ -13,6 +13,7 @@ use Rattle.dav_core.specs.Locks.{Lock, covers, refreshed_lock, is_named, lock_fr
 use Rattle.dav_core.specs.LockLaws.{CoveringAreShared, GrantedAreShared, UnlockedAreShared, RefreshedAreShared, DeletedAreShared}
 use Rattle.dav_core.proofs.NodesLemmas.{path-itself, same_path}
 use Rattle.dav_core.proofs.CoverLemmas.{grantable_by_tests}
+use Rattle.dav_core.proofs.ListedLocks.{mapped_some}
 use Rattle.dav_core.proofs.FrontLemmas.{rest_after-append, from_rest}
 
 -- of two fronts of one path one is a front of the other
@@ -188,18 +189,14 @@ module _ {X : Type 0} (test : X → Bool) (f : X → X) where
         pairs_change_step x xs (change_first test f xs) (test x) (AllPairs-head R x xs pairs) (AllPairs-tail R x xs pairs)
         (All-change_first (R x) (second x) xs (AllPairs-head R x xs pairs)) (AllPairs-change_first xs (AllPairs-tail R x xs pairs))
 
-mapped_some : {X Y : Type 0} (f : X → Y) (o : Option X) (y : Y) → option_map f o ≡ Some y → (x : X) × (y ≡ f x)
-mapped_some f None y h = cc
-mapped_some f (Some x) y h = (x, let same : f x ≡ y = cc in sym same)
-
 pub unlocked_are_shared : UnlockedAreShared
 unlocked_are_shared token p ls left before h =
-    let (q, is) = mapped_some (λ q. without_first (is_named token q) ls) (lock_front token p ls) left h in
+    let (q, at, is) = mapped_some (λ q. without_first (is_named token q) ls) (lock_front token p ls) left h in
     subst CoveringAreShared (sym is) (AllPairs-without_first Shared (is_named token q) ls before)
 
 pub refreshed_are_shared : RefreshedAreShared
 refreshed_are_shared token p timeout now ls new before h =
-    let (q, is) = mapped_some (λ q. change_first (is_named token q) (refreshed_lock timeout now) ls) (lock_front token p ls) new h in
+    let (q, at, is) = mapped_some (λ q. change_first (is_named token q) (refreshed_lock timeout now) ls) (lock_front token p ls) new h in
     subst CoveringAreShared (sym is)
     (AllPairs-change_first (is_named token q) (refreshed_lock timeout now) Shared (λ l m both. both) (λ l m both. both) ls before)
 

@@ -11,12 +11,13 @@ use Rattle.dav_core.specs.declared.errors.FsError.TheVariants.{GeneralFailure, E
 use Rattle.dav_core.specs.Element.{ElementTree}
 use Rattle.dav_core.specs.Path.{Path, rest_after, is_same_path, is_at_or_below, is_below, is_root, is_nonempty, parent_of}
 use Rattle.dav_core.specs.Property.{Properties, PropertyKey, Patch, SetTo, Remove, key_cmp, property_key, is_same_key, patched, patched_by, shown_property}
-use Rattle.dav_core.specs.World.{World, Node, Kind, Folder, File, node_at, is_folder_kind, is_folder_node, is_folder, is_file, is_missing, bytes_of, members, has_members, with_new, adjust, change_first, is_file_made_with, file_made_with, last_moment, last_number, max_file_len, IsWorld, Renumbers}
+use Rattle.dav_core.specs.World.{World, Node, Kind, Folder, File, node_at, is_folder_kind, is_folder_node, is_folder, is_file, is_missing, bytes_of, members, has_members, with_new, adjust, change_node, is_file_made_with, file_made_with, last_moment, last_number, max_file_len, IsWorld, Renumbers}
 use Rattle.dav_core.specs.Handle.{Handle, Opening, opened, write_place, place_for}
 use Rattle.dav_core.specs.Meaning.{Meaning, refuse_if, at_node}
 use Rattle.dav_core.specs.Calls.{metadata_of, read_dir, create_dir, without, remove_dir, remove_file, rename, copy, copied_over, with_copy, emptied, open_at, open_file, read_bytes, written, write_bytes, sought, repatched, stored_tree}
 use Rattle.dav_core.specs.Asking.{Call, Metadata, ReadDir, EntryMetadata, CreateDir, RemoveDir, RemoveFile, Rename, Copy, HaveProps, PatchProps, GetProps, GetProp, GetQuota, SetAccessed, SetModified, Open, Read, Write, Seek, Flush, FileMetadata, Answer, meaning}
 use Rattle.dav_core.specs.CallLaws.{IsStorable, IsProper, TakesAway, MayChange, path_after, brought}
+use Rattle.dav_core.proofs.Tests.{neither}
 use Rattle.dav_core.proofs.FrontLemmas.{outside, from_rest}
 use Rattle.dav_core.proofs.MadeLemmas.{made_stands}
 use Rattle.dav_core.proofs.NodesLemmas.{differ_from, same_path}
@@ -74,7 +75,7 @@ pub data Step (call : Call) (w new : World) : Type 0 where
   renumbers : (p : Path) (n : Node) (f : Node → Node) → node_at w p ≡ Some n → (w.next == last_number) ≡ false
       → (IsProper call → IsWorld w → Renumbers w.next n (f n)) → ((m : Node) → MayChange call p m) → InPlace call → new ≡ record { nodes = adjust p f w.nodes; next = w.next + 1 } → Step call w new
   writes : (made : ℕ) (n : Node) (f : Node → Node) → file_made_with made w.nodes ≡ Some n → (w.next == last_number) ≡ false
-      → (IsProper call → IsWorld w → Renumbers w.next n (f n)) → ((q : Path) (m : Node) → made ≡ m.made → is_folder_kind m.kind ≡ false → MayChange call q m) → InPlace call → new ≡ record { nodes = change_first (is_file_made_with made) f w.nodes; next = w.next + 1 } → Step call w new
+      → (IsProper call → IsWorld w → Renumbers w.next n (f n)) → ((q : Path) (m : Node) → made ≡ m.made → is_folder_kind m.kind ≡ false → MayChange call q m) → InPlace call → new ≡ record { nodes = change_node (is_file_made_with made) f w.nodes; next = w.next + 1 } → Step call w new
   patches : (p : Path) (f : Node → Node) → ((n : Node) → Same n (f n)) → ((m : Node) → MayChange call p m) → InPlace call → new ≡ record w { nodes = adjust p f w.nodes } → Step call w new
   removes : (p : Path) (now : ℕ) → (IsWorld w → is_root p ≡ false) → (IsProper call → now ≤ last_moment)
       → (IsWorld w → (x : Path) (n : Node) → node_at w x ≡ Some n → is_at_or_below p x ≡ true → TakesAway call x) → InPlace call → new ≡ without w p now → Step call w new
@@ -137,10 +138,6 @@ removes_dir w p now r h =
     let (folder, h3) = went_on (is_file w p) Forbidden _ r h2 in
     let (empty, h4) = went_on (has_members w p) Exists _ r h3 in
     removes p now (λ _. some) (λ small. small) (λ world x n stood at. nothing_below w world p x n (none_too (is_folder w p) (has_members w p) empty) stood at) (λ x. refl) (left tt (without w p now) r h4)
-
-neither : (a b : Bool) → (a || b) ≡ false → (a ≡ false) × (b ≡ false)
-neither true b h = cc
-neither false b h = (refl, h)
 
 module _ (w : World) (from to : Path) (now : ℕ) (r : Unit {0} × World) where
   renames_to : rename w from to now ≡ Ok r → Step (Rename from to now) w r.1
@@ -246,7 +243,7 @@ writes_to w file c now r h =
             properties = (world.sound p n there).properties;
             created = (world.sound p n there).created;
             modified = proper;
-          }) (λ q m same is. (same, is)) (λ x. refl) (left (record file { position = k + length c }) (record { nodes = change_first (is_file_made_with file.made) (written k c w.next now) w.nodes; next = w.next + 1 }) r h4)
+          }) (λ q m same is. (same, is)) (λ x. refl) (left (record file { position = k + length c }) (record { nodes = change_node (is_file_made_with file.made) (written k c w.next now) w.nodes; next = w.next + 1 }) r h4)
       | inr none ↦ unchanged (λ x. refl) (left file w r none.1)
     ]
 

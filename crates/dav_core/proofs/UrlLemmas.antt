@@ -15,6 +15,7 @@ use Rattle.dav_core.specs.declared.davpath.url_text.TheConstants.{ESCAPED}
 use Rattle.dav_core.specs.Path.{Path, IsName, joined, path_bytes, names_of}
 use Rattle.dav_core.specs.Target.{Cancels, Leaves, IsTextByte, EndsInSlash, IsClosed, NamesPath, Reads, text_of, pieces_of, nothing, blank}
 use Rattle.dav_core.specs.UrlText.{is_url_byte, url_text, IsTextOf}
+use Rattle.dav_core.proofs.Tests.{no_slash}
 use Rattle.dav_core.proofs.TargetLemmas.{ending, last_pieces, HasNoSlash, split_joined, name_no_slash, Leaves-names, names_kept}
 use Rattle.dav_core.proofs.BufferLemmas.{snoc_cases, joined_push}
 
@@ -208,9 +209,6 @@ url_pieces : (ns : Path) → All IsName ns → All IsPiece (map url_text ns)
 url_pieces ns names =
     All-map IsPiece url_text ns (All-weaker IsName (λ n. IsPiece (url_text n)) url_piece ns names)
 
-not_slash : (b : ℕ) → (b == 47) ≡ false → b ≢ 47
-not_slash b h e = grind (arith, nat_tests)
-
 -- there is no slash after a last piece
 piece_ends : (p front back : List ℕ) → IsPiece p → front ++ 47 ∷ p ≢ back ++ 47 ∷ []
 piece_ends p front back piece e =
@@ -219,7 +217,7 @@ piece_ends p front back piece e =
       | inr (init, last, h) ↦
           let whole : (front ++ 47 ∷ init) ++ last ∷ [] ≡ back ++ 47 ∷ [] = append_assoc front (47 ∷ init) (last ∷ []) ∙ ap (λ q. front ++ 47 ∷ q) (sym h) ∙ e in
           let same = same_from_push (front ++ 47 ∷ init) back last 47 whole in
-          not_slash last (All-contains (λ b. (b == 47) ≡ false) p last piece.clean.no_slash (rw h (Contains-push init last))) same.1
+          no_slash last (All-contains (λ b. (b == 47) ≡ false) p last piece.clean.no_slash (rw h (Contains-push init last))) same.1
     ]
 
 open_end : (m : List ℕ) (ms : List (List ℕ)) → All IsPiece (m ∷ ms) → ¬ EndsInSlash (joined (m ∷ ms))

@@ -1,6 +1,7 @@
 -- What makes a map a world.
 use Rattle.std.proofs.Common.{◌≡◌, ℕ, ◌<◌, ◌≤◌, true, false, T, ◌+◌, ◌⊎◌, inl, inr, [], ◌∷◌, All, Some, None, refl, sym, ap, subst, ◌∙◌, arith}
 use Rattle.std.specs.FinMap.{find, put, is_sorted}
+use Rattle.std.proofs.lemmas.List.Elements.{All-nil}
 use Rattle.dav_core.specs.Path.{Path, path_cmp, is_same_path, parent_of, IsName}
 use Rattle.dav_core.proofs.NodesLemmas.{CameFrom, back-adjust, folder-adjust, sorted-change, back-put, folder-put, sorted-put_node}
 use Rattle.dav_core.specs.Laws.{EmptyIsWorld, NewKeepsWorld, ChangeKeepsWorld}
@@ -12,13 +13,10 @@ only_root : (p : Path) (n : Node) → find path_cmp p (([], fresh 0 Folder 0) �
 only_root [] n e = (refl, cc)
 only_root (x ∷ p) n e = cc
 
-none_of : {X : Type 0} (P : X → Type 0) → All P []
-none_of P = λ k d h. absurd (omega arith)
-
 root_is_sound : IsSound [] (fresh 0 Folder 0)
 root_is_sound = record {
-  names = none_of IsName;
-  bytes = none_of (All (λ b. b < 256));
+  names = All-nil IsName;
+  bytes = All-nil (All (λ b. b < 256));
   grown = omega arith;
   properties = tt;
   created = omega arith;

@@ -8,7 +8,7 @@ use Rattle.dav_core.specs.declared.fs.DavMetaData.{DavMetaData}
 use Rattle.dav_core.specs.Element.{ElementTree}
 use Rattle.dav_core.specs.Path.{Path, is_same_path, is_below, is_root, is_nonempty, parent_of}
 use Rattle.dav_core.specs.Property.{Property, PropertyKey, Patch, key_cmp, patched, patched_property, without_xml, shown_property}
-use Rattle.dav_core.specs.World.{World, Node, Folder, File, node_at, is_folder_kind, is_folder, is_file, is_missing, bytes_of, members, has_members, prune, moved, touched, with_new, adjust, change_first, is_file_made_with, file_made_with, splice, max_file_len}
+use Rattle.dav_core.specs.World.{World, Node, Folder, File, node_at, is_folder_kind, is_folder, is_file, is_missing, bytes_of, members, has_members, prune, moved, touched, with_new, adjust, change_node, is_file_made_with, file_made_with, splice, max_file_len}
 use Rattle.dav_core.specs.Handle.{Handle, Opening, opened, write_place, place_for}
 use Rattle.dav_core.specs.Meaning.{Meaning, refuse_if, at_node, numbered}
 
@@ -128,7 +128,7 @@ write_bytes w file c now =
     refuse_if (not file.writes) Forbidden
     (refuse_if (nat_lt max_file_len (k + length c)) TooLarge
     (if is_nonempty c
-    then numbered w (λ number. Ok (record file { position = k + length c }, record { nodes = change_first (is_file_made_with file.made) (written k c number now) w.nodes; next = w.next + 1 }))
+    then numbered w (λ number. Ok (record file { position = k + length c }, record { nodes = change_node (is_file_made_with file.made) (written k c number now) w.nodes; next = w.next + 1 }))
     else Ok (file, w))))
 
 abbrev pub sought : Handle → Option ℕ → World → Meaning (ℕ × Handle)

@@ -6,7 +6,7 @@ use Rattle.std.proofs.Common.{refl, ap, sym}
 use native.Mathlib.Nat.{suc-ne-zero}
 use Rattle.dav_core.specs.Element.{ElementTree, ElementTrees, element, text, no_trees, tree_then}
 
-abbrev bytes_code : Coded (List ℕ)
+abbrev pub bytes_code : Coded (List ℕ)
 bytes_code = coded_list coded_ℕ
 
 -- the name, prefix, namespace and attributes of an element

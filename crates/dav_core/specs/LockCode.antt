@@ -1,13 +1,10 @@
 -- How the logic stores a lock: as the tuple of its fields.
 use Rattle.std.specs.Prelude.{ℕ, Bool, List, Option, refl}
-use Rattle.std.specs.Coded.{Coded, code_by, coded_ℕ, coded_bool, coded_list, coded_option, coded×}
+use Rattle.std.specs.Coded.{Coded, code_by, coded_ℕ, coded_bool, coded_option, coded×}
 use Rattle.dav_core.specs.Element.{ElementTree}
-use Rattle.dav_core.specs.ElementCode.{coded_tree}
+use Rattle.dav_core.specs.ElementCode.{bytes_code, coded_tree}
 use Rattle.dav_core.specs.Path.{PathText}
 use Rattle.dav_core.specs.Locks.{Lock}
-
-abbrev bytes_code : Coded (List ℕ)
-bytes_code = coded_list coded_ℕ
 
 abbrev path_code : Coded PathText
 path_code = code_by (List ℕ × List ℕ) (coded× bytes_code bytes_code) (λ p. (p.prefix, p.bytes)) (λ t. record { prefix = t.0; bytes = t.1 }) (λ _. refl)

@@ -1,13 +1,10 @@
 -- How the logic stores properties.
 use Rattle.std.specs.Prelude.{ℕ, List, Option}
-use Rattle.std.specs.Coded.{Coded, code_by, coded_ℕ, coded_list, coded_option, coded×}
+use Rattle.std.specs.Coded.{Coded, code_by, coded_list, coded_option, coded×}
 use Rattle.std.proofs.Common.{refl}
 use Rattle.dav_core.specs.Element.{ElementTree}
-use Rattle.dav_core.specs.ElementCode.{coded_tree}
+use Rattle.dav_core.specs.ElementCode.{bytes_code, coded_tree}
 use Rattle.dav_core.specs.Property.{Properties, Property}
-
-abbrev bytes_code : Coded (List ℕ)
-bytes_code = coded_list coded_ℕ
 
 -- a property is stored as its four parts
 abbrev pub coded_property : Coded Property

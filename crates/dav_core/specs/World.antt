@@ -4,6 +4,7 @@ use Rattle.std.specs.Prelude.{◌≡◌, ℕ, ◌+◌, ◌-◌, ◌<◌, ◌≤�
 use Rattle.std.specs.List.{filter, filter_map, find as first}
 use Rattle.std.specs.Option.{is_none, option_map}
 use Rattle.std.specs.FinMap.{find, put, is_sorted}
+use Rattle.dav_core.specs.Lists.{change_first}
 use Rattle.dav_core.specs.Numbers.{max_u64}
 use Rattle.dav_core.specs.Path.{Path, path_cmp, is_same_path, is_at_or_below, is_nonempty, rest_after, only_name, parent_of, IsName}
 use Rattle.dav_core.specs.Property.{Properties, key_cmp}
@@ -146,13 +147,12 @@ abbrev pub empty_from : ℕ → World
 empty_from next = record { nodes = ([], fresh 0 Folder 0) ∷ []; next = next }
 
 -- the first node that passes the test changed, all others as they were
-abbrev pub change_first : (Path × Node → Bool) → (Node → Node) → Nodes → Nodes
-change_first test f [] = []
-change_first test f (e ∷ es) = if test e then (e.0, f e.1) ∷ es else e ∷ change_first test f es
+abbrev pub change_node : (Path × Node → Bool) → (Node → Node) → Nodes → Nodes
+change_node test f = change_first test (λ e. (e.0, f e.1))
 
 -- the node at p changed
 abbrev pub adjust : Path → (Node → Node) → Nodes → Nodes
-adjust p = change_first (λ e. is_same_path p e.0)
+adjust p = change_node (λ e. is_same_path p e.0)
 
 abbrev pub modified_at : ℕ → Node → Node
 modified_at now n = record n { modified = now }

@@ -9,7 +9,7 @@ use Rattle.std.specs.Ordering.{is_eq, is_le}
 use Rattle.std.proofs.lemmas.List.Quantifiers.{position-Some}
 use Rattle.std.proofs.lemmas.Iterator.Adapters.{position_from-zero}
 use Rattle.dav_core.specs.Path.{Path, path_cmp}
-use Rattle.dav_core.specs.World.{Node, Nodes, change_first, union}
+use Rattle.dav_core.specs.World.{Node, Nodes, change_node, union}
 
 -- i is the first place that passes, and e is what is there
 abbrev pub IsFirst : {E : Type 0} → (E → Bool) → List E → ℕ → E → Type 0
@@ -79,20 +79,20 @@ module _ {K X : Type 0} (R : K → K → Ordering) where
 
 -- the node at the first place is changed
 pub changed_at : (test : Path × Node → Bool) (g : Node → Node) (xs : Nodes) (i : ℕ) (e : Path × Node) (n : Node) → IsFirst test xs i e → n ≡ g e.1
-    → set xs i (e.0, n) ≡ change_first test g xs
+    → set xs i (e.0, n) ≡ change_node test g xs
 changed_at test g [] i e n h is = absurd h
 changed_at test g (x ∷ xs) zero e n h is =
     ap (λ (z : Path × Node). (z.0, n) ∷ xs) (sym h.1) ∙ ap (λ (m : Node). (x.0, m) ∷ xs) (is ∙ ap (λ (z : Path × Node). g z.1) (sym h.1))
-    ∙ sym (ap (λ b. cond b ((x.0, g x.1) ∷ xs) (x ∷ change_first test g xs)) h.0)
+    ∙ sym (ap (λ b. cond b ((x.0, g x.1) ∷ xs) (x ∷ change_node test g xs)) h.0)
 changed_at test g (x ∷ xs) (suc i) e n h is =
     ap (λ (ns : Nodes). x ∷ ns) (changed_at test g xs i e n h.1 is)
-    ∙ sym (ap (λ b. cond b ((x.0, g x.1) ∷ xs) (x ∷ change_first test g xs)) h.0)
+    ∙ sym (ap (λ b. cond b ((x.0, g x.1) ∷ xs) (x ∷ change_node test g xs)) h.0)
 
-pub changed_none : (test : Path × Node → Bool) (g : Node → Node) (xs : Nodes) → NonePasses test xs → xs ≡ change_first test g xs
+pub changed_none : (test : Path × Node → Bool) (g : Node → Node) (xs : Nodes) → NonePasses test xs → xs ≡ change_node test g xs
 changed_none test g [] h = refl
 changed_none test g (x ∷ xs) h =
     ap (λ (ns : Nodes). x ∷ ns) (changed_none test g xs h.1)
-    ∙ sym (ap (λ b. cond b ((x.0, g x.1) ∷ xs) (x ∷ change_first test g xs)) h.0)
+    ∙ sym (ap (λ b. cond b ((x.0, g x.1) ∷ xs) (x ∷ change_node test g xs)) h.0)
 
 -- where a key is after another one, the third of the cases is taken
 not_after : {A : Type 0} (o : Ordering) (a b c : A) → is_le o ≡ false → by_order o a b c ≡ c
