@@ -2,8 +2,8 @@
 use Rattle.std.proofs.Common.{◌≡◌, ℕ, ◌&&◌, ◌||◌, Bool, true, false, not, List, [], ◌∷◌, map, Contains, get_or, Some, None, refl, sym, ap, subst, ◌∙◌}
 use Rattle.std.specs.List.{list_any, list_all, position}
 use Rattle.std.proofs.lemmas.List.Quantifiers.{position-Some}
-use Rattle.dav_core.specs.Path.{Path, names, is_at_or_below}
-use Rattle.dav_core.specs.Locks.{Lock, Asker, covers, is_held, is_free_for, is_in_the_way}
+use Rattle.dav_core.specs.Path.{Path, names, is_below, is_at_or_below}
+use Rattle.dav_core.specs.Locks.{Lock, Asker, covers, is_held, is_free_for, is_in_the_way, is_grantable}
 use Rattle.dav_core.proofs.LockLemmas.{free_is_nothing_in_the_way}
 use Rattle.dav_store.proofs.Place.{NonePasses, none_passes}
 
@@ -43,3 +43,9 @@ stands_if_some deep who p ls some i l held found is =
 pub grantable_if_none : (a deep b : Bool) → (a || (deep && b)) ≡ false → (not a && not (deep && b)) ≡ true
 grantable_if_none true deep b h = cc
 grantable_if_none false deep b h = ap not h
+
+-- where the tests of the code find no lock that conflicts with a new one, it may be granted
+pub grantable_seen : (new : Lock) (ls seen : List Lock) → seen ≡ ls
+    → (list_any (λ l. covers l (names new.path) && not (l.shared && new.shared)) seen || (new.deep && list_any (λ l. is_below (names new.path) (names l.path)) seen)) ≡ false
+    → is_grantable new ls ≡ true
+grantable_seen new ls seen same none = subst (λ (ms : List Lock). is_grantable new ms ≡ true) same (grantable_if_none _ new.deep _ none)

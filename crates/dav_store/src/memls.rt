@@ -1,5 +1,5 @@
 //! A list of locks in memory (RFC 4918, sections 6 and 7).
-ghost use Rattle.std.specs.Prelude.{◌≡◌, ◌&&◌, ◌||◌, ◌+◌, ◌++◌, ◌∷◌, ◌≤◌, not, [], map, IfOk, IfErr, OnOk, OnErr, IfSome, MatchOption, Some, None, Contains, true, bytes_eq, string_bytes, option_copied, position, take};
+ghost use Rattle.std.specs.Prelude.{◌≡◌, ◌&&◌, ◌||◌, ◌+◌, ◌++◌, ◌∷◌, ◌≤◌, not, [], map, IfOk, IfErr, OnOk, OnErr, IfSome, IsSome, IsErrOf, MatchOption, Some, None, Contains, true, bytes_eq, string_bytes, option_copied, position, take};
 ghost use Rattle.std.specs.List.{list_any, filter};
 ghost use Rattle.std.specs.Option.{option_map};
 ghost use Rattle.dav_core.specs.Path.{names, is_same_path, is_below, is_at_or_below};
@@ -300,6 +300,7 @@ fn refresh_in(
     requires { IfSome timeout (λ seconds. now + seconds ≤ max_u64) }
     ensures ok { IfOk result (λ lock. (option_map (refreshed_lock timeout now) (named_lock token.now (names path.now) locks.old.items) ≡ Some lock) × (refreshed token.now (names path.now) timeout now locks.old.items ≡ Some locks.new.items)) }
     ensures err { IfErr result (λ e. IsRefusedRefresh e (named_lock token.now (names path.now) locks.old.items)) }
+    ensures memory { IsErrOf result RefreshRefusal.Memory → IsSome (named_lock token.now (names path.now) locks.old.items) }
     ensures same { OnErr result (locks.new.items ≡ locks.old.items) }
 {
     let Some(i) = named_place(locks, path, token) else {
