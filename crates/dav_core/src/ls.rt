@@ -110,7 +110,8 @@ pub trait DavLockSystem {
         requires { IfSome timeout (λ seconds. now + seconds ≤ max_u64) }
         ensures ok { IfOk result (λ lock. (lock ≡ new_lock token.now path.now (option_copied principal.entry) (option_copied owner.entry) timeout shared deep now) × (is_grantable lock (locks self.old) ≡ true) × (locks self.new ≡ locks self.old ++ lock ∷ [])) }
         ensures err { IfErr result (λ e. IsRefusedGrant e (is_grantable (new_lock token.now path.now (option_copied principal.entry) (option_copied owner.entry) timeout shared deep now) (locks self.old))) }
-        ensures memory { IsErrOf result LockRefusal.Memory → is_grantable (new_lock token.now path.now (option_copied principal.entry)
+        ensures memory { IsErrOf result LockRefusal.Memory
+            → is_grantable (new_lock token.now path.now (option_copied principal.entry)
             (option_copied owner.entry) timeout shared deep now) (locks self.old) ≡ true }
         ensures same { OnErr result (locks self.new ≡ locks self.old) };
 
@@ -134,7 +135,8 @@ pub trait DavLockSystem {
         requires { IfSome timeout (λ seconds. now + seconds ≤ max_u64) }
         ensures ok { IfOk result (λ lock. (option_map (refreshed_lock timeout now) (named_lock token.now (names path.now) (locks self.old)) ≡ Some lock) × (refreshed token.now (names path.now) timeout now (locks self.old) ≡ Some (locks self.new))) }
         ensures err { IfErr result (λ e. IsRefusedRefresh e (named_lock token.now (names path.now) (locks self.old))) }
-        ensures memory { IsErrOf result RefreshRefusal.Memory → IsSome (named_lock token.now (names path.now) (locks self.old)) }
+        ensures memory { IsErrOf result RefreshRefusal.Memory
+            → IsSome (named_lock token.now (names path.now) (locks self.old)) }
         ensures same { OnErr result (locks self.new ≡ locks self.old) };
 
     /// Whether a path is free for the requester that submits these tokens (RFC 4918, section 7.5): it holds each

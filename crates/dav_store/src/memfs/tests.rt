@@ -7,7 +7,8 @@
 ghost use Rattle.std.specs.Prelude.{◌<◌};
 
 use super::*;
-use dav_core::fs::{DavDirEntry, DavFileSystem, ReadDirMeta};
+use bytes::Bytes;
+use dav_core::fs::{DavDirEntry, DavFileSystem, DavMetaData, ReadDirMeta};
 use std::mem;
 use std::process::Abort;
 use std::test::Fail;
