@@ -12,8 +12,8 @@ pub any_mapped : {S X : Type 0} (f : S → X) (test : X → Bool) (xs : List S) 
 any_mapped f test [] = refl
 any_mapped f test (x ∷ xs) = ap (λ b. test (f x) || b) (any_mapped f test xs)
 
-abbrev way : Bool → Asker → Path → Bool → Lock → Bool
-way deep who p some l = not (is_held who l) && ((covers l p && (not l.shared || not some)) || (deep && is_at_or_below p (names l.path)))
+abbrev conflicting : Bool → Asker → Path → Bool → Lock → Bool
+conflicting deep who p some l = not (is_held who l) && ((covers l p && (not l.shared || not some)) || (deep && is_at_or_below p (names l.path)))
 
 all_step : (b c : Bool) → b ≡ false → c ≡ true → (not b && c) ≡ true
 all_step true c h k = cc
@@ -25,17 +25,17 @@ none_true test (x ∷ xs) h = all_step (test x) _ h.0 (none_true test xs h.1)
 
 -- where no lock is found to conflict, the path is free
 pub free_if_none : (deep : Bool) (who : Asker) (p : Path) (ls : List Lock) (some : Bool)
-    → some ≡ list_any (λ l. covers l p && is_held who l) ls → position (way deep who p some) ls ≡ None → is_free_for deep who p ls ≡ true
+    → some ≡ list_any (λ l. covers l p && is_held who l) ls → position (conflicting deep who p some) ls ≡ None → is_free_for deep who p ls ≡ true
 free_if_none deep who p ls some held none =
-    let all : position (is_in_the_way deep who p ls) ls ≡ None = subst (λ b. position (way deep who p b) ls ≡ None) held none in
+    let all : position (is_in_the_way deep who p ls) ls ≡ None = subst (λ b. position (conflicting deep who p b) ls ≡ None) held none in
     free_is_nothing_in_the_way deep who p ls ∙ none_true (is_in_the_way deep who p ls) ls (none_passes (is_in_the_way deep who p ls) ls all)
 
 -- a lock that is found is in the list, and conflicts
-pub stands_if_some : (deep : Bool) (who : Asker) (p : Path) (ls : List Lock) (some : Bool) (i : ℕ) (l : Lock)
-    → some ≡ list_any (λ m. covers m p && is_held who m) ls → position (way deep who p some) ls ≡ Some i → l ≡ get_or ls i l
+pub conflict_if_some : (deep : Bool) (who : Asker) (p : Path) (ls : List Lock) (some : Bool) (i : ℕ) (l : Lock)
+    → some ≡ list_any (λ m. covers m p && is_held who m) ls → position (conflicting deep who p some) ls ≡ Some i → l ≡ get_or ls i l
     → Contains ls l × (is_in_the_way deep who p ls l ≡ true)
-stands_if_some deep who p ls some i l held found is =
-    let here : position (is_in_the_way deep who p ls) ls ≡ Some i = subst (λ b. position (way deep who p b) ls ≡ Some i) held found in
+conflict_if_some deep who p ls some i l held found is =
+    let here : position (is_in_the_way deep who p ls) ls ≡ Some i = subst (λ b. position (conflicting deep who p b) ls ≡ Some i) held found in
     let at = position-Some (is_in_the_way deep who p ls) ls i l here in
     ((i, at.0, sym is), subst (λ (m : Lock). is_in_the_way deep who p ls m ≡ true) (sym is) at.1)
 

@@ -1,6 +1,6 @@
 pub mod Store
 pub mod Laws
-pub mod NodeCode
+pub mod StoreCode
 pub mod KindOf
 pub mod Answered
-pub mod Asking
+pub mod LockCalls

@@ -39,7 +39,7 @@ pub struct MemFs {
 
 impl Model for MemFs {
     ghost use Rattle.dav_store.specs.Store.{Store};
-    ghost use Rattle.dav_store.specs.NodeCode.{coded_store};
+    ghost use Rattle.dav_store.specs.StoreCode.{coded_store};
 
     ghost Value = { Store };
 
@@ -63,7 +63,7 @@ impl Clone for MemFs {
     }
 }
 
-/// An open file: it stands for the file that was created under its change number.
+/// An open file: it refers to the file that was created under its change number.
 #[derive(Drop)]
 pub struct MemFile {
     made: u64,
@@ -163,7 +163,7 @@ fn has_members(entries: &[(Names, Node)], path: &DavPath) -> bool
 }
 
 // The properties after these changes, in their order, and the answers to them.
-fn patched(
+fn properties_after(
     alloc: Global,
     properties: &Properties,
     patches: Vec<(bool, DavProp)>,
@@ -242,7 +242,7 @@ impl MemFs {
         if options.create_new {
             return Err(FsError::Exists);
         }
-        let file = MemFile::open(node.made(), options);
+        let file = MemFile::open(node.creation_number(), options);
         if !options.truncate {
             return Ok(file);
         }
@@ -313,7 +313,7 @@ impl MemFs {
             return Err(FsError::GeneralFailure);
         }
         let (made, number) = (file.made, self.next);
-        if let Err(_) = entries::write_made(
+        if let Err(_) = entries::write_file_made_with(
             alloc,
             &mut self.entries,
             made,

@@ -1,6 +1,6 @@
 //! `MemFs` as a `DavFileSystem`: each call is answered as it means. The tests of its rules come first, in their order,
 //! and only then is memory allocated.
-use super::{MemEntry, MemFile, MemFs, has_members, list, patched, place_for};
+use super::{MemEntry, MemFile, MemFs, has_members, list, place_for, properties_after};
 use crate::node::Node;
 use crate::{entries, paths};
 use bytes::{Buf, Bytes};
@@ -201,7 +201,7 @@ impl DavFileSystem for MemFs {
         let Some(node) = entries::node_at(&self.entries, path) else {
             return Err(FsError::NotFound);
         };
-        let Ok((properties, answers)) = patched(alloc, node.properties(), patches) else {
+        let Ok((properties, answers)) = properties_after(alloc, node.properties(), patches) else {
             self.short = true;
             return Err(FsError::InsufficientStorage);
         };
