@@ -82,7 +82,7 @@ pub enum RefreshRefusal {
 /// A list of locks, in the order in which they were granted. A call that is refused leaves the list as it was. Moments
 /// are in seconds since 1970, timeouts in seconds.
 pub trait DavLockSystem {
-    ghost use Rattle.std.specs.Prelude.{◌≡◌, ◌≤◌, ◌+◌, ◌++◌, ◌∷◌, [], ℕ, Bool, true, false, List, map, Option, Some, None, Result, Ok, Err, IfOk, IfErr, OnOk, OnErr, IsOk, IfSome, string_bytes, if◌then◌else◌};
+    ghost use Rattle.std.specs.Prelude.{◌≡◌, ◌≤◌, ◌+◌, ◌++◌, ◌∷◌, [], ℕ, Bool, true, false, List, map, Option, Some, None, Result, Ok, Err, IfOk, IfErr, OnOk, OnErr, IsOk, IsErrOf, IfSome, IsSome, string_bytes, if◌then◌else◌};
     ghost use Rattle.std.specs.Option.{option_map, option_copied, option_and_then};
     ghost use Rattle.dav_core.specs.Numbers.{max_u64};
     ghost use Rattle.dav_core.specs.LockRefusals.{IsRefusedGrant, IsRefusedRefresh};
@@ -93,7 +93,8 @@ pub trait DavLockSystem {
     ghost locks: { Self → List Lock };
 
     /// Grants a lock (RFC 4918, section 9.10). `Conflict` for an exclusive lock where any lock covers the path, for a
-    /// shared one where an exclusive lock does, and for one of infinite depth where any lock is below the path; `Memory`.
+    /// shared one where an exclusive lock does, and for one of infinite depth where any lock is below the path; `Memory`
+    /// where the lock may be granted, but an allocation fails.
     fn lock(
         &mut self,
         alloc: Global,
@@ -109,6 +110,9 @@ pub trait DavLockSystem {
         requires { IfSome timeout (λ seconds. now + seconds ≤ max_u64) }
         ensures ok { IfOk result (λ lock. (lock ≡ new_lock token.now path.now (option_copied principal.entry) (option_copied owner.entry) timeout shared deep now) × (is_grantable lock (locks self.old) ≡ true) × (locks self.new ≡ locks self.old ++ lock ∷ [])) }
         ensures err { IfErr result (λ e. IsRefusedGrant e (is_grantable (new_lock token.now path.now (option_copied principal.entry) (option_copied owner.entry) timeout shared deep now) (locks self.old))) }
+        ensures memory { IsErrOf result LockRefusal.Memory
+            → is_grantable (new_lock token.now path.now (option_copied principal.entry)
+            (option_copied owner.entry) timeout shared deep now) (locks self.old) ≡ true }
         ensures same { OnErr result (locks self.new ≡ locks self.old) };
 
     /// Ends the lock that a token and a path mean (RFC 4918, section 9.11): of the locks with this token that are on the
@@ -119,7 +123,7 @@ pub trait DavLockSystem {
         ensures err { OnErr result ((unlocked token.now (names path.now) (locks self.old) ≡ None) × (locks self.new ≡ locks self.old)) };
 
     /// Gives the lock that a token and a path mean, as for `unlock`, a new timeout (RFC 4918, section 9.10.2). `NotThere`
-    /// where there is none; `Memory`.
+    /// where there is none; `Memory` where there is one, but an allocation fails.
     fn refresh(
         &mut self,
         alloc: Global,
@@ -131,6 +135,8 @@ pub trait DavLockSystem {
         requires { IfSome timeout (λ seconds. now + seconds ≤ max_u64) }
         ensures ok { IfOk result (λ lock. (option_map (refreshed_lock timeout now) (named_lock token.now (names path.now) (locks self.old)) ≡ Some lock) × (refreshed token.now (names path.now) timeout now (locks self.old) ≡ Some (locks self.new))) }
         ensures err { IfErr result (λ e. IsRefusedRefresh e (named_lock token.now (names path.now) (locks self.old))) }
+        ensures memory { IsErrOf result RefreshRefusal.Memory
+            → IsSome (named_lock token.now (names path.now) (locks self.old)) }
         ensures same { OnErr result (locks self.new ≡ locks self.old) };
 
     /// Whether a path is free for the requester that submits these tokens (RFC 4918, section 7.5): it holds each

@@ -7,8 +7,8 @@ use Rattle.std.specs.Option.{option_map}
 use Rattle.std.proofs.lemmas.List.Splits.{slice_split-cons_yes, slice_split-cons_no}
 use Rattle.dav_core.specs.Path.{Path, fronts, star, is_nonempty, names_in, names_of}
 
-abbrev pieces : List ℕ → List (List ℕ)
-pieces bytes = slice_split (λ b. b == 47) bytes
+abbrev segments : List ℕ → List (List ℕ)
+segments bytes = slice_split (λ b. b == 47) bytes
 
 -- one more byte makes at most one more name
 longer : (b : ℕ) (ps : List (List ℕ)) (n : ℕ) → length (filter is_nonempty ps) ≤ n → length (filter is_nonempty (onto_first b ps)) ≤ n + 1
@@ -18,7 +18,7 @@ longer b ((x ∷ p) ∷ ps) n h = omega arith
 
 count_step : (b : ℕ) (bytes : List ℕ) (c : Bool) → (b == 47) ≡ c → length (names_in bytes) ≤ length bytes → length (names_in (b ∷ bytes)) ≤ length bytes + 1
 count_step b bytes true is h = subst (λ (ps : List (List ℕ)). length (filter is_nonempty ps) ≤ length bytes + 1) (sym (slice_split-cons_yes (λ x. x == 47) b bytes is)) (omega (arith, h))
-count_step b bytes false is h = subst (λ (ps : List (List ℕ)). length (filter is_nonempty ps) ≤ length bytes + 1) (sym (slice_split-cons_no (λ x. x == 47) b bytes is)) (longer b (pieces bytes) (length bytes) h)
+count_step b bytes false is h = subst (λ (ps : List (List ℕ)). length (filter is_nonempty ps) ≤ length bytes + 1) (sym (slice_split-cons_no (λ x. x == 47) b bytes is)) (longer b (segments bytes) (length bytes) h)
 
 -- there are at most as many names as bytes
 names_in_bytes : (bytes : List ℕ) → length (names_in bytes) ≤ length bytes

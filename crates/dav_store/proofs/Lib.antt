@@ -4,6 +4,7 @@ pub mod PropertyLemmas
 pub mod MemberLemmas
 pub mod CopyLemmas
 pub mod AskingLemmas
+pub mod StoreLaws
 pub mod FrontLemmas
 pub mod LockLemmas
 pub mod NamedLemmas

@@ -5,9 +5,9 @@ use Rattle.std.specs.Option.{option_map, option_and_then}
 use Rattle.dav_core.specs.Lists.{without_first, change_first}
 use Rattle.dav_core.specs.Path.{Path}
 use Rattle.dav_core.specs.Locks.{Lock, is_named, lock_front, named_lock, unlocked, refreshed, refreshed_lock}
-use Rattle.dav_store.specs.Asking.{IsNamedPlace}
+use Rattle.dav_store.specs.LockCalls.{IsNamedPlace}
 use Rattle.dav_store.proofs.FrontLemmas.{first_front, no_front}
-use Rattle.dav_store.proofs.Place.{NonePasses, none_passes, IsFirst, is_first}
+use Rattle.dav_store.proofs.Place.{NonePasses, none_passes, IsFirst, is_first, first_of}
 
 none_any : {X : Type 0} (test : X → Bool) (xs : List X) → NonePasses test xs → list_any test xs ≡ false
 none_any test [] h = refl
@@ -49,11 +49,6 @@ changed test f [] i l h = absurd h
 changed test f (m ∷ ls) zero l h = ap (λ b. cond b (f m ∷ ls) (m ∷ change_first test f ls)) h.0 ∙ ap (λ k. f k ∷ ls) h.1
 changed test f (m ∷ ls) (suc i) l h = ap (λ b. cond b (f m ∷ ls) (m ∷ change_first test f ls)) h.0 ∙ ap (λ (ms : List Lock). m ∷ ms) (changed test f ls i l h.1)
 
-stands : (test : Lock → Bool) (ls : List Lock) (i : ℕ) (l : Lock) → IsFirst test ls i l → first test ls ≡ Some l
-stands test [] i l h = absurd h
-stands test (m ∷ ls) zero l h = ap (λ b. cond b (Some m) (first test ls)) h.0 ∙ ap (λ k. Some k) h.1
-stands test (m ∷ ls) (suc i) l h = ap (λ b. cond b (Some m) (first test ls)) h.0 ∙ stands test ls i l h.1
-
 any_lock : Lock
 any_lock = record { token = []; path = record { prefix = []; bytes = [] }; principal = None; owner = None; timeout_at = None; timeout = None; shared = false; deep = false }
 
@@ -69,7 +64,7 @@ pub named_lock_at : (token : List ℕ) (p : Path) (ls seen : List Lock) (i : ℕ
 named_lock_at token p ls seen i l same named is =
     let (q, front, here) : IsNamedPlace token p ls (Some i) = subst (λ (ms : List Lock). IsNamedPlace token p ms (Some i)) same named in
     ap (option_and_then (λ r. first (is_named token r) ls)) front
-    ∙ stands (is_named token q) ls i _ (is_first (is_named token q) ls i l here) ∙ ap (λ k. Some k) (sym is)
+    ∙ first_of (is_named token q) ls i _ (is_first (is_named token q) ls i l here) ∙ ap (λ k. Some k) (sym is)
 
 -- the list with a new timeout of the lock that is meant
 pub refreshed_at : (token : List ℕ) (p : Path) (timeout : Option ℕ) (now : ℕ) (ls seen : List Lock) (i : ℕ) (l : Lock) → seen ≡ ls → IsNamedPlace token p seen (Some i)

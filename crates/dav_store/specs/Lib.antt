@@ -1,6 +1,6 @@
 pub mod Store
-pub mod NodeCode
+pub mod Laws
+pub mod StoreCode
 pub mod KindOf
 pub mod Answered
-pub mod Listing
-pub mod Asking
+pub mod LockCalls

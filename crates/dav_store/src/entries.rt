@@ -176,7 +176,7 @@ fn grafted_keys(
 {
     let mut keys = Vec::new(alloc);
     for e in entries {
-        if let Some(key) = e.0.grafted(alloc, from, to)? {
+        if let Some(key) = e.0.graft(alloc, from, to)? {
             keys.push(key)?;
         }
     }
@@ -270,7 +270,7 @@ pub fn file_made_with(entries: &[(Names, Node)], made: u64) -> Option<&Node>
 }
 
 /// Writes bytes to the file that was created under this change number. Where memory runs out, nothing changes.
-pub fn write_made(
+pub fn write_file_made_with(
     alloc: Global,
     entries: &mut [(Names, Node)],
     made: u64,

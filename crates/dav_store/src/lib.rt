@@ -4,6 +4,7 @@
 #[cfg(test)]
 mod asserting;
 mod entries;
+pub mod laws;
 pub mod memfs;
 pub mod memls;
 mod names;

@@ -1,12 +1,12 @@
 //! A list of locks in memory (RFC 4918, sections 6 and 7).
-ghost use Rattle.std.specs.Prelude.{◌≡◌, ◌&&◌, ◌||◌, ◌+◌, ◌++◌, ◌∷◌, ◌≤◌, not, [], map, IfOk, IfErr, OnOk, OnErr, IfSome, MatchOption, Some, None, Contains, true, bytes_eq, string_bytes, option_copied, position, take};
+ghost use Rattle.std.specs.Prelude.{◌≡◌, ◌&&◌, ◌||◌, ◌+◌, ◌++◌, ◌∷◌, ◌≤◌, not, [], map, IfOk, IfErr, OnOk, OnErr, IfSome, IsSome, IsErrOf, MatchOption, Some, None, Contains, true, bytes_eq, string_bytes, option_copied, position, take};
 ghost use Rattle.std.specs.List.{list_any, filter};
 ghost use Rattle.std.specs.Option.{option_map};
 ghost use Rattle.dav_core.specs.Path.{names, is_same_path, is_below, is_at_or_below};
 ghost use Rattle.dav_core.specs.Locks.{Lock, Checks, lent, covers, requester_of, is_held, is_of, is_free_for, conflicts, ends_at, new_lock, named_lock, unlocked, refreshed, refreshed_lock, discovered, deleted};
 ghost use Rattle.dav_core.specs.LockRefusals.{IsRefusedRefresh};
 ghost use Rattle.dav_core.specs.Numbers.{max_u64};
-ghost use Rattle.dav_store.specs.Asking.{asker_in, IsNamedPlace};
+ghost use Rattle.dav_store.specs.LockCalls.{requester_in, IsNamedPlace};
 
 #[cfg(test)]
 mod tests;
@@ -61,7 +61,7 @@ fn any_is(texts: &[String], text: &str) -> bool
 
 /// The requester: the tokens that it submits, its principal, and whether that is ignored.
 #[derive(Clone, Copy)]
-struct Asker<'a> {
+struct Requester<'a> {
     tokens: &'a [String],
     principal: Option<&'a str>,
     ignore_principal: bool,
@@ -75,28 +75,28 @@ fn is_of(lock: &DavLock, principal: Option<&str>, ignore_principal: bool) -> boo
 }
 
 // Whether the requester holds a lock.
-fn is_held(lock: &DavLock, who: Asker<'_>) -> bool
-    ensures { result ≡ is_held (asker_in who.entry) lock.now }
+fn is_held(lock: &DavLock, who: Requester<'_>) -> bool
+    ensures { result ≡ is_held (requester_in who.entry) lock.now }
 {
     has_token(who.tokens, &lock.token) && is_of(lock, who.principal, who.ignore_principal)
 }
 
 // Whether the requester holds some lock that covers a path.
-fn any_held(locks: &[DavLock], path: &DavPath, who: Asker<'_>) -> bool
-    ensures { result ≡ list_any (λ l. covers l (names path.now) && is_held (asker_in who.entry) l) locks.now }
+fn any_held(locks: &[DavLock], path: &DavPath, who: Requester<'_>) -> bool
+    ensures { result ≡ list_any (λ l. covers l (names path.now) && is_held (requester_in who.entry) l) locks.now }
 {
     locks.iter().any(|l| covers(l, path) && is_held(l, who))
 }
 
 // Whether a lock conflicts; `some_held` says whether the requester holds some lock that covers the path.
-fn is_in_the_way(
+fn conflicts(
     lock: &DavLock,
     path: &DavPath,
-    who: Asker<'_>,
+    who: Requester<'_>,
     deep: bool,
     some_held: bool,
 ) -> bool
-    ensures { result ≡ (not (is_held (asker_in who.entry) lock.now) && ((covers lock.now (names path.now) && (not lock.now.shared || not some_held)) || (deep && is_at_or_below (names path.now) (names lock.now.path)))) }
+    ensures { result ≡ (not (is_held (requester_in who.entry) lock.now) && ((covers lock.now (names path.now) && (not lock.now.shared || not some_held)) || (deep && is_at_or_below (names path.now) (names lock.now.path)))) }
 {
     !is_held(lock, who)
         && (covers(lock, path) && (!lock.shared || !some_held)
@@ -104,31 +104,31 @@ fn is_in_the_way(
 }
 
 // The place of the first lock that conflicts.
-fn place_in_the_way(
+fn conflict_place(
     locks: &[DavLock],
     path: &DavPath,
-    who: Asker<'_>,
+    who: Requester<'_>,
     deep: bool,
     some_held: bool,
 ) -> Option<usize>
-    ensures { result ≡ position (λ l. not (is_held (asker_in who.entry) l) && ((covers l (names path.now) && (not l.shared || not some_held)) || (deep && is_at_or_below (names path.now) (names l.path)))) locks.now }
+    ensures { result ≡ position (λ l. not (is_held (requester_in who.entry) l) && ((covers l (names path.now) && (not l.shared || not some_held)) || (deep && is_at_or_below (names path.now) (names l.path)))) locks.now }
 {
     locks
         .iter()
-        .position(|l| is_in_the_way(l, path, who, deep, some_held))
+        .position(|l| conflicts(l, path, who, deep, some_held))
 }
 
 // A lock that conflicts; `None` where the path is free.
 fn conflict_in<'a>(
     locks: &'a [DavLock],
     path: &DavPath,
-    who: Asker<'_>,
+    who: Requester<'_>,
     deep: bool,
 ) -> Option<&'a DavLock>
-    ensures { MatchOption result (is_free_for deep (asker_in who.entry) (names path.now) locks.now ≡ true) (λ l. Contains locks.now l.now × (conflicts deep (asker_in who.entry) (names path.now) locks.now l.now ≡ true)) }
+    ensures { MatchOption result (is_free_for deep (requester_in who.entry) (names path.now) locks.now ≡ true) (λ l. Contains locks.now l.now × (conflicts deep (requester_in who.entry) (names path.now) locks.now l.now ≡ true)) }
 {
     let some_held = any_held(locks, path, who);
-    match place_in_the_way(locks, path, who, deep, some_held) {
+    match conflict_place(locks, path, who, deep, some_held) {
         None => None,
         Some(i) => Some(&locks[i]),
     }
@@ -138,10 +138,10 @@ fn conflict_in<'a>(
 fn check_in<'a>(
     locks: &'a [DavLock],
     path: &DavPath,
-    who: Asker<'_>,
+    who: Requester<'_>,
     deep: bool,
 ) -> Result<(), &'a DavLock>
-    ensures { Checks deep (asker_in who.entry) (names path.now) locks.now (lent result) }
+    ensures { Checks deep (requester_in who.entry) (names path.now) locks.now (lent result) }
 {
     match conflict_in(locks, path, who, deep) {
         None => Ok(()),
@@ -300,6 +300,7 @@ fn refresh_in(
     requires { IfSome timeout (λ seconds. now + seconds ≤ max_u64) }
     ensures ok { IfOk result (λ lock. (option_map (refreshed_lock timeout now) (named_lock token.now (names path.now) locks.old.items) ≡ Some lock) × (refreshed token.now (names path.now) timeout now locks.old.items ≡ Some locks.new.items)) }
     ensures err { IfErr result (λ e. IsRefusedRefresh e (named_lock token.now (names path.now) locks.old.items)) }
+    ensures memory { IsErrOf result RefreshRefusal.Memory → IsSome (named_lock token.now (names path.now) locks.old.items) }
     ensures same { OnErr result (locks.new.items ≡ locks.old.items) }
 {
     let Some(i) = named_place(locks, path, token) else {
@@ -331,7 +332,7 @@ fn push_covering(
 }
 
 // Copies of the locks that cover a path, those on the shortest path first.
-fn covering(alloc: Global, locks: &[DavLock], path: &DavPath) -> Result<Vec<DavLock>, NoMemory>
+fn discover_in(alloc: Global, locks: &[DavLock], path: &DavPath) -> Result<Vec<DavLock>, NoMemory>
     ensures { IfOk result (λ found. found.items ≡ discovered (names path.now) locks.now) }
 {
     let mut found = Vec::new(alloc);
@@ -406,7 +407,7 @@ impl DavLockSystem for MemLs {
         deep: bool,
         tokens: &[String],
     ) -> Result<(), &DavLock> {
-        let who = Asker {
+        let who = Requester {
             tokens,
             principal,
             ignore_principal,
@@ -415,7 +416,7 @@ impl DavLockSystem for MemLs {
     }
 
     fn discover(&self, alloc: Global, path: &DavPath) -> Result<Vec<DavLock>, NoMemory> {
-        covering(alloc, &self.locks, path)
+        discover_in(alloc, &self.locks, path)
     }
 
     fn delete(&mut self, path: &DavPath) -> Result<(), ()> {

@@ -135,7 +135,7 @@ fn compare_segments(mut segments: Segments<'_>, names: &[Name]) -> Ordering
 }
 
 // The names that follow the segments; `None` where the names don't begin with the segments.
-fn rest_behind<'a>(mut segments: Segments<'_>, names: &'a [Name]) -> Option<&'a [Name]>
+fn rest_after<'a>(mut segments: Segments<'_>, names: &'a [Name]) -> Option<&'a [Name]>
     ensures { option_copied result ≡ rest_after (names_left segments.entry) names.now }
 {
     let Some(x) = segments.next() else {
@@ -145,7 +145,7 @@ fn rest_behind<'a>(mut segments: Segments<'_>, names: &'a [Name]) -> Option<&'a 
         [] => None,
         [y, ys @ ..] => {
             if y.is(x) {
-                rest_behind(segments, ys)
+                rest_after(segments, ys)
             } else {
                 None
             }
@@ -248,7 +248,7 @@ impl Names {
     pub fn are_at_or_below(&self, path: &DavPath) -> bool
         ensures { result ≡ is_at_or_below (names path.now) self.now }
     {
-        rest_behind(path.segments(), &self.names).is_some()
+        rest_after(path.segments(), &self.names).is_some()
     }
 
     /// Whether these are the names of the folder, and then this one name.
@@ -262,7 +262,7 @@ impl Names {
     pub fn name_below(&self, path: &DavPath) -> Option<&Name>
         ensures { option_copied result ≡ only_name (rest_after (names path.now) self.now) }
     {
-        match rest_behind(path.segments(), &self.names)? {
+        match rest_after(path.segments(), &self.names)? {
             [] => None,
             [name] => Some(name),
             [_, _, ..] => None,
@@ -271,7 +271,7 @@ impl Names {
 
     /// The names with those of `from` at the start replaced by those of `to`; `None` where they don't begin with
     /// those of `from`.
-    pub fn grafted(
+    pub fn graft(
         &self,
         alloc: Global,
         from: &DavPath,
@@ -279,7 +279,7 @@ impl Names {
     ) -> Result<Option<Names>, NoMemory>
         ensures { IfOk result (λ ns. ns ≡ option_map (λ rest. names to.now ++ rest) (rest_after (names from.now) self.now)) }
     {
-        let Some(rest) = rest_behind(from.segments(), &self.names) else {
+        let Some(rest) = rest_after(from.segments(), &self.names) else {
             return Ok(None);
         };
         let mut names = Names::of(alloc, to)?.names;

@@ -35,7 +35,7 @@ pub struct Node {
 impl Model for Node {
     ghost use Rattle.std.specs.Prelude.{◌≤◌};
     ghost use Rattle.dav_core.specs.World.{Node as Seen, last_moment};
-    ghost use Rattle.dav_store.specs.NodeCode.{coded_node};
+    ghost use Rattle.dav_core.specs.WorldCode.{coded_node};
 
     ghost Value = { Seen };
 
@@ -90,7 +90,12 @@ fn bytes_in(content: &Content) -> &[u8]
 }
 
 // The bytes with others written over them from a place on; a gap is filled with zeros.
-fn spliced(alloc: Global, bytes: &[u8], place: usize, chunk: &[u8]) -> Result<Vec<u8>, NoMemory>
+fn bytes_after_write(
+    alloc: Global,
+    bytes: &[u8],
+    place: usize,
+    chunk: &[u8],
+) -> Result<Vec<u8>, NoMemory>
     requires some { chunk.now ≢ [] }
     requires fits { place + length chunk.now ≤ max_file_len }
     ensures { IfOk result (λ v. v.items ≡ splice bytes.now place chunk.now) }
@@ -98,8 +103,8 @@ fn spliced(alloc: Global, bytes: &[u8], place: usize, chunk: &[u8]) -> Result<Ve
     let mut new = Vec::from_slice(alloc, &bytes[..place.min(bytes.len())])?;
     new.resize(place, 0)?;
     new.extend_from_slice(chunk)?;
-    let behind = (place + chunk.len()).min(bytes.len());
-    new.extend_from_slice(&bytes[behind..])?;
+    let end = (place + chunk.len()).min(bytes.len());
+    new.extend_from_slice(&bytes[end..])?;
     Ok(new)
 }
 
@@ -156,7 +161,7 @@ impl Node {
     }
 
     /// The change number under which it was created.
-    pub fn made(&self) -> u64
+    pub fn creation_number(&self) -> u64
         ensures { result ≡ self.now.made }
     {
         self.made
@@ -223,7 +228,7 @@ impl Node {
         ensures ok { OnOk result (self.new ≡ written place chunk.now number now self.old) }
         ensures err { OnErr result (self.new ≡ self.old) }
     {
-        let bytes = spliced(alloc, self.bytes(), place, chunk)?;
+        let bytes = bytes_after_write(alloc, self.bytes(), place, chunk)?;
         self.content = Content::File(Bytes::from_vec(bytes)?);
         self.number = number;
         self.modified = now;

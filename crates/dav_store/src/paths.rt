@@ -26,7 +26,7 @@ fn compare(mut a: Segments<'_>, mut b: Segments<'_>) -> Ordering
 }
 
 // The segments that follow those of the front; `None` where the path doesn't begin with the front.
-fn rest_behind<'a>(mut front: Segments<'_>, mut path: Segments<'a>) -> Option<Segments<'a>>
+fn rest_after<'a>(mut front: Segments<'_>, mut path: Segments<'a>) -> Option<Segments<'a>>
     ensures { option_map names_left result ≡ rest_after (names_left front.entry) (names_left path.entry) }
 {
     let Some(x) = front.next() else {
@@ -36,7 +36,7 @@ fn rest_behind<'a>(mut front: Segments<'_>, mut path: Segments<'a>) -> Option<Se
         return None;
     };
     match x.cmp(&y) {
-        Ordering::Equal => rest_behind(front, path),
+        Ordering::Equal => rest_after(front, path),
         Ordering::Less => None,
         Ordering::Greater => None,
     }
@@ -105,14 +105,14 @@ pub fn is_same(a: &DavPath, b: &DavPath) -> bool
 pub fn is_at_or_below(front: &DavPath, path: &DavPath) -> bool
     ensures { result ≡ is_at_or_below (names front.now) (names path.now) }
 {
-    rest_behind(front.segments(), path.segments()).is_some()
+    rest_after(front.segments(), path.segments()).is_some()
 }
 
 /// Whether the path is below the front.
 pub fn is_below(front: &DavPath, path: &DavPath) -> bool
     ensures { result ≡ is_below (names front.now) (names path.now) }
 {
-    match rest_behind(front.segments(), path.segments()) {
+    match rest_after(front.segments(), path.segments()) {
         Some(mut rest) => rest.next().is_some(),
         None => false,
     }

@@ -200,7 +200,7 @@ fn prefix_in(xml: &Option<Element>) -> Result<Option<String>, NoMemory>
 }
 
 // A stored property as it is returned to the caller, with its element or without.
-fn shown(
+fn listed_property(
     alloc: Global,
     key: &Key,
     xml: &Option<Element>,
@@ -231,7 +231,7 @@ fn list(
 {
     let mut list = Vec::new(alloc);
     for entry in entries {
-        list.push(shown(alloc, &entry.0, &entry.1, content)?)?;
+        list.push(listed_property(alloc, &entry.0, &entry.1, content)?)?;
     }
     Ok(list)
 }

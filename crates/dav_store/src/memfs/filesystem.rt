@@ -1,5 +1,8 @@
-//! `MemFs` as a `DavFileSystem`: each call is answered as it means.
-use super::{MemEntry, MemFile, MemFs};
+//! `MemFs` as a `DavFileSystem`: each call is answered as it means. The tests of its rules come first, in their order,
+//! and only then is memory allocated.
+use super::{MemEntry, MemFile, MemFs, has_members, list, place_for, properties_after};
+use crate::node::Node;
+use crate::{entries, paths};
 use bytes::{Buf, Bytes};
 use dav_core::davpath::DavPath;
 use dav_core::element::Element;
@@ -25,7 +28,6 @@ impl DavDirEntry for MemEntry {
     }
 }
 
-#[tactic(auto, using(crate::proofs::AskingLemmas::asks_open, crate::proofs::AskingLemmas::asks_read_dir, crate::proofs::AskingLemmas::asks_entry_metadata, crate::proofs::AskingLemmas::asks_metadata, crate::proofs::AskingLemmas::asks_create_dir, crate::proofs::AskingLemmas::asks_remove_dir, crate::proofs::AskingLemmas::asks_remove_file, crate::proofs::AskingLemmas::asks_rename, crate::proofs::AskingLemmas::asks_copy, crate::proofs::AskingLemmas::asks_patch_props, crate::proofs::AskingLemmas::asks_get_props, crate::proofs::AskingLemmas::asks_get_prop, crate::proofs::AskingLemmas::asks_read_bytes, crate::proofs::AskingLemmas::asks_write_bytes, crate::proofs::AskingLemmas::asks_seek, crate::proofs::AskingLemmas::asks_flush, crate::proofs::AskingLemmas::asks_file_metadata, crate::proofs::AskingLemmas::asks_get_quota, crate::proofs::AskingLemmas::asks_set_accessed, crate::proofs::AskingLemmas::asks_set_modified, crate::proofs::AskingLemmas::asks_have_props))]
 impl DavFileSystem for MemFs {
     type File = MemFile;
 
@@ -44,7 +46,11 @@ impl DavFileSystem for MemFs {
         options: &OpenOptions,
         now: u64,
     ) -> FsResult<MemFile> {
-        MemFs::open(self, alloc, path, options, now)
+        if entries::node_at(&self.entries, path).is_some() {
+            self.open_found(path, options, now)
+        } else {
+            self.open_missing(alloc, path, options, now)
+        }
     }
 
     fn read_dir(
@@ -53,35 +59,133 @@ impl DavFileSystem for MemFs {
         path: &DavPath,
         _meta: ReadDirMeta,
     ) -> FsResult<Vec<MemEntry>> {
-        MemFs::read_dir(self, alloc, path)
+        if entries::node_at(&self.entries, path).is_none() {
+            return Err(FsError::NotFound);
+        }
+        if entries::is_file(&self.entries, path) {
+            return Err(FsError::Forbidden);
+        }
+        match list(alloc, &self.entries, path) {
+            Ok(list) => Ok(list),
+            Err(_) => {
+                self.short = true;
+                Err(FsError::InsufficientStorage)
+            }
+        }
     }
 
     fn entry_metadata(&mut self, entry: &MemEntry) -> FsResult<DavMetaData> {
-        MemFs::entry_metadata(self, entry)
+        match entries::member_at(&self.entries, &entry.folder, &entry.name) {
+            Some(node) => Ok(node.metadata()),
+            None => Err(FsError::NotFound),
+        }
     }
 
     fn metadata(&mut self, path: &DavPath) -> FsResult<DavMetaData> {
-        MemFs::metadata(self, path)
+        match entries::node_at(&self.entries, path) {
+            Some(node) => Ok(node.metadata()),
+            None => Err(FsError::NotFound),
+        }
     }
 
     fn create_dir(&mut self, alloc: Global, path: &DavPath, now: u64) -> FsResult<()> {
-        MemFs::create_dir(self, alloc, path, now)
+        if entries::node_at(&self.entries, path).is_some() {
+            return Err(FsError::Exists);
+        }
+        if !entries::has_folder(&self.entries, path) {
+            return Err(FsError::NotFound);
+        }
+        if self.next == u64::MAX {
+            return Err(FsError::GeneralFailure);
+        }
+        let node = Node::new_folder(alloc, self.next, now);
+        if let Err(_) = entries::add_node(alloc, &mut self.entries, path, node, now) {
+            self.short = true;
+            return Err(FsError::InsufficientStorage);
+        }
+        self.next += 1;
+        Ok(())
     }
 
     fn remove_dir(&mut self, path: &DavPath, now: u64) -> FsResult<()> {
-        MemFs::remove_dir(self, path, now)
+        if paths::is_root(path) {
+            return Err(FsError::Forbidden);
+        }
+        if entries::node_at(&self.entries, path).is_none() {
+            return Err(FsError::NotFound);
+        }
+        if entries::is_file(&self.entries, path) {
+            return Err(FsError::Forbidden);
+        }
+        if has_members(&self.entries, path) {
+            return Err(FsError::Exists);
+        }
+        entries::prune(&mut self.entries, path);
+        entries::touch_folder(&mut self.entries, path, now);
+        Ok(())
     }
 
     fn remove_file(&mut self, path: &DavPath, now: u64) -> FsResult<()> {
-        MemFs::remove_file(self, path, now)
+        if entries::node_at(&self.entries, path).is_none() {
+            return Err(FsError::NotFound);
+        }
+        if entries::is_folder(&self.entries, path) {
+            return Err(FsError::Forbidden);
+        }
+        entries::prune(&mut self.entries, path);
+        entries::touch_folder(&mut self.entries, path, now);
+        Ok(())
     }
 
     fn rename(&mut self, alloc: Global, from: &DavPath, to: &DavPath, now: u64) -> FsResult<()> {
-        MemFs::rename(self, alloc, from, to, now)
+        if paths::is_root(from) || paths::is_root(to) {
+            return Err(FsError::Forbidden);
+        }
+        if entries::node_at(&self.entries, from).is_none() {
+            return Err(FsError::NotFound);
+        }
+        if paths::is_same(from, to) {
+            return Ok(());
+        }
+        if paths::is_below(from, to) {
+            return Err(FsError::Forbidden);
+        }
+        if !entries::has_folder(&self.entries, to) {
+            return Err(FsError::NotFound);
+        }
+        if entries::is_folder(&self.entries, to) && has_members(&self.entries, to) {
+            return Err(FsError::Exists);
+        }
+        if let Err(_) = entries::move_nodes(alloc, &mut self.entries, from, to) {
+            self.short = true;
+            return Err(FsError::InsufficientStorage);
+        }
+        entries::touch_folder(&mut self.entries, to, now);
+        entries::touch_folder(&mut self.entries, from, now);
+        Ok(())
     }
 
     fn copy(&mut self, alloc: Global, from: &DavPath, to: &DavPath, now: u64) -> FsResult<()> {
-        MemFs::copy(self, alloc, from, to, now)
+        let Some(source) = entries::node_at(&self.entries, from) else {
+            return Err(FsError::NotFound);
+        };
+        if source.is_folder() || paths::is_same(from, to) {
+            return Err(FsError::Forbidden);
+        }
+        if entries::is_folder(&self.entries, to) {
+            return Err(FsError::Forbidden);
+        }
+        if !entries::has_folder(&self.entries, to) {
+            return Err(FsError::NotFound);
+        }
+        if self.next == u64::MAX {
+            return Err(FsError::GeneralFailure);
+        }
+        let Ok(copy) = source.copy(self.next, now) else {
+            self.short = true;
+            return Err(FsError::InsufficientStorage);
+        };
+        self.put_copy(alloc, to, copy, now)
     }
 
     fn have_props(&mut self, _path: &DavPath) -> bool {
@@ -94,7 +198,15 @@ impl DavFileSystem for MemFs {
         path: &DavPath,
         patches: Vec<(bool, DavProp)>,
     ) -> FsResult<Vec<(StatusCode, DavProp)>> {
-        MemFs::patch_props(self, alloc, path, patches)
+        let Some(node) = entries::node_at(&self.entries, path) else {
+            return Err(FsError::NotFound);
+        };
+        let Ok((properties, answers)) = properties_after(alloc, node.properties(), patches) else {
+            self.short = true;
+            return Err(FsError::InsufficientStorage);
+        };
+        entries::set_properties_at(&mut self.entries, path, properties);
+        Ok(answers)
     }
 
     fn get_props(
@@ -103,7 +215,14 @@ impl DavFileSystem for MemFs {
         path: &DavPath,
         content: bool,
     ) -> FsResult<Vec<DavProp>> {
-        MemFs::get_props(self, alloc, path, content)
+        let Some(node) = entries::node_at(&self.entries, path) else {
+            return Err(FsError::NotFound);
+        };
+        let Ok(list) = node.properties().list(alloc, content) else {
+            self.short = true;
+            return Err(FsError::InsufficientStorage);
+        };
+        Ok(list)
     }
 
     fn get_prop(
@@ -112,7 +231,20 @@ impl DavFileSystem for MemFs {
         path: &DavPath,
         property: &DavProp,
     ) -> FsResult<Element> {
-        MemFs::get_prop(self, path, property)
+        let Some(node) = entries::node_at(&self.entries, path) else {
+            return Err(FsError::NotFound);
+        };
+        let Some(stored) = node.properties().get(property) else {
+            return Err(FsError::NotFound);
+        };
+        let Some(xml) = stored else {
+            return Err(FsError::NotFound);
+        };
+        let Ok(xml) = xml.clone() else {
+            self.short = true;
+            return Err(FsError::InsufficientStorage);
+        };
+        Ok(xml)
     }
 
     fn get_quota(&mut self) -> FsResult<(u64, Option<u64>)> {
@@ -128,7 +260,18 @@ impl DavFileSystem for MemFs {
     }
 
     fn read_bytes(&mut self, _alloc: Global, file: &mut MemFile, count: usize) -> FsResult<Bytes> {
-        MemFs::read_bytes(self, file, count)
+        let Some(node) = entries::file_made_with(&self.entries, file.made) else {
+            return Err(FsError::NotFound);
+        };
+        if !file.reads {
+            return Err(FsError::Forbidden);
+        }
+        let Ok(chunk) = node.read(file.position, count) else {
+            self.short = true;
+            return Err(FsError::InsufficientStorage);
+        };
+        file.position += chunk.len() as u64;
+        Ok(chunk)
     }
 
     fn write_bytes(
@@ -138,29 +281,52 @@ impl DavFileSystem for MemFs {
         bytes: Bytes,
         now: u64,
     ) -> FsResult<()> {
-        MemFs::write_bytes(self, alloc, file, bytes.as_slice(), now)
+        self.write_chunk(alloc, file, bytes.as_slice(), now)
     }
 
     fn write_buf<B: Buf + Drop>(
         &mut self,
         alloc: Global,
         file: &mut MemFile,
-        buf: B,
+        mut buf: B,
         now: u64,
     ) -> FsResult<()> {
-        MemFs::write_buf(self, alloc, file, buf, now)
+        let len = buf.remaining();
+        if let Some(e) = self.write_refusal(file, len) {
+            return Err(e);
+        }
+        let Ok(chunk) = buf.copy_to_bytes(alloc, len) else {
+            self.short = true;
+            return Err(FsError::InsufficientStorage);
+        };
+        self.write_chunk(alloc, file, chunk.as_slice(), now)
     }
 
     fn seek(&mut self, file: &mut MemFile, to: SeekFrom) -> FsResult<u64> {
-        MemFs::seek(self, file, to)
+        let Some(node) = entries::file_made_with(&self.entries, file.made) else {
+            return Err(FsError::NotFound);
+        };
+        match place_for(to, file.position, node.bytes().len() as u64) {
+            Some(place) => {
+                file.position = place;
+                Ok(place)
+            }
+            None => Err(FsError::GeneralFailure),
+        }
     }
 
     fn flush(&mut self, file: &mut MemFile) -> FsResult<()> {
-        MemFs::flush(self, file)
+        match entries::file_made_with(&self.entries, file.made) {
+            Some(_) => Ok(()),
+            None => Err(FsError::NotFound),
+        }
     }
 
     fn file_metadata(&mut self, file: &MemFile) -> FsResult<DavMetaData> {
-        MemFs::file_metadata(self, file)
+        match entries::file_made_with(&self.entries, file.made) {
+            Some(node) => Ok(node.metadata()),
+            None => Err(FsError::NotFound),
+        }
     }
 
     fn was_short(&self) -> bool {

@@ -2,12 +2,16 @@
 //! calls.
 //!
 //! A line `# title` begins a new store. Each other line is a call and, after ` -> `, its answer: `ok`, the name of an
-//! error, or what the call returns. `open` opens the one file that `write`, `read` and the like use; a folder in a
-//! listing ends in a slash.
+//! error, or what the call returns. `open` opens the one file that `write`, `buffer` and the like use; a folder in a
+//! listing ends in a slash. A property is written by its name, after a colon where it has no namespace, and `set` stores
+//! one without an element where its value is missing. `properties` lists them with their elements, as `name=value`, and
+//! `names` without.
 ghost use Rattle.std.specs.Prelude.{◌<◌};
 
 use super::*;
-use dav_core::fs::{DavDirEntry, DavFileSystem, ReadDirMeta};
+use bytes::Bytes;
+use dav_core::element::Element;
+use dav_core::fs::{DavDirEntry, DavFileSystem, DavMetaData, ReadDirMeta};
 use std::mem;
 use std::process::Abort;
 use std::test::Fail;
@@ -56,15 +60,67 @@ list /f -> a
 # a copy has the bytes and the dead properties
 open /f read,create,write 1 -> ok
 write one 1 -> ok
-set /f -> 200 foo without xml
-properties /f -> foo
+set /f foo v -> 200 foo without xml
+properties /f -> foo=v
 copy /f /g 2 -> ok
-property /g -> as it was set
+property /g foo v -> as it was set
 metadata /g -> len 3, number 3, created 2, modified 2
-unset /f -> 200 foo without xml
-property /f -> NotFound
+unset /f foo -> 200 foo without xml
+property /f foo -> NotFound
 bytes /g -> one
 copy /f /f 3 -> Forbidden
+# a file and its properties, from its creation to its removal
+open /f read,create,write 1 -> ok
+write one 2 -> ok
+buffer two 3 -> ok
+bytes /f -> onetwo
+metadata /f -> len 6, number 3, created 1, modified 3
+set /f b two -> 200 b without xml
+set /f a one -> 200 a without xml
+set /f :c three -> 200 c without xml
+properties /f -> c=three a=one b=two
+names /f -> c a b
+property /f a one -> as it was set
+property /f :a one -> NotFound
+set /f a first -> 200 a without xml
+property /f a first -> as it was set
+unset /f b -> 200 b without xml
+unset /f b -> 200 b without xml
+property /f b -> NotFound
+set /f d -> 200 d without xml
+property /f d -> NotFound
+properties /f -> c=three a=first d
+metadata /f -> len 6, number 3, created 1, modified 3
+copy /f /g 4 -> ok
+metadata /g -> len 6, number 4, created 4, modified 4
+bytes /g -> onetwo
+properties /g -> c=three a=first d
+names /g -> c a d
+set /g a other -> 200 a without xml
+property /g a other -> as it was set
+property /f a first -> as it was set
+rename /f /h 5 -> ok
+metadata /h -> len 6, number 3, created 1, modified 3
+properties /h -> c=three a=first d
+property /h :c three -> as it was set
+properties /f -> NotFound
+names /f -> NotFound
+property /f a -> NotFound
+set /f a one -> NotFound
+write x 6 -> ok
+metadata /h -> len 7, number 5, created 1, modified 6
+properties /h -> c=three a=first d
+list / -> g h
+entry 1 -> len 7, number 5, created 1, modified 6
+remove /h 7 -> ok
+entry 1 -> NotFound
+entry 0 -> len 6, number 4, created 4, modified 4
+properties /h -> NotFound
+unset /h a -> NotFound
+open /h read,create,write 8 -> ok
+entry 1 -> len 0, number 6, created 8, modified 8
+properties /h ->
+property /h a -> NotFound
 # no number is left for the file
 next 18446744073709551615 -> ok
 open /f read,create,write 1 -> GeneralFailure
@@ -94,13 +150,12 @@ set_modified / 1 -> NotImplemented
 link / -> folder, number 0, created 0, modified 0
 "##;
 
-// The store that rows are played on, with one open file, the entries that were listed last, and a property.
+// The store that rows are played on, with one open file and the entries that were listed last.
 #[derive(Drop)]
 struct Played<F: DavFileSystem> {
     fs: F,
     file: Option<F::File>,
     entries: Vec<F::Entry>,
-    property: DavProp,
 }
 
 // A row: the name of a call and its arguments.
@@ -187,7 +242,8 @@ impl<F: DavFileSystem> Played<F> {
             "metadata" | "link" | "entry" => self.metadata(alloc, row),
             "list" => self.list(alloc, row),
             "set" | "unset" => self.patch(alloc, row),
-            "properties" | "property" => self.properties(alloc, row),
+            "properties" | "names" => self.properties(alloc, row),
+            "property" => self.property(alloc, row),
             _ => self.ask(alloc, row),
         }
     }
@@ -301,9 +357,13 @@ impl<F: DavFileSystem> Played<F> {
     }
 
     fn patch(&mut self, alloc: Global, row: Row<'_>) -> FsResult<String> {
-        let at = path(alloc, row[1])?;
-        let patches = patches(alloc, row[0] == "set", &self.property);
-        let patches = patches.map_err(|_| FsError::InsufficientStorage)?;
+        let [call, first, second, third] = row;
+        let at = path(alloc, first)?;
+        let mut patches = Vec::new(alloc);
+        let patch = (call == "set", property(alloc, second, third)?);
+        patches
+            .push(patch)
+            .map_err(|_| FsError::InsufficientStorage)?;
         let answers = self.fs.patch_props(alloc, &at, patches)?;
         match answers.as_slice() {
             [(status, property)] => answered(alloc, *status, property),
@@ -313,15 +373,26 @@ impl<F: DavFileSystem> Played<F> {
 
     fn properties(&mut self, alloc: Global, row: Row<'_>) -> FsResult<String> {
         let at = path(alloc, row[1])?;
-        if row[0] == "properties" {
-            let list = self.fs.get_props(alloc, &at, true)?;
-            return match list.as_slice() {
-                [property] => text(alloc, &property.name),
-                _ => Err(FsError::IsRemote),
-            };
+        let list = self.fs.get_props(alloc, &at, row[0] == "properties")?;
+        let mut names = String::new(alloc);
+        for property in &list {
+            if !names.is_empty() {
+                push(&mut names, " ")?;
+            }
+            push(&mut names, &property.name)?;
+            if let Some(xml) = &property.xml {
+                push(&mut names, "=")?;
+                push(&mut names, value_of(alloc, xml)?.as_str())?;
+            }
         }
-        let found = self.fs.get_prop(alloc, &at, &self.property)?;
-        let is_same = self.property.xml.as_ref() == Some(&found);
+        Ok(names)
+    }
+
+    fn property(&mut self, alloc: Global, row: Row<'_>) -> FsResult<String> {
+        let at = path(alloc, row[1])?;
+        let wanted = property(alloc, row[2], row[3])?;
+        let found = self.fs.get_prop(alloc, &at, &wanted)?;
+        let is_same = wanted.xml.as_ref() == Some(&found);
         text(alloc, if is_same { "as it was set" } else { "another" })
     }
 
@@ -352,15 +423,25 @@ fn place(from: &str, count: &str) -> SeekFrom {
     }
 }
 
-// A list with one change of a property.
-fn patches(
-    alloc: Global,
-    is_set: bool,
-    property: &DavProp,
-) -> Result<Vec<(bool, DavProp)>, NoMemory> {
-    let mut patches = Vec::new(alloc);
-    patches.push((is_set, property.clone()?))?;
-    Ok(patches)
+// The property that a row names, with this value; without an element where the value is empty.
+fn property(alloc: Global, name: &str, value: &str) -> FsResult<DavProp> {
+    let (namespace, name) = match name.strip_prefix(':') {
+        Some(name) => ("", name),
+        None => ("urn:n", name),
+    };
+    let property = DavProp::new(alloc, name, "n", namespace, value);
+    let mut property = property.map_err(|_| FsError::InsufficientStorage)?;
+    if value.is_empty() {
+        property.xml = None;
+    }
+    Ok(property)
+}
+
+// The value in the element of a property.
+fn value_of(alloc: Global, xml: &Element) -> FsResult<String> {
+    let value = xml.get_text(alloc);
+    let value = value.map_err(|_| FsError::InsufficientStorage)?;
+    value.ok_or(FsError::IsRemote)
 }
 
 // The answer to a change of a property, as text.
@@ -380,7 +461,6 @@ fn begun(alloc: Global, next: u64) -> Result<Played<MemFs>, Fail> {
         fs: MemFs::new_at(alloc, next)?,
         file: None,
         entries: Vec::new(alloc),
-        property: DavProp::new(alloc, "foo", "n", "urn:n", "v")?,
     })
 }
 

@@ -1,4 +1,4 @@
-use Rattle.std.proofs.Common.{◌∙◌, List, Some, ap, sym, set}
+use Rattle.std.proofs.Common.{◌∙◌, List, Some, IsSome, ap, subst, sym, refl, set}
 use Rattle.std.specs.Option.{option_map}
 use Rattle.dav_core.specs.Path.{names}
 use Rattle.dav_core.specs.Locks.{Lock, refreshed_lock}
@@ -14,3 +14,8 @@ returns-clause-ok c =
       refreshed_at c.args.token.now (names c.args.path.now) c.args.timeout c.args.now ls c.deref.result.now c.in-Some.i c.index_mut.result.now c.deref.ensures.value c.in-Some.ensures
           ∙ ap (λ l. Some (set ls c.in-Some.i (f l))) (sym c.index_mut.ensures.value) ∙ ap (λ l. Some (set ls c.in-Some.i l)) (sym c.set_timeout-2.ensures),
     )
+
+pub returns-in_default-clone-clause-memory : goal.returns-in_default-clone-clause-memory
+returns-in_default-clone-clause-memory c is =
+    let there = named_lock_at c.args.token.now (names c.args.path.now) c.args.locks.now.items c.deref.result.now c.in-Some.i c.index.result.now c.deref.ensures.value c.in-Some.ensures c.index.ensures in
+    subst IsSome (sym there) refl

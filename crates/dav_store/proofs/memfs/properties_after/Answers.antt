@@ -1,6 +1,6 @@
 use Rattle.std.proofs.Common.{◌∙◌, rules}
 use Rattle.dav_store.proofs.PropertyLemmas.{answers_are}
-use Rattle.dav_store.proofs.memfs.patched.Goals as goal
+use Rattle.dav_store.proofs.memfs.properties_after.Goals as goal
 
 pub returns : goal.returns
 returns c = (

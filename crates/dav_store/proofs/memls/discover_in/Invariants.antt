@@ -2,7 +2,7 @@ use Rattle.std.proofs.Common.{◌≡◌, ◌&&◌, take}
 use Rattle.std.specs.List.{filter, flat_map}
 use Rattle.dav_core.specs.Path.{names, is_same_path, fronts}
 use Rattle.dav_core.specs.Locks.{covers}
-use Rattle.dav_store.proofs.memls.covering.Given as goal
+use Rattle.dav_store.proofs.memls.discover_in.Given as goal
 
 -- the locks on the fronts so far
 abbrev pub invariant-loop-len : goal.invariant-loop-len

@@ -3,8 +3,8 @@ use Rattle.std.specs.List.{filter}
 use Rattle.dav_core.specs.Path.{Path, names, is_same_path}
 use Rattle.dav_core.specs.Locks.{Lock, covers}
 use Rattle.dav_store.proofs.FrontLemmas.{gathered_more, gathered}
-use Rattle.dav_store.proofs.memls.covering.Goals.{else-loop-len-test, then-loop-len-test+in_ok-push_covering+else-len-len-end}
-use Rattle.dav_store.proofs.memls.covering.Goals as goal
+use Rattle.dav_store.proofs.memls.discover_in.Goals.{else-loop-len-test, then-loop-len-test+in_ok-push_covering+else-len-len-end}
+use Rattle.dav_store.proofs.memls.discover_in.Goals as goal
 
 abbrev at_front : Path → List Lock → Path → List Lock
 at_front p ls q = filter (λ m. is_same_path (names m.path) q && covers m p) ls

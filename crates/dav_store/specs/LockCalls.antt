@@ -1,13 +1,13 @@
--- The requester, as a list of locks in memory sees it.
+-- What the calls of a list of locks in memory mean by a requester, and by a token and a path.
 use Rattle.std.specs.Prelude.{◌≡◌, ℕ, List, Option, Some, None, map, string_bytes}
 use Rattle.std.specs.List.{position}
 use Rattle.dav_core.specs.Path.{Path}
 use Rattle.std.specs.Option.{option_copied}
 use Rattle.dav_core.specs.Locks.{Lock, Requester as Seen, requester_of, lock_front, is_named}
-use Rattle.dav_store.specs.declared.memls.Asker.{Asker}
+use Rattle.dav_store.specs.declared.memls.Requester.{Requester}
 
-abbrev pub asker_in : Asker → Seen
-asker_in who = requester_of (map string_bytes who.tokens.now) who.ignore_principal (option_copied who.principal)
+abbrev pub requester_in : Requester → Seen
+requester_in who = requester_of (map string_bytes who.tokens.now) who.ignore_principal (option_copied who.principal)
 
 -- the place in the list of the lock that a token and a path mean; none where they mean none
 abbrev pub IsNamedPlace : List ℕ → Path → List Lock → Option ℕ → Type 0

@@ -2,7 +2,7 @@ use Rattle.std.proofs.Common.{sym, ◌∙◌}
 use Rattle.dav_core.specs.World.{is_file_made_with}
 use Rattle.dav_core.specs.Calls.{written}
 use Rattle.dav_store.proofs.Place.{is_first, none_passes, changed_at, changed_none}
-use Rattle.dav_store.proofs.entries.write_made.Goals as goal
+use Rattle.dav_store.proofs.entries.write_file_made_with.Goals as goal
 
 pub returns-in_ok-write-clause-ok : goal.returns-in_ok-write-clause-ok
 returns-in_ok-write-clause-ok c =
