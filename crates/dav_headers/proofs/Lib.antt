@@ -12,6 +12,8 @@ pub mod OneReading
 pub mod LoopLemmas
 pub mod NumberLemmas
 pub mod RangeLemmas
+pub mod ReadingLemmas
+pub mod TextLemmas
 pub mod TimeoutAgain
 pub mod TimeoutLemmas
 pub mod ValueLemmas

@@ -1,5 +1,5 @@
 -- Laws of headers, which are stated over their grammars.
-use Rattle.std.specs.Prelude.{ℕ, ◌<◌, ◌^◌, Bool, false, List, [], ◌∷◌, ◌≡◌, ◌↔◌, ⊤, Option, Some, All}
+use Rattle.std.specs.Prelude.{ℕ, ◌<◌, ◌^◌, Bool, false, List, [], ◌∷◌, ◌≡◌, ◌↔◌, ⊤, Some, All}
 use Rattle.http_header.specs.FieldValue.{FieldValue, plain_value}
 use Rattle.dav_headers.specs.ETag.{EntityTag, IsStrongMatch}
 use Rattle.dav_headers.specs.ContentRange.{IsContentRange}
@@ -11,6 +11,7 @@ use Rattle.dav_headers.specs.Timeout.{timeout_text, IsTimeout}
 use Rattle.dav_headers.specs.declared.timeout.DavTimeout.TheVariants.{Seconds, Infinite}
 use Rattle.dav_headers.specs.UpdateRange.{update_range_text, IsUpdateRange}
 use Rattle.dav_headers.specs.declared.depth.Depth.{Depth}
+use Rattle.dav_headers.specs.declared.range.ContentRange.{ContentRange}
 use Rattle.dav_headers.specs.declared.timeout.DavTimeout.{DavTimeout}
 use Rattle.dav_headers.specs.declared.range.XUpdateRange.{XUpdateRange}
 use Rattle.dav_headers.specs.declared.range.XUpdateRange.TheVariants.{FromTo, AllFrom, Last, Append}
@@ -75,8 +76,7 @@ OneTagList = (values : List FieldValue) → (a b : TagList) → IsTagList values
 
 abbrev pub OneContentRange : Type 0
 OneContentRange =
-    (values : List FieldValue) → (a b : Option (ℕ × ℕ)) → (l m : Option ℕ)
-    → IsContentRange values a l → IsContentRange values b m → (a ≡ b) × (l ≡ m)
+    (values : List FieldValue) → (a b : ContentRange) → IsContentRange values a → IsContentRange values b → a ≡ b
 
 abbrev pub OneContentLength : Type 0
 OneContentLength = (values : List FieldValue) → (m n : ℕ) → IsContentLength values m → IsContentLength values n → m ≡ n

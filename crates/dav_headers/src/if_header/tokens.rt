@@ -1,7 +1,7 @@
 //! The tokens of an If header, which borrow its bytes.
 ghost use Rattle.std.specs.Prelude.{false, ◌≡◌, ◌<◌, ◌≤◌, ◌==◌, ℕ, List, map, length, Option, option_map, IfSome, IfOk, IsErrOf};
 ghost use Rattle.dav_headers.specs.IfTokens.{Token, Spells};
-ghost use Rattle.dav_headers.specs.IfTokenMachine.{is_blank, is_word_byte, skip, inside_len, split_inside, word_len, word_at, token_at};
+ghost use Rattle.dav_headers.specs.IfTokenMachine.{is_white_space, is_word_byte, skip, inside_len, split_inside, word_len, word_at, token_at};
 ghost use Rattle.dav_headers.specs.IfParts.{part_view};
 
 use crate::errors::HeaderError;
@@ -25,8 +25,8 @@ pub(super) enum Part<'a> {
 }
 
 // Whether a byte is white space: space, tab, CR or LF.
-fn is_blank(b: u8) -> bool
-    ensures { result ≡ is_blank b }
+fn is_white_space(b: u8) -> bool
+    ensures { result ≡ is_white_space b }
 {
     b == b' ' || b == b'\t' || b == b'\r' || b == b'\n'
 }
@@ -43,7 +43,7 @@ fn skip(text: &[u8]) -> &[u8]
     ensures { result.now ≡ skip text.now }
 {
     for (i, b) in text.iter().enumerate() {
-        if !is_blank(*b) {
+        if !is_white_space(*b) {
             return &text[i..];
         }
     }
@@ -57,7 +57,7 @@ fn inside_len(text: &[u8], close: u8) -> Option<usize>
 {
     let mut quoted = false;
     for (i, b) in text.iter().enumerate() {
-        if is_blank(*b) {
+        if is_white_space(*b) {
             return None;
         }
         if *b == close && !quoted {

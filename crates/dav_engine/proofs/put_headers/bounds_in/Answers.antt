@@ -10,4 +10,4 @@ returns-then-is_empty c =
     inl (sym (ap (get_all c.args.headers.now) c.from_static.ensures) ∙ sym c.in_ok-values.ensures ∙ nil_from_length _ none)
 
 pub returns-in-Ok : goal.returns-in-Ok
-returns-in-Ok c = bounds_told _ c.deref.result.now _ _ _ (c.deref.ensures.value ∙ c.in_ok-values.ensures ∙ ap (get_all c.args.headers.now) c.from_static.ensures) c.bounds_of.ensures c.in-Ok.ensures.ok
+returns-in-Ok c = bounds_told _ c.deref.result.now _ _ (c.deref.ensures.value ∙ c.in_ok-values.ensures ∙ ap (get_all c.args.headers.now) c.from_static.ensures) c.bounds_of.ensures c.in-Ok.ensures.reads

@@ -10,8 +10,8 @@ trimmed text =
     take (length rest - suffix_len is_ascii_whitespace rest) rest
 
 -- the list elements, between commas, without OWS around them
-abbrev pub pieces_of : List ℕ → List (List ℕ)
-pieces_of text = map trimmed (slice_split (λ b. b == 44) text)
+abbrev pub elements_of : List ℕ → List (List ℕ)
+elements_of text = map trimmed (slice_split (λ b. b == 44) text)
 
 -- the texts with a comma and a space between them
 abbrev pub joined : List (List ℕ) → List ℕ

@@ -1,7 +1,7 @@
 use Rattle.std.proofs.Common.{◌≡◌, ◌++◌, ◌∷◌, map, drop, string_bytes}
 use Rattle.std.specs.List.{flat_map}
-use Rattle.dav_headers.specs.Pieces.{joined}
-use Rattle.dav_headers.proofs.pieces.joined.Given as goal
+use Rattle.dav_headers.specs.Elements.{joined}
+use Rattle.dav_headers.proofs.elements.joined.Given as goal
 
 abbrev pub invariant-loop-next : goal.invariant-loop-next
 invariant-loop-next l =

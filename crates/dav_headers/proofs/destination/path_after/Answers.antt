@@ -2,7 +2,7 @@ use Rattle.std.proofs.Common.{◌∙◌, sym, lit<}
 use Rattle.std.proofs.lemmas.Str.Pattern.{find_char}
 use Rattle.std.proofs.lemmas.Option.{MatchOption-at_none, MatchOption-at_some}
 use Rattle.dav_headers.proofs.DestinationLemmas.{from_slash_at, from_slash_none}
-use Rattle.dav_headers.proofs.destination.path_behind.Goals as goal
+use Rattle.dav_headers.proofs.destination.path_after.Goals as goal
 
 pub returns-in-Some : goal.returns-in-Some
 returns-in-Some c =

@@ -1,6 +1,6 @@
 //! Lists in the values of headers (RFC 9110, section 5.6.1).
 ghost use Rattle.std.specs.Prelude.{◌≡◌, map, string_bytes, IfOk};
-ghost use Rattle.dav_headers.specs.Pieces.{joined, trimmed};
+ghost use Rattle.dav_headers.specs.Elements.{joined, trimmed};
 
 use crate::errors::NoMemory;
 use std::alloc::Global;
