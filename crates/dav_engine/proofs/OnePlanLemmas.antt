@@ -15,9 +15,7 @@ use Rattle.dav_headers.specs.Length.{IsContentLength}
 use Rattle.dav_headers.specs.UpdateRange.{IsUpdateRange}
 use Rattle.dav_headers.specs.Value.{IsNumber}
 use Rattle.dav_headers.specs.declared.range.ContentRange.{ContentRange}
-use Rattle.dav_headers.proofs.IfLawLemmas.{says_one}
-use Rattle.dav_headers.proofs.LawLemmas.{one_update_range, same_number}
-use Rattle.dav_headers.proofs.OneReading.{one_tag_list, one_content_range, one_content_length}
+use Rattle.dav_headers.proofs.Theorems.{says_one, one_update_range, same_number, one_tag_list, one_content_range, one_content_length}
 use Rattle.dav_engine.specs.declared.put_headers.Bounds.{Bounds}
 use Rattle.dav_engine.specs.declared.put_headers.Bounds.TheVariants.{Unread, Whole, Within}
 use Rattle.dav_engine.specs.declared.request.Body.{Body}

@@ -1,3 +1,4 @@
+pub mod AgainLemmas
 pub mod CutLemmas
 pub mod DestinationLemmas
 pub mod ETagLemmas
@@ -14,6 +15,7 @@ pub mod NumberLemmas
 pub mod RangeLemmas
 pub mod ReadingLemmas
 pub mod TextLemmas
+pub mod Theorems
 pub mod TimeoutAgain
 pub mod TimeoutLemmas
 pub mod ValueLemmas

@@ -98,7 +98,7 @@ length_shown : (l : Option ℕ) → list_all is_visible_or_blank (length_text l)
 length_shown None = refl
 length_shown (Some n) = decimal_visible n
 
-content_range_shown : (b : Option (ℕ × ℕ)) (l : Option ℕ) → list_all is_visible_or_blank (content_range_text b l) ≡ true
+pub content_range_shown : (b : Option (ℕ × ℕ)) (l : Option ℕ) → list_all is_visible_or_blank (content_range_text b l) ≡ true
 content_range_shown None l = both (codes "bytes */") (length_text l) refl (length_shown l)
 content_range_shown (Some (m, n)) l =
     both (codes "bytes ") (decimal m ++ 45 ∷ (decimal n ++ 47 ∷ length_text l)) refl

@@ -121,7 +121,7 @@ never_invalid (Err Invalid) text is h = absurd (h is)
 never_invalid (Err Memory) text is h = refl
 
 -- a text that is written is the text of the only value
-written_text : (v : FieldValue) (text : List ℕ) (P : List ℕ → Type 0) → IsText text → v ≡ plain_value text → P text → IsSomeAnd (only_text (v ∷ [])) P
+pub written_text : (v : FieldValue) (text : List ℕ) (P : List ℕ → Type 0) → IsText text → v ≡ plain_value text → P text → IsSomeAnd (only_text (v ∷ [])) P
 written_text v text P is e h =
     let read : IsSomeAnd (only_text (plain_value text ∷ [])) P = subst (λ o. IsSomeAnd o P) (sym (cond-true _ _ _ (list_all-from_AllPass is_visible_or_blank text is))) h in
     subst (λ w. IsSomeAnd (only_text (w ∷ [])) P) (sym e) read
