@@ -1,5 +1,5 @@
 -- Destinations, languages and tags are read in one way, and lengths and tags that are written are read as the same.
-use Rattle.std.proofs.Common.{◌≡◌, ◌⊎◌, inl, inr, ℕ, ◌<◌, ◌^◌, true, false, List, [], ◌∷◌, ◌++◌, ◌∙◌, Option, Some, None, IsSomeAnd, length, get_or, drop, map, sym, ap, refl, subst, arith, append_assoc}
+use Rattle.std.proofs.Common.{◌≡◌, ◌⊎◌, inl, inr, ℕ, ◌<◌, ◌^◌, true, false, List, [], ◌∷◌, ◌++◌, ◌∙◌, Option, Some, None, IsSomeAnd, length, get_or, drop, sym, ap, refl, subst, arith, append_assoc}
 use Rattle.std.specs.Prelude.{codes, decimal}
 use Rattle.std.specs.Char.{to_ascii_lowercase}
 use Rattle.std.proofs.lemmas.Bool.{cases_Bool, cond-true, cond-false}
@@ -7,7 +7,7 @@ use Rattle.std.proofs.lemmas.List.Elements.{All-cons, All-nil}
 use Rattle.std.proofs.lemmas.List.Sums.{AllPass-from_list_all}
 use Rattle.http_header.specs.FieldValue.{FieldValue, plain_value, is_visible_text}
 use Rattle.http_header.specs.Token.{is_visible_or_blank}
-use Rattle.dav_headers.specs.ContentRange.{IsBounds, IsLength, IsContentRange, IsContentRangeText, content_range_text, length_text}
+use Rattle.dav_headers.specs.ContentRange.{IsLength, IsContentRange, IsContentRangeText, content_range_text, length_text}
 use Rattle.dav_headers.specs.Destination.{IsDestination, IsDestinationText, IsHttp, from_slash}
 use Rattle.dav_headers.specs.ETag.{EntityTag, IsEntityTag, IsETag, IsUnquoted, tag_text}
 use Rattle.dav_headers.specs.Language.{AreLanguages}

@@ -12,7 +12,6 @@ use Rattle.dav_headers.specs.IfWritten.{WrittenItem, written_token, written_tag,
 use Rattle.dav_headers.specs.IfParts.{part_view}
 use Rattle.dav_headers.specs.IfTexts.{condition_view, StepsAs}
 use Rattle.dav_headers.specs.declared.errors.HeaderError.{HeaderError}
-use Rattle.dav_headers.specs.declared.errors.HeaderError.TheVariants.{Invalid}
 use Rattle.dav_headers.specs.declared.if_header.tokens.Part.{Part}
 use Rattle.dav_headers.specs.declared.if_header.written.ConditionText.{ConditionText}
 
@@ -35,7 +34,7 @@ same_list ts l m r s (us, f, some, c) (vs, g, more, d) =
     (ap first front.0 ∙ ap second back.0, back.1)
 
 -- the error that a `?` returns
-pub same_error : {T : Type 0} (r : Result T HeaderError) (y z : HeaderError) → r ≡ Err y → y ≡ z → IsErrOf r Invalid → z ≡ Invalid
+pub same_error : {T : Type 0} {w : HeaderError} (r : Result T HeaderError) (y z : HeaderError) → r ≡ Err y → y ≡ z → IsErrOf r w → z ≡ w
 same_error r y z e f h = cc
 
 -- tokens are at most one list of lists

@@ -1,8 +1,9 @@
 //! The tokens of an If header, which borrow its bytes.
-ghost use Rattle.std.specs.Prelude.{false, ◌≡◌, ◌<◌, ◌≤◌, ◌==◌, ℕ, List, map, length, Option, option_map, IfSome, IfOk, IsErrOf};
+ghost use Rattle.std.specs.Prelude.{false, ◌≡◌, ◌<◌, ◌≤◌, ◌↔◌, List, map, length, option_map, IfSome, IsTrue};
 ghost use Rattle.dav_headers.specs.IfTokens.{Token, Spells};
 ghost use Rattle.dav_headers.specs.IfTokenMachine.{is_white_space, is_word_byte, skip, inside_len, split_inside, word_len, word_at, token_at};
 ghost use Rattle.dav_headers.specs.IfParts.{part_view};
+ghost use Rattle.dav_headers.specs.Value.{ReadsAs};
 
 use crate::errors::HeaderError;
 use std::alloc::Global;
@@ -125,11 +126,27 @@ fn token_at<'a>(text: &'a [u8]) -> Option<(Part<'a>, &'a [u8])>
     }
 }
 
+// Whether a text is made of tokens.
+fn are_tokens(text: &[u8]) -> bool
+    ensures { IsTrue result ↔ (ts : List Token) × Spells text.now ts }
+{
+    let mut rest = skip(text);
+    while !rest.is_empty() {
+        let Some((_part, after)) = token_at(rest) else {
+            return false;
+        };
+        rest = skip(after);
+    }
+    true
+}
+
 /// The tokens of a text; `Invalid` where it isn't made of tokens.
 pub(super) fn parts_of<'a>(alloc: Global, text: &'a [u8]) -> Result<Vec<Part<'a>>, HeaderError>
-    ensures found { IfOk result (λ parts. Spells text.now (map part_view parts.items)) }
-    ensures none { IsErrOf result HeaderError.Invalid → (ts : List Token) → ¬ Spells text.now ts }
+    ensures { ReadsAs (λ parts. map part_view parts.items) Spells text.now result }
 {
+    if !are_tokens(text) {
+        return Err(HeaderError::Invalid);
+    }
     let mut parts = Vec::new(alloc);
     let mut rest = skip(text);
     while !rest.is_empty() {
