@@ -28,7 +28,7 @@ use Rattle.dav_engine.specs.Conditions as spec
 use Rattle.dav_engine.specs.Conditions.{Addressed, AreAddressed, SpeaksOf, while_true, while_false, condition_holds, all_hold, some_holds, item_holds}
 use Rattle.dav_engine.specs.ConditionView.{locks_in, list_of}
 use Rattle.dav_engine.specs.declared.conditional.Addressed as listed
-use Rattle.dav_headers.proofs.LoopLemmas.{drop_turn}
+use Rattle.dav_headers.proofs.Theorems.{drop_turn}
 use Rattle.dav_engine.proofs.Following.{ran_at, follows_done, follows_then, follows_err}
 
 -- ---- items of a list

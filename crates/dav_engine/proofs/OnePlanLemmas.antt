@@ -14,9 +14,8 @@ use Rattle.dav_headers.specs.If.{ConditionList, IsIf, IsIfHeader}
 use Rattle.dav_headers.specs.Length.{IsContentLength}
 use Rattle.dav_headers.specs.UpdateRange.{IsUpdateRange}
 use Rattle.dav_headers.specs.Value.{IsNumber}
-use Rattle.dav_headers.proofs.IfLawLemmas.{says_one}
-use Rattle.dav_headers.proofs.LawLemmas.{one_update_range, same_number}
-use Rattle.dav_headers.proofs.OneReading.{one_tag_list, one_content_range, one_content_length}
+use Rattle.dav_headers.specs.declared.range.ContentRange.{ContentRange}
+use Rattle.dav_headers.proofs.Theorems.{says_one, one_update_range, same_number, one_tag_list, one_content_range, one_content_length}
 use Rattle.dav_engine.specs.declared.put_headers.Bounds.{Bounds}
 use Rattle.dav_engine.specs.declared.put_headers.Bounds.TheVariants.{Unread, Whole, Within}
 use Rattle.dav_engine.specs.declared.request.Body.{Body}
@@ -90,24 +89,30 @@ announced_one headers a b (length, expected, one, two, is) (size, hoped, three, 
     let second = decoded_one IsExpectedLength (get_all headers (codes "x-expected-entity-length")) (expected_one _) expected hoped two four in
     is ∙ ap (λ (x : Option ℕ). option_or x expected) first ∙ ap (option_or size) second ∙ sym also
 
-no_values : (values : List FieldValue) (a : Option (ℕ × ℕ)) (l : Option ℕ) → values ≡ [] → IsContentRange values a l → ⊥
-no_values values a l is h = subst (λ (x : List FieldValue). IsContentRange x a l) is h
+abbrev range_of : Option (ℕ × ℕ) → Option ℕ → ContentRange
+range_of bounds length = record { bounds = bounds; length = length }
+
+no_values : (values : List FieldValue) (r : ContentRange) → values ≡ [] → IsContentRange values r → ⊥
+no_values values r is h = subst (λ (x : List FieldValue). IsContentRange x r) is h
+
+same_bounds : (values : List FieldValue) (q r : ContentRange) → IsContentRange values q → IsContentRange values r → q.bounds ≡ r.bounds
+same_bounds values q r h k = ap (λ (x : ContentRange). x.bounds) (one_content_range values q r h k)
 
 bounds_one : (values : List FieldValue) (a b : Bounds) → TellsBounds values a → TellsBounds values b → a ≡ b
 bounds_one values Unread Unread h k = refl
 bounds_one values Unread Whole (some, none) (inl is) = absurd (some is)
-bounds_one values Unread Whole (some, none) (inr (l, h)) = absurd (none None l h)
-bounds_one values Unread (Within m n) (some, none) (l, h) = absurd (none (Some (m, n)) l h)
+bounds_one values Unread Whole (some, none) (inr (l, h)) = absurd (none (range_of None l) h)
+bounds_one values Unread (Within m n) (some, none) (l, h) = absurd (none (range_of (Some (m, n)) l) h)
 bounds_one values Whole Unread (inl is) (some, none) = absurd (some is)
-bounds_one values Whole Unread (inr (l, h)) (some, none) = absurd (none None l h)
+bounds_one values Whole Unread (inr (l, h)) (some, none) = absurd (none (range_of None l) h)
 bounds_one values Whole Whole h k = refl
-bounds_one values Whole (Within m n) (inl is) (l, k) = absurd (no_values values (Some (m, n)) l is k)
-bounds_one values Whole (Within m n) (inr (l, h)) (k, j) = let same : ◌≡◌ {A = Option (ℕ × ℕ)} None (Some (m, n)) = (one_content_range values None (Some (m, n)) l k h j).0 in absurd (cc)
-bounds_one values (Within m n) Unread (l, h) (some, none) = absurd (none (Some (m, n)) l h)
-bounds_one values (Within m n) Whole (l, h) (inl is) = absurd (no_values values (Some (m, n)) l is h)
-bounds_one values (Within m n) Whole (l, h) (inr (k, j)) = let same : ◌≡◌ {A = Option (ℕ × ℕ)} None (Some (m, n)) = (one_content_range values None (Some (m, n)) k l j h).0 in absurd (cc)
+bounds_one values Whole (Within m n) (inl is) (l, k) = absurd (no_values values (range_of (Some (m, n)) l) is k)
+bounds_one values Whole (Within m n) (inr (l, h)) (k, j) = let same : ◌≡◌ {A = Option (ℕ × ℕ)} None (Some (m, n)) = same_bounds values (range_of None l) (range_of (Some (m, n)) k) h j in absurd (cc)
+bounds_one values (Within m n) Unread (l, h) (some, none) = absurd (none (range_of (Some (m, n)) l) h)
+bounds_one values (Within m n) Whole (l, h) (inl is) = absurd (no_values values (range_of (Some (m, n)) l) is h)
+bounds_one values (Within m n) Whole (l, h) (inr (k, j)) = let same : ◌≡◌ {A = Option (ℕ × ℕ)} None (Some (m, n)) = same_bounds values (range_of None k) (range_of (Some (m, n)) l) j h in absurd (cc)
 bounds_one values (Within m n) (Within r s) (l, h) (k, j) =
-    let same : ◌≡◌ {A = ℕ × ℕ} (m, n) (r, s) = some_one (one_content_range values (Some (m, n)) (Some (r, s)) l k h j).0 in
+    let same : ◌≡◌ {A = ℕ × ℕ} (m, n) (r, s) = some_one (same_bounds values (range_of (Some (m, n)) l) (range_of (Some (r, s)) k) h j) in
     ap (λ (x : ℕ × ℕ). Within x.0 x.1) same
 
 pub one_put_headers : OneReadingOfPut

@@ -5,6 +5,7 @@ use Rattle.http_header.specs.FieldValue.{FieldValue, plain_value}
 use Rattle.dav_headers.specs.ContentRange.{IsContentRange}
 use Rattle.dav_headers.specs.Length.{IsContentLength}
 use Rattle.dav_headers.specs.Value.{IsNumber}
+use Rattle.dav_headers.specs.declared.range.ContentRange.{ContentRange}
 use Rattle.dav_engine.specs.declared.put_headers.Bounds.{Bounds}
 use Rattle.dav_engine.specs.Headers.{Decodes}
 use Rattle.dav_engine.specs.Put.{IsExpectedLength, TellsBounds, bounds_of}
@@ -39,11 +40,11 @@ expected_first values found one v (Ok told) same some is alone read =
     expected_of values v all.0 told (sym same ∙ all.1) (subst (λ (vs : List FieldValue). Decodes IsContentLength vs told) alone read)
 
 -- a range that is read has these bounds
-tells_bounds : (values : List FieldValue) (bounds : Option (ℕ × ℕ)) (length : Option ℕ) → IsContentRange values bounds length → TellsBounds values (bounds_of bounds)
+tells_bounds : (values : List FieldValue) (bounds : Option (ℕ × ℕ)) (length : Option ℕ) → IsContentRange values record { bounds = bounds; length = length } → TellsBounds values (bounds_of bounds)
 tells_bounds values None length is = inr (length, is)
 tells_bounds values (Some (a, b)) length is = (length, is)
 
-pub bounds_told : (values found : List FieldValue) (bounds : Option (ℕ × ℕ)) (length : Option ℕ) (told : Bounds)
-    → found ≡ values → told ≡ bounds_of bounds → IsContentRange found bounds length → TellsBounds values told
-bounds_told values found bounds length told same is range =
-    subst (λ (vs : List FieldValue). TellsBounds vs told) same (subst (λ (b : Bounds). TellsBounds found b) (sym is) (tells_bounds found bounds length range))
+pub bounds_told : (values found : List FieldValue) (range : ContentRange) (told : Bounds)
+    → found ≡ values → told ≡ bounds_of range.bounds → IsContentRange found range → TellsBounds values told
+bounds_told values found range told same is read =
+    subst (λ (vs : List FieldValue). TellsBounds vs told) same (subst (λ (b : Bounds). TellsBounds found b) (sym is) (tells_bounds found range.bounds range.length read))

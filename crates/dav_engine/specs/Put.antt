@@ -17,10 +17,11 @@ use Rattle.dav_core.specs.Handle.{Handle, Opening}
 use Rattle.dav_core.specs.Metadata.{no_opening}
 use Rattle.dav_core.specs.Numbers.{max_u64}
 use Rattle.dav_core.specs.Path.{Path, PathText, names}
-use Rattle.dav_headers.specs.ContentRange.{IsContentRange, NoContentRange}
+use Rattle.dav_headers.specs.ContentRange.{IsContentRange}
 use Rattle.dav_headers.specs.Length.{IsContentLength}
 use Rattle.dav_headers.specs.UpdateRange.{IsUpdateRange}
 use Rattle.dav_headers.specs.Value.{only_text, IsNumber}
+use Rattle.dav_headers.specs.declared.range.ContentRange.{ContentRange}
 use Rattle.dav_headers.specs.declared.range.XUpdateRange.{XUpdateRange}
 use Rattle.dav_headers.specs.declared.range.XUpdateRange.TheVariants.{FromTo, AllFrom, Last, Append}
 use Rattle.dav_engine.specs.declared.put_headers.Bounds.{Bounds}
@@ -64,9 +65,9 @@ IsAnnounced headers announced =
 -- What Content-Range says (RFC 9110, section 14.4): unread where the header is there and is no range; the whole file where
 -- it isn't there, or has no bounds; else the bytes from one place to another.
 abbrev pub TellsBounds : List FieldValue → Bounds → Type 0
-TellsBounds values Unread = ((values ≡ []) → ⊥) × NoContentRange values
-TellsBounds values Whole = (values ≡ []) ⊎ ((length : Option ℕ) × IsContentRange values None length)
-TellsBounds values (Within a b) = (length : Option ℕ) × IsContentRange values (Some (a, b)) length
+TellsBounds values Unread = ((values ≡ []) → ⊥) × ((range : ContentRange) → ¬ IsContentRange values range)
+TellsBounds values Whole = (values ≡ []) ⊎ ((length : Option ℕ) × IsContentRange values record { bounds = None; length = length })
+TellsBounds values (Within a b) = (length : Option ℕ) × IsContentRange values record { bounds = Some (a, b); length = length }
 
 -- the part of a file that a range names
 abbrev pub bounds_of : Option (ℕ × ℕ) → Bounds

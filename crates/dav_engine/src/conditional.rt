@@ -25,10 +25,10 @@ use dav_core::fs::{DavFileSystem, DavMetaData};
 use dav_core::ls::DavLockSystem;
 use dav_core::method::DavMethod;
 use dav_headers::{
-    ETag, ETagList, HeaderError, If, IfCondition, IfItem, IfMatch, IfNoneMatch, IfRange,
+    ETag, ETagList, HeaderError, If, IfCondition, IfItem, IfMatch, IfNoneMatch, IfRange, names,
 };
 use http::StatusCode;
-use http_header::{HeaderMap, HeaderName};
+use http_header::HeaderMap;
 use std::alloc::Global;
 use std::marker::Model;
 use url::Url;
@@ -152,7 +152,7 @@ fn match_in(alloc: Global, headers: &HeaderMap) -> Result<Option<ETagList>, NoMe
     ensures { IfOk result (λ list.
         Decodes IsTagList (get_all headers.now (codes "if-match")) (option_map tag_list list)) }
 {
-    let values = values_of(alloc, headers, HeaderName::from_static("if-match"))?;
+    let values = values_of(alloc, headers, names::IF_MATCH())?;
     match IfMatch::decode(alloc, &values) {
         Ok(list) => Ok(Some(list.0)),
         Err(HeaderError::Invalid) => Ok(None),
@@ -165,7 +165,7 @@ fn none_match_in(alloc: Global, headers: &HeaderMap) -> Result<Option<ETagList>,
     ensures { IfOk result (λ list.
         Decodes IsTagList (get_all headers.now (codes "if-none-match")) (option_map tag_list list)) }
 {
-    let values = values_of(alloc, headers, HeaderName::from_static("if-none-match"))?;
+    let values = values_of(alloc, headers, names::IF_NONE_MATCH())?;
     match IfNoneMatch::decode(alloc, &values) {
         Ok(list) => Ok(Some(list.0)),
         Err(HeaderError::Invalid) => Ok(None),
@@ -248,7 +248,7 @@ fn lists_in(
     ensures { IfOk result (λ lists.
         Decodes (spec.SaysLists request.now.path.prefix (names own.now)) (get_all request.now.headers (codes "if")) (option_map (λ ls. map list_of ls.items) lists)) }
 {
-    let values = values_of(alloc, &request.headers, HeaderName::from_static("if"))?;
+    let values = values_of(alloc, &request.headers, names::IF())?;
     match If::decode(alloc, &values) {
         Ok(header) => Ok(Some(lists_of(alloc, request.path.prefix(), own, header)?)),
         Err(HeaderError::Invalid) => Ok(None),

@@ -24,7 +24,7 @@ use dav_core::ls::DavLockSystem;
 use dav_core::method::DavMethod;
 use dav_headers::XUpdateRange;
 use http::StatusCode;
-use http_header::{HeaderMap, HeaderName, HeaderValue};
+use http_header::{HeaderMap, HeaderValue};
 use std::alloc::Global;
 use std::io::SeekFrom;
 
@@ -213,11 +213,7 @@ fn stored(alloc: Global, found: bool, file: Option<DavMetaData>) -> Result<Reply
 {
     let mut headers = HeaderMap::new(alloc);
     let ranges = HeaderValue::from_static("bytes");
-    set_header(
-        &mut headers,
-        HeaderName::from_static("accept-ranges"),
-        ranges,
-    )?;
+    set_header(&mut headers, http_header::ACCEPT_RANGES, ranges)?;
     if !found {
         set_length(alloc, &mut headers, 0)?;
     }

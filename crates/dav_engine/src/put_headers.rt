@@ -14,7 +14,7 @@ use crate::conditional::Conditions;
 use crate::headers::values_of;
 use crate::request::DavRequest;
 use dav_core::errors::NoMemory;
-use dav_headers::{ContentLength, ContentRange, ContentType, HeaderError, XUpdateRange};
+use dav_headers::{ContentLength, ContentRange, ContentType, HeaderError, XUpdateRange, names};
 use http_header::{HeaderMap, HeaderName, HeaderValue};
 use std::alloc::Global;
 use std::marker::Model;
@@ -67,7 +67,7 @@ fn content_length(alloc: Global, headers: &HeaderMap) -> Result<Option<u64>, NoM
     ensures { IfOk result (λ length.
         Decodes IsContentLength (get_all headers.now (codes "content-length")) length) }
 {
-    let values = values_of(alloc, headers, HeaderName::from_static("content-length"))?;
+    let values = values_of(alloc, headers, names::CONTENT_LENGTH())?;
     decoded(alloc, &values)
 }
 
@@ -112,7 +112,7 @@ fn bounds_in(alloc: Global, headers: &HeaderMap) -> Result<Bounds, NoMemory>
     ensures { IfOk result (λ bounds.
         spec.TellsBounds (get_all headers.now (codes "content-range")) bounds) }
 {
-    let values = values_of(alloc, headers, HeaderName::from_static("content-range"))?;
+    let values = values_of(alloc, headers, names::CONTENT_RANGE())?;
     if values.is_empty() {
         return Ok(Bounds::Whole);
     }
@@ -137,7 +137,7 @@ fn is_partial_update(alloc: Global, headers: &HeaderMap) -> Result<bool, NoMemor
     ensures { IfOk result (λ it.
         it ≡ spec.is_partial_update (get_all headers.now (codes "content-type"))) }
 {
-    let values = values_of(alloc, headers, HeaderName::from_static("content-type"))?;
+    let values = values_of(alloc, headers, names::CONTENT_TYPE())?;
     match ContentType::decode(alloc, &values) {
         Ok(kind) => Ok(kind.0.as_str() == "application/x-sabredav-partialupdate"),
         Err(HeaderError::Invalid) => Ok(false),
@@ -150,7 +150,7 @@ fn update_in(alloc: Global, headers: &HeaderMap) -> Result<Option<XUpdateRange>,
     ensures { IfOk result (λ range.
         Decodes IsUpdateRange (get_all headers.now (codes "x-update-range")) range) }
 {
-    let values = values_of(alloc, headers, HeaderName::from_static("x-update-range"))?;
+    let values = values_of(alloc, headers, names::X_UPDATE_RANGE())?;
     match XUpdateRange::decode(alloc, &values) {
         Ok(range) => Ok(Some(range)),
         Err(_) => Ok(None),

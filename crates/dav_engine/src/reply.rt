@@ -17,6 +17,7 @@ use dav_core::davpath::DavPath;
 use dav_core::element::Element;
 use dav_core::errors::{DavError, NoMemory};
 use dav_core::fs::DavMetaData;
+use dav_headers::names;
 use http::StatusCode;
 use http_header::{HeaderMap, HeaderName, HeaderValue};
 use std::alloc::Global;
@@ -90,7 +91,7 @@ pub fn set_tag(alloc: Global, headers: &mut HeaderMap, number: Option<u64>) -> R
         return Ok(());
     };
     let tag = tag_value(alloc, number)?;
-    set_header(headers, HeaderName::from_static("etag"), tag)
+    set_header(headers, names::ETAG(), tag)
 }
 
 /// Sets the validators of a file: its tag (RFC 9110, section 8.8.3), where it has a number, and when it was last changed
@@ -105,7 +106,7 @@ pub fn set_validators(
 {
     set_tag(alloc, headers, file.number)?;
     let date = date_value(alloc, file.modified)?;
-    set_header(headers, HeaderName::from_static("last-modified"), date)
+    set_header(headers, http_header::LAST_MODIFIED, date)
 }
 
 /// Sets `content-length`: how many bytes the body has (RFC 9110, section 8.6).
@@ -114,7 +115,7 @@ pub fn set_length(alloc: Global, headers: &mut HeaderMap, len: u64) -> Result<()
         ≡ insert headers.old (codes "content-length") (plain_value (decimal len))) }
 {
     let value = HeaderValue::from_u64(alloc, len)?;
-    set_header(headers, HeaderName::from_static("content-length"), value)
+    set_header(headers, names::CONTENT_LENGTH(), value)
 }
 
 /// Sets `content-location`: the text of the path in a URL, with the prefix (RFC 9110, section 8.7).
@@ -124,7 +125,7 @@ pub fn set_location(alloc: Global, headers: &mut HeaderMap, path: &DavPath) -> R
 {
     let text = path.with_prefix().as_url_string(alloc)?;
     let value = HeaderValue::from_string(text).map_err(|_| NoMemory)?;
-    set_header(headers, HeaderName::from_static("content-location"), value)
+    set_header(headers, names::CONTENT_LOCATION(), value)
 }
 
 impl Reply {
@@ -136,7 +137,7 @@ impl Reply {
         let mut headers = HeaderMap::new(alloc);
         if error.must_close() {
             let close = HeaderValue::from_static("close");
-            set_header(&mut headers, HeaderName::from_static("connection"), close)?;
+            set_header(&mut headers, http_header::CONNECTION, close)?;
         }
         set_length(alloc, &mut headers, 0)?;
         Ok(Reply {

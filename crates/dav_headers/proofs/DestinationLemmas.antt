@@ -40,6 +40,6 @@ scheme_without scheme (inl e) = lower_without scheme (codes "http") e (λ i lt f
 scheme_without scheme (inr e) = lower_without scheme (codes "https") e (λ i lt f. grind (arith, nat_tests))
 
 -- the scheme of a URI is what is before its first colon
-pub at_colon : (text x y scheme behind : List ℕ) → IsCut 58 text x y → IsHttp scheme → text ≡ scheme ++ 58 ∷ 47 ∷ 47 ∷ behind → (x ≡ scheme) × (y ≡ 47 ∷ 47 ∷ behind)
-at_colon text x y scheme behind cut http e =
-    cut_one 58 x y scheme (47 ∷ 47 ∷ behind) (sym cut.1 ∙ e) cut.0 (scheme_without scheme http)
+pub at_colon : (text x y scheme after : List ℕ) → IsCut 58 text x y → IsHttp scheme → text ≡ scheme ++ 58 ∷ 47 ∷ 47 ∷ after → (x ≡ scheme) × (y ≡ 47 ∷ 47 ∷ after)
+at_colon text x y scheme after cut http e =
+    cut_one 58 x y scheme (47 ∷ 47 ∷ after) (sym cut.1 ∙ e) cut.0 (scheme_without scheme http)

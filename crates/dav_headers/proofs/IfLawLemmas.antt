@@ -7,7 +7,7 @@ use Rattle.std.proofs.lemmas.List.Elements.{All-nil, All-cons, All-append}
 use Rattle.url.specs.Parser.{Parsed}
 use Rattle.url.specs.Parts.{Parts}
 use Rattle.dav_headers.specs.ETag.{EntityTag, tag_text, IsEntityTag}
-use Rattle.dav_headers.specs.IfTokens.{IsBlank, IsInside, Spells, Token, open_list, close_list, negation, angle, square, word}
+use Rattle.dav_headers.specs.IfTokens.{IsWhiteSpace, IsInside, Spells, Token, open_list, close_list, negation, angle, square, word}
 use Rattle.dav_headers.specs.If.{Item, state_token, entity_tag, Condition, ConditionList, IsItem, AreConditions, IsList, AreLists, IsIf, tokens_in, tokens_of}
 use Rattle.dav_headers.specs.IfWritten.{WrittenItem, written_token, written_tag, WrittenCondition, WrittenList, SaysItem, SaysCondition, SaysResource, SaysList}
 use Rattle.dav_headers.specs.IfLaws.{asks_for}
@@ -39,7 +39,7 @@ same_text false false s t e = (refl, same_inner s t e)
 same_text true false s t e = absurd (never_both s t e)
 same_text false true s t e = absurd (never_both t s (sym e))
 
-pub entity_tag_one : (text : List ℕ) (d e : EntityTag) → IsEntityTag text d.weak d.tag → IsEntityTag text e.weak e.tag → d ≡ e
+pub entity_tag_one : (text : List ℕ) (d e : EntityTag) → IsEntityTag text d → IsEntityTag text e → d ≡ e
 entity_tag_one text d e h k =
     let same = same_text d.weak e.weak d.tag e.tag (sym h.1 ∙ k.1) in
     let first : Bool → EntityTag = λ x. record { weak = x; tag = d.tag } in
@@ -118,12 +118,12 @@ utf8_tokens text ls (ts, spells, are, some) = utf8_lists ts ls are
 
 pub asked_for : (token : List ℕ) → IsInside 62 false token → IsUtf8 token → IsIf (40 ∷ 60 ∷ (token ++ 62 ∷ 41 ∷ [])) (asks_for token ∷ []) × (tokens_of (asks_for token ∷ []) ≡ token ∷ [])
 asked_for token inside utf8 =
-    let blanks = All-nil IsBlank in
-    let last : Spells (41 ∷ []) (close_list ∷ []) = ([], 41 ∷ [], [], blanks, refl, refl, blanks) in
+    let white_spaces = All-nil IsWhiteSpace in
+    let last : Spells (41 ∷ []) (close_list ∷ []) = ([], 41 ∷ [], [], white_spaces, refl, refl, white_spaces) in
     let middle : Spells (60 ∷ (token ++ 62 ∷ 41 ∷ [])) (angle token ∷ close_list ∷ []) =
-    ([], 60 ∷ (token ++ 62 ∷ 41 ∷ []), 41 ∷ [], blanks, refl, (inside, refl), last) in
+    ([], 60 ∷ (token ++ 62 ∷ 41 ∷ []), 41 ∷ [], white_spaces, refl, (inside, refl), last) in
     let all : Spells (40 ∷ 60 ∷ (token ++ 62 ∷ 41 ∷ [])) (open_list ∷ angle token ∷ close_list ∷ []) =
-    ([], 40 ∷ 60 ∷ (token ++ 62 ∷ 41 ∷ []), 60 ∷ (token ++ 62 ∷ 41 ∷ []), blanks, refl, refl, middle) in
+    ([], 40 ∷ 60 ∷ (token ++ 62 ∷ 41 ∷ []), 60 ∷ (token ++ 62 ∷ 41 ∷ []), white_spaces, refl, refl, middle) in
     let conditions : AreConditions (angle token ∷ []) ((asks_for token).conditions) = (angle token, [], (utf8, refl), refl, refl) in
     let list : IsList (open_list ∷ angle token ∷ close_list ∷ []) (asks_for token) = ([], angle token ∷ [], false, refl, omega arith, conditions, refl) in
     ((open_list ∷ angle token ∷ close_list ∷ [], all, (open_list ∷ angle token ∷ close_list ∷ [], [], list, refl, refl), omega arith), refl)

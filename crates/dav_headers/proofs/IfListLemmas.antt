@@ -12,7 +12,6 @@ use Rattle.dav_headers.specs.IfWritten.{WrittenItem, written_token, written_tag,
 use Rattle.dav_headers.specs.IfParts.{part_view}
 use Rattle.dav_headers.specs.IfTexts.{condition_view, StepsAs}
 use Rattle.dav_headers.specs.declared.errors.HeaderError.{HeaderError}
-use Rattle.dav_headers.specs.declared.errors.HeaderError.TheVariants.{Invalid}
 use Rattle.dav_headers.specs.declared.if_header.tokens.Part.{Part}
 use Rattle.dav_headers.specs.declared.if_header.written.ConditionText.{ConditionText}
 
@@ -35,7 +34,7 @@ same_list ts l m r s (us, f, some, c) (vs, g, more, d) =
     (ap first front.0 ∙ ap second back.0, back.1)
 
 -- the error that a `?` returns
-pub same_error : {T : Type 0} (r : Result T HeaderError) (y z : HeaderError) → r ≡ Err y → y ≡ z → IsErrOf r Invalid → z ≡ Invalid
+pub same_error : {T : Type 0} {w : HeaderError} (r : Result T HeaderError) (y z : HeaderError) → r ≡ Err y → y ≡ z → IsErrOf r w → z ≡ w
 same_error r y z e f h = cc
 
 -- tokens are at most one list of lists
@@ -84,8 +83,8 @@ within_slice ps at n h k = omega (arith, ap length (take_all (length ps - at) (d
 -- ---- the list that the tokens begin with
 
 -- the conditions that are read from a place on
-pub found_behind : (ps : List Part) (at n : ℕ) (cs : List WrittenCondition) → at ≤ length ps → (let us = map part_view (take (length ps - at) (drop at ps)) in conditions_at us ≡ Some (cs, drop n us)) → conditions_at (drop at (map part_view ps)) ≡ Some (cs, drop (at + n) (map part_view ps))
-found_behind ps at n cs h read =
+pub found_after : (ps : List Part) (at n : ℕ) (cs : List WrittenCondition) → at ≤ length ps → (let us = map part_view (take (length ps - at) (drop at ps)) in conditions_at us ≡ Some (cs, drop n us)) → conditions_at (drop at (map part_view ps)) ≡ Some (cs, drop (at + n) (map part_view ps))
+found_after ps at n cs h read =
     let P : List Token → Type 0 = λ x. conditions_at x ≡ Some (cs, drop n x) in
     subst P (from part_view at ps h) read
     ∙ ap (λ (x : List Token). let r : Read = Some (cs, x) in r) (drop-drop n at (map part_view ps))
@@ -236,9 +235,9 @@ at_list_end : (idle : Bool) (rest : List Token) → conditions_at (list_end idle
 at_list_end true rest = refl
 at_list_end false rest = refl
 
-behind_front : (m : Bool) (t : Token) (more back : List Token) → cond m (negation ∷ t ∷ more) (t ∷ more) ++ back ≡ cond m (negation ∷ t ∷ (more ++ back)) (t ∷ (more ++ back))
-behind_front true t more back = refl
-behind_front false t more back = refl
+after_front : (m : Bool) (t : Token) (more back : List Token) → cond m (negation ∷ t ∷ more) (t ∷ more) ++ back ≡ cond m (negation ∷ t ∷ (more ++ back)) (t ∷ (more ++ back))
+after_front true t more back = refl
+after_front false t more back = refl
 
 pub conditions_only : (inner rest : List Token) (idle : Bool) (cs : List Condition) → AreConditions inner cs → (ws : List WrittenCondition) × AllZip SaysCondition ws cs × (conditions_at (inner ++ (list_end idle ++ rest)) ≡ Some (ws, rest))
 conditions_only inner rest idle [] e = ([], tt, ap (λ x. conditions_at (x ++ (list_end idle ++ rest))) e ∙ at_list_end idle rest)
@@ -247,7 +246,7 @@ conditions_only inner rest idle (c ∷ cs) (t, more, is, e, are) =
     let (w, here, meant) = item_only t c.item is in
     let back : List Token = list_end idle ++ rest in
     let read : conditions_at (inner ++ back) ≡ with_front (one c.negated w) (conditions_at (more ++ back)) =
-    ap (λ x. conditions_at (x ++ back)) e ∙ ap conditions_at (behind_front c.negated t more back) ∙ condition_first c.negated t w (more ++ back) here in
+    ap (λ x. conditions_at (x ++ back)) e ∙ ap conditions_at (after_front c.negated t more back) ∙ condition_first c.negated t w (more ++ back) here in
     (one c.negated w ++ vs, ((refl, meant), says), read ∙ ap (with_front (one c.negated w)) at)
 
 -- ---- one list

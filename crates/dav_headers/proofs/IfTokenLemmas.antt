@@ -10,22 +10,22 @@ use Rattle.std.proofs.lemmas.List.{take-append-drop, append-nil}
 use Rattle.std.proofs.lemmas.List.Elements.{All-nil, All-cons, All-head, All-tail, All-append}
 use Rattle.std.proofs.lemmas.List.Folds.{length-prefix_len}
 use Rattle.std.proofs.Math.Seq.{drop-append_seam, drop-append-add, take-append_seam}
-use Rattle.dav_headers.specs.IfTokens.{IsBlank, IsWordByte, IsInside, Token, open_list, close_list, negation, angle, square, word, EndsWord, Begins, Spells}
-use Rattle.dav_headers.specs.IfTokenMachine.{is_blank, is_word_byte, skip, inside_len, Split, bracketed, word_len, word_at, token_at}
+use Rattle.dav_headers.specs.IfTokens.{IsWhiteSpace, IsWordByte, IsInside, Token, open_list, close_list, negation, angle, square, word, EndsWord, Begins, Spells}
+use Rattle.dav_headers.specs.IfTokenMachine.{is_white_space, is_word_byte, skip, inside_len, Split, bracketed, word_len, word_at, token_at}
 
 -- ---- bytes
 
-blank : (b : ℕ) → is_blank b ≡ true → IsBlank b
-blank b e = grind (arith, nat_tests)
+white_space : (b : ℕ) → is_white_space b ≡ true → IsWhiteSpace b
+white_space b e = grind (arith, nat_tests)
 
-not_blank : (b : ℕ) → is_blank b ≡ false → ¬ IsBlank b
-not_blank b e = λ h. grind (arith, nat_tests)
+not_white_space : (b : ℕ) → is_white_space b ≡ false → ¬ IsWhiteSpace b
+not_white_space b e = λ h. grind (arith, nat_tests)
 
-blank_test : (b : ℕ) → IsBlank b → is_blank b ≡ true
-blank_test b h = grind (arith, nat_tests)
+white_space_test : (b : ℕ) → IsWhiteSpace b → is_white_space b ≡ true
+white_space_test b h = grind (arith, nat_tests)
 
-no_blank_test : (b : ℕ) → ¬ IsBlank b → is_blank b ≡ false
-no_blank_test b h = false_from_ne_true (is_blank b) (λ e. h (blank b e))
+no_white_space_test : (b : ℕ) → ¬ IsWhiteSpace b → is_white_space b ≡ false
+no_white_space_test b h = false_from_ne_true (is_white_space b) (λ e. h (white_space b e))
 
 word_byte : (b : ℕ) → is_word_byte b ≡ true → IsWordByte b
 word_byte b e = grind (arith, nat_tests)
@@ -59,28 +59,28 @@ closes b close quoted e = grind (arith, nat_tests)
 stays_open : (b close : ℕ) (quoted : Bool) → (b ≡ close → quoted ≡ true) → (b == close && not quoted) ≡ false
 stays_open b close quoted h = grind (arith, nat_tests)
 
-found_next : (close : ℕ) (quoted : Bool) (b : ℕ) (bs : List ℕ) (n : ℕ) → is_blank b ≡ false → cond (b == close && not quoted) (Some 0) (option_map (λ k. k + 1) (inside_len close (cond (b == 34) (not quoted) quoted) bs)) ≡ Some n → ((q : Bool) (m : ℕ) → inside_len close q bs ≡ Some m → Found close q bs m) → Found close quoted (b ∷ bs) n
+found_next : (close : ℕ) (quoted : Bool) (b : ℕ) (bs : List ℕ) (n : ℕ) → is_white_space b ≡ false → cond (b == close && not quoted) (Some 0) (option_map (λ k. k + 1) (inside_len close (cond (b == 34) (not quoted) quoted) bs)) ≡ Some n → ((q : Bool) (m : ℕ) → inside_len close q bs ≡ Some m → Found close q bs m) → Found close quoted (b ∷ bs) n
 found_next close quoted b bs n clean e again = elim (cases_Bool (b == close && not quoted)) [
   | inl y ↦ let c = closes b close quoted y in let zero : 0 ≡ n = (let h = sym (cond-true _ _ _ y) ∙ e in cc) in ([], bs, c.1, ap (λ x. x ∷ bs) c.0, zero)
   | inr k ↦
       let (m, is, e2) = one_more _ n (sym (cond-false _ _ _ k) ∙ e) in
       let (t, rest, inside, split, len) = again _ m is in
-      (b ∷ t, rest, (not_blank b clean, quote_is_open b close quoted k, inside), ap (λ xs. b ∷ xs) split, omega (arith, len, e2))
+      (b ∷ t, rest, (not_white_space b clean, quote_is_open b close quoted k, inside), ap (λ xs. b ∷ xs) split, omega (arith, len, e2))
 ]
 
 pub inside_found : (close : ℕ) (quoted : Bool) (text : List ℕ) (n : ℕ) → inside_len close quoted text ≡ Some n → Found close quoted text n
 inside_found close quoted [] n e = absurd (cc)
-inside_found close quoted (b ∷ bs) n e = elim (cases_Bool (is_blank b)) [
+inside_found close quoted (b ∷ bs) n e = elim (cases_Bool (is_white_space b)) [
   | inl y ↦ let h = sym (cond-true _ _ _ y) ∙ e in absurd (cc)
   | inr clean ↦ found_next close quoted b bs n clean (sym (cond-false _ _ _ clean) ∙ e) (λ q m h. inside_found close q bs m h)
 ]
 
-pub inside_only : (close : ℕ) (quoted : Bool) (t rest : List ℕ) → is_blank close ≡ false → IsInside close quoted t → inside_len close quoted (t ++ close ∷ rest) ≡ Some (length t)
+pub inside_only : (close : ℕ) (quoted : Bool) (t rest : List ℕ) → is_white_space close ≡ false → IsInside close quoted t → inside_len close quoted (t ++ close ∷ rest) ≡ Some (length t)
 inside_only close quoted [] rest fits end =
     let shut : (close == close && not quoted) ≡ true = grind (arith, nat_tests) in
     cond-false _ _ _ fits ∙ cond-true _ _ _ shut
 inside_only close quoted (b ∷ t) rest fits (clean, quotes, inside) =
-    cond-false _ _ _ (no_blank_test b clean) ∙ cond-false _ _ _ (stays_open b close quoted quotes)
+    cond-false _ _ _ (no_white_space_test b clean) ∙ cond-false _ _ _ (stays_open b close quoted quotes)
     ∙ ap (option_map (λ k. k + 1)) (inside_only close (cond (b == 34) (not quoted) quoted) t rest fits inside) ∙ ap Some (omega arith)
 
 -- ---- one token
@@ -125,7 +125,7 @@ bracketed_found make close text t rest e =
     let back : drop (n + 1) text ≡ after = ap (drop (n + 1)) split ∙ at.1 in
     (inside, ap make (sym front) ∙ made, ok, split ∙ ap (λ x. inside ++ close ∷ x) (sym back ∙ behind))
 
-bracketed_only : (make : List ℕ → Token) (close : ℕ) (inside rest : List ℕ) → is_blank close ≡ false → IsInside close false inside → bracketed make close (inside ++ close ∷ rest) ≡ Some (make inside, rest)
+bracketed_only : (make : List ℕ → Token) (close : ℕ) (inside rest : List ℕ) → is_white_space close ≡ false → IsInside close false inside → bracketed make close (inside ++ close ∷ rest) ≡ Some (make inside, rest)
 bracketed_only make close inside rest fits ok =
     let at = seam inside close rest (length inside) refl in
     rw (inside_only close false inside rest fits ok, at.0, at.1) refl
@@ -225,34 +225,34 @@ token_only text (word (b ∷ w)) rest (some, inside, ends, e, no_not) =
 -- ---- white space
 
 -- the white space that is skipped
-skipped : (text : List ℕ) → (gap : List ℕ) × All IsBlank gap × (text ≡ gap ++ skip text)
-skipped [] = ([], All-nil IsBlank, refl)
-skipped (b ∷ bs) = elim (cases_Bool (is_blank b)) [
+skipped : (text : List ℕ) → (gap : List ℕ) × All IsWhiteSpace gap × (text ≡ gap ++ skip text)
+skipped [] = ([], All-nil IsWhiteSpace, refl)
+skipped (b ∷ bs) = elim (cases_Bool (is_white_space b)) [
   | inl y ↦
-      let (gap, blanks, split) = skipped bs in
+      let (gap, white_spaces, split) = skipped bs in
       let e : skip (b ∷ bs) ≡ skip bs = cond-true _ _ _ y in
-      (b ∷ gap, All-cons IsBlank b gap (blank b y) blanks, ap (λ x. b ∷ x) (split ∙ ap (λ x. gap ++ x) (sym e)))
+      (b ∷ gap, All-cons IsWhiteSpace b gap (white_space b y) white_spaces, ap (λ x. b ∷ x) (split ∙ ap (λ x. gap ++ x) (sym e)))
   | inr n ↦
       let e : skip (b ∷ bs) ≡ b ∷ bs = cond-false _ _ _ n in
-      ([], All-nil IsBlank, sym e)
+      ([], All-nil IsWhiteSpace, sym e)
 ]
 
-skip_over : (gap inner : List ℕ) → All IsBlank gap → skip (gap ++ inner) ≡ skip inner
+skip_over : (gap inner : List ℕ) → All IsWhiteSpace gap → skip (gap ++ inner) ≡ skip inner
 skip_over [] inner h = refl
 skip_over (b ∷ gap) inner h =
-    cond-true _ _ _ (blank_test b (All-head IsBlank b gap h)) ∙ skip_over gap inner (All-tail IsBlank b gap h)
+    cond-true _ _ _ (white_space_test b (All-head IsWhiteSpace b gap h)) ∙ skip_over gap inner (All-tail IsWhiteSpace b gap h)
 
-skip_all : (text : List ℕ) → All IsBlank text → skip text ≡ []
+skip_all : (text : List ℕ) → All IsWhiteSpace text → skip text ≡ []
 skip_all text h = ap skip (sym (append-nil text)) ∙ skip_over text [] h
 
 skip_twice : (text : List ℕ) → skip (skip text) ≡ skip text
-skip_twice text = let (gap, blanks, split) = skipped text in sym (skip_over gap (skip text) blanks) ∙ ap skip (sym split)
+skip_twice text = let (gap, white_spaces, split) = skipped text in sym (skip_over gap (skip text) white_spaces) ∙ ap skip (sym split)
 
 word_skips : (w rest : List ℕ) → 0 < length w → All IsWordByte w → skip (w ++ rest) ≡ w ++ rest
 word_skips [] rest some inside = absurd (omega arith)
 word_skips (b ∷ w) rest some inside =
     let first = All-head IsWordByte b w inside in
-    let plain : is_blank b ≡ false = no_blank_test b (λ h. grind arith) in
+    let plain : is_white_space b ≡ false = no_white_space_test b (λ h. grind arith) in
     cond-false _ _ _ plain
 
 -- a token doesn't begin with white space
@@ -266,7 +266,7 @@ begins_at_once text (word w) rest (some, inside, ends, e, no_not) = rw e (word_s
 
 pub skip_is_no_longer : (text : List ℕ) → length (skip text) ≤ length text
 skip_is_no_longer [] = omega arith
-skip_is_no_longer (b ∷ bs) = elim (cases_Bool (is_blank b)) [
+skip_is_no_longer (b ∷ bs) = elim (cases_Bool (is_white_space b)) [
   | inl y ↦
       let e : skip (b ∷ bs) ≡ skip bs = cond-true _ _ _ y in
       omega (arith, ap length e, skip_is_no_longer bs)
@@ -277,18 +277,18 @@ skip_is_no_longer (b ∷ bs) = elim (cases_Bool (is_blank b)) [
 
 -- white space at the start makes no difference
 pub spells_skipped : (text : List ℕ) (ts : List Token) → Spells text ts → Spells (skip text) ts
-spells_skipped text [] h = subst (All IsBlank) (sym (skip_all text h)) (All-nil IsBlank)
-spells_skipped text (t ∷ ts) (gap, inner, rest, blanks, split, begins, more) =
-    let e : skip text ≡ inner = ap skip split ∙ skip_over gap inner blanks ∙ begins_at_once inner t rest begins in
-    ([], inner, rest, All-nil IsBlank, e, begins, more)
+spells_skipped text [] h = subst (All IsWhiteSpace) (sym (skip_all text h)) (All-nil IsWhiteSpace)
+spells_skipped text (t ∷ ts) (gap, inner, rest, white_spaces, split, begins, more) =
+    let e : skip text ≡ inner = ap skip split ∙ skip_over gap inner white_spaces ∙ begins_at_once inner t rest begins in
+    ([], inner, rest, All-nil IsWhiteSpace, e, begins, more)
 
 pub spells_behind : (text : List ℕ) (ts : List Token) → Spells (skip text) ts → Spells text ts
 spells_behind text [] h =
-    let (gap, blanks, split) = skipped text in
-    subst (All IsBlank) (sym split) (All-append IsBlank gap (skip text) blanks h)
-spells_behind text (t ∷ ts) (gap, inner, rest, blanks, split, begins, more) =
+    let (gap, white_spaces, split) = skipped text in
+    subst (All IsWhiteSpace) (sym split) (All-append IsWhiteSpace gap (skip text) white_spaces h)
+spells_behind text (t ∷ ts) (gap, inner, rest, white_spaces, split, begins, more) =
     let (front, fronts, cut) = skipped text in
-    (front ++ gap, inner, rest, All-append IsBlank front gap fronts blanks, cut ∙ ap (λ x. front ++ x) split ∙ sym (append_assoc front gap inner), begins, more)
+    (front ++ gap, inner, rest, All-append IsWhiteSpace front gap fronts white_spaces, cut ∙ ap (λ x. front ++ x) split ∙ sym (append_assoc front gap inner), begins, more)
 
 -- ---- the tokens so far
 
@@ -307,8 +307,8 @@ ReadSoFar-start text rest ts e none = rw (e, none) (record {
 
 -- the first token of the rest is the one that is read there
 first_is : (rest : List ℕ) (t m : Token) (after : List ℕ) (ms : List Token) → skip rest ≡ rest → token_at rest ≡ Some (t, after) → Spells rest (m ∷ ms) → (m ≡ t) × Spells after ms
-first_is rest t m after ms clean at (gap, inner, behind, blanks, split, begins, more) =
-    let e : rest ≡ inner = sym clean ∙ ap skip split ∙ skip_over gap inner blanks ∙ begins_at_once inner m behind begins in
+first_is rest t m after ms clean at (gap, inner, behind, white_spaces, split, begins, more) =
+    let e : rest ≡ inner = sym clean ∙ ap skip split ∙ skip_over gap inner white_spaces ∙ begins_at_once inner m behind begins in
     let two : ◌≡◌ {A = Split} (Some (m, behind)) (Some (t, after)) = sym (token_only inner m behind begins) ∙ ap token_at (sym e) ∙ at in
     let same = same_pair m t behind after two in
     let P : List ℕ → Type 0 = λ x. Spells x ms in
@@ -326,7 +326,7 @@ pub ReadSoFar-step : (text rest after : List ℕ) (ts : List Token) (t : Token) 
 ReadSoFar-step text rest after ts t sofar at = record {
   clean = skip_twice after;
   found = λ more h.
-      let here : Spells rest (t ∷ more) = ([], rest, after, All-nil IsBlank, refl, token_found rest t after at, spells_behind after more h) in
+      let here : Spells rest (t ∷ more) = ([], rest, after, All-nil IsWhiteSpace, refl, token_found rest t after at, spells_behind after more h) in
       let P : List Token → Type 0 = λ x. Spells text x in
       subst P (sym (append_assoc ts (t ∷ []) more)) (sofar.found (t ∷ more) here);
   only = λ all h.
@@ -336,13 +336,13 @@ ReadSoFar-step text rest after ts t sofar at = record {
 pub ReadSoFar-end : (text : List ℕ) (rest : List ℕ) (ts : List Token) → ReadSoFar text rest ts → rest ≡ [] → Spells text ts
 ReadSoFar-end text rest ts sofar e =
     let P : List Token → Type 0 = λ x. Spells text x in
-    let none : Spells rest [] = subst (All IsBlank) (sym e) (All-nil IsBlank) in
+    let none : Spells rest [] = subst (All IsWhiteSpace) (sym e) (All-nil IsWhiteSpace) in
     subst P (append-nil ts) (sofar.found [] none)
 
 stuck : (rest : List ℕ) (more : List Token) → skip rest ≡ rest → rest ≢ [] → token_at rest ≡ None → ¬ Spells rest more
 stuck rest [] clean some none = λ h. some (sym clean ∙ skip_all rest h)
-stuck rest (m ∷ more) clean some none = λ (gap, inner, behind, blanks, split, begins, later).
-    let e : rest ≡ inner = sym clean ∙ ap skip split ∙ skip_over gap inner blanks ∙ begins_at_once inner m behind begins in
+stuck rest (m ∷ more) clean some none = λ (gap, inner, behind, white_spaces, split, begins, later).
+    let e : rest ≡ inner = sym clean ∙ ap skip split ∙ skip_over gap inner white_spaces ∙ begins_at_once inner m behind begins in
     let two : ◌≡◌ {A = Split} (Some (m, behind)) None = sym (token_only inner m behind begins) ∙ ap token_at (sym e) ∙ none in cc
 
 pub ReadSoFar-stuck : (text rest : List ℕ) (ts : List Token) → ReadSoFar text rest ts → rest ≢ [] → token_at rest ≡ None → (all : List Token) → ¬ Spells text all
@@ -371,14 +371,14 @@ first_cut text t u r s h k = same_pair t u r s (sym (token_only text t r h) ∙ 
 -- a text is at most one list of tokens
 pub spells_one : (text : List ℕ) (ts us : List Token) → Spells text ts → Spells text us → ts ≡ us
 spells_one text [] [] h k = refl
-spells_one text [] (u ∷ us) h (gap, inner, rest, blanks, split, begins, more) =
-    let e : inner ≡ [] = sym (begins_at_once inner u rest begins) ∙ sym (skip_over gap inner blanks) ∙ ap skip (sym split) ∙ skip_all text h in
+spells_one text [] (u ∷ us) h (gap, inner, rest, white_spaces, split, begins, more) =
+    let e : inner ≡ [] = sym (begins_at_once inner u rest begins) ∙ sym (skip_over gap inner white_spaces) ∙ ap skip (sym split) ∙ skip_all text h in
     let two : ◌≡◌ {A = Split} (Some (u, rest)) None = sym (token_only inner u rest begins) ∙ ap token_at e in absurd (cc)
-spells_one text (t ∷ ts) [] (gap, inner, rest, blanks, split, begins, more) k =
-    let e : inner ≡ [] = sym (begins_at_once inner t rest begins) ∙ sym (skip_over gap inner blanks) ∙ ap skip (sym split) ∙ skip_all text k in
+spells_one text (t ∷ ts) [] (gap, inner, rest, white_spaces, split, begins, more) k =
+    let e : inner ≡ [] = sym (begins_at_once inner t rest begins) ∙ sym (skip_over gap inner white_spaces) ∙ ap skip (sym split) ∙ skip_all text k in
     let two : ◌≡◌ {A = Split} (Some (t, rest)) None = sym (token_only inner t rest begins) ∙ ap token_at e in absurd (cc)
-spells_one text (t ∷ ts) (u ∷ us) (gap, inner, rest, blanks, split, begins, more) (gap2, inner2, rest2, blanks2, split2, begins2, more2) =
-    let e : inner ≡ inner2 = sym (begins_at_once inner t rest begins) ∙ sym (skip_over gap inner blanks) ∙ ap skip (sym split ∙ split2) ∙ skip_over gap2 inner2 blanks2 ∙ begins_at_once inner2 u rest2 begins2 in
+spells_one text (t ∷ ts) (u ∷ us) (gap, inner, rest, white_spaces, split, begins, more) (gap2, inner2, rest2, white_spaces2, split2, begins2, more2) =
+    let e : inner ≡ inner2 = sym (begins_at_once inner t rest begins) ∙ sym (skip_over gap inner white_spaces) ∙ ap skip (sym split ∙ split2) ∙ skip_over gap2 inner2 white_spaces2 ∙ begins_at_once inner2 u rest2 begins2 in
     let P : List ℕ → Type 0 = λ x. Begins x t rest in
     let same = first_cut inner2 t u rest rest2 (subst P e begins) begins2 in
     let Q : List ℕ → Type 0 = λ x. Spells x ts in

@@ -1,15 +1,13 @@
--- Items of a list, one after another.
-use Rattle.std.proofs.Common.{ℕ, ◌<◌, length, get_or, take, drop, ◌+◌, sym, subst, arith, Result, Err, ◌≡◌, List, [], ◌∷◌, ◌++◌, ◌∙◌, All, ap, map, append_assoc}
+-- Values of Content-Language, one after another.
+use Rattle.std.proofs.Common.{◌≡◌, ℕ, ◌<◌, List, [], ◌∷◌, ◌++◌, ◌∙◌, length, All, ap, map, append_assoc, refl, subst}
 use Rattle.std.proofs.lemmas.List.{map_push}
-use Rattle.std.proofs.lemmas.List.Elements.{All-head, All-tail, All-cons, All-push}
+use Rattle.std.proofs.lemmas.List.Elements.{All-nil, All-cons, All-head, All-tail, All-append, All-weaker}
 use Rattle.std.specs.List.{flat_map}
-use Rattle.std.proofs.lemmas.List.{take-append-drop}
-use Rattle.std.proofs.lemmas.List.Concat.{flat_map-append}
 use Rattle.http_header.specs.FieldValue.{FieldValue}
 use Rattle.dav_headers.specs.Language.{AreLanguages, IsLanguage}
-use Rattle.dav_headers.specs.Pieces.{pieces_of}
+use Rattle.dav_headers.specs.Elements.{elements_of}
 use Rattle.dav_headers.specs.Value.{IsText}
-use Rattle.dav_headers.proofs.LoopLemmas.{drop_turn, take_turn}
+use Rattle.dav_headers.proofs.TextLemmas.{all_front, all_back}
 
 -- what holds for all holds for one between others
 pub at_middle : {X : Type 0} (P : X → Type 0) (xs : List X) (x : X) (ys : List X) → All P (xs ++ x ∷ ys) → P x
@@ -22,25 +20,28 @@ more_items f new old x base done item e is h =
     ap (map f) e ∙ map_push f old x ∙ ap (λ ys. ys ++ f x ∷ []) h ∙ append_assoc base done (f x ∷ [])
     ∙ ap (λ y. base ++ (done ++ y ∷ [])) is
 
-all_back : {X : Type 0} (P : X → Type 0) (xs ys : List X) → All P (xs ++ ys) → All P ys
-all_back P [] ys h = h
-all_back P (x ∷ xs) ys h = all_back P xs ys (All-tail P x (xs ++ ys) h)
+-- a value that is text, and whose list elements are languages
+abbrev pub IsReadable : FieldValue → Type 0
+IsReadable v = IsText v.bytes × All IsLanguage (elements_of v.bytes)
 
-all_front : {X : Type 0} (P : X → Type 0) (xs ys : List X) → All P (xs ++ ys) → All P xs
-all_front P [] ys h = λ k d lt. absurd (omega (arith, lt))
-all_front P (x ∷ xs) ys h = All-cons P x xs (All-head P x (xs ++ ys) h) (all_front P xs ys (All-tail P x (xs ++ ys) h))
+all_languages : (values : List FieldValue) → All IsReadable values → All IsLanguage (flat_map (λ v. elements_of v.bytes) values)
+all_languages [] h = All-nil IsLanguage
+all_languages (v ∷ vs) h =
+    All-append IsLanguage (elements_of v.bytes) (flat_map (λ v. elements_of v.bytes) vs)
+    (let first = All-head IsReadable v vs h in first.1) (all_languages vs (All-tail IsReadable v vs h))
 
--- where the values are languages, so are the list elements of each
-pub of_value : (values : List FieldValue) (i : ℕ) (v : FieldValue) (items : List (List ℕ)) → i < length values → v ≡ get_or values i v → AreLanguages values items → All IsLanguage (pieces_of v.bytes)
-of_value values i v items lt is (some, text, same, all) =
-    let split : values ≡ take i values ++ v ∷ drop (i + 1) values = sym (take-append-drop i values) ∙ ap (λ rest. take i values ++ rest) (drop_turn values i v lt is) in
-    let pieces : items ≡ flat_map (λ w. pieces_of w.bytes) (take i values) ++ (pieces_of v.bytes ++ flat_map (λ w. pieces_of w.bytes) (drop (i + 1) values)) = same ∙ ap (flat_map (λ w. pieces_of w.bytes)) split ∙ flat_map-append (λ w. pieces_of w.bytes) (take i values) (v ∷ drop (i + 1) values) in
-    all_front IsLanguage (pieces_of v.bytes) _ (all_back IsLanguage (flat_map (λ w. pieces_of w.bytes) (take i values)) _ (subst (All IsLanguage) pieces all))
+-- such values read
+pub readable_are_languages : (values : List FieldValue) → 0 < length values → All IsReadable values → AreLanguages values (flat_map (λ v. elements_of v.bytes) values)
+readable_are_languages values some h =
+    (some, All-weaker IsReadable (λ v. IsText v.bytes) (λ v r. r.0) values h, refl, all_languages values h)
 
--- one more value is text
-pub text_turn : (values : List FieldValue) (i : ℕ) (v : FieldValue) → i < length values → v ≡ get_or values i v → All (λ w. IsText w.bytes) (take i values) → IsText v.bytes → All (λ w. IsText w.bytes) (take (i + 1) values)
-text_turn values i v lt is h text = subst (All (λ w. IsText w.bytes)) (sym (take_turn values i v lt is)) (All-push (λ w. IsText w.bytes) (take i values) v h text)
+readable : (values : List FieldValue) → All (λ v. IsText v.bytes) values → All IsLanguage (flat_map (λ v. elements_of v.bytes) values) → All IsReadable values
+readable [] text all = All-nil IsReadable
+readable (v ∷ vs) text all =
+    All-cons IsReadable v vs
+    (All-head (λ v. IsText v.bytes) v vs text, all_front IsLanguage (elements_of v.bytes) (flat_map (λ v. elements_of v.bytes) vs) all)
+    (readable vs (All-tail (λ v. IsText v.bytes) v vs text) (all_back IsLanguage (elements_of v.bytes) (flat_map (λ v. elements_of v.bytes) vs) all))
 
--- an error that is passed on
-pub same_error : {A E : Type 0} (r : Result A E) (x y z : E) → r ≡ Err x → x ≡ y → r ≡ Err z → y ≡ z
-same_error r x y z e f g = cc
+-- values that read are such values
+pub languages_are_readable : (values : List FieldValue) (items : List (List ℕ)) → AreLanguages values items → All IsReadable values
+languages_are_readable values items (some, text, same, all) = readable values text (subst (All IsLanguage) same all)

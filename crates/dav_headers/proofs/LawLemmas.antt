@@ -11,8 +11,8 @@ use Rattle.dav_headers.specs.Laws.{written, AreBelow}
 use Rattle.dav_headers.specs.Value.{only_text, IsNumber}
 use Rattle.dav_headers.specs.Overwrite.{overwrite_text, IsOverwrite}
 use Rattle.dav_headers.specs.Depth.{depth_text, IsDepth, IsDepthText}
-use Rattle.dav_headers.specs.Timeout.{AreWords, IsTimeout, IsWord}
-use Rattle.dav_headers.specs.Pieces.{pieces_of}
+use Rattle.dav_headers.specs.Timeout.{AreTimeTypes, IsTimeout, IsTimeType}
+use Rattle.dav_headers.specs.Elements.{elements_of}
 use Rattle.dav_headers.specs.UpdateRange.{update_range_text, IsEnds, IsUpdateRange, IsUpdateRangeText}
 use Rattle.dav_headers.specs.declared.depth.Depth.{Depth}
 use Rattle.dav_headers.specs.declared.depth.Depth.TheVariants.{Default, Zero, One, Infinity}
@@ -125,24 +125,24 @@ one_update_range values a b p q =
     let both = both_at (only_text values) (λ t. IsUpdateRangeText t a) (λ t. IsUpdateRangeText t b) p q in
     ranges both.0 a b both.1 both.2
 
-word_one : (p : List ℕ) (a b : DavTimeout) → IsWord p a → IsWord p b → a ≡ b
-word_one p (Seconds m) (Seconds n) (x, e, i, k) (y, f, j, l) =
+time_type_one : (p : List ℕ) (a b : DavTimeout) → IsTimeType p a → IsTimeType p b → a ≡ b
+time_type_one p (Seconds m) (Seconds n) (x, e, i, k) (y, f, j, l) =
     let same : x ≡ y = append_cancel_left (codes "Second-") x y (sym e ∙ f) in
     ap Seconds (same_number x m n i (subst (λ t. IsNumber t n) (sym same) j))
-word_one p (Seconds m) Infinite (x, e, i, k) f = absurd (differ p _ _ e f (λ g. omega (arith, g)))
-word_one p Infinite (Seconds n) e (y, f, j, l) = absurd (differ p _ _ e f (λ g. omega (arith, g)))
-word_one p Infinite Infinite e f = refl
+time_type_one p (Seconds m) Infinite (x, e, i, k) f = absurd (differ p _ _ e f (λ g. omega (arith, g)))
+time_type_one p Infinite (Seconds n) e (y, f, j, l) = absurd (differ p _ _ e f (λ g. omega (arith, g)))
+time_type_one p Infinite Infinite e f = refl
 
-words_one : (ps : List (List ℕ)) (a b : List DavTimeout) → AreWords ps a → AreWords ps b → a ≡ b
-words_one [] [] [] p q = refl
-words_one [] [] (w ∷ b) p q = absurd q
-words_one [] (v ∷ a) b p q = absurd p
-words_one (x ∷ ps) [] b p q = absurd p
-words_one (x ∷ ps) (v ∷ a) [] p q = absurd q
-words_one (x ∷ ps) (v ∷ a) (w ∷ b) (p, ps') (q, qs) =
-    let e = word_one x v w p q in let f = words_one ps a b ps' qs in ap (λ u. u ∷ a) e ∙ ap (λ us. w ∷ us) f
+time_types_one : (ps : List (List ℕ)) (a b : List DavTimeout) → AreTimeTypes ps a → AreTimeTypes ps b → a ≡ b
+time_types_one [] [] [] p q = refl
+time_types_one [] [] (w ∷ b) p q = absurd q
+time_types_one [] (v ∷ a) b p q = absurd p
+time_types_one (x ∷ ps) [] b p q = absurd p
+time_types_one (x ∷ ps) (v ∷ a) [] p q = absurd q
+time_types_one (x ∷ ps) (v ∷ a) (w ∷ b) (p, ps') (q, qs) =
+    let e = time_type_one x v w p q in let f = time_types_one ps a b ps' qs in ap (λ u. u ∷ a) e ∙ ap (λ us. w ∷ us) f
 
 pub one_timeout : (values : List FieldValue) → (a b : List DavTimeout) → IsTimeout values a → IsTimeout values b → a ≡ b
 one_timeout values a b p q =
-    let both = both_at (only_text values) (λ t. AreWords (pieces_of t) a) (λ t. AreWords (pieces_of t) b) p q in
-    words_one (pieces_of both.0) a b both.1 both.2
+    let both = both_at (only_text values) (λ t. AreTimeTypes (elements_of t) a) (λ t. AreTimeTypes (elements_of t) b) p q in
+    time_types_one (elements_of both.0) a b both.1 both.2

@@ -1,3 +1,4 @@
+pub mod AgainLemmas
 pub mod CutLemmas
 pub mod DestinationLemmas
 pub mod ETagLemmas
@@ -12,6 +13,9 @@ pub mod OneReading
 pub mod LoopLemmas
 pub mod NumberLemmas
 pub mod RangeLemmas
+pub mod ReadingLemmas
+pub mod TextLemmas
+pub mod Theorems
 pub mod TimeoutAgain
 pub mod TimeoutLemmas
 pub mod ValueLemmas

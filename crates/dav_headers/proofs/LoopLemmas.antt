@@ -1,5 +1,6 @@
 -- The turns of loops over iterators whose list is known, and over slices.
-use Rattle.std.proofs.Common.{◌+◌, arith, ◌≡◌, ℕ, ◌<◌, List, [], ◌∷◌, ◌++◌, length, map, drop, take, get_or, Option, Some, None, sym, ◌∙◌, ap, suc, drop-cons, take-suc, refl, append-nil}
+use Rattle.std.proofs.Common.{◌+◌, arith, ◌≡◌, ℕ, ◌<◌, List, [], ◌∷◌, ◌++◌, length, map, drop, take, get_or, Option, Some, None, sym, ◌∙◌, ap, suc, drop-cons, take-suc, refl, append-nil, subst, All}
+use Rattle.std.proofs.lemmas.List.Elements.{All-push}
 use Rattle.std.specs.Iterator.{Yields}
 use Rattle.std.specs.List.{flat_map}
 use Rattle.std.proofs.lemmas.Iterator.{YieldsList}
@@ -34,3 +35,11 @@ flat_map_turn f xs i x lt is = ap (flat_map f) (take_turn xs i x lt is) ∙ flat
 pub drop_turn : {X : Type 0} (xs : List X) (i : ℕ) (x : X) → i < length xs → x ≡ get_or xs i x → drop i xs ≡ x ∷ drop (i + 1) xs
 drop_turn xs i x lt is =
     drop-cons xs i x lt ∙ ap (λ k. get_or xs i x ∷ drop k xs) (sym (one_more i)) ∙ ap (λ y. y ∷ drop (i + 1) xs) (sym is)
+
+-- what holds of all elements, at this place
+pub all_at : {X : Type 0} (P : X → Type 0) (xs : List X) (i : ℕ) (x : X) → i < length xs → x ≡ get_or xs i x → All P xs → P x
+all_at P xs i x lt is h = subst P (sym is) (h i x lt)
+
+-- what holds of the elements before this place and of this one
+pub all_turn : {X : Type 0} (P : X → Type 0) (xs : List X) (i : ℕ) (x : X) → i < length xs → x ≡ get_or xs i x → All P (take i xs) → P x → All P (take (i + 1) xs)
+all_turn P xs i x lt is h here = subst (All P) (sym (take_turn xs i x lt is)) (All-push P (take i xs) x h here)

@@ -7,8 +7,9 @@ use Rattle.dav_headers.specs.ContentRange.{IsBounds, IsLength, IsContentRangeTex
 use Rattle.dav_headers.specs.ETag.{EntityTag}
 use Rattle.dav_headers.specs.ETagList.{TagList, star, tags, AreTags, ReadTags, IsTagList}
 use Rattle.dav_headers.specs.Length.{IsContentLength}
-use Rattle.dav_headers.specs.Pieces.{pieces_of}
+use Rattle.dav_headers.specs.Elements.{elements_of}
 use Rattle.dav_headers.specs.Value.{only_text, IsNumber}
+use Rattle.dav_headers.specs.declared.range.ContentRange.{ContentRange}
 use Rattle.dav_headers.proofs.CutLemmas.{cut_one}
 use Rattle.dav_headers.proofs.IfLawLemmas.{entity_tag_one}
 use Rattle.dav_headers.proofs.LawLemmas.{same_number}
@@ -20,8 +21,8 @@ use Rattle.dav_headers.proofs.RangeLemmas.{bounds_without}
 tags_one : (ps : List (List ℕ)) (s t : List EntityTag) → AreTags ps s → AreTags ps t → s ≡ t
 tags_one [] s t h k = h ∙ sym k
 tags_one (p ∷ ps) s t (inl (none, h)) (inl (also, k)) = tags_one ps s t h k
-tags_one (p ∷ ps) s t (inl (none, h)) (inr (e, more, is, eq, k)) = absurd (none e.weak e.tag is)
-tags_one (p ∷ ps) s t (inr (e, more, is, eq, h)) (inl (none, k)) = absurd (none e.weak e.tag is)
+tags_one (p ∷ ps) s t (inl (none, h)) (inr (e, more, is, eq, k)) = absurd (none e is)
+tags_one (p ∷ ps) s t (inr (e, more, is, eq, h)) (inl (none, k)) = absurd (none e is)
 tags_one (p ∷ ps) s t (inr (d, front, is, eq, h)) (inr (e, more, also, same, k)) =
     eq ∙ ap (λ (x : EntityTag). x ∷ front) (entity_tag_one p d e is also) ∙ ap (λ (xs : List EntityTag). e ∷ xs) (tags_one ps front more h k) ∙ sym same
 
@@ -33,7 +34,7 @@ no_star (v ∷ vs) ts (text, inr h) (_, other, (front, back, eq, are, k)) = no_s
 lists_one : (vs : List FieldValue) (s t : List EntityTag) → ReadTags vs (tags s) → ReadTags vs (tags t) → s ≡ t
 lists_one [] s t h k = h ∙ sym k
 lists_one (v ∷ vs) s t (_, _, (front, back, eq, are, h)) (_, _, (first, rest, same, also, k)) =
-    eq ∙ ap (λ (xs : List EntityTag). xs ++ back) (tags_one (pieces_of v.bytes) front first are also) ∙ ap (λ (xs : List EntityTag). first ++ xs) (lists_one vs back rest h k) ∙ sym same
+    eq ∙ ap (λ (xs : List EntityTag). xs ++ back) (tags_one (elements_of v.bytes) front first are also) ∙ ap (λ (xs : List EntityTag). first ++ xs) (lists_one vs back rest h k) ∙ sym same
 
 read_one : (vs : List FieldValue) (a b : TagList) → ReadTags vs a → ReadTags vs b → a ≡ b
 read_one vs star star h k = refl
@@ -84,9 +85,12 @@ at_text : (o : Option (List ℕ)) (a b : Option (ℕ × ℕ)) (l m : Option ℕ)
 at_text None a b l m h k = absurd h
 at_text (Some text) a b l m h k = range_text_one text a b l m h k
 
-pub one_content_range : (values : List FieldValue) → (a b : Option (ℕ × ℕ)) → (l m : Option ℕ)
-    → IsContentRange values a l → IsContentRange values b m → (a ≡ b) × (l ≡ m)
-one_content_range values a b l m h k = at_text (only_text values) a b l m h k
+pub one_content_range : (values : List FieldValue) → (a b : ContentRange) → IsContentRange values a → IsContentRange values b → a ≡ b
+one_content_range values a b h k =
+    let same = at_text (only_text values) a.bounds b.bounds a.length b.length h k in
+    let first : Option (ℕ × ℕ) → ContentRange = λ x. record { bounds = x; length = a.length } in
+    let second : Option ℕ → ContentRange = λ x. record { bounds = b.bounds; length = x } in
+    ap first same.0 ∙ ap second same.1
 
 -- ---- lengths
 

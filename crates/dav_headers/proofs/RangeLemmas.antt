@@ -8,6 +8,7 @@ use Rattle.dav_headers.specs.Cut.{IsCut, IsWithout}
 use Rattle.dav_headers.specs.Value.{only_text, IsNumber}
 use Rattle.dav_headers.specs.ContentRange.{IsBounds, IsLength, IsContentRangeText, IsContentRange, length_text, content_range_text}
 use Rattle.dav_headers.specs.UpdateRange.{IsEnds, IsUpdateRangeText, IsUpdateRange, update_range_text}
+use Rattle.dav_headers.specs.declared.range.ContentRange.{ContentRange}
 use Rattle.dav_headers.specs.declared.range.XUpdateRange.{XUpdateRange}
 use Rattle.dav_headers.specs.declared.range.XUpdateRange.TheVariants.{FromTo, AllFrom, Last, Append}
 use Rattle.dav_headers.proofs.CutLemmas.{cut_one, IsWithout-append, IsWithout-cons, IsWithout-nil}
@@ -71,23 +72,23 @@ parts_at_cut text rest x y b l e cut (range, size, f, bounds, length) =
     let parts = parts_one 47 rest x y range size cut (bounds_without range b bounds) same in
     (subst (λ t. IsBounds t b) (sym parts.0) bounds, subst (λ t. IsLength t l) (sym parts.1) length)
 
-pub parts_of_range : (values : List FieldValue) (text rest x y : List ℕ) → Some text ≡ only_text values → text ≡ codes "bytes " ++ rest → IsCut 47 rest x y → (b : Option (ℕ × ℕ)) (l : Option ℕ) → IsContentRange values b l → IsBounds x b × IsLength y l
-parts_of_range values text rest x y is e cut b l h =
-    let here : IsSomeAnd (Some text) (λ t. IsContentRangeText t b l) = subst (λ o. IsSomeAnd o (λ t. IsContentRangeText t b l)) (sym is) h in
-    parts_at_cut text rest x y b l e cut here
+pub parts_of_range : (values : List FieldValue) (text rest x y : List ℕ) → Some text ≡ only_text values → text ≡ codes "bytes " ++ rest → IsCut 47 rest x y → (r : ContentRange) → IsContentRange values r → IsBounds x r.bounds × IsLength y r.length
+parts_of_range values text rest x y is e cut r h =
+    let here : IsSomeAnd (Some text) (λ t. IsContentRangeText t r.bounds r.length) = subst (λ o. IsSomeAnd o (λ t. IsContentRangeText t r.bounds r.length)) (sym is) h in
+    parts_at_cut text rest x y r.bounds r.length e cut here
 
 -- two visible texts, one after the other
 pub both : (xs ys : List ℕ) → list_all is_visible_or_blank xs ≡ true → list_all is_visible_or_blank ys ≡ true → list_all is_visible_or_blank (xs ++ ys) ≡ true
 both xs ys p q = list_all-append is_visible_or_blank xs ys ∙ and_from _ _ p q
 
 -- a visible byte, and then a visible text
-behind : (b : ℕ) (ys : List ℕ) → is_visible_or_blank b ≡ true → list_all is_visible_or_blank ys ≡ true → list_all is_visible_or_blank (b ∷ ys) ≡ true
-behind b ys p q = and_from (is_visible_or_blank b) (list_all is_visible_or_blank ys) p q
+after_byte : (b : ℕ) (ys : List ℕ) → is_visible_or_blank b ≡ true → list_all is_visible_or_blank ys ≡ true → list_all is_visible_or_blank (b ∷ ys) ≡ true
+after_byte b ys p q = and_from (is_visible_or_blank b) (list_all is_visible_or_blank ys) p q
 
 pub update_range_shown : (r : XUpdateRange) → list_all is_visible_or_blank (update_range_text r) ≡ true
-update_range_shown (FromTo a b) = both (codes "bytes=") (decimal a ++ 45 ∷ decimal b) refl (both (decimal a) (45 ∷ decimal b) (decimal_visible a) (behind 45 (decimal b) refl (decimal_visible b)))
+update_range_shown (FromTo a b) = both (codes "bytes=") (decimal a ++ 45 ∷ decimal b) refl (both (decimal a) (45 ∷ decimal b) (decimal_visible a) (after_byte 45 (decimal b) refl (decimal_visible b)))
 update_range_shown (AllFrom a) = both (codes "bytes=") (decimal a ++ 45 ∷ []) refl (both (decimal a) (45 ∷ []) (decimal_visible a) refl)
-update_range_shown (Last n) = both (codes "bytes=") (45 ∷ decimal n) refl (behind 45 (decimal n) refl (decimal_visible n))
+update_range_shown (Last n) = both (codes "bytes=") (45 ∷ decimal n) refl (after_byte 45 (decimal n) refl (decimal_visible n))
 update_range_shown Append = refl
 
 pub update_range_visible : (r : XUpdateRange) → IsVisibleAscii (update_range_text r)
@@ -97,13 +98,13 @@ length_shown : (l : Option ℕ) → list_all is_visible_or_blank (length_text l)
 length_shown None = refl
 length_shown (Some n) = decimal_visible n
 
-content_range_shown : (b : Option (ℕ × ℕ)) (l : Option ℕ) → list_all is_visible_or_blank (content_range_text b l) ≡ true
+pub content_range_shown : (b : Option (ℕ × ℕ)) (l : Option ℕ) → list_all is_visible_or_blank (content_range_text b l) ≡ true
 content_range_shown None l = both (codes "bytes */") (length_text l) refl (length_shown l)
 content_range_shown (Some (m, n)) l =
     both (codes "bytes ") (decimal m ++ 45 ∷ (decimal n ++ 47 ∷ length_text l)) refl
     (both (decimal m) (45 ∷ (decimal n ++ 47 ∷ length_text l)) (decimal_visible m)
-    (behind 45 (decimal n ++ 47 ∷ length_text l) refl
-    (both (decimal n) (47 ∷ length_text l) (decimal_visible n) (behind 47 (length_text l) refl (length_shown l)))))
+    (after_byte 45 (decimal n ++ 47 ∷ length_text l) refl
+    (both (decimal n) (47 ∷ length_text l) (decimal_visible n) (after_byte 47 (length_text l) refl (length_shown l)))))
 
 pub content_range_visible : (b : Option (ℕ × ℕ)) (l : Option ℕ) → IsVisibleAscii (content_range_text b l)
 content_range_visible b l = AllPass-from_list_all is_visible_or_blank (content_range_text b l) (content_range_shown b l)

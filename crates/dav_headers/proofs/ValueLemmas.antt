@@ -7,7 +7,7 @@ use Rattle.http_header.specs.Token.{is_visible_or_blank}
 use Rattle.dav_headers.specs.Value.{only_text}
 
 -- the value of a list of one
-one_value : (vs : List FieldValue) (v : FieldValue) → 1 ≤ length vs → length vs < 2 → v ≡ get_or vs 0 v → vs ≡ v ∷ []
+pub one_value : (vs : List FieldValue) (v : FieldValue) → 1 ≤ length vs → length vs < 2 → v ≡ get_or vs 0 v → vs ≡ v ∷ []
 one_value [] v some few is = absurd (omega (arith, some))
 one_value (w ∷ []) v some few is = ap (λ x. x ∷ []) (sym is)
 one_value (w ∷ x ∷ vs) v some few is = absurd (omega (arith, few))

@@ -2,6 +2,7 @@
 use Rattle.std.specs.Prelude.{ℕ, List, ◌∷◌, ◌++◌, ◌≡◌, Option, Some, None, IsSomeAnd, codes, decimal}
 use Rattle.http_header.specs.FieldValue.{FieldValue}
 use Rattle.dav_headers.specs.Value.{only_text, IsNumber}
+use Rattle.dav_headers.specs.declared.range.ContentRange.{ContentRange}
 
 -- `*`, or the first and the last byte's positions with a dash between them
 abbrev pub IsBounds : List ℕ → Option (ℕ × ℕ) → Type 0
@@ -21,12 +22,8 @@ IsContentRangeText text bounds length =
     × (text ≡ codes "bytes " ++ (range ++ 47 ∷ size)) × IsBounds range bounds × IsLength size length
 
 -- the only value is this range
-abbrev pub IsContentRange : List FieldValue → Option (ℕ × ℕ) → Option ℕ → Type 0
-IsContentRange values bounds length = IsSomeAnd (only_text values) (λ text. IsContentRangeText text bounds length)
-
--- the values are no range
-abbrev pub NoContentRange : List FieldValue → Type 0
-NoContentRange values = (bounds : Option (ℕ × ℕ)) → (length : Option ℕ) → ¬ IsContentRange values bounds length
+abbrev pub IsContentRange : List FieldValue → ContentRange → Type 0
+IsContentRange values r = IsSomeAnd (only_text values) (λ text. IsContentRangeText text r.bounds r.length)
 
 -- the text that is written for each
 abbrev pub length_text : Option ℕ → List ℕ

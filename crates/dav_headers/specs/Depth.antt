@@ -16,10 +16,6 @@ IsDepthText text Infinity = (text ≡ codes "infinity") ⊎ (text ≡ codes "Inf
 abbrev pub IsDepth : List FieldValue → Depth → Type 0
 IsDepth values depth = IsSomeAnd (only_text values) (λ text. IsDepthText text depth)
 
--- the values mean no depth
-abbrev pub NoDepth : List FieldValue → Type 0
-NoDepth values = (depth : Depth) → ¬ IsDepth values depth
-
 -- the text that is written
 abbrev pub depth_text : Depth → Option (List ℕ)
 depth_text Default = None

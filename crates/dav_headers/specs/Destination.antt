@@ -21,8 +21,8 @@ IsPathText text path = (rest : List ℕ) × (text ≡ 47 ∷ rest) × (path ≡ 
 -- in an http or https URI, what follows the authority
 abbrev pub IsUriText : List ℕ → List ℕ → Type 0
 IsUriText text path =
-    (scheme : List ℕ) × (behind : List ℕ)
-    × IsHttp scheme × (text ≡ scheme ++ 58 ∷ 47 ∷ 47 ∷ behind) × (path ≡ from_slash behind)
+    (scheme : List ℕ) × (after : List ℕ)
+    × IsHttp scheme × (text ≡ scheme ++ 58 ∷ 47 ∷ 47 ∷ after) × (path ≡ from_slash after)
 
 abbrev pub IsDestinationText : List ℕ → List ℕ → Type 0
 IsDestinationText text path = IsPathText text path ⊎ IsUriText text path

@@ -25,16 +25,12 @@ abbrev pub IsUnquoted : List ℕ → Type 0
 IsUnquoted tag = ¬ Contains tag 34
 
 -- the text is this entity tag
-abbrev pub IsEntityTag : List ℕ → Bool → List ℕ → Type 0
-IsEntityTag text weak tag = IsUnquoted tag × (text ≡ tag_text weak tag)
+abbrev pub IsEntityTag : List ℕ → EntityTag → Type 0
+IsEntityTag text e = IsUnquoted e.tag × (text ≡ tag_text e.weak e.tag)
 
 -- the only value of a header is this entity tag
-abbrev pub IsETag : List FieldValue → Bool → List ℕ → Type 0
-IsETag values weak tag = IsSomeAnd (only_text values) (λ text. IsEntityTag text weak tag)
-
--- the text is no entity tag
-abbrev pub NoEntityTag : List ℕ → Type 0
-NoEntityTag text = (weak : Bool) → (tag : List ℕ) → ¬ IsEntityTag text weak tag
+abbrev pub IsETag : List FieldValue → EntityTag → Type 0
+IsETag values e = IsSomeAnd (only_text values) (λ text. IsEntityTag text e)
 
 -- the strong comparison (RFC 9110, section 8.8.3.2): neither is weak, and the tags are equal
 abbrev pub IsStrongMatch : EntityTag → EntityTag → Type 0

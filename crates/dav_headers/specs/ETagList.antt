@@ -1,8 +1,8 @@
 -- The headers If-Match and If-None-Match (RFC 9110, sections 13.1.1 and 13.1.2).
 use Rattle.std.specs.Prelude.{ℕ, ◌<◌, List, [], ◌∷◌, ◌++◌, ◌≡◌, ◌≢◌, ◌⊎◌, codes, length, map}
 use Rattle.http_header.specs.FieldValue.{FieldValue}
-use Rattle.dav_headers.specs.ETag.{EntityTag, IsEntityTag, NoEntityTag, tag_text}
-use Rattle.dav_headers.specs.Pieces.{joined, pieces_of, trimmed}
+use Rattle.dav_headers.specs.ETag.{EntityTag, IsEntityTag, tag_text}
+use Rattle.dav_headers.specs.Elements.{joined, elements_of, trimmed}
 use Rattle.dav_headers.specs.Value.{IsText}
 use Rattle.dav_headers.specs.declared.etag_list.ETagList.{ETagList}
 use Rattle.dav_headers.specs.declared.etag_list.ETagList.TheVariants as list
@@ -23,8 +23,8 @@ tag_list list.Star = star
 abbrev pub AreTags : List (List ℕ) → List EntityTag → Type 0
 AreTags [] ts = ts ≡ []
 AreTags (p ∷ ps) ts =
-    (NoEntityTag p × AreTags ps ts)
-    ⊎ ((t : EntityTag) × (more : List EntityTag) × IsEntityTag p t.weak t.tag × (ts ≡ t ∷ more) × AreTags ps more)
+    (((t : EntityTag) → ¬ IsEntityTag p t) × AreTags ps ts)
+    ⊎ ((t : EntityTag) × (more : List EntityTag) × IsEntityTag p t × (ts ≡ t ∷ more) × AreTags ps more)
 
 -- The values, in order; each that is read is text. The first one that is `*` apart from white space means any tag,
 -- and what follows it isn't looked at; without such a value, the list holds the tags of all of them.
@@ -35,15 +35,11 @@ ReadTags (v ∷ vs) star = IsText v.bytes × ((trimmed v.bytes ≡ codes "*") �
 ReadTags (v ∷ vs) (tags ts) =
     IsText v.bytes × (trimmed v.bytes ≢ codes "*")
     × ((front : List EntityTag) × (back : List EntityTag)
-    × (ts ≡ front ++ back) × AreTags (pieces_of v.bytes) front × ReadTags vs (tags back))
+    × (ts ≡ front ++ back) × AreTags (elements_of v.bytes) front × ReadTags vs (tags back))
 
 -- there is at least one value, and the values mean this list
 abbrev pub IsTagList : List FieldValue → TagList → Type 0
 IsTagList values l = (0 < length values) × ReadTags values l
-
--- the values mean no list
-abbrev pub NoTagList : List FieldValue → Type 0
-NoTagList values = (l : TagList) → ¬ IsTagList values l
 
 -- the text that is written
 abbrev pub tag_list_text : TagList → List ℕ

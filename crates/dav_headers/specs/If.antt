@@ -26,7 +26,7 @@ pub record ConditionList : Type 0 where
 abbrev pub IsItem : Token → Item → Type 0
 IsItem (angle t) i = IsUtf8 t × (i ≡ state_token t)
 IsItem (word t) i = IsUtf8 t × (i ≡ state_token t)
-IsItem (square t) i = (e : EntityTag) × IsUtf8 t × IsEntityTag t e.weak e.tag × (i ≡ entity_tag e)
+IsItem (square t) i = (e : EntityTag) × IsUtf8 t × IsEntityTag t e × (i ≡ entity_tag e)
 IsItem open_list i = ⊥
 IsItem close_list i = ⊥
 IsItem negation i = ⊥

@@ -3,8 +3,8 @@ use Rattle.std.specs.Prelude.{ℕ, ◌+◌, ◌==◌, ◌&&◌, ◌||◌, Bool, 
 use Rattle.std.specs.List.{starts_with, prefix_len}
 use Rattle.dav_headers.specs.IfTokens.{Token, open_list, close_list, negation, angle, square, word}
 
-abbrev pub is_blank : ℕ → Bool
-is_blank b = b == 32 || b == 9 || b == 13 || b == 10
+abbrev pub is_white_space : ℕ → Bool
+is_white_space b = b == 32 || b == 9 || b == 13 || b == 10
 
 abbrev pub is_word_byte : ℕ → Bool
 is_word_byte b =
@@ -13,13 +13,13 @@ is_word_byte b =
 -- the text from its first byte on that isn't white space
 abbrev pub skip : List ℕ → List ℕ
 skip [] = []
-skip (b ∷ bs) = if is_blank b then skip bs else b ∷ bs
+skip (b ∷ bs) = if is_white_space b then skip bs else b ∷ bs
 
 -- how many bytes are before the closing sign
 abbrev pub inside_len : ℕ → Bool → List ℕ → Option ℕ
 inside_len close quoted [] = None
 inside_len close quoted (b ∷ bs) =
-    if is_blank b then None
+    if is_white_space b then None
     else (if b == close && not quoted then Some 0
     else option_map (λ n. n + 1) (inside_len close (if b == 34 then not quoted else quoted) bs))
 

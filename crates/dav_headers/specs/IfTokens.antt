@@ -2,8 +2,8 @@
 use Rattle.std.specs.Prelude.{◌≡◌, ◌≢◌, ℕ, ◌≤◌, ◌<◌, ◌==◌, ◌++◌, ◌⊎◌, ⊤, Bool, true, false, not, if◌then◌else◌, length, List, [], ◌∷◌, All}
 
 -- white space: space, tab, CR and LF
-abbrev pub IsBlank : ℕ → Type 0
-IsBlank b = (b ≡ 32) ⊎ ((b ≡ 9) ⊎ ((b ≡ 13) ⊎ (b ≡ 10)))
+abbrev pub IsWhiteSpace : ℕ → Type 0
+IsWhiteSpace b = (b ≡ 32) ⊎ ((b ≡ 9) ⊎ ((b ≡ 13) ⊎ (b ≡ 10)))
 
 -- a byte of a bare word: from 33 up, but none of `<>()[]`
 abbrev pub IsWordByte : ℕ → Type 0
@@ -14,7 +14,7 @@ IsWordByte b = (33 ≤ b) × (b ≢ 60) × (b ≢ 62) × (b ≢ 40) × (b ≢ 41
 abbrev pub IsInside : ℕ → Bool → List ℕ → Type 0
 IsInside close quoted [] = quoted ≡ false
 IsInside close quoted (b ∷ bs) =
-    (¬ IsBlank b) × (b ≡ close → quoted ≡ true) × IsInside close (if b == 34 then not quoted else quoted) bs
+    (¬ IsWhiteSpace b) × (b ≡ close → quoted ≡ true) × IsInside close (if b == 34 then not quoted else quoted) bs
 
 -- `(`, `)`, `Not`, what is in `<>`, what is in `[]`, and a bare word
 pub data Token : Type 0 where
@@ -42,7 +42,7 @@ Begins text (word w) rest =
 
 -- the text is these tokens, with optional white space before, between and after them
 abbrev pub Spells : List ℕ → List Token → Type 0
-Spells text [] = All IsBlank text
+Spells text [] = All IsWhiteSpace text
 Spells text (t ∷ ts) =
     (gap : List ℕ) × (inner : List ℕ) × (rest : List ℕ)
-    × All IsBlank gap × (text ≡ gap ++ inner) × Begins inner t rest × Spells rest ts
+    × All IsWhiteSpace gap × (text ≡ gap ++ inner) × Begins inner t rest × Spells rest ts

@@ -81,7 +81,7 @@ ListsAt ts (l ∷ ls) = (rest : List Token) × ListAt ts l rest × ListsAt rest 
 
 abbrev pub SaysItem : WrittenItem → Item → Type 0
 SaysItem (written_token t) i = IsUtf8 t × (i ≡ state_token t)
-SaysItem (written_tag t) i = (e : EntityTag) × IsUtf8 t × IsEntityTag t e.weak e.tag × (i ≡ entity_tag e)
+SaysItem (written_tag t) i = (e : EntityTag) × IsUtf8 t × IsEntityTag t e × (i ≡ entity_tag e)
 
 abbrev pub SaysCondition : WrittenCondition → Condition → Type 0
 SaysCondition w c = (c.negated ≡ w.negated) × SaysItem w.item c.item

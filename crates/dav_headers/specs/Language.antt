@@ -3,7 +3,7 @@ use Rattle.std.specs.Prelude.{ℕ, ◌<◌, List, ◌≡◌, ◌⊎◌, All, IsT
 use Rattle.std.specs.Char.{is_ascii_alphanumeric}
 use Rattle.std.specs.List.{flat_map}
 use Rattle.http_header.specs.FieldValue.{FieldValue}
-use Rattle.dav_headers.specs.Pieces.{pieces_of}
+use Rattle.dav_headers.specs.Elements.{elements_of}
 use Rattle.dav_headers.specs.Value.{IsText}
 
 -- one or more letters, digits and hyphens (RFC 5646, section 2.1, without its order of subtags)
@@ -14,4 +14,4 @@ IsLanguage item = (0 < length item) × All (λ b. IsTrue (is_ascii_alphanumeric 
 abbrev pub AreLanguages : List FieldValue → List (List ℕ) → Type 0
 AreLanguages values items =
     (0 < length values) × All (λ v. IsText v.bytes) values
-    × (items ≡ flat_map (λ v. pieces_of v.bytes) values) × All IsLanguage items
+    × (items ≡ flat_map (λ v. elements_of v.bytes) values) × All IsLanguage items

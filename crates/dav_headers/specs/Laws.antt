@@ -1,16 +1,20 @@
 -- Laws of headers, which are stated over their grammars.
-use Rattle.std.specs.Prelude.{ℕ, ◌<◌, ◌^◌, Bool, false, List, [], ◌∷◌, ◌≡◌, ◌↔◌, ⊤, Option, Some, All}
+use Rattle.std.specs.Prelude.{ℕ, ◌<◌, ◌^◌, Bool, false, List, [], ◌∷◌, ◌≡◌, ◌↔◌, ⊤, Option, Some, None, All, decimal}
 use Rattle.http_header.specs.FieldValue.{FieldValue, plain_value}
-use Rattle.dav_headers.specs.ETag.{EntityTag, IsStrongMatch}
-use Rattle.dav_headers.specs.ContentRange.{IsContentRange}
+use Rattle.dav_headers.specs.ETag.{EntityTag, IsEntityTag, IsETag, IsStrongMatch, IsUnquoted, tag_text}
+use Rattle.dav_headers.specs.ContentRange.{IsContentRange, content_range_text}
+use Rattle.dav_headers.specs.Destination.{IsDestination}
 use Rattle.dav_headers.specs.ETagList.{TagList, IsTagList}
+use Rattle.dav_headers.specs.Language.{AreLanguages}
 use Rattle.dav_headers.specs.Length.{IsContentLength}
 use Rattle.dav_headers.specs.Overwrite.{overwrite_text, IsOverwrite}
 use Rattle.dav_headers.specs.Depth.{depth_text, IsDepth}
 use Rattle.dav_headers.specs.Timeout.{timeout_text, IsTimeout}
 use Rattle.dav_headers.specs.declared.timeout.DavTimeout.TheVariants.{Seconds, Infinite}
 use Rattle.dav_headers.specs.UpdateRange.{update_range_text, IsUpdateRange}
+use Rattle.dav_headers.specs.Value.{IsText}
 use Rattle.dav_headers.specs.declared.depth.Depth.{Depth}
+use Rattle.dav_headers.specs.declared.range.ContentRange.{ContentRange}
 use Rattle.dav_headers.specs.declared.timeout.DavTimeout.{DavTimeout}
 use Rattle.dav_headers.specs.declared.range.XUpdateRange.{XUpdateRange}
 use Rattle.dav_headers.specs.declared.range.XUpdateRange.TheVariants.{FromTo, AllFrom, Last, Append}
@@ -75,8 +79,44 @@ OneTagList = (values : List FieldValue) → (a b : TagList) → IsTagList values
 
 abbrev pub OneContentRange : Type 0
 OneContentRange =
-    (values : List FieldValue) → (a b : Option (ℕ × ℕ)) → (l m : Option ℕ)
-    → IsContentRange values a l → IsContentRange values b m → (a ≡ b) × (l ≡ m)
+    (values : List FieldValue) → (a b : ContentRange) → IsContentRange values a → IsContentRange values b → a ≡ b
 
 abbrev pub OneContentLength : Type 0
 OneContentLength = (values : List FieldValue) → (m n : ℕ) → IsContentLength values m → IsContentLength values n → m ≡ n
+
+abbrev pub OneDestination : Type 0
+OneDestination = (values : List FieldValue) → (p q : List ℕ) → IsDestination values p → IsDestination values q → p ≡ q
+
+abbrev pub OneLanguageList : Type 0
+OneLanguageList = (values : List FieldValue) → (a b : List (List ℕ)) → AreLanguages values a → AreLanguages values b → a ≡ b
+
+abbrev pub OneEntityTag : Type 0
+OneEntityTag = (text : List ℕ) → (d e : EntityTag) → IsEntityTag text d → IsEntityTag text e → d ≡ e
+
+abbrev pub OneETag : Type 0
+OneETag = (values : List FieldValue) → (d e : EntityTag) → IsETag values d → IsETag values e → d ≡ e
+
+-- a tag that was read is text, so that it can be written
+abbrev pub ReadTagIsText : Type 0
+ReadTagIsText = (values : List FieldValue) → (e : EntityTag) → IsETag values e → IsText (tag_text e.weak e.tag)
+
+abbrev pub ETagReadsAgain : Type 0
+ETagReadsAgain =
+    (e : EntityTag) → IsUnquoted e.tag → IsText (tag_text e.weak e.tag) → IsETag (written (tag_text e.weak e.tag)) e
+
+-- the numbers of a Content-Range are below 2^64
+abbrev pub AreBoundsBelow : Option (ℕ × ℕ) → Type 0
+AreBoundsBelow None = ⊤
+AreBoundsBelow (Some (a, b)) = (a < 2 ^ 64) × (b < 2 ^ 64)
+
+abbrev pub IsLengthBelow : Option ℕ → Type 0
+IsLengthBelow None = ⊤
+IsLengthBelow (Some n) = n < 2 ^ 64
+
+abbrev pub ContentRangeReadsAgain : Type 0
+ContentRangeReadsAgain =
+    (r : ContentRange) → AreBoundsBelow r.bounds → IsLengthBelow r.length
+    → IsContentRange (written (content_range_text r.bounds r.length)) r
+
+abbrev pub ContentLengthReadsAgain : Type 0
+ContentLengthReadsAgain = (n : ℕ) → n < 2 ^ 64 → IsContentLength (written (decimal n)) n

@@ -17,7 +17,7 @@ pub mod Language
 pub mod Laws
 pub mod Length
 pub mod Overwrite
-pub mod Pieces
+pub mod Elements
 pub mod Timeout
 pub mod UpdateRange
 pub mod Value

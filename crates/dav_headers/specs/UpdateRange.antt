@@ -22,10 +22,6 @@ IsUpdateRangeText text range =
 abbrev pub IsUpdateRange : List FieldValue → XUpdateRange → Type 0
 IsUpdateRange values range = IsSomeAnd (only_text values) (λ text. IsUpdateRangeText text range)
 
--- the values are no range
-abbrev pub NoUpdateRange : List FieldValue → Type 0
-NoUpdateRange values = (range : XUpdateRange) → ¬ IsUpdateRange values range
-
 -- the text that is written
 abbrev pub update_range_text : XUpdateRange → List ℕ
 update_range_text (FromTo a b) = codes "bytes=" ++ (decimal a ++ 45 ∷ decimal b)

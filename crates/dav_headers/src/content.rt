@@ -1,9 +1,9 @@
 //! The media type of a body, and the resource that it represents (RFC 9110, sections 8.3 and 8.7).
-ghost use Rattle.std.specs.Prelude.{◌≡◌, ◌↔◌, Some, None, IfOk, IsErrOf, string_bytes};
-ghost use Rattle.dav_headers.specs.Value.{only_text, Writes};
+ghost use Rattle.std.specs.Prelude.{string_bytes};
+ghost use Rattle.dav_headers.specs.Value.{IsOnlyText, ReadsAs, Writes};
 
 use crate::errors::HeaderError;
-use crate::values::{only_text, written};
+use crate::values::{copied_text, written};
 use http_header::HeaderValue;
 use std::alloc::Global;
 
@@ -14,11 +14,9 @@ pub struct ContentType(pub String);
 impl ContentType {
     /// The text of the only value; `Invalid` where there isn't exactly one, or it isn't text.
     pub fn decode(alloc: Global, values: &[HeaderValue]) -> Result<ContentType, HeaderError>
-        ensures ok { IfOk result (λ h. only_text values.now ≡ Some (string_bytes h.0)) }
-        ensures invalid { IsErrOf result HeaderError.Invalid ↔ (only_text values.now ≡ None) }
+        ensures { ReadsAs (λ h. string_bytes h.0) IsOnlyText values.now result }
     {
-        let media_type = only_text(values).ok_or(HeaderError::Invalid)?;
-        Ok(ContentType(String::from_str(alloc, media_type)?))
+        Ok(ContentType(copied_text(alloc, values)?))
     }
 
     /// The text as a value; `Invalid` exactly where it has other bytes than 32 to 126 and tab.
@@ -38,11 +36,9 @@ pub struct ContentLocation(pub String);
 impl ContentLocation {
     /// The text of the only value; `Invalid` where there isn't exactly one, or it isn't text.
     pub fn decode(alloc: Global, values: &[HeaderValue]) -> Result<ContentLocation, HeaderError>
-        ensures ok { IfOk result (λ h. only_text values.now ≡ Some (string_bytes h.0)) }
-        ensures invalid { IsErrOf result HeaderError.Invalid ↔ (only_text values.now ≡ None) }
+        ensures { ReadsAs (λ h. string_bytes h.0) IsOnlyText values.now result }
     {
-        let location = only_text(values).ok_or(HeaderError::Invalid)?;
-        Ok(ContentLocation(String::from_str(alloc, location)?))
+        Ok(ContentLocation(copied_text(alloc, values)?))
     }
 
     /// The text as a value; `Invalid` exactly where it has other bytes than 32 to 126 and tab.

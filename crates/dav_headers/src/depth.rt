@@ -1,7 +1,9 @@
 //! How far below its resource a request applies (RFC 4918, section 10.2).
-ghost use Rattle.std.specs.Prelude.{◌≡◌, ◌↔◌, IfOk, IfErr, IsErrOf, IsSomeAnd};
+ghost use Rattle.std.specs.Prelude.{◌≡◌, ◌↔◌, IfOk, IsErrOf, IsOkUnless, IsSomeAnd};
+ghost use Rattle.std.specs.Result.{result_ok};
 ghost use Rattle.http_header.specs.FieldValue.{plain_value};
-ghost use Rattle.dav_headers.specs.Depth.{depth_text, IsDepth, NoDepth};
+ghost use Rattle.dav_headers.specs.Depth.{depth_text, IsDepth};
+ghost use Rattle.dav_headers.specs.Value.{Decodes};
 
 use crate::errors::HeaderError;
 use crate::values::{only_text, written};
@@ -25,8 +27,8 @@ impl Depth {
     /// The depth in the only value: `0`, `1`, and `infinity` or `Infinity`. `Invalid` for any other values. Allocates
     /// nothing.
     pub fn decode(_alloc: Global, values: &[HeaderValue]) -> Result<Depth, HeaderError>
-        ensures ok { IfOk result (λ depth. IsDepth values.now depth) }
-        ensures invalid { IfErr result (λ e. (e ≡ HeaderError.Invalid) × NoDepth values.now) }
+        ensures reads { Decodes IsDepth values.now (result_ok result) }
+        ensures error { IsOkUnless result HeaderError.Invalid }
     {
         match only_text(values) {
             Some("0") => Ok(Depth::Zero),

@@ -1,6 +1,7 @@
 //! Where a copy or a move goes (RFC 4918, section 10.3).
-ghost use Rattle.std.specs.Prelude.{◌≡◌, ◌≢◌, ◌↔◌, IsTrue, ℕ, List, ◌++◌, ◌∷◌, IfOk, IfSome, IfNone, IsErrOf, string_bytes};
-ghost use Rattle.dav_headers.specs.Value.{Writes};
+ghost use Rattle.std.specs.Prelude.{◌≡◌, ◌≢◌, ◌↔◌, IsTrue, ℕ, List, ◌++◌, ◌∷◌, IfSome, IfNone, string_bytes};
+ghost use Rattle.std.specs.Option.{option_copied};
+ghost use Rattle.dav_headers.specs.Value.{Decodes, ReadsAs, Writes};
 ghost use Rattle.dav_headers.specs.Destination.{from_slash, IsDestination, IsDestinationText, IsHttp};
 
 use crate::errors::HeaderError;
@@ -17,8 +18,7 @@ impl Destination {
     /// (ASCII case of the scheme ignored) it is what follows the authority, from its first slash on, and `/` where
     /// there is no slash. `Invalid` for any other values.
     pub fn decode(alloc: Global, values: &[HeaderValue]) -> Result<Destination, HeaderError>
-        ensures ok { IfOk result (λ d. IsDestination values.now (string_bytes d.0)) }
-        ensures invalid { IsErrOf result HeaderError.Invalid → (path : List ℕ) → ¬ IsDestination values.now path }
+        ensures { ReadsAs (λ d. string_bytes d.0) IsDestination values.now result }
     {
         let Some(text) = only_text(values) else {
             return Err(HeaderError::Invalid);
@@ -39,26 +39,25 @@ impl Destination {
 
 // The path that a destination's text names.
 fn path_of(text: &str) -> Option<&str>
-    ensures found { IfSome result (λ path. IsDestinationText text.now path.now) }
-    ensures none { IfNone result ((path : List ℕ) → ¬ IsDestinationText text.now path) }
+    ensures { Decodes IsDestinationText text.now (option_copied result) }
 {
     if text.starts_with('/') {
         return Some(text);
     }
-    let behind = behind_scheme(text)?;
-    Some(path_behind(behind))
+    let after = after_scheme(text)?;
+    Some(path_after(after))
 }
 
 // What follows `http://` or `https://`.
-fn behind_scheme(text: &str) -> Option<&str>
-    ensures found { IfSome result (λ behind. (scheme : List ℕ)
-        × IsHttp scheme × (text.now ≡ scheme ++ 58 ∷ 47 ∷ 47 ∷ behind.now)) }
-    ensures none { IfNone result ((scheme behind : List ℕ)
-        → IsHttp scheme → text.now ≢ scheme ++ 58 ∷ 47 ∷ 47 ∷ behind) }
+fn after_scheme(text: &str) -> Option<&str>
+    ensures found { IfSome result (λ after. (scheme : List ℕ)
+        × IsHttp scheme × (text.now ≡ scheme ++ 58 ∷ 47 ∷ 47 ∷ after.now)) }
+    ensures none { IfNone result ((scheme after : List ℕ)
+        → IsHttp scheme → text.now ≢ scheme ++ 58 ∷ 47 ∷ 47 ∷ after) }
 {
     let (scheme, rest) = cut(text, ':')?;
-    let behind = rest.strip_prefix("//")?;
-    if is_http(scheme) { Some(behind) } else { None }
+    let after = rest.strip_prefix("//")?;
+    if is_http(scheme) { Some(after) } else { None }
 }
 
 fn is_http(scheme: &str) -> bool
@@ -68,7 +67,7 @@ fn is_http(scheme: &str) -> bool
 }
 
 // The text from its first slash on; `/` where it has none.
-fn path_behind(authority: &str) -> &str
+fn path_after(authority: &str) -> &str
     ensures { result.now ≡ from_slash authority.now }
 {
     match authority.find('/') {

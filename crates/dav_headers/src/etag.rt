@@ -1,6 +1,6 @@
 //! Entity tags (RFC 9110, section 8.8.3).
 use crate::errors::{HeaderError, NoMemory};
-use crate::values::{only_text, written};
+use crate::values::{is_text, only_text, written};
 use http_header::HeaderValue;
 use std::alloc::Global;
 use std::fmt;
@@ -15,23 +15,25 @@ pub struct ETag {
 
 impl Model for ETag {
     ghost use Rattle.std.specs.Prelude.{string_bytes};
-    ghost use Rattle.dav_headers.specs.ETag.{EntityTag, coded_tag};
+    ghost use Rattle.dav_headers.specs.ETag.{EntityTag, IsUnquoted, coded_tag};
 
     ghost Value = { EntityTag };
 
     ghost coded = { coded_tag };
 
     ghost view = { λ e. record { weak = e.weak; tag = string_bytes e.tag } };
+
+    ghost invariant = { λ e. IsUnquoted (string_bytes e.tag) };
 }
 
-ghost use Rattle.std.specs.Prelude.{◌≡◌, ◌↔◌, ℕ, List, Bool, false, IfOk, IfSome, IfNone, IsErrOf, IsTrue, IsSomeAnd};
-ghost use Rattle.dav_headers.specs.Value.{only_text, Writes};
-ghost use Rattle.dav_headers.specs.ETag.{tag_text, IsUnquoted, IsEntityTag, IsETag, NoEntityTag, IsStrongMatch};
+ghost use Rattle.std.specs.Prelude.{◌≡◌, ◌∷◌, [], ◌↔◌, ℕ, List, false, IfOk, IfSome, IfNone, IsErrOf, IsTrue};
+ghost use Rattle.dav_headers.specs.Value.{IsText, ReadsBy, Writes};
+ghost use Rattle.dav_headers.specs.ETag.{tag_text, EntityTag, IsUnquoted, IsEntityTag, IsETag, IsStrongMatch};
 
 // Whether a tag's text is that of a weak tag, and what is between its quotes.
 pub(super) fn parts(text: &str) -> Option<(bool, &str)>
-    ensures found { IfSome result (λ p. IsEntityTag text.now p.0 p.1.now) }
-    ensures none { IfNone result (NoEntityTag text.now) }
+    ensures found { IfSome result (λ p. IsEntityTag text.now record { weak = p.0; tag = p.1.now }) }
+    ensures none { IfNone result ((e : EntityTag) → ¬ IsEntityTag text.now e) }
 {
     match text.strip_prefix("W/") {
         Some(rest) => Some((true, unquoted(rest)?)),
@@ -41,8 +43,8 @@ pub(super) fn parts(text: &str) -> Option<(bool, &str)>
 
 // What is between the quotes of a text that has one at each end, and none between.
 fn unquoted(text: &str) -> Option<&str>
-    ensures found { IfSome result (λ tag. IsEntityTag text.now false tag.now) }
-    ensures none { IfNone result ((tag : List ℕ) → ¬ IsEntityTag text.now false tag) }
+    ensures found { IfSome result (λ tag. IsEntityTag text.now record { weak = false; tag = tag.now }) }
+    ensures none { IfNone result ((tag : List ℕ) → ¬ IsEntityTag text.now record { weak = false; tag = tag }) }
 {
     let tag = text.strip_prefix('"')?.strip_suffix('"')?;
     if tag.as_bytes().contains(&b'"') {
@@ -68,8 +70,7 @@ impl ETag {
     /// The tag of a text as it is in a header: `W/` where it is weak, then a text without quotes between quotes.
     /// `Invalid` where the text isn't a tag.
     pub fn from_str(alloc: Global, text: &str) -> Result<ETag, HeaderError>
-        ensures ok { IfOk result (λ e. IsEntityTag text.now e.weak e.tag) }
-        ensures invalid { IsErrOf result HeaderError.Invalid → NoEntityTag text.now }
+        ensures { ReadsBy IsEntityTag text.now result }
     {
         let Some((weak, tag)) = parts(text) else {
             return Err(HeaderError::Invalid);
@@ -95,9 +96,7 @@ impl ETag {
     /// The tag in the only value of a header (`ETag`, RFC 9110, section 8.8.3). `Invalid` where there isn't exactly
     /// one value, or it isn't a tag.
     pub fn decode(alloc: Global, values: &[HeaderValue]) -> Result<ETag, HeaderError>
-        ensures ok { IfOk result (λ e. IsETag values.now e.weak e.tag) }
-        ensures invalid { IsErrOf result HeaderError.Invalid
-            → (weak : Bool) (tag : List ℕ) → ¬ IsETag values.now weak tag }
+        ensures { ReadsBy IsETag values.now result }
     {
         let Some(text) = only_text(values) else {
             return Err(HeaderError::Invalid);
@@ -105,10 +104,21 @@ impl ETag {
         ETag::from_str(alloc, text)
     }
 
-    /// The tag as a value; `Invalid` exactly where it isn't text.
-    pub fn encode(&self, alloc: Global) -> Result<HeaderValue, HeaderError>
-        ensures { Writes result (tag_text self.now.weak self.now.tag) }
+    // Whether the tag can be the value of a header.
+    pub(super) fn is_text(&self) -> bool
+        ensures { IsTrue result ↔ IsText (tag_text self.now.weak self.now.tag) }
     {
+        is_text(&self.tag)
+    }
+
+    /// The tag as a value, which `decode` reads as this tag; `Invalid` exactly where it isn't text.
+    pub fn encode(&self, alloc: Global) -> Result<HeaderValue, HeaderError>
+        ensures writes { Writes result (tag_text self.now.weak self.now.tag) }
+        ensures again { IfOk result (λ v. IsETag (v ∷ []) self.now) }
+    {
+        if !is_text(&self.tag) {
+            return Err(HeaderError::Invalid);
+        }
         let text = format!(in alloc; "{self}")?;
         written(alloc, &text)
     }

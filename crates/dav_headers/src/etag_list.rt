@@ -1,13 +1,13 @@
 //! Conditions on entity tags (RFC 9110, section 13.1).
-ghost use Rattle.std.specs.Prelude.{◌≡◌, ◌++◌, ℕ, List, Bool, map, string_bytes, IfOk, OnOk, IsErrOf, IsOkUnless};
+ghost use Rattle.std.specs.Prelude.{◌≡◌, ◌++◌, ◌↔◌, List, All, map, string_bytes, IfOk, OnOk, IsTrue};
 ghost use Rattle.dav_headers.specs.ETag.{tag_text, EntityTag, IsETag};
-ghost use Rattle.dav_headers.specs.ETagList.{tag_list, tag_list_text, range_tag, AreTags, IsTagList, NoTagList};
-ghost use Rattle.dav_headers.specs.Pieces.{pieces_of};
-ghost use Rattle.dav_headers.specs.Value.{Writes};
+ghost use Rattle.dav_headers.specs.ETagList.{tag_list, tag_list_text, range_tag, AreTags, IsTagList, ReadTags, TagList};
+ghost use Rattle.dav_headers.specs.Elements.{elements_of};
+ghost use Rattle.dav_headers.specs.Value.{IsText, ReadsAs, Writes};
 
+use crate::elements::{joined, trimmed};
 use crate::errors::{HeaderError, NoMemory};
 use crate::etag::ETag;
-use crate::pieces::{joined, trimmed};
 use crate::values::written;
 use http_header::HeaderValue;
 use std::alloc::Global;
@@ -41,13 +41,12 @@ impl IfMatch {
     /// means any tag, and the values after it aren't read. The others are split at commas, and list elements that
     /// aren't tags are skipped. `Invalid` where there are no values, and where one that is read isn't text.
     pub fn decode(alloc: Global, values: &[HeaderValue]) -> Result<IfMatch, HeaderError>
-        ensures ok { IfOk result (λ m. IsTagList values.now (tag_list m.0)) }
-        ensures invalid { IsErrOf result HeaderError.Invalid → NoTagList values.now }
+        ensures { ReadsAs (λ m. tag_list m.0) IsTagList values.now result }
     {
         Ok(IfMatch(ETagList::decode(alloc, values)?))
     }
 
-    /// `*`, or the tags with a comma and a space between them; `Invalid` where that isn't text.
+    /// `*`, or the tags with a comma and a space between them; `Invalid` exactly where that isn't text.
     pub fn encode(&self, alloc: Global) -> Result<HeaderValue, HeaderError>
         ensures { Writes result (tag_list_text (tag_list self.now.0)) }
     {
@@ -59,13 +58,12 @@ impl IfMatch {
 impl IfNoneMatch {
     /// The tags in one or more values (RFC 9110, section 13.1.2), read as those of `IfMatch` are.
     pub fn decode(alloc: Global, values: &[HeaderValue]) -> Result<IfNoneMatch, HeaderError>
-        ensures ok { IfOk result (λ m. IsTagList values.now (tag_list m.0)) }
-        ensures invalid { IsErrOf result HeaderError.Invalid → NoTagList values.now }
+        ensures { ReadsAs (λ m. tag_list m.0) IsTagList values.now result }
     {
         Ok(IfNoneMatch(ETagList::decode(alloc, values)?))
     }
 
-    /// `*`, or the tags with a comma and a space between them; `Invalid` where that isn't text.
+    /// `*`, or the tags with a comma and a space between them; `Invalid` exactly where that isn't text.
     pub fn encode(&self, alloc: Global) -> Result<HeaderValue, HeaderError>
         ensures { Writes result (tag_list_text (tag_list self.now.0)) }
     {
@@ -76,9 +74,7 @@ impl IfNoneMatch {
 impl IfRange {
     /// The tag in the only value (RFC 9110, section 13.1.5); `Invalid` for any other values, a date among them.
     pub fn decode(alloc: Global, values: &[HeaderValue]) -> Result<IfRange, HeaderError>
-        ensures ok { IfOk result (λ r. IsETag values.now (range_tag r).weak (range_tag r).tag) }
-        ensures invalid { IsErrOf result HeaderError.Invalid
-            → (weak : Bool) (tag : List ℕ) → ¬ IsETag values.now weak tag }
+        ensures { ReadsAs range_tag IsETag values.now result }
     {
         Ok(IfRange::ETag(ETag::decode(alloc, values)?))
     }
@@ -95,10 +91,9 @@ impl IfRange {
 
 impl ETagList {
     fn decode(alloc: Global, values: &[HeaderValue]) -> Result<ETagList, HeaderError>
-        ensures ok { IfOk result (λ l. IsTagList values.now (tag_list l)) }
-        ensures invalid { IsErrOf result HeaderError.Invalid → NoTagList values.now }
+        ensures { ReadsAs tag_list IsTagList values.now result }
     {
-        if values.is_empty() {
+        if values.is_empty() || !can_be_read(values) {
             return Err(HeaderError::Invalid);
         }
         let mut tags = Vec::new(alloc);
@@ -120,6 +115,9 @@ impl ETagList {
         match self {
             ETagList::Star => written(alloc, "*"),
             ETagList::Tags(tags) => {
+                if !are_text(tags) {
+                    return Err(HeaderError::Invalid);
+                }
                 let texts = texts(alloc, tags)?;
                 let text = joined(alloc, &texts)?;
                 written(alloc, &text)
@@ -128,17 +126,38 @@ impl ETagList {
     }
 }
 
-// Adds the tags among the list elements of a text.
-fn push_tags(alloc: Global, tags: &mut Vec<ETag>, text: &str) -> Result<(), HeaderError>
-    ensures ok { OnOk result ((added : List EntityTag)
-        × (tags.new.items ≡ tags.old.items ++ added) × AreTags (pieces_of text.now) added) }
-    ensures err { IsOkUnless result HeaderError.Memory }
+// Whether the values, up to the first that is `*`, are text.
+fn can_be_read(values: &[HeaderValue]) -> bool
+    ensures { IsTrue result ↔ (l : TagList) × ReadTags values.now l }
 {
-    for piece in text.split(',') {
-        let tag = match ETag::from_str(alloc, trimmed(piece)) {
+    for value in values {
+        let Ok(text) = value.to_str() else {
+            return false;
+        };
+        if trimmed(text) == "*" {
+            return true;
+        }
+    }
+    true
+}
+
+// Whether each tag can be in a value.
+fn are_text(tags: &[ETag]) -> bool
+    ensures { IsTrue result ↔ All (λ t. IsText (tag_text t.weak t.tag)) tags.now }
+{
+    tags.iter().all(|tag| tag.is_text())
+}
+
+// Adds the tags among the list elements of a text.
+fn push_tags(alloc: Global, tags: &mut Vec<ETag>, text: &str) -> Result<(), NoMemory>
+    ensures { OnOk result ((added : List EntityTag)
+        × (tags.new.items ≡ tags.old.items ++ added) × AreTags (elements_of text.now) added) }
+{
+    for element in text.split(',') {
+        let tag = match ETag::from_str(alloc, trimmed(element)) {
             Ok(tag) => tag,
             Err(HeaderError::Invalid) => continue,
-            Err(HeaderError::Memory) => return Err(HeaderError::Memory),
+            Err(HeaderError::Memory) => return Err(NoMemory),
         };
         tags.push(tag)?;
     }

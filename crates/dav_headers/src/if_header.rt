@@ -1,6 +1,8 @@
 //! The If header (RFC 4918, section 10.4).
-ghost use Rattle.std.specs.Prelude.{List, IfOk, IsErrOf};
+ghost use Rattle.std.specs.Prelude.{◌≡◌, ◌∷◌, [], List, IfOk, IsErrOf};
+ghost use Rattle.http_header.specs.FieldValue.{FieldValue};
 ghost use Rattle.dav_headers.specs.If.{ConditionList, IsIf, IsIfHeader};
+ghost use Rattle.dav_headers.specs.IfTokens.{Spells, Token};
 ghost use Rattle.dav_headers.specs.IfView.{if_lists};
 
 pub mod laws;
@@ -51,10 +53,12 @@ impl If {
     /// The lists in the only value of a header (RFC 4918, section 10.4.2).
     ///
     /// `Invalid` where there isn't exactly one value, or it isn't one or more lists; `Memory` where memory runs out,
-    /// or a resource tag is a URL past 4 GB.
+    /// or a resource tag is a URL past 4 GB, and only where there is one value, which is made of tokens.
     pub fn decode(alloc: Global, values: &[HeaderValue]) -> Result<If, HeaderError>
         ensures ok { IfOk result (λ x. IsIfHeader values.now (if_lists x)) }
         ensures invalid { IsErrOf result HeaderError.Invalid → (ls : List ConditionList) → ¬ IsIfHeader values.now ls }
+        ensures memory { IsErrOf result HeaderError.Memory
+            → (v : FieldValue) × (ts : List Token) × (values.now ≡ v ∷ []) × Spells v.bytes ts }
     {
         match values {
             [value] => read(alloc, value.as_bytes()),
@@ -120,6 +124,7 @@ impl Clone for If {
 fn read(alloc: Global, text: &[u8]) -> Result<If, HeaderError>
     ensures ok { IfOk result (λ x. IsIf text.now (if_lists x)) }
     ensures invalid { IsErrOf result HeaderError.Invalid → (ls : List ConditionList) → ¬ IsIf text.now ls }
+    ensures memory { IsErrOf result HeaderError.Memory → (ts : List Token) × Spells text.now ts }
 {
     let parts = parts_of(alloc, text)?;
     let lists = lists_of(alloc, &parts)?;

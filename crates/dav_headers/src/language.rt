@@ -1,12 +1,12 @@
 //! The languages of a body (RFC 9110, section 8.5).
-ghost use Rattle.std.specs.Prelude.{◌≡◌, ◌++◌, ◌↔◌, ℕ, List, All, map, string_bytes, IfOk, OnOk, IsErrOf, IsOkUnless, IsTrue};
+ghost use Rattle.std.specs.Prelude.{◌≡◌, ◌++◌, ◌↔◌, All, map, string_bytes, IfOk, OnOk, IsOkUnless, IsTrue};
 ghost use Rattle.http_header.specs.FieldValue.{plain_value};
 ghost use Rattle.dav_headers.specs.Language.{AreLanguages, IsLanguage};
-ghost use Rattle.dav_headers.specs.Pieces.{joined, pieces_of};
-ghost use Rattle.dav_headers.specs.Value.{Writes};
+ghost use Rattle.dav_headers.specs.Elements.{joined, elements_of};
+ghost use Rattle.dav_headers.specs.Value.{IsText, ReadsBy};
 
+use crate::elements::{joined, trimmed};
 use crate::errors::{HeaderError, NoMemory};
-use crate::pieces::{joined, trimmed};
 use crate::values::written;
 use http_header::HeaderValue;
 use std::alloc::Global;
@@ -19,11 +19,14 @@ pub struct ContentLanguage {
 }
 
 impl Model for ContentLanguage {
-    ghost use Rattle.std.specs.Prelude.{ℕ, List, map, string_bytes};
+    ghost use Rattle.std.specs.Prelude.{ℕ, List, All, map, string_bytes};
+    ghost use Rattle.dav_headers.specs.Language.{IsLanguage};
 
     ghost Value = { List (List ℕ) };
 
     ghost view = { λ l. map string_bytes l.items.items };
+
+    ghost invariant = { λ l. All IsLanguage (map string_bytes l.items.items) };
 }
 
 impl ContentLanguage {
@@ -31,11 +34,9 @@ impl ContentLanguage {
     /// digits and hyphens. `Invalid` where there are no values, or one isn't text, or a list element is something
     /// else.
     pub fn decode(alloc: Global, values: &[HeaderValue]) -> Result<ContentLanguage, HeaderError>
-        ensures ok { IfOk result (AreLanguages values.now) }
-        ensures invalid { IsErrOf result HeaderError.Invalid
-            → (items : List (List ℕ)) → ¬ AreLanguages values.now items }
+        ensures { ReadsBy AreLanguages values.now result }
     {
-        if values.is_empty() {
+        if values.is_empty() || !can_be_read(values) {
             return Err(HeaderError::Invalid);
         }
         let mut items = Vec::new(alloc);
@@ -43,14 +44,15 @@ impl ContentLanguage {
             let Ok(text) = value.to_str() else {
                 return Err(HeaderError::Invalid);
             };
-            push_languages(alloc, &mut items, text)?;
+            push_elements(alloc, &mut items, text)?;
         }
         Ok(ContentLanguage { items })
     }
 
-    /// The languages in order, with a comma and a space between them; `Invalid` exactly where that isn't text.
+    /// The languages in order, with a comma and a space between them.
     pub fn encode(&self, alloc: Global) -> Result<HeaderValue, HeaderError>
-        ensures { Writes result (joined self.now) }
+        ensures ok { IfOk result (λ v. v ≡ plain_value (joined self.now)) }
+        ensures err { IsOkUnless result HeaderError.Memory }
     {
         let text = joined(alloc, &self.items)?;
         written(alloc, &text)
@@ -64,18 +66,40 @@ impl ContentLanguage {
     }
 }
 
-// Adds the languages that the list elements of a text are.
-fn push_languages(alloc: Global, items: &mut Vec<String>, text: &str) -> Result<(), HeaderError>
-    ensures ok { OnOk result ((map string_bytes items.new.items ≡ map string_bytes items.old.items ++ pieces_of text.now)
-        × All IsLanguage (pieces_of text.now)) }
-    ensures invalid { IsErrOf result HeaderError.Invalid → ¬ All IsLanguage (pieces_of text.now) }
+// Whether each value is text whose list elements are languages.
+fn can_be_read(values: &[HeaderValue]) -> bool
+    ensures { IsTrue result ↔ All (λ v. IsText v.bytes × All IsLanguage (elements_of v.bytes)) values.now }
 {
-    for piece in text.split(',') {
-        let item = trimmed(piece);
-        if !is_language(item) {
-            return Err(HeaderError::Invalid);
+    for value in values {
+        let Ok(text) = value.to_str() else {
+            return false;
+        };
+        if !are_languages(text) {
+            return false;
         }
-        items.push(String::from_str(alloc, item)?)?;
+    }
+    true
+}
+
+// Whether each list element of a text is a language.
+fn are_languages(text: &str) -> bool
+    ensures { IsTrue result ↔ All IsLanguage (elements_of text.now) }
+{
+    for element in text.split(',') {
+        if !is_language(trimmed(element)) {
+            return false;
+        }
+    }
+    true
+}
+
+// Adds the list elements of a text.
+fn push_elements(alloc: Global, items: &mut Vec<String>, text: &str) -> Result<(), NoMemory>
+    ensures { OnOk result (map string_bytes items.new.items
+        ≡ map string_bytes items.old.items ++ elements_of text.now) }
+{
+    for element in text.split(',') {
+        items.push(String::from_str(alloc, trimmed(element))?)?;
     }
     Ok(())
 }

@@ -1,5 +1,5 @@
 //! Laws of headers. Each function does nothing: its contract is a theorem on the grammars.
-ghost use Rattle.dav_headers.specs.Laws.{StrongIsSymmetric, StrongIsTransitive, StrongMatchesItself, OverwriteReadsAgain, OneOverwrite, DepthReadsAgain, OneDepth, UpdateRangeReadsAgain, OneUpdateRange, OneTimeout, TimeoutReadsAgain, OneTagList, OneContentRange, OneContentLength};
+ghost use Rattle.dav_headers.specs.Laws.{StrongIsSymmetric, StrongIsTransitive, StrongMatchesItself, OverwriteReadsAgain, OneOverwrite, DepthReadsAgain, OneDepth, UpdateRangeReadsAgain, OneUpdateRange, OneTimeout, TimeoutReadsAgain, OneTagList, OneContentRange, OneContentLength, OneDestination, OneLanguageList, OneEntityTag, OneETag, ReadTagIsText, ETagReadsAgain, ContentRangeReadsAgain, ContentLengthReadsAgain};
 
 /// The strong comparison of entity tags (RFC 9110, section 8.8.3.2) is symmetric and transitive, and a tag matches itself
 /// exactly where it is strong.
@@ -44,4 +44,28 @@ pub fn tag_lists_have_one_reading()
 pub fn lengths_have_one_reading()
     ensures range { OneContentRange }
     ensures length { OneContentLength }
+{}
+
+/// The values written for a `ContentRange` and a `ContentLength` are read back as the same.
+pub fn lengths_are_read_again()
+    ensures range { ContentRangeReadsAgain }
+    ensures length { ContentLengthReadsAgain }
+{}
+
+/// The values of Destination and of Content-Language have at most one reading.
+pub fn destinations_and_languages_have_one_reading()
+    ensures destination { OneDestination }
+    ensures languages { OneLanguageList }
+{}
+
+/// A text is at most one entity tag, and so is the value of ETag and If-Range.
+pub fn entity_tags_have_one_reading()
+    ensures text { OneEntityTag }
+    ensures value { OneETag }
+{}
+
+/// A tag that was read from a header can be written, and the value written for a tag that is text is read back as the same.
+pub fn entity_tag_is_read_again()
+    ensures text { ReadTagIsText }
+    ensures again { ETagReadsAgain }
 {}

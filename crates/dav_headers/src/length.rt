@@ -1,7 +1,8 @@
 //! How long a body is (RFC 9110, section 8.6).
-ghost use Rattle.std.specs.Prelude.{◌≡◌, ℕ, decimal, IfOk, IfErr, IfSome, IfNone, IsOkUnless};
+ghost use Rattle.std.specs.Prelude.{◌≡◌, decimal, IfOk, IsOkUnless, option_map};
+ghost use Rattle.std.specs.Result.{result_ok};
 ghost use Rattle.http_header.specs.FieldValue.{plain_value};
-ghost use Rattle.dav_headers.specs.Value.{IsNumber};
+ghost use Rattle.dav_headers.specs.Value.{Decodes, IsNumber};
 ghost use Rattle.dav_headers.specs.Length.{IsContentLength};
 
 use crate::errors::HeaderError;
@@ -17,8 +18,8 @@ impl ContentLength {
     /// The number that all values are; `3` and `03` are the same number. `Invalid` where there are no values, one
     /// isn't a number of decimal digits below 2^64, or two are different numbers. Allocates nothing.
     pub fn decode(_alloc: Global, values: &[HeaderValue]) -> Result<ContentLength, HeaderError>
-        ensures ok { IfOk result (λ l. IsContentLength values.now l.0) }
-        ensures invalid { IfErr result (λ e. (e ≡ HeaderError.Invalid) × ((n : ℕ) → ¬ IsContentLength values.now n)) }
+        ensures reads { Decodes IsContentLength values.now (option_map (λ l. l.0) (result_ok result)) }
+        ensures error { IsOkUnless result HeaderError.Invalid }
     {
         let first = values.first().ok_or(HeaderError::Invalid)?;
         let length = length_of(first).ok_or(HeaderError::Invalid)?;
@@ -40,8 +41,7 @@ impl ContentLength {
 
 // The number in one value.
 fn length_of(value: &HeaderValue) -> Option<u64>
-    ensures found { IfSome result (λ n. IsNumber value.now.bytes n) }
-    ensures none { IfNone result ((n : ℕ) → ¬ IsNumber value.now.bytes n) }
+    ensures { Decodes IsNumber value.now.bytes result }
 {
     match value.to_str() {
         Ok(text) => number(text),

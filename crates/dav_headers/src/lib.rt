@@ -6,6 +6,7 @@ mod asserting;
 pub mod content;
 pub mod depth;
 pub mod destination;
+mod elements;
 pub mod errors;
 pub mod etag;
 pub mod etag_list;
@@ -15,7 +16,6 @@ pub mod laws;
 pub mod length;
 pub mod names;
 pub mod overwrite;
-mod pieces;
 pub mod range;
 #[cfg(test)]
 mod tests;

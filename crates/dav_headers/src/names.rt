@@ -8,7 +8,15 @@ use http_header::HeaderName;
 pub fn CONTENT_LANGUAGE() -> HeaderName
     ensures { result ≡ codes "content-language" }
 {
-    HeaderName::from_static("content-language")
+    http_header::CONTENT_LANGUAGE
+}
+
+/// Content-Length (RFC 9110, section 8.6).
+#[allow(non_snake_case)]
+pub fn CONTENT_LENGTH() -> HeaderName
+    ensures { result ≡ codes "content-length" }
+{
+    http_header::CONTENT_LENGTH
 }
 
 /// Content-Location (RFC 9110, section 8.7).
@@ -16,7 +24,15 @@ pub fn CONTENT_LANGUAGE() -> HeaderName
 pub fn CONTENT_LOCATION() -> HeaderName
     ensures { result ≡ codes "content-location" }
 {
-    HeaderName::from_static("content-location")
+    http_header::CONTENT_LOCATION
+}
+
+/// Content-Range (RFC 9110, section 14.4).
+#[allow(non_snake_case)]
+pub fn CONTENT_RANGE() -> HeaderName
+    ensures { result ≡ codes "content-range" }
+{
+    http_header::CONTENT_RANGE
 }
 
 /// Content-Type (RFC 9110, section 8.3).
@@ -24,7 +40,7 @@ pub fn CONTENT_LOCATION() -> HeaderName
 pub fn CONTENT_TYPE() -> HeaderName
     ensures { result ≡ codes "content-type" }
 {
-    HeaderName::from_static("content-type")
+    http_header::CONTENT_TYPE
 }
 
 /// Depth (RFC 4918, section 10.2).
@@ -48,7 +64,7 @@ pub fn DESTINATION() -> HeaderName
 pub fn ETAG() -> HeaderName
     ensures { result ≡ codes "etag" }
 {
-    HeaderName::from_static("etag")
+    http_header::ETAG
 }
 
 /// If (RFC 4918, section 10.4).
@@ -64,7 +80,7 @@ pub fn IF() -> HeaderName
 pub fn IF_MATCH() -> HeaderName
     ensures { result ≡ codes "if-match" }
 {
-    HeaderName::from_static("if-match")
+    http_header::IF_MATCH
 }
 
 /// If-None-Match (RFC 9110, section 13.1.2).
@@ -72,7 +88,7 @@ pub fn IF_MATCH() -> HeaderName
 pub fn IF_NONE_MATCH() -> HeaderName
     ensures { result ≡ codes "if-none-match" }
 {
-    HeaderName::from_static("if-none-match")
+    http_header::IF_NONE_MATCH
 }
 
 /// If-Range (RFC 9110, section 13.1.5).
@@ -80,7 +96,7 @@ pub fn IF_NONE_MATCH() -> HeaderName
 pub fn IF_RANGE() -> HeaderName
     ensures { result ≡ codes "if-range" }
 {
-    HeaderName::from_static("if-range")
+    http_header::IF_RANGE
 }
 
 /// Lock-Token (RFC 4918, section 10.5).

@@ -1,7 +1,9 @@
 //! Whether a copy or a move replaces what is there (RFC 4918, section 10.6).
-ghost use Rattle.std.specs.Prelude.{◌≡◌, Bool, IfOk, IfErr, IsOkUnless};
+ghost use Rattle.std.specs.Prelude.{◌≡◌, IfOk, IsOkUnless, option_map};
+ghost use Rattle.std.specs.Result.{result_ok};
 ghost use Rattle.http_header.specs.FieldValue.{plain_value};
 ghost use Rattle.dav_headers.specs.Overwrite.{overwrite_text, IsOverwrite};
+ghost use Rattle.dav_headers.specs.Value.{Decodes};
 
 use crate::errors::HeaderError;
 use crate::values::{only_text, written};
@@ -15,8 +17,8 @@ pub struct Overwrite(pub bool);
 impl Overwrite {
     /// The flag in the only value: `T` or `F`. `Invalid` for any other values. Allocates nothing.
     pub fn decode(_alloc: Global, values: &[HeaderValue]) -> Result<Overwrite, HeaderError>
-        ensures ok { IfOk result (λ o. IsOverwrite values.now o.0) }
-        ensures invalid { IfErr result (λ e. (e ≡ HeaderError.Invalid) × ((b : Bool) → ¬ IsOverwrite values.now b)) }
+        ensures reads { Decodes IsOverwrite values.now (option_map (λ o. o.0) (result_ok result)) }
+        ensures error { IsOkUnless result HeaderError.Invalid }
     {
         match only_text(values) {
             Some("T") => Ok(Overwrite(true)),

@@ -1,10 +1,11 @@
 //! Ranges of bytes that a request replaces (RFC 9110, section 14.4; SabreDAV's partial update by PATCH).
-ghost use Rattle.std.specs.Prelude.{◌≡◌, ◌≢◌, ℕ, List, Option, ◌++◌, ◌∷◌, codes, string_bytes, IfOk, IfErr, IfSome, IfNone, IsOkUnless};
+ghost use Rattle.std.specs.Prelude.{◌≡◌, ◌≢◌, ℕ, List, ◌++◌, ◌∷◌, codes, string_bytes, IfOk, IfSome, IfNone, IsOkUnless};
+ghost use Rattle.std.specs.Result.{result_ok};
 ghost use Rattle.http_header.specs.FieldValue.{plain_value};
-ghost use Rattle.dav_headers.specs.ContentRange.{content_range_text, IsBounds, IsContentRange, IsContentRangeText, IsLength, NoContentRange};
+ghost use Rattle.dav_headers.specs.ContentRange.{content_range_text, IsBounds, IsContentRange, IsLength};
 ghost use Rattle.dav_headers.specs.Cut.{IsCut, NoCut};
-ghost use Rattle.dav_headers.specs.UpdateRange.{update_range_text, IsEnds, IsUpdateRange, IsUpdateRangeText, NoUpdateRange};
-ghost use Rattle.dav_headers.specs.declared.range.XUpdateRange.{XUpdateRange as XUpdateRangeValue};
+ghost use Rattle.dav_headers.specs.UpdateRange.{update_range_text, IsEnds, IsUpdateRange};
+ghost use Rattle.dav_headers.specs.Value.{Decodes};
 
 use crate::errors::{HeaderError, NoMemory};
 use crate::values::{cut, number, only_text, written};
@@ -28,8 +29,8 @@ impl XUpdateRange {
     /// The range in the only value: `append`, `bytes=a-b`, `bytes=a-` or `bytes=-n`, with numbers of decimal digits
     /// below 2^64. `Invalid` for any other values. Allocates nothing.
     pub fn decode(_alloc: Global, values: &[HeaderValue]) -> Result<XUpdateRange, HeaderError>
-        ensures ok { IfOk result (λ range. IsUpdateRange values.now range) }
-        ensures invalid { IfErr result (λ e. (e ≡ HeaderError.Invalid) × NoUpdateRange values.now) }
+        ensures reads { Decodes IsUpdateRange values.now (result_ok result) }
+        ensures error { IsOkUnless result HeaderError.Invalid }
     {
         let Some(text) = only_text(values) else {
             return Err(HeaderError::Invalid);
@@ -78,8 +79,7 @@ fn dash_parts(text: &str) -> Option<(&str, &str)>
 
 // The range with these two texts before and after its dash.
 fn update_range(from: &str, to: &str) -> Option<XUpdateRange>
-    ensures found { IfSome result (λ range. IsEnds from.now to.now range) }
-    ensures none { IfNone result ((range : XUpdateRangeValue) → ¬ IsEnds from.now to.now range) }
+    ensures { Decodes (IsEnds from.now) to.now result }
 {
     if from.is_empty() {
         return Some(XUpdateRange::Last(number(to)?));
@@ -104,8 +104,8 @@ impl ContentRange {
     /// The range in the only value: `bytes a-b/l` or `bytes */l`, where l may be `*`, with numbers of decimal digits
     /// below 2^64. `Invalid` for any other values. Allocates nothing.
     pub fn decode(_alloc: Global, values: &[HeaderValue]) -> Result<ContentRange, HeaderError>
-        ensures ok { IfOk result (λ r. IsContentRange values.now r.bounds r.length) }
-        ensures invalid { IfErr result (λ e. (e ≡ HeaderError.Invalid) × NoContentRange values.now) }
+        ensures reads { Decodes IsContentRange values.now (result_ok result) }
+        ensures error { IsOkUnless result HeaderError.Invalid }
     {
         let Some(text) = only_text(values) else {
             return Err(HeaderError::Invalid);
@@ -156,8 +156,7 @@ fn slash_parts(text: &str) -> Option<(&str, &str)>
 
 // The bounds in a text.
 fn bounds(text: &str) -> Option<Option<(u64, u64)>>
-    ensures found { IfSome result (λ b. IsBounds text.now b) }
-    ensures none { IfNone result ((b : Option (ℕ × ℕ)) → ¬ IsBounds text.now b) }
+    ensures { Decodes IsBounds text.now result }
 {
     if text == "*" {
         return Some(None);
@@ -168,8 +167,7 @@ fn bounds(text: &str) -> Option<Option<(u64, u64)>>
 
 // The length in a text.
 fn length(text: &str) -> Option<Option<u64>>
-    ensures found { IfSome result (λ l. IsLength text.now l) }
-    ensures none { IfNone result ((l : Option ℕ) → ¬ IsLength text.now l) }
+    ensures { Decodes IsLength text.now result }
 {
     if text == "*" {
         return Some(None);

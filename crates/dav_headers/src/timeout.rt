@@ -1,12 +1,13 @@
 //! The lifetimes that a client wants for a lock (RFC 4918, section 10.7).
-ghost use Rattle.std.specs.Prelude.{◌≡◌, List, map, string_bytes, IfOk, IfSome, IfNone, IsErrOf, IsOkUnless};
+ghost use Rattle.std.specs.Prelude.{◌≡◌, ◌↔◌, List, map, string_bytes, IfOk, IsOkUnless, IsTrue};
 ghost use Rattle.http_header.specs.FieldValue.{plain_value};
-ghost use Rattle.dav_headers.specs.Pieces.{pieces_of};
-ghost use Rattle.dav_headers.specs.Timeout.{timeout_text, word_text, AreWords, IsTimeout, IsWord, NoTimeout};
+ghost use Rattle.dav_headers.specs.Elements.{elements_of};
+ghost use Rattle.dav_headers.specs.Timeout.{timeout_text, time_type_text, AreTimeTypes, IsTimeout, IsTimeType};
+ghost use Rattle.dav_headers.specs.Value.{Decodes, ReadsAs};
 ghost use Rattle.dav_headers.specs.declared.timeout.DavTimeout.{DavTimeout as DavTimeoutValue};
 
+use crate::elements::{joined, trimmed};
 use crate::errors::{HeaderError, NoMemory};
-use crate::pieces::{joined, trimmed};
 use crate::values::{number, only_text, written};
 use http_header::HeaderValue;
 use std::alloc::Global;
@@ -28,13 +29,12 @@ impl Timeout {
     /// The TimeTypes in the only value, which are between its commas, without white space around them: `Infinite`, or
     /// `Second-` and a number of decimal digits below 2^32. `Invalid` for any other values.
     pub fn decode(alloc: Global, values: &[HeaderValue]) -> Result<Timeout, HeaderError>
-        ensures ok { IfOk result (λ t. IsTimeout values.now t.0.items) }
-        ensures invalid { IsErrOf result HeaderError.Invalid → NoTimeout values.now }
+        ensures { ReadsAs (λ t. t.0.items) IsTimeout values.now result }
     {
         let Some(text) = only_text(values) else {
             return Err(HeaderError::Invalid);
         };
-        Ok(Timeout(words(alloc, text)?))
+        Ok(Timeout(time_types(alloc, text)?))
     }
 
     /// The TimeTypes in order, with a comma and a space between them.
@@ -50,30 +50,42 @@ impl Timeout {
 }
 
 // The TimeTypes that the list elements of a text are.
-fn words(alloc: Global, text: &str) -> Result<Vec<DavTimeout>, HeaderError>
-    ensures ok { IfOk result (λ words. AreWords (pieces_of text.now) words.items) }
-    ensures invalid { IsErrOf result HeaderError.Invalid
-        → (words : List DavTimeoutValue) → ¬ AreWords (pieces_of text.now) words }
+fn time_types(alloc: Global, text: &str) -> Result<Vec<DavTimeout>, HeaderError>
+    ensures { ReadsAs (λ v. v.items) AreTimeTypes (elements_of text.now) result }
 {
-    let mut words = Vec::new(alloc);
-    for piece in text.split(',') {
-        let Some(word) = word(trimmed(piece)) else {
+    if !are_time_types(text) {
+        return Err(HeaderError::Invalid);
+    }
+    let mut time_types = Vec::new(alloc);
+    for element in text.split(',') {
+        let Some(time_type) = time_type(trimmed(element)) else {
             return Err(HeaderError::Invalid);
         };
-        words.push(word)?;
+        time_types.push(time_type)?;
     }
-    Ok(words)
+    Ok(time_types)
+}
+
+// Whether each list element of a text is a TimeType.
+fn are_time_types(text: &str) -> bool
+    ensures { IsTrue result ↔ (ts : List DavTimeoutValue) × AreTimeTypes (elements_of text.now) ts }
+{
+    for element in text.split(',') {
+        if time_type(trimmed(element)).is_none() {
+            return false;
+        }
+    }
+    true
 }
 
 // The TimeType that a list element is.
-fn word(piece: &str) -> Option<DavTimeout>
-    ensures found { IfSome result (λ word. IsWord piece.now word) }
-    ensures none { IfNone result ((word : DavTimeoutValue) → ¬ IsWord piece.now word) }
+fn time_type(element: &str) -> Option<DavTimeout>
+    ensures { Decodes IsTimeType element.now result }
 {
-    if piece == "Infinite" {
+    if element == "Infinite" {
         return Some(DavTimeout::Infinite);
     }
-    let seconds = number(piece.strip_prefix("Second-")?)?;
+    let seconds = number(element.strip_prefix("Second-")?)?;
     if seconds > 4_294_967_295 {
         return None;
     }
@@ -81,19 +93,19 @@ fn word(piece: &str) -> Option<DavTimeout>
 }
 
 // Each TimeType as text.
-fn texts(alloc: Global, words: &[DavTimeout]) -> Result<Vec<String>, NoMemory>
-    ensures { IfOk result (λ texts. map string_bytes texts.items ≡ map word_text words.now) }
+fn texts(alloc: Global, time_types: &[DavTimeout]) -> Result<Vec<String>, NoMemory>
+    ensures { IfOk result (λ texts. map string_bytes texts.items ≡ map time_type_text time_types.now) }
 {
     let mut texts = Vec::new(alloc);
-    for word in words {
-        texts.push(word.text(alloc)?)?;
+    for time_type in time_types {
+        texts.push(time_type.text(alloc)?)?;
     }
     Ok(texts)
 }
 
 impl DavTimeout {
     fn text(&self, alloc: Global) -> Result<String, NoMemory>
-        ensures { IfOk result (λ s. string_bytes s ≡ word_text self.now) }
+        ensures { IfOk result (λ s. string_bytes s ≡ time_type_text self.now) }
     {
         match self {
             DavTimeout::Seconds(seconds) => format!(in alloc; "Second-{seconds}"),

@@ -1,9 +1,9 @@
 //! Tokens of locks, and names of tests.
-ghost use Rattle.std.specs.Prelude.{◌≡◌, ◌↔◌, Some, None, IfOk, IsErrOf, string_bytes};
-ghost use Rattle.dav_headers.specs.Value.{only_text, Writes};
+ghost use Rattle.std.specs.Prelude.{string_bytes};
+ghost use Rattle.dav_headers.specs.Value.{IsOnlyText, ReadsAs, Writes};
 
 use crate::errors::HeaderError;
-use crate::values::{only_text, written};
+use crate::values::{copied_text, written};
 use http_header::HeaderValue;
 use std::alloc::Global;
 
@@ -14,11 +14,9 @@ pub struct LockToken(pub String);
 impl LockToken {
     /// The text of the only value; `Invalid` where there isn't exactly one, or it isn't text.
     pub fn decode(alloc: Global, values: &[HeaderValue]) -> Result<LockToken, HeaderError>
-        ensures ok { IfOk result (λ h. only_text values.now ≡ Some (string_bytes h.0)) }
-        ensures invalid { IsErrOf result HeaderError.Invalid ↔ (only_text values.now ≡ None) }
+        ensures { ReadsAs (λ h. string_bytes h.0) IsOnlyText values.now result }
     {
-        let token = only_text(values).ok_or(HeaderError::Invalid)?;
-        Ok(LockToken(String::from_str(alloc, token)?))
+        Ok(LockToken(copied_text(alloc, values)?))
     }
 
     /// The text as a value; `Invalid` exactly where it has other bytes than 32 to 126 and tab.
@@ -37,11 +35,9 @@ pub struct XLitmus(pub String);
 impl XLitmus {
     /// The text of the only value; `Invalid` where there isn't exactly one, or it isn't text.
     pub fn decode(alloc: Global, values: &[HeaderValue]) -> Result<XLitmus, HeaderError>
-        ensures ok { IfOk result (λ h. only_text values.now ≡ Some (string_bytes h.0)) }
-        ensures invalid { IsErrOf result HeaderError.Invalid ↔ (only_text values.now ≡ None) }
+        ensures { ReadsAs (λ h. string_bytes h.0) IsOnlyText values.now result }
     {
-        let test = only_text(values).ok_or(HeaderError::Invalid)?;
-        Ok(XLitmus(String::from_str(alloc, test)?))
+        Ok(XLitmus(copied_text(alloc, values)?))
     }
 
     /// The text as a value; `Invalid` exactly where it has other bytes than 32 to 126 and tab.

@@ -19,7 +19,7 @@ use Rattle.dav_core.specs.Path.{Path, PathText, names}
 use Rattle.dav_core.specs.World.{World, Node, File, is_folder_kind, last_moment, IsWorld}
 use Rattle.dav_headers.specs.ETag.{EntityTag, tag_text}
 use Rattle.dav_headers.specs.ETagList.{TagList, tags, IsTagList}
-use Rattle.dav_headers.proofs.OneReading.{one_tag_list}
+use Rattle.dav_headers.proofs.Theorems.{one_tag_list}
 use Rattle.dav_engine.specs.declared.request.Body.{Body}
 use Rattle.dav_engine.specs.declared.request.Body.TheVariants as body
 use Rattle.dav_engine.specs.Client.{Client}

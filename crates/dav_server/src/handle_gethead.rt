@@ -18,8 +18,9 @@ use dav_core::method::DavMethod;
 use dav_engine::conditional::Conditions;
 use dav_engine::reply::{set_header, set_length, set_tag, set_validators};
 use dav_engine::{Backend, DavRequest, Reply, ReplyBody};
+use dav_headers::names;
 use http::StatusCode;
-use http_header::{HeaderMap, HeaderName, HeaderValue};
+use http_header::{HeaderMap, HeaderValue};
 use std::alloc::Global;
 
 // The headers of a reply about a file with this many bytes.
@@ -30,7 +31,7 @@ fn file_headers(alloc: Global, len: u64, file: &DavMetaData) -> Result<HeaderMap
     let mut headers = HeaderMap::new(alloc);
     set_length(alloc, &mut headers, len)?;
     let kind = HeaderValue::from_static("application/octet-stream");
-    set_header(&mut headers, HeaderName::from_static("content-type"), kind)?;
+    set_header(&mut headers, names::CONTENT_TYPE(), kind)?;
     set_validators(alloc, &mut headers, file)?;
     Ok(headers)
 }

@@ -1,8 +1,9 @@
 //! The tokens of an If header, which borrow its bytes.
-ghost use Rattle.std.specs.Prelude.{false, ◌≡◌, ◌<◌, ◌≤◌, ◌==◌, ℕ, List, map, length, Option, option_map, IfSome, IfOk, IsErrOf};
+ghost use Rattle.std.specs.Prelude.{false, ◌≡◌, ◌<◌, ◌≤◌, ◌↔◌, List, map, length, option_map, IfSome, IsTrue};
 ghost use Rattle.dav_headers.specs.IfTokens.{Token, Spells};
-ghost use Rattle.dav_headers.specs.IfTokenMachine.{is_blank, is_word_byte, skip, inside_len, split_inside, word_len, word_at, token_at};
+ghost use Rattle.dav_headers.specs.IfTokenMachine.{is_white_space, is_word_byte, skip, inside_len, split_inside, word_len, word_at, token_at};
 ghost use Rattle.dav_headers.specs.IfParts.{part_view};
+ghost use Rattle.dav_headers.specs.Value.{ReadsAs};
 
 use crate::errors::HeaderError;
 use std::alloc::Global;
@@ -25,8 +26,8 @@ pub(super) enum Part<'a> {
 }
 
 // Whether a byte is white space: space, tab, CR or LF.
-fn is_blank(b: u8) -> bool
-    ensures { result ≡ is_blank b }
+fn is_white_space(b: u8) -> bool
+    ensures { result ≡ is_white_space b }
 {
     b == b' ' || b == b'\t' || b == b'\r' || b == b'\n'
 }
@@ -43,7 +44,7 @@ fn skip(text: &[u8]) -> &[u8]
     ensures { result.now ≡ skip text.now }
 {
     for (i, b) in text.iter().enumerate() {
-        if !is_blank(*b) {
+        if !is_white_space(*b) {
             return &text[i..];
         }
     }
@@ -57,7 +58,7 @@ fn inside_len(text: &[u8], close: u8) -> Option<usize>
 {
     let mut quoted = false;
     for (i, b) in text.iter().enumerate() {
-        if is_blank(*b) {
+        if is_white_space(*b) {
             return None;
         }
         if *b == close && !quoted {
@@ -125,11 +126,27 @@ fn token_at<'a>(text: &'a [u8]) -> Option<(Part<'a>, &'a [u8])>
     }
 }
 
+// Whether a text is made of tokens.
+fn are_tokens(text: &[u8]) -> bool
+    ensures { IsTrue result ↔ (ts : List Token) × Spells text.now ts }
+{
+    let mut rest = skip(text);
+    while !rest.is_empty() {
+        let Some((_part, after)) = token_at(rest) else {
+            return false;
+        };
+        rest = skip(after);
+    }
+    true
+}
+
 /// The tokens of a text; `Invalid` where it isn't made of tokens.
 pub(super) fn parts_of<'a>(alloc: Global, text: &'a [u8]) -> Result<Vec<Part<'a>>, HeaderError>
-    ensures found { IfOk result (λ parts. Spells text.now (map part_view parts.items)) }
-    ensures none { IsErrOf result HeaderError.Invalid → (ts : List Token) → ¬ Spells text.now ts }
+    ensures { ReadsAs (λ parts. map part_view parts.items) Spells text.now result }
 {
+    if !are_tokens(text) {
+        return Err(HeaderError::Invalid);
+    }
     let mut parts = Vec::new(alloc);
     let mut rest = skip(text);
     while !rest.is_empty() {

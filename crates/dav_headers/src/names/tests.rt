@@ -7,13 +7,17 @@ fn names_headers_of_content(rt: HostRuntime) {
         &rt,
         &[
             CONTENT_LANGUAGE().as_str(),
+            CONTENT_LENGTH().as_str(),
             CONTENT_LOCATION().as_str(),
+            CONTENT_RANGE().as_str(),
             CONTENT_TYPE().as_str(),
             ETAG().as_str(),
         ],
         &[
             "content-language",
+            "content-length",
             "content-location",
+            "content-range",
             "content-type",
             "etag",
         ],

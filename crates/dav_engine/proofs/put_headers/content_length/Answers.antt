@@ -6,4 +6,4 @@ use Rattle.dav_engine.proofs.put_headers.content_length.Goals as goal
 
 pub returns : goal.returns
 returns c = subst (λ values. IfOk c.decoded.result (Decodes IsContentLength values))
-    (c.deref.ensures.value ∙ c.in_ok-values.ensures ∙ ap (get_all c.args.headers.now) c.from_static.ensures) c.decoded.ensures
+    (c.deref.ensures.value ∙ c.in_ok-values.ensures ∙ ap (get_all c.args.headers.now) c.CONTENT_LENGTH.ensures) c.decoded.ensures

@@ -3,8 +3,8 @@ use Rattle.http_header.specs.FieldValue.{IsVisibleAscii}
 use Rattle.dav_headers.proofs.NumberLemmas.{number_visible}
 use Rattle.dav_headers.proofs.length.length_of.Goals as goal
 
-pub returns-in-Err-clause-none : goal.returns-in-Err-clause-none
-returns-in-Err-clause-none c = λ n h.
+pub returns-in-Err : goal.returns-in-Err
+returns-in-Err c = λ n h.
     let visible : IsVisibleAscii c.args.value.now.bytes = number_visible c.args.value.now.bytes n h in
     let hidden : ¬ (IsVisibleAscii c.args.value.now.bytes) = search rules in
     hidden visible

@@ -3,12 +3,12 @@ use Rattle.std.specs.Prelude.{codes}
 use Rattle.dav_headers.proofs.RangeLemmas.{bounds_at_cut}
 use Rattle.dav_headers.proofs.range.bounds.Goals as goal
 
-pub returns-in_err-number-clause-none : goal.returns-in_err-number-clause-none
-returns-in_err-number-clause-none c =
+pub returns-in_err-number : goal.returns-in_err-number
+returns-in_err-number c =
     let other : c.args.text.now ≢ codes "*" = search rules in
-    rw c.from_residual-in_err-number.ensures (λ b h. let at = bounds_at_cut c.args.text.now _ _ b c.in_ok-first.ensures.found other h in c.in_err-number.ensures.none at.0 at.2)
+    rw c.from_residual-in_err-number.ensures (λ b h. let at = bounds_at_cut c.args.text.now _ _ b c.in_ok-first.ensures.found other h in c.in_err-number.ensures at.0 at.2)
 
-pub returns-in_err-number-2-clause-none : goal.returns-in_err-number-2-clause-none
-returns-in_err-number-2-clause-none c =
+pub returns-in_err-number-2 : goal.returns-in_err-number-2
+returns-in_err-number-2 c =
     let other : c.args.text.now ≢ codes "*" = search rules in
-    rw c.from_residual-in_err-number-2.ensures (λ b h. let at = bounds_at_cut c.args.text.now _ _ b c.in_ok-first.ensures.found other h in c.in_err-number-2.ensures.none at.1 at.3)
+    rw c.from_residual-in_err-number-2.ensures (λ b h. let at = bounds_at_cut c.args.text.now _ _ b c.in_ok-first.ensures.found other h in c.in_err-number-2.ensures at.1 at.3)

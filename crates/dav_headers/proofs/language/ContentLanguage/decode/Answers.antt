@@ -1,31 +1,45 @@
-use Rattle.std.proofs.Common.{◌≡◌, rules, ◌++◌, take, ◌∙◌, sym, ap}
-use Rattle.std.proofs.Common.{Err}
+use Rattle.std.proofs.Common.{rules, ◌++◌, ◌<◌, take, length, ◌∙◌, sym, ap, All, subst, arith}
+use Rattle.std.proofs.lemmas.Bool.Decides.{nat_tests}
+use Rattle.std.proofs.lemmas.List.{take_all}
 use Rattle.std.specs.List.{flat_map}
-use Rattle.std.proofs.lemmas.List.Elements.{All-append}
-use Rattle.dav_headers.specs.declared.errors.HeaderError.TheVariants.{Invalid}
-use Rattle.dav_headers.proofs.LanguageLemmas.{of_value, text_turn, same_error}
-use Rattle.std.proofs.lemmas.Result.{err_from_is_err_and}
-use Rattle.dav_headers.specs.Language.{IsLanguage}
-use Rattle.dav_headers.specs.Pieces.{pieces_of}
-use Rattle.dav_headers.specs.Value.{IsText}
+use Rattle.dav_headers.specs.Language.{AreLanguages, IsLanguage}
+use Rattle.dav_headers.specs.Elements.{elements_of}
+use Rattle.dav_headers.proofs.LanguageLemmas.{readable_are_languages, languages_are_readable}
 use Rattle.dav_headers.proofs.LoopLemmas.{flat_map_turn}
+use Rattle.dav_headers.proofs.ReadingLemmas.{out_of_memory}
 use Rattle.dav_headers.proofs.language.ContentLanguage.decode.Goals as goal
+use Rattle.dav_headers.proofs.language.ContentLanguage.decode.Goals.{then-is_empty-via-then-is_empty, then-is_empty-via-else-is_empty+then-not-can_be_read}
 
-pub returns-in_err-push_languages-clause-invalid : goal.returns-in_err-push_languages-clause-invalid
-returns-in_err-push_languages-clause-invalid c = λ e items h.
-    let p = err_from_is_err_and c.from_residual.result c.from_residual.ensures.1 in
-    let error : c.in_err-push_languages.field-0.0 ≡ Invalid = same_error c.from_residual.result p.0 c.in_err-push_languages.field-0.0 Invalid p.1 p.2 e in
-    let languages = of_value c.args.values.now c.loop-value.value-index c.value-item.result items c.loop-value-test.true c.value-item.is h in
-    c.in_err-push_languages.ensures.invalid (ap Err error) (rw c.in-Ok.ensures.ok languages)
+pub returns-then-is_empty : goal.returns-then-is_empty
+returns-then-is_empty c = λ items h.
+    let some : 0 < length c.args.values.now = h.0 in
+    elim c.then-is_empty.branch [
+      | then-is_empty-via-then-is_empty w ↦ let empty = w.if-is_empty.true in grind (arith, nat_tests)
+      | then-is_empty-via-else-is_empty+then-not-can_be_read w ↦ let read = w.can_be_read.ensures.1 (languages_are_readable c.args.values.now items h) in let not = w.if-not-can_be_read.true in absurd (cc)
+    ]
+
+pub returns-in_err-push_elements : goal.returns-in_err-push_elements
+returns-in_err-push_elements c =
+    let some : 0 < length c.args.values.now = search rules in
+    out_of_memory (λ x. x) AreLanguages c.args.values.now _ c.from_residual.ensures.1
+    (flat_map (λ v. elements_of v.bytes) c.args.values.now, readable_are_languages c.args.values.now some (c.can_be_read.ensures.0 c.if-not-can_be_read.false))
 
 pub loop-value-preserved : goal.loop-value-preserved
 loop-value-preserved c =
-    let text : IsText c.value-item.result.bytes = search rules in
-    let ok = c.in_ok-push_languages.ensures.ok in
-    let so_far = c.loop-value.invariant in
-    let turn = flat_map_turn (λ v. pieces_of v.bytes) c.args.values.now c.loop-value.value-index c.value-item.result c.loop-value-test.true c.value-item.is in
-    let same = ap pieces_of c.in-Ok.ensures.ok in (
-      ok.0 ∙ ap (λ xs. xs ++ pieces_of c.in-Ok.text.now) so_far.0 ∙ ap (λ ys. flat_map (λ v. pieces_of v.bytes) (take c.loop-value.value-index c.args.values.now) ++ ys) same ∙ sym turn,
-      text_turn c.args.values.now c.loop-value.value-index c.value-item.result c.loop-value-test.true c.value-item.is so_far.1 text,
-      rw ok.0 (All-append IsLanguage _ _ so_far.2 ok.1),
-    )
+    let turn = flat_map_turn (λ v. elements_of v.bytes) c.args.values.now c.loop-value.value-index c.value-item.result c.loop-value-test.true c.value-item.is in
+    let same = ap elements_of c.in-Ok.ensures.ok in
+    c.in_ok-push_elements.ensures ∙ ap (λ xs. xs ++ elements_of c.in-Ok.text.now) c.loop-value.invariant ∙ ap (λ ys. flat_map (λ v. elements_of v.bytes) (take c.loop-value.value-index c.args.values.now) ++ ys) same ∙ sym turn
+
+pub invariant_of-result : goal.invariant_of-result
+invariant_of-result c =
+    let some : 0 < length c.args.values.now = search rules in
+    let read = readable_are_languages c.args.values.now some (c.can_be_read.ensures.0 c.if-not-can_be_read.false) in
+    let same = c.loop-value.invariant ∙ ap (flat_map (λ v. elements_of v.bytes)) (take_all c.loop-value.value-index c.args.values.now c.loop-value-test.false) in
+    subst (All IsLanguage) (sym same) read.3
+
+pub returns : goal.returns
+returns c =
+    let some : 0 < length c.args.values.now = search rules in
+    let read = readable_are_languages c.args.values.now some (c.can_be_read.ensures.0 c.if-not-can_be_read.false) in
+    let same = c.loop-value.invariant ∙ ap (flat_map (λ v. elements_of v.bytes)) (take_all c.loop-value.value-index c.args.values.now c.loop-value-test.false) in
+    (some, read.1, same, subst (All IsLanguage) (sym same) read.3)
