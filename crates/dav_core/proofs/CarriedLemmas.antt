@@ -3,7 +3,7 @@ use Rattle.std.proofs.Common.{◌≡◌, ℕ, ◌<◌, ◌≤◌, Bool, true, fa
 use Rattle.std.proofs.lemmas.List.Elements.{All-append, All-tail}
 use Rattle.std.specs.Option.{is_some, option_or, option_and_then}
 use Rattle.std.specs.FinMap.{find, is_sorted}
-use Rattle.dav_core.specs.Path.{Path, path_cmp, rest_after, is_at_or_below, is_root, parent_of, IsName}
+use Rattle.dav_core.specs.Path.{Path, path_cmp, rest_after, is_at_or_under, is_root, parent_of, IsName}
 use Rattle.dav_core.specs.Property.{key_cmp}
 use Rattle.dav_core.specs.World.{Node, Nodes, World, prune, moved, adjust, touched, modified_at, is_folder_kind, is_folder_node, last_moment, IsTree, IsNumbered, IsSound, IsWorld}
 use Rattle.dav_core.proofs.NodesLemmas.{CameFrom, back-adjust}
@@ -103,16 +103,16 @@ module _ (old new : World) (Came : Path → Path → Type 0) (c : Carried old ne
     sound = carried_sound;
   }
 
-prune_by : (p q : Path) (ns : Nodes) (m : Node) (b : Bool) → is_at_or_below p q ≡ b → cond b None (find path_cmp q ns) ≡ Some m
-    → (is_at_or_below p q ≡ false) × (find path_cmp q ns ≡ Some m)
+prune_by : (p q : Path) (ns : Nodes) (m : Node) (b : Bool) → is_at_or_under q p ≡ b → cond b None (find path_cmp q ns) ≡ Some m
+    → (is_at_or_under q p ≡ false) × (find path_cmp q ns ≡ Some m)
 prune_by p q ns m true is h = cc
 prune_by p q ns m false is h = (is, h)
 
 -- what is left after a prune was there before, and not at the path or below it
-pub back-prune : (p : Path) (ns : Nodes) (q : Path) (m : Node) → find path_cmp q (prune p ns) ≡ Some m → (is_at_or_below p q ≡ false) × (find path_cmp q ns ≡ Some m)
-back-prune p ns q m h = prune_by p q ns m (is_at_or_below p q) refl (sym (find-prune p q ns) ∙ h)
+pub back-prune : (p : Path) (ns : Nodes) (q : Path) (m : Node) → find path_cmp q (prune p ns) ≡ Some m → (is_at_or_under q p ≡ false) × (find path_cmp q ns ≡ Some m)
+back-prune p ns q m h = prune_by p q ns m (is_at_or_under q p) refl (sym (find-prune p q ns) ∙ h)
 
-pub stays-prune : (p q : Path) (ns : Nodes) → is_at_or_below p q ≡ false → find path_cmp q (prune p ns) ≡ find path_cmp q ns
+pub stays-prune : (p q : Path) (ns : Nodes) → is_at_or_under q p ≡ false → find path_cmp q (prune p ns) ≡ find path_cmp q ns
 stays-prune p q ns out = find-prune p q ns ∙ ap (λ b. cond b None (find path_cmp q ns)) out
 
 -- all but the root may be pruned
@@ -128,13 +128,13 @@ tree-prune (x ∷ p) ns some t = record {
 
 -- after a move, what is at q was at s
 abbrev pub CameBy : Path → Path → Path → Path → Type 0
-CameBy from to q s = ((r : Path) × (q ≡ to ++ r) × (s ≡ from ++ r)) ⊎ ((q ≡ s) × (is_at_or_below from q ≡ false) × (is_at_or_below to q ≡ false))
+CameBy from to q s = ((r : Path) × (q ≡ to ++ r) × (s ≡ from ++ r)) ⊎ ((q ≡ s) × (is_at_or_under q from ≡ false) × (is_at_or_under q to ≡ false))
 
 or_none : {X : Type 0} (o : Option X) → option_or o None ≡ o
 or_none None = refl
 or_none (Some x) = refl
 
-moved_by : (from to q : Path) (ns : Nodes) (m : Node) (o : Option Path) → rest_after to q ≡ o → (b : Bool) → is_at_or_below from q ≡ b
+moved_by : (from to q : Path) (ns : Nodes) (m : Node) (o : Option Path) → rest_after to q ≡ o → (b : Bool) → is_at_or_under q from ≡ b
     → option_or (option_and_then (λ rest. find path_cmp (from ++ rest) ns) o) (cond (is_some o) None (cond b None (find path_cmp q ns))) ≡ Some m
     → (s : Path) × CameBy from to q s × (find path_cmp s ns ≡ Some m)
 moved_by from to q ns m None is true isb h = cc
@@ -142,23 +142,23 @@ moved_by from to q ns m None is false isb h = (q, inr (refl, isb, ap is_some is)
 moved_by from to q ns m (Some r) is b isb h = (from ++ r, inl (r, from_rest to q r is, refl), sym (or_none (find path_cmp (from ++ r) ns)) ∙ h)
 
 pub back-moved : (from to q : Path) (ns : Nodes) (m : Node) → find path_cmp q (moved from to ns) ≡ Some m → (s : Path) × CameBy from to q s × (find path_cmp s ns ≡ Some m)
-back-moved from to q ns m h = moved_by from to q ns m (rest_after to q) refl (is_at_or_below from q) refl (sym (find-moved from to q ns) ∙ h)
+back-moved from to q ns m h = moved_by from to q ns m (rest_after to q) refl (is_at_or_under q from) refl (sym (find-moved from to q ns) ∙ h)
 
 -- what is at neither path nor below one of them stays
-pub stays-moved : (from to q : Path) (ns : Nodes) → is_at_or_below from q ≡ false → is_at_or_below to q ≡ false → find path_cmp q (moved from to ns) ≡ find path_cmp q ns
+pub stays-moved : (from to q : Path) (ns : Nodes) → is_at_or_under q from ≡ false → is_at_or_under q to ≡ false → find path_cmp q (moved from to ns) ≡ find path_cmp q ns
 stays-moved from to q ns a b =
     find-moved from to q ns
-    ∙ ap (λ (o : Option Path). option_or (option_and_then (λ rest. find path_cmp (from ++ rest) ns) o) (cond (is_some o) None (cond (is_at_or_below from q) None (find path_cmp q ns)))) (no_rest to q b)
+    ∙ ap (λ (o : Option Path). option_or (option_and_then (λ rest. find path_cmp (from ++ rest) ns) o) (cond (is_some o) None (cond (is_at_or_under q from) None (find path_cmp q ns)))) (no_rest to q b)
     ∙ ap (λ c. cond c None (find path_cmp q ns)) a
 
 -- what was at a path below `from`, or at it, is at the same path below `to`
 pub arrives-moved : (from to r : Path) (ns : Nodes) → find path_cmp (to ++ r) (moved from to ns) ≡ find path_cmp (from ++ r) ns
 arrives-moved from to r ns =
     find-moved from to (to ++ r) ns
-    ∙ ap (λ (o : Option Path). option_or (option_and_then (λ rest. find path_cmp (from ++ rest) ns) o) (cond (is_some o) None (cond (is_at_or_below from (to ++ r)) None (find path_cmp (to ++ r) ns)))) (rest_after-append to r)
+    ∙ ap (λ (o : Option Path). option_or (option_and_then (λ rest. find path_cmp (from ++ rest) ns) o) (cond (is_some o) None (cond (is_at_or_under (to ++ r) from) None (find path_cmp (to ++ r) ns)))) (rest_after-append to r)
     ∙ or_none (find path_cmp (from ++ r) ns)
 
-module _ (from : Path) (y : List ℕ) (t : Path) (ns : Nodes) (tree : IsTree ns) (out : is_at_or_below from (y ∷ t) ≡ false) (folder : is_folder_node (find path_cmp (parent_of (y ∷ t)) ns) ≡ true) where
+module _ (from : Path) (y : List ℕ) (t : Path) (ns : Nodes) (tree : IsTree ns) (out : is_at_or_under (y ∷ t) from ≡ false) (folder : is_folder_node (find path_cmp (parent_of (y ∷ t)) ns) ≡ true) where
   moved_parents : (q : Path) (m : Node) (s : Path) → CameBy from (y ∷ t) q s → find path_cmp s ns ≡ Some m → is_folder_node (find path_cmp (parent_of q) (moved from (y ∷ t) ns)) ≡ true
   moved_parents q m s (inl ([], e, g)) h =
       ap (λ (x : Path). is_folder_node (find path_cmp (parent_of x) (moved from (y ∷ t) ns))) (e ∙ append-nil (y ∷ t))
@@ -173,7 +173,7 @@ module _ (from : Path) (y : List ℕ) (t : Path) (ns : Nodes) (tree : IsTree ns)
       ∙ tree.parents q m (subst (λ (x : Path). find path_cmp x ns ≡ Some m) (sym e) h)
 
 -- a move below a folder, to a path that isn't the source or below it, keeps the tree
-pub tree-moved : (from to : Path) (ns : Nodes) → is_root from ≡ false → is_root to ≡ false → is_at_or_below from to ≡ false
+pub tree-moved : (from to : Path) (ns : Nodes) → is_root from ≡ false → is_root to ≡ false → is_at_or_under to from ≡ false
     → is_folder_node (find path_cmp (parent_of to) ns) ≡ true → IsTree ns → IsTree (moved from to ns)
 tree-moved [] to ns a b out folder t = cc
 tree-moved (x ∷ f) [] ns a b out folder t = cc
@@ -233,9 +233,9 @@ came_once from to p q s (inl (r, e, g)) (inl (z, f, k)) =
     let one : r ≡ z = cc in
     e ∙ ap (λ (x : Path). to ++ x) one ∙ sym f
 came_once from to p q s (inl (r, e, g)) (inr (f, a, b)) =
-    let met : is_at_or_below from q ≡ true = ap (is_at_or_below from) (f ∙ g) ∙ ap is_some (rest_after-append from r) in cc
+    let met : is_at_or_under q from ≡ true = ap (λ y. is_at_or_under y from) (f ∙ g) ∙ ap is_some (rest_after-append from r) in cc
 came_once from to p q s (inr (e, a, b)) (inl (r, f, g)) =
-    let met : is_at_or_below from p ≡ true = ap (is_at_or_below from) (e ∙ g) ∙ ap is_some (rest_after-append from r) in cc
+    let met : is_at_or_under p from ≡ true = ap (λ y. is_at_or_under y from) (e ∙ g) ∙ ap is_some (rest_after-append from r) in cc
 came_once from to p q s (inr (e, a, b)) (inr (f, c, d)) = e ∙ sym f
 
 came_root : (from to s : Path) → is_root to ≡ false → CameBy from to [] s → s ≡ []
@@ -264,7 +264,7 @@ module _ (w : World) (from to : Path) (now : ℕ) (small : now ≤ last_moment) 
       )
 
   -- a rename below a folder, to a path of names that isn't the source or below it, leaves a world
-  pub renamed_keeps : is_root from ≡ false → is_root to ≡ false → is_at_or_below from to ≡ false → is_folder_node (find path_cmp (parent_of to) w.nodes) ≡ true
+  pub renamed_keeps : is_root from ≡ false → is_root to ≡ false → is_at_or_under to from ≡ false → is_folder_node (find path_cmp (parent_of to) w.nodes) ≡ true
       → All IsName to → All (All (λ b. b < 256)) to → IsWorld w → IsWorld (renamed_world w from to now)
   renamed_keeps a b out folder names bytes world =
       carried_keeps w (renamed_world w from to now) (CameBy from to)

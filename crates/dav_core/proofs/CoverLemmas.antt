@@ -2,7 +2,7 @@
 use Rattle.std.proofs.Common.{◌≡◌, Bool, true, false, not, ◌&&◌, ◌||◌, cond, List, [], ◌∷◌, refl, ap, ◌∙◌}
 use Rattle.std.specs.List.{list_all, list_any, filter}
 use Rattle.dav_core.specs.Lists.{is_empty}
-use Rattle.dav_core.specs.Path.{Path, names, is_below}
+use Rattle.dav_core.specs.Path.{Path, names, is_under}
 use Rattle.dav_core.specs.Locks.{Lock, Requester, covers, covering, locks_below, is_held, is_free, is_grantable}
 
 module _ {X : Type 0} (p test : X → Bool) where
@@ -73,8 +73,8 @@ not_both false b = refl
 
 -- a lock may be granted, by tests of the whole list
 pub grantable_by_tests : (new : Lock) (ls : List Lock)
-    → is_grantable new ls ≡ (not (list_any (λ l. covers l (names new.path) && not (l.shared && new.shared)) ls) && not (new.deep && list_any (λ l. is_below (names new.path) (names l.path)) ls))
+    → is_grantable new ls ≡ (not (list_any (λ l. covers l (names new.path) && not (l.shared && new.shared)) ls) && not (new.deep && list_any (λ l. is_under (names l.path) (names new.path)) ls))
 grantable_by_tests new ls =
     ap (λ b. b && (not new.deep || is_empty (locks_below (names new.path) ls))) (none_filtered (λ l. covers l (names new.path)) (λ l. l.shared && new.shared) ls)
     ∙ ap (λ b. not (list_any (λ l. covers l (names new.path) && not (l.shared && new.shared)) ls) && b)
-    (ap (λ b. not new.deep || b) (empty_filtered (λ l. is_below (names new.path) (names l.path)) ls) ∙ not_both new.deep (list_any (λ l. is_below (names new.path) (names l.path)) ls))
+    (ap (λ b. not new.deep || b) (empty_filtered (λ l. is_under (names l.path) (names new.path)) ls) ∙ not_both new.deep (list_any (λ l. is_under (names l.path) (names new.path)) ls))

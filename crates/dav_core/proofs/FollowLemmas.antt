@@ -3,7 +3,7 @@ use Rattle.std.proofs.Common.{◌≢◌, ◌≡◌, ℕ, ◌+◌, ◌<◌, ◌�
 use Rattle.std.specs.Option.{option_map, unwrap_or, is_some}
 use Rattle.std.specs.FinMap.{find, put}
 use Rattle.dav_core.specs.declared.errors.FsError.TheVariants.{GeneralFailure, Exists, NotFound, Forbidden}
-use Rattle.dav_core.specs.Path.{Path, path_cmp, is_same_path, is_at_or_below, is_below, is_root, rest_after, parent_of}
+use Rattle.dav_core.specs.Path.{Path, path_cmp, is_same_path, is_at_or_under, is_under, is_root, rest_after, parent_of}
 use Rattle.dav_core.specs.World.{World, Node, Nodes, Kind, File, fresh, node_at, is_folder_kind, is_folder, is_missing, has_members, prune, moved, touched, modified_at, with_new, adjust, change_node, is_file_made_with, file_made_with, last_number, IsWorld, Renumbers}
 use Rattle.dav_core.specs.Property.{Properties}
 use Rattle.dav_core.specs.Handle.{Handle, Opening, opened}
@@ -54,13 +54,13 @@ module _ (w : World) (from to : Path) (now : ℕ) where
       let (b, second, two) = after-touched from now (touched to now (moved from to w.nodes)) q a first in
       (b, second, unchanged_twice n a b one two)
 
-  follow_by : (p : Path) (n : Node) → node_at w p ≡ Some n → is_at_or_below to p ≡ false → (o : Option Path) → rest_after from p ≡ o
+  follow_by : (p : Path) (n : Node) → node_at w p ≡ Some n → is_at_or_under p to ≡ false → (o : Option Path) → rest_after from p ≡ o
       → (m : Node) × (node_at (renamed_world w from to now) (unwrap_or (option_map (λ rest. to ++ rest) o) p) ≡ Some m) × IsUnchanged n m
   follow_by p n stood out None is = after-renamed p n (stays-moved from to p w.nodes (ap is_some is) out ∙ stood)
   follow_by p n stood out (Some s) is =
       after-renamed (to ++ s) n (arrives-moved from to s w.nodes ∙ ap (λ (x : Path). find path_cmp x w.nodes) (sym (from_rest from p s is)) ∙ stood)
 
-  follows : (p : Path) (n : Node) → node_at w p ≡ Some n → is_at_or_below to p ≡ false
+  follows : (p : Path) (n : Node) → node_at w p ≡ Some n → is_at_or_under p to ≡ false
       → (m : Node) × (node_at (renamed_world w from to now) (path_after from to p) ≡ Some m) × IsUnchanged n m
   follows p n stood out = follow_by p n stood out (rest_after from p) refl
 
@@ -72,16 +72,16 @@ module _ (w : World) (from to : Path) (now : ℕ) where
       elim (went_if (is_same_path from to) (Ok (tt, w)) _ r h2) as (λ _. ((from ≡ to) × (r.1 ≡ w)) ⊎ (r.1 ≡ renamed_world w from to now)) [
         | inl same ↦ inl (same_path from to same.0, left tt w r same.1)
         | inr other ↦
-            let (below, h3) = went_on (is_below from to) Forbidden _ r other.1 in
+            let (below, h3) = went_on (is_under to from) Forbidden _ r other.1 in
             let (folder, h4) = went_on (not (is_folder w (parent_of to))) NotFound _ r h3 in
             let (empty, h5) = went_on (is_folder w to && has_members w to) Exists _ r h4 in
             inr (left tt (renamed_world w from to now) r h5)
       ]
 
-  followed : (new : World) (p : Path) (n : Node) → ((from ≡ to) × (new ≡ w)) ⊎ (new ≡ renamed_world w from to now) → node_at w p ≡ Some n → is_at_or_below to p ≡ false
+  followed : (new : World) (p : Path) (n : Node) → ((from ≡ to) × (new ≡ w)) ⊎ (new ≡ renamed_world w from to now) → node_at w p ≡ Some n → is_at_or_under p to ≡ false
       → (m : Node) × (node_at new (path_after from to p) ≡ Some m) × IsUnchanged n m
   followed new p n (inl (same, is)) stood out =
-      let none : rest_after from p ≡ None = no_rest from p (ap (λ (x : Path). is_at_or_below x p) same ∙ out) in
+      let none : rest_after from p ≡ None = no_rest from p (ap (λ (x : Path). is_at_or_under p x) same ∙ out) in
       let path : path_after from to p ≡ p = ap (λ (o : Option Path). unwrap_or (option_map (λ rest. to ++ rest) o) p) none in
       (n, ap (λ (x : World). node_at x (path_after from to p)) is ∙ ap (node_at w) path ∙ stood, refl)
   followed new p n (inr is) stood out =
@@ -150,9 +150,9 @@ step_stays call w new proper world (patches q f same may brings is) p n stood ke
     (stays-adjusted w q f w.next p n stood (λ m at. ((same m).made, ap is_folder_kind (same m).kind)))
 step_stays call w new proper world (removes q now some small takes brings is) p n stood kept =
     still_there (without w q now) new p (brought call p) n is (brings p)
-    (stays-touched q now (prune q w.nodes) w.next p n (stays-prune q p w.nodes (decided (is_at_or_below q p) (λ h. kept (takes world p n stood h))) ∙ stood))
+    (stays-touched q now (prune q w.nodes) w.next p n (stays-prune q p w.nodes (decided (is_at_or_under p q) (λ h. kept (takes world p n stood h))) ∙ stood))
 step_stays call w new proper world (renames from to now a b out folder sound takes brings is) p n stood kept =
-    let (m, there, same) = follows w from to now p n stood (decided (is_at_or_below to p) (λ h. kept (takes world p n stood h))) in
+    let (m, there, same) = follows w from to now p n stood (decided (is_at_or_under p to) (λ h. kept (takes world p n stood h))) in
     still_there (renamed_world w from to now) new (path_after from to p) (brought call p) n is (brings p) (m, there, unchanged_still n m same)
 
 pub nodes_stay : NodesStay
@@ -189,10 +189,10 @@ step_rests call w new world (patches q f same may brings is) p n stood kept left
     (rests-adjusted w q f w.next p n stood (λ e. left_alone (subst (λ (y : Path). MayChange call y n) e (may n))))
 step_rests call w new world (removes q now some small takes brings is) p n stood kept left_alone =
     rests_there (without w q now) new p (brought call p) n is (brings p)
-    (after-touched q now (prune q w.nodes) p n (stays-prune q p w.nodes (decided (is_at_or_below q p) (λ h. kept (takes world p n stood h))) ∙ stood))
+    (after-touched q now (prune q w.nodes) p n (stays-prune q p w.nodes (decided (is_at_or_under p q) (λ h. kept (takes world p n stood h))) ∙ stood))
 step_rests call w new world (renames from to now a b out folder sound takes brings is) p n stood kept left_alone =
     rests_there (renamed_world w from to now) new (path_after from to p) (brought call p) n is (brings p)
-    (follows w from to now p n stood (decided (is_at_or_below to p) (λ h. kept (takes world p n stood h))))
+    (follows w from to now p n stood (decided (is_at_or_under p to) (λ h. kept (takes world p n stood h))))
 
 pub others_are_unchanged : OthersAreUnchanged
 others_are_unchanged call w r p n world h stood kept left_alone = step_rests call w r.1 world (steps call w r h) p n stood kept left_alone

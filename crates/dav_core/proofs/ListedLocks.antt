@@ -4,7 +4,7 @@ use Rattle.std.specs.List.{list_any, find as first}
 use Rattle.std.specs.Option.{option_map, is_some}
 use Rattle.std.proofs.lemmas.Slice.Eq.{bytes_eq-Decides}
 use Rattle.dav_core.specs.Lists.{without_first, change_first}
-use Rattle.dav_core.specs.Path.{Path, names, fronts, is_at_or_below, is_same_path}
+use Rattle.dav_core.specs.Path.{Path, names, fronts, is_at_or_under, is_same_path}
 use Rattle.dav_core.specs.Locks.{Lock, is_named, lock_front, refreshed_lock}
 use Rattle.dav_core.specs.LockLaws.{IsMeant, UnlockTakesOne, RefreshChangesOne}
 use Rattle.dav_core.proofs.NodesLemmas.{same_path}
@@ -90,7 +90,7 @@ is_meant token p q rest l e h =
     let (same, at) = both (bytes_eq l.token token) (is_same_path (names l.path) q) h in
     record {
       token_is = (bytes_eq-Decides l.token token).0 same;
-      above = ap (λ y. is_at_or_below y p) (same_path (names l.path) q at) ∙ ap (is_at_or_below q) e ∙ ap is_some (rest_after-append q rest);
+      above = ap (λ y. is_at_or_under p y) (same_path (names l.path) q at) ∙ ap (λ y. is_at_or_under y q) e ∙ ap is_some (rest_after-append q rest);
     }
 
 pub mapped_some : {X Y : Type 0} (f : X → Y) (o : Option X) (y : Y) → option_map f o ≡ Some y → (x : X) × (o ≡ Some x) × (y ≡ f x)

@@ -9,7 +9,7 @@ use Rattle.std.specs.Cmp.Lexicographic.{lists_total, nat_list_cmp_total}
 use Rattle.std.proofs.lemmas.List.Folds.{list_any-append}
 use Rattle.std.proofs.lemmas.Map.Text.{is_eq-slice_cmp}
 use Rattle.std.proofs.lemmas.List.Elements.{All-contains, All-weaker}
-use Rattle.dav_core.specs.Path.{Path, names, is_at_or_below, is_same_path, fronts}
+use Rattle.dav_core.specs.Path.{Path, names, is_at_or_under, is_same_path, fronts}
 use Rattle.dav_core.specs.Locks.{Lock, Requester, covers, is_held, is_free, is_free_for, is_named, lock_front, unlocked, discovered}
 use Rattle.dav_core.specs.Lists.{without_first}
 use Rattle.dav_core.specs.LockLaws.{FreeHoldsExclusive, FreeDeepHoldsBelow, FreeIsNoConflict, GrantedCanBeUnlocked, TakenBack}
@@ -37,7 +37,7 @@ is_below_held false a passed below = grind arith
 
 pub free_deep_holds_below : FreeDeepHoldsBelow
 free_deep_holds_below who p ls l free here below =
-    is_below_held (is_held who l) (is_at_or_below p (names l.path)) (passes (λ m. is_held who m || not (is_at_or_below p (names m.path))) ls l (both _ _ free).1 here) below
+    is_below_held (is_held who l) (is_at_or_under (names l.path) p) (passes (λ m. is_held who m || not (is_at_or_under (names m.path) p)) ls l (both _ _ free).1 here) below
 
 -- one lock of the list: it conflicts neither by covering the path nor by being at it or below it
 parted_step : (h s c a b deep all covered below : Bool)
@@ -48,12 +48,12 @@ parted_step h s c a b deep all covered below e = grind arith
 -- no lock conflicts: none by covering the path, and none by being at it or below it, where the path is checked with
 -- everything below
 parted : (deep : Bool) (who : Requester) (p : Path) (b : Bool) (ls : List Lock)
-    → list_all (λ l. not (not (is_held who l) && ((covers l p && (not l.shared || not b)) || (deep && is_at_or_below p (names l.path))))) ls
-    ≡ (list_all (λ l. is_held who l || (l.shared && b) || not (covers l p)) ls && (not deep || list_all (λ l. is_held who l || not (is_at_or_below p (names l.path))) ls))
+    → list_all (λ l. not (not (is_held who l) && ((covers l p && (not l.shared || not b)) || (deep && is_at_or_under (names l.path) p)))) ls
+    ≡ (list_all (λ l. is_held who l || (l.shared && b) || not (covers l p)) ls && (not deep || list_all (λ l. is_held who l || not (is_at_or_under (names l.path) p)) ls))
 parted true who p b [] = refl
 parted false who p b [] = refl
 parted deep who p b (l ∷ ls) =
-    parted_step (is_held who l) l.shared (covers l p) (is_at_or_below p (names l.path)) b deep _ _ _ (parted deep who p b ls)
+    parted_step (is_held who l) l.shared (covers l p) (is_at_or_under (names l.path) p) b deep _ _ _ (parted deep who p b ls)
 
 -- where some lock is held that covers the path, shared ones that cover it don't conflict
 with_one_held : (who : Requester) (p : Path) (ls : List Lock)
@@ -92,7 +92,7 @@ deep_step false x free below e = grind arith
 
 pub free_is_no_conflict : FreeIsNoConflict
 free_is_no_conflict deep who p ls =
-    deep_step deep _ _ _ (parted deep who p _ ls ∙ ap (λ x. x && (not deep || list_all (λ l. is_held who l || not (is_at_or_below p (names l.path))) ls)) (covering_step _ who p ls (sym (some_held who p ls))))
+    deep_step deep _ _ _ (parted deep who p _ ls ∙ ap (λ x. x && (not deep || list_all (λ l. is_held who l || not (is_at_or_under (names l.path) p)) ls)) (covering_step _ who p ls (sym (some_held who p ls))))
 
 some_of_cond : {X : Type 0} (b : Bool) (x : X) (o : Option X) → (b || is_some o) ≡ true → is_some (cond b (Some x) o) ≡ true
 some_of_cond true x o h = refl

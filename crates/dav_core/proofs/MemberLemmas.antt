@@ -8,7 +8,7 @@ use Rattle.std.specs.List.{cons_option, slice_index_or}
 use Rattle.std.specs.FinMap.{find, is_sorted, slice_cmp-IsAntisymmetric, nat_cmp-IsAntisymmetric}
 use Rattle.std.specs.FinMap.Entries.{below_all, same_entries}
 use Rattle.std.proofs.lemmas.List.Elements.{All-nil}
-use Rattle.dav_core.specs.Path.{Path, parent_of, is_nonempty, is_at_or_below, name_cmp, path_cmp, is_same_path, rest_after, only_name}
+use Rattle.dav_core.specs.Path.{Path, parent_of, is_nonempty, is_at_or_under, name_cmp, path_cmp, is_same_path, rest_after, only_name}
 use Rattle.dav_core.specs.World.{World, IsWorld, is_folder_node, is_folder, has_members, IsTree, Node, Nodes, node_at, members, is_folder_kind}
 use Rattle.std.proofs.lemmas.List.Elements.{All-contains, All-cons, Contains-get_or, Contains-append_right}
 use Rattle.std.specs.Cmp.Lexicographic.{nat_list_cmp_total}
@@ -194,7 +194,7 @@ below_by w world q x n empty stood (Some (y ∷ s)) is some =
     cc
 
 -- there is nothing below a path that isn't a folder with members
-pub nothing_below : (w : World) → IsWorld w → (q x : Path) (n : Node) → (is_folder w q && has_members w q) ≡ false → node_at w x ≡ Some n → is_at_or_below q x ≡ true → q ≡ x
+pub nothing_below : (w : World) → IsWorld w → (q x : Path) (n : Node) → (is_folder w q && has_members w q) ≡ false → node_at w x ≡ Some n → is_at_or_under x q ≡ true → q ≡ x
 nothing_below w world q x n empty stood at = below_by w world q x n empty stood (rest_after q x) refl at
 
 -- two folders, in two worlds, list the same where the same names are directly below them

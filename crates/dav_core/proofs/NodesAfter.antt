@@ -6,7 +6,7 @@ use Rattle.std.specs.declared.cmp.Ordering.{Ordering}
 use Rattle.std.specs.Ordering.{is_lt}
 use Rattle.std.specs.FinMap.{find, is_sorted}
 use Rattle.std.specs.FinMap.Entries.{find-where_key, is_sorted-where_key, below_all}
-use Rattle.dav_core.specs.Path.{Path, path_cmp, is_same_path, rest_after, is_at_or_below, parent_of}
+use Rattle.dav_core.specs.Path.{Path, path_cmp, is_same_path, rest_after, is_at_or_under, parent_of}
 use Rattle.dav_core.specs.World.{Node, Nodes, prune, graft, union, modified_at}
 use Rattle.dav_core.proofs.NodesLemmas.{path_exact, apart, find-adjust, find-put_node, sorted-put_node, sorted-change}
 use Rattle.dav_core.proofs.FrontLemmas.{rest_after-append, from_rest, cmp-append, same-append}
@@ -18,11 +18,11 @@ turned_cond false x y = refl
 
 pub find-prune : PruneLeaves
 find-prune p q ns =
-    find-where_key path_cmp (λ x. not (is_at_or_below p x)) q (λ x e. ap (λ (r : Path). not (is_at_or_below p r)) (sym (path_exact q x e))) ns
-    ∙ turned_cond (is_at_or_below p q) (find path_cmp q ns) None
+    find-where_key path_cmp (λ x. not (is_at_or_under x p)) q (λ x e. ap (λ (r : Path). not (is_at_or_under r p)) (sym (path_exact q x e))) ns
+    ∙ turned_cond (is_at_or_under q p) (find path_cmp q ns) None
 
 pub sorted-prune : PruneKeepsOrder
-sorted-prune p ns h = is_sorted-where_key path_cmp (λ x. not (is_at_or_below p x)) ns h
+sorted-prune p ns h = is_sorted-where_key path_cmp (λ x. not (is_at_or_under x p)) ns h
 
 or_cond : {X : Type 0} (b : Bool) (n : X) (o later : Option X) → cond b (Some n) (option_or o later) ≡ option_or (cond b (Some n) o) later
 or_cond true n o later = refl
@@ -115,7 +115,7 @@ find-moved from to q ns =
     find-union (graft from to ns) (prune to (prune from ns)) q
     ∙ ap (λ o. option_or o (find path_cmp q (prune to (prune from ns)))) (find-graft from to q ns)
     ∙ ap (option_or (option_and_then (λ rest. find path_cmp (from ++ rest) ns) (rest_after to q)))
-    (find-prune to q (prune from ns) ∙ ap (cond (is_at_or_below to q) None) (find-prune from q ns))
+    (find-prune to q (prune from ns) ∙ ap (cond (is_at_or_under q to) None) (find-prune from q ns))
 
 pub sorted-moved : MovedKeepsOrder
 sorted-moved from to ns h = sorted-union (graft from to ns) (prune to (prune from ns)) (sorted-prune to (prune from ns) (sorted-prune from ns h))

@@ -8,7 +8,7 @@ use Rattle.std.proofs.lemmas.List.Kept.{AllPairs-filter, AllPairs-cons}
 use Rattle.std.proofs.lemmas.List.Quantifiers.{all_pairs_push}
 use Rattle.std.proofs.lemmas.List.Elements.{All-head, All-tail, All-cons}
 use Rattle.dav_core.specs.Lists.{without_first, change_first}
-use Rattle.dav_core.specs.Path.{Path, names, rest_after, has_names, is_at_or_below, is_below, is_same_path}
+use Rattle.dav_core.specs.Path.{Path, names, rest_after, has_names, is_at_or_under, is_under, is_same_path}
 use Rattle.dav_core.specs.Locks.{Lock, covers, refreshed_lock, is_named, lock_front}
 use Rattle.dav_core.specs.LockLaws.{CoveringAreShared, GrantedAreShared, UnlockedAreShared, RefreshedAreShared, DeletedAreShared}
 use Rattle.dav_core.proofs.NodesLemmas.{path-itself, same_path}
@@ -52,7 +52,7 @@ CoveringWay l p = (names l.path ≡ p) ⊎ ((x : List ℕ) × (r : Path) × (l.d
 
 pub covering_way : (l : Lock) (p : Path) → covers l p ≡ true → CoveringWay l p
 covering_way l p h =
-    elim (either_way (is_same_path (names l.path) p) l.deep (is_below (names l.path) p) h) as (λ _. CoveringWay l p) [
+    elim (either_way (is_same_path (names l.path) p) l.deep (is_under p (names l.path)) h) as (λ _. CoveringWay l p) [
       | inl same ↦ inl (same_path (names l.path) p same)
       | inr both ↦ let (x, r, is) = below_rest (names l.path) p (rest_after (names l.path) p) refl both.1 in inr (x, r, both.0, is)
     ]
@@ -68,18 +68,18 @@ either false true true h k = refl
 either false true false h k = cc
 either false false c h k = cc
 
-is_below-append : (a : Path) (x : List ℕ) (r : Path) → is_below a (a ++ x ∷ r) ≡ true
-is_below-append a x r = ap has_names (rest_after-append a (x ∷ r))
+is_under-append : (a : Path) (x : List ℕ) (r : Path) → is_under (a ++ x ∷ r) a ≡ true
+is_under-append a x r = ap has_names (rest_after-append a (x ∷ r))
 
 -- it covers each path between its own and the covered one
 covers_between : (l : Lock) (b p t s : Path) → CoveringWay l p → b ≡ names l.path ++ t → p ≡ b ++ s → covers l b ≡ true
 covers_between l b p [] s way e f =
     let same : is_same_path (names l.path) b ≡ true = ap (is_same_path (names l.path)) (e ∙ append-nil (names l.path)) ∙ path-itself (names l.path) in
-    ap (λ c. c || (l.deep && is_below (names l.path) b)) same
+    ap (λ c. c || (l.deep && is_under b (names l.path))) same
 covers_between l b p (x ∷ t) s (inl same) e f =
     absurd (not_longer (names l.path) x (t ++ s) (same ∙ f ∙ ap (λ (y : Path). y ++ s) e ∙ append_assoc (names l.path) (x ∷ t) s))
 covers_between l b p (x ∷ t) s (inr (y, r, deep, g)) e f =
-    either (is_same_path (names l.path) b) l.deep (is_below (names l.path) b) deep (ap (is_below (names l.path)) e ∙ is_below-append (names l.path) x t)
+    either (is_same_path (names l.path) b) l.deep (is_under b (names l.path)) deep (ap (λ y. is_under y (names l.path)) e ∙ is_under-append (names l.path) x t)
 
 shared_by : (c s n : Bool) → c ≡ true → (c && not (s && n)) ≡ false → (s ≡ true) × (n ≡ true)
 shared_by true true true h k = (refl, refl)
@@ -93,7 +93,7 @@ none_deep true false h k clash = cc
 none_deep false b h k clash = cc
 
 -- where a new lock may be granted beside a lock, both are shared if they cover one path
-module _ (l new : Lock) (no_cover : (covers l (names new.path) && not (l.shared && new.shared)) ≡ false) (none_below : (new.deep && is_below (names new.path) (names l.path)) ≡ false) where
+module _ (l new : Lock) (no_cover : (covers l (names new.path) && not (l.shared && new.shared)) ≡ false) (none_below : (new.deep && is_under (names l.path) (names new.path)) ≡ false) where
   shares_by : (p : Path) → CoveringWay l p → CoveringWay new p → (s : Path) → p ≡ names new.path ++ s
       → ((t : Path) × (names new.path ≡ names l.path ++ t)) ⊎ ((x : List ℕ) × (t : Path) × (names l.path ≡ names new.path ++ x ∷ t))
       → (r : Path) → p ≡ names l.path ++ r → (l.shared ≡ true) × (new.shared ≡ true)
@@ -101,7 +101,7 @@ module _ (l new : Lock) (no_cover : (covers l (names new.path) && not (l.shared 
   shares_by p way (inl same) s f (inr (x, t, e)) r g =
       absurd (not_longer (names new.path) x (t ++ r) (same ∙ g ∙ ap (λ (y : Path). y ++ r) e ∙ append_assoc (names new.path) (x ∷ t) r))
   shares_by p way (inr (y, z, deep, h)) s f (inr (x, t, e)) r g =
-      absurd (none_deep new.deep (is_below (names new.path) (names l.path)) deep (ap (is_below (names new.path)) e ∙ is_below-append (names new.path) x t) none_below)
+      absurd (none_deep new.deep (is_under (names l.path) (names new.path)) deep (ap (λ y. is_under y (names new.path)) e ∙ is_under-append (names new.path) x t) none_below)
 
   shares : (p : Path) → covers l p ≡ true → covers new p ≡ true → (l.shared ≡ true) × (new.shared ≡ true)
   shares p h k =
@@ -132,7 +132,7 @@ Shared l m = (p : Path) → covers l p ≡ true → covers m p ≡ true → (l.s
 pub granted_are_shared : GrantedAreShared
 granted_are_shared new ls before grantable =
     let refusal = λ (l : Lock). covers l (names new.path) && not (l.shared && new.shared) in
-    let below = λ (l : Lock). is_below (names new.path) (names l.path) in
+    let below = λ (l : Lock). is_under (names l.path) (names new.path) in
     let (none, none_below) = granted_by (list_any refusal ls) new.deep (list_any below ls) (sym (grantable_by_tests new ls) ∙ grantable) in
     all_pairs_push Shared ls new before
     (λ k d small. shares (get_or ls k d) new (no_test refusal ls k d small none _ refl)
@@ -201,7 +201,7 @@ refreshed_are_shared token p timeout now ls new before h =
     (AllPairs-change_first (is_named token q) (refreshed_lock timeout now) Shared (λ l m both. both) (λ l m both. both) ls before)
 
 pub deleted_are_shared : DeletedAreShared
-deleted_are_shared p ls before = AllPairs-filter Shared (λ l. not (is_at_or_below p (names l.path))) ls before
+deleted_are_shared p ls before = AllPairs-filter Shared (λ l. not (is_at_or_under (names l.path) p)) ls before
 
 pub none_are_shared : CoveringAreShared []
 none_are_shared = λ i j d less small. absurd (omega (arith, less, small))

@@ -9,7 +9,7 @@ use Rattle.std.specs.Cmp.Lexicographic.{nat_list_cmp_total}
 use Rattle.dav_core.specs.declared.errors.FsError.{FsError}
 use Rattle.dav_core.specs.declared.errors.FsError.TheVariants.{GeneralFailure, Exists, NotFound, Forbidden, TooLarge}
 use Rattle.dav_core.specs.Element.{ElementTree}
-use Rattle.dav_core.specs.Path.{Path, rest_after, is_same_path, is_at_or_below, is_below, is_root, is_nonempty, parent_of}
+use Rattle.dav_core.specs.Path.{Path, rest_after, is_same_path, is_at_or_under, is_under, is_root, is_nonempty, parent_of}
 use Rattle.dav_core.specs.Property.{Properties, PropertyKey, Patch, SetTo, Remove, key_cmp, property_key, is_same_key, patched, patched_by, shown_property}
 use Rattle.dav_core.specs.World.{World, Node, Kind, Folder, File, node_at, is_folder_kind, is_folder_node, is_folder, is_file, is_missing, bytes_of, members, has_members, with_new, adjust, change_node, is_file_made_with, file_made_with, last_moment, last_number, max_file_len, IsWorld, Renumbers}
 use Rattle.dav_core.specs.Handle.{Handle, Opening, opened, write_place, place_for}
@@ -78,10 +78,10 @@ pub data Step (call : Call) (w new : World) : Type 0 where
       → (IsProper call → IsWorld w → Renumbers w.next n (f n)) → ((q : Path) (m : Node) → made ≡ m.made → is_folder_kind m.kind ≡ false → MayChange call q m) → InPlace call → new ≡ record { nodes = change_node (is_file_made_with made) f w.nodes; next = w.next + 1 } → Step call w new
   patches : (p : Path) (f : Node → Node) → ((n : Node) → Same n (f n)) → ((m : Node) → MayChange call p m) → InPlace call → new ≡ record w { nodes = adjust p f w.nodes } → Step call w new
   removes : (p : Path) (now : ℕ) → (IsWorld w → is_root p ≡ false) → (IsProper call → now ≤ last_moment)
-      → (IsWorld w → (x : Path) (n : Node) → node_at w x ≡ Some n → is_at_or_below p x ≡ true → TakesAway call x) → InPlace call → new ≡ without w p now → Step call w new
-  renames : (from to : Path) (now : ℕ) → is_root from ≡ false → is_root to ≡ false → is_at_or_below from to ≡ false → is_folder w (parent_of to) ≡ true
+      → (IsWorld w → (x : Path) (n : Node) → node_at w x ≡ Some n → is_at_or_under x p ≡ true → TakesAway call x) → InPlace call → new ≡ without w p now → Step call w new
+  renames : (from to : Path) (now : ℕ) → is_root from ≡ false → is_root to ≡ false → is_at_or_under to from ≡ false → is_folder w (parent_of to) ≡ true
       → (IsProper call → IsStorable to × (now ≤ last_moment))
-      → (IsWorld w → (x : Path) (n : Node) → node_at w x ≡ Some n → is_at_or_below to x ≡ true → TakesAway call x) → ((x : Path) → brought call x ≡ path_after from to x) → new ≡ renamed_world w from to now → Step call w new
+      → (IsWorld w → (x : Path) (n : Node) → node_at w x ≡ Some n → is_at_or_under x to ≡ true → TakesAway call x) → ((x : Path) → brought call x ≡ path_after from to x) → new ≡ renamed_world w from to now → Step call w new
 
 key_total : IsTotalOrder key_cmp
 key_total = then_total (on_total (λ (k : PropertyKey). k.0) nat_list_cmp_total) (on_total (λ (k : PropertyKey). k.1) nat_list_cmp_total)
@@ -147,7 +147,7 @@ module _ (w : World) (from to : Path) (now : ℕ) (r : Unit {0} × World) where
       elim (went_if (is_same_path from to) (Ok (tt, w)) _ r h2) as (λ _. Step (Rename from to now) w r.1) [
         | inl same ↦ unchanged (λ x. path_itself from to x (same_path from to same.0)) (left tt w r same.1)
         | inr other ↦
-            let (below, h3) = went_on (is_below from to) Forbidden _ r other.1 in
+            let (below, h3) = went_on (is_under to from) Forbidden _ r other.1 in
             let (folder, h4) = went_on (not (is_folder w (parent_of to))) NotFound _ r h3 in
             let (empty, h5) = went_on (is_folder w to && has_members w to) Exists _ r h4 in
             let (a, b) = neither (is_root from) (is_root to) roots in

@@ -5,14 +5,14 @@ use Rattle.std.specs.FinMap.{find, put, is_sorted}
 use Rattle.dav_core.specs.declared.errors.FsError.{FsError}
 use Rattle.dav_core.specs.declared.errors.FsError.TheVariants.{Exists, Forbidden}
 use Rattle.dav_core.specs.declared.fs.DavMetaData.{DavMetaData}
-use Rattle.dav_core.specs.Path.{Path, name_cmp, path_cmp, is_same_path, rest_after, is_at_or_below, is_root, parent_of, IsName}
+use Rattle.dav_core.specs.Path.{Path, name_cmp, path_cmp, is_same_path, rest_after, is_at_or_under, is_root, parent_of, IsName}
 use Rattle.dav_core.specs.World.{World, Node, Nodes, node_at, is_missing, is_folder, has_members, prune, graft, union, moved, members, adjust, touched, modified_at, file_made_with, is_folder_kind, last_moment, IsWorld}
 use Rattle.dav_core.specs.Handle.{Handle, Opening}
 use Rattle.dav_core.specs.Asking.{Call, Metadata, EntryMetadata, CreateDir, RemoveDir, RemoveFile, Rename, Copy, PatchProps, Open, Write, FileMetadata, Answer, meaning, StoreState, Asks, ask, rest_of, next_refusal}
 
 -- after a prune of p nothing is at p or below it, and everything else is as before
 abbrev pub PruneLeaves : Type 0
-PruneLeaves = (p q : Path) (ns : Nodes) → find path_cmp q (prune p ns) ≡ (if is_at_or_below p q then None else find path_cmp q ns)
+PruneLeaves = (p q : Path) (ns : Nodes) → find path_cmp q (prune p ns) ≡ (if is_at_or_under q p then None else find path_cmp q ns)
 
 -- after a change at p the node there is changed, and everything else is as before
 abbrev pub AdjustChanges : Type 0
@@ -34,7 +34,7 @@ abbrev pub MovedStands : Type 0
 MovedStands =
     (from to q : Path) (ns : Nodes)
     → find path_cmp q (moved from to ns) ≡ option_or (option_and_then (λ rest. find path_cmp (from ++ rest) ns) (rest_after to q))
-    (if is_at_or_below to q then None else if is_at_or_below from q then None else find path_cmp q ns)
+    (if is_at_or_under q to then None else if is_at_or_under q from then None else find path_cmp q ns)
 
 -- a touch of p sets when the node at its parent was last changed, and leaves everything else as before
 abbrev pub TouchedIsModified : Type 0
@@ -189,7 +189,7 @@ IsStill n m = (m.made ≡ n.made) × (is_folder_kind m.kind ≡ is_folder_kind n
 abbrev pub NodesFollowRenames : Type 0
 NodesFollowRenames =
     (from to : Path) (now : ℕ) (w : World) (r : Unit {0} × World) (p : Path) (n : Node)
-    → meaning (Rename from to now) w ≡ Ok r → node_at w p ≡ Some n → is_at_or_below to p ≡ false
+    → meaning (Rename from to now) w ≡ Ok r → node_at w p ≡ Some n → is_at_or_under p to ≡ false
     → (m : Node) × (node_at r.1 (path_after from to p) ≡ Some m) × IsUnchanged n m
 
 -- what a call doesn't take away is still there: a rename may have moved it, all other calls leave it where it was

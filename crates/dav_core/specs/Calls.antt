@@ -6,7 +6,7 @@ use Rattle.std.specs.declared.io.traits.SeekFrom.{SeekFrom}
 use Rattle.dav_core.specs.declared.errors.FsError.TheVariants.{GeneralFailure, Exists, NotFound, Forbidden, TooLarge}
 use Rattle.dav_core.specs.declared.fs.DavMetaData.{DavMetaData}
 use Rattle.dav_core.specs.Element.{ElementTree}
-use Rattle.dav_core.specs.Path.{Path, is_same_path, is_below, is_root, is_nonempty, parent_of}
+use Rattle.dav_core.specs.Path.{Path, is_same_path, is_under, is_root, is_nonempty, parent_of}
 use Rattle.dav_core.specs.Property.{Property, PropertyKey, Patch, key_cmp, patched, patched_property, without_xml, shown_property}
 use Rattle.dav_core.specs.World.{World, Node, Folder, File, node_at, is_folder_kind, is_folder, is_file, is_missing, bytes_of, members, has_members, prune, moved, touched, with_new, adjust, change_node, is_file_made_with, file_made_with, splice, max_file_len}
 use Rattle.dav_core.specs.Handle.{Handle, Opening, opened, write_place, place_for}
@@ -56,7 +56,7 @@ rename w from to now =
     refuse_if (is_root from || is_root to) Forbidden
     (refuse_if (is_missing w from) NotFound
     (if is_same_path from to then Ok (tt, w) else
-    (refuse_if (is_below from to) Forbidden
+    (refuse_if (is_under to from) Forbidden
     (refuse_if (not (is_folder w (parent_of to))) NotFound
     (refuse_if (is_folder w to && has_members w to) Exists
     (Ok (tt, record w { nodes = touched from now (touched to now (moved from to w.nodes)) })))))))

@@ -2,7 +2,7 @@
 use Rattle.std.specs.Prelude.{◌≡◌, ◌≢◌, ◌↔◌, ℕ, ◌++◌, ◌∷◌, [], Bool, true, false, not, List, All, AllPairs, Contains, Option, Some}
 use Rattle.std.specs.Option.{is_some}
 use Rattle.std.specs.List.{list_all}
-use Rattle.dav_core.specs.Path.{Path, names, is_at_or_below}
+use Rattle.dav_core.specs.Path.{Path, names, is_at_or_under}
 use Rattle.dav_core.specs.Locks.{Lock, Requester, covers, is_held, is_free, is_free_deep, is_free_for, conflicts, is_grantable, unlocked, refreshed, refreshed_lock, discovered, deleted}
 
 -- where a path is free, the requester holds each exclusive lock that covers it
@@ -15,7 +15,7 @@ FreeHoldsExclusive =
 abbrev pub FreeDeepHoldsBelow : Type 0
 FreeDeepHoldsBelow =
     (who : Requester) (p : Path) (ls : List Lock) (l : Lock)
-    → is_free_deep who p ls ≡ true → Contains ls l → is_at_or_below p (names l.path) ≡ true → is_held who l ≡ true
+    → is_free_deep who p ls ≡ true → Contains ls l → is_at_or_under (names l.path) p ≡ true → is_held who l ≡ true
 
 -- a path is free exactly where no lock conflicts
 abbrev pub FreeIsNoConflict : Type 0
@@ -63,7 +63,7 @@ DeletedAreShared = (p : Path) (ls : List Lock) → CoveringAreShared ls → Cove
 -- a lock that a token and a path can mean: it has the token, and is on the path or above it
 pub record IsMeant (token : List ℕ) (p : Path) (l : Lock) : Type 0 where
   pub token_is : l.token ≡ token
-  pub above : is_at_or_below (names l.path) p ≡ true
+  pub above : is_at_or_under p (names l.path) ≡ true
 
 -- an unlock removes one lock that is meant, and leaves all others in their places (RFC 4918, section 9.11)
 abbrev pub UnlockTakesOne : Type 0

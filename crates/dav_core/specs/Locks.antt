@@ -5,7 +5,7 @@ use Rattle.std.specs.List.{filter, flat_map, list_any, list_all, find as first}
 use Rattle.std.specs.Option.{option_map, option_and_then, option_eq}
 use Rattle.dav_core.specs.Element.{ElementTree}
 use Rattle.dav_core.specs.Lists.{is_empty, without_first, change_first}
-use Rattle.dav_core.specs.Path.{Path, PathText, names, is_same_path, is_below, is_at_or_below, fronts}
+use Rattle.dav_core.specs.Path.{Path, PathText, names, is_same_path, is_under, is_at_or_under, fronts}
 
 -- A lock: its token, the path that it is on, its principal, the element in which its owner describes itself, when it ends
 -- and after how many seconds, whether it is shared, and whether it is of infinite depth, on everything below its path too.
@@ -21,7 +21,7 @@ pub record Lock : Type 0 where
 
 -- a lock covers its path, and where it is of infinite depth everything below it
 abbrev pub covers : Lock → Path → Bool
-covers l p = is_same_path (names l.path) p || (l.deep && is_below (names l.path) p)
+covers l p = is_same_path (names l.path) p || (l.deep && is_under p (names l.path))
 
 -- the locks of the list that cover a path
 abbrev pub covering : Path → List Lock → List Lock
@@ -29,7 +29,7 @@ covering p ls = filter (λ l. covers l p) ls
 
 -- the locks of the list that are below a path
 abbrev pub locks_below : Path → List Lock → List Lock
-locks_below p ls = filter (λ l. is_below p (names l.path)) ls
+locks_below p ls = filter (λ l. is_under (names l.path) p) ls
 
 -- Who may hold a lock: anyone who submits its token, or only the one with this principal, which may be none.
 pub data Claimant : Type 0 where
@@ -64,7 +64,7 @@ is_free who p ls =
 
 -- a path is free with everything below: it is free, and the requester holds every lock at it or below it
 abbrev pub is_free_deep : Requester → Path → List Lock → Bool
-is_free_deep who p ls = is_free who p ls && list_all (λ l. is_held who l || not (is_at_or_below p (names l.path))) ls
+is_free_deep who p ls = is_free who p ls && list_all (λ l. is_held who l || not (is_at_or_under (names l.path) p)) ls
 
 abbrev pub is_free_for : Bool → Requester → Path → List Lock → Bool
 is_free_for deep who p ls = if deep then is_free_deep who p ls else is_free who p ls
@@ -75,7 +75,7 @@ abbrev pub conflicts : Bool → Requester → Path → List Lock → Lock → Bo
 conflicts deep who p ls l =
     not (is_held who l)
     && ((covers l p && (not l.shared || not (list_any (is_held who) (covering p ls))))
-    || (deep && is_at_or_below p (names l.path)))
+    || (deep && is_at_or_under (names l.path) p))
 
 -- The answer to a check whether a path is free: yes, or one lock that conflicts.
 pub data Checks (deep : Bool) (who : Requester) (p : Path) (ls : List Lock) : Result (Unit {0}) Lock → Type 0 where
@@ -141,4 +141,4 @@ discovered p ls = flat_map (λ q. filter (λ l. is_same_path (names l.path) q &&
 
 -- the list without the locks at a path and below it
 abbrev pub deleted : Path → List Lock → List Lock
-deleted p ls = filter (λ l. not (is_at_or_below p (names l.path))) ls
+deleted p ls = filter (λ l. not (is_at_or_under (names l.path) p)) ls

@@ -52,18 +52,18 @@ rest_after [] q = Some q
 rest_after (x ∷ p) [] = None
 rest_after (x ∷ p) (y ∷ q) = if is_eq (name_cmp x y) then rest_after p q else None
 
--- q is p, or below it
-abbrev pub is_at_or_below : Path → Path → Bool
-is_at_or_below p q = is_some (rest_after p q)
+-- whether q is p, or under it
+abbrev pub is_at_or_under : Path → Path → Bool
+is_at_or_under q p = is_some (rest_after p q)
 
 abbrev pub has_names : Option Path → Bool
 has_names None = false
 has_names (Some []) = false
 has_names (Some (x ∷ rest)) = true
 
--- q is below p: p is a proper front of q
-abbrev pub is_below : Path → Path → Bool
-is_below p q = has_names (rest_after p q)
+-- whether q is under p: p is a proper front of q
+abbrev pub is_under : Path → Path → Bool
+is_under q p = has_names (rest_after p q)
 
 abbrev pub is_root : Path → Bool
 is_root [] = true

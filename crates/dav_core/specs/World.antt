@@ -6,7 +6,7 @@ use Rattle.std.specs.Option.{is_none, option_map}
 use Rattle.std.specs.FinMap.{find, put, is_sorted}
 use Rattle.dav_core.specs.Lists.{change_first}
 use Rattle.dav_core.specs.Numbers.{max_u64}
-use Rattle.dav_core.specs.Path.{Path, path_cmp, is_same_path, is_at_or_below, is_nonempty, rest_after, only_name, parent_of, IsName}
+use Rattle.dav_core.specs.Path.{Path, path_cmp, is_same_path, is_at_or_under, is_nonempty, rest_after, only_name, parent_of, IsName}
 use Rattle.dav_core.specs.Property.{Properties, key_cmp}
 
 -- a folder, or a file with its bytes
@@ -63,7 +63,7 @@ is_missing w p = is_none (node_at w p)
 
 -- all nodes but those at p or below it
 abbrev pub prune : Path → Nodes → Nodes
-prune p = filter (λ e. not (is_at_or_below p e.0))
+prune p = filter (λ e. not (is_at_or_under e.0 p))
 
 -- the nodes at p or below it, with the front p of their paths replaced by q
 abbrev pub graft : Path → Path → Nodes → Nodes

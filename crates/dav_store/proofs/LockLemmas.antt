@@ -2,7 +2,7 @@
 use Rattle.std.proofs.Common.{◌≡◌, ℕ, ◌&&◌, ◌||◌, Bool, true, false, not, List, [], ◌∷◌, map, Contains, get_or, Some, None, refl, sym, ap, subst, ◌∙◌}
 use Rattle.std.specs.List.{list_any, list_all, position}
 use Rattle.std.proofs.lemmas.List.Quantifiers.{position-Some}
-use Rattle.dav_core.specs.Path.{Path, names, is_below, is_at_or_below}
+use Rattle.dav_core.specs.Path.{Path, names, is_under, is_at_or_under}
 use Rattle.dav_core.specs.Locks.{Lock, Requester, covers, is_held, is_free_for, conflicts, is_grantable}
 use Rattle.dav_core.proofs.Theorems.{some_held, free_is_no_conflict, grantable_by_tests}
 use Rattle.dav_store.proofs.Place.{NonePasses, none_passes}
@@ -13,7 +13,7 @@ any_mapped f test [] = refl
 any_mapped f test (x ∷ xs) = ap (λ b. test (f x) || b) (any_mapped f test xs)
 
 abbrev conflicting : Bool → Requester → Path → Bool → Lock → Bool
-conflicting deep who p some l = not (is_held who l) && ((covers l p && (not l.shared || not some)) || (deep && is_at_or_below p (names l.path)))
+conflicting deep who p some l = not (is_held who l) && ((covers l p && (not l.shared || not some)) || (deep && is_at_or_under (names l.path) p))
 
 all_step : (b c : Bool) → b ≡ false → c ≡ true → (not b && c) ≡ true
 all_step true c h k = cc
@@ -50,12 +50,12 @@ not_grantable_if_some false deep b h = ap not h
 
 -- where the tests of the code find no lock that conflicts with a new one, it may be granted
 pub grantable_seen : (new : Lock) (ls seen : List Lock) → seen ≡ ls
-    → (list_any (λ l. covers l (names new.path) && not (l.shared && new.shared)) seen || (new.deep && list_any (λ l. is_below (names new.path) (names l.path)) seen)) ≡ false
+    → (list_any (λ l. covers l (names new.path) && not (l.shared && new.shared)) seen || (new.deep && list_any (λ l. is_under (names l.path) (names new.path)) seen)) ≡ false
     → is_grantable new ls ≡ true
 grantable_seen new ls seen same none = subst (λ (ms : List Lock). is_grantable new ms ≡ true) same (grantable_by_tests new seen ∙ grantable_if_none _ new.deep _ none)
 
 -- and where they find one, it may not
 pub conflict_seen : (new : Lock) (ls seen : List Lock) → seen ≡ ls
-    → (list_any (λ l. covers l (names new.path) && not (l.shared && new.shared)) seen || (new.deep && list_any (λ l. is_below (names new.path) (names l.path)) seen)) ≡ true
+    → (list_any (λ l. covers l (names new.path) && not (l.shared && new.shared)) seen || (new.deep && list_any (λ l. is_under (names l.path) (names new.path)) seen)) ≡ true
     → is_grantable new ls ≡ false
 conflict_seen new ls seen same some = subst (λ (ms : List Lock). is_grantable new ms ≡ false) same (grantable_by_tests new seen ∙ not_grantable_if_some _ new.deep _ some)

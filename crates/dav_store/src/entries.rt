@@ -4,7 +4,7 @@ ghost use Rattle.std.specs.Vec.{vec_capacity};
 ghost use Rattle.std.specs.List.{insert};
 ghost use Rattle.std.specs.FinMap.{find, put};
 ghost use Rattle.std.specs.Ordering.{is_le};
-ghost use Rattle.dav_core.specs.Path.{names, path_cmp, is_same_path, is_at_or_below, parent_of};
+ghost use Rattle.dav_core.specs.Path.{names, path_cmp, is_same_path, is_at_or_under, parent_of};
 ghost use Rattle.dav_core.specs.World.{adjust, touched, prune, graft, union, moved, modified_at, is_folder_node, is_file_node, last_moment, max_file_len, change_node, is_file_made_with, file_made_with, is_folder_kind};
 ghost use Rattle.dav_core.specs.World.{Node as Seen, fresh};
 ghost use Rattle.dav_core.specs.Calls.{emptied, written, copied_over, repatched};

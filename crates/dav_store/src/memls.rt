@@ -2,7 +2,7 @@
 ghost use Rattle.std.specs.Prelude.{◌≡◌, ◌&&◌, ◌||◌, ◌+◌, ◌++◌, ◌∷◌, ◌≤◌, not, [], map, IfOk, IfErr, OnOk, OnErr, IfSome, IsSome, IsErrOf, MatchOption, Some, None, Contains, true, bytes_eq, string_bytes, option_copied, position, take};
 ghost use Rattle.std.specs.List.{list_any, filter};
 ghost use Rattle.std.specs.Option.{option_map};
-ghost use Rattle.dav_core.specs.Path.{names, is_same_path, is_below, is_at_or_below};
+ghost use Rattle.dav_core.specs.Path.{names, is_same_path, is_under, is_at_or_under};
 ghost use Rattle.dav_core.specs.Locks.{Lock, Checks, lent, covers, requester_of, is_held, is_of, is_free_for, conflicts, ends_at, new_lock, named_lock, unlocked, refreshed, refreshed_lock, discovered, deleted};
 ghost use Rattle.dav_core.specs.LockRefusals.{IsRefusedRefresh};
 ghost use Rattle.dav_core.specs.Numbers.{max_u64};
@@ -42,7 +42,7 @@ impl Model for MemLs {
 fn covers(lock: &DavLock, path: &DavPath) -> bool
     ensures { result ≡ covers lock.now (names path.now) }
 {
-    paths::is_same(&lock.path, path) || lock.deep && paths::is_below(&lock.path, path)
+    paths::is_same(&lock.path, path) || lock.deep && paths::is_under(path, &lock.path)
 }
 
 // Whether a token is among the submitted ones.
@@ -96,11 +96,11 @@ fn conflicts(
     deep: bool,
     some_held: bool,
 ) -> bool
-    ensures { result ≡ (not (is_held (requester_in who.entry) lock.now) && ((covers lock.now (names path.now) && (not lock.now.shared || not some_held)) || (deep && is_at_or_below (names path.now) (names lock.now.path)))) }
+    ensures { result ≡ (not (is_held (requester_in who.entry) lock.now) && ((covers lock.now (names path.now) && (not lock.now.shared || not some_held)) || (deep && is_at_or_under (names lock.now.path) (names path.now)))) }
 {
     !is_held(lock, who)
         && (covers(lock, path) && (!lock.shared || !some_held)
-            || deep && paths::is_at_or_below(path, &lock.path))
+            || deep && paths::is_at_or_under(&lock.path, path))
 }
 
 // The place of the first lock that conflicts.
@@ -111,7 +111,7 @@ fn conflict_place(
     deep: bool,
     some_held: bool,
 ) -> Option<usize>
-    ensures { result ≡ position (λ l. not (is_held (requester_in who.entry) l) && ((covers l (names path.now) && (not l.shared || not some_held)) || (deep && is_at_or_below (names path.now) (names l.path)))) locks.now }
+    ensures { result ≡ position (λ l. not (is_held (requester_in who.entry) l) && ((covers l (names path.now) && (not l.shared || not some_held)) || (deep && is_at_or_under (names l.path) (names path.now)))) locks.now }
 {
     locks
         .iter()
@@ -172,7 +172,7 @@ fn named_place(locks: &[DavLock], path: &DavPath, token: &str) -> Option<usize>
 fn drop_below(locks: &mut Vec<DavLock>, path: &DavPath)
     ensures { locks.new.items ≡ deleted (names path.now) locks.old.items }
 {
-    locks.retain(|l| !paths::is_at_or_below(path, &l.path));
+    locks.retain(|l| !paths::is_at_or_under(&l.path, path));
 }
 
 // Whether some lock that covers a path excludes a new one there: all but two shared locks exclude each other.
@@ -186,14 +186,14 @@ fn any_excludes(locks: &[DavLock], path: &DavPath, shared: bool) -> bool
 
 // Whether there is a lock below a path.
 fn any_below(locks: &[DavLock], path: &DavPath) -> bool
-    ensures { result ≡ list_any (λ l. is_below (names path.now) (names l.path)) locks.now }
+    ensures { result ≡ list_any (λ l. is_under (names l.path) (names path.now)) locks.now }
 {
-    locks.iter().any(|l| paths::is_below(path, &l.path))
+    locks.iter().any(|l| paths::is_under(&l.path, path))
 }
 
 // Whether some lock conflicts with a new one.
 fn any_refuses(locks: &[DavLock], path: &DavPath, shared: bool, deep: bool) -> bool
-    ensures { result ≡ (list_any (λ l. covers l (names path.now) && not (l.shared && shared)) locks.now || (deep && list_any (λ l. is_below (names path.now) (names l.path)) locks.now)) }
+    ensures { result ≡ (list_any (λ l. covers l (names path.now) && not (l.shared && shared)) locks.now || (deep && list_any (λ l. is_under (names l.path) (names path.now)) locks.now)) }
 {
     any_excludes(locks, path, shared) || deep && any_below(locks, path)
 }

@@ -1,7 +1,7 @@
 //! The names of a path, as owned bytes (RFC 3986, section 3.3), and comparisons of them with paths.
 ghost use Rattle.std.specs.Prelude.{◌≡◌, ◌∷◌, ◌++◌, [], IfOk, OnOk, OnErr, option_map, option_copied};
 ghost use Rattle.std.specs.Ordering.{is_eq};
-ghost use Rattle.dav_core.specs.Path.{names, name_cmp, path_cmp, is_same_path, is_at_or_below, is_below, rest_after, parent_of, only_name, IsSegment};
+ghost use Rattle.dav_core.specs.Path.{names, name_cmp, path_cmp, is_same_path, is_at_or_under, is_under, rest_after, parent_of, only_name, IsSegment};
 ghost use Rattle.dav_core.specs.PathRef.{names_left};
 
 use dav_core::davpath::{DavPath, Segments};
@@ -197,7 +197,7 @@ fn are_of_member(folder: &[Name], name: &Name, names: &[Name]) -> bool
 
 impl Names {
     ghost use Rattle.std.specs.Prelude.{◌≡◌, ◌∷◌, ◌++◌, [], IfOk, OnOk, OnErr, option_map, option_copied, Bool};
-    ghost use Rattle.dav_core.specs.Path.{names, path_cmp, is_same_path, is_at_or_below, rest_after, parent_of, only_name};
+    ghost use Rattle.dav_core.specs.Path.{names, path_cmp, is_same_path, is_at_or_under, rest_after, parent_of, only_name};
 
     /// The names of a path; none for the star path.
     pub fn of(alloc: Global, path: &DavPath) -> Result<Names, NoMemory>
@@ -246,7 +246,7 @@ impl Names {
 
     /// Whether these names are at the path or below it.
     pub fn are_at_or_below(&self, path: &DavPath) -> bool
-        ensures { result ≡ is_at_or_below (names path.now) self.now }
+        ensures { result ≡ is_at_or_under self.now (names path.now) }
     {
         rest_after(path.segments(), &self.names).is_some()
     }

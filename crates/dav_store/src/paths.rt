@@ -1,6 +1,6 @@
 //! Paths compared name by name (RFC 3986, section 3.3).
 ghost use Rattle.std.specs.Prelude.{◌≡◌, option_map, take, length, ◌≤◌};
-ghost use Rattle.dav_core.specs.Path.{names, name_cmp, path_cmp, is_same_path, is_at_or_below, is_below, is_root, rest_after};
+ghost use Rattle.dav_core.specs.Path.{names, name_cmp, path_cmp, is_same_path, is_at_or_under, is_under, is_root, rest_after};
 ghost use Rattle.dav_core.specs.PathRef.{names_left};
 
 use dav_core::davpath::{DavPath, Segments};
@@ -101,16 +101,16 @@ pub fn is_same(a: &DavPath, b: &DavPath) -> bool
     compare(a.segments(), b.segments()).is_eq()
 }
 
-/// Whether the path is at the front or below it.
-pub fn is_at_or_below(front: &DavPath, path: &DavPath) -> bool
-    ensures { result ≡ is_at_or_below (names front.now) (names path.now) }
+/// Whether the first path is the second one, or under it.
+pub fn is_at_or_under(path: &DavPath, front: &DavPath) -> bool
+    ensures { result ≡ is_at_or_under (names path.now) (names front.now) }
 {
     rest_after(front.segments(), path.segments()).is_some()
 }
 
-/// Whether the path is below the front.
-pub fn is_below(front: &DavPath, path: &DavPath) -> bool
-    ensures { result ≡ is_below (names front.now) (names path.now) }
+/// Whether the first path is under the second one.
+pub fn is_under(path: &DavPath, front: &DavPath) -> bool
+    ensures { result ≡ is_under (names path.now) (names front.now) }
 {
     match rest_after(front.segments(), path.segments()) {
         Some(mut rest) => rest.next().is_some(),

@@ -147,7 +147,7 @@ impl DavFileSystem for MemFs {
         if paths::is_same(from, to) {
             return Ok(());
         }
-        if paths::is_below(from, to) {
+        if paths::is_under(to, from) {
             return Err(FsError::Forbidden);
         }
         if !entries::has_folder(&self.entries, to) {

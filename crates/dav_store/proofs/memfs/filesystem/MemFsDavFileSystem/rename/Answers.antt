@@ -13,8 +13,8 @@ returns-then-is_none c = asks_rename (names c.args.from.now) (names c.args.to.no
 pub returns-then-is_same : goal.returns-then-is_same
 returns-then-is_same c = asks_rename (names c.args.from.now) (names c.args.to.now) c.args.now c.args.self.now _ _ (grind (arith, common_steps))
 
-pub returns-then-is_below : goal.returns-then-is_below
-returns-then-is_below c = asks_rename (names c.args.from.now) (names c.args.to.now) c.args.now c.args.self.now _ _ (grind (arith, common_steps))
+pub returns-then-is_under : goal.returns-then-is_under
+returns-then-is_under c = asks_rename (names c.args.from.now) (names c.args.to.now) c.args.now c.args.self.now _ _ (grind (arith, common_steps))
 
 pub returns-then-not-has_folder : goal.returns-then-not-has_folder
 returns-then-not-has_folder c = asks_rename (names c.args.from.now) (names c.args.to.now) c.args.now c.args.self.now _ _ (grind (arith, common_steps))
