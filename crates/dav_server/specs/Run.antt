@@ -1,10 +1,11 @@
 -- Runs of the machine.
-use Rattle.std.specs.Prelude.{◌≡◌, ◌++◌, false, List, [], ◌∷◌, Option, Some, None}
+use Rattle.std.specs.Prelude.{◌≡◌, ◌++◌, false, List, [], ◌∷◌, All, Option, Some, None}
 use Rattle.dav_core.specs.declared.errors.FsError.{FsError}
 use Rattle.dav_core.specs.Asking.{StoreState, Asks}
+use Rattle.dav_engine.specs.Method.{Method}
 use Rattle.dav_engine.specs.Plan.{Locks, Step}
 use Rattle.dav_engine.specs.Response.{Response}
-use Rattle.dav_server.specs.Machine.{Asked, Settings, StepsBy, StepCutBy}
+use Rattle.dav_server.specs.Machine.{Asked, Settings, Means, StepsBy, StepCutBy}
 
 -- A turn: a request, and where there is one the list of the store's calls that are refused from then on.
 pub record Turn : Type 0 where
@@ -45,3 +46,27 @@ RunsAreDetermined =
     (s : Settings) (ts : List Turn) (old new other : StoreState) (ls ks ms : Locks) (replies others : List Response)
     → Runs s ts old ls replies new ks → new.short ≡ false → Runs s ts old ls others other ms → other.short ≡ false
     → (replies ≡ others) × (new ≡ other) × (ks ≡ ms)
+
+-- A run splits at any place: what it leaves there is what the rest of it begins with.
+abbrev pub RunsSplit : Type 0
+RunsSplit =
+    (s : Settings) (ts us : List Turn) (old new : StoreState) (ls ms : Locks) (replies : List Response)
+    → Runs s (ts ++ us) old ls replies new ms
+    → (before : List Response) × (after : List Response) × (mid : StoreState) × (ks : Locks)
+    × (replies ≡ before ++ after) × Runs s ts old ls before mid ks × Runs s us mid ks after new ms
+
+-- A run, and one from what it leaves, are a run.
+abbrev pub RunsJoin : Type 0
+RunsJoin =
+    (s : Settings) (ts us : List Turn) (old mid new : StoreState) (ls ks ms : Locks) (before after : List Response)
+    → Runs s ts old ls before mid ks → Runs s us mid ks after new ms → Runs s (ts ++ us) old ls (before ++ after) new ms
+
+-- a request that results in a plan
+abbrev pub HasPlan : Settings → Turn → Type 0
+HasPlan s t = (plan : Method Response) × Means s t.asked plan
+
+-- Requests that each result in a plan have a run from every state, in which the store doesn't run out of memory.
+abbrev pub RunsEnd : Type 0
+RunsEnd =
+    (s : Settings) (ts : List Turn) (old : StoreState) (ls : Locks) → All (HasPlan s) ts
+    → (replies : List Response) × (new : StoreState) × (ms : Locks) × Runs s ts old ls replies new ms × (new.short ≡ old.short)

@@ -1,7 +1,7 @@
 //! Laws of heads, their headers, targets and runs. Each function does nothing: its contract is a theorem on the definitions.
 ghost use Rattle.dav_server.specs.Head.{OneHead};
 ghost use Rattle.dav_server.specs.Headers.{KeepsValues};
-ghost use Rattle.dav_server.specs.Run.{RunsAreDetermined};
+ghost use Rattle.dav_server.specs.Run.{RunsAreDetermined, RunsSplit, RunsJoin, RunsEnd};
 ghost use Rattle.dav_server.specs.TagLaws.{TagsTellBytes, NotModifiedIsTrue, ReadingLeaves, RunsKeepWorlds};
 ghost use Rattle.dav_server.specs.Target.{OneOutcome};
 
@@ -27,6 +27,21 @@ pub fn targets_name_one_thing()
 #[tactic(auto, using(crate::proofs::MeansLemmas::runs_are_determined))]
 pub fn runs_are_determined()
     ensures { RunsAreDetermined }
+{}
+
+/// A run splits at any place, so the state before each request has a name; and a run followed by one from what it leaves
+/// is a run.
+#[tactic(auto, using(crate::proofs::RunLaws::runs_split, crate::proofs::RunLaws::runs_join))]
+pub fn runs_split()
+    ensures split { RunsSplit }
+    ensures join { RunsJoin }
+{}
+
+/// Requests that each result in a plan have a run from every state, in which the store doesn't run out of memory; from a
+/// state where it never did, that run is the only one (`runs_are_determined`).
+#[tactic(auto, using(crate::proofs::RunLaws::runs_end))]
+pub fn runs_end()
+    ensures { RunsEnd }
 {}
 
 /// Equal entity tags show equal bytes: from a world, in any run and under any refusals, where two GETs are answered with

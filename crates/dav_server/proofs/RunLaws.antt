@@ -1,0 +1,33 @@
+-- Runs split, join and end.
+use Rattle.std.proofs.Common.{◌≡◌, Bool, List, [], ◌∷◌, ◌++◌, All, Option, Some, None, Result, refl, ap, ◌∙◌}
+use Rattle.std.proofs.lemmas.List.Elements.{All-head, All-tail}
+use Rattle.dav_core.specs.declared.errors.FsError.{FsError}
+use Rattle.dav_core.specs.Asking.{StoreState}
+use Rattle.dav_engine.specs.Method.{Method}
+use Rattle.dav_engine.specs.Plan.{Locks}
+use Rattle.dav_engine.specs.Response.{Response, reply_to}
+use Rattle.dav_engine.proofs.PlanLemmas.{Comes, comes}
+use Rattle.dav_server.specs.Machine.{Settings, Asked, Means, Steps, steps}
+use Rattle.dav_server.specs.Run.{Turn, begun, Runs, no_more, one_more, HasPlan, RunsSplit, RunsJoin, RunsEnd}
+
+pub runs_split : RunsSplit
+runs_split s [] us old new ls ms replies run = ([], replies, old, ls, refl, no_more, run)
+runs_split s (t ∷ ts) us old new ls ms replies (one_more {reply = reply} {replies = rest} step run) =
+    let (before, after, mid, ks, parts, one, two) = runs_split s ts us _ new _ ms rest run in
+    (reply ∷ before, after, mid, ks, ap (λ (l : List Response). reply ∷ l) parts, one_more step one, two)
+
+pub runs_join : RunsJoin
+runs_join s [] us old mid new ls ks ms before after no_more two = two
+runs_join s (t ∷ ts) us old mid new ls ks ms before after (one_more {replies = rest} step one) two = one_more step (runs_join s ts us _ mid new _ ks ms rest after one two)
+
+begun_short : (refusals : Option (List (Option FsError))) (old : StoreState) → (begun refusals old).short ≡ old.short
+begun_short None old = refl
+begun_short (Some l) old = refl
+
+pub runs_end : RunsEnd
+runs_end s [] old ls all = ([], old, ls, no_more, refl)
+runs_end s (t ∷ ts) old ls all =
+    let (plan, means) = All-head (HasPlan s) t ts all in
+    let end = comes plan (begun t.refusals old) ls in
+    let (replies, new, ms, run, short) = runs_end s ts end.new end.locks (All-tail (HasPlan s) t ts all) in
+    (reply_to end.outcome ∷ replies, new, ms, one_more (steps plan end.outcome means end.ran) run, short ∙ end.flag ∙ begun_short t.refusals old)
