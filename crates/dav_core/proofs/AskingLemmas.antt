@@ -3,7 +3,7 @@ use Rattle.std.proofs.Common.{◌≡◌, Bool, true, false, List, [], ◌∷◌,
 use Rattle.dav_core.specs.declared.errors.FsError.{FsError}
 use Rattle.dav_core.specs.World.{World}
 use Rattle.dav_core.specs.Meaning.{Meaning}
-use Rattle.dav_core.specs.Asking.{Call, Answer, IsAnswered, meaning, StoreState, Answered, Asks, asked, ran_short, ask, answered, rest_of, next_refusal}
+use Rattle.dav_core.specs.Asking.{Call, Answer, IsAnswered, meaning, StoreState, Asks, asked, ran_short, ask, answered, rest_of, next_refusal}
 use Rattle.dav_core.specs.CallLaws.{AskingIsDetermined, ErrorsLeaveWorlds, RulesComeFirst, RefusalsAreUsedUp, RefusalIsAnswered, CanBeAsked}
 
 -- a call that is answered as `ask` says

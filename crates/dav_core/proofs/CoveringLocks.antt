@@ -1,9 +1,9 @@
 -- The locks that are listed for a path are those that cover it.
-use Rattle.std.proofs.Common.{◌≡◌, ℕ, zero, suc, ◌<◌, ◌++◌, ◌∷◌, [], Bool, true, false, ◌&&◌, cond, List, length, map, get_or, ◌⊎◌, inl, inr, refl, sym, ap, subst, ◌∙◌, arith}
-use Rattle.std.specs.List.{Contains, All, filter, flat_map}
+use Rattle.std.proofs.Common.{◌≡◌, ℕ, zero, suc, ◌<◌, ◌++◌, ◌∷◌, [], Bool, true, false, ◌&&◌, cond, List, map, get_or, inl, inr, refl, sym, ap, subst, ◌∙◌, arith}
+use Rattle.std.specs.List.{Contains, filter, flat_map}
 use Rattle.std.proofs.lemmas.List.Elements.{All-contains, All-filter, All-contains_itself, filter_passes, Contains-push, Contains-append_left, Contains-append_right, Contains-append_cases}
 use Rattle.dav_core.specs.Path.{Path, names, fronts, is_same_path}
-use Rattle.dav_core.specs.Locks.{Lock, covers, discovered}
+use Rattle.dav_core.specs.Locks.{Lock, covers}
 use Rattle.dav_core.specs.LockLaws.{DiscoveredAreCovering}
 use Rattle.dav_core.proofs.NodesLemmas.{path-itself}
 use Rattle.dav_core.proofs.Tests.{both}

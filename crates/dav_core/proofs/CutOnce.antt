@@ -1,7 +1,7 @@
 -- Where a path is cut after a prefix, and that a prefix cuts it in one way.
-use Rattle.std.proofs.Common.{◌≡◌, ◌≢◌, ℕ, ◌+◌, ◌<◌, ◌≤◌, not, Bool, true, false, List, [], ◌∷◌, ◌++◌, length, take, drop, get_or, Some, None, refl, sym, ap, ◌∙◌, arith, length-append}
+use Rattle.std.proofs.Common.{◌≡◌, ◌≢◌, ℕ, ◌<◌, true, false, List, [], ◌∷◌, ◌++◌, length, take, drop, get_or, Some, None, refl, sym, ap, ◌∙◌, arith, length-append}
 use Rattle.std.proofs.lemmas.List.{take_at, drop_at, append-nil, append_cancel_left}
-use Rattle.dav_core.specs.Path.{PathText, end_for, IsCut, at_start, at_slash, at_end, HasNoCut}
+use Rattle.dav_core.specs.Path.{PathText, IsCut, at_start, at_slash, at_end}
 use Rattle.dav_core.specs.PathRef.{CutsAt}
 use Rattle.dav_core.specs.Laws.{OneCut}
 

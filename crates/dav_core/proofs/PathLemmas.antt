@@ -1,15 +1,15 @@
 -- What the calls of paths do to paths of names.
-use Rattle.std.proofs.Common.{◌≡◌, ◌≢◌, ℕ, ◌==◌, ◌-◌, ◌↔◌, Bool, true, false, not, List, [], ◌∷◌, ◌++◌, length, All, refl, sym, ◌∙◌, ap, subst, arith, inl, inr, append_assoc}
+use Rattle.std.proofs.Common.{◌≡◌, ◌≢◌, ℕ, ◌==◌, ◌-◌, ◌↔◌, Bool, true, false, List, [], ◌∷◌, ◌++◌, length, All, refl, sym, ◌∙◌, ap, subst, arith, inl, inr, append_assoc}
 use Rattle.std.proofs.lemmas.Bool.Decides.{nat_tests}
 use Rattle.std.specs.Str.{bytes_eq}
 use Rattle.std.proofs.lemmas.Bool.{cases_Bool}
 use Rattle.std.proofs.lemmas.Slice.Eq.{bytes_eq-Decides}
 use Rattle.std.proofs.lemmas.List.{append-nil, drop_at, length_push}
-use Rattle.std.proofs.lemmas.List.Elements.{All-contains, All-weaker, All-head, All-tail, All-cons, All-nil, Contains-push}
+use Rattle.std.proofs.lemmas.List.Elements.{All-contains, Contains-push}
 use Rattle.dav_core.specs.Path.{Path, IsName, joined, path_bytes, star, with_slash, end_for, is_collection}
 use Rattle.dav_core.specs.Target.{Reads}
 use Rattle.dav_core.specs.UrlText.{IsTextOf, path_text, url_text}
-use Rattle.dav_core.proofs.TargetLemmas.{Reads-one, ending}
+use Rattle.dav_core.proofs.TargetLemmas.{Reads-one}
 use Rattle.dav_core.proofs.BufferLemmas.{snoc_cases, joined_push}
 use Rattle.dav_core.proofs.UrlLemmas.{reads_again}
 

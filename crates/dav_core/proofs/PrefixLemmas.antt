@@ -1,5 +1,5 @@
 -- The prefix of a path is a text.
-use Rattle.std.proofs.Common.{◌≡◌, ℕ, ◌+◌, ◌-◌, ◌≤◌, ◌==◌, ◌++◌, Bool, true, false, List, [], ◌∷◌, length, get_or, take, drop, not, Option, Some, None, sym, subst, if◌then◌else◌, refl, ap, ◌∙◌, length-append, inl, inr, arith}
+use Rattle.std.proofs.Common.{◌≡◌, ℕ, ◌+◌, ◌-◌, ◌≤◌, ◌++◌, Bool, true, List, [], ◌∷◌, length, get_or, take, drop, not, Some, sym, subst, refl, ap, ◌∙◌, length-append, inl, inr, arith}
 use Rattle.std.specs.Str.{IsUtf8}
 use Rattle.std.proofs.lemmas.Bool.{cases_Bool}
 use Rattle.std.proofs.lemmas.Bool.Decides.{Decides-eqb}

@@ -1,8 +1,7 @@
 -- The names in the bytes of a path, one after another.
-use Rattle.std.proofs.Common.{◌≡◌, ◌≢◌, ℕ, ◌+◌, ◌==◌, false, List, [], ◌∷◌, take, drop, refl, ap, suc, arith, inl, inr}
+use Rattle.std.proofs.Common.{◌≡◌, ◌≢◌, ℕ, ◌+◌, ◌==◌, List, [], ◌∷◌, take, drop, refl, ap, suc, arith, inl, inr}
 use Rattle.std.specs.List.{filter, slice_split, prefix_len, position_or_len}
 use Rattle.std.proofs.lemmas.Bool.{eqb-true, cases_Bool}
-use Rattle.std.proofs.lemmas.Bool.Decides.{nat_tests}
 use Rattle.dav_core.specs.Path.{names_in, is_nonempty}
 use Rattle.dav_core.proofs.Tests.{no_slash}
 

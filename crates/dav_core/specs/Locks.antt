@@ -1,5 +1,5 @@
 -- Write locks (RFC 4918, sections 6 and 7): one list, in order of granting.
-use Rattle.std.specs.Prelude.{◌≡◌, ℕ, ◌+◌, ◌&&◌, ◌||◌, Bool, true, not, if◌then◌else◌, bytes_eq, List, Contains, Option, Some, None, Result, Ok, Err}
+use Rattle.std.specs.Prelude.{◌≡◌, ℕ, ◌+◌, ◌&&◌, ◌||◌, Bool, true, not, if◌then◌else◌, bytes_eq, List, Contains, Option, Result, Ok, Err}
 use denote.Ref.{Bor}
 use Rattle.std.specs.List.{filter, flat_map, list_any, list_all, find as first}
 use Rattle.std.specs.Option.{option_map, option_and_then, option_eq}

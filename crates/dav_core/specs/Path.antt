@@ -1,5 +1,5 @@
 -- Names and paths (RFC 3986, section 3.3).
-use Rattle.std.specs.Prelude.{◌≡◌, ◌≢◌, ℕ, ◌==◌, ◌++◌, ◌⊎◌, Bool, true, false, not, if◌then◌else◌, ◌-◌, nat_lt, length, take, List, [], ◌∷◌, All, Contains, map, Option, Some, None, bytes_eq}
+use Rattle.std.specs.Prelude.{◌≡◌, ◌≢◌, ℕ, ◌==◌, ◌++◌, ◌⊎◌, Bool, true, false, if◌then◌else◌, ◌-◌, nat_lt, length, take, List, [], ◌∷◌, All, Contains, map, Option, Some, None, bytes_eq}
 use Rattle.std.specs.List.{filter, flat_map, slice_split, ends_with, last_or}
 use Rattle.std.specs.Option.{unwrap_or, is_some}
 use Rattle.std.specs.declared.cmp.Ordering.{Ordering}

@@ -6,7 +6,7 @@ use Rattle.dav_core.specs.declared.errors.ParseError.{ParseError}
 use Rattle.dav_core.specs.declared.errors.ParseError.TheVariants.{InvalidPath, PrefixMismatch, ForbiddenPath, Memory}
 use Rattle.dav_core.specs.declared.davpath.DavPathRef.{DavPathRef}
 use Rattle.dav_core.specs.declared.davpath.Segments.{Segments}
-use Rattle.dav_core.specs.Path.{Path, PathText, names_in, end_for, IsCut, HasNoCut}
+use Rattle.dav_core.specs.Path.{Path, names_in, end_for, IsCut, HasNoCut}
 
 -- the bytes of the path
 abbrev pub ref_bytes : DavPathRef → List ℕ

@@ -1,6 +1,6 @@
 -- What a file store holds: a finite map from paths to folders and files (RFC 4918, section 5), and the number
 -- that the next change takes.
-use Rattle.std.specs.Prelude.{◌≡◌, ℕ, ◌+◌, ◌-◌, ◌<◌, ◌≤◌, ◌==◌, ◌&&◌, ◌++◌, Bool, true, false, not, T, List, [], ◌∷◌, All, length, take, drop, if◌then◌else◌, replicate, Option, Some, None}
+use Rattle.std.specs.Prelude.{◌≡◌, ℕ, ◌+◌, ◌-◌, ◌<◌, ◌≤◌, ◌==◌, ◌&&◌, ◌++◌, Bool, true, false, not, T, List, [], ◌∷◌, All, length, take, drop, replicate, Option, Some, None}
 use Rattle.std.specs.List.{filter, filter_map, find as first}
 use Rattle.std.specs.Option.{is_none, option_map}
 use Rattle.std.specs.FinMap.{find, put, is_sorted}

@@ -166,7 +166,8 @@ impl DavPath {
     /// The parent, after the same prefix: the path up to and with the slash before its last name; the root and `*` are their
     /// own parents.
     pub fn parent(&self) -> Result<DavPath, NoMemory>
-        ensures { IfOk result (λ p. (p.prefix ≡ self.now.prefix) × IsParent self.now.bytes p.bytes) }
+        ensures prefix { IfOk result (λ p. p.prefix ≡ self.now.prefix) }
+        ensures parent { IfOk result (λ p. IsParent self.now.bytes p.bytes) }
     {
         let len = self.prefix_len + self.as_ref().parent().as_bytes().len();
         Ok(DavPath {

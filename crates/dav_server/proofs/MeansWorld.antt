@@ -1,5 +1,5 @@
 -- What the plans of requests do to worlds.
-use Rattle.std.proofs.Common.{◌≡◌, ℕ, ◌<◌, ◌≤◌, ◌==◌, Bool, true, false, true≢false, if◌then◌else◌, List, [], ◌∷◌, ◌++◌, map, All, Option, Some, None, Ok, inl, inr, refl, sym, ap, subst, ◌∙◌, ◌≢◌, length, length-append, get_or, arith}
+use Rattle.std.proofs.Common.{◌≡◌, ℕ, ◌<◌, ◌≤◌, Bool, true, true≢false, List, [], ◌∷◌, ◌++◌, map, All, Option, Some, None, Ok, inl, inr, refl, sym, ap, subst, ◌∙◌, ◌≢◌, length, length-append, get_or, arith}
 use Rattle.std.proofs.lemmas.List.Elements.{All-nil, All-cons, All-head, All-tail}
 use Rattle.std.specs.Char.{to_ascii_lowercase}
 use Rattle.dav_core.specs.declared.errors.FsError.{FsError}

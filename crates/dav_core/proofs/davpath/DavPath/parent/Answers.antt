@@ -1,4 +1,4 @@
-use Rattle.std.proofs.Common.{◌≡◌, ℕ, List, length, drop, sym, ap, subst, rules}
+use Rattle.std.proofs.Common.{◌≡◌, length, drop, sym, ap, subst, rules}
 use Rattle.std.proofs.lemmas.List.{length-take-le}
 use Rattle.dav_core.specs.Path.{PathText, IsParent}
 use Rattle.dav_core.specs.PathEnds.{parent_bytes}
@@ -20,7 +20,7 @@ returns c =
     let bytes : c.as_bytes.result.now ≡ parent_bytes text = parent_as text (ref_bytes c.as_ref.result) (ref_bytes c.parent.result) c.as_bytes.result.now (search rules) (search rules) c.parent.ensures in
     let whole = parent_text c.self.inside.full.items c.self.inside.prefix_len in
     let front = parent_prefix c.self.inside.full.items c.self.inside.prefix_len (length (parent_bytes text)) in
-    rw (c.in_ok-from_slice.ensures.items, c.deref.ensures.value, bytes, whole, front) (
-      ap (λ (t : PathText). t.prefix) c.self.view_is,
-      subst (λ (t : PathText). IsParent t.bytes (parent_bytes text)) c.self.view_is (parent_is text),
-    )
+    rw (c.in_ok-from_slice.ensures.items, c.deref.ensures.value, bytes, whole, front) (record {
+      prefix = ap (λ (t : PathText). t.prefix) c.self.view_is;
+      parent = subst (λ (t : PathText). IsParent t.bytes (parent_bytes text)) c.self.view_is (parent_is text);
+    })

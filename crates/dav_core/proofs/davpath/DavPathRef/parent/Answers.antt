@@ -1,4 +1,4 @@
-use Rattle.std.proofs.Common.{ℕ, List, sym, subst}
+use Rattle.std.proofs.Common.{sym, subst}
 use Rattle.dav_core.specs.Path.{IsParent}
 use Rattle.dav_core.proofs.ParentLemmas.{parent_is}
 use Rattle.dav_core.proofs.davpath.DavPathRef.parent.Goals as goal
