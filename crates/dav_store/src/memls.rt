@@ -300,7 +300,8 @@ fn refresh_in(
     requires { IfSome timeout (λ seconds. now + seconds ≤ max_u64) }
     ensures ok { IfOk result (λ lock. (option_map (refreshed_lock timeout now) (named_lock token.now (names path.now) locks.old.items) ≡ Some lock) × (refreshed token.now (names path.now) timeout now locks.old.items ≡ Some locks.new.items)) }
     ensures err { IfErr result (λ e. IsRefusedRefresh e (named_lock token.now (names path.now) locks.old.items)) }
-    ensures memory { IsErrOf result RefreshRefusal.Memory → IsSome (named_lock token.now (names path.now) locks.old.items) }
+    ensures memory { IsErrOf result RefreshRefusal.Memory
+        → IsSome (named_lock token.now (names path.now) locks.old.items) }
     ensures same { OnErr result (locks.new.items ≡ locks.old.items) }
 {
     let Some(i) = named_place(locks, path, token) else {
