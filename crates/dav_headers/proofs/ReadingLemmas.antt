@@ -20,3 +20,8 @@ pub passed_on : {A B C D E F : Type 0} (v : C → B) (w : F → E) (g : A → B 
 passed_on v w g h input other e (Ok x) is to from reads = absurd is
 passed_on v w g h input other e (Err d) is to from reads =
     subst (λ i. ReadsAs w h other (Err i)) (sym is) (error_as v w g h input other e to from reads)
+
+-- an error that is Invalid says that nothing reads
+pub none_read : {A B C : Type 0} (view : C → B) (g : A → B → Type 0) (input : A) (e : HeaderError) → e ≡ Invalid → ReadsAs view g input (Err e) → (x : B) → ¬ g input x
+none_read view g input Invalid is h = h
+none_read view g input Memory is h = absurd (cc)

@@ -40,7 +40,8 @@ impl Depth {
 
     /// `0`, `1` or `Infinity`; `Invalid` exactly for `Default`, which has no text.
     pub fn encode(&self, alloc: Global) -> Result<HeaderValue, HeaderError>
-        ensures ok { IfOk result (λ v. IsSomeAnd (depth_text self.now) (λ text. v ≡ plain_value text)) }
+        ensures ok { IfOk result (λ v.
+            IsSomeAnd (depth_text self.now) (λ text. v ≡ plain_value text)) }
         ensures invalid { IsErrOf result HeaderError.Invalid ↔ (self.now ≡ Depth.Default) }
     {
         match self {

@@ -43,8 +43,10 @@ pub(super) fn parts(text: &str) -> Option<(bool, &str)>
 
 // What is between the quotes of a text that has one at each end, and none between.
 fn unquoted(text: &str) -> Option<&str>
-    ensures found { IfSome result (λ tag. IsEntityTag text.now record { weak = false; tag = tag.now }) }
-    ensures none { IfNone result ((tag : List ℕ) → ¬ IsEntityTag text.now record { weak = false; tag = tag }) }
+    ensures found { IfSome result (λ tag.
+        IsEntityTag text.now record { weak = false; tag = tag.now }) }
+    ensures none { IfNone result ((tag : List ℕ)
+        → ¬ IsEntityTag text.now record { weak = false; tag = tag }) }
 {
     let tag = text.strip_prefix('"')?.strip_suffix('"')?;
     if tag.as_bytes().contains(&b'"') {

@@ -56,7 +56,8 @@ impl If {
     /// or a resource tag is a URL past 4 GB, and only where there is one value, which is made of tokens.
     pub fn decode(alloc: Global, values: &[HeaderValue]) -> Result<If, HeaderError>
         ensures ok { IfOk result (λ x. IsIfHeader values.now (if_lists x)) }
-        ensures invalid { IsErrOf result HeaderError.Invalid → (ls : List ConditionList) → ¬ IsIfHeader values.now ls }
+        ensures invalid { IsErrOf result HeaderError.Invalid
+            → (ls : List ConditionList) → ¬ IsIfHeader values.now ls }
         ensures memory { IsErrOf result HeaderError.Memory
             → (v : FieldValue) × (ts : List Token) × (values.now ≡ v ∷ []) × Spells v.bytes ts }
     {

@@ -68,7 +68,8 @@ impl ContentLanguage {
 
 // Whether each value is text whose list elements are languages.
 fn can_be_read(values: &[HeaderValue]) -> bool
-    ensures { IsTrue result ↔ All (λ v. IsText v.bytes × All IsLanguage (elements_of v.bytes)) values.now }
+    ensures { IsTrue result
+        ↔ All (λ v. IsText v.bytes × All IsLanguage (elements_of v.bytes)) values.now }
 {
     for value in values {
         let Ok(text) = value.to_str() else {

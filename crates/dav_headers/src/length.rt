@@ -18,7 +18,8 @@ impl ContentLength {
     /// The number that all values are; `3` and `03` are the same number. `Invalid` where there are no values, one
     /// isn't a number of decimal digits below 2^64, or two are different numbers. Allocates nothing.
     pub fn decode(_alloc: Global, values: &[HeaderValue]) -> Result<ContentLength, HeaderError>
-        ensures reads { Decodes IsContentLength values.now (option_map (λ l. l.0) (result_ok result)) }
+        ensures reads { Decodes IsContentLength values.now
+            (option_map (λ l. l.0) (result_ok result)) }
         ensures error { IsOkUnless result HeaderError.Invalid }
     {
         let first = values.first().ok_or(HeaderError::Invalid)?;

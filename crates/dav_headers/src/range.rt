@@ -125,7 +125,8 @@ impl ContentRange {
     /// `bytes `, the bounds or `*`, a slash, the length or `*`.
     #[tactic(auto, using(crate::proofs::RangeLemmas::content_range_visible))]
     pub fn encode(&self, alloc: Global) -> Result<HeaderValue, HeaderError>
-        ensures ok { IfOk result (λ v. v ≡ plain_value (content_range_text self.now.bounds self.now.length)) }
+        ensures ok { IfOk result (λ v.
+            v ≡ plain_value (content_range_text self.now.bounds self.now.length)) }
         ensures err { IsOkUnless result HeaderError.Memory }
     {
         written(alloc, &self.text(alloc)?)

@@ -2,10 +2,11 @@
 ghost use Rattle.std.specs.Prelude.{◌≡◌, List, map, Option, IfOk, IsErrOf};
 ghost use Rattle.std.specs.List.{AllZip};
 ghost use Rattle.url.specs.Parts.{Parts};
-ghost use Rattle.dav_headers.specs.If.{Item, Condition, ConditionList};
+ghost use Rattle.dav_headers.specs.If.{Condition, ConditionList};
 ghost use Rattle.dav_headers.specs.IfWritten.{written_token, written_tag, SaysItem, SaysCondition, SaysResource, SaysList};
 ghost use Rattle.dav_headers.specs.IfTexts.{item_view, condition_view, resource_view, list_view};
 ghost use Rattle.dav_headers.specs.IfView.{item_value, condition_value, list_value};
+ghost use Rattle.dav_headers.specs.Value.{ReadsAs};
 
 use super::written::{ConditionText, ItemText, ListText};
 use super::{IfCondition, IfItem, IfList};
@@ -16,8 +17,7 @@ use url::{ParseError, Url};
 
 // The state token of these bytes.
 fn state_token(alloc: Global, bytes: &[u8]) -> Result<IfItem, HeaderError>
-    ensures ok { IfOk result (λ i. SaysItem (written_token bytes.now) (item_value i)) }
-    ensures invalid { IsErrOf result HeaderError.Invalid → (i : Item) → ¬ SaysItem (written_token bytes.now) i }
+    ensures { ReadsAs item_value SaysItem (written_token bytes.now) result }
 {
     let Ok(text) = str::from_utf8(bytes) else {
         return Err(HeaderError::Invalid);
@@ -27,8 +27,7 @@ fn state_token(alloc: Global, bytes: &[u8]) -> Result<IfItem, HeaderError>
 
 // The entity tag of these bytes.
 fn entity_tag(alloc: Global, bytes: &[u8]) -> Result<IfItem, HeaderError>
-    ensures ok { IfOk result (λ i. SaysItem (written_tag bytes.now) (item_value i)) }
-    ensures invalid { IsErrOf result HeaderError.Invalid → (i : Item) → ¬ SaysItem (written_tag bytes.now) i }
+    ensures { ReadsAs item_value SaysItem (written_tag bytes.now) result }
 {
     let Ok(text) = str::from_utf8(bytes) else {
         return Err(HeaderError::Invalid);
@@ -38,8 +37,7 @@ fn entity_tag(alloc: Global, bytes: &[u8]) -> Result<IfItem, HeaderError>
 
 // The meaning of an item's text.
 fn meant_item(alloc: Global, item: ItemText<'_>) -> Result<IfItem, HeaderError>
-    ensures ok { IfOk result (λ i. SaysItem (item_view item.entry) (item_value i)) }
-    ensures invalid { IsErrOf result HeaderError.Invalid → (i : Item) → ¬ SaysItem (item_view item.entry) i }
+    ensures { ReadsAs item_value SaysItem (item_view item.entry) result }
 {
     match item {
         ItemText::StateToken(bytes) => state_token(alloc, bytes),
@@ -49,9 +47,7 @@ fn meant_item(alloc: Global, item: ItemText<'_>) -> Result<IfItem, HeaderError>
 
 // The meaning of a condition.
 fn meant_condition(alloc: Global, condition: ConditionText<'_>) -> Result<IfCondition, HeaderError>
-    ensures ok { IfOk result (λ c. SaysCondition (condition_view condition.entry) (condition_value c)) }
-    ensures invalid { IsErrOf result HeaderError.Invalid
-        → (c : Condition) → ¬ SaysCondition (condition_view condition.entry) c }
+    ensures { ReadsAs condition_value SaysCondition (condition_view condition.entry) result }
 {
     let item = meant_item(alloc, condition.item)?;
     Ok(IfCondition {
