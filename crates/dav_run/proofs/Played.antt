@@ -1,18 +1,21 @@
 -- From the bytes of a script to the lines that are written.
-use Rattle.std.proofs.Common.{◌≡◌, ℕ, List, [], map, Option, Some, None, Result, Ok, Err, OnOk, IfSome, IsSomeAnd, refl, sym, subst, ◌∙◌}
+use Rattle.std.proofs.Common.{◌≡◌, ℕ, zero, suc, inl, inr, List, [], ◌∷◌, ◌++◌, take, drop, map, Option, Some, None, Result, Ok, Err, OnOk, IfSome, IsSomeAnd, refl, sym, ap, subst, ◌∙◌, append_assoc, append-nil}
+use Rattle.std.proofs.lemmas.List.{take-append-drop}
+use Rattle.std.specs.Io.KnownBytes.{Appends}
 use Rattle.serde_json.specs.Data.{Data}
 use Rattle.serde_json.specs.Read.{read}
-use Rattle.dav_engine.specs.Plan.{ServerState}
+use Rattle.dav_core.specs.Asking.{StoreState}
+use Rattle.dav_engine.specs.Plan.{Locks, ServerState}
 use Rattle.dav_engine.specs.Response.{Response}
 use Rattle.dav_server.specs.Machine.{Settings}
-use Rattle.dav_server.specs.Run.{Turn}
+use Rattle.dav_server.specs.Run.{Turn, Runs, no_more, one_more}
 use Rattle.dav_server.specs.Server.{Server, AnswersAll}
 use Rattle.dav_server.specs.Setup.{IsPrefix}
 use Rattle.dav_run.specs.declared.play.Fault.{Fault}
 use Rattle.dav_run.specs.Print.{lines_of}
 use Rattle.dav_run.specs.Script as script
 use Rattle.dav_run.specs.Script.{ScriptContent, IsShort, IsScript, IsScriptValue}
-use Rattle.dav_run.specs.Play.{Plays, IsPlayable, new_server, turn_for}
+use Rattle.dav_run.specs.Play.{Plays, PlaysSome, IsPlayable, new_server, turn_for}
 
 -- a script that was read, the run of its requests and the lines of the replies meet `Plays`
 pub together : {E : Type 0} (result : Result (Unit {0}) E) (o : Option (List ℕ)) (Wrote : List ℕ → Type 0) (s : ScriptContent) (replies : List Response) (left : Server)
@@ -49,6 +52,34 @@ run_set_up {one} {s} {from} {ts} {us} replies left settings state turns run =
     subst (λ (l : List Turn). AnswersAll (record { settings = s; state = from }) l replies left) turns
     (subst (λ (o : ServerState). AnswersAll (record { settings = s; state = o }) ts replies left) state
     (subst (λ (c : Settings). AnswersAll (record { settings = c; state = one.state }) ts replies left) settings run))
+
+-- the run of the first turns, where there are so many, and their replies
+run_first : {s : Settings} (k : ℕ) (ts : List Turn) {old new : StoreState} {ls ms : Locks} (replies : List Response) → Runs s ts old ls replies new ms
+    → (mid : StoreState) × (ks : Locks) × Runs s (take k ts) old ls (take k replies) mid ks
+run_first zero ts {old = old} {ls = ls} replies run = (old, ls, no_more)
+run_first (suc k) [] {old = old} {ls = ls} [] no_more = (old, ls, no_more)
+run_first (suc k) (t ∷ ts) (r ∷ rs) (one_more step run) = let (mid, ks, first) = run_first k ts rs run in (mid, ks, one_more step first)
+
+appends_nothing : (a : Option (List ℕ)) → Appends a a []
+appends_nothing None = tt
+appends_nothing (Some bytes) = sym (append-nil bytes)
+
+-- nothing was written
+pub none_played : (o : Option (List ℕ)) (a : Option (List ℕ)) → IfSome o (λ text. (lines : List ℕ) × PlaysSome text lines × Appends a a lines)
+none_played None a = tt
+none_played (Some text) a = ([], inl refl, appends_nothing a)
+
+-- the first replies of a run were written
+pub some_played : (o : Option (List ℕ)) (Wrote : List ℕ → Type 0) (s : ScriptContent) (first rest : List Turn) (replies : List Response) (left : Server) (k : ℕ)
+    → IfSome o (λ text. IsShort text × IsScript text s) → IsPrefix s.prefix → map turn_for s.requests ≡ first ++ rest
+    → AnswersAll (new_server s) first replies left → Wrote (lines_of (take k replies)) → IfSome o (λ text. (lines : List ℕ) × PlaysSome text lines × Wrote lines)
+some_played None Wrote s first rest replies left k read prefix parts run wrote = tt
+some_played (Some text) Wrote s first rest replies left k read prefix parts run wrote =
+    let (mid, ks, part) = run_first k first replies run in
+    let more : first ++ rest ≡ take k first ++ (drop k first ++ rest) = ap (λ l. l ++ rest) (sym (take-append-drop k first)) ∙ append_assoc (take k first) (drop k first) rest in
+    (lines_of (take k replies),
+     inr (s, take k first, drop k first ++ rest, take k replies, record { settings = left.settings; state = record { store = mid; locks = ks } }, read.0, read.1, prefix, parts ∙ more, part, refl),
+     wrote)
 
 -- where two results are the same error, so are the errors
 pub same_error : {A : Type 0} {a b : Fault} → ◌≡◌ {A = Result A Fault} (Err a) (Err b) → a ≡ b

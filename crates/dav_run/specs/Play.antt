@@ -1,5 +1,5 @@
 -- What is written when a script is played.
-use Rattle.std.specs.Prelude.{◌≡◌, ℕ, max, false, List, [], map, Some, None}
+use Rattle.std.specs.Prelude.{◌≡◌, ◌⊎◌, ◌++◌, ℕ, max, false, List, [], map, Some, None}
 use Rattle.dav_core.specs.Asking.{StoreState}
 use Rattle.dav_core.specs.World.{empty_from}
 use Rattle.dav_engine.specs.Plan.{ServerState}
@@ -48,6 +48,15 @@ Plays text lines =
     × IsShort text × IsScript text s × IsPrefix s.prefix
     × AnswersAll (new_server s) (map turn_for s.requests) replies left
     × (lines ≡ lines_of replies)
+
+-- The lines are the replies of the machine's run of the first requests of the script, perhaps of none, from the server that it
+-- sets up; or nothing was written before there was a server.
+abbrev pub PlaysSome : List ℕ → List ℕ → Type 0
+PlaysSome text lines =
+    (lines ≡ [])
+    ⊎ ((s : ScriptContent) × (first : List Turn) × (rest : List Turn) × (replies : List Response) × (left : Server)
+    × IsShort text × IsScript text s × IsPrefix s.prefix × (map turn_for s.requests ≡ first ++ rest)
+    × AnswersAll (new_server s) first replies left × (lines ≡ lines_of replies))
 
 -- the exit status of the program after a fault
 abbrev pub fault_status : Fault → ℕ

@@ -1,10 +1,10 @@
 //! Plays a script: from the bytes of a reader to the lines of a writer.
-ghost use Rattle.std.specs.Prelude.{◌≡◌, ◌≢◌, ◌↔◌, ◌≤◌, map, ℕ, List, [], Some, IfSome, IfOk, IfErr, OnOk, IsErrOf};
+ghost use Rattle.std.specs.Prelude.{◌≡◌, ◌≢◌, ◌↔◌, ◌≤◌, map, take, ℕ, List, [], Some, IfSome, IfOk, IfErr, OnOk, IsErrOf};
 ghost use Rattle.std.specs.Io.KnownBytes.{Appends};
 ghost use Rattle.dav_run.specs.Print.{lines_of};
 ghost use Rattle.dav_run.specs.Script.{IsScript, IsShort, script_request, script_content};
 ghost use Rattle.dav_server.specs.Setup.{IsPrefix};
-ghost use Rattle.dav_run.specs.Play.{Plays, IsPlayable, settings_for, new_state, turn_for, fault_status};
+ghost use Rattle.dav_run.specs.Play.{Plays, PlaysSome, IsPlayable, settings_for, new_state, turn_for, fault_status};
 ghost use Rattle.dav_run.specs.declared.play.Fault.TheVariants.{NotScript, Io, Memory};
 
 use crate::print::reply_line;
@@ -96,8 +96,8 @@ impl From<ScriptError> for Fault {
 }
 
 /// Reads a script to its end, plays it on a new server, and writes one line of JSON per reply. Returns [`PLAYED`], or
-/// the status of the first fault; where memory ran out, but the replies before that can't be written, that is
-/// [`IO_FAILED`].
+/// the status of the first fault: after [`OUT_OF_MEMORY`] the lines that were written are those of the first requests.
+/// Where memory ran out, but the replies before that can't be written, the status is [`IO_FAILED`].
 pub fn play<R: Read, W: Write>(alloc: Global, reader: &mut R, writer: &mut W) -> u8
     ensures status { result ≤ 3 }
     ensures played { result ≡ 0 → IfSome (R.remaining reader.old) (λ text.
@@ -106,6 +106,9 @@ pub fn play<R: Read, W: Write>(alloc: Global, reader: &mut R, writer: &mut W) ->
     ensures not_script { result ≡ 1
         → IfSome (R.remaining reader.old) (λ text. ¬ IsPlayable text) }
     ensures untouched { result ≡ 1 → writer.new ≡ writer.old }
+    ensures short { result ≡ 3 → IfSome (R.remaining reader.old) (λ text.
+        (lines : List ℕ) × PlaysSome text lines
+        × Appends (W.contents writer.old) (W.contents writer.new) lines) }
 {
     match play_through(alloc, reader, writer) {
         Ok(()) => PLAYED,
@@ -136,6 +139,9 @@ fn play_through<R: Read, W: Write>(
     ensures not_script { IsErrOf result NotScript
         → IfSome (R.remaining reader.old) (λ text. ¬ IsPlayable text) }
     ensures untouched { IsErrOf result NotScript → writer.new ≡ writer.old }
+    ensures short { IsErrOf result Memory → IfSome (R.remaining reader.old) (λ text.
+        (lines : List ℕ) × PlaysSome text lines
+        × Appends (W.contents writer.old) (W.contents writer.new) lines) }
 {
     let script = read_script(alloc, reader)?;
     let mut handler = server_of(alloc, &script)?;
@@ -234,6 +240,8 @@ fn write_replies<W: Write>(alloc: Global, replies: &[Reply], writer: &mut W) -> 
     ensures written { OnOk result
         (Appends (W.contents writer.old) (W.contents writer.new) (lines_of replies.now)) }
     ensures err { IfErr result (λ e. e ≢ NotScript) }
+    ensures short { IsErrOf result Memory → (k : ℕ)
+        × Appends (W.contents writer.old) (W.contents writer.new) (lines_of (take k replies.now)) }
 {
     for reply in replies {
         let line = reply_line(alloc, reply)?;

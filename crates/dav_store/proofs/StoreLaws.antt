@@ -32,11 +32,11 @@ out_of_memory (Err e) answer old new allowed is same flag = absurd allowed
 out_of_memory (Ok (a, w)) answer old new allowed is same flag = inr (is, is_store_of new old.world true same flag)
 
 pub memory_comes_last : MemoryComesLast state_of
-memory_comes_last call old new answer (asked is used flag) =
-    by_meaning (meaning call old.world) answer old new (exactly (meaning call old.world) answer old new is flag)
-memory_comes_last call old new answer (ran_short takes head allowed is same used flag) =
-    out_of_memory (meaning call old.world) answer old new allowed is same flag
+memory_comes_last call old new answer (asked h) =
+    by_meaning (meaning call old.world) answer old new (exactly (meaning call old.world) answer old new h.as_asked h.short)
+memory_comes_last call old new answer (ran_short h) =
+    out_of_memory (meaning call old.world) answer old new h.allowed h.answer_is h.world h.short
 
 pub never_runs_short : NeverRunsShort state_of
-never_runs_short call old new answer none (asked is used flag) = exactly (meaning call old.world) answer old new is flag
-never_runs_short call old new answer none (ran_short takes head allowed is same used flag) = absurd (none takes)
+never_runs_short call old new answer none (asked h) = exactly (meaning call old.world) answer old new h.as_asked h.short
+never_runs_short call old new answer none (ran_short h) = absurd (none h.takes_memory)
