@@ -9,7 +9,7 @@ use Rattle.std.proofs.lemmas.Grind.{common_steps}
 use Rattle.dav_core.specs.declared.errors.ParseError.{ParseError}
 use Rattle.dav_core.specs.declared.errors.ParseError.TheVariants.{InvalidPath, PrefixMismatch, ForbiddenPath, Memory}
 use Rattle.dav_core.specs.Path.{Path, parent_piece, IsName, IsBlank, joined}
-use Rattle.dav_core.specs.Target.{Cancels, Leaves, IsRooted, IsRefused, pieces_of, text_of}
+use Rattle.dav_core.specs.Target.{Cancels, Leaves, IsRooted, IsRefused, pieces_of, before_query}
 use Rattle.dav_core.specs.Buffer.{Kept, Refuses, IsRefusedBy, IsLastSlash}
 use Rattle.dav_core.proofs.TargetLemmas.{Leaves-blank, Leaves-name, Leaves-parent, not_star}
 
@@ -136,13 +136,13 @@ Refuses_first ps rest p ForbiddenPath buf k h = (ps, rest, h.0, rw h.1 refl)
 Refuses_first ps rest p Memory buf k h = tt
 
 -- a piece of a text that is refused is why the pieces of the text are refused
-pub refused_at : (src text : List ℕ) (before rest : List (List ℕ)) (p : List ℕ) (e : ParseError) (buf : List ℕ) → text ≡ text_of src → slice_split (λ b. b == 47) text ≡ before ++ p ∷ rest → Kept (map percent_decode before) buf → Refuses (map percent_decode before) (percent_decode p) e → IsRefusedBy (pieces_of src) e
+pub refused_at : (src text : List ℕ) (before rest : List (List ℕ)) (p : List ℕ) (e : ParseError) (buf : List ℕ) → text ≡ before_query src → slice_split (λ b. b == 47) text ≡ before ++ p ∷ rest → Kept (map percent_decode before) buf → Refuses (map percent_decode before) (percent_decode p) e → IsRefusedBy (pieces_of src) e
 refused_at src text before rest p e buf is split kept why =
     let pieces : pieces_of src ≡ map percent_decode before ++ percent_decode p ∷ map percent_decode rest = ap (λ t. map percent_decode (slice_split (λ b. b == 47) t)) (sym is) ∙ ap (map percent_decode) split ∙ map-append percent_decode before (p ∷ rest) in
     subst (λ ps. IsRefusedBy ps e) (sym pieces) (Refuses_first (map percent_decode before) (map percent_decode rest) (percent_decode p) e buf kept why)
 
 -- all pieces of a text are kept
-pub kept_at_end : (src text : List ℕ) (all : List (List ℕ)) (buf : List ℕ) → text ≡ text_of src → all ≡ slice_split (λ b. b == 47) text → Kept (map percent_decode all) buf → Kept (pieces_of src) buf
+pub kept_at_end : (src text : List ℕ) (all : List (List ℕ)) (buf : List ℕ) → text ≡ before_query src → all ≡ slice_split (λ b. b == 47) text → Kept (map percent_decode all) buf → Kept (pieces_of src) buf
 kept_at_end src text all buf is split kept =
     let pieces : map percent_decode all ≡ pieces_of src = ap (map percent_decode) split ∙ ap (λ t. map percent_decode (slice_split (λ b. b == 47) t)) is in
     subst (λ ps. Kept ps buf) pieces kept

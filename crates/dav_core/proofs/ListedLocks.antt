@@ -5,7 +5,7 @@ use Rattle.std.specs.Option.{option_map, is_some}
 use Rattle.std.proofs.lemmas.Slice.Eq.{bytes_eq-Decides}
 use Rattle.dav_core.specs.Lists.{without_first, change_first}
 use Rattle.dav_core.specs.Path.{Path, names, fronts, is_at_or_under, is_same_path}
-use Rattle.dav_core.specs.Locks.{Lock, is_named, lock_front, refreshed_lock}
+use Rattle.dav_core.specs.Locks.{Lock, has_token_at, lock_front, refreshed_lock}
 use Rattle.dav_core.specs.LockLaws.{IsMeant, UnlockTakesOne, RefreshChangesOne}
 use Rattle.dav_core.proofs.NodesLemmas.{same_path}
 use Rattle.dav_core.proofs.FrontLemmas.{rest_after-append}
@@ -85,7 +85,7 @@ first_front [] test q h = root_only test q (test []) refl h
 first_front (x ∷ p) test q h = front_step test x p q (test []) refl (first_front p (λ y. test (x ∷ y))) h
 
 -- a lock with this token on a front of the path is one that they can mean
-is_meant : (token : List ℕ) (p q rest : Path) (l : Lock) → p ≡ q ++ rest → is_named token q l ≡ true → IsMeant token p l
+is_meant : (token : List ℕ) (p q rest : Path) (l : Lock) → p ≡ q ++ rest → has_token_at token q l ≡ true → IsMeant token p l
 is_meant token p q rest l e h =
     let (same, at) = both (bytes_eq l.token token) (is_same_path (names l.path) q) h in
     record {
@@ -99,14 +99,14 @@ mapped_some f (Some x) y h = (x, refl, let same : f x ≡ y = cc in sym same)
 
 pub unlock_takes_one : UnlockTakesOne
 unlock_takes_one token p ls left h =
-    let (q, at, is) = mapped_some (λ q. without_first (is_named token q) ls) (lock_front token p ls) left h in
-    let found = first_front p (λ q. list_any (is_named token q) ls) q at in
-    let parts = parted (is_named token q) ls found.0 in
+    let (q, at, is) = mapped_some (λ q. without_first (has_token_at token q) ls) (lock_front token p ls) left h in
+    let found = first_front p (λ q. list_any (has_token_at token q) ls) q at in
+    let parts = parted (has_token_at token q) ls found.0 in
     (parts.item, parts.front, parts.back, is_meant token p q found.1.0 parts.item found.1.1 parts.passes, parts.whole, is ∙ parts.without)
 
 pub refresh_changes_one : RefreshChangesOne
 refresh_changes_one token p timeout now ls new h =
-    let (q, at, is) = mapped_some (λ q. change_first (is_named token q) (refreshed_lock timeout now) ls) (lock_front token p ls) new h in
-    let found = first_front p (λ q. list_any (is_named token q) ls) q at in
-    let parts = parted (is_named token q) ls found.0 in
+    let (q, at, is) = mapped_some (λ q. change_first (has_token_at token q) (refreshed_lock timeout now) ls) (lock_front token p ls) new h in
+    let found = first_front p (λ q. list_any (has_token_at token q) ls) q at in
+    let parts = parted (has_token_at token q) ls found.0 in
     (parts.item, parts.front, parts.back, is_meant token p q found.1.0 parts.item found.1.1 parts.passes, parts.whole, is ∙ parts.changed (refreshed_lock timeout now))

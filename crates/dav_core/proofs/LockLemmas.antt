@@ -10,7 +10,7 @@ use Rattle.std.proofs.lemmas.List.Folds.{list_any-append}
 use Rattle.std.proofs.lemmas.Map.Text.{is_eq-slice_cmp}
 use Rattle.std.proofs.lemmas.List.Elements.{All-contains, All-weaker}
 use Rattle.dav_core.specs.Path.{Path, names, is_at_or_under, is_same_path, fronts}
-use Rattle.dav_core.specs.Locks.{Lock, Requester, covers, is_held, is_free, is_free_for, is_named, lock_front, unlocked, discovered}
+use Rattle.dav_core.specs.Locks.{Lock, Requester, covers, is_held, is_free, is_free_for, has_token_at, lock_front, unlocked, discovered}
 use Rattle.dav_core.specs.Lists.{without_first}
 use Rattle.dav_core.specs.LockLaws.{FreeHoldsExclusive, FreeDeepHoldsBelow, FreeIsNoConflict, GrantedCanBeUnlocked, TakenBack}
 use Rattle.std.proofs.lemmas.Slice.Eq.{bytes_eq-Decides}
@@ -120,9 +120,9 @@ some_of_map f (Some x) h = refl
 pub granted_can_be_unlocked : GrantedCanBeUnlocked
 granted_can_be_unlocked l ls =
     let token : bytes_eq l.token l.token ≡ true = sym (is_eq-slice_cmp l.token l.token) ∙ ap is_eq (tied_itself nat_list_cmp_total l.token) in
-    let named : is_named l.token (names l.path) l ≡ true = ap (λ b. b && is_same_path (names l.path) (names l.path)) token ∙ path-itself (names l.path) in
-    let any : list_any (is_named l.token (names l.path)) (ls ++ l ∷ []) ≡ true = list_any-append (is_named l.token (names l.path)) ls (l ∷ []) ∙ grind arith in
-    some_of_map _ _ (some_front (names l.path) (λ q. list_any (is_named l.token q) (ls ++ l ∷ [])) any)
+    let named : has_token_at l.token (names l.path) l ≡ true = ap (λ b. b && is_same_path (names l.path) (names l.path)) token ∙ path-itself (names l.path) in
+    let any : list_any (has_token_at l.token (names l.path)) (ls ++ l ∷ []) ≡ true = list_any-append (has_token_at l.token (names l.path)) ls (l ∷ []) ∙ grind arith in
+    some_of_map _ _ (some_front (names l.path) (λ q. list_any (has_token_at l.token q) (ls ++ l ∷ [])) any)
 
 first_mapped_step : (f : Path → Path) (test : Path → Bool) (q : Path) (ps : List Path) (p : Path) (b : Bool)
     → (first (λ x. test (f x)) ps ≡ Some p → first test (map f ps) ≡ Some (f p))
@@ -138,7 +138,7 @@ unnamed_by : (t u : List ℕ) (same b : Bool) → bytes_eq t u ≡ b → t ≢ u
 unnamed_by t u same true is differ = absurd (differ ((bytes_eq-Decides t u).0 is))
 unnamed_by t u same false is differ = refl
 
-unnamed : (token : List ℕ) (q : Path) (m : Lock) → m.token ≢ token → is_named token q m ≡ false
+unnamed : (token : List ℕ) (q : Path) (m : Lock) → m.token ≢ token → has_token_at token q m ≡ false
 unnamed token q m differ = unnamed_by m.token token (is_same_path (names m.path) q) (bytes_eq m.token token) refl differ
 
 first_mapped : (f : Path → Path) (test : Path → Bool) (ps : List Path) (p : Path) → first (λ q. test (f q)) ps ≡ Some p → first test (map f ps) ≡ Some (f p)
@@ -163,19 +163,19 @@ token_itself : (l : Lock) → bytes_eq l.token l.token ≡ true
 token_itself l = (bytes_eq-Decides l.token l.token).1 refl
 
 -- no lock with another token is meant by this one's token
-none_named : (l : Lock) (q : Path) (ls : List Lock) → All (λ m. m.token ≢ l.token) ls → list_any (is_named l.token q) ls ≡ false
-none_named l q ls others = list_any_none (is_named l.token q) ls (All-weaker (λ m. m.token ≢ l.token) (λ m. is_named l.token q m ≡ false) (λ m h. unnamed l.token q m h) ls others)
+none_named : (l : Lock) (q : Path) (ls : List Lock) → All (λ m. m.token ≢ l.token) ls → list_any (has_token_at l.token q) ls ≡ false
+none_named l q ls others = list_any_none (has_token_at l.token q) ls (All-weaker (λ m. m.token ≢ l.token) (λ m. has_token_at l.token q m ≡ false) (λ m h. unnamed l.token q m h) ls others)
 
 pub taken_back : TakenBack
 taken_back l ls others =
-    let test = λ (q : Path). list_any (is_named l.token q) (ls ++ l ∷ []) in
+    let test = λ (q : Path). list_any (has_token_at l.token q) (ls ++ l ∷ []) in
     let only : (q : Path) → test q ≡ is_same_path (names l.path) q = λ q.
-    list_any-append (is_named l.token q) ls (l ∷ []) ∙ ap (λ b. b || ((bytes_eq l.token l.token && is_same_path (names l.path) q) || false)) (none_named l q ls others)
+    list_any-append (has_token_at l.token q) ls (l ∷ []) ∙ ap (λ b. b || ((bytes_eq l.token l.token && is_same_path (names l.path) q) || false)) (none_named l q ls others)
     ∙ ap (λ b. (b && is_same_path (names l.path) q) || false) (token_itself l) ∙ or_false (is_same_path (names l.path) q) in
     let front : lock_front l.token (names l.path) (ls ++ l ∷ []) ≡ Some (names l.path) =
     only_front (names l.path) test (only (names l.path) ∙ path-itself (names l.path)) (λ q differ. only q ∙ apart (names l.path) q (λ e. differ (sym e))) in
-    ap (option_map (λ q. without_first (is_named l.token q) (ls ++ l ∷ []))) front
-    ∙ ap (λ (ms : List Lock). Some ms) (last_left_out (is_named l.token (names l.path)) l ls (ap (λ b. b && is_same_path (names l.path) (names l.path)) (token_itself l) ∙ path-itself (names l.path)) (none_named l (names l.path) ls others))
+    ap (option_map (λ q. without_first (has_token_at l.token q) (ls ++ l ∷ []))) front
+    ∙ ap (λ (ms : List Lock). Some ms) (last_left_out (has_token_at l.token (names l.path)) l ls (ap (λ b. b && is_same_path (names l.path) (names l.path)) (token_itself l) ∙ path-itself (names l.path)) (none_named l (names l.path) ls others))
 
 abbrev no_locks : List Lock
 no_locks = []
@@ -186,7 +186,7 @@ none_among [] = refl
 none_among (x ∷ xs) = none_among xs
 
 pub none_is_named : (token : List ℕ) (p : Path) → unlocked token p [] ≡ None
-none_is_named token p = ap (option_map (λ q. without_first (is_named token q) [])) (none_among (fronts p))
+none_is_named token p = ap (option_map (λ q. without_first (has_token_at token q) [])) (none_among (fronts p))
 
 none_for_each : {X : Type 0} (xs : List X) → flat_map (λ (x : X). no_locks) xs ≡ no_locks
 none_for_each [] = refl

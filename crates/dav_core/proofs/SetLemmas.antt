@@ -9,7 +9,7 @@ use Rattle.std.proofs.lemmas.List.FromFn.{get_or-range_with_len}
 use Rattle.std.proofs.lemmas.Nat.Bits.{bit_at-lt, same_from_bits_below}
 use Rattle.dav_core.specs.declared.method.DavMethod.{DavMethod}
 use Rattle.dav_core.specs.declared.method.DavMethod.TheVariants.{Head}
-use Rattle.dav_core.specs.Method.{all_methods, place_of, Has, members}
+use Rattle.dav_core.specs.Method.{all_methods, place_of, Has, methods_in}
 use Rattle.dav_core.proofs.MethodLemmas.{at_place, place_within}
 
 -- what passes stays
@@ -23,10 +23,10 @@ filter_keeps p (x ∷ xs) (suc k) d within e =
     by true h = Contains-append_right (x ∷ []) (filter p xs) (get_or xs k d) h
     by false h = h
 
-pub members_are_had : (set : ℕ) (m : DavMethod) → Contains (members set) m ↔ Has set m
+pub members_are_had : (set : ℕ) (m : DavMethod) → Contains (methods_in set) m ↔ Has set m
 members_are_had set m = (
-  λ h. eqb-true _ 1 (All-contains (λ n. (bit_at set (place_of n) == 1) ≡ true) (members set) m (filter_passes (λ n. bit_at set (place_of n) == 1) all_methods) h),
-  λ h. subst (Contains (members set)) (at_place m m) (filter_keeps (λ n. bit_at set (place_of n) == 1) all_methods (place_of m) m (place_within m) (ap (λ n. bit_at set (place_of n) == 1) (at_place m m) ∙ eq-eqb _ 1 h)),
+  λ h. eqb-true _ 1 (All-contains (λ n. (bit_at set (place_of n) == 1) ≡ true) (methods_in set) m (filter_passes (λ n. bit_at set (place_of n) == 1) all_methods) h),
+  λ h. subst (Contains (methods_in set)) (at_place m m) (filter_keeps (λ n. bit_at set (place_of n) == 1) all_methods (place_of m) m (place_within m) (ap (λ n. bit_at set (place_of n) == 1) (at_place m m) ∙ eq-eqb _ 1 h)),
 )
 
 -- at each place there is a method whose place it is

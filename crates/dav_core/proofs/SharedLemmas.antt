@@ -8,7 +8,7 @@ use Rattle.std.proofs.lemmas.List.Quantifiers.{all_pairs_push}
 use Rattle.std.proofs.lemmas.List.Elements.{All-head, All-tail, All-cons}
 use Rattle.dav_core.specs.Lists.{without_first, change_first}
 use Rattle.dav_core.specs.Path.{Path, names, rest_after, has_names, is_at_or_under, is_under, is_same_path}
-use Rattle.dav_core.specs.Locks.{Lock, covers, refreshed_lock, is_named, lock_front}
+use Rattle.dav_core.specs.Locks.{Lock, covers, refreshed_lock, has_token_at, lock_front}
 use Rattle.dav_core.specs.LockLaws.{CoveringAreShared, GrantedAreShared, UnlockedAreShared, RefreshedAreShared, DeletedAreShared}
 use Rattle.dav_core.proofs.NodesLemmas.{path-itself, same_path}
 use Rattle.dav_core.proofs.CoverLemmas.{grantable_by_tests}
@@ -190,14 +190,14 @@ module _ {X : Type 0} (test : X → Bool) (f : X → X) where
 
 pub unlocked_are_shared : UnlockedAreShared
 unlocked_are_shared token p ls left before h =
-    let (q, at, is) = mapped_some (λ q. without_first (is_named token q) ls) (lock_front token p ls) left h in
-    subst CoveringAreShared (sym is) (AllPairs-without_first Shared (is_named token q) ls before)
+    let (q, at, is) = mapped_some (λ q. without_first (has_token_at token q) ls) (lock_front token p ls) left h in
+    subst CoveringAreShared (sym is) (AllPairs-without_first Shared (has_token_at token q) ls before)
 
 pub refreshed_are_shared : RefreshedAreShared
 refreshed_are_shared token p timeout now ls new before h =
-    let (q, at, is) = mapped_some (λ q. change_first (is_named token q) (refreshed_lock timeout now) ls) (lock_front token p ls) new h in
+    let (q, at, is) = mapped_some (λ q. change_first (has_token_at token q) (refreshed_lock timeout now) ls) (lock_front token p ls) new h in
     subst CoveringAreShared (sym is)
-    (AllPairs-change_first (is_named token q) (refreshed_lock timeout now) Shared (λ l m both. both) (λ l m both. both) ls before)
+    (AllPairs-change_first (has_token_at token q) (refreshed_lock timeout now) Shared (λ l m both. both) (λ l m both. both) ls before)
 
 pub deleted_are_shared : DeletedAreShared
 deleted_are_shared p ls before = AllPairs-filter Shared (λ l. not (is_at_or_under (names l.path) p)) ls before

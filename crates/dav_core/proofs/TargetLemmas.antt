@@ -7,7 +7,7 @@ use Rattle.std.specs.List.{filter, slice_split}
 use Rattle.std.proofs.lemmas.List.Splits.{slice_split_at, slice_split_none}
 use Rattle.dav_core.specs.declared.errors.ParseError.TheVariants.{InvalidPath, ForbiddenPath}
 use Rattle.dav_core.specs.Path.{Path, parent_piece, IsBlank, IsBad, IsName, joined, path_bytes, star, is_nonempty, names_of}
-use Rattle.dav_core.specs.Target.{Cancels, Leaves, Climbs, HasBadPiece, pieces_of, text_of, IsRooted, IsClosed, Reads, IsRefused, nothing, blank, pair}
+use Rattle.dav_core.specs.Target.{Cancels, Leaves, Climbs, HasBadPiece, pieces_of, before_query, IsRooted, IsClosed, Reads, IsRefused, nothing, blank, pair}
 
 -- ---- one more piece
 
@@ -216,7 +216,7 @@ Reads-one src a b (inl h) (inr k) = absurd (rooted_not_star src k.2.rooted h.0)
 Reads-one src a b (inr h) (inl k) = absurd (rooted_not_star src h.2.rooted k.0)
 Reads-one src a b (inr (ns, c, h, e)) (inr (ms, d, k, f)) =
     let names : ns ≡ ms = Leaves-one (pieces_of src) ns ms h.leaves k.leaves in
-    let closed : c ≡ d = closed_one (text_of src) c d h.closed_if k.closed_if in
+    let closed : c ≡ d = closed_one (before_query src) c d h.closed_if k.closed_if in
     e ∙ ap (λ xs. path_bytes xs c) names ∙ ap (path_bytes ms) closed ∙ sym f
 
 -- A text that is read is not refused as invalid,

@@ -13,7 +13,7 @@ use Rattle.percent_encoding.specs.Percent.{percent_encode, percent_encode_byte, 
 use Rattle.percent_encoding.proofs.PercentLemmas.{IsByte, IsEscapeByte, percent_encode-nil, percent_encode_kept, percent_encode_escaped, All-percent_encode_byte, All-percent_decode, percent_decode-nil, percent_encode_nonempty, round_trip}
 use Rattle.dav_core.specs.declared.davpath.url_text.TheConstants.{ESCAPED}
 use Rattle.dav_core.specs.Path.{Path, IsName, joined, path_bytes, names_of}
-use Rattle.dav_core.specs.Target.{Cancels, Leaves, IsTextByte, EndsInSlash, IsClosed, NamesPath, Reads, text_of, pieces_of, nothing, blank}
+use Rattle.dav_core.specs.Target.{Cancels, Leaves, IsTextByte, EndsInSlash, IsClosed, NamesPath, Reads, before_query, pieces_of, nothing, blank}
 use Rattle.dav_core.specs.UrlText.{is_url_byte, url_text, IsTextOf}
 use Rattle.dav_core.proofs.Tests.{no_slash}
 use Rattle.dav_core.proofs.TargetLemmas.{ending, last_pieces, HasNoSlash, split_joined, name_no_slash, Leaves-names, names_kept}
@@ -104,7 +104,7 @@ no_slash_text n h = record {
 }
 
 -- a text without a query is read whole
-whole_text : (bs : List ℕ) → All (λ b. (b == 63) ≡ false) bs → text_of bs ≡ bs
+whole_text : (bs : List ℕ) → All (λ b. (b == 63) ≡ false) bs → before_query bs ≡ bs
 whole_text bs h =
     let all : position_or_len (λ b. b == 63) bs ≡ length bs = position_or_len_is (λ b. b == 63) bs (length bs) 0 (omega arith) (λ k within. h k 0 within) (λ past. absurd (omega (arith, past))) in
     rw all (take_all (length bs) bs (omega arith))
@@ -236,7 +236,7 @@ closed_end m ms false pieces = λ ends. open_end m ms pieces (subst EndsInSlash 
 
 -- ---- read again
 
-text_whole : (bs : List ℕ) → text_of (url_text bs) ≡ url_text bs
+text_whole : (bs : List ℕ) → before_query (url_text bs) ≡ url_text bs
 text_whole bs =
     whole_text (url_text bs) (All-weaker IsPathByte (λ b. (b == 63) ≡ false) (λ b h. h.1) (url_text bs) (All-path_byte bs))
 
@@ -305,8 +305,8 @@ All-slice_split P (b ∷ bs) h =
 pieces_small : (src : List ℕ) → All IsTextByte src → All (All IsByte) (pieces_of src)
 pieces_small src text =
     let small : All IsByte src = All-weaker IsTextByte IsByte (λ b h. omega arith) src text in
-    let pieces = All-slice_split IsByte (text_of src) (All-take IsByte _ src small) in
-    All-map (All IsByte) percent_decode (slice_split (λ b. b == 47) (text_of src)) (All-weaker (All IsByte) (λ p. All IsByte (percent_decode p)) All-percent_decode _ pieces)
+    let pieces = All-slice_split IsByte (before_query src) (All-take IsByte _ src small) in
+    All-map (All IsByte) percent_decode (slice_split (λ b. b == 47) (before_query src)) (All-weaker (All IsByte) (λ p. All IsByte (percent_decode p)) All-percent_decode _ pieces)
 
 -- For each path that was read, its text is read as this path again.
 pub reads_again : (src bytes written : List ℕ) → Reads src bytes → IsTextOf bytes written → Reads written bytes

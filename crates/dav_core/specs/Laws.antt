@@ -5,7 +5,7 @@ use Rattle.dav_core.specs.Path.{Path, PathText, IsName, IsSegment, parent_of, jo
 use Rattle.dav_core.specs.Target.{Leaves, Climbs, HasBadPiece, Reads, IsRefused}
 use Rattle.dav_core.specs.UrlText.{url_text, IsTextOf}
 use Rattle.dav_core.specs.declared.method.DavMethod.{DavMethod}
-use Rattle.dav_core.specs.Method.{method_name, Names, Has, members}
+use Rattle.dav_core.specs.Method.{method_name, NamesMethod, Has, methods_in}
 use Rattle.std.specs.FinMap.{is_sorted}
 use Rattle.dav_core.specs.Property.{Properties, key_cmp}
 use Rattle.dav_core.specs.World.{World, Node, Kind, IsWorld, Renumbers, last_moment, last_number, empty_from, node_at, is_folder, with_new, adjust}
@@ -135,15 +135,15 @@ OneCut = (prefix bytes : List ℕ) (a b : PathText) → IsCut prefix bytes a →
 
 -- a text names one method at most, also where ASCII case is ignored
 abbrev pub OneMethod : Type 0
-OneMethod = (text : List ℕ) (m n : DavMethod) → Names text m → Names text n → m ≡ n
+OneMethod = (text : List ℕ) (m n : DavMethod) → NamesMethod text m → NamesMethod text n → m ≡ n
 
 -- a method's name names the method
 abbrev pub NameNames : Type 0
-NameNames = (m : DavMethod) → Names (method_name m) m
+NameNames = (m : DavMethod) → NamesMethod (method_name m) m
 
 -- the members of a set are the methods that it has
 abbrev pub MembersAreHad : Type 0
-MembersAreHad = (set : ℕ) (m : DavMethod) → Contains (members set) m ↔ Has set m
+MembersAreHad = (set : ℕ) (m : DavMethod) → Contains (methods_in set) m ↔ Has set m
 
 -- sets that have the same methods are one set
 abbrev pub SameMethodsSameSet : Type 0

@@ -116,24 +116,24 @@ abbrev pub refreshed_lock : Option ℕ → ℕ → Lock → Lock
 refreshed_lock timeout now l = record l { timeout_at = ends_at now timeout; timeout = timeout }
 
 -- the lock has this token and this path
-abbrev pub is_named : List ℕ → Path → Lock → Bool
-is_named token p l = bytes_eq l.token token && is_same_path (names l.path) p
+abbrev pub has_token_at : List ℕ → Path → Lock → Bool
+has_token_at token p l = bytes_eq l.token token && is_same_path (names l.path) p
 
 -- The path of the lock that a token and a path mean: the shortest front of the path at which a lock has the token.
 abbrev pub lock_front : List ℕ → Path → List Lock → Option Path
-lock_front token p ls = first (λ q. list_any (is_named token q) ls) (fronts p)
+lock_front token p ls = first (λ q. list_any (has_token_at token q) ls) (fronts p)
 
 -- and the lock that they mean: the first with the token that was granted there
 abbrev pub named_lock : List ℕ → Path → List Lock → Option Lock
-named_lock token p ls = option_and_then (λ q. first (is_named token q) ls) (lock_front token p ls)
+named_lock token p ls = option_and_then (λ q. first (has_token_at token q) ls) (lock_front token p ls)
 
 -- the list without the lock that is meant; none where none is
 abbrev pub unlocked : List ℕ → Path → List Lock → Option (List Lock)
-unlocked token p ls = option_map (λ q. without_first (is_named token q) ls) (lock_front token p ls)
+unlocked token p ls = option_map (λ q. without_first (has_token_at token q) ls) (lock_front token p ls)
 
 -- the list with a new timeout of the lock that is meant; none where none is
 abbrev pub refreshed : List ℕ → Path → Option ℕ → ℕ → List Lock → Option (List Lock)
-refreshed token p timeout now ls = option_map (λ q. change_first (is_named token q) (refreshed_lock timeout now) ls) (lock_front token p ls)
+refreshed token p timeout now ls = option_map (λ q. change_first (has_token_at token q) (refreshed_lock timeout now) ls) (lock_front token p ls)
 
 -- the locks that cover a path, the shortest path first, and of one path the first that was granted
 abbrev pub discovered : Path → List Lock → List Lock

@@ -41,12 +41,12 @@ GivesMethod text (Ok m) = text ≡ method_name m
 GivesMethod text (Err e) = (e ≡ dav.UnknownDavMethod) × ((m : DavMethod) → text ≢ method_name m)
 
 -- the text is the method's name, ASCII case ignored
-abbrev pub Names : List ℕ → DavMethod → Type 0
-Names text m = map to_ascii_lowercase text ≡ map to_ascii_lowercase (method_name m)
+abbrev pub NamesMethod : List ℕ → DavMethod → Type 0
+NamesMethod text m = map to_ascii_lowercase text ≡ map to_ascii_lowercase (method_name m)
 
 -- the text is some method's name, ASCII case ignored
 abbrev pub IsMethodName : List ℕ → Type 0
-IsMethodName text = (m : DavMethod) × Names text m
+IsMethodName text = (m : DavMethod) × NamesMethod text m
 
 -- the place of the method among all methods, counted from 0
 abbrev pub place_of : DavMethod → ℕ
@@ -75,8 +75,8 @@ abbrev pub Has : ℕ → DavMethod → Type 0
 Has set m = bit_at set (place_of m) ≡ 1
 
 -- the methods of the set, in order
-abbrev pub members : ℕ → List DavMethod
-members set = filter (λ m. bit_at set (place_of m) == 1) all_methods
+abbrev pub methods_in : ℕ → List DavMethod
+methods_in set = filter (λ m. bit_at set (place_of m) == 1) all_methods
 
 -- the bytes of texts that are lent
 abbrev pub texts_of : List (Bor (List ℕ)) → List (List ℕ)
@@ -85,4 +85,4 @@ texts_of = map (λ t. t.now)
 -- each text is a method's name, and the set has the methods that are named and no others
 pub record IsNamedSet (texts : List (List ℕ)) (set : ℕ) : Type 0 where
   pub named : All IsMethodName texts
-  pub has : (m : DavMethod) → Has set m ↔ ((text : List ℕ) × Contains texts text × Names text m)
+  pub has : (m : DavMethod) → Has set m ↔ ((text : List ℕ) × Contains texts text × NamesMethod text m)

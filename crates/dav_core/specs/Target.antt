@@ -34,12 +34,12 @@ abbrev pub IsTextByte : ℕ → Type 0
 IsTextByte b = (32 ≤ b) × (b ≤ 126) × (b ≢ 35)
 
 -- what comes before the first `?`
-abbrev pub text_of : List ℕ → List ℕ
-text_of src = before_first (λ b. b == 63) src
+abbrev pub before_query : List ℕ → List ℕ
+before_query src = before_first (λ b. b == 63) src
 
 -- the pieces between slashes, each with its escapes decoded
 abbrev pub pieces_of : List ℕ → List (List ℕ)
-pieces_of src = map percent_decode (slice_split (λ b. b == 47) (text_of src))
+pieces_of src = map percent_decode (slice_split (λ b. b == 47) (before_query src))
 
 -- a text that can name a path: bytes 32 to 126 but `#`, beginning with a slash
 pub record IsRooted (src : List ℕ) : Type 0 where
@@ -57,7 +57,7 @@ IsClosed text false = ¬ EndsInSlash text
 pub record NamesPath (src : List ℕ) (names : Path) (closed : Bool) : Type 0 where
   pub rooted : IsRooted src
   pub leaves : Leaves (pieces_of src) names
-  pub closed_if : IsClosed (text_of src) closed
+  pub closed_if : IsClosed (before_query src) closed
 
 -- The text is read as these bytes: the star path, or the path that it names.
 abbrev pub Reads : List ℕ → List ℕ → Type 0

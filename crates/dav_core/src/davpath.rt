@@ -12,7 +12,7 @@ mod url_text;
 use crate::errors::{NoMemory, ParseError};
 use ends::{lacks_slash, push_after_slash, trimmed, without_first_slash, without_slash};
 use http_uri::Uri;
-use reading::{close, ends_in_slash, is_rooted, len_before, read_names, text_of};
+use reading::{before_query, close, ends_in_slash, is_rooted, len_before, read_names};
 use std::alloc::Global;
 use std::fmt;
 use std::marker::Model;
@@ -69,7 +69,7 @@ impl DavPath {
             return Err(ParseError::InvalidPath);
         }
         let mut full = read_names(alloc, src)?;
-        close(&mut full, ends_in_slash(text_of(src)))?;
+        close(&mut full, ends_in_slash(before_query(src)))?;
         Ok(DavPath {
             full,
             prefix_len: 0,

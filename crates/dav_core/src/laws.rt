@@ -5,7 +5,7 @@ pub mod calls;
 ghost use Rattle.std.specs.Prelude.{◌≡◌, [], ◌∷◌};
 ghost use Rattle.dav_core.specs.Laws.{LeavesOnePath, LeavesNoFault, OneFault, ReadsOnePath, ReadIsNotRefused, OneRefusal, KeepsNames, ReadsNames, StarHasNoNames, ReadsAgain, NamesReadAgain, SameText, SlashKeepsNames, AddsName, AddsSegment, NamesAreSegments, NameIsSegment, ParentOfNames, OneParent, CutsAtNames, CutKeepsNames, OneCut, EmptyIsWorld, NewKeepsWorld, ChangeKeepsWorld, OneMethod, NameNames, MembersAreHad, SameMethodsSameSet, EqualToItself, EqualBothWays, EqualThrough};
 ghost use Rattle.dav_core.specs.LockLaws.{FreeHoldsExclusive, FreeDeepHoldsBelow, FreeIsNoConflict, GrantedCanBeUnlocked, TakenBack, CoveringAreShared, GrantedAreShared, UnlockedAreShared, RefreshedAreShared, DeletedAreShared, UnlockTakesOne, RefreshChangesOne, DiscoveredAreCovering};
-ghost use Rattle.dav_core.specs.Method.{all_methods, members};
+ghost use Rattle.dav_core.specs.Method.{all_methods, methods_in};
 
 use crate::method::{DavMethod, DavMethodSet};
 
@@ -114,10 +114,10 @@ pub fn sets_are_their_methods()
 /// are kept as.
 pub fn constant_sets() -> (DavMethodSet, DavMethodSet, DavMethodSet, DavMethodSet)
     ensures bits { result ≡ (19, 23, 51, 65535) }
-    ensures http_ro { members result.0 ≡ DavMethod.Head ∷ DavMethod.Get ∷ DavMethod.Options ∷ [] }
-    ensures http_rw { members result.1 ≡ DavMethod.Head ∷ DavMethod.Get ∷ DavMethod.Put ∷ DavMethod.Options ∷ [] }
-    ensures webdav_ro { members result.2 ≡ DavMethod.Head ∷ DavMethod.Get ∷ DavMethod.Options ∷ DavMethod.PropFind ∷ [] }
-    ensures webdav_rw { members result.3 ≡ all_methods }
+    ensures http_ro { methods_in result.0 ≡ DavMethod.Head ∷ DavMethod.Get ∷ DavMethod.Options ∷ [] }
+    ensures http_rw { methods_in result.1 ≡ DavMethod.Head ∷ DavMethod.Get ∷ DavMethod.Put ∷ DavMethod.Options ∷ [] }
+    ensures webdav_ro { methods_in result.2 ≡ DavMethod.Head ∷ DavMethod.Get ∷ DavMethod.Options ∷ DavMethod.PropFind ∷ [] }
+    ensures webdav_rw { methods_in result.3 ≡ all_methods }
 {
     (
         DavMethodSet::HTTP_RO,

@@ -1,6 +1,6 @@
 //! Methods (RFC 9110, section 9; RFC 4918, section 9) and sets of them.
 ghost use Rattle.std.specs.Prelude.{◌≡◌, ◌≢◌, ◌⊎◌, ◌↔◌, All, IsTrue, MatchOption, MatchResult};
-ghost use Rattle.dav_core.specs.Method.{method_name, bit_of, Names, IsMethodName};
+ghost use Rattle.dav_core.specs.Method.{method_name, bit_of, NamesMethod, IsMethodName};
 
 #[cfg(test)]
 mod tests;
@@ -101,7 +101,7 @@ impl DavMethod {
 
     // The method that a text names, ASCII case ignored.
     fn named(text: &str) -> Option<DavMethod>
-        ensures { MatchOption result (¬ (IsMethodName text.now)) (Names text.now) }
+        ensures { MatchOption result (¬ (IsMethodName text.now)) (NamesMethod text.now) }
     {
         for method in ALL {
             if text.eq_ignore_ascii_case(method.name()) {

@@ -22,7 +22,7 @@ use Rattle.dav_headers.specs.declared.if_header.IfItem.{IfItem}
 use Rattle.dav_headers.specs.declared.if_header.IfCondition.{IfCondition}
 use Rattle.dav_headers.specs.declared.if_header.IfItem.TheVariants.{StateToken, ETag}
 use Rattle.dav_engine.specs.Plan.{Locks, ran_look}
-use Rattle.dav_engine.specs.Method.{Method}
+use Rattle.dav_engine.specs.MethodPlan.{MethodPlan}
 use Rattle.dav_engine.specs.Follows.{Follows, followed}
 use Rattle.dav_engine.specs.Conditions as spec
 use Rattle.dav_engine.specs.Conditions.{Addressed, AreAddressed, SpeaksOf, while_true, while_false, condition_holds, all_hold, some_holds, item_holds}
@@ -95,7 +95,7 @@ pub all_hold_more : (p : Option Path) (c : Condition) (cs : List Condition) (b :
 all_hold_more p c cs b one rest = follows_then (λ holds. while_true (condition_holds c.negated holds) (all_hold p cs)) one rest
 
 -- Whatever the rest of a plan results in, the whole plan results in.
-abbrev pub Leads : Method Bool → StoreState → Method Bool → StoreState → Locks → Type 0
+abbrev pub Leads : MethodPlan Bool → StoreState → MethodPlan Bool → StoreState → Locks → Type 0
 Leads whole s rest t ls = (r : Result Bool DavError) (end : StoreState) → Follows (λ (b : Bool). b) rest t ls r end ls → Follows (λ (b : Bool). b) whole s ls r end ls
 
 -- the rest of a list of conditions, from this place on

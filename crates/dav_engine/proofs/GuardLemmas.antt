@@ -12,23 +12,23 @@ use Rattle.dav_core.specs.Locks.{Requester, Lock, requester_of}
 use Rattle.dav_core.specs.Path.{Path}
 use Rattle.dav_engine.specs.Plan.{Locks, Look, Done, ran_look}
 use Rattle.dav_engine.proofs.CutPlans.{cut_look}
-use Rattle.dav_engine.specs.Method.{Method, ◌>>=◌, require, require_free, is_open}
+use Rattle.dav_engine.specs.Method.{MethodPlan, ◌>>=◌, require, require_free, is_open}
 use Rattle.dav_engine.specs.Follows.{Follows, followed, gave_up, viewed, or_memory, Carries, served}
 use Rattle.dav_engine.specs.Conditions.{Conditions, if_match_get_tokens, status_as, guarded}
 use Rattle.dav_engine.specs.ConditionView.{locks_in, texts_of, tokens_or_status}
 use Rattle.dav_engine.proofs.Following.{follows_done, follows_then, follows_err, follows_on, follows_out}
 
 -- the list of locks was read, and the rest of the plan was followed
-pub follows_look : {A X : Type 0} {view : X → A} {go : Locks → Method A} {old new : StoreState} {ls ms : Locks} {r : Result X DavError} → Follows view (go ls) old ls r new ms → Follows view (Look go) old ls r new ms
+pub follows_look : {A X : Type 0} {view : X → A} {go : Locks → MethodPlan A} {old new : StoreState} {ls ms : Locks} {r : Result X DavError} → Follows view (go ls) old ls r new ms → Follows view (Look go) old ls r new ms
 follows_look (followed rest) = followed (ran_look rest)
 follows_look (gave_up e rest) = gave_up e (cut_look rest)
 
 -- a part that is done already: the rest goes on with its outcome, or its error is the end
-pub follows_ok : {A B Y : Type 0} {view : Y → B} (outcome : Result A DavError) (a : A) (f : A → Method B) {old new : StoreState} {ls ms : Locks} {r : Result Y DavError}
+pub follows_ok : {A B Y : Type 0} {view : Y → B} (outcome : Result A DavError) (a : A) (f : A → MethodPlan B) {old new : StoreState} {ls ms : Locks} {r : Result Y DavError}
     → outcome ≡ Ok a → Follows view (f a) old ls r new ms → Follows view (Done outcome >>= f) old ls r new ms
 follows_ok {A} {view = view} outcome a f {old} {new} {ls} {ms} {r} is rest = subst (λ (o : Result A DavError). Follows view (Done o >>= f) old ls r new ms) (sym is) rest
 
-pub follows_fails : {A B Y : Type 0} {view : Y → B} (outcome : Result A DavError) (e : DavError) (f : A → Method B) {s : StoreState} {ls : Locks} {r : Result Y DavError}
+pub follows_fails : {A B Y : Type 0} {view : Y → B} (outcome : Result A DavError) (e : DavError) (f : A → MethodPlan B) {s : StoreState} {ls : Locks} {r : Result Y DavError}
     → outcome ≡ Err e → viewed view r ≡ Err e → Follows view (Done outcome >>= f) s ls r s ls
 follows_fails {A} {view = view} outcome e f {s} {ls} {r} is same = subst (λ (o : Result A DavError). Follows view (Done o >>= f) s ls r s ls) (sym is) (follows_done same)
 
@@ -41,7 +41,7 @@ come {E} m c {before} {old = old} {new} {ls} {w = w} same is one =
     (subst (λ (v : Result (Result (Vec (String Global)) ℕ) E). Follows tokens_or_status (if_match_get_tokens m c before) old ls (or_memory v) new ls) is one)
 
 -- the conditions hold
-pub guard_passed : {E B Y : Type 0} {view : Y → B} (f : ℕ → DavError) (m : DavMethod) (c : Conditions) (before found : Option DavMetaData) (go : List (List ℕ) → Method B)
+pub guard_passed : {E B Y : Type 0} {view : Y → B} (f : ℕ → DavError) (m : DavMethod) (c : Conditions) (before found : Option DavMetaData) (go : List (List ℕ) → MethodPlan B)
     (r : Result (Result (Vec (String Global)) ℕ) E) (verdict : Result (Vec (String Global)) ℕ) (tokens : Vec (String Global)) {old mid new : StoreState} {ls ms : Locks} {end : Result Y DavError}
     → before ≡ found → r ≡ Ok verdict → verdict ≡ Ok tokens
     → Follows tokens_or_status (if_match_get_tokens m c before) old ls (or_memory r) mid ls
@@ -52,7 +52,7 @@ guard_passed f m c before found go r verdict tokens {old} {mid} {ls = ls} same w
     follows_then go tokens_come rest
 
 -- a condition fails
-pub guard_failed : {E B Y : Type 0} {view : Y → B} (f : ℕ → DavError) (m : DavMethod) (c : Conditions) (before found : Option DavMetaData) (go : List (List ℕ) → Method B)
+pub guard_failed : {E B Y : Type 0} {view : Y → B} (f : ℕ → DavError) (m : DavMethod) (c : Conditions) (before found : Option DavMetaData) (go : List (List ℕ) → MethodPlan B)
     (r : Result (Result (Vec (String Global)) ℕ) E) (verdict : Result (Vec (String Global)) ℕ) (status : ℕ) {old mid : StoreState} {ls : Locks}
     → before ≡ found → r ≡ Ok verdict → verdict ≡ Err status
     → Follows tokens_or_status (if_match_get_tokens m c before) old ls (or_memory r) mid ls
@@ -62,7 +62,7 @@ guard_failed f m c before found go r verdict status {old} {mid} {ls} same was is
     follows_err go (f status) ends
 
 -- memory ran out while conditions were evaluated
-pub guard_short : {E B Y : Type 0} {view : Y → B} (f : ℕ → DavError) (m : DavMethod) (c : Conditions) (before found : Option DavMetaData) (go : List (List ℕ) → Method B)
+pub guard_short : {E B Y : Type 0} {view : Y → B} (f : ℕ → DavError) (m : DavMethod) (c : Conditions) (before found : Option DavMetaData) (go : List (List ℕ) → MethodPlan B)
     (r : Result (Result (Vec (String Global)) ℕ) E) (e : E) {old mid : StoreState} {ls : Locks}
     → before ≡ found → r ≡ Err e
     → Follows tokens_or_status (if_match_get_tokens m c before) old ls (or_memory r) mid ls
@@ -77,12 +77,12 @@ pub open_to : (tokens : Vec (String Global)) (lent : List (String Global)) (prin
 open_to tokens lent principal deep p ls b same is = is ∙ ap (λ (l : List (String Global)). is_open deep (requester_of (map string_bytes l) false principal) p ls) same
 
 -- no lock conflicts, and the rest was followed
-pub free_goes : {B Y : Type 0} {view : Y → B} (deep : Bool) (who : Requester) (p : Path) (e : DavError) (f : Unit {0} → Method B) (b : Bool) {old new : StoreState} {ls ms : Locks} {r : Result Y DavError}
+pub free_goes : {B Y : Type 0} {view : Y → B} (deep : Bool) (who : Requester) (p : Path) (e : DavError) (f : Unit {0} → MethodPlan B) (b : Bool) {old new : StoreState} {ls ms : Locks} {r : Result Y DavError}
     → b ≡ is_open deep who p ls → b ≡ true → Follows view (f tt) old ls r new ms → Follows view (require_free deep who p e >>= f) old ls r new ms
 free_goes deep who p e f b is freed rest = follows_look (follows_on _ e f (sym is ∙ freed) rest)
 
 -- a lock conflicts
-pub locked_out : {B Y : Type 0} {view : Y → B} (deep : Bool) (who : Requester) (p : Path) (e : DavError) (f : Unit {0} → Method B) (b : Bool) {s : StoreState} {ls : Locks} {r : Result Y DavError}
+pub locked_out : {B Y : Type 0} {view : Y → B} (deep : Bool) (who : Requester) (p : Path) (e : DavError) (f : Unit {0} → MethodPlan B) (b : Bool) {s : StoreState} {ls : Locks} {r : Result Y DavError}
     → b ≡ is_open deep who p ls → b ≡ false → viewed view r ≡ Err e → Follows view (require_free deep who p e >>= f) s ls r s ls
 locked_out deep who p e f b is shut same = follows_look (follows_out _ e f (sym is ∙ shut) same)
 
@@ -98,7 +98,7 @@ ends_locked {view = view} deep who p e b {s} {ls} {r} is shut same =
     follows_look (subst (λ t. Follows view (require t e) s ls r s ls) (sym (sym is ∙ shut)) (follows_done same))
 
 -- what was followed with borrowed locks is followed with the locks themselves
-pub carried : {L B Y : Type 0} {view : Y → B} {kind : Method B → Type 0} (locks : L → List Lock) (lent : Option (Bor L)) (held : Option L) (plan : Method B) {old new : StoreState} {r : Result Y DavError}
+pub carried : {L B Y : Type 0} {view : Y → B} {kind : MethodPlan B → Type 0} (locks : L → List Lock) (lent : Option (Bor L)) (held : Option L) (plan : MethodPlan B) {old new : StoreState} {r : Result Y DavError}
     → option_copied lent ≡ held → kind plan → Follows view plan old (locks_in locks lent) r new (locks_in locks lent)
     → Carries view kind old (option_map locks held) r new (option_map locks held)
 carried {view = view} {kind} locks lent held plan {old} {new} {r} same is one =

@@ -12,7 +12,7 @@ use Rattle.dav_core.specs.Locks.{requester_of}
 use Rattle.dav_core.specs.Path.{PathText, names}
 use Rattle.dav_engine.specs.Client.{Client, requester}
 use Rattle.dav_engine.specs.Plan.{Locks}
-use Rattle.dav_engine.specs.Method.{Method, ◌>>=◌, require_free, is_open, ask_or, gives}
+use Rattle.dav_engine.specs.Method.{MethodPlan, ◌>>=◌, require_free, is_open, ask_or, gives}
 use Rattle.dav_engine.specs.Follows.{as_is, Follows, or_memory}
 use Rattle.dav_engine.specs.Conditions.{Conditions, if_match_get_tokens}
 use Rattle.dav_engine.specs.ConditionView.{texts_of, tokens_or_status}
@@ -23,7 +23,7 @@ use Rattle.dav_engine.proofs.Following.{follows_done, follows_ask, follows_then,
 use Rattle.dav_engine.proofs.GuardLemmas.{guard_passed, guard_failed, guard_short, open_to, ends_free, ends_locked}
 
 -- what follows the conditions
-abbrev rest : PathText → Client → List (List ℕ) → Method (Unit {0})
+abbrev rest : PathText → Client → List (List ℕ) → MethodPlan (Unit {0})
 rest p who tokens = require_free false (requester who tokens) (names p) (dav.Status 423)
 
 pub mkcol_short : {E : Type 0} (c : Conditions) (p : PathText) (who : Client) (answer : Result DavMetaData FsError) (before : Option DavMetaData) (r : Result (Result (Vec (String Global)) ℕ) E) (e : E)
@@ -61,7 +61,7 @@ mkcol_locked c p who answer before r verdict tokens lent b {ls = ls} asks same w
     (ends_locked false (requester who (texts_of tokens)) (names p) (dav.Status 423) b (open_to tokens lent who.principal false (names p) ls b tells looked) shut refl))
 
 -- what follows the checks
-abbrev creates : PathText → Client → Unit {0} → Method Response
+abbrev creates : PathText → Client → Unit {0} → MethodPlan Response
 creates p who _ = do
   _ ← ask_or create_error (CreateDir (names p) who.moment)
   gives (made p)

@@ -6,12 +6,12 @@ use Rattle.dav_core.specs.Asking.{StoreState, Asks, CreateDir}
 use Rattle.dav_core.specs.Path.{Path}
 use Rattle.dav_engine.specs.Client.{Client}
 use Rattle.dav_engine.specs.Follows.{as_is, Follows, Carries, Serves}
-use Rattle.dav_engine.specs.Method.{Method}
+use Rattle.dav_engine.specs.MethodPlan.{MethodPlan}
 use Rattle.dav_engine.specs.Plan.{Locks, ServerState}
 use Rattle.dav_engine.specs.Response.{Response}
 
 -- a plan was followed, and so was that for an equal value
-pub follows_for : {V A X : Type 0} {view : X → A} (plan : V → Method A) {one who : V} {old new : StoreState} {ls : Locks} {r : Result X DavError}
+pub follows_for : {V A X : Type 0} {view : X → A} (plan : V → MethodPlan A) {one who : V} {old new : StoreState} {ls : Locks} {r : Result X DavError}
     → one ≡ who → Follows view (plan one) old ls r new ls → Follows view (plan who) old ls r new ls
 follows_for {view = view} plan {old = old} {new} {ls} {r} same done = subst (λ w. Follows view (plan w) old ls r new ls) same done
 
@@ -21,6 +21,6 @@ pub made_for : {one who : Client} {p : Path} {old new : StoreState} {answer : Re
 made_for {p = p} {old} {new} {answer} same asks = subst (λ w. Asks (CreateDir p w.moment) old answer new) same asks
 
 -- what was served on a store and a list of locks was served on the state of both
-pub serves_from : {kind : Method Response → Type 0} {s t : StoreState} {ls ms : Locks} {r : Result Response DavError} (old : ServerState)
+pub serves_from : {kind : MethodPlan Response → Type 0} {s t : StoreState} {ls ms : Locks} {r : Result Response DavError} (old : ServerState)
     → ◌≡◌ {A = ServerState} (record { store = s; locks = ls }) old → Carries as_is kind s ls r t ms → Serves kind old r (record { store = t; locks = ms })
 serves_from {kind = kind} {t = t} {ms = ms} {r} old same done = subst (λ o. Serves kind o r (record { store = t; locks = ms })) same done

@@ -22,7 +22,7 @@ use Rattle.dav_engine.specs.declared.request.Body.{Body}
 use Rattle.dav_engine.specs.Client.{Client}
 use Rattle.dav_engine.specs.Conditions.{Addressed, Conditions, SaysLists, AreAddressed, SpeaksOf, TagNames}
 use Rattle.dav_engine.specs.Headers.{Headers, Decodes}
-use Rattle.dav_engine.specs.Method.{Method}
+use Rattle.dav_engine.specs.MethodPlan.{MethodPlan}
 use Rattle.dav_engine.specs.Mkcol.{mkcol, IsMkcol, is_mkcol}
 use Rattle.dav_engine.specs.OnePlan.{OneReadingOfConditions, OneReadingOfPut, OnePutPlan, OneMkcolPlan}
 use Rattle.dav_engine.specs.Put.{PutHeaders, IsPut, is_put, put_body, bytes_of_body, IsAnnounced, IsExpectedLength, TellsBounds}
@@ -125,7 +125,7 @@ one_put_headers headers p a b h k =
     let checksum : a.checksum ≡ b.checksum = h.checksum ∙ sym k.checksum in
     λ i. record { conditions = conditions i; announced = announced i; range = range i; is_partial = partial i; update = update i; checksum = checksum i }
 
-same_put : {m : DavMethod} {headers : Headers} {p : PathText} {body : Body} {who : Client} {one other : Method Response} → IsPut m headers p body who one → IsPut m headers p body who other → one ≡ other
+same_put : {m : DavMethod} {headers : Headers} {p : PathText} {body : Body} {who : Client} {one other : MethodPlan Response} → IsPut m headers p body who one → IsPut m headers p body who other → one ≡ other
 same_put {m} {headers} {p} {body} {who} (is_put a h) (is_put b k) = ap (λ (x : PutHeaders). put_body m x (names p) who (bytes_of_body body)) (one_put_headers headers p a b h k)
 
 pub one_put_plan : OnePutPlan
@@ -133,7 +133,7 @@ one_put_plan m headers p body who one other h k = same_put h k
 
 -- ---- MKCOL
 
-same_mkcol : {headers : Headers} {p : PathText} {who : Client} {one other : Method Response} → IsMkcol headers p who one → IsMkcol headers p who other → one ≡ other
+same_mkcol : {headers : Headers} {p : PathText} {who : Client} {one other : MethodPlan Response} → IsMkcol headers p who one → IsMkcol headers p who other → one ≡ other
 same_mkcol {headers} {p} {who} (is_mkcol a h) (is_mkcol b k) = ap (λ (x : Conditions). mkcol x p who) (one_conditions headers p.prefix (names p) a b h k)
 
 pub one_mkcol_plan : OneMkcolPlan

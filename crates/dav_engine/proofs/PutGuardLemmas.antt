@@ -14,7 +14,7 @@ use Rattle.dav_core.specs.Path.{Path}
 use Rattle.dav_engine.specs.declared.put_headers.Writing.{Writing}
 use Rattle.dav_engine.specs.Client.{Client, requester}
 use Rattle.dav_engine.specs.Plan.{Locks}
-use Rattle.dav_engine.specs.Method.{Method, ◌>>=◌, gives, require, require_free, is_open}
+use Rattle.dav_engine.specs.Method.{MethodPlan, ◌>>=◌, gives, require, require_free, is_open}
 use Rattle.dav_engine.specs.Follows.{Follows, or_memory}
 use Rattle.dav_engine.specs.Conditions.{if_match_get_tokens, guarded}
 use Rattle.dav_engine.specs.ConditionView.{texts_of, tokens_or_status}
@@ -28,17 +28,17 @@ some_ok (Ok m) = refl
 some_ok (Err e) = refl
 
 -- what follows the check of the locks
-abbrev length_next : Writing → Bool → List ℕ → Unit {0} → Method (Writing × Bool)
+abbrev length_next : Writing → Bool → List ℕ → Unit {0} → MethodPlan (Writing × Bool)
 length_next w exists bytes _ = do
   _ ← require (is_announced w.announced bytes) (dav.StatusClose 400)
   gives (w, exists)
 
 -- what follows the conditions
-abbrev locks_next : Path → Client → List ℕ → Bool → Writing → List (List ℕ) → Method (Writing × Bool)
+abbrev locks_next : Path → Client → List ℕ → Bool → Writing → List (List ℕ) → MethodPlan (Writing × Bool)
 locks_next p who bytes exists w tokens = require_free false (requester who tokens) p (dav.StatusClose 423) >>= length_next w exists bytes
 
 -- what follows the choice of the place
-abbrev conditions_next : DavMethod → PutHeaders → Path → Client → List ℕ → Result DavMetaData FsError → Writing → Method (Writing × Bool)
+abbrev conditions_next : DavMethod → PutHeaders → Path → Client → List ℕ → Result DavMetaData FsError → Writing → MethodPlan (Writing × Bool)
 conditions_next m h p who bytes answer w = guarded dav.StatusClose m h.conditions (result_ok answer) >>= locks_next p who bytes (is_ok answer) w
 
 -- the file that was found has no such place

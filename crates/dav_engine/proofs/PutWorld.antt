@@ -20,7 +20,7 @@ use Rattle.dav_core.proofs.Theorems.{went_on}
 use Rattle.dav_engine.specs.declared.put_headers.Writing.{Writing}
 use Rattle.dav_engine.specs.Client.{Client, requester}
 use Rattle.dav_engine.specs.Conditions.{Conditions, Addressed, is_star, item_holds, while_true, while_false, all_hold, some_holds, if_holds, unless, if_match_get_tokens, guarded, if_match}
-use Rattle.dav_engine.specs.Method.{Method, then as followed_by, gives, ask_for, require, require_free, refused_as}
+use Rattle.dav_engine.specs.Method.{MethodPlan, then as followed_by, gives, ask_for, require, require_free, refused_as}
 use Rattle.dav_engine.specs.Mkcol.{mkcol, mkcol_allowed, create_error, is_mkcol}
 use Rattle.dav_engine.specs.Plan.{Locks, Ran, ran_done, ran_ask}
 use Rattle.dav_engine.specs.Put.{PutHeaders, writing_of, put_opening, is_announced, unsatisfiable, sought, written, open_error, store, put_allowed, put_body, bytes_of_body, is_put}
@@ -47,11 +47,11 @@ only_item None i = only_done
 only_item (Some p) (state_token t) = only_look (λ ls. only_done)
 only_item (Some p) (entity_tag e) = only_ask looks (λ answer. only_done)
 
-only_while_true : (b : Bool) (next : Method Bool) → Only IsLook next → Only IsLook (while_true b next)
+only_while_true : (b : Bool) (next : MethodPlan Bool) → Only IsLook next → Only IsLook (while_true b next)
 only_while_true true next is = is
 only_while_true false next is = only_done
 
-only_while_false : (b : Bool) (next : Method Bool) → Only IsLook next → Only IsLook (while_false b next)
+only_while_false : (b : Bool) (next : MethodPlan Bool) → Only IsLook next → Only IsLook (while_false b next)
 only_while_false true next is = only_done
 only_while_false false next is = is
 
@@ -67,7 +67,7 @@ pub only_if : (lists : Option (List Addressed)) → Only IsLook (if_holds lists)
 only_if None = only_done
 only_if (Some ls) = only_some ls
 
-only_unless : {A : Type 0} (status : Option ℕ) (next : Method (Result A ℕ)) → Only IsLook next → Only IsLook (unless status next)
+only_unless : {A : Type 0} (status : Option ℕ) (next : MethodPlan (Result A ℕ)) → Only IsLook next → Only IsLook (unless status next)
 only_unless (Some status) next is = only_done
 only_unless None next is = is
 
@@ -116,7 +116,7 @@ proper_sought : (place : Option ℕ) (file : Handle) → IsProperPlan (sought pl
 proper_sought None file = proper_done
 proper_sought (Some k) file = proper_ask tt (λ answer tells. proper_then (refused_as (λ e. unsatisfiable) answer) _ (λ moved. proper_done))
 
-proper_if : {A : Type 0} (b : Bool) (one other : Method A) → IsProperPlan one → IsProperPlan other → IsProperPlan (if b then one else other)
+proper_if : {A : Type 0} (b : Bool) (one other : MethodPlan A) → IsProperPlan one → IsProperPlan other → IsProperPlan (if b then one else other)
 proper_if true one other is is' = is
 proper_if false one other is is' = is'
 
@@ -163,7 +163,7 @@ unfolding meaning
 opened_new w p how now r new h = open_new w p how now (node_at w p) r new h
 
 -- where a plan succeeds after its file was opened as a new one, nothing was at the path
-did_open : (w after : World) (p : Path) (how : Opening) (now : ℕ) (answer : Result Handle FsError) (f : Handle → Method Response) {mid new : StoreState} {ls ms : Locks} {r : Response}
+did_open : (w after : World) (p : Path) (how : Opening) (now : ℕ) (answer : Result Handle FsError) (f : Handle → MethodPlan Response) {mid new : StoreState} {ls ms : Locks} {r : Response}
     → how.create_new ≡ true → Did (meaning (Open p how now) w) w answer after → Ran Asks (followed_by (refused_as (open_error how) answer) f) mid ls (Ok r) new ms → node_at w p ≡ None
 did_open w after p how now answer f new (means file h is same) ran = opened_new w p how now file new h
 did_open w after p how now (Err e) f new (stays d is same) ran = let clash = ran_outcome ran in cc

@@ -4,7 +4,7 @@ use Rattle.dav_core.specs.declared.errors.DavError.{DavError}
 use Rattle.dav_core.specs.World.{IsWorld}
 use Rattle.dav_core.specs.Asking.{StoreState}
 use Rattle.dav_engine.specs.Plan.{Locks}
-use Rattle.dav_engine.specs.Method.{Method}
+use Rattle.dav_engine.specs.MethodPlan.{MethodPlan}
 use Rattle.dav_engine.specs.Follows.{Follows, followed, gave_up, Carries, served, not_begun}
 use Rattle.dav_engine.specs.WorldLaws.{IsReading, IsProperPlan}
 use Rattle.dav_engine.proofs.PlanLemmas.{cut_again}
@@ -12,7 +12,7 @@ use Rattle.dav_engine.proofs.CallWorlds.{Kept, kept_same}
 use Rattle.dav_engine.proofs.WorldPlans.{reading_leaves, proper_keeps}
 
 -- code that follows a plan of calls that a caller may make
-pub follows_keeps : {A X : Type 0} {view : X → A} {plan : Method A} {old new : StoreState} {ls ms : Locks} {r : Result X DavError}
+pub follows_keeps : {A X : Type 0} {view : X → A} {plan : MethodPlan A} {old new : StoreState} {ls ms : Locks} {r : Result X DavError}
     → IsProperPlan plan → IsWorld old.world → Follows view plan old ls r new ms → Kept old.world new.world
 follows_keeps proper world (followed ran) = proper_keeps proper world ran
 follows_keeps proper world (gave_up want cut) = let again = cut_again cut in proper_keeps proper world again.ran
@@ -22,7 +22,7 @@ either (inl same) is = same
 either (inr same) is = same ∙ is
 
 -- code that follows a plan that only reads
-pub follows_leaves : {A X : Type 0} {view : X → A} {plan : Method A} {old new : StoreState} {ls ms : Locks} {r : Result X DavError}
+pub follows_leaves : {A X : Type 0} {view : X → A} {plan : MethodPlan A} {old new : StoreState} {ls ms : Locks} {r : Result X DavError}
     → IsReading plan → Follows view plan old ls r new ms → (new.world ≡ old.world) × (ms ≡ ls)
 follows_leaves reads (followed ran) = reading_leaves reads ran
 follows_leaves reads (gave_up want cut) =
@@ -31,13 +31,13 @@ follows_leaves reads (gave_up want cut) =
     (world, either again.list locks)
 
 -- code that carries out some plan of a kind, where each plan of the kind makes only calls that a caller may make
-pub carries_keeps : {A X : Type 0} {view : X → A} {kind : Method A → Type 0} {old new : StoreState} {ls ms : Locks} {r : Result X DavError}
-    → ((plan : Method A) → kind plan → IsProperPlan plan) → IsWorld old.world → Carries view kind old ls r new ms → Kept old.world new.world
+pub carries_keeps : {A X : Type 0} {view : X → A} {kind : MethodPlan A → Type 0} {old new : StoreState} {ls ms : Locks} {r : Result X DavError}
+    → ((plan : MethodPlan A) → kind plan → IsProperPlan plan) → IsWorld old.world → Carries view kind old ls r new ms → Kept old.world new.world
 carries_keeps proper world (served plan is follows) = follows_keeps (proper plan is) world follows
 carries_keeps {old = old} {new = new} proper world (not_begun want same locks) = kept_same old.world new.world world (ap (λ (s : StoreState). s.world) same)
 
 -- the same where each plan of the kind only reads
-pub carries_leaves : {A X : Type 0} {view : X → A} {kind : Method A → Type 0} {old new : StoreState} {ls ms : Locks} {r : Result X DavError}
-    → ((plan : Method A) → kind plan → IsReading plan) → Carries view kind old ls r new ms → (new.world ≡ old.world) × (ms ≡ ls)
+pub carries_leaves : {A X : Type 0} {view : X → A} {kind : MethodPlan A → Type 0} {old new : StoreState} {ls ms : Locks} {r : Result X DavError}
+    → ((plan : MethodPlan A) → kind plan → IsReading plan) → Carries view kind old ls r new ms → (new.world ≡ old.world) × (ms ≡ ls)
 carries_leaves reads (served plan is follows) = follows_leaves (reads plan is) follows
 carries_leaves reads (not_begun want same locks) = (ap (λ (s : StoreState). s.world) same, locks)

@@ -7,7 +7,7 @@ use Rattle.dav_core.specs.declared.fs.DavMetaData.{DavMetaData}
 use Rattle.dav_core.specs.declared.method.DavMethod.{DavMethod}
 use Rattle.dav_core.specs.Asking.{StoreState}
 use Rattle.dav_engine.specs.Plan.{Locks}
-use Rattle.dav_engine.specs.Method.{Method, ◌>>=◌, gives}
+use Rattle.dav_engine.specs.Method.{MethodPlan, ◌>>=◌, gives}
 use Rattle.dav_engine.specs.Follows.{Follows, or_memory}
 use Rattle.dav_engine.specs.Conditions.{Conditions, Addressed, http_conditions, if_holds, submitted, if_match, if_match_get_tokens, unless}
 use Rattle.dav_engine.specs.ConditionView.{texts_of, tokens_or_status}
@@ -15,7 +15,7 @@ use Rattle.dav_engine.proofs.Following.{follows_done, follows_up_to, follows_the
 
 -- ---- If first
 
-abbrev behind_if : DavMethod → Conditions → Option DavMetaData → Bool → Method (Option ℕ)
+abbrev behind_if : DavMethod → Conditions → Option DavMetaData → Bool → MethodPlan (Option ℕ)
 behind_if m c found holds = gives (if holds then http_conditions m c.if_match c.if_none_match found else Some 412)
 
 -- memory ran out in If
@@ -42,7 +42,7 @@ if_held m c found false r is says one = absurd (true≢false (sym is))
 
 -- ---- If last
 
-abbrev pub token_plan : Conditions → Method (Result (List (List ℕ)) ℕ)
+abbrev pub token_plan : Conditions → MethodPlan (Result (List (List ℕ)) ℕ)
 token_plan c = if_holds c.lists >>= (λ holds. gives (if holds then Ok (submitted c.lists) else Err 412))
 
 -- the tokens, or the status, as the code has them
@@ -94,7 +94,7 @@ tokens_uncopied c b one = follows_then (λ holds. gives (if holds then Ok (submi
 
 -- ---- If alone
 
-abbrev pub dav_plan : Option (List Addressed) → Method (Bool × List (List ℕ))
+abbrev pub dav_plan : Option (List Addressed) → MethodPlan (Bool × List (List ℕ))
 dav_plan lists = if_holds lists >>= (λ holds. gives (holds, submitted lists))
 
 abbrev pub dav_view : Bool × Vec (String Global) → Bool × List (List ℕ)

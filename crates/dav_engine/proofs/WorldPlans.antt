@@ -5,8 +5,8 @@ use Rattle.dav_core.specs.declared.errors.DavError.{DavError}
 use Rattle.dav_core.specs.World.{IsWorld}
 use Rattle.dav_core.specs.Asking.{Call, Answer, StoreState, Asks}
 use Rattle.dav_core.specs.CallLaws.{IsProper}
-use Rattle.dav_engine.specs.Plan.{Plan, Done, Ask, Look, Keep, Step, Locks, Ran, ran_done, ran_ask, ran_look, ran_keep}
-use Rattle.dav_engine.specs.Method.{Method, then, ◌>>=◌, require}
+use Rattle.dav_engine.specs.Plan.{Plan, Done, Ask, Look, Keep, CallStep, Locks, Ran, ran_done, ran_ask, ran_look, ran_keep}
+use Rattle.dav_engine.specs.Method.{MethodPlan, then, ◌>>=◌, require}
 use Rattle.dav_engine.specs.WorldLaws.{OnlyReads, IsReading, reads_done, reads_ask, reads_look, IsProperPlan, proper_done, proper_ask, proper_look, proper_keep}
 use Rattle.dav_engine.proofs.CallWorlds.{did, did_leave, Kept, kept_same, kept_on, asks_keep, asks_tell}
 
@@ -47,11 +47,11 @@ only_proper proper only_done = proper_done
 only_proper proper (only_ask {c = c} is more) = proper_ask (proper c is) (λ answer tells. only_proper proper (more answer))
 only_proper proper (only_look more) = proper_look (λ ls. only_proper proper (more ls))
 
-pub only_then : {P : Call → Type 0} {A B : Type 0} (r : Result A DavError) (f : A → Method B) → ((a : A) → Only P (f a)) → Only P (then r f)
+pub only_then : {P : Call → Type 0} {A B : Type 0} (r : Result A DavError) (f : A → MethodPlan B) → ((a : A) → Only P (f a)) → Only P (then r f)
 only_then (Ok a) f more = more a
 only_then (Err e) f more = only_done
 
-pub only_bind : {P : Call → Type 0} {A B : Type 0} (plan : Method A) (f : A → Method B) → Only P plan → ((a : A) → Only P (f a)) → Only P (plan >>= f)
+pub only_bind : {P : Call → Type 0} {A B : Type 0} (plan : MethodPlan A) (f : A → MethodPlan B) → Only P plan → ((a : A) → Only P (f a)) → Only P (plan >>= f)
 only_bind plan f (only_done {a = r}) more = only_then r f more
 only_bind plan f (only_ask {go = go} is rest) more = only_ask is (λ answer. only_bind (go answer) f (rest answer) more)
 only_bind plan f (only_look {go = go} rest) more = only_look (λ ls. only_bind (go ls) f (rest ls) more)
@@ -60,12 +60,12 @@ pub only_require : {P : Call → Type 0} (b : Bool) (e : DavError) → Only P (r
 only_require true e = only_done
 only_require false e = only_done
 
-pub proper_then : {A B : Type 0} (r : Result A DavError) (f : A → Method B) → ((a : A) → IsProperPlan (f a)) → IsProperPlan (then r f)
+pub proper_then : {A B : Type 0} (r : Result A DavError) (f : A → MethodPlan B) → ((a : A) → IsProperPlan (f a)) → IsProperPlan (then r f)
 proper_then (Ok a) f more = more a
 proper_then (Err e) f more = proper_done
 
 -- plans of calls that a caller may make, one after another
-pub proper_bind : {A B : Type 0} (plan : Method A) (f : A → Method B) → IsProperPlan plan → ((a : A) → IsProperPlan (f a)) → IsProperPlan (plan >>= f)
+pub proper_bind : {A B : Type 0} (plan : MethodPlan A) (f : A → MethodPlan B) → IsProperPlan plan → ((a : A) → IsProperPlan (f a)) → IsProperPlan (plan >>= f)
 proper_bind plan f (proper_done {a = r}) more = proper_then r f more
 proper_bind plan f (proper_ask {go = go} is rest) more = proper_ask is (λ answer tells. proper_bind (go answer) f (rest answer tells) more)
 proper_bind plan f (proper_look {go = go} rest) more = proper_look (λ ls. proper_bind (go ls) f (rest ls) more)
@@ -74,14 +74,14 @@ proper_bind plan f (proper_keep {rest = rest} is) more = proper_keep (proper_bin
 -- ---- a run in parts
 
 -- a run of one part after another: the first ended, and then the rest
-pub record Split (step : Step) {A B : Type 0} (plan : Method A) (f : A → Method B) (old : StoreState) (ls : Locks) (b : Result B DavError) (new : StoreState) (ms : Locks) : Type 0 where
+pub record Split (step : CallStep) {A B : Type 0} (plan : MethodPlan A) (f : A → MethodPlan B) (old : StoreState) (ls : Locks) (b : Result B DavError) (new : StoreState) (ms : Locks) : Type 0 where
   pub outcome : Result A DavError
   pub mid : StoreState
   pub ks : Locks
   pub first : Ran step plan old ls outcome mid ks
   pub rest : Ran step (then outcome f) mid ks b new ms
 
-pub ran_split : {step : Step} {A B : Type 0} (plan : Method A) (f : A → Method B) {old new : StoreState} {ls ms : Locks} {b : Result B DavError}
+pub ran_split : {step : CallStep} {A B : Type 0} (plan : MethodPlan A) (f : A → MethodPlan B) {old new : StoreState} {ls ms : Locks} {b : Result B DavError}
     → Ran step (plan >>= f) old ls b new ms → Split step plan f old ls b new ms
 ran_split (Done r) f {old} {ls = ls} ran = record { outcome = r; mid = old; ks = ls; first = ran_done; rest = ran }
 ran_split (Ask c go) f (ran_ask {answer = answer} one more) =
@@ -95,5 +95,5 @@ ran_split (Keep locks rest) f (ran_keep more) =
     record { outcome = parts.outcome; mid = parts.mid; ks = parts.ks; first = ran_keep parts.first; rest = parts.rest }
 
 -- a plan that is done has its outcome
-pub ran_outcome : {step : Step} {A : Type 0} {a b : A} {old new : StoreState} {ls ms : Locks} → Ran step (Done a) old ls b new ms → b ≡ a
+pub ran_outcome : {step : CallStep} {A : Type 0} {a b : A} {old new : StoreState} {ls ms : Locks} → Ran step (Done a) old ls b new ms → b ≡ a
 ran_outcome ran_done = refl

@@ -6,7 +6,7 @@ use Rattle.dav_engine.specs.declared.request.Body.{Body}
 use Rattle.dav_engine.specs.declared.request.DavRequest.{DavRequest}
 use Rattle.dav_engine.specs.Client.{Client}
 use Rattle.dav_engine.specs.Follows.{Serves}
-use Rattle.dav_engine.specs.Method.{Method}
+use Rattle.dav_engine.specs.MethodPlan.{MethodPlan}
 use Rattle.dav_engine.specs.Mkcol.{IsMkcol}
 use Rattle.dav_engine.specs.Put.{IsPut}
 use Rattle.dav_engine.specs.Response.{Response}
@@ -20,13 +20,13 @@ pub record KeepsLent {F A B L : Type 0} (old new : DavInner F A B L) : Type 0 wh
   pub locks : new.backend.now.locks ≡ old.backend.now.locks
 
 -- the request was answered by a plan of this kind for its caller, on the state that it borrows
-abbrev pub ServesFrom : {F A B L : Type 0} → (Client → Method Response → Type 0) → DavInner F A B L → Result Response DavError → DavInner F A B L → Type 0
+abbrev pub ServesFrom : {F A B L : Type 0} → (Client → MethodPlan Response → Type 0) → DavInner F A B L → Result Response DavError → DavInner F A B L → Type 0
 ServesFrom kind old result new = Serves (kind old.caller.now) old.backend.now result new.backend.now
 
 -- the plans of a MKCOL, by who makes it
-abbrev pub MkcolOf : DavRequest → Client → Method Response → Type 0
+abbrev pub MkcolOf : DavRequest → Client → MethodPlan Response → Type 0
 MkcolOf request who = IsMkcol request.headers request.path who
 
 -- the plans of a PUT or PATCH with this body, by who makes it
-abbrev pub PutOf : DavRequest → Body → Client → Method Response → Type 0
+abbrev pub PutOf : DavRequest → Body → Client → MethodPlan Response → Type 0
 PutOf request body who = IsPut request.method request.headers request.path body who

@@ -15,7 +15,7 @@ use Rattle.dav_engine.specs.declared.conditional.Conditions.TheInside.{Inside}
 use Rattle.dav_engine.specs.declared.request.DavRequest.{DavRequest}
 use Rattle.dav_engine.specs.Conditions.{Addressed, Conditions, AreConditions, SaysLists, http_conditions, if_holds, submitted, if_match, if_match_get_tokens}
 use Rattle.dav_engine.specs.Headers.{Headers, Decodes}
-use Rattle.dav_engine.specs.Method.{Method, ◌>>=◌, gives}
+use Rattle.dav_engine.specs.Method.{MethodPlan, ◌>>=◌, gives}
 use Rattle.dav_engine.specs.Plan.{Locks}
 
 abbrev pub list_of : declared_list.Addressed → Addressed
@@ -45,16 +45,16 @@ IsHttpVerdict m headers found status =
     × (status ≡ http_conditions m match none_match found)
 
 -- the plan that finds out whether If holds, and gives the tokens that it submits
-pub data IsDavIf (request : DavRequest) (path : PathText) : Method (Bool × List (List ℕ)) → Type 0 where
+pub data IsDavIf (request : DavRequest) (path : PathText) : MethodPlan (Bool × List (List ℕ)) → Type 0 where
   is_dav_if : (lists : Option (List Addressed)) → Decodes (SaysLists request.path.prefix (names path)) (get_all request.headers (codes "if")) lists
       → IsDavIf request path (do
         holds ← if_holds lists
         gives (holds, submitted lists))
 
 -- the plan that gives the status that all conditions answer, with If evaluated first
-pub data IsIfMatch (request : DavRequest) (path : PathText) (found : Option DavMetaData) : Method (Option ℕ) → Type 0 where
+pub data IsIfMatch (request : DavRequest) (path : PathText) (found : Option DavMetaData) : MethodPlan (Option ℕ) → Type 0 where
   is_if_match : (c : Conditions) → AreConditions request.headers request.path.prefix (names path) c → IsIfMatch request path found (if_match request.method c found)
 
 -- the plan that gives the submitted tokens, or the status that all conditions answer, with If evaluated last
-pub data IsIfMatchGetTokens (request : DavRequest) (path : PathText) (found : Option DavMetaData) : Method (Result (List (List ℕ)) ℕ) → Type 0 where
+pub data IsIfMatchGetTokens (request : DavRequest) (path : PathText) (found : Option DavMetaData) : MethodPlan (Result (List (List ℕ)) ℕ) → Type 0 where
   is_if_match_get_tokens : (c : Conditions) → AreConditions request.headers request.path.prefix (names path) c → IsIfMatchGetTokens request path found (if_match_get_tokens request.method c found)

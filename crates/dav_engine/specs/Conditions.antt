@@ -20,7 +20,7 @@ use Rattle.dav_headers.specs.ETag.{EntityTag}
 use Rattle.dav_headers.specs.ETagList.{TagList, star, tags, IsTagList}
 use Rattle.dav_headers.specs.If.{Item, state_token, entity_tag, Condition, ConditionList, IsIfHeader, tokens_in}
 use Rattle.dav_engine.specs.Headers.{Headers, Decodes}
-use Rattle.dav_engine.specs.Method.{Method, ◌>>=◌, gives, look, answer_of}
+use Rattle.dav_engine.specs.Method.{MethodPlan, ◌>>=◌, gives, look, answer_of}
 use Rattle.dav_engine.specs.Plan.{Locks, Done}
 
 -- ---- what the headers say
@@ -120,13 +120,13 @@ abbrev pub tag_holds : EntityTag → Result DavMetaData FsError → Bool
 tag_holds tag answer = matches (tags (tag ∷ [])) true (tag_found (result_ok answer))
 
 -- whether what is at a path has an entity tag; the store is asked
-abbrev pub has_tag : Path → EntityTag → Method Bool
+abbrev pub has_tag : Path → EntityTag → MethodPlan Bool
 has_tag p e = do
   found ← answer_of (Metadata p)
   gives (tag_holds e found)
 
 -- whether an item is true of a path; where there is no path, no item is true
-abbrev pub item_holds : Option Path → Item → Method Bool
+abbrev pub item_holds : Option Path → Item → MethodPlan Bool
 item_holds None i = gives false
 item_holds (Some p) (state_token t) = do
   locks ← look
@@ -134,11 +134,11 @@ item_holds (Some p) (state_token t) = do
 item_holds (Some p) (entity_tag e) = has_tag p e
 
 -- goes on, unless the answer is settled: by false for `while_true`, by true for `while_false`
-abbrev pub while_true : Bool → Method Bool → Method Bool
+abbrev pub while_true : Bool → MethodPlan Bool → MethodPlan Bool
 while_true true next = next
 while_true false next = gives false
 
-abbrev pub while_false : Bool → Method Bool → Method Bool
+abbrev pub while_false : Bool → MethodPlan Bool → MethodPlan Bool
 while_false true next = gives true
 while_false false next = next
 
@@ -147,21 +147,21 @@ abbrev pub condition_holds : Bool → Bool → Bool
 condition_holds negated holds = if negated then not holds else holds
 
 -- whether all conditions of a list hold; they are evaluated in order, up to the first that doesn't
-abbrev pub all_hold : Option Path → List Condition → Method Bool
+abbrev pub all_hold : Option Path → List Condition → MethodPlan Bool
 all_hold p [] = gives true
 all_hold p (c ∷ cs) = do
   holds ← item_holds p c.item
   while_true (condition_holds c.negated holds) (all_hold p cs)
 
 -- whether one of the lists holds; they are evaluated in order, up to the first that does
-abbrev pub some_holds : List Addressed → Method Bool
+abbrev pub some_holds : List Addressed → MethodPlan Bool
 some_holds [] = gives false
 some_holds (l ∷ ls) = do
   holds ← all_hold l.path l.conditions
   while_false holds (some_holds ls)
 
 -- whether an If header holds; without the header the answer is yes
-abbrev pub if_holds : Option (List Addressed) → Method Bool
+abbrev pub if_holds : Option (List Addressed) → MethodPlan Bool
 if_holds None = gives true
 if_holds (Some ls) = some_holds ls
 
@@ -174,18 +174,18 @@ submitted (Some ls) = flat_map (λ l. flat_map (λ c. tokens_in c.item) l.condit
 -- ---- all conditions
 
 -- The status that all conditions answer, if they do, with If evaluated first: 412 where If doesn't hold.
-abbrev pub if_match : DavMethod → Conditions → Option DavMetaData → Method (Option ℕ)
+abbrev pub if_match : DavMethod → Conditions → Option DavMetaData → MethodPlan (Option ℕ)
 if_match m c found = do
   holds ← if_holds c.lists
   gives (if holds then http_conditions m c.if_match c.if_none_match found else Some 412)
 
 -- goes on, unless a status was answered
-abbrev pub unless : {A : Type 0} → Option ℕ → Method (Result A ℕ) → Method (Result A ℕ)
+abbrev pub unless : {A : Type 0} → Option ℕ → MethodPlan (Result A ℕ) → MethodPlan (Result A ℕ)
 unless (Some status) next = gives (Err status)
 unless None next = next
 
 -- The tokens that are submitted, or the status that the conditions answer, with If evaluated last.
-abbrev pub if_match_get_tokens : DavMethod → Conditions → Option DavMetaData → Method (Result (List (List ℕ)) ℕ)
+abbrev pub if_match_get_tokens : DavMethod → Conditions → Option DavMetaData → MethodPlan (Result (List (List ℕ)) ℕ)
 if_match_get_tokens m c found = unless (http_conditions m c.if_match c.if_none_match found) (do
   holds ← if_holds c.lists
   gives (if holds then Ok (submitted c.lists) else Err 412))
@@ -196,7 +196,7 @@ status_as f (Ok a) = Ok a
 status_as f (Err status) = Err (f status)
 
 -- gives the tokens where the conditions hold; else ends with their status
-abbrev pub guarded : (ℕ → DavError) → DavMethod → Conditions → Option DavMetaData → Method (List (List ℕ))
+abbrev pub guarded : (ℕ → DavError) → DavMethod → Conditions → Option DavMetaData → MethodPlan (List (List ℕ))
 guarded f m c found = do
   verdict ← if_match_get_tokens m c found
   Done (status_as f verdict)

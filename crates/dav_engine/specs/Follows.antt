@@ -4,7 +4,7 @@ use Rattle.dav_core.specs.declared.errors.DavError.{DavError}
 use Rattle.dav_core.specs.declared.errors.DavError.TheVariants as dav
 use Rattle.dav_core.specs.Asking.{StoreState, Asks}
 use Rattle.dav_engine.specs.Plan.{Locks, ServerState, Ran, Cut}
-use Rattle.dav_engine.specs.Method.{Method}
+use Rattle.dav_engine.specs.MethodPlan.{MethodPlan}
 use Rattle.dav_engine.specs.Response.{Response}
 
 -- a value that contracts see as it is
@@ -24,32 +24,32 @@ or_memory (Err e) = Err dav.Memory
 -- A part of a request that began with the list `first` was carried out on any lawful store, with this result; or the result is
 -- `Memory`: the first calls of the part were made, and the list of locks is `first` again, or as the part leaves it where each
 -- later call is refused.
-pub data FollowsFrom {A X : Type 0} (first : Locks) (view : X → A) (plan : Method A) (old : StoreState) (ls : Locks) (result : Result X DavError) (new : StoreState) (ms : Locks) : Type 0 where
+pub data FollowsFrom {A X : Type 0} (first : Locks) (view : X → A) (plan : MethodPlan A) (old : StoreState) (ls : Locks) (result : Result X DavError) (new : StoreState) (ms : Locks) : Type 0 where
   followed : Ran Asks plan old ls (viewed view result) new ms → FollowsFrom first view plan old ls result new ms
   gave_up : result ≡ Err dav.Memory → Cut Asks first plan old ls new ms → FollowsFrom first view plan old ls result new ms
 
 -- The plan was carried out on any lawful store, with this result; or the result is `Memory`: the first calls of the plan
 -- were made, and the list of locks is as before, or as the plan leaves it where each later call is refused.
-abbrev pub Follows : {A X : Type 0} → (X → A) → Method A → StoreState → Locks → Result X DavError → StoreState → Locks → Type 0
+abbrev pub Follows : {A X : Type 0} → (X → A) → MethodPlan A → StoreState → Locks → Result X DavError → StoreState → Locks → Type 0
 Follows view plan old ls = FollowsFrom ls view plan old ls
 
 -- the same for code that reads the list of locks, and leaves it
-abbrev pub Heeds : {A X : Type 0} → Locks → (X → A) → Method A → StoreState → Result X DavError → StoreState → Type 0
+abbrev pub Heeds : {A X : Type 0} → Locks → (X → A) → MethodPlan A → StoreState → Result X DavError → StoreState → Type 0
 Heeds locks view plan old result new = Follows view plan old locks result new locks
 
 -- The same for code that has only the store: whatever the list of locks is, it stays.
-abbrev pub Makes : {A X : Type 0} → (X → A) → Method A → StoreState → Result X DavError → StoreState → Type 0
+abbrev pub Makes : {A X : Type 0} → (X → A) → MethodPlan A → StoreState → Result X DavError → StoreState → Type 0
 Makes view plan old result new = (ls : Locks) → Follows view plan old ls result new ls
 
 -- The result is that of a plan of this kind; or memory ran out before its plan was known, and nothing was done.
-pub data Carries {A X : Type 0} (view : X → A) (kind : Method A → Type 0) (old : StoreState) (ls : Locks) (result : Result X DavError) (new : StoreState) (ms : Locks) : Type 0 where
-  served : (plan : Method A) → kind plan → Follows view plan old ls result new ms → Carries view kind old ls result new ms
+pub data Carries {A X : Type 0} (view : X → A) (kind : MethodPlan A → Type 0) (old : StoreState) (ls : Locks) (result : Result X DavError) (new : StoreState) (ms : Locks) : Type 0 where
+  served : (plan : MethodPlan A) → kind plan → Follows view plan old ls result new ms → Carries view kind old ls result new ms
   not_begun : result ≡ Err dav.Memory → new ≡ old → ms ≡ ls → Carries view kind old ls result new ms
 
 -- the same for a request that is answered, on the state of a server
-abbrev pub Serves : (Method Response → Type 0) → ServerState → Result Response DavError → ServerState → Type 0
+abbrev pub Serves : (MethodPlan Response → Type 0) → ServerState → Result Response DavError → ServerState → Type 0
 Serves kind old result new = Carries as_is kind old.store old.locks result new.store new.locks
 
 -- The same for code that reads the list of locks, and leaves it, and whose only error is out of memory.
-abbrev pub Consults : {A X E : Type 0} → Locks → (X → A) → (Method A → Type 0) → StoreState → Result X E → StoreState → Type 0
+abbrev pub Consults : {A X E : Type 0} → Locks → (X → A) → (MethodPlan A → Type 0) → StoreState → Result X E → StoreState → Type 0
 Consults locks view kind old result new = Carries view kind old locks (or_memory result) new locks

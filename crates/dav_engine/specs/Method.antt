@@ -9,41 +9,41 @@ use Rattle.dav_core.specs.Path.{Path}
 use Rattle.dav_engine.specs.Plan.{Plan, Locks, Done, Ask, Look, Keep}
 
 -- a plan that an error may end
-abbrev pub Method : Type 0 → Type 0
-Method A = Plan (Result A DavError)
+abbrev pub MethodPlan : Type 0 → Type 0
+MethodPlan A = Plan (Result A DavError)
 
 -- goes on with the outcome of a part; an error ends the whole plan
-abbrev pub then : {A B : Type 0} → Result A DavError → (A → Method B) → Method B
+abbrev pub then : {A B : Type 0} → Result A DavError → (A → MethodPlan B) → MethodPlan B
 then (Ok a) f = f a
 then (Err e) f = Done (Err e)
 
 infixl 10 ◌>>=◌
 -- one part after another
-abbrev pub ◌>>=◌ : {A B : Type 0} → Method A → (A → Method B) → Method B
+abbrev pub ◌>>=◌ : {A B : Type 0} → MethodPlan A → (A → MethodPlan B) → MethodPlan B
 (Done r) >>= f = then r f
 (Ask c go) >>= f = Ask c (λ answer. go answer >>= f)
 (Look go) >>= f = Look (λ locks. go locks >>= f)
 (Keep locks rest) >>= f = Keep locks (rest >>= f)
 
 -- ends with this outcome
-abbrev pub gives : {A : Type 0} → A → Method A
+abbrev pub gives : {A : Type 0} → A → MethodPlan A
 gives a = Done (Ok a)
 
 -- ends with this error
-abbrev pub fails : {A : Type 0} → DavError → Method A
+abbrev pub fails : {A : Type 0} → DavError → MethodPlan A
 fails e = Done (Err e)
 
 -- goes on where the test holds; else ends with this error
-abbrev pub require : Bool → DavError → Method (Unit {0})
+abbrev pub require : Bool → DavError → MethodPlan (Unit {0})
 require true e = Done (Ok tt)
 require false e = Done (Err e)
 
 -- makes a call and gives its answer, which may be a refusal
-abbrev pub answer_of : (c : Call) → Method (Result (Answer c) FsError)
+abbrev pub answer_of : (c : Call) → MethodPlan (Result (Answer c) FsError)
 answer_of c = Ask c (λ answer. Done (Ok answer))
 
 -- reads the list of locks
-abbrev pub look : Method Locks
+abbrev pub look : MethodPlan Locks
 look = Look (λ locks. Done (Ok locks))
 
 -- an answer, with a refusal turned into an error of the method
@@ -52,11 +52,11 @@ refused_as f (Ok a) = Ok a
 refused_as f (Err e) = Err (f e)
 
 -- makes a call; where it is refused, ends with the error that f makes of the refusal
-abbrev pub ask_or : (FsError → DavError) → (c : Call) → Method (Answer c)
+abbrev pub ask_or : (FsError → DavError) → (c : Call) → MethodPlan (Answer c)
 ask_or f c = Ask c (λ answer. Done (refused_as f answer))
 
 -- makes a call; where it is refused, ends with the refusal
-abbrev pub ask_for : (c : Call) → Method (Answer c)
+abbrev pub ask_for : (c : Call) → MethodPlan (Answer c)
 ask_for = ask_or dav.FsError
 
 -- whether a path isn't locked against the requester (RFC 4918, section 7.5), for infinite depth with everything below it;
@@ -67,7 +67,7 @@ is_open deep who p (Some ls) = is_free_for deep who p ls
 
 -- goes on where the path isn't locked against the requester, for infinite depth with everything below it; else ends with
 -- this error
-abbrev pub require_free : Bool → Requester → Path → DavError → Method (Unit {0})
+abbrev pub require_free : Bool → Requester → Path → DavError → MethodPlan (Unit {0})
 require_free deep who p e = do
   locks ← look
   require (is_open deep who p locks) e
@@ -78,27 +78,27 @@ has_locks None = false
 has_locks (Some ls) = true
 
 -- goes on where there is a lock system; else the plan ends with this error
-abbrev pub require_locks : DavError → Method (Unit {0})
+abbrev pub require_locks : DavError → MethodPlan (Unit {0})
 require_locks e = do
   locks ← look
   require (has_locks locks) e
 
 -- sets the list of locks to `f` of it; without a lock system it changes nothing
-abbrev pub set_by : (List Lock → List Lock) → Locks → Method (Unit {0})
+abbrev pub set_by : (List Lock → List Lock) → Locks → MethodPlan (Unit {0})
 set_by f None = Done (Ok tt)
 set_by f (Some ls) = Keep (f ls) (Done (Ok tt))
 
 -- the same of the list as it is now
-abbrev pub change_locks : (List Lock → List Lock) → Method (Unit {0})
+abbrev pub change_locks : (List Lock → List Lock) → MethodPlan (Unit {0})
 change_locks f = do
   locks ← look
   set_by f locks
 
 -- ends the locks at a path and below it
-abbrev pub drop_locks : Path → Method (Unit {0})
+abbrev pub drop_locks : Path → MethodPlan (Unit {0})
 drop_locks p = change_locks (deleted p)
 
 -- goes on, unless there is a status, with which the plan ends
-abbrev pub unless_status : Option ℕ → Method (Unit {0})
+abbrev pub unless_status : Option ℕ → MethodPlan (Unit {0})
 unless_status None = Done (Ok tt)
 unless_status (Some status) = Done (Err (dav.Status status))

@@ -13,7 +13,7 @@ use Rattle.dav_engine.specs.declared.reply.ReplyBody.TheVariants as reply
 use Rattle.dav_engine.specs.Client.{Client, requester}
 use Rattle.dav_engine.specs.Conditions.{Conditions, AreConditions, guarded}
 use Rattle.dav_engine.specs.Headers.{Headers}
-use Rattle.dav_engine.specs.Method.{Method, ◌>>=◌, require_free, answer_of, ask_or, gives}
+use Rattle.dav_engine.specs.Method.{MethodPlan, ◌>>=◌, require_free, answer_of, ask_or, gives}
 use Rattle.dav_engine.specs.Response.{Response, Header}
 
 -- Content-Location: the text of a folder's path in a URL, with its prefix (RFC 9110, section 8.7)
@@ -32,19 +32,19 @@ create_error fs.NotFound = dav.Status 409
 create_error e = dav.FsError e
 
 -- The checks before the folder is made: 412 where a condition fails, 423 where a lock conflicts.
-abbrev pub mkcol_allowed : Conditions → PathText → Client → Method (Unit {0})
+abbrev pub mkcol_allowed : Conditions → PathText → Client → MethodPlan (Unit {0})
 mkcol_allowed c p who = do
   found ← answer_of (Metadata (names p))
   tokens ← guarded dav.Status MkCol c (result_ok found)
   require_free false (requester who tokens) (names p) (dav.Status 423)
 
 -- MKCOL, with the conditions of its headers
-abbrev pub mkcol : Conditions → PathText → Client → Method Response
+abbrev pub mkcol : Conditions → PathText → Client → MethodPlan Response
 mkcol c p who = do
   _ ← mkcol_allowed c p who
   _ ← ask_or create_error (CreateDir (names p) who.moment)
   gives (made p)
 
 -- The plan of a MKCOL with these headers, to a path.
-pub data IsMkcol (headers : Headers) (p : PathText) (who : Client) : Method Response → Type 0 where
+pub data IsMkcol (headers : Headers) (p : PathText) (who : Client) : MethodPlan Response → Type 0 where
   is_mkcol : (c : Conditions) → AreConditions headers p.prefix (names p) c → IsMkcol headers p who (mkcol c p who)

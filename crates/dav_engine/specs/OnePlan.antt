@@ -6,7 +6,7 @@ use Rattle.dav_engine.specs.declared.request.Body.{Body}
 use Rattle.dav_engine.specs.Client.{Client}
 use Rattle.dav_engine.specs.Conditions.{Conditions, AreConditions}
 use Rattle.dav_engine.specs.Headers.{Headers}
-use Rattle.dav_engine.specs.Method.{Method}
+use Rattle.dav_engine.specs.MethodPlan.{MethodPlan}
 use Rattle.dav_engine.specs.Mkcol.{IsMkcol}
 use Rattle.dav_engine.specs.Put.{PutHeaders, ArePutHeaders, IsPut}
 use Rattle.dav_engine.specs.Response.{Response}
@@ -24,11 +24,11 @@ OneReadingOfPut = (headers : Headers) (p : PathText) (a b : PutHeaders) → AreP
 -- A PUT or PATCH has one plan at most: its headers, its path, its body and its client determine what it does.
 abbrev pub OnePutPlan : Type 0
 OnePutPlan =
-    (m : DavMethod) (headers : Headers) (p : PathText) (body : Body) (who : Client) (one other : Method Response)
+    (m : DavMethod) (headers : Headers) (p : PathText) (body : Body) (who : Client) (one other : MethodPlan Response)
     → IsPut m headers p body who one → IsPut m headers p body who other → one ≡ other
 
 -- A MKCOL has one plan at most, too.
 abbrev pub OneMkcolPlan : Type 0
 OneMkcolPlan =
-    (headers : Headers) (p : PathText) (who : Client) (one other : Method Response)
+    (headers : Headers) (p : PathText) (who : Client) (one other : MethodPlan Response)
     → IsMkcol headers p who one → IsMkcol headers p who other → one ≡ other

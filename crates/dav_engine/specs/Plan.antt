@@ -29,11 +29,11 @@ pub data Plan (A : Type 0) : Type 0 where
 
 -- One call of a store, as a relation between the store before it, its answer and the store after it: that of every lawful
 -- store is `Asks` of dav_core.
-abbrev pub Step : Type 1
-Step = (call : Call) → StoreState → Result (Answer call) FsError → StoreState → Type 0
+abbrev pub CallStep : Type 1
+CallStep = (call : Call) → StoreState → Result (Answer call) FsError → StoreState → Type 0
 
 -- From the first store and list of locks, the plan may end with this outcome, and leave the second store and list.
-pub data Ran (step : Step) {A : Type 0} : Plan A → StoreState → Locks → A → StoreState → Locks → Type 0 where
+pub data Ran (step : CallStep) {A : Type 0} : Plan A → StoreState → Locks → A → StoreState → Locks → Type 0 where
   ran_done : {a : A} {s : StoreState} {ls : Locks} → Ran step (Done a) s ls a s ls
   ran_ask : {c : Call} {go : Result (Answer c) FsError → Plan A} {old mid new : StoreState} {ls ms : Locks} {answer : Result (Answer c) FsError} {a : A}
       → step c old answer mid → Ran step (go answer) mid ls a new ms → Ran step (Ask c go) old ls a new ms
@@ -48,7 +48,7 @@ pub data Refused {A : Type 0} : Plan A → Locks → A → Locks → Type 0 wher
   refused_keep : {locks : List Lock} {rest : Plan A} {ls ms : Locks} {a : A} → Refused rest (kept ls locks) a ms → Refused (Keep locks rest) ls a ms
 
 -- The first calls of a plan were made, each of them whole; this list of locks was then set, and `rest` of the plan is left.
-pub data RanUpTo (step : Step) {A : Type 0} : Plan A → StoreState → Locks → Plan A → StoreState → Locks → Type 0 where
+pub data RanUpTo (step : CallStep) {A : Type 0} : Plan A → StoreState → Locks → Plan A → StoreState → Locks → Type 0 where
   up_to_here : {plan : Plan A} {s : StoreState} {ls : Locks} → RanUpTo step plan s ls plan s ls
   up_to_ask : {c : Call} {go : Result (Answer c) FsError → Plan A} {old mid new : StoreState} {ls ms : Locks} {answer : Result (Answer c) FsError} {rest : Plan A}
       → step c old answer mid → RanUpTo step (go answer) mid ls rest new ms → RanUpTo step (Ask c go) old ls rest new ms
@@ -57,7 +57,7 @@ pub data RanUpTo (step : Step) {A : Type 0} : Plan A → StoreState → Locks �
 
 -- Memory ran out in a plan: its first calls were made, and `rest` is left. The list of locks is `first` again, or the one that
 -- the rest leaves where each of its calls is refused.
-pub record Cut (step : Step) {A : Type 0} (first : Locks) (plan : Plan A) (old : StoreState) (ls : Locks) (new : StoreState) (ms : Locks) : Type 0 where
+pub record Cut (step : CallStep) {A : Type 0} (first : Locks) (plan : Plan A) (old : StoreState) (ls : Locks) (new : StoreState) (ms : Locks) : Type 0 where
   pub rest : Plan A
   pub locks : Locks
   pub ran : RanUpTo step plan old ls rest new locks

@@ -32,7 +32,7 @@ use Rattle.dav_engine.specs.declared.request.Body.{Body}
 use Rattle.dav_engine.specs.declared.request.Body.TheVariants as body
 use Rattle.dav_engine.specs.Client.{Client, requester}
 use Rattle.dav_engine.specs.Conditions.{Conditions, AreConditions, is_star, guarded}
-use Rattle.dav_engine.specs.Method.{Method, ◌>>=◌, require, require_free, answer_of, ask_or, ask_for, gives, fails}
+use Rattle.dav_engine.specs.Method.{MethodPlan, ◌>>=◌, require, require_free, answer_of, ask_or, ask_for, gives, fails}
 use Rattle.dav_engine.specs.Plan.{Done}
 use Rattle.dav_engine.specs.Headers.{Headers, Decodes, text_in}
 use Rattle.dav_engine.specs.Response.{Response, content_length, validators}
@@ -188,7 +188,7 @@ open_error how fs.Exists = dav.StatusClose (missing_status how)
 open_error how e = dav.FsError e
 
 -- seeks the place, where there is one
-abbrev pub sought : Option ℕ → Handle → Method Handle
+abbrev pub sought : Option ℕ → Handle → MethodPlan Handle
 sought None file = gives file
 sought (Some place) file = do
   moved ← ask_or (λ _. unsatisfiable) (Seek file (Start place))
@@ -200,7 +200,7 @@ is_announced None bytes = true
 is_announced (Some n) bytes = n == length bytes
 
 -- writes the bytes, where there are any
-abbrev pub written : Handle → List ℕ → ℕ → Method Handle
+abbrev pub written : Handle → List ℕ → ℕ → MethodPlan Handle
 written file bytes now = if length bytes == 0 then gives file else ask_for (Write file bytes now)
 
 -- The reply to a file that was stored: 204 where something was found before, else 201.
@@ -212,7 +212,7 @@ stored found file = record {
 }
 
 -- Stores the bytes: opens the file, seeks the place, writes and flushes the bytes, and asks the file for its tag and time.
-abbrev pub store : Opening → Option ℕ → Path → List ℕ → ℕ → Bool → Method Response
+abbrev pub store : Opening → Option ℕ → Path → List ℕ → ℕ → Bool → MethodPlan Response
 store how place p bytes now found = do
   file ← ask_or (open_error how) (Open p how now)
   file ← sought place file
@@ -225,7 +225,7 @@ store how place p bytes now found = do
 
 -- The checks before the file is opened: where the bytes go; 412 where a condition fails; 423 where a lock conflicts; 400
 -- where the body isn't of the announced length. Gives where the bytes go, and whether something was found at the path.
-abbrev pub put_allowed : DavMethod → PutHeaders → Path → Client → List ℕ → Method (Writing × Bool)
+abbrev pub put_allowed : DavMethod → PutHeaders → Path → Client → List ℕ → MethodPlan (Writing × Bool)
 put_allowed m h p who bytes = do
   found ← answer_of (Metadata p)
   w ← Done (writing_of m h (result_ok found))
@@ -235,7 +235,7 @@ put_allowed m h p who bytes = do
   gives (w, is_ok found)
 
 -- PUT and PATCH, with what their headers say
-abbrev pub put : DavMethod → PutHeaders → Path → Client → List ℕ → Method Response
+abbrev pub put : DavMethod → PutHeaders → Path → Client → List ℕ → MethodPlan Response
 put m h p who bytes = do
   allowed ← put_allowed m h p who bytes
   store (put_opening h allowed.0) allowed.0.from p bytes who.moment allowed.1
@@ -248,10 +248,10 @@ bytes_of_body (body.Tree tree) = None
 bytes_of_body body.Malformed = None
 
 -- PUT and PATCH with this body: 415 for one that isn't bytes
-abbrev pub put_body : DavMethod → PutHeaders → Path → Client → Option (List ℕ) → Method Response
+abbrev pub put_body : DavMethod → PutHeaders → Path → Client → Option (List ℕ) → MethodPlan Response
 put_body m h p who None = fails (dav.Status 415)
 put_body m h p who (Some bytes) = put m h p who bytes
 
 -- The plan of a PUT or PATCH with these headers and this body, to a path.
-pub data IsPut (m : DavMethod) (headers : Headers) (p : PathText) (body : Body) (who : Client) : Method Response → Type 0 where
+pub data IsPut (m : DavMethod) (headers : Headers) (p : PathText) (body : Body) (who : Client) : MethodPlan Response → Type 0 where
   is_put : (h : PutHeaders) → ArePutHeaders headers p h → IsPut m headers p body who (put_body m h (names p) who (bytes_of_body body))

@@ -14,7 +14,7 @@ use Rattle.dav_engine.specs.declared.request.Body.{Body}
 use Rattle.dav_engine.specs.Client.{Client}
 use Rattle.dav_engine.specs.Conditions.{Conditions}
 use Rattle.dav_engine.specs.Headers.{Headers}
-use Rattle.dav_engine.specs.Method.{Method}
+use Rattle.dav_engine.specs.MethodPlan.{MethodPlan}
 use Rattle.dav_engine.specs.Mkcol.{mkcol, mkcol_allowed, IsMkcol}
 use Rattle.dav_engine.specs.Plan.{Plan, Done, Ask, Look, Keep, Locks, Ran}
 use Rattle.dav_engine.specs.Put.{PutHeaders, put, put_allowed, IsPut}
@@ -53,26 +53,26 @@ pub data IsProperPlan {A : Type 0} : Plan A → Type 0 where
 -- A plan that only reads leaves the world and the list of locks, whatever the store refuses.
 abbrev pub ReadingLeavesAll : Type 0
 ReadingLeavesAll =
-    (plan : Method Response) (old new : StoreState) (ls ms : Locks) (a : Result Response DavError)
+    (plan : MethodPlan Response) (old new : StoreState) (ls ms : Locks) (a : Result Response DavError)
     → IsReading plan → Ran Asks plan old ls a new ms → (new.world ≡ old.world) × (ms ≡ ls)
 
 -- A plan of calls that a caller may make keeps what makes a world a world (RFC 4918, section 5.1), and the next change
 -- number never falls.
 abbrev pub ProperPlansKeepWorlds : Type 0
 ProperPlansKeepWorlds =
-    (plan : Method Response) (old new : StoreState) (ls ms : Locks) (a : Result Response DavError)
+    (plan : MethodPlan Response) (old new : StoreState) (ls ms : Locks) (a : Result Response DavError)
     → IsProperPlan plan → IsWorld old.world → Ran Asks plan old ls a new ms → IsWorld new.world × (old.world.next ≤ new.world.next)
 
 -- The plans of PUT and PATCH make only such calls, at a path of names and a moment that HTTP can write.
 abbrev pub PutIsProper : Type 0
 PutIsProper =
-    (m : DavMethod) (headers : Headers) (p : PathText) (body : Body) (who : Client) (plan : Method Response)
+    (m : DavMethod) (headers : Headers) (p : PathText) (body : Body) (who : Client) (plan : MethodPlan Response)
     → IsStorable (names p) → who.moment ≤ last_moment → IsPut m headers p body who plan → IsProperPlan plan
 
 -- so does the plan of MKCOL
 abbrev pub MkcolIsProper : Type 0
 MkcolIsProper =
-    (headers : Headers) (p : PathText) (who : Client) (plan : Method Response)
+    (headers : Headers) (p : PathText) (who : Client) (plan : MethodPlan Response)
     → IsStorable (names p) → who.moment ≤ last_moment → IsMkcol headers p who plan → IsProperPlan plan
 
 -- An error of the checks before the file is opened is the outcome, and leaves the world and the list of locks as they are.
@@ -104,5 +104,5 @@ pub record Remembers (number : ℕ) (bytes : List ℕ) (w : World) : Type 0 wher
 -- A change number identifies bytes: what once holds of it holds from then on (RFC 9110, section 8.8.1).
 abbrev pub PlansRemember : Type 0
 PlansRemember =
-    (plan : Method Response) (old new : StoreState) (ls ms : Locks) (a : Result Response DavError) (number : ℕ) (bytes : List ℕ)
+    (plan : MethodPlan Response) (old new : StoreState) (ls ms : Locks) (a : Result Response DavError) (number : ℕ) (bytes : List ℕ)
     → IsProperPlan plan → IsWorld old.world → Remembers number bytes old.world → Ran Asks plan old ls a new ms → Remembers number bytes new.world

@@ -76,10 +76,11 @@ pub some_played : (o : Option (List ℕ)) (Wrote : List ℕ → Type 0) (s : Scr
 some_played None Wrote s first rest replies left k read prefix parts run wrote = tt
 some_played (Some text) Wrote s first rest replies left k read prefix parts run wrote =
     let (mid, ks, part) = run_first k first replies run in
-    let more : first ++ rest ≡ take k first ++ (drop k first ++ rest) = ap (λ l. l ++ rest) (sym (take-append-drop k first)) ∙ append_assoc (take k first) (drop k first) rest in
-    (lines_of (take k replies),
-     inr (s, take k first, drop k first ++ rest, take k replies, record { settings = left.settings; state = record { store = mid; locks = ks } }, read.0, read.1, prefix, parts ∙ more, part, refl),
-     wrote)
+    let more : first ++ rest ≡ take k first ++ (drop k first ++ rest) = ap (λ l. l ++ rest) (sym (take-append-drop k first)) ∙ append_assoc (take k first) (drop k first) rest in (
+      lines_of (take k replies),
+      inr (s, take k first, drop k first ++ rest, take k replies, record { settings = left.settings; state = record { store = mid; locks = ks } }, read.0, read.1, prefix, parts ∙ more, part, refl),
+      wrote,
+    )
 
 -- where two results are the same error, so are the errors
 pub same_error : {A : Type 0} {a b : Fault} → ◌≡◌ {A = Result A Fault} (Err a) (Err b) → a ≡ b

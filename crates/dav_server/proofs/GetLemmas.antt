@@ -12,7 +12,7 @@ use Rattle.dav_core.specs.Path.{Path}
 use Rattle.dav_engine.specs.declared.reply.Reply.{Reply}
 use Rattle.dav_engine.specs.Conditions.{Conditions, if_match}
 use Rattle.dav_engine.specs.Follows.{as_is, Follows, viewed, or_memory}
-use Rattle.dav_engine.specs.Method.{Method, gives, fails}
+use Rattle.dav_engine.specs.Method.{MethodPlan, gives, fails}
 use Rattle.dav_engine.specs.Plan.{Locks}
 use Rattle.dav_engine.specs.Response.{Response}
 use Rattle.dav_engine.proofs.Following.{follows_ask, follows_done, follows_on, follows_then, follows_err}
@@ -43,19 +43,19 @@ shows p now found MkCalendar other done = done
 shows p now found MkAddressbook other done = done
 
 -- the client has the file already
-pub has_it : (found : DavMetaData) (next : Method Response) (status : ℕ) {s : StoreState} {ls : Locks} {r : Result Reply DavError}
+pub has_it : (found : DavMetaData) (next : MethodPlan Response) (status : ℕ) {s : StoreState} {ls : Locks} {r : Result Reply DavError}
     → (status == 304) ≡ true → viewed as_is r ≡ Ok (not_modified found) → Follows as_is (judged (Some status) found next) s ls r s ls
 has_it found next status {s} {ls} {r} is same =
     subst (λ b. Follows as_is (if b then gives (not_modified found) else fails (dav.Status status)) s ls r s ls) (sym is) (follows_done same)
 
 -- a condition fails
-pub refuses_it : (found : DavMetaData) (next : Method Response) (status : ℕ) {s : StoreState} {ls : Locks}
+pub refuses_it : (found : DavMetaData) (next : MethodPlan Response) (status : ℕ) {s : StoreState} {ls : Locks}
     → (status == 304) ≡ false → Follows as_is (judged (Some status) found next) s ls (Err (dav.Status status)) s ls
 refuses_it found next status {s} {ls} is =
     subst (λ b. Follows as_is (if b then gives (not_modified found) else fails (dav.Status status)) s ls (Err (dav.Status status)) s ls) (sym is) (follows_done refl)
 
 -- what follows the conditions
-abbrev after : DavMethod → Path → ℕ → DavMetaData → Option ℕ → Method Response
+abbrev after : DavMethod → Path → ℕ → DavMetaData → Option ℕ → MethodPlan Response
 after m p now found verdict = judged verdict found (show_or_tell m p now found)
 
 -- an evaluation of conditions that was followed, with an equal result

@@ -23,7 +23,7 @@ use Rattle.dav_core.proofs.Theorems.{went_on, found, made_stands_there}
 use Rattle.dav_engine.specs.declared.reply.ReplyBody.{ReplyBody}
 use Rattle.dav_engine.specs.declared.reply.ReplyBody.TheVariants as reply
 use Rattle.dav_engine.specs.Conditions.{Conditions, if_match}
-use Rattle.dav_engine.specs.Method.{Method, then as followed_by, ◌>>=◌, gives, fails, require, refused_as}
+use Rattle.dav_engine.specs.Method.{MethodPlan, then as followed_by, ◌>>=◌, gives, fails, require, refused_as}
 use Rattle.dav_engine.specs.Plan.{Plan, Ask, Locks, Ran, ran_ask}
 use Rattle.dav_engine.specs.Response.{Response, Header, reply_to, etag, last_modified, content_length}
 use Rattle.dav_engine.specs.WorldLaws.{OnlyReads, IsReading, IsProperPlan, Remembers}
@@ -72,7 +72,7 @@ only_show_or_tell : (m : DavMethod) (p : Path) (now : ℕ) (file : DavMetaData) 
 only_show_or_tell Head p now file = only_done
 only_show_or_tell _ p now file = only_show p now file
 
-only_judged : {P : Call → Type 0} (verdict : Option ℕ) (file : DavMetaData) (next : Method Response) → Only P next → Only P (judged verdict file next)
+only_judged : {P : Call → Type 0} (verdict : Option ℕ) (file : DavMetaData) (next : MethodPlan Response) → Only P next → Only P (judged verdict file next)
 only_judged None file next is = is
 only_judged (Some status) file next is = only_either (status == 304) (gives (not_modified file)) (fails (dav.Status status)) only_done only_done
 
@@ -91,24 +91,24 @@ get_is_proper m c p now storable small = only_proper (get_proper storable small)
 -- ---- runs of parts that end in a reply
 
 -- where the plan goes on after a test, the test holds
-pub required : {A : Type 0} (b : Bool) (e : DavError) (f : Unit {0} → Method A) {old new : StoreState} {ls ms : Locks} {a : A}
+pub required : {A : Type 0} (b : Bool) (e : DavError) (f : Unit {0} → MethodPlan A) {old new : StoreState} {ls ms : Locks} {a : A}
     → Ran Asks (require b e >>= f) old ls (Ok a) new ms → (b ≡ true) × Ran Asks (f tt) old ls (Ok a) new ms
 required true e f ran = (refl, ran)
 required false e f ran = let clash = ran_outcome ran in cc
 
 -- where the plan goes on after a call, the call was answered
-pub answered_by : {A B : Type 0} (g : FsError → DavError) (answer : Result A FsError) (f : A → Method B) {old new : StoreState} {ls ms : Locks} {b : B}
+pub answered_by : {A B : Type 0} (g : FsError → DavError) (answer : Result A FsError) (f : A → MethodPlan B) {old new : StoreState} {ls ms : Locks} {b : B}
     → Ran Asks (followed_by (refused_as g answer) f) old ls (Ok b) new ms → (a : A) × (answer ≡ Ok a) × Ran Asks (f a) old ls (Ok b) new ms
 answered_by g (Ok a) f ran = (a, refl, ran)
 answered_by g (Err e) f ran = let clash = ran_outcome ran in cc
 
-gone_on : {A B : Type 0} (outcome : Result A DavError) (f : A → Method B) {old new : StoreState} {ls ms : Locks} {b : B}
+gone_on : {A B : Type 0} (outcome : Result A DavError) (f : A → MethodPlan B) {old new : StoreState} {ls ms : Locks} {b : B}
     → Ran Asks (followed_by outcome f) old ls (Ok b) new ms → (a : A) × (outcome ≡ Ok a) × Ran Asks (f a) old ls (Ok b) new ms
 gone_on (Ok a) f ran = (a, refl, ran)
 gone_on (Err e) f ran = let clash = ran_outcome ran in cc
 
 -- A part that only reads had some outcome, in the same world, and the rest followed.
-pub record Followed {A B : Type 0} (plan : Method A) (f : A → Method B) (old : StoreState) (ls : Locks) (b : B) (new : StoreState) (ms : Locks) : Type 0 where
+pub record Followed {A B : Type 0} (plan : MethodPlan A) (f : A → MethodPlan B) (old : StoreState) (ls : Locks) (b : B) (new : StoreState) (ms : Locks) : Type 0 where
   pub value : A
   pub mid : StoreState
   pub ks : Locks
@@ -116,7 +116,7 @@ pub record Followed {A B : Type 0} (plan : Method A) (f : A → Method B) (old :
   pub first : Ran Asks plan old ls (Ok value) mid ks
   pub rest : Ran Asks (f value) mid ks (Ok b) new ms
 
-pub looked : {A B : Type 0} (plan : Method A) (f : A → Method B) {old new : StoreState} {ls ms : Locks} {b : B}
+pub looked : {A B : Type 0} (plan : MethodPlan A) (f : A → MethodPlan B) {old new : StoreState} {ls ms : Locks} {b : B}
     → IsReading plan → Ran Asks (plan >>= f) old ls (Ok b) new ms → Followed plan f old ls b new ms
 looked plan f {old} {ls = ls} is ran =
     let parts = ran_split plan f ran in
@@ -270,7 +270,7 @@ shows_allowed w c p now n tag bytes world there same ran shows =
     shows_judged w p now n more.value tag bytes world there (more.same ∙ same) more.rest shows
 
 -- what follows where a file was found
-abbrev pub after_found : DavMethod → Conditions → Path → ℕ → DavMetaData → Method Response
+abbrev pub after_found : DavMethod → Conditions → Path → ℕ → DavMetaData → MethodPlan Response
 after_found m c p now d =
     require (not d.dir) (dav.Status 405) >>= (λ plain. if_match m c (Some d) >>= (λ verdict. judged verdict d (show_or_tell m p now d)))
 

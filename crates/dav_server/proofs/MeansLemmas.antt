@@ -12,7 +12,7 @@ use Rattle.dav_engine.specs.declared.request.Body.{Body}
 use Rattle.dav_engine.specs.Client.{Client}
 use Rattle.dav_engine.specs.Conditions.{Conditions}
 use Rattle.dav_engine.specs.Headers.{Headers}
-use Rattle.dav_engine.specs.Method.{Method, fails}
+use Rattle.dav_engine.specs.Method.{MethodPlan, fails}
 use Rattle.dav_engine.specs.Plan.{Locks, Ran}
 use Rattle.dav_engine.specs.Response.{Response, reply_to}
 use Rattle.dav_engine.proofs.PlanLemmas.{ran_same, ran_unset}
@@ -57,14 +57,14 @@ one_method text m n one two = one_name m n (sym one.1 ∙ two.1)
 served_or_not : {A : Type 0} (text : List ℕ) (m : DavMethod) (e : DavError) → GivesServed text (Ok m) → GivesServed text (Err e) → A
 served_or_not text m e one two = absurd (two.1 m one.0 one.1)
 
-one_get : {m : DavMethod} {headers : Headers} {p : PathText} {now : ℕ} {plan other : Method Response} → IsGet m headers p now plan → IsGet m headers p now other → plan ≡ other
+one_get : {m : DavMethod} {headers : Headers} {p : PathText} {now : ℕ} {plan other : MethodPlan Response} → IsGet m headers p now plan → IsGet m headers p now other → plan ≡ other
 one_get {m} {headers} {p} {now} (is_get a h) (is_get b k) = ap (λ (c : Conditions). get m c (names p) now) (one_conditions headers p.prefix (names p) a b h k)
 
 -- no method is both served and not served yet
 never : {A : Type 0} → ◌≡◌ {A = Bool} true false → A
 never same = absurd (true≢false same)
 
-one_plan : {headers : Headers} {p : PathText} {body : Body} {who : Client} {m : DavMethod} {plan other : Method Response} → PlanOf headers p body who m plan → PlanOf headers p body who m other → plan ≡ other
+one_plan : {headers : Headers} {p : PathText} {body : Body} {who : Client} {m : DavMethod} {plan other : MethodPlan Response} → PlanOf headers p body who m plan → PlanOf headers p body who m other → plan ≡ other
 one_plan (gets one) (gets two) = one_get one two
 one_plan (gets one) (not_yet out) = never out
 one_plan (heads one) (heads two) = one_get one two
@@ -91,7 +91,7 @@ one_value same = cc
 not_both : {A B : Type 0} {a : A} {e : DavError} → ◌≡◌ {A = Result A DavError} (Ok a) (Err e) → B
 not_both same = absurd (cc)
 
-one_of : {s : Settings} {x : Asked} {r : Request} {m : DavMethod} {plan other : Method Response} → MeansOf s x r m plan → MeansOf s x r m other → plan ≡ other
+one_of : {s : Settings} {x : Asked} {r : Request} {m : DavMethod} {plan other : MethodPlan Response} → MeansOf s x r m plan → MeansOf s x r m other → plan ≡ other
 one_of (not_allowed out) (not_allowed also) = refl
 one_of (not_allowed out) (no_path f has none) = absurd (out has)
 one_of (not_allowed out) (no_body q f has named bad) = absurd (out has)
@@ -114,7 +114,7 @@ one_of {s} {x} {r} {m} {other = other} (method p body has named good is) (method
     (subst (λ (b : Body). PlanOf (headers_of r.fields) q b (client x) m other) (sym same) too))
 
 -- a request results in one plan
-pub one_means : {s : Settings} {x : Asked} {plan other : Method Response} → Means s x plan → Means s x other → plan ≡ other
+pub one_means : {s : Settings} {x : Asked} {plan other : MethodPlan Response} → Means s x plan → Means s x other → plan ≡ other
 one_means (no_head out) (no_head also) = refl
 one_means (no_head out) (no_method r e is gives) = absurd (out r is)
 one_means (no_head out) (known r m is gives means) = absurd (out r is)
@@ -146,7 +146,7 @@ steps_same : {s : Settings} {x : Asked} {old new other : StoreState} {ls ks ms :
     → (reply ≡ answer) × (new ≡ other) × (ks ≡ ms)
 steps_same {old = old} {other = other} {ls} {ms = ms} (steps plan outcome means ran) u (steps plan' outcome' means' ran') u' =
     let same : plan' ≡ plan = one_means means' means in
-    let both = ran_same ran u (subst (λ (p : Method Response). Ran Asks p old ls outcome' other ms) same ran') u' in
+    let both = ran_same ran u (subst (λ (p : MethodPlan Response). Ran Asks p old ls outcome' other ms) same ran') u' in
     (ap reply_to both.0, both.1, both.2)
 
 pub runs_same : {s : Settings} {ts : List Turn} {old new other : StoreState} {ls ks ms : Locks} {replies others : List Response}

@@ -15,7 +15,7 @@ use Rattle.dav_engine.specs.declared.request.Body.{Body}
 use Rattle.dav_engine.specs.Client.{Client}
 use Rattle.dav_engine.specs.Conditions.{is_reading}
 use Rattle.dav_engine.specs.Headers.{Headers}
-use Rattle.dav_engine.specs.Method.{Method}
+use Rattle.dav_engine.specs.MethodPlan.{MethodPlan}
 use Rattle.dav_engine.specs.Plan.{Locks}
 use Rattle.dav_engine.specs.Response.{Response}
 use Rattle.dav_engine.specs.WorldLaws.{IsReading, reads_done, IsProperPlan, proper_done}
@@ -27,7 +27,7 @@ use Rattle.dav_server.specs.Head.{Request, IsHead}
 use Rattle.dav_server.specs.Machine.{Settings, Asked, PlanOf, gets, heads, puts, patches, makes, not_yet, MeansOf, not_allowed, no_path, no_body, method, Means, no_head, no_method, known, Steps, steps}
 use Rattle.dav_server.specs.Method.{GivesServed}
 use Rattle.dav_server.specs.Run.{Turn, begun, Runs, no_more, one_more}
-use Rattle.dav_server.specs.TagLaws.{Asks, AreShowable, ReadingLeaves, RunsKeepWorlds}
+use Rattle.dav_server.specs.TagLaws.{HasMethod, AreShowable, ReadingLeaves, RunsKeepWorlds}
 use Rattle.dav_server.specs.Target.{TargetNames, server, path}
 use Rattle.dav_server.proofs.GetWorld.{get_is_reading, get_is_proper}
 use Rattle.dav_server.proofs.HeadLemmas.{one_head}
@@ -81,10 +81,10 @@ target_storable {prefix} (path {text} {bytes} {p} has reads cut) = read_cut text
 
 -- ---- plans of calls that a caller may make
 
-proper_get : {m : DavMethod} {headers : Headers} {p : PathText} {now : ℕ} {plan : Method Response} → IsStorable (names p) → now ≤ last_moment → IsGet m headers p now plan → IsProperPlan plan
+proper_get : {m : DavMethod} {headers : Headers} {p : PathText} {now : ℕ} {plan : MethodPlan Response} → IsStorable (names p) → now ≤ last_moment → IsGet m headers p now plan → IsProperPlan plan
 proper_get {m} {p = p} {now} storable small (is_get c are) = get_is_proper m c (names p) now storable small
 
-plan_proper : {headers : Headers} {p : PathText} {body : Body} {who : Client} {m : DavMethod} {plan : Method Response} → IsStorable (names p) → who.moment ≤ last_moment → PlanOf headers p body who m plan → IsProperPlan plan
+plan_proper : {headers : Headers} {p : PathText} {body : Body} {who : Client} {m : DavMethod} {plan : MethodPlan Response} → IsStorable (names p) → who.moment ≤ last_moment → PlanOf headers p body who m plan → IsProperPlan plan
 plan_proper storable small (gets is) = proper_get storable small is
 plan_proper storable small (heads is) = proper_get storable small is
 plan_proper {headers} {p} {body} {who} {plan = plan} storable small (puts is) = put_is_proper Put headers p body who plan storable small is
@@ -92,13 +92,13 @@ plan_proper {headers} {p} {body} {who} {plan = plan} storable small (patches is)
 plan_proper {headers} {p} {who = who} {plan = plan} storable small (makes is) = mkcol_is_proper headers p who plan storable small is
 plan_proper storable small (not_yet out) = proper_done
 
-of_proper : {s : Settings} {x : Asked} {r : Request} {m : DavMethod} {plan : Method Response} → x.moment ≤ last_moment → MeansOf s x r m plan → IsProperPlan plan
+of_proper : {s : Settings} {x : Asked} {r : Request} {m : DavMethod} {plan : MethodPlan Response} → x.moment ≤ last_moment → MeansOf s x r m plan → IsProperPlan plan
 of_proper small (not_allowed out) = proper_done
 of_proper small (no_path e has none) = proper_done
 of_proper small (no_body p e has named bad) = proper_done
 of_proper small (method p body has named good is) = plan_proper (target_storable named) small is
 
-pub means_proper : {s : Settings} {x : Asked} {plan : Method Response} → x.moment ≤ last_moment → Means s x plan → IsProperPlan plan
+pub means_proper : {s : Settings} {x : Asked} {plan : MethodPlan Response} → x.moment ≤ last_moment → Means s x plan → IsProperPlan plan
 means_proper small (no_head out) = proper_done
 means_proper small (no_method r e is gives) = proper_done
 means_proper small (known r m is gives means) = of_proper small means
@@ -135,11 +135,11 @@ pub one_method : (text : List ℕ) (m n : DavMethod) → GivesServed text (Ok m)
 one_method text m n one two = named_once text m n (ap (map to_ascii_lowercase) one.1) (ap (map to_ascii_lowercase) two.1)
 
 -- a request has one method
-pub asks_one : (x : Asked) {r : Request} (m : DavMethod) {n : DavMethod} → Asks m x → IsHead x.head r → GivesServed r.method (Ok n) → n ≡ m
+pub asks_one : (x : Asked) {r : Request} (m : DavMethod) {n : DavMethod} → HasMethod m x → IsHead x.head r → GivesServed r.method (Ok n) → n ≡ m
 asks_one x {r} m {n} (q, head, gives) also too =
     one_method r.method n m too (subst (λ (h : Request). GivesServed h.method (Ok m)) (one_head x.head q r head also) gives)
 
-plan_reads : {headers : Headers} {p : PathText} {body : Body} {who : Client} {m : DavMethod} {plan : Method Response} → is_reading m ≡ true → PlanOf headers p body who m plan → IsReading plan
+plan_reads : {headers : Headers} {p : PathText} {body : Body} {who : Client} {m : DavMethod} {plan : MethodPlan Response} → is_reading m ≡ true → PlanOf headers p body who m plan → IsReading plan
 plan_reads {p = p} {who = who} is (gets (is_get c are)) = get_is_reading Get c (names p) who.moment
 plan_reads {p = p} {who = who} is (heads (is_get c are)) = get_is_reading Head c (names p) who.moment
 plan_reads is (puts out) = absurd (true≢false (sym is))
@@ -147,13 +147,13 @@ plan_reads is (patches out) = absurd (true≢false (sym is))
 plan_reads is (makes out) = absurd (true≢false (sym is))
 plan_reads is (not_yet out) = reads_done
 
-of_reads : {s : Settings} {x : Asked} {r : Request} {m : DavMethod} {plan : Method Response} → is_reading m ≡ true → MeansOf s x r m plan → IsReading plan
+of_reads : {s : Settings} {x : Asked} {r : Request} {m : DavMethod} {plan : MethodPlan Response} → is_reading m ≡ true → MeansOf s x r m plan → IsReading plan
 of_reads is (not_allowed out) = reads_done
 of_reads is (no_path e has none) = reads_done
 of_reads is (no_body p e has named bad) = reads_done
 of_reads is (method p body has named good plan) = plan_reads is plan
 
-means_reads : {s : Settings} (x : Asked) (m : DavMethod) {plan : Method Response} → Asks m x → is_reading m ≡ true → Means s x plan → IsReading plan
+means_reads : {s : Settings} (x : Asked) (m : DavMethod) {plan : MethodPlan Response} → HasMethod m x → is_reading m ≡ true → Means s x plan → IsReading plan
 means_reads x m asks is (no_head out) = reads_done
 means_reads x m asks is (no_method r e head gives) = reads_done
 means_reads x m asks is (known r n head gives means) = of_reads (ap is_reading (asks_one x m asks head gives) ∙ is) means

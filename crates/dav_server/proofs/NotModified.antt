@@ -25,7 +25,7 @@ use Rattle.dav_engine.specs.declared.request.Body.TheVariants as body
 use Rattle.dav_engine.specs.Client.{Client}
 use Rattle.dav_engine.specs.Conditions.{Conditions, is_reading, matches, http_conditions, if_match}
 use Rattle.dav_engine.specs.Headers.{Headers, Decodes}
-use Rattle.dav_engine.specs.Method.{Method, then as followed_by, ◌>>=◌, gives, fails, require, refused_as}
+use Rattle.dav_engine.specs.Method.{MethodPlan, then as followed_by, ◌>>=◌, gives, fails, require, refused_as}
 use Rattle.dav_engine.specs.Mkcol.{is_mkcol}
 use Rattle.dav_engine.specs.Plan.{Locks, Ran, ran_ask}
 use Rattle.dav_engine.specs.Put.{bytes_of_body, is_put}
@@ -165,7 +165,7 @@ body_status TakesTree body.Malformed = tt
 body_status TakesBytes body.Malformed = not_415
 body_status TakesNone body.Malformed = not_415
 
-plan_304 : {headers : Headers} {p : PathText} {given : Body} {who : Client} {m : DavMethod} {plan : Method Response} (tag : EntityTag) (outcome : Result Response DavError) {old new : StoreState} {ls ms : Locks}
+plan_304 : {headers : Headers} {p : PathText} {given : Body} {who : Client} {m : DavMethod} {plan : MethodPlan Response} (tag : EntityTag) (outcome : Result Response DavError) {old new : StoreState} {ls ms : Locks}
     → IsTagList (get_all headers (codes "if-none-match")) (tags (tag ∷ [])) → PlanOf headers p given who m plan → Ran Asking plan old ls outcome new ms → (reply_to outcome).status ≡ 304
     → SomeStands old.world (names p) (tag_text tag.weak tag.tag)
 plan_304 {p = p} {who = who} tag outcome says (gets (is_get c are)) ran is = get_304 Get c (names p) who.moment tag outcome (says_tags _ c.if_none_match _ are.none_match says) ran is
@@ -181,7 +181,7 @@ one_value same = cc
 no_error : {A B : Type 0} {a : A} {e : DavError} → ◌≡◌ {A = Result A DavError} (Ok a) (Err e) → B
 no_error same = absurd (cc)
 
-of_304 : {s : Settings} {x : Asked} {r : Request} {m : DavMethod} {plan : Method Response} (p : PathText) (tag : EntityTag) (outcome : Result Response DavError) {old new : StoreState} {ls ms : Locks}
+of_304 : {s : Settings} {x : Asked} {r : Request} {m : DavMethod} {plan : MethodPlan Response} (p : PathText) (tag : EntityTag) (outcome : Result Response DavError) {old new : StoreState} {ls ms : Locks}
     → TargetNames s.prefix m r.target (Ok p) → IsTagList (get_all (headers_of r.fields) (codes "if-none-match")) (tags (tag ∷ []))
     → MeansOf s x r m plan → Ran Asking plan old ls outcome new ms → (reply_to outcome).status ≡ 304 → SomeStands old.world (names p) (tag_text tag.weak tag.tag)
 of_304 p tag outcome names_p says (not_allowed out) ran is = failed_status {e = dav.StatusClose 405} (λ same. absurd (omega (arith, same))) ran is
@@ -191,7 +191,7 @@ of_304 {s} {r = r} {m} p tag outcome {old} names_p says (method q given has name
     let same : q ≡ p = one_value (one_outcome s.prefix m r.target _ _ named names_p) in
     subst (λ (t : PathText). SomeStands old.world (names t) (tag_text tag.weak tag.tag)) same (plan_304 tag outcome says plan ran is)
 
-means_304 : {s : Settings} {x : Asked} {plan : Method Response} (p : PathText) (tag : EntityTag) (outcome : Result Response DavError) {old new : StoreState} {ls ms : Locks}
+means_304 : {s : Settings} {x : Asked} {plan : MethodPlan Response} (p : PathText) (tag : EntityTag) (outcome : Result Response DavError) {old new : StoreState} {ls ms : Locks}
     → LacksTag s x p tag → Means s x plan → Ran Asking plan old ls outcome new ms → (reply_to outcome).status ≡ 304 → SomeStands old.world (names p) (tag_text tag.weak tag.tag)
 means_304 p tag outcome (r, m, head, gives, named, says) (no_head out) ran is = absurd (out r head)
 means_304 p tag outcome (r, m, head, gives, named, says) (no_method q e head' gives') ran is =

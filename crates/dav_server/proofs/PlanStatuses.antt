@@ -25,7 +25,7 @@ use Rattle.dav_engine.specs.declared.put_headers.Bounds.TheVariants.{Unread, Who
 use Rattle.dav_engine.specs.declared.put_headers.Writing.{Writing}
 use Rattle.dav_engine.specs.Client.{Client, requester}
 use Rattle.dav_engine.specs.Conditions.{Conditions, Addressed, is_reading, matches_found, item_holds, while_true, while_false, all_hold, some_holds, if_holds, http_conditions, if_match, unless, status_as, guarded}
-use Rattle.dav_engine.specs.Method.{Method, then as followed_by, ◌>>=◌, gives, require, require_free, refused_as, ask_for}
+use Rattle.dav_engine.specs.Method.{MethodPlan, then as followed_by, ◌>>=◌, gives, require, require_free, refused_as, ask_for}
 use Rattle.dav_engine.specs.Mkcol.{mkcol, create_error}
 use Rattle.dav_engine.specs.Plan.{Done, Ask, Look, Locks, Ran, ran_done, ran_ask, ran_look}
 use Rattle.dav_engine.specs.Put.{PutHeaders, from_end, update_from, update_at, updates, written_by, placed, bounded, bounded_by, writing_of, open_error, put_opening, sought, written, is_announced, unsatisfiable, spans, store, put_allowed, put_body}
@@ -40,22 +40,22 @@ Outcome E P (Ok a) = P a
 Outcome E P (Err e) = E e
 
 -- every outcome of the plan is of this kind, whatever the store answers
-pub data Ends (E : DavError → Type 0) {A : Type 0} (P : A → Type 0) : Method A → Type 0 where
+pub data Ends (E : DavError → Type 0) {A : Type 0} (P : A → Type 0) : MethodPlan A → Type 0 where
   ends_done : {r : Result A DavError} → Outcome E P r → Ends E P (Done r)
-  ends_ask : {c : Call} {go : Result (Answer c) FsError → Method A} → ((answer : Result (Answer c) FsError) → Ends E P (go answer)) → Ends E P (Ask c go)
-  ends_look : {go : Locks → Method A} → ((ls : Locks) → Ends E P (go ls)) → Ends E P (Look go)
+  ends_ask : {c : Call} {go : Result (Answer c) FsError → MethodPlan A} → ((answer : Result (Answer c) FsError) → Ends E P (go answer)) → Ends E P (Ask c go)
+  ends_look : {go : Locks → MethodPlan A} → ((ls : Locks) → Ends E P (go ls)) → Ends E P (Look go)
 
-pub ran_ends : {E : DavError → Type 0} {A : Type 0} {P : A → Type 0} {plan : Method A} {old new : StoreState} {ls ms : Locks} {outcome : Result A DavError}
+pub ran_ends : {E : DavError → Type 0} {A : Type 0} {P : A → Type 0} {plan : MethodPlan A} {old new : StoreState} {ls ms : Locks} {outcome : Result A DavError}
     → Ends E P plan → Ran Asks plan old ls outcome new ms → Outcome E P outcome
 ran_ends (ends_done is) ran_done = is
 ran_ends (ends_ask more) (ran_ask {answer = answer} one rest) = ran_ends (more answer) rest
 ran_ends (ends_look more) (ran_look {ls = ls} rest) = ran_ends (more ls) rest
 
-ends_then : {E : DavError → Type 0} {A B : Type 0} {P : A → Type 0} {Q : B → Type 0} (r : Result A DavError) (f : A → Method B) → Outcome E P r → ((a : A) → P a → Ends E Q (f a)) → Ends E Q (followed_by r f)
+ends_then : {E : DavError → Type 0} {A B : Type 0} {P : A → Type 0} {Q : B → Type 0} (r : Result A DavError) (f : A → MethodPlan B) → Outcome E P r → ((a : A) → P a → Ends E Q (f a)) → Ends E Q (followed_by r f)
 ends_then (Ok a) f is more = more a is
 ends_then (Err e) f is more = ends_done is
 
-ends_bind : {E : DavError → Type 0} {A B : Type 0} {P : A → Type 0} {Q : B → Type 0} {plan : Method A} (f : A → Method B) → Ends E P plan → ((a : A) → P a → Ends E Q (f a)) → Ends E Q (plan >>= f)
+ends_bind : {E : DavError → Type 0} {A B : Type 0} {P : A → Type 0} {Q : B → Type 0} {plan : MethodPlan A} (f : A → MethodPlan B) → Ends E P plan → ((a : A) → P a → Ends E Q (f a)) → Ends E Q (plan >>= f)
 ends_bind f (ends_done {r = r} is) more = ends_then r f is more
 ends_bind f (ends_ask rest) more = ends_ask (λ answer. ends_bind f (rest answer) more)
 ends_bind f (ends_look rest) more = ends_look (λ ls. ends_bind f (rest ls) more)
@@ -116,11 +116,11 @@ ends_item None i = ends_done tt
 ends_item (Some p) (state_token t) = ends_look (λ ls. ends_done tt)
 ends_item (Some p) (entity_tag e) = ends_ask (λ answer. ends_done tt)
 
-ends_while_true : {E : DavError → Type 0} (b : Bool) (next : Method Bool) → Ends E Any next → Ends E Any (while_true b next)
+ends_while_true : {E : DavError → Type 0} (b : Bool) (next : MethodPlan Bool) → Ends E Any next → Ends E Any (while_true b next)
 ends_while_true true next is = is
 ends_while_true false next is = ends_done tt
 
-ends_while_false : {E : DavError → Type 0} (b : Bool) (next : Method Bool) → Ends E Any next → Ends E Any (while_false b next)
+ends_while_false : {E : DavError → Type 0} (b : Bool) (next : MethodPlan Bool) → Ends E Any next → Ends E Any (while_false b next)
 ends_while_false true next is = ends_done tt
 ends_while_false false next is = is
 
@@ -176,7 +176,7 @@ judges_if : {A : Type 0} (b : Bool) (a : A) → Judges (if b then Ok a else Err 
 judges_if true a = tt
 judges_if false a = precondition
 
-ends_unless : {A : Type 0} (status : Option ℕ) (next : Method (Result A ℕ)) → Apart status → Ends IsOther Judges next → Ends IsOther Judges (unless status next)
+ends_unless : {A : Type 0} (status : Option ℕ) (next : MethodPlan (Result A ℕ)) → Apart status → Ends IsOther Judges next → Ends IsOther Judges (unless status next)
 ends_unless (Some status) next other is = ends_done other
 ends_unless None next other is = is
 
@@ -263,7 +263,7 @@ ends_sought None file = ends_done tt
 ends_sought (Some k) file = ends_ask (λ answer.
     ends_then (refused_as (λ e. unsatisfiable) answer) _ (asked_other (λ e. unsatisfiable) (λ e same. absurd (omega (arith, same))) answer) (λ moved any. ends_done tt))
 
-ends_either : {E : DavError → Type 0} {A : Type 0} {P : A → Type 0} (b : Bool) (one other : Method A) → Ends E P one → Ends E P other → Ends E P (if b then one else other)
+ends_either : {E : DavError → Type 0} {A : Type 0} {P : A → Type 0} (b : Bool) (one other : MethodPlan A) → Ends E P one → Ends E P other → Ends E P (if b then one else other)
 ends_either true one other is is' = is
 ends_either false one other is is' = is'
 

@@ -4,7 +4,7 @@ use Rattle.dav_core.specs.declared.errors.DavError.{DavError}
 use Rattle.dav_core.specs.declared.errors.DavError.TheVariants as dav
 use Rattle.dav_core.specs.Asking.{StoreState, Asks}
 use Rattle.dav_engine.specs.Follows.{followed, gave_up, Serves, served, not_begun}
-use Rattle.dav_engine.specs.Method.{Method, fails}
+use Rattle.dav_engine.specs.Method.{MethodPlan, fails}
 use Rattle.dav_engine.specs.Plan.{Plan, Locks, ServerState, Ran, ran_done, ran_ask, ran_look, ran_keep, Cut, refused_done}
 use Rattle.dav_engine.proofs.CutPlans.{cut_refused, cut_ask, cut_look, cut_keep}
 use Rattle.dav_engine.specs.Response.{Response, error_reply}
@@ -26,12 +26,12 @@ use Rattle.dav_server.specs.Server.{Server}
 use Rattle.dav_server.specs.Machine.{client, PlanOf, MeansOf, method, body_for, taken_by, Asked, Settings, Means, Steps, steps, StepCut, untouched, cut}
 
 -- what is served as one kind of plan is served as another that has each of its plans
-pub serves_as : {K J : Method Response → Type 0} {old new : ServerState} {r : Result Response DavError} → ((plan : Method Response) → K plan → J plan) → Serves K old r new → Serves J old r new
+pub serves_as : {K J : MethodPlan Response → Type 0} {old new : ServerState} {r : Result Response DavError} → ((plan : MethodPlan Response) → K plan → J plan) → Serves K old r new → Serves J old r new
 serves_as f (served plan k done) = served plan (f plan k) done
 serves_as f (not_begun is same kept) = not_begun is same kept
 
 -- an error before anything is asked
-pub serves_error : {K : Method Response → Type 0} {s : ServerState} (e : DavError) → K (fails e) → Serves K s (Err e) s
+pub serves_error : {K : MethodPlan Response → Type 0} {s : ServerState} (e : DavError) → K (fails e) → Serves K s (Err e) s
 serves_error e k = served (fails e) k (follows_done refl)
 
 -- a plan that was followed to its end was also begun
@@ -63,7 +63,7 @@ served_err (served plan means (gave_up is' front)) is other = absurd (other (cc)
 served_err (not_begun is' same kept) is other = absurd (other (cc))
 
 -- a plan of a method is one of an equal method
-pub plan_at : {headers : Headers} {p : PathText} {body : Body} {who : Client} {m n : DavMethod} {plan : Method Response} → m ≡ n → PlanOf headers p body who n plan → PlanOf headers p body who m plan
+pub plan_at : {headers : Headers} {p : PathText} {body : Body} {who : Client} {m n : DavMethod} {plan : MethodPlan Response} → m ≡ n → PlanOf headers p body who n plan → PlanOf headers p body who m plan
 plan_at {headers} {p} {body} {who} {plan = plan} same is = subst (λ k. PlanOf headers p body who k plan) (sym same) is
 
 -- what an equal name gives as method
@@ -71,7 +71,7 @@ pub served_at : {text name : List ℕ} (result : Result DavMethod DavError) → 
 served_at result same is = subst (λ t. GivesServed t result) same is
 
 -- a plan with headers is one with equal headers
-pub plan_with : {headers others : Headers} {p : PathText} {body : Body} {who : Client} {m : DavMethod} {plan : Method Response} → others ≡ headers → PlanOf others p body who m plan → PlanOf headers p body who m plan
+pub plan_with : {headers others : Headers} {p : PathText} {body : Body} {who : Client} {m : DavMethod} {plan : MethodPlan Response} → others ≡ headers → PlanOf others p body who m plan → PlanOf headers p body who m plan
 plan_with {p = p} {body} {who} {m} {plan} same is = subst (λ h. PlanOf h p body who m plan) same is
 
 -- what an equal target names below an equal prefix
@@ -91,15 +91,15 @@ any_err (Ok a) p = tt
 any_err (Err e) p = p
 
 -- the same, by equal kinds of plans
-pub serves_by : {K J : Method Response → Type 0} {old new : ServerState} {r : Result Response DavError} → K ≡ J → Serves K old r new → Serves J old r new
-serves_by {old = old} {new} {r} same done = subst (λ (k : Method Response → Type 0). Serves k old r new) same done
+pub serves_by : {K J : MethodPlan Response → Type 0} {old new : ServerState} {r : Result Response DavError} → K ≡ J → Serves K old r new → Serves J old r new
+serves_by {old = old} {new} {r} same done = subst (λ (k : MethodPlan Response → Type 0). Serves k old r new) same done
 
 -- what was served on the state of a server was served on that of an equal one
-pub serves_held : {K : Method Response → Type 0} {one other : Server} {new : ServerState} {r : Result Response DavError}
+pub serves_held : {K : MethodPlan Response → Type 0} {one other : Server} {new : ServerState} {r : Result Response DavError}
     → one ≡ other → Serves K one.state r new → Serves K other.state r new
 serves_held {K} {new = new} {r} same done = subst (λ s. Serves K s.state r new) same done
 
 -- the same, by equal requests
-pub serves_asked : (K : Asked → Method Response → Type 0) {one other : Asked} {old new : ServerState} {r : Result Response DavError}
+pub serves_asked : (K : Asked → MethodPlan Response → Type 0) {one other : Asked} {old new : ServerState} {r : Result Response DavError}
     → one ≡ other → Serves (K one) old r new → Serves (K other) old r new
 serves_asked K {old = old} {new} {r} same done = subst (λ x. Serves (K x) old r new) same done

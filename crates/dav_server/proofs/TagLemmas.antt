@@ -11,7 +11,7 @@ use Rattle.dav_core.specs.World.{World, IsWorld, last_moment}
 use Rattle.dav_engine.specs.declared.request.Body.{Body}
 use Rattle.dav_engine.specs.Client.{Client}
 use Rattle.dav_engine.specs.Headers.{Headers}
-use Rattle.dav_engine.specs.Method.{Method, fails}
+use Rattle.dav_engine.specs.Method.{MethodPlan, fails}
 use Rattle.dav_engine.specs.Plan.{Locks, Ran}
 use Rattle.dav_engine.specs.Response.{Response, reply_to}
 use Rattle.dav_engine.proofs.CallWorlds.{Kept}
@@ -20,7 +20,7 @@ use Rattle.dav_server.specs.Get.{is_get}
 use Rattle.dav_server.specs.Head.{Request}
 use Rattle.dav_server.specs.Machine.{Settings, Asked, PlanOf, gets, heads, puts, patches, makes, not_yet, MeansOf, not_allowed, no_path, no_body, method, Means, no_head, no_method, known, Steps, steps}
 use Rattle.dav_server.specs.Run.{Turn, begun, Runs, no_more, one_more}
-use Rattle.dav_server.specs.TagLaws.{Asks, Shows, ShownIn, AreShowable, TagsTellBytes}
+use Rattle.dav_server.specs.TagLaws.{HasMethod, Shows, ShownIn, AreShowable, TagsTellBytes}
 use Rattle.dav_server.proofs.GetWorld.{Stands, Known, get_shows, error_shows_none, stands_known, known_bytes}
 use Rattle.dav_server.proofs.MeansWorld.{asks_one, begun_world, turn_keeps}
 
@@ -34,7 +34,7 @@ StandsSomewhere w tag bytes = (p : Path) × Stands w p tag bytes
 fails_shows_none : {A : Type 0} (e : DavError) (outcome : Result Response DavError) {old new : StoreState} {ls ms : Locks} (tag bytes : List ℕ) → Ran Asking (fails e) old ls outcome new ms → Shows tag bytes (reply_to outcome) → A
 fails_shows_none e outcome tag bytes ran shows = absurd (error_shows_none e tag bytes (subst (λ o. Shows tag bytes (reply_to o)) (ran_outcome ran) shows))
 
-plan_shows : {headers : Headers} {p : PathText} {body : Body} {who : Client} {m : DavMethod} {plan : Method Response} (outcome : Result Response DavError) {old new : StoreState} {ls ms : Locks} (tag bytes : List ℕ) → m ≡ Get → IsWorld old.world
+plan_shows : {headers : Headers} {p : PathText} {body : Body} {who : Client} {m : DavMethod} {plan : MethodPlan Response} (outcome : Result Response DavError) {old new : StoreState} {ls ms : Locks} (tag bytes : List ℕ) → m ≡ Get → IsWorld old.world
     → PlanOf headers p body who m plan → Ran Asking plan old ls outcome new ms → Shows tag bytes (reply_to outcome) → StandsSomewhere old.world tag bytes
 plan_shows {p = p} {who = who} outcome tag bytes is world (gets (is_get c are)) ran shows = (names p, get_shows c (names p) who.moment outcome tag bytes world ran shows)
 plan_shows outcome tag bytes is world (heads other) ran shows = absurd (cc)
@@ -43,24 +43,24 @@ plan_shows outcome tag bytes is world (patches other) ran shows = absurd (cc)
 plan_shows outcome tag bytes is world (makes other) ran shows = absurd (cc)
 plan_shows outcome tag bytes is world (not_yet out) ran shows = fails_shows_none _ outcome tag bytes ran shows
 
-of_shows : {s : Settings} {x : Asked} {r : Request} {m : DavMethod} {plan : Method Response} (outcome : Result Response DavError) {old new : StoreState} {ls ms : Locks} (tag bytes : List ℕ) → m ≡ Get → IsWorld old.world
+of_shows : {s : Settings} {x : Asked} {r : Request} {m : DavMethod} {plan : MethodPlan Response} (outcome : Result Response DavError) {old new : StoreState} {ls ms : Locks} (tag bytes : List ℕ) → m ≡ Get → IsWorld old.world
     → MeansOf s x r m plan → Ran Asking plan old ls outcome new ms → Shows tag bytes (reply_to outcome) → StandsSomewhere old.world tag bytes
 of_shows outcome tag bytes is world (not_allowed out) ran shows = fails_shows_none _ outcome tag bytes ran shows
 of_shows outcome tag bytes is world (no_path e has none) ran shows = fails_shows_none e outcome tag bytes ran shows
 of_shows outcome tag bytes is world (no_body p e has named bad) ran shows = fails_shows_none e outcome tag bytes ran shows
 of_shows outcome tag bytes is world (method p body has named good plan) ran shows = plan_shows outcome tag bytes is world plan ran shows
 
-means_shows : {s : Settings} (x : Asked) {plan : Method Response} (outcome : Result Response DavError) {old new : StoreState} {ls ms : Locks} (tag bytes : List ℕ) → Asks Get x → IsWorld old.world
+means_shows : {s : Settings} (x : Asked) {plan : MethodPlan Response} (outcome : Result Response DavError) {old new : StoreState} {ls ms : Locks} (tag bytes : List ℕ) → HasMethod Get x → IsWorld old.world
     → Means s x plan → Ran Asking plan old ls outcome new ms → Shows tag bytes (reply_to outcome) → StandsSomewhere old.world tag bytes
 means_shows x outcome tag bytes asks world (no_head out) ran shows = fails_shows_none _ outcome tag bytes ran shows
 means_shows x outcome tag bytes asks world (no_method r e head gives) ran shows = fails_shows_none e outcome tag bytes ran shows
 means_shows x outcome tag bytes asks world (known r n head gives means) ran shows = of_shows outcome tag bytes (asks_one x Get asks head gives) world means ran shows
 
-step_shows : {s : Settings} (x : Asked) {old new : StoreState} {ls ms : Locks} {reply : Response} (tag bytes : List ℕ) → Asks Get x → IsWorld old.world → Steps s x old ls reply new ms → Shows tag bytes reply → StandsSomewhere old.world tag bytes
+step_shows : {s : Settings} (x : Asked) {old new : StoreState} {ls ms : Locks} {reply : Response} (tag bytes : List ℕ) → HasMethod Get x → IsWorld old.world → Steps s x old ls reply new ms → Shows tag bytes reply → StandsSomewhere old.world tag bytes
 step_shows x tag bytes asks world (steps plan outcome means ran) shows = means_shows x outcome tag bytes asks world means ran shows
 
 -- what the GET of a turn shows is in the world before it
-pub turn_shows : {s : Settings} (t : Turn) (old : StoreState) {new : StoreState} {ls ms : Locks} {reply : Response} (tag bytes : List ℕ) → Asks Get t.asked → IsWorld old.world → Steps s t.asked (begun t.refusals old) ls reply new ms → Shows tag bytes reply
+pub turn_shows : {s : Settings} (t : Turn) (old : StoreState) {new : StoreState} {ls ms : Locks} {reply : Response} (tag bytes : List ℕ) → HasMethod Get t.asked → IsWorld old.world → Steps s t.asked (begun t.refusals old) ls reply new ms → Shows tag bytes reply
     → StandsSomewhere old.world tag bytes
 turn_shows t old tag bytes asks world step shows =
     let same = begun_world t.refusals old in
@@ -72,14 +72,14 @@ turn_shows t old tag bytes asks world step shows =
 abbrev pub ShownAmong : List Turn → List Response → List ℕ → List ℕ → Type 0
 ShownAmong [] replies tag bytes = ⊥
 ShownAmong (t ∷ ts) [] tag bytes = ⊥
-ShownAmong (t ∷ ts) (reply ∷ replies) tag bytes = (Asks Get t.asked × Shows tag bytes reply) ⊎ ShownAmong ts replies tag bytes
+ShownAmong (t ∷ ts) (reply ∷ replies) tag bytes = (HasMethod Get t.asked × Shows tag bytes reply) ⊎ ShownAmong ts replies tag bytes
 
 among_at : (ts : List Turn) (replies : List Response) (k : ℕ) (t : Turn) (reply : Response) (tag bytes : List ℕ)
-    → k < length (zip ts replies) → slice_index_or (zip ts replies) k (t, reply) ≡ (t, reply) → Asks Get t.asked → Shows tag bytes reply → ShownAmong ts replies tag bytes
+    → k < length (zip ts replies) → slice_index_or (zip ts replies) k (t, reply) ≡ (t, reply) → HasMethod Get t.asked → Shows tag bytes reply → ShownAmong ts replies tag bytes
 among_at [] replies k t reply tag bytes within is asks shows = absurd (omega (arith, within))
 among_at (u ∷ ts) [] k t reply tag bytes within is asks shows = absurd (omega (arith, within))
 among_at (u ∷ ts) (first ∷ replies) zero t reply tag bytes within is asks shows =
-    inl (subst (λ (v : Turn). Asks Get v.asked) (sym (ap (λ (e : Turn × Response). e.0) is)) asks, subst (Shows tag bytes) (sym (ap (λ (e : Turn × Response). e.1) is)) shows)
+    inl (subst (λ (v : Turn). HasMethod Get v.asked) (sym (ap (λ (e : Turn × Response). e.0) is)) asks, subst (Shows tag bytes) (sym (ap (λ (e : Turn × Response). e.1) is)) shows)
 among_at (u ∷ ts) (first ∷ replies) (suc k) t reply tag bytes within is asks shows = inr (among_at ts replies k t reply tag bytes (omega (arith, within)) is asks shows)
 
 pub shown_among : (ts : List Turn) (replies : List Response) (tag bytes : List ℕ) → ShownIn ts replies tag bytes → ShownAmong ts replies tag bytes
@@ -89,7 +89,7 @@ shown_among ts replies tag bytes (t, reply, (k, within, is), asks, shows) = amon
 pub known_on : (w new : World) (tag bytes : List ℕ) → Kept w new → Known w tag bytes → Known new tag bytes
 known_on w new tag bytes kept is = record { number = is.number; tag_is = is.tag_is; remembered = kept.remembered is.number bytes is.remembered }
 
-pub turn_known : {s : Settings} (t : Turn) (old : StoreState) {new : StoreState} {ls ms : Locks} {reply : Response} (tag bytes : List ℕ) → Asks Get t.asked → IsWorld old.world → Steps s t.asked (begun t.refusals old) ls reply new ms → Shows tag bytes reply
+pub turn_known : {s : Settings} (t : Turn) (old : StoreState) {new : StoreState} {ls ms : Locks} {reply : Response} (tag bytes : List ℕ) → HasMethod Get t.asked → IsWorld old.world → Steps s t.asked (begun t.refusals old) ls reply new ms → Shows tag bytes reply
     → Known old.world tag bytes
 turn_known t old tag bytes asks world step shows =
     let (p, stands) = turn_shows t old tag bytes asks world step shows in

@@ -12,7 +12,7 @@ use Rattle.dav_engine.specs.declared.reply.ReplyBody.TheVariants as reply
 use Rattle.dav_engine.specs.declared.request.DavRequest.{DavRequest}
 use Rattle.dav_engine.specs.Conditions.{Conditions, AreConditions, if_match}
 use Rattle.dav_engine.specs.Headers.{Headers}
-use Rattle.dav_engine.specs.Method.{Method, ◌>>=◌, require, ask_for, gives, fails}
+use Rattle.dav_engine.specs.Method.{MethodPlan, ◌>>=◌, require, ask_for, gives, fails}
 use Rattle.dav_engine.specs.Response.{Response, Header, content_length, tag_headers, last_modified}
 
 -- the headers of a reply about a file with this many bytes
@@ -36,24 +36,24 @@ abbrev pub reading : Opening
 reading = record no_opening { read = true }
 
 -- Answers with the file's bytes: opens the file for reading, and reads as many bytes as its length was reported to be.
-abbrev pub show : Path → ℕ → DavMetaData → Method Response
+abbrev pub show : Path → ℕ → DavMetaData → MethodPlan Response
 show p now found = do
   file ← ask_for (Open p reading now)
   bytes ← ask_for (Read file found.len)
   gives (shown found bytes.0)
 
 -- HEAD reports the file, GET answers with its bytes
-abbrev pub show_or_tell : DavMethod → Path → ℕ → DavMetaData → Method Response
+abbrev pub show_or_tell : DavMethod → Path → ℕ → DavMetaData → MethodPlan Response
 show_or_tell Head p now found = gives (told found)
 show_or_tell _ p now found = show p now found
 
 -- goes on, unless the conditions answer a status
-abbrev pub judged : Option ℕ → DavMetaData → Method Response → Method Response
+abbrev pub judged : Option ℕ → DavMetaData → MethodPlan Response → MethodPlan Response
 judged None found next = next
 judged (Some status) found next = if status == 304 then gives (not_modified found) else fails (dav.Status status)
 
 -- GET and HEAD of p, with what the headers say: 405 for a folder; then the status of the conditions, if they answer one.
-abbrev pub get : DavMethod → Conditions → Path → ℕ → Method Response
+abbrev pub get : DavMethod → Conditions → Path → ℕ → MethodPlan Response
 get m c p now = do
   found ← ask_for (Metadata p)
   _ ← require (not found.dir) (dav.Status 405)
@@ -61,9 +61,9 @@ get m c p now = do
   judged verdict found (show_or_tell m p now found)
 
 -- The plan is that of a GET or HEAD with these headers, of a path, at a moment.
-pub data IsGet (m : DavMethod) (headers : Headers) (p : PathText) (now : ℕ) : Method Response → Type 0 where
+pub data IsGet (m : DavMethod) (headers : Headers) (p : PathText) (now : ℕ) : MethodPlan Response → Type 0 where
   is_get : (c : Conditions) → AreConditions headers p.prefix (names p) c → IsGet m headers p now (get m c (names p) now)
 
 -- the plans of a GET or HEAD, by its moment
-abbrev pub GetOf : DavRequest → ℕ → Method Response → Type 0
+abbrev pub GetOf : DavRequest → ℕ → MethodPlan Response → Type 0
 GetOf request now = IsGet request.method request.headers request.path now

@@ -11,8 +11,8 @@ use Rattle.dav_core.specs.Path.{PathText}
 use Rattle.dav_engine.specs.declared.request.Body.{Body}
 use Rattle.dav_engine.specs.declared.request.Body.TheVariants as body
 use Rattle.dav_engine.specs.Headers.{Headers}
-use Rattle.dav_engine.specs.Method.{Method, fails}
-use Rattle.dav_engine.specs.Plan.{Locks, Step, Ran, Cut}
+use Rattle.dav_engine.specs.Method.{MethodPlan, fails}
+use Rattle.dav_engine.specs.Plan.{Locks, CallStep, Ran, Cut}
 use Rattle.dav_engine.specs.Client.{Client}
 use Rattle.dav_engine.specs.Mkcol.{IsMkcol}
 use Rattle.dav_engine.specs.Put.{IsPut}
@@ -83,35 +83,35 @@ is_done MkCol = true
 is_done _ = false
 
 -- The plan of a method, with its headers, its path and its body. 501 for a method that isn't served yet.
-pub data PlanOf (headers : Headers) (p : PathText) (body : Body) (who : Client) : DavMethod → Method Response → Type 0 where
-  gets : {plan : Method Response} → IsGet Get headers p who.moment plan → PlanOf headers p body who Get plan
-  heads : {plan : Method Response} → IsGet Head headers p who.moment plan → PlanOf headers p body who Head plan
-  puts : {plan : Method Response} → IsPut Put headers p body who plan → PlanOf headers p body who Put plan
-  patches : {plan : Method Response} → IsPut Patch headers p body who plan → PlanOf headers p body who Patch plan
-  makes : {plan : Method Response} → IsMkcol headers p who plan → PlanOf headers p body who MkCol plan
+pub data PlanOf (headers : Headers) (p : PathText) (body : Body) (who : Client) : DavMethod → MethodPlan Response → Type 0 where
+  gets : {plan : MethodPlan Response} → IsGet Get headers p who.moment plan → PlanOf headers p body who Get plan
+  heads : {plan : MethodPlan Response} → IsGet Head headers p who.moment plan → PlanOf headers p body who Head plan
+  puts : {plan : MethodPlan Response} → IsPut Put headers p body who plan → PlanOf headers p body who Put plan
+  patches : {plan : MethodPlan Response} → IsPut Patch headers p body who plan → PlanOf headers p body who Patch plan
+  makes : {plan : MethodPlan Response} → IsMkcol headers p who plan → PlanOf headers p body who MkCol plan
   not_yet : {m : DavMethod} → is_done m ≡ false → PlanOf headers p body who m (fails (dav.Status 501))
 
 -- The plan that a request results in, given what its head says and its method. It is refused, before anything is asked of
 -- the store, for the first of these: 405 for a method that isn't allowed, and the connection closes; then the error of its
 -- target, below the prefix; then the error of its body.
-pub data MeansOf (s : Settings) (x : Asked) (r : Request) (m : DavMethod) : Method Response → Type 0 where
+pub data MeansOf (s : Settings) (x : Asked) (r : Request) (m : DavMethod) : MethodPlan Response → Type 0 where
   not_allowed : ¬ Has s.allowed m → MeansOf s x r m (fails (dav.StatusClose 405))
   no_path : (e : DavError) → Has s.allowed m → TargetNames s.prefix m r.target (Err e) → MeansOf s x r m (fails e)
   no_body : (p : PathText) (e : DavError) → Has s.allowed m → TargetNames s.prefix m r.target (Ok p) → body_for (taken_by m) x.body ≡ Err e → MeansOf s x r m (fails e)
-  method : (p : PathText) (body : Body) {plan : Method Response} → Has s.allowed m → TargetNames s.prefix m r.target (Ok p) → body_for (taken_by m) x.body ≡ Ok body
+  method : (p : PathText) (body : Body) {plan : MethodPlan Response} → Has s.allowed m → TargetNames s.prefix m r.target (Ok p) → body_for (taken_by m) x.body ≡ Ok body
       → PlanOf (headers_of r.fields) p body (client x) m plan → MeansOf s x r m plan
 
 -- The plan that a request results in. 400 for bytes that are no head, and 501 for a method that isn't known; then the plan
 -- with its method.
-pub data Means (s : Settings) (x : Asked) : Method Response → Type 0 where
+pub data Means (s : Settings) (x : Asked) : MethodPlan Response → Type 0 where
   no_head : ((r : Request) → ¬ IsHead x.head r) → Means s x (fails (dav.Status 400))
   no_method : (r : Request) (e : DavError) → IsHead x.head r → GivesServed r.method (Err e) → Means s x (fails e)
-  known : (r : Request) (m : DavMethod) {plan : Method Response} → IsHead x.head r → GivesServed r.method (Ok m) → MeansOf s x r m plan → Means s x plan
+  known : (r : Request) (m : DavMethod) {plan : MethodPlan Response} → IsHead x.head r → GivesServed r.method (Ok m) → MeansOf s x r m plan → Means s x plan
 
 -- One step of the machine over stores that answer each call by this relation: the reply to a request, and the store and the
 -- list of locks that it leaves.
-pub data StepsBy (step : Step) (s : Settings) (x : Asked) (old : StoreState) (ls : Locks) : Response → StoreState → Locks → Type 0 where
-  steps : (plan : Method Response) (outcome : Result Response DavError) {new : StoreState} {ms : Locks}
+pub data StepsBy (step : CallStep) (s : Settings) (x : Asked) (old : StoreState) (ls : Locks) : Response → StoreState → Locks → Type 0 where
+  steps : (plan : MethodPlan Response) (outcome : Result Response DavError) {new : StoreState} {ms : Locks}
       → Means s x plan → Ran step plan old ls outcome new ms → StepsBy step s x old ls (reply_to outcome) new ms
 
 -- one step of the machine over any lawful store
@@ -120,9 +120,9 @@ Steps = StepsBy Asks
 
 -- Memory ran out in a step: nothing was done, or the first calls of its plan were made, each of them whole. The list of
 -- locks is as before, or as the plan leaves it where each later call is refused.
-pub data StepCutBy (step : Step) (s : Settings) (x : Asked) (old : StoreState) (ls : Locks) : StoreState → Locks → Type 0 where
+pub data StepCutBy (step : CallStep) (s : Settings) (x : Asked) (old : StoreState) (ls : Locks) : StoreState → Locks → Type 0 where
   untouched : StepCutBy step s x old ls old ls
-  cut : (plan : Method Response) {new : StoreState} {ms : Locks} → Means s x plan → Cut step ls plan old ls new ms → StepCutBy step s x old ls new ms
+  cut : (plan : MethodPlan Response) {new : StoreState} {ms : Locks} → Means s x plan → Cut step ls plan old ls new ms → StepCutBy step s x old ls new ms
 
 -- the same over any lawful store
 abbrev pub StepCut : Settings → Asked → StoreState → Locks → StoreState → Locks → Type 0

@@ -2,8 +2,8 @@
 use Rattle.std.specs.Prelude.{◌≡◌, ◌++◌, false, List, [], ◌∷◌, All, Option, Some, None}
 use Rattle.dav_core.specs.declared.errors.FsError.{FsError}
 use Rattle.dav_core.specs.Asking.{StoreState, Asks}
-use Rattle.dav_engine.specs.Method.{Method}
-use Rattle.dav_engine.specs.Plan.{Locks, Step}
+use Rattle.dav_engine.specs.MethodPlan.{MethodPlan}
+use Rattle.dav_engine.specs.Plan.{Locks, CallStep}
 use Rattle.dav_engine.specs.Response.{Response}
 use Rattle.dav_server.specs.Machine.{Asked, Settings, Means, StepsBy, StepCutBy}
 
@@ -19,7 +19,7 @@ begun (Some refusals) s = record s { refusals = refusals }
 
 -- A run of the machine over stores that answer each call by this relation: the replies to the requests, one step after
 -- another, and the store and the list of locks that are left.
-pub data RunsBy (step : Step) (s : Settings) : List Turn → StoreState → Locks → List Response → StoreState → Locks → Type 0 where
+pub data RunsBy (step : CallStep) (s : Settings) : List Turn → StoreState → Locks → List Response → StoreState → Locks → Type 0 where
   no_more : {old : StoreState} {ls : Locks} → RunsBy step s [] old ls [] old ls
   one_more : {t : Turn} {ts : List Turn} {old mid new : StoreState} {ls ks ms : Locks} {reply : Response} {replies : List Response}
       → StepsBy step s t.asked (begun t.refusals old) ls reply mid ks → RunsBy step s ts mid ks replies new ms
@@ -31,7 +31,7 @@ Runs = RunsBy Asks
 
 -- These replies, perhaps none, are those of a run of the first requests; in the next one memory ran out, and this store and
 -- this list of locks are left.
-abbrev pub RanInPartBy : Step → Settings → List Turn → StoreState → Locks → List Response → StoreState → Locks → Type 0
+abbrev pub RanInPartBy : CallStep → Settings → List Turn → StoreState → Locks → List Response → StoreState → Locks → Type 0
 RanInPartBy step s ts old ls replies new ms =
     (front : List Turn) × (t : Turn) × (rest : List Turn) × (mid : StoreState) × (ks : Locks)
     × (ts ≡ front ++ t ∷ rest) × RunsBy step s front old ls replies mid ks × StepCutBy step s t.asked (begun t.refusals mid) ks new ms
@@ -63,7 +63,7 @@ RunsJoin =
 
 -- a request that results in a plan
 abbrev pub HasPlan : Settings → Turn → Type 0
-HasPlan s t = (plan : Method Response) × Means s t.asked plan
+HasPlan s t = (plan : MethodPlan Response) × Means s t.asked plan
 
 -- Requests that each result in a plan have a run from every state, in which the store doesn't run out of memory.
 abbrev pub RunsEnd : Type 0

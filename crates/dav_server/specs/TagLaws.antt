@@ -21,8 +21,8 @@ use Rattle.dav_server.specs.Run.{Turn, begun, Runs}
 use Rattle.dav_server.specs.Target.{TargetNames}
 
 -- the head of a request names this method
-abbrev pub Asks : DavMethod → Asked → Type 0
-Asks m x = (r : Request) × IsHead x.head r × GivesServed r.method (Ok m)
+abbrev pub HasMethod : DavMethod → Asked → Type 0
+HasMethod m x = (r : Request) × IsHead x.head r × GivesServed r.method (Ok m)
 
 -- the reply shows these bytes with this entity tag
 pub record Shows (tag bytes : List ℕ) (reply : Response) : Type 0 where
@@ -33,7 +33,7 @@ pub record Shows (tag bytes : List ℕ) (reply : Response) : Type 0 where
 -- a GET among these requests was answered with these bytes and this tag
 abbrev pub ShownIn : List Turn → List Response → List ℕ → List ℕ → Type 0
 ShownIn ts replies tag bytes =
-    (t : Turn) × (reply : Response) × Contains (zip ts replies) (t, reply) × Asks Get t.asked × Shows tag bytes reply
+    (t : Turn) × (reply : Response) × Contains (zip ts replies) (t, reply) × HasMethod Get t.asked × Shows tag bytes reply
 
 -- equal tags show equal bytes, at any paths and moments
 abbrev pub EqualTagsShowEqualBytes : List Turn → List Response → Type 0
@@ -72,7 +72,7 @@ NotModifiedIsTrue =
 abbrev pub ReadingLeaves : Type 0
 ReadingLeaves =
     (s : Settings) (x : Asked) (old new : StoreState) (ls ms : Locks) (reply : Response) (m : DavMethod)
-    → Asks m x → is_reading m ≡ true → Steps s x old ls reply new ms → (new.world ≡ old.world) × (ms ≡ ls)
+    → HasMethod m x → is_reading m ≡ true → Steps s x old ls reply new ms → (new.world ≡ old.world) × (ms ≡ ls)
 
 -- A run that begins with a world ends with one (RFC 4918, section 5.1).
 abbrev pub RunsKeepWorlds : Type 0

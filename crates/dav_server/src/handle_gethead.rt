@@ -5,7 +5,7 @@ ghost use Rattle.dav_core.specs.Path.{names};
 ghost use Rattle.dav_core.specs.World.{last_moment};
 ghost use Rattle.dav_engine.specs.ConditionView.{locks_in};
 ghost use Rattle.dav_engine.specs.Follows.{as_is, Makes, Serves, Heeds};
-ghost use Rattle.dav_engine.specs.Method.{Method};
+ghost use Rattle.dav_engine.specs.MethodPlan.{MethodPlan};
 ghost use Rattle.dav_engine.specs.Response.{Response, headers_in};
 ghost use Rattle.dav_server.specs.Get as spec;
 
@@ -131,7 +131,7 @@ fn show_or_tell<F: DavFileSystem>(
 
 // The outcome of a request whose conditions answer a status.
 fn judged(alloc: Global, status: StatusCode, found: &DavMetaData) -> DavResult<Reply>
-    ensures { (next : Method Response) (s : StoreState)
+    ensures { (next : MethodPlan Response) (s : StoreState)
         → Makes as_is (spec.judged (Some status) found.now next) s result s }
 {
     if status.as_u16() == 304 {

@@ -3,7 +3,7 @@ use Rattle.std.specs.Prelude.{◌≡◌, ℕ, List, Option, Some, None, map, str
 use Rattle.std.specs.List.{position}
 use Rattle.dav_core.specs.Path.{Path}
 use Rattle.std.specs.Option.{option_copied}
-use Rattle.dav_core.specs.Locks.{Lock, Requester as Seen, requester_of, lock_front, is_named}
+use Rattle.dav_core.specs.Locks.{Lock, Requester as Seen, requester_of, lock_front, has_token_at}
 use Rattle.dav_store.specs.declared.memls.Requester.{Requester}
 
 abbrev pub requester_in : Requester → Seen
@@ -12,4 +12,4 @@ requester_in who = requester_of (map string_bytes who.tokens.now) who.ignore_pri
 -- the place in the list of the lock that a token and a path mean; none where they mean none
 abbrev pub IsNamedPlace : List ℕ → Path → List Lock → Option ℕ → Type 0
 IsNamedPlace token p ls None = lock_front token p ls ≡ None
-IsNamedPlace token p ls (Some i) = (q : Path) × (lock_front token p ls ≡ Some q) × (position (is_named token q) ls ≡ Some i)
+IsNamedPlace token p ls (Some i) = (q : Path) × (lock_front token p ls ≡ Some q) × (position (has_token_at token q) ls ≡ Some i)

@@ -3,7 +3,7 @@ ghost use Rattle.std.specs.Prelude.{◌≡◌, ℕ, ◌==◌, ◌↔◌, List, A
 ghost use Rattle.std.specs.List.{position, position_or_len};
 ghost use Rattle.percent_encoding.specs.Percent.{percent_decode};
 ghost use Rattle.dav_core.specs.Path.{Path, parent_piece, IsBarred, joined, path_bytes};
-ghost use Rattle.dav_core.specs.Target.{IsTextByte, IsRooted, IsClosed, text_of, pieces_of};
+ghost use Rattle.dav_core.specs.Target.{IsTextByte, IsRooted, IsClosed, before_query, pieces_of};
 ghost use Rattle.dav_core.specs.Buffer.{Kept, AddsPiece, IsRefusedBy, IsKind, IsLastSlash};
 
 use crate::errors::ParseError;
@@ -104,8 +104,8 @@ pub(super) fn len_before(bytes: &[u8], byte: u8) -> usize
 }
 
 /// What comes before the first `?`.
-pub(super) fn text_of(src: &[u8]) -> &[u8]
-    ensures { result.now ≡ text_of src.now }
+pub(super) fn before_query(src: &[u8]) -> &[u8]
+    ensures { result.now ≡ before_query src.now }
 {
     &src[..len_before(src, b'?')]
 }
@@ -115,7 +115,7 @@ pub(super) fn read_names(alloc: Global, src: &[u8]) -> Result<Vec<u8>, ParseErro
     ensures { MatchResult result (λ buf. Kept (pieces_of src.now) buf.items) (IsRefusedBy (pieces_of src.now)) }
 {
     let mut buf = Vec::new(alloc);
-    for piece in text_of(src).split(|b| *b == b'/') {
+    for piece in before_query(src).split(|b| *b == b'/') {
         add_piece(&mut buf, piece)?;
     }
     Ok(buf)

@@ -18,10 +18,10 @@ loop-piece-preserved c =
 pub returns-in_err-add_piece : goal.returns-in_err-add_piece
 returns-in_err-add_piece c =
     let p = err_from_is_err_and c.from_residual.result c.from_residual.ensures.1 in
-    let parts = turn_parts c.loop-piece.yielded _ c.loop-piece.yielded_by (YieldsList-from_slice_split _ (λ b. eqb b 47) c.text_of.result.now (cc) (cc) (cc) (λ x b q k. search (rules, tests))) _ _ c.in-Some.piece c.in-Some.is c.next.ensures.steps in
-    rw (p.1, p.2) (refused_at c.args.src.now c.text_of.result.now _ parts.0 c.in-Some.piece.now _ _ c.text_of.ensures parts.1 c.loop-piece.invariant (c.in_err-add_piece.ensures _ c.loop-piece.invariant))
+    let parts = turn_parts c.loop-piece.yielded _ c.loop-piece.yielded_by (YieldsList-from_slice_split _ (λ b. eqb b 47) c.before_query.result.now (cc) (cc) (cc) (λ x b q k. search (rules, tests))) _ _ c.in-Some.piece c.in-Some.is c.next.ensures.steps in
+    rw (p.1, p.2) (refused_at c.args.src.now c.before_query.result.now _ parts.0 c.in-Some.piece.now _ _ c.before_query.ensures parts.1 c.loop-piece.invariant (c.in_err-add_piece.ensures _ c.loop-piece.invariant))
 
 pub returns : goal.returns
 returns c =
-    let e = end_parts c.loop-piece.yielded _ c.loop-piece.yielded_by (YieldsList-from_slice_split _ (λ b. eqb b 47) c.text_of.result.now (cc) (cc) (cc) (λ x b q k. search (rules, tests))) _ _ c.in-None.is c.next.ensures.steps in
-    kept_at_end c.args.src.now c.text_of.result.now _ _ c.text_of.ensures e c.loop-piece.invariant
+    let e = end_parts c.loop-piece.yielded _ c.loop-piece.yielded_by (YieldsList-from_slice_split _ (λ b. eqb b 47) c.before_query.result.now (cc) (cc) (cc) (λ x b q k. search (rules, tests))) _ _ c.in-None.is c.next.ensures.steps in
+    kept_at_end c.args.src.now c.before_query.result.now _ _ c.before_query.ensures e c.loop-piece.invariant
