@@ -208,7 +208,8 @@ impl DavPath {
     /// Adds a slash at the end of the path if `wanted`, where there is none. Where memory runs out, the path stays as it
     /// was.
     pub fn add_slash_if(&mut self, wanted: bool) -> Result<(), NoMemory>
-        ensures ok { OnOk result (self.new ≡ (if wanted then with_bytes self.old (with_slash self.old.bytes) else self.old)) }
+        ensures ok { OnOk result (self.new
+            ≡ (if wanted then with_bytes self.old (with_slash self.old.bytes) else self.old)) }
         ensures err { OnErr result (self.new ≡ self.old) }
     {
         if wanted {
@@ -220,7 +221,8 @@ impl DavPath {
     /// Adds a name at the end of the path, after a slash, which is added where the path doesn't end in one. Where memory
     /// runs out, the path stays as it was.
     pub fn push_segment(&mut self, name: &[u8]) -> Result<(), NoMemory>
-        ensures ok { OnOk result (self.new ≡ with_bytes self.old (with_slash self.old.bytes ++ name.now)) }
+        ensures ok { OnOk result (self.new
+            ≡ with_bytes self.old (with_slash self.old.bytes ++ name.now)) }
         ensures err { OnErr result (self.new ≡ self.old) }
     {
         let is_collection = self.is_collection();
@@ -348,7 +350,8 @@ impl<'a> DavPathRef<'a> {
 
     /// The last name; `None` where there is none, and where it isn't UTF-8.
     pub fn file_name(self) -> Option<&'a str>
-        ensures { GivesText (names_of (ref_bytes self.entry) ≢ []) (last_name (ref_bytes self.entry)) result }
+        ensures { GivesText (names_of (ref_bytes self.entry) ≢ [])
+            (last_name (ref_bytes self.entry)) result }
     {
         let Some(name) = self.last_name() else {
             return None;
@@ -448,7 +451,8 @@ fn skip_slashes(bytes: &[u8]) -> &[u8]
 
 // The first name, and what follows it.
 fn next_name(bytes: &[u8]) -> Option<(&[u8], &[u8])>
-    ensures { MatchOption result (names_in bytes.now ≡ []) (λ r. names_in bytes.now ≡ r.0.now ∷ names_in r.1.now) }
+    ensures { MatchOption result (names_in bytes.now ≡ [])
+        (λ r. names_in bytes.now ≡ r.0.now ∷ names_in r.1.now) }
 {
     let bytes = skip_slashes(bytes);
     if bytes.is_empty() {

@@ -96,7 +96,9 @@ impl Element {
     /// 1.0, section 3): where the element has one, the first gets this value, else it is added after the others. The
     /// fields `prefix` and `namespace` stay. Where memory runs out, the element stays as it was.
     pub fn ns(&mut self, prefix: &str, uri: &str) -> Result<(), NoMemory>
-        ensures ok { OnOk result (self.new ≡ with_attributes self.old (set_attribute (xmlns_name prefix.now) uri.now (attributes_of self.old))) }
+        ensures ok { OnOk result (self.new
+            ≡ with_attributes self.old
+            (set_attribute (xmlns_name prefix.now) uri.now (attributes_of self.old))) }
         ensures err { OnErr result (self.new ≡ self.old) }
     {
         let alloc = *self.children.allocator();
@@ -151,7 +153,8 @@ impl Element {
     /// element is then as it was.
     pub fn take_child(&mut self, name: &str) -> Option<Element>
         ensures taken { result ≡ find (is_named name.now) (children_of self.old) }
-        ensures left { self.new ≡ with_children self.old (without_first (is_named name.now) (children_of self.old)) }
+        ensures left { self.new ≡ with_children self.old
+            (without_first (is_named name.now) (children_of self.old)) }
     {
         let index = index_named(&self.children, name)?;
         match self.children.remove(index) {

@@ -35,7 +35,8 @@ impl DavMetaData {
     /// The entity tag (RFC 9110, section 8.8.3): the number in lower-case hexadecimal, in quotes. `None` without a
     /// number.
     pub fn tag(&self, alloc: Global) -> Result<Option<String>, NoMemory>
-        ensures { IfOk result (λ tag. option_map string_bytes tag ≡ option_map tag_of self.now.number) }
+        ensures { IfOk result (λ tag. option_map string_bytes tag
+            ≡ option_map tag_of self.now.number) }
     {
         let Some(number) = self.number else {
             return Ok(None);
@@ -224,7 +225,8 @@ pub trait DavFileSystem {
         now: u64,
     ) -> FsResult<Self::File>
         requires { now ≤ last_moment }
-        ensures { Asks (Open (names path.now) (opening_of options.now) now) (state self.old) (seen handle result) (state self.new) };
+        ensures { Asks (Open (names path.now) (opening_of options.now) now) (state self.old)
+            (seen handle result) (state self.new) };
 
     /// Lists a folder, in the order of the names' bytes. `NotFound`; `Forbidden` for a file.
     fn read_dir(
@@ -233,12 +235,18 @@ pub trait DavFileSystem {
         path: &DavPath,
         meta: ReadDirMeta,
     ) -> FsResult<Vec<Self::Entry>>
-        ensures asks { Asks (ReadDir (names path.now)) (state self.old) (seen (λ entries. map (λ e. (Self.Entry.entry_name e, Self.Entry.entry_dir e)) entries.items) result) (state self.new) }
-        ensures folder { IfOk result (λ entries. All (λ e. Self.Entry.entry_folder e ≡ names path.now) entries.items) };
+        ensures asks { Asks (ReadDir (names path.now)) (state self.old)
+            (seen (λ entries. map
+            (λ e. (Self.Entry.entry_name e, Self.Entry.entry_dir e)) entries.items) result)
+            (state self.new) }
+        ensures folder { IfOk result
+            (λ entries. All (λ e. Self.Entry.entry_folder e ≡ names path.now) entries.items) };
 
     /// The metadata of what is now where an entry was. `NotFound` where nothing is.
     fn entry_metadata(&mut self, entry: &Self::Entry) -> FsResult<DavMetaData>
-        ensures asks { Asks (EntryMetadata (Self.Entry.entry_folder entry.now ++ Self.Entry.entry_name entry.now ∷ [])) (state self.old) result (state self.new) }
+        ensures asks { Asks (EntryMetadata
+            (Self.Entry.entry_folder entry.now ++ Self.Entry.entry_name entry.now ∷ []))
+            (state self.old) result (state self.new) }
         ensures times { IfOk result (λ m. (m.created ≤ last_moment) × (m.modified ≤ last_moment)) };
 
     /// The metadata of what is at a path. `NotFound` where nothing is.
@@ -276,17 +284,21 @@ pub trait DavFileSystem {
     /// `NotFound` without a folder above; `Exists` onto a folder with members.
     fn rename(&mut self, alloc: Global, from: &DavPath, to: &DavPath, now: u64) -> FsResult<()>
         requires { now ≤ last_moment }
-        ensures { Asks (Rename (names from.now) (names to.now) now) (state self.old) result (state self.new) };
+        ensures { Asks (Rename (names from.now) (names to.now) now) (state self.old) result
+            (state self.new) };
 
     /// Copies the bytes and dead properties of a file. `NotFound`; `Forbidden` for a folder, onto itself, and onto a
     /// folder; `NotFound` without a folder above; `GeneralFailure` where no change number is left.
     fn copy(&mut self, alloc: Global, from: &DavPath, to: &DavPath, now: u64) -> FsResult<()>
         requires { now ≤ last_moment }
-        ensures { Asks (Copy (names from.now) (names to.now) now) (state self.old) result (state self.new) };
+        ensures { Asks (Copy (names from.now) (names to.now) now) (state self.old) result
+            (state self.new) };
 
     /// Whether the store has dead properties (RFC 4918, section 4); false where it refuses the call.
     fn have_props(&mut self, path: &DavPath) -> bool
-        ensures { (answer : Result Bool Refusal) × Asks (HaveProps (names path.now)) (state self.old) answer (state self.new) × (result ≡ result_unwrap_or answer false) };
+        ensures { (answer : Result Bool Refusal)
+            × Asks (HaveProps (names path.now)) (state self.old) answer (state self.new)
+            × (result ≡ result_unwrap_or answer false) };
 
     /// Sets properties (`true`) and removes properties (`false`), in their order (RFC 4918, section 9.2). Each is answered
     /// 200, with its name, prefix and namespace and without its element. No namespace and an empty one are the same.
@@ -297,17 +309,20 @@ pub trait DavFileSystem {
         path: &DavPath,
         patches: Vec<(bool, DavProp)>,
     ) -> FsResult<Vec<(StatusCode, DavProp)>>
-        ensures { Asks (PatchProps (names path.now) (map patch_of patches.items)) (state self.old) (seen (λ answers. answers.items) result) (state self.new) };
+        ensures { Asks (PatchProps (names path.now) (map patch_of patches.items)) (state self.old)
+            (seen (λ answers. answers.items) result) (state self.new) };
 
     /// The properties in order of namespace and name, with their elements or without. `NotFound` where nothing is at the
     /// path.
     fn get_props(&mut self, alloc: Global, path: &DavPath, content: bool) -> FsResult<Vec<DavProp>>
-        ensures { Asks (GetProps (names path.now) content) (state self.old) (seen (λ properties. properties.items) result) (state self.new) };
+        ensures { Asks (GetProps (names path.now) content) (state self.old)
+            (seen (λ properties. properties.items) result) (state self.new) };
 
     /// The element of the property of this namespace and name. `NotFound` where nothing is at the path, where it has no
     /// such property, and where that was stored without an element.
     fn get_prop(&mut self, alloc: Global, path: &DavPath, property: &DavProp) -> FsResult<Element>
-        ensures { Asks (GetProp (names path.now) (property_key property.now)) (state self.old) result (state self.new) };
+        ensures { Asks (GetProp (names path.now) (property_key property.now))
+            (state self.old) result (state self.new) };
 
     /// How many bytes are used, and how many there are in all, where that is known (RFC 4331, section 3):
     /// `NotImplemented`.
@@ -316,16 +331,19 @@ pub trait DavFileSystem {
 
     /// Sets when something was last read: `NotImplemented`.
     fn set_accessed(&mut self, path: &DavPath, time: u64) -> FsResult<()>
-        ensures { Asks (SetAccessed (names path.now) time) (state self.old) result (state self.new) };
+        ensures { Asks (SetAccessed (names path.now) time) (state self.old) result
+            (state self.new) };
 
     /// Sets when something was last changed: `NotImplemented`.
     fn set_modified(&mut self, path: &DavPath, time: u64) -> FsResult<()>
-        ensures { Asks (SetModified (names path.now) time) (state self.old) result (state self.new) };
+        ensures { Asks (SetModified (names path.now) time) (state self.old) result
+            (state self.new) };
 
     /// Reads at most `count` bytes, fewer only at the end. `NotFound` where the file was removed; `Forbidden` where it
     /// isn't open for reading.
     fn read_bytes(&mut self, alloc: Global, file: &mut Self::File, count: usize) -> FsResult<Bytes>
-        ensures asks { Asks (Read (handle file.old) count) (state self.old) (seen (λ bytes. (bytes, handle file.new)) result) (state self.new) }
+        ensures asks { Asks (Read (handle file.old) count) (state self.old)
+            (seen (λ bytes. (bytes, handle file.new)) result) (state self.new) }
         ensures err { OnErr result (handle file.new ≡ handle file.old) };
 
     /// Writes bytes. `NotFound` where the file was removed; `Forbidden` where it isn't open for writing; `TooLarge` where
@@ -338,7 +356,8 @@ pub trait DavFileSystem {
         now: u64,
     ) -> FsResult<()>
         requires { now ≤ last_moment }
-        ensures asks { Asks (Write (handle file.old) bytes now) (state self.old) (seen (λ _. handle file.new) result) (state self.new) }
+        ensures asks { Asks (Write (handle file.old) bytes now) (state self.old)
+            (seen (λ _. handle file.new) result) (state self.new) }
         ensures err { OnErr result (handle file.new ≡ handle file.old) };
 
     /// The same with the bytes that a buffer has left.
@@ -350,13 +369,15 @@ pub trait DavFileSystem {
         now: u64,
     ) -> FsResult<()>
         requires { now ≤ last_moment }
-        ensures asks { Asks (Write (handle file.old) (B.unread buf) now) (state self.old) (seen (λ _. handle file.new) result) (state self.new) }
+        ensures asks { Asks (Write (handle file.old) (B.unread buf) now) (state self.old)
+            (seen (λ _. handle file.new) result) (state self.new) }
         ensures err { OnErr result (handle file.new ≡ handle file.old) };
 
     /// Moves the position of the next read or write, and answers the new one. `NotFound` where the file was removed;
     /// `GeneralFailure` before 0 or past 2^64 - 1.
     fn seek(&mut self, file: &mut Self::File, to: SeekFrom) -> FsResult<u64>
-        ensures asks { Asks (Seek (handle file.old) to) (state self.old) (seen (λ place. (place, handle file.new)) result) (state self.new) }
+        ensures asks { Asks (Seek (handle file.old) to) (state self.old)
+            (seen (λ place. (place, handle file.new)) result) (state self.new) }
         ensures err { OnErr result (handle file.new ≡ handle file.old) };
 
     /// Makes sure that everything that was written is kept. `NotFound` where the file was removed.
@@ -366,7 +387,8 @@ pub trait DavFileSystem {
 
     /// The metadata of the file. `NotFound` where it was removed.
     fn file_metadata(&mut self, file: &Self::File) -> FsResult<DavMetaData>
-        ensures asks { Asks (FileMetadata (handle file.now)) (state self.old) result (state self.new) }
+        ensures asks { Asks (FileMetadata (handle file.now)) (state self.old) result
+            (state self.new) }
         ensures times { IfOk result (λ m. (m.created ≤ last_moment) × (m.modified ≤ last_moment)) };
 
     /// Whether the store ever ran out of memory. This makes no call of the store.

@@ -114,9 +114,12 @@ pub fn sets_are_their_methods()
 /// are kept as.
 pub fn constant_sets() -> (DavMethodSet, DavMethodSet, DavMethodSet, DavMethodSet)
     ensures bits { result ≡ (19, 23, 51, 65535) }
-    ensures http_ro { methods_in result.0 ≡ DavMethod.Head ∷ DavMethod.Get ∷ DavMethod.Options ∷ [] }
-    ensures http_rw { methods_in result.1 ≡ DavMethod.Head ∷ DavMethod.Get ∷ DavMethod.Put ∷ DavMethod.Options ∷ [] }
-    ensures webdav_ro { methods_in result.2 ≡ DavMethod.Head ∷ DavMethod.Get ∷ DavMethod.Options ∷ DavMethod.PropFind ∷ [] }
+    ensures http_ro { methods_in result.0
+        ≡ DavMethod.Head ∷ DavMethod.Get ∷ DavMethod.Options ∷ [] }
+    ensures http_rw { methods_in result.1
+        ≡ DavMethod.Head ∷ DavMethod.Get ∷ DavMethod.Put ∷ DavMethod.Options ∷ [] }
+    ensures webdav_ro { methods_in result.2
+        ≡ DavMethod.Head ∷ DavMethod.Get ∷ DavMethod.Options ∷ DavMethod.PropFind ∷ [] }
     ensures webdav_rw { methods_in result.3 ≡ all_methods }
 {
     (

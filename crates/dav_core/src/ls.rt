@@ -108,8 +108,16 @@ pub trait DavLockSystem {
         now: u64,
     ) -> Result<DavLock, LockRefusal>
         requires { IfSome timeout (λ seconds. now + seconds ≤ max_u64) }
-        ensures ok { IfOk result (λ lock. (lock ≡ new_lock token.now path.now (option_copied principal.entry) (option_copied owner.entry) timeout shared deep now) × (is_grantable lock (locks self.old) ≡ true) × (locks self.new ≡ locks self.old ++ lock ∷ [])) }
-        ensures err { IfErr result (λ e. IsRefusedGrant e (is_grantable (new_lock token.now path.now (option_copied principal.entry) (option_copied owner.entry) timeout shared deep now) (locks self.old))) }
+        ensures ok { IfOk result (λ lock.
+            (lock ≡ new_lock token.now path.now (option_copied principal.entry)
+            (option_copied owner.entry) timeout shared deep now)
+            × (is_grantable lock (locks self.old) ≡ true)
+            × (locks self.new ≡ locks self.old ++ lock ∷ [])) }
+        ensures err { IfErr result
+            (λ e. IsRefusedGrant e
+            (is_grantable
+            (new_lock token.now path.now (option_copied principal.entry)
+            (option_copied owner.entry) timeout shared deep now) (locks self.old))) }
         ensures memory { IsErrOf result LockRefusal.Memory
             → is_grantable (new_lock token.now path.now (option_copied principal.entry)
             (option_copied owner.entry) timeout shared deep now) (locks self.old) ≡ true }
@@ -119,8 +127,10 @@ pub trait DavLockSystem {
     /// path or above it the one with the shortest path, and of several with that path the one that was granted first.
     /// `Err` where there is none.
     fn unlock(&mut self, path: &DavPath, token: &str) -> Result<(), ()>
-        ensures ok { OnOk result (unlocked token.now (names path.now) (locks self.old) ≡ Some (locks self.new)) }
-        ensures err { OnErr result ((unlocked token.now (names path.now) (locks self.old) ≡ None) × (locks self.new ≡ locks self.old)) };
+        ensures ok { OnOk result (unlocked token.now (names path.now) (locks self.old)
+            ≡ Some (locks self.new)) }
+        ensures err { OnErr result ((unlocked token.now (names path.now) (locks self.old) ≡ None)
+            × (locks self.new ≡ locks self.old)) };
 
     /// Gives the lock that a token and a path mean, as for `unlock`, a new timeout (RFC 4918, section 9.10.2). `NotThere`
     /// where there is none; `Memory` where there is one, but an allocation fails.
@@ -133,8 +143,13 @@ pub trait DavLockSystem {
         now: u64,
     ) -> Result<DavLock, RefreshRefusal>
         requires { IfSome timeout (λ seconds. now + seconds ≤ max_u64) }
-        ensures ok { IfOk result (λ lock. (option_map (refreshed_lock timeout now) (named_lock token.now (names path.now) (locks self.old)) ≡ Some lock) × (refreshed token.now (names path.now) timeout now (locks self.old) ≡ Some (locks self.new))) }
-        ensures err { IfErr result (λ e. IsRefusedRefresh e (named_lock token.now (names path.now) (locks self.old))) }
+        ensures ok { IfOk result (λ lock.
+            (option_map (refreshed_lock timeout now)
+            (named_lock token.now (names path.now) (locks self.old)) ≡ Some lock)
+            × (refreshed token.now (names path.now) timeout now (locks self.old)
+            ≡ Some (locks self.new))) }
+        ensures err { IfErr result
+            (λ e. IsRefusedRefresh e (named_lock token.now (names path.now) (locks self.old))) }
         ensures memory { IsErrOf result RefreshRefusal.Memory
             → IsSome (named_lock token.now (names path.now) (locks self.old)) }
         ensures same { OnErr result (locks self.new ≡ locks self.old) };
@@ -151,11 +166,13 @@ pub trait DavLockSystem {
         deep: bool,
         tokens: &[String],
     ) -> Result<(), &DavLock>
-        ensures { Checks deep (requester_of (map string_bytes tokens.now) ignore_principal (option_copied principal.entry)) (names path.now) (locks self.now) (lent result) };
+        ensures { Checks deep (requester_of (map string_bytes tokens.now) ignore_principal
+            (option_copied principal.entry)) (names path.now) (locks self.now) (lent result) };
 
     /// The locks that cover a path, the shortest path first, and of one path the first that was granted.
     fn discover(&self, alloc: Global, path: &DavPath) -> Result<Vec<DavLock>, NoMemory>
-        ensures { IfOk result (λ found. found.items ≡ discovered (names path.now) (locks self.now)) };
+        ensures { IfOk result (λ found. found.items
+            ≡ discovered (names path.now) (locks self.now)) };
 
     /// Ends all locks at a path and below it. It is always `Ok`.
     fn delete(&mut self, path: &DavPath) -> Result<(), ()>

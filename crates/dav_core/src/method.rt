@@ -201,7 +201,8 @@ impl DavMethodSet {
 
     /// The set of the methods that are named, ASCII case ignored. `InvalidMethod` where a text is no method's name.
     pub fn from_vec(names: &[&str]) -> Result<DavMethodSet, InvalidMethod>
-        ensures { MatchResult result (IsNamedSet (texts_of names.now)) (λ _. ¬ (All IsMethodName (texts_of names.now))) }
+        ensures { MatchResult result (IsNamedSet (texts_of names.now))
+            (λ _. ¬ (All IsMethodName (texts_of names.now))) }
     {
         let mut set = DavMethodSet::none();
         for name in names {

@@ -279,7 +279,8 @@ fn store<F: DavFileSystem>(
     found: bool,
 ) -> DavResult<Reply>
     requires { now ≤ last_moment }
-    ensures { Makes as_is (spec.store (opening_of options.now) place (names path.now) bytes.now now found)
+    ensures { Makes as_is (spec.store (opening_of options.now) place
+        (names path.now) bytes.now now found)
         (F.state fs.old) result (F.state fs.new) }
 {
     let mut file = match fs.open(alloc, path, options, now) {

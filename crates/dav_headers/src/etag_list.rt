@@ -166,7 +166,8 @@ fn push_tags(alloc: Global, tags: &mut Vec<ETag>, text: &str) -> Result<(), NoMe
 
 // Each tag as text.
 fn texts(alloc: Global, tags: &[ETag]) -> Result<Vec<String>, NoMemory>
-    ensures { IfOk result (λ texts. map string_bytes texts.items ≡ map (λ t. tag_text t.weak t.tag) tags.now) }
+    ensures { IfOk result (λ texts. map string_bytes texts.items
+        ≡ map (λ t. tag_text t.weak t.tag) tags.now) }
 {
     let mut texts = Vec::new(alloc);
     for tag in tags {

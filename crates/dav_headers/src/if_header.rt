@@ -124,7 +124,8 @@ impl Clone for If {
 // The lists that a text is.
 fn read(alloc: Global, text: &[u8]) -> Result<If, HeaderError>
     ensures ok { IfOk result (λ x. IsIf text.now (if_lists x)) }
-    ensures invalid { IsErrOf result HeaderError.Invalid → (ls : List ConditionList) → ¬ IsIf text.now ls }
+    ensures invalid { IsErrOf result HeaderError.Invalid → (ls : List ConditionList)
+        → ¬ IsIf text.now ls }
     ensures memory { IsErrOf result HeaderError.Memory → (ts : List Token) × Spells text.now ts }
 {
     let parts = parts_of(alloc, text)?;

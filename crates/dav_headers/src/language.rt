@@ -129,7 +129,8 @@ impl Clone for ContentLanguage {
 
 // A copy of the texts.
 fn copied(items: &Vec<String>) -> Result<Vec<String>, NoMemory>
-    ensures { IfOk result (λ copies. map string_bytes copies.items ≡ map string_bytes items.now.items) }
+    ensures { IfOk result (λ copies. map string_bytes copies.items
+        ≡ map string_bytes items.now.items) }
 {
     let mut copies = Vec::with_capacity(*items.allocator(), items.len())?;
     for item in items {

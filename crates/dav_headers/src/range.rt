@@ -72,7 +72,8 @@ impl XUpdateRange {
 fn dash_parts(text: &str) -> Option<(&str, &str)>
     ensures found { IfSome result (λ p. (range : List ℕ)
         × (text.now ≡ codes "bytes=" ++ range) × IsCut 45 range p.0.now p.1.now) }
-    ensures none { IfNone result ((from to : List ℕ) → text.now ≢ codes "bytes=" ++ (from ++ 45 ∷ to)) }
+    ensures none { IfNone result
+        ((from to : List ℕ) → text.now ≢ codes "bytes=" ++ (from ++ 45 ∷ to)) }
 {
     cut(text.strip_prefix("bytes=")?, '-')
 }
@@ -133,7 +134,8 @@ impl ContentRange {
     }
 
     fn text(&self, alloc: Global) -> Result<String, NoMemory>
-        ensures { IfOk result (λ s. string_bytes s ≡ content_range_text self.now.bounds self.now.length) }
+        ensures { IfOk result (λ s. string_bytes s
+            ≡ content_range_text self.now.bounds self.now.length) }
     {
         match (self.bounds, self.length) {
             (Some((first, last)), Some(length)) => format!(in alloc;
@@ -150,7 +152,8 @@ impl ContentRange {
 fn slash_parts(text: &str) -> Option<(&str, &str)>
     ensures found { IfSome result (λ p. (range : List ℕ)
         × (text.now ≡ codes "bytes " ++ range) × IsCut 47 range p.0.now p.1.now) }
-    ensures none { IfNone result ((range size : List ℕ) → text.now ≢ codes "bytes " ++ (range ++ 47 ∷ size)) }
+    ensures none { IfNone result
+        ((range size : List ℕ) → text.now ≢ codes "bytes " ++ (range ++ 47 ∷ size)) }
 {
     cut(text.strip_prefix("bytes ")?, '/')
 }

@@ -94,7 +94,8 @@ fn time_type(element: &str) -> Option<DavTimeout>
 
 // Each TimeType as text.
 fn texts(alloc: Global, time_types: &[DavTimeout]) -> Result<Vec<String>, NoMemory>
-    ensures { IfOk result (λ texts. map string_bytes texts.items ≡ map time_type_text time_types.now) }
+    ensures { IfOk result (λ texts. map string_bytes texts.items
+        ≡ map time_type_text time_types.now) }
 {
     let mut texts = Vec::new(alloc);
     for time_type in time_types {

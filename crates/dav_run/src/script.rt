@@ -203,7 +203,8 @@ fn read_method_list(alloc: Global, list: &[Value]) -> Result<DavMethodSet, Scrip
 
 // The texts in a list.
 fn read_names(alloc: Global, list: &[Value]) -> Result<Vec<&str>, ScriptError>
-    ensures ok { IfOk result (λ names. AreItems IsText (items_view list.now) (texts_of names.items)) }
+    ensures ok { IfOk result (λ names. AreItems IsText (items_view list.now)
+        (texts_of names.items)) }
     ensures none { IsErrOf result NotScript
         → (names : List (List ℕ)) → ¬ AreItems IsText (items_view list.now) names }
 {
@@ -266,7 +267,8 @@ fn read_request(alloc: Global, value: &Value) -> Result<Request, ScriptError>
 // The bytes of a head: those of a text, or those whose digits are in the one member `hex`.
 fn read_head(alloc: Global, value: &Value) -> Result<Vec<u8>, ScriptError>
     ensures ok { IfOk result (λ bytes. IsHeadText (view value.now) bytes.items) }
-    ensures none { IsErrOf result NotScript → (bytes : List ℕ) → ¬ IsHeadText (view value.now) bytes }
+    ensures none { IsErrOf result NotScript → (bytes : List ℕ)
+        → ¬ IsHeadText (view value.now) bytes }
 {
     if value.is_string() {
         return read_text(alloc, value);
@@ -352,7 +354,8 @@ fn read_refusal_list(alloc: Global, list: &[Value]) -> Result<Vec<Option<FsError
 // What happens to one store call: null lets it through, and the name of an error refuses it with that.
 fn read_refusal(value: &Value) -> Result<Option<FsError>, ScriptError>
     ensures ok { IfOk result (IsRefusal (view value.now)) }
-    ensures none { OnErr result ((refusal : Option FsError) → ¬ IsRefusal (view value.now) refusal) }
+    ensures none { OnErr result
+        ((refusal : Option FsError) → ¬ IsRefusal (view value.now) refusal) }
     ensures err { IsOkUnless result NotScript }
 {
     if value.is_null() {

@@ -47,7 +47,8 @@ fn attribute_values(
     alloc: Global,
     attributes: &[(String, String)],
 ) -> Result<Vec<Value>, AllocError>
-    ensures { IfOk result (λ values. map view values.items ≡ map attribute_data (map attribute_bytes attributes.now)) }
+    ensures { IfOk result (λ values. map view values.items
+        ≡ map attribute_data (map attribute_bytes attributes.now)) }
 {
     let mut values = Vec::with_capacity(alloc, attributes.len())?;
     for (name, value) in attributes {
@@ -66,7 +67,8 @@ fn attribute_value(alloc: Global, name: &str, value: &str) -> Result<Value, Allo
 // Children, in order.
 #[cycle(trees)]
 fn child_values(alloc: Global, children: &[XmlNode]) -> Result<Vec<Value>, AllocError>
-    ensures { IfOk result (λ values. items_view values.items ≡ children_data (trees (map node_tree children.now))) }
+    ensures { IfOk result (λ values. items_view values.items
+        ≡ children_data (trees (map node_tree children.now))) }
 {
     let mut values = Vec::with_capacity(alloc, children.len())?;
     for child in children {

@@ -53,7 +53,8 @@ impl<F: DavFileSystem> Refusing<F> {
     /// Puts a list in place of the one that was loaded before, of which nothing is left. Allocates nothing.
     pub fn load(&mut self, refusals: Vec<Option<FsError>>)
         ensures value { self.new ≡ record self.old { coming = refusals.items } }
-        ensures state { ⟦<Refusing<F> as DavFileSystem>⟧.state self.new ≡ behind refusals.items (F.state self.old.inner) }
+        ensures state { ⟦<Refusing<F> as DavFileSystem>⟧.state self.new
+            ≡ behind refusals.items (F.state self.old.inner) }
     {
         self.refusals = Some(refusals);
         self.at = 0;

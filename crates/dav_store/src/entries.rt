@@ -172,7 +172,8 @@ fn grafted_keys(
     from: &DavPath,
     to: &DavPath,
 ) -> Result<Vec<Names>, NoMemory>
-    ensures { IfOk result (λ keys. keys.items ≡ map (λ e. e.0) (graft (names from.now) (names to.now) entries.now)) }
+    ensures { IfOk result (λ keys. keys.items
+        ≡ map (λ e. e.0) (graft (names from.now) (names to.now) entries.now)) }
 {
     let mut keys = Vec::new(alloc);
     for e in entries {
@@ -193,13 +194,17 @@ fn part(
     kept: &mut Vec<(Names, Node)>,
     moving: &mut Vec<(Names, Node)>,
 )
-    requires keys { reverse keys.old.items ≡ map (λ e. e.0) (graft (names from.now) (names to.now) (reverse old.old.items)) }
+    requires keys { reverse keys.old.items
+        ≡ map (λ e. e.0) (graft (names from.now) (names to.now) (reverse old.old.items)) }
     requires kept_room { vec_len kept.old + vec_len old.old ≤ vec_capacity kept.old }
     requires moving_room { vec_len moving.old + vec_len keys.old ≤ vec_capacity moving.old }
-    ensures kept { kept.new.items ≡ kept.old.items ++ prune (names to.now) (prune (names from.now) (reverse old.old.items)) }
-    ensures moving { moving.new.items ≡ moving.old.items ++ graft (names from.now) (names to.now) (reverse old.old.items) }
+    ensures kept { kept.new.items ≡ kept.old.items ++ prune (names to.now)
+        (prune (names from.now) (reverse old.old.items)) }
+    ensures moving { moving.new.items ≡ moving.old.items ++ graft (names from.now) (names to.now)
+        (reverse old.old.items) }
     ensures kept_capacity { vec_capacity kept.old ≤ vec_capacity kept.new }
-    ensures count { vec_len kept.new + vec_len moving.new ≤ vec_len kept.old + vec_len moving.old + vec_len old.old }
+    ensures count { vec_len kept.new + vec_len moving.new
+        ≤ vec_len kept.old + vec_len moving.old + vec_len old.old }
 {
     while let Some((path, node)) = old.pop() {
         if path.are_at_or_below(from) {
@@ -219,7 +224,8 @@ pub fn move_nodes(
     from: &DavPath,
     to: &DavPath,
 ) -> Result<(), NoMemory>
-    ensures ok { OnOk result (entries.new.items ≡ moved (names from.now) (names to.now) entries.old.items) }
+    ensures ok { OnOk result (entries.new.items
+        ≡ moved (names from.now) (names to.now) entries.old.items) }
     ensures err { OnErr result (entries.new.items ≡ entries.old.items) }
 {
     let mut keys = grafted_keys(alloc, entries, from, to)?;
@@ -242,7 +248,8 @@ pub fn add_node(
     now: u64,
 ) -> Result<(), NoMemory>
     requires { now ≤ last_moment }
-    ensures ok { OnOk result (entries.new.items ≡ touched (names path.now) now (put path_cmp (names path.now) node entries.old.items)) }
+    ensures ok { OnOk result (entries.new.items
+        ≡ touched (names path.now) now (put path_cmp (names path.now) node entries.old.items)) }
     ensures err { OnErr result (entries.new.items ≡ entries.old.items) }
 {
     let key = Names::of(alloc, path)?;
@@ -254,7 +261,8 @@ pub fn add_node(
 
 // The place of the file that was created under this change number.
 fn made_place(entries: &[(Names, Node)], made: u64) -> Option<usize>
-    ensures { result ≡ position (λ e. (e.1.made == made) && not (is_folder_kind e.1.kind)) entries.now }
+    ensures { result ≡ position
+        (λ e. (e.1.made == made) && not (is_folder_kind e.1.kind)) entries.now }
 {
     entries.iter().position(|e| e.1.is_file_made_with(made))
 }
@@ -282,7 +290,8 @@ pub fn write_file_made_with(
     requires some { chunk.now ≢ [] }
     requires fits { place + length chunk.now ≤ max_file_len }
     requires now { now ≤ last_moment }
-    ensures ok { OnOk result (entries.new ≡ change_node (is_file_made_with made) (written place chunk.now number now) entries.old) }
+    ensures ok { OnOk result (entries.new
+        ≡ change_node (is_file_made_with made) (written place chunk.now number now) entries.old) }
     ensures err { OnErr result (entries.new ≡ entries.old) }
 {
     if let Some(i) = made_place(entries, made) {
@@ -293,7 +302,9 @@ pub fn write_file_made_with(
 
 /// Gives the file at a path all that a copy has; it stays the node that it was.
 pub fn copy_over(entries: &mut [(Names, Node)], path: &DavPath, copy: Node)
-    ensures { (source : Seen) (number now : ℕ) → copy ≡ record (fresh number source.kind now) { properties = source.properties } → entries.new ≡ adjust (names path.now) (copied_over source number now) entries.old }
+    ensures { (source : Seen) (number now : ℕ) → copy
+        ≡ record (fresh number source.kind now) { properties = source.properties } → entries.new
+        ≡ adjust (names path.now) (copied_over source number now) entries.old }
 {
     if let Some(i) = place(entries, path) {
         entries[i].1.become_like(copy);
@@ -302,7 +313,9 @@ pub fn copy_over(entries: &mut [(Names, Node)], path: &DavPath, copy: Node)
 
 /// Replaces the properties of the node at a path, by its own after some changes.
 pub fn set_properties_at(entries: &mut [(Names, Node)], path: &DavPath, properties: Properties)
-    ensures { (n : Seen) (patches : List Patch) → find path_cmp (names path.now) entries.old ≡ Some n → properties ≡ patched patches n.properties → entries.new ≡ adjust (names path.now) (repatched patches) entries.old }
+    ensures { (n : Seen) (patches : List Patch) → find path_cmp (names path.now) entries.old
+        ≡ Some n → properties ≡ patched patches n.properties → entries.new
+        ≡ adjust (names path.now) (repatched patches) entries.old }
 {
     if let Some(i) = place(entries, path) {
         entries[i].1.set_properties(properties);

@@ -132,8 +132,10 @@ pub struct MemEntry {
 
 // The entries of a folder, in order.
 fn list(alloc: Global, entries: &[(Names, Node)], path: &DavPath) -> Result<Vec<MemEntry>, NoMemory>
-    ensures members { IfOk result (λ list. map (λ e. (e.name, e.dir)) list.items ≡ members (names path.now) entries.now) }
-    ensures folder { IfOk result (λ list. map (λ e. e.folder) list.items ≡ map (λ _. names path.now) list.items) }
+    ensures members { IfOk result (λ list. map (λ e. (e.name, e.dir)) list.items
+        ≡ members (names path.now) entries.now) }
+    ensures folder { IfOk result
+        (λ list. map (λ e. e.folder) list.items ≡ map (λ _. names path.now) list.items) }
 {
     let mut list = Vec::new(alloc);
     for e in entries {
@@ -150,7 +152,8 @@ fn list(alloc: Global, entries: &[(Names, Node)], path: &DavPath) -> Result<Vec<
 
 // Whether something is directly below a path.
 fn any_below(entries: &[(Names, Node)], path: &DavPath) -> bool
-    ensures { result ≡ list_any (λ e. is_some (only_name (rest_after (names path.now) e.0))) entries.now }
+    ensures { result ≡ list_any
+        (λ e. is_some (only_name (rest_after (names path.now) e.0))) entries.now }
 {
     entries.iter().any(|e| e.0.name_below(path).is_some())
 }
@@ -168,7 +171,9 @@ fn properties_after(
     properties: &Properties,
     patches: Vec<(bool, DavProp)>,
 ) -> Result<(Properties, Vec<(StatusCode, DavProp)>), NoMemory>
-    ensures { IfOk result (λ r. (r.0 ≡ patched (map patch_of patches.items) properties.now) × (r.1.items ≡ map (λ patch. (200, without_xml (patched_property patch))) (map patch_of patches.items))) }
+    ensures { IfOk result (λ r. (r.0 ≡ patched (map patch_of patches.items) properties.now)
+        × (r.1.items ≡ map (λ patch. (200, without_xml (patched_property patch)))
+        (map patch_of patches.items))) }
 {
     let mut properties = properties.clone()?;
     let answers = properties.patch(alloc, patches)?;
@@ -208,7 +213,13 @@ impl MemFs {
     fn put_copy(&mut self, alloc: Global, to: &DavPath, copy: Node, now: u64) -> FsResult<()>
         requires now { now ≤ last_moment }
         requires next { self.old.world.next < last_number }
-        ensures { (source : Seen) → copy ≡ record (fresh self.old.world.next source.kind now) { properties = source.properties } → Answers (Ok (tt, with_copy self.old.world (names to.now) source (node_at self.old.world (names to.now)) now)) result self.old self.new }
+        ensures { (source : Seen) → copy
+            ≡ record (fresh self.old.world.next source.kind now) { properties = source.properties }
+            → Answers (Ok (
+              tt,
+              with_copy self.old.world (names to.now) source
+                  (node_at self.old.world (names to.now)) now,
+            )) result self.old self.new }
     {
         match entries::node_at(&self.entries, to) {
             Some(_) => {
@@ -231,7 +242,10 @@ impl MemFs {
     fn open_found(&mut self, path: &DavPath, options: &OpenOptions, now: u64) -> FsResult<MemFile>
         requires now { now ≤ last_moment }
         requires found { IsSome (node_at self.old.world (names path.now)) }
-        ensures { IfSome (node_at self.old.world (names path.now)) (λ n. AnswersExactly (open_found self.old.world (names path.now) (opening_of options.now) now n) result self.old self.new) }
+        ensures { IfSome (node_at self.old.world (names path.now))
+            (λ n. AnswersExactly
+            (open_found self.old.world (names path.now) (opening_of options.now) now n) result
+            self.old self.new) }
     {
         let Some(node) = entries::node_at(&self.entries, path) else {
             return Err(FsError::NotFound);
@@ -263,7 +277,8 @@ impl MemFs {
         now: u64,
     ) -> FsResult<MemFile>
         requires { now ≤ last_moment }
-        ensures { Answers (open_missing self.old.world (names path.now) (opening_of options.now) now) result self.old self.new }
+        ensures { Answers (open_missing self.old.world (names path.now)
+            (opening_of options.now) now) result self.old self.new }
     {
         if !options.create && !options.create_new {
             return Err(FsError::NotFound);
@@ -293,7 +308,8 @@ impl MemFs {
         now: u64,
     ) -> FsResult<()>
         requires { now ≤ last_moment }
-        ensures answers { Answers (write_bytes self.old.world file.old chunk.now now) (seen (λ _. file.new) result) self.old self.new }
+        ensures answers { Answers (write_bytes self.old.world file.old chunk.now now)
+            (seen (λ _. file.new) result) self.old self.new }
         ensures err { OnErr result (file.new ≡ file.old) }
     {
         let Some(node) = entries::file_made_with(&self.entries, file.made) else {
@@ -332,7 +348,8 @@ impl MemFs {
 
     // Why a write of so many bytes is refused; `None` where no rule refuses it.
     fn write_refusal(&self, file: &MemFile, len: usize) -> Option<FsError>
-        ensures { (bytes : List ℕ) (now : ℕ) → length bytes ≡ len → result ≡ refusal_in (write_bytes self.now.world file.now bytes now) }
+        ensures { (bytes : List ℕ) (now : ℕ) → length bytes ≡ len → result
+            ≡ refusal_in (write_bytes self.now.world file.now bytes now) }
     {
         let Some(node) = entries::file_made_with(&self.entries, file.made) else {
             return Some(FsError::NotFound);

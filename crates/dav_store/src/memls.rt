@@ -69,7 +69,8 @@ struct Requester<'a> {
 
 // Whether a lock has this principal, or the principal is ignored.
 fn is_of(lock: &DavLock, principal: Option<&str>, ignore_principal: bool) -> bool
-    ensures { result ≡ is_of (requester_of [] ignore_principal (option_copied principal.entry)).principal lock.now }
+    ensures { result ≡ is_of (requester_of [] ignore_principal
+        (option_copied principal.entry)).principal lock.now }
 {
     ignore_principal || lock.principal.as_deref() == principal
 }
@@ -83,7 +84,8 @@ fn is_held(lock: &DavLock, who: Requester<'_>) -> bool
 
 // Whether the requester holds some lock that covers a path.
 fn any_held(locks: &[DavLock], path: &DavPath, who: Requester<'_>) -> bool
-    ensures { result ≡ list_any (λ l. covers l (names path.now) && is_held (requester_in who.entry) l) locks.now }
+    ensures { result ≡ list_any
+        (λ l. covers l (names path.now) && is_held (requester_in who.entry) l) locks.now }
 {
     locks.iter().any(|l| covers(l, path) && is_held(l, who))
 }
@@ -96,7 +98,9 @@ fn conflicts(
     deep: bool,
     some_held: bool,
 ) -> bool
-    ensures { result ≡ (not (is_held (requester_in who.entry) lock.now) && ((covers lock.now (names path.now) && (not lock.now.shared || not some_held)) || (deep && is_at_or_under (names lock.now.path) (names path.now)))) }
+    ensures { result ≡ (not (is_held (requester_in who.entry) lock.now)
+        && ((covers lock.now (names path.now) && (not lock.now.shared || not some_held))
+        || (deep && is_at_or_under (names lock.now.path) (names path.now)))) }
 {
     !is_held(lock, who)
         && (covers(lock, path) && (!lock.shared || !some_held)
@@ -111,7 +115,9 @@ fn conflict_place(
     deep: bool,
     some_held: bool,
 ) -> Option<usize>
-    ensures { result ≡ position (λ l. not (is_held (requester_in who.entry) l) && ((covers l (names path.now) && (not l.shared || not some_held)) || (deep && is_at_or_under (names l.path) (names path.now)))) locks.now }
+    ensures { result ≡ position (λ l. not (is_held (requester_in who.entry) l)
+        && ((covers l (names path.now) && (not l.shared || not some_held))
+        || (deep && is_at_or_under (names l.path) (names path.now)))) locks.now }
 {
     locks
         .iter()
@@ -125,7 +131,10 @@ fn conflict_in<'a>(
     who: Requester<'_>,
     deep: bool,
 ) -> Option<&'a DavLock>
-    ensures { MatchOption result (is_free_for deep (requester_in who.entry) (names path.now) locks.now ≡ true) (λ l. Contains locks.now l.now × (conflicts deep (requester_in who.entry) (names path.now) locks.now l.now ≡ true)) }
+    ensures { MatchOption result
+        (is_free_for deep (requester_in who.entry) (names path.now) locks.now ≡ true)
+        (λ l. Contains locks.now l.now
+        × (conflicts deep (requester_in who.entry) (names path.now) locks.now l.now ≡ true)) }
 {
     let some_held = any_held(locks, path, who);
     match conflict_place(locks, path, who, deep, some_held) {
@@ -151,7 +160,9 @@ fn check_in<'a>(
 
 // The place of the first lock that has this token and is on the first so many names of a path.
 fn named_at(locks: &[DavLock], path: &DavPath, token: &str, len: usize) -> Option<usize>
-    ensures { result ≡ position (λ l. bytes_eq l.token token.now && is_same_path (names l.path) (take len (names path.now))) locks.now }
+    ensures { result ≡ position
+        (λ l. bytes_eq l.token token.now && is_same_path (names l.path) (take len (names path.now)))
+        locks.now }
 {
     locks.iter().position(|l| l.token.as_str() == token && paths::is_front(&l.path, path, len))
 }
@@ -177,7 +188,8 @@ fn drop_below(locks: &mut Vec<DavLock>, path: &DavPath)
 
 // Whether some lock that covers a path excludes a new one there: all but two shared locks exclude each other.
 fn any_excludes(locks: &[DavLock], path: &DavPath, shared: bool) -> bool
-    ensures { result ≡ list_any (λ l. covers l (names path.now) && not (l.shared && shared)) locks.now }
+    ensures { result ≡ list_any
+        (λ l. covers l (names path.now) && not (l.shared && shared)) locks.now }
 {
     locks
         .iter()
@@ -193,7 +205,9 @@ fn any_below(locks: &[DavLock], path: &DavPath) -> bool
 
 // Whether some lock conflicts with a new one.
 fn any_refuses(locks: &[DavLock], path: &DavPath, shared: bool, deep: bool) -> bool
-    ensures { result ≡ (list_any (λ l. covers l (names path.now) && not (l.shared && shared)) locks.now || (deep && list_any (λ l. is_under (names l.path) (names path.now)) locks.now)) }
+    ensures { result ≡ (list_any
+        (λ l. covers l (names path.now) && not (l.shared && shared)) locks.now
+        || (deep && list_any (λ l. is_under (names l.path) (names path.now)) locks.now)) }
 {
     any_excludes(locks, path, shared) || deep && any_below(locks, path)
 }
@@ -242,7 +256,9 @@ fn new_lock(
     now: u64,
 ) -> Result<DavLock, NoMemory>
     requires { IfSome timeout (λ seconds. now + seconds ≤ max_u64) }
-    ensures { IfOk result (λ lock. lock ≡ new_lock token.now path.now (option_copied principal.entry) (option_copied owner.entry) timeout shared deep now) }
+    ensures { IfOk result (λ lock. lock
+        ≡ new_lock token.now path.now (option_copied principal.entry)
+        (option_copied owner.entry) timeout shared deep now) }
 {
     Ok(DavLock {
         token: String::from_str(alloc, token)?,
@@ -268,8 +284,10 @@ fn keep(locks: &mut Vec<DavLock>, lock: DavLock) -> Result<DavLock, NoMemory>
 
 // Drops the lock that a token and a path mean.
 fn unlock_in(locks: &mut Vec<DavLock>, path: &DavPath, token: &str) -> Result<(), ()>
-    ensures ok { OnOk result (unlocked token.now (names path.now) locks.old.items ≡ Some locks.new.items) }
-    ensures err { OnErr result ((unlocked token.now (names path.now) locks.old.items ≡ None) × (locks.new.items ≡ locks.old.items)) }
+    ensures ok { OnOk result (unlocked token.now (names path.now) locks.old.items
+        ≡ Some locks.new.items) }
+    ensures err { OnErr result ((unlocked token.now (names path.now) locks.old.items ≡ None)
+        × (locks.new.items ≡ locks.old.items)) }
 {
     match named_place(locks, path, token) {
         None => Err(()),
@@ -298,8 +316,13 @@ fn refresh_in(
     now: u64,
 ) -> Result<DavLock, RefreshRefusal>
     requires { IfSome timeout (λ seconds. now + seconds ≤ max_u64) }
-    ensures ok { IfOk result (λ lock. (option_map (refreshed_lock timeout now) (named_lock token.now (names path.now) locks.old.items) ≡ Some lock) × (refreshed token.now (names path.now) timeout now locks.old.items ≡ Some locks.new.items)) }
-    ensures err { IfErr result (λ e. IsRefusedRefresh e (named_lock token.now (names path.now) locks.old.items)) }
+    ensures ok { IfOk result (λ lock.
+        (option_map (refreshed_lock timeout now)
+        (named_lock token.now (names path.now) locks.old.items) ≡ Some lock)
+        × (refreshed token.now (names path.now) timeout now locks.old.items
+        ≡ Some locks.new.items)) }
+    ensures err { IfErr result
+        (λ e. IsRefusedRefresh e (named_lock token.now (names path.now) locks.old.items)) }
     ensures memory { IsErrOf result RefreshRefusal.Memory
         → IsSome (named_lock token.now (names path.now) locks.old.items) }
     ensures same { OnErr result (locks.new.items ≡ locks.old.items) }
@@ -322,7 +345,9 @@ fn push_covering(
     path: &DavPath,
     len: usize,
 ) -> Result<(), NoMemory>
-    ensures { OnOk result (found.new.items ≡ found.old.items ++ filter (λ l. is_same_path (names l.path) (take len (names path.now)) && covers l (names path.now)) locks.now) }
+    ensures { OnOk result (found.new.items
+        ≡ found.old.items ++ filter (λ l. is_same_path (names l.path) (take len (names path.now))
+        && covers l (names path.now)) locks.now) }
 {
     for lock in locks {
         if paths::is_front(&lock.path, path, len) && covers(lock, path) {

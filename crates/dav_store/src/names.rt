@@ -277,7 +277,8 @@ impl Names {
         from: &DavPath,
         to: &DavPath,
     ) -> Result<Option<Names>, NoMemory>
-        ensures { IfOk result (λ ns. ns ≡ option_map (λ rest. names to.now ++ rest) (rest_after (names from.now) self.now)) }
+        ensures { IfOk result (λ ns. ns ≡ option_map (λ rest. names to.now ++ rest)
+            (rest_after (names from.now) self.now)) }
     {
         let Some(rest) = rest_after(from.segments(), &self.names) else {
             return Ok(None);

@@ -245,7 +245,8 @@ impl Node {
     /// Another node with its bytes and properties, created now under this change number.
     pub fn copy(&self, number: u64, now: u64) -> Result<Node, NoMemory>
         requires { now ≤ last_moment }
-        ensures { IfOk result (λ n. n ≡ record (fresh number self.now.kind now) { properties = self.now.properties }) }
+        ensures { IfOk result (λ n. n
+            ≡ record (fresh number self.now.kind now) { properties = self.now.properties }) }
     {
         Ok(Node {
             made: number,
@@ -268,7 +269,8 @@ impl Node {
 
     /// At most so many bytes from a place on, and fewer only at the end.
     pub fn read(&self, place: u64, count: usize) -> Result<Bytes, NoMemory>
-        ensures value { IfOk result (λ chunk. chunk ≡ take count (drop place (bytes_of self.now.kind))) }
+        ensures value { IfOk result
+            (λ chunk. chunk ≡ take count (drop place (bytes_of self.now.kind))) }
         ensures fits { IfOk result (λ chunk. place + length chunk ≤ 18446744073709551615) }
     {
         match &self.content {

@@ -27,7 +27,8 @@ fn compare(mut a: Segments<'_>, mut b: Segments<'_>) -> Ordering
 
 // The segments that follow those of the front; `None` where the path doesn't begin with the front.
 fn rest_after<'a>(mut front: Segments<'_>, mut path: Segments<'a>) -> Option<Segments<'a>>
-    ensures { option_map names_left result ≡ rest_after (names_left front.entry) (names_left path.entry) }
+    ensures { option_map names_left result
+        ≡ rest_after (names_left front.entry) (names_left path.entry) }
 {
     let Some(x) = front.next() else {
         return Some(path);

@@ -164,7 +164,8 @@ fn put_property(
 
 // Removes the property.
 fn remove_property(entries: &mut Vec<(Key, Option<Element>)>, property: &DavProp)
-    ensures { entries.new.items ≡ filter (λ e. not (is_same_key (property_key property.now) e.0)) entries.old.items }
+    ensures { entries.new.items
+        ≡ filter (λ e. not (is_same_key (property_key property.now) e.0)) entries.old.items }
 {
     entries.retain(|e| !e.0.is_of(property));
 }
@@ -176,7 +177,8 @@ fn apply(
     set: bool,
     mut property: DavProp,
 ) -> Result<DavProp, NoMemory>
-    ensures { IfOk result (λ p. (p ≡ without_xml property) × (entries.new.items ≡ patched_by (patch_of (set, property)) entries.old.items)) }
+    ensures { IfOk result (λ p. (p ≡ without_xml property)
+        × (entries.new.items ≡ patched_by (patch_of (set, property)) entries.old.items)) }
 {
     if set {
         let key = Key::of(alloc, &property)?;
@@ -265,7 +267,8 @@ impl Properties {
         alloc: Global,
         patches: Vec<(bool, DavProp)>,
     ) -> Result<Vec<(StatusCode, DavProp)>, NoMemory>
-        ensures { IfOk result (λ answers. (answers.items ≡ map answer_to patches.items) × (self.new ≡ patched (map patch_of patches.items) self.old)) }
+        ensures { IfOk result (λ answers. (answers.items ≡ map answer_to patches.items)
+            × (self.new ≡ patched (map patch_of patches.items) self.old)) }
     {
         let mut answers = Vec::new(alloc);
         for (set, property) in patches {

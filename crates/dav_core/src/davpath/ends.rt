@@ -36,7 +36,8 @@ pub(super) fn without_first_slash(bytes: &[u8]) -> &[u8]
 
 // What follows a text in another that begins with it.
 fn behind<'a>(front: &[u8], bytes: &'a [u8]) -> Option<&'a [u8]>
-    ensures { MatchOption result ((rest : List ℕ) → bytes.now ≢ front.now ++ rest) (λ r. bytes.now ≡ front.now ++ r.now) }
+    ensures { MatchOption result ((rest : List ℕ) → bytes.now ≢ front.now ++ rest)
+        (λ r. bytes.now ≡ front.now ++ r.now) }
 {
     bytes.strip_prefix(front)
 }
@@ -106,7 +107,8 @@ pub(super) fn push_after_slash(
     is_collection: bool,
     name: &[u8],
 ) -> Result<(), NoMemory>
-    ensures ok { OnOk result (path.new.items ≡ path.old.items ++ end_for is_collection ++ name.now) }
+    ensures ok { OnOk result (path.new.items
+        ≡ path.old.items ++ end_for is_collection ++ name.now) }
     ensures err { OnErr result (path.new.items ≡ path.old.items) }
 {
     let len = path.len();

@@ -57,7 +57,8 @@ fn last_slash(buf: &[u8]) -> Option<usize>
 
 // Removes the last name.
 fn drop_last(buf: &mut Vec<u8>) -> Result<(), ParseError>
-    ensures { (ps : List (List ℕ)) → Kept ps buf.old.items → AddsPiece ps parent_piece result buf.new.items }
+    ensures { (ps : List (List ℕ)) → Kept ps buf.old.items
+        → AddsPiece ps parent_piece result buf.new.items }
 {
     match last_slash(buf) {
         Some(i) => {
@@ -70,7 +71,8 @@ fn drop_last(buf: &mut Vec<u8>) -> Result<(), ParseError>
 
 // Adds a piece, which may have escapes.
 fn add_piece(buf: &mut Vec<u8>, piece: &[u8]) -> Result<(), ParseError>
-    ensures { (ps : List (List ℕ)) → Kept ps buf.old.items → AddsPiece ps (percent_decode piece.now) result buf.new.items }
+    ensures { (ps : List (List ℕ)) → Kept ps buf.old.items
+        → AddsPiece ps (percent_decode piece.now) result buf.new.items }
 {
     let start = buf.len();
     buf.push(b'/')?;
@@ -112,7 +114,8 @@ pub(super) fn before_query(src: &[u8]) -> &[u8]
 
 /// The names that the pieces of a text leave, each after a slash.
 pub(super) fn read_names(alloc: Global, src: &[u8]) -> Result<Vec<u8>, ParseError>
-    ensures { MatchResult result (λ buf. Kept (pieces_of src.now) buf.items) (IsRefusedBy (pieces_of src.now)) }
+    ensures { MatchResult result (λ buf. Kept (pieces_of src.now) buf.items)
+        (IsRefusedBy (pieces_of src.now)) }
 {
     let mut buf = Vec::new(alloc);
     for piece in before_query(src).split(|b| *b == b'/') {
@@ -123,7 +126,8 @@ pub(super) fn read_names(alloc: Global, src: &[u8]) -> Result<Vec<u8>, ParseErro
 
 /// Adds the slash at the end of a path that is closed or has no names.
 pub(super) fn close(buf: &mut Vec<u8>, closed: bool) -> Result<(), ParseError>
-    ensures ok { OnOk result ((names : Path) → buf.old.items ≡ joined names → buf.new.items ≡ path_bytes names closed) }
+    ensures ok { OnOk result ((names : Path) → buf.old.items ≡ joined names → buf.new.items
+        ≡ path_bytes names closed) }
     ensures err { IfErr result (λ e. e ≡ ParseError.Memory) }
 {
     if closed || buf.is_empty() {

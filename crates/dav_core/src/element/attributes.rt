@@ -26,7 +26,9 @@ pub(super) fn set_attribute(
     name: String,
     value: String,
 ) -> Result<(), NoMemory>
-    ensures ok { OnOk result (map attribute_bytes attributes.new.items ≡ set_attribute (string_bytes name) (string_bytes value) (map attribute_bytes attributes.old.items)) }
+    ensures ok { OnOk result (map attribute_bytes attributes.new.items
+        ≡ set_attribute (string_bytes name) (string_bytes value)
+        (map attribute_bytes attributes.old.items)) }
     ensures err { OnErr result (attributes.new.items ≡ attributes.old.items) }
 {
     match index_of(attributes, &name) {
@@ -52,7 +54,8 @@ fn index_of(attributes: &[(String, String)], name: &str) -> Option<usize>
 pub(super) fn copied_attributes(
     attributes: &Vec<(String, String)>,
 ) -> Result<Vec<(String, String)>, NoMemory>
-    ensures { IfOk result (λ v. map attribute_bytes v.items ≡ map attribute_bytes attributes.now.items) }
+    ensures { IfOk result (λ v. map attribute_bytes v.items
+        ≡ map attribute_bytes attributes.now.items) }
 {
     let mut copies = Vec::with_capacity(*attributes.allocator(), attributes.len())?;
     for (name, value) in attributes {
@@ -67,7 +70,8 @@ pub(super) fn are_attributes_equal(
     left: &Vec<(String, String)>,
     right: &Vec<(String, String)>,
 ) -> bool
-    ensures { result ≡ pointwise attribute_eq (map attribute_bytes left.now.items) (map attribute_bytes right.now.items) }
+    ensures { result ≡ pointwise attribute_eq (map attribute_bytes left.now.items)
+        (map attribute_bytes right.now.items) }
 {
     left == right
 }

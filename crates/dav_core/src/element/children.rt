@@ -13,7 +13,8 @@ use std::alloc::Global;
 impl XmlNode {
     /// The element, where the child is one.
     pub(super) fn as_element(&self) -> Option<&Element>
-        ensures { MatchOption result (is_element (node_tree self.now) ≡ false) (λ e. (is_element e.now ≡ true) × (e.now ≡ node_tree self.now)) }
+        ensures { MatchOption result (is_element (node_tree self.now) ≡ false)
+            (λ e. (is_element e.now ≡ true) × (e.now ≡ node_tree self.now)) }
     {
         match self {
             XmlNode::Element(e) => {
@@ -64,7 +65,8 @@ pub(super) fn index_named(children: &[XmlNode], name: &str) -> Option<usize>
 
 /// The texts among children, joined in order.
 pub(super) fn joined_texts(alloc: Global, children: &[XmlNode]) -> Result<Option<String>, NoMemory>
-    ensures { IfOk result (λ t. option_map string_bytes t ≡ joined_texts (filter_map text_bytes (map node_tree children.now))) }
+    ensures { IfOk result (λ t. option_map string_bytes t
+        ≡ joined_texts (filter_map text_bytes (map node_tree children.now))) }
 {
     let mut joined = None;
     for child in children {
@@ -78,7 +80,8 @@ pub(super) fn joined_texts(alloc: Global, children: &[XmlNode]) -> Result<Option
 
 // A text after another one, where there is one.
 fn joined_with(alloc: Global, joined: Option<String>, text: &str) -> Result<String, NoMemory>
-    ensures { IfOk result (λ t. string_bytes t ≡ unwrap_or (option_map string_bytes joined) [] ++ text.now) }
+    ensures { IfOk result (λ t. string_bytes t
+        ≡ unwrap_or (option_map string_bytes joined) [] ++ text.now) }
 {
     let mut joined = joined.unwrap_or(String::new(alloc));
     joined.push_str(text)?;

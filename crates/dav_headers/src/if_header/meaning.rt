@@ -61,7 +61,8 @@ fn meant_conditions(
     alloc: Global,
     conditions: &[ConditionText<'_>],
 ) -> Result<Vec<IfCondition>, HeaderError>
-    ensures ok { IfOk result (λ v. AllZip SaysCondition (map condition_view conditions.now) (map condition_value v.items)) }
+    ensures ok { IfOk result (λ v. AllZip SaysCondition (map condition_view conditions.now)
+        (map condition_value v.items)) }
     ensures invalid { IsErrOf result HeaderError.Invalid
         → (cs : List Condition) → ¬ AllZip SaysCondition (map condition_view conditions.now) cs }
 {
@@ -75,7 +76,8 @@ fn meant_conditions(
 // The URL of a resource tag.
 fn resource(alloc: Global, bytes: &[u8]) -> Result<Url, HeaderError>
     ensures ok { IfOk result (λ url. SaysResource (Some bytes.now) (Some url)) }
-    ensures invalid { IsErrOf result HeaderError.Invalid → (u : Option Parts) → ¬ SaysResource (Some bytes.now) u }
+    ensures invalid { IsErrOf result HeaderError.Invalid → (u : Option Parts)
+        → ¬ SaysResource (Some bytes.now) u }
 {
     let Ok(text) = str::from_utf8(bytes) else {
         return Err(HeaderError::Invalid);
@@ -90,7 +92,8 @@ fn resource(alloc: Global, bytes: &[u8]) -> Result<Url, HeaderError>
 // The meaning of a resource tag, where there is one.
 fn meant_resource(alloc: Global, tag: Option<&[u8]>) -> Result<Option<Url>, HeaderError>
     ensures ok { IfOk result (λ u. SaysResource (resource_view tag.entry) u) }
-    ensures invalid { IsErrOf result HeaderError.Invalid → (u : Option Parts) → ¬ SaysResource (resource_view tag.entry) u }
+    ensures invalid { IsErrOf result HeaderError.Invalid → (u : Option Parts)
+        → ¬ SaysResource (resource_view tag.entry) u }
 {
     match tag {
         Some(bytes) => Ok(Some(resource(alloc, bytes)?)),
@@ -101,7 +104,8 @@ fn meant_resource(alloc: Global, tag: Option<&[u8]>) -> Result<Option<Url>, Head
 // The meaning of a list.
 fn meant_list(alloc: Global, list: &ListText<'_>) -> Result<IfList, HeaderError>
     ensures ok { IfOk result (λ l. SaysList (list_view list.now) (list_value l)) }
-    ensures invalid { IsErrOf result HeaderError.Invalid → (l : ConditionList) → ¬ SaysList (list_view list.now) l }
+    ensures invalid { IsErrOf result HeaderError.Invalid → (l : ConditionList)
+        → ¬ SaysList (list_view list.now) l }
 {
     let resource_tag = meant_resource(alloc, list.resource)?;
     let conditions = meant_conditions(alloc, &list.conditions)?;
@@ -113,7 +117,8 @@ fn meant_list(alloc: Global, list: &ListText<'_>) -> Result<IfList, HeaderError>
 
 /// The meanings of the lists, in order; `Invalid` where one of them has none.
 pub(super) fn meant_lists(alloc: Global, lists: &[ListText<'_>]) -> Result<Vec<IfList>, HeaderError>
-    ensures ok { IfOk result (λ v. AllZip SaysList (map list_view lists.now) (map list_value v.items)) }
+    ensures ok { IfOk result (λ v. AllZip SaysList (map list_view lists.now)
+        (map list_value v.items)) }
     ensures invalid { IsErrOf result HeaderError.Invalid
         → (ls : List ConditionList) → ¬ AllZip SaysList (map list_view lists.now) ls }
 {

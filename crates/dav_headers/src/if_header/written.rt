@@ -75,9 +75,11 @@ fn conditions_of<'a>(
     alloc: Global,
     parts: &[Part<'a>],
 ) -> Result<(Vec<ConditionText<'a>>, usize), HeaderError>
-    ensures found { IfOk result (λ x. (x.1 ≤ length parts.now) × (conditions_at (map part_view parts.now)
+    ensures found { IfOk result
+        (λ x. (x.1 ≤ length parts.now) × (conditions_at (map part_view parts.now)
         ≡ Some (map condition_view x.0.items, drop x.1 (map part_view parts.now)))) }
-    ensures none { IsErrOf result HeaderError.Invalid → conditions_at (map part_view parts.now) ≡ None }
+    ensures none { IsErrOf result HeaderError.Invalid → conditions_at (map part_view parts.now)
+        ≡ None }
 {
     let mut found = Vec::new(alloc);
     let mut at = 0;
@@ -133,8 +135,10 @@ pub(super) fn lists_of<'a>(
     alloc: Global,
     parts: &[Part<'a>],
 ) -> Result<Vec<ListText<'a>>, HeaderError>
-    ensures found { IfOk result (λ lists. ListsAt (map part_view parts.now) (map list_view lists.items)) }
-    ensures none { IsErrOf result HeaderError.Invalid → (ls : List WrittenList) → ¬ ListsAt (map part_view parts.now) ls }
+    ensures found { IfOk result
+        (λ lists. ListsAt (map part_view parts.now) (map list_view lists.items)) }
+    ensures none { IsErrOf result HeaderError.Invalid → (ls : List WrittenList)
+        → ¬ ListsAt (map part_view parts.now) ls }
 {
     let mut lists = Vec::new(alloc);
     let mut at = 0;

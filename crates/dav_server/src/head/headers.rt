@@ -27,7 +27,8 @@ pub fn headers_of(alloc: Global, view: &RequestView<'_>) -> Result<HeaderMap, No
 fn collect(alloc: Global, head: &[u8], spans: &[HeaderSpan]) -> Result<HeaderMap, NoMemory>
     requires headers { AreHeadersOf head.now spans.now }
     requires few { length spans.now ≤ 64 }
-    ensures { IfOk result (λ headers. headers ≡ headers_of (map (header_bytes head.now) spans.now)) }
+    ensures { IfOk result (λ headers. headers
+        ≡ headers_of (map (header_bytes head.now) spans.now)) }
 {
     let mut headers = HeaderMap::new(alloc);
     for span in spans {
