@@ -22,7 +22,7 @@ use Rattle.dav_headers.specs.declared.if_header.IfItem.{IfItem}
 use Rattle.dav_headers.specs.declared.if_header.IfCondition.{IfCondition}
 use Rattle.dav_headers.specs.declared.if_header.IfItem.TheVariants.{StateToken, ETag}
 use Rattle.dav_engine.specs.Plan.{Locks, ran_look}
-use Rattle.dav_engine.specs.MethodPlan.{MethodPlan}
+use Rattle.dav_engine.specs.Method.{MethodPlan}
 use Rattle.dav_engine.specs.Follows.{Follows, followed}
 use Rattle.dav_engine.specs.Conditions as spec
 use Rattle.dav_engine.specs.Conditions.{Addressed, AreAddressed, SpeaksOf, while_true, while_false, condition_holds, all_hold, some_holds, item_holds}

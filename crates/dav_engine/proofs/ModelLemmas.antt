@@ -6,7 +6,7 @@ use Rattle.dav_core.specs.Asking.{StoreState, Asks, CreateDir}
 use Rattle.dav_core.specs.Path.{Path}
 use Rattle.dav_engine.specs.Client.{Client}
 use Rattle.dav_engine.specs.Follows.{as_is, Follows, Carries, Serves}
-use Rattle.dav_engine.specs.MethodPlan.{MethodPlan}
+use Rattle.dav_engine.specs.Method.{MethodPlan}
 use Rattle.dav_engine.specs.Plan.{Locks, ServerState}
 use Rattle.dav_engine.specs.Response.{Response}
 

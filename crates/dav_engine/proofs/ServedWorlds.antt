@@ -4,7 +4,7 @@ use Rattle.dav_core.specs.declared.errors.DavError.{DavError}
 use Rattle.dav_core.specs.World.{IsWorld}
 use Rattle.dav_core.specs.Asking.{StoreState}
 use Rattle.dav_engine.specs.Plan.{Locks}
-use Rattle.dav_engine.specs.MethodPlan.{MethodPlan}
+use Rattle.dav_engine.specs.Method.{MethodPlan}
 use Rattle.dav_engine.specs.Follows.{Follows, followed, gave_up, Carries, served, not_begun}
 use Rattle.dav_engine.specs.WorldLaws.{IsReading, IsProperPlan}
 use Rattle.dav_engine.proofs.PlanLemmas.{cut_again}

@@ -6,7 +6,7 @@ use Rattle.dav_engine.specs.declared.request.Body.{Body}
 use Rattle.dav_engine.specs.declared.request.DavRequest.{DavRequest}
 use Rattle.dav_engine.specs.Client.{Client}
 use Rattle.dav_engine.specs.Follows.{Serves}
-use Rattle.dav_engine.specs.MethodPlan.{MethodPlan}
+use Rattle.dav_engine.specs.Method.{MethodPlan}
 use Rattle.dav_engine.specs.Mkcol.{IsMkcol}
 use Rattle.dav_engine.specs.Put.{IsPut}
 use Rattle.dav_engine.specs.Response.{Response}

@@ -4,7 +4,7 @@ use Rattle.dav_core.specs.declared.errors.DavError.{DavError}
 use Rattle.dav_core.specs.declared.errors.DavError.TheVariants as dav
 use Rattle.dav_core.specs.Asking.{StoreState, Asks}
 use Rattle.dav_engine.specs.Plan.{Locks, ServerState, Ran, Cut}
-use Rattle.dav_engine.specs.MethodPlan.{MethodPlan}
+use Rattle.dav_engine.specs.Method.{MethodPlan}
 use Rattle.dav_engine.specs.Response.{Response}
 
 -- a value that contracts see as it is

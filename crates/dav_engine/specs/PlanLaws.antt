@@ -5,7 +5,7 @@ use Rattle.dav_core.specs.declared.errors.DavError.{DavError}
 use Rattle.dav_core.specs.Asking.{StoreState, Asks}
 use Rattle.dav_core.specs.World.{World}
 use Rattle.dav_engine.specs.Plan.{Locks, Ran, Cut}
-use Rattle.dav_engine.specs.MethodPlan.{MethodPlan}
+use Rattle.dav_engine.specs.Method.{MethodPlan}
 use Rattle.dav_engine.specs.Response.{Response}
 
 -- a store that holds this world, will refuse these calls, and never ran out of memory

@@ -14,7 +14,7 @@ use Rattle.dav_engine.specs.declared.request.Body.{Body}
 use Rattle.dav_engine.specs.Client.{Client}
 use Rattle.dav_engine.specs.Conditions.{Conditions}
 use Rattle.dav_engine.specs.Headers.{Headers}
-use Rattle.dav_engine.specs.MethodPlan.{MethodPlan}
+use Rattle.dav_engine.specs.Method.{MethodPlan}
 use Rattle.dav_engine.specs.Mkcol.{mkcol, mkcol_allowed, IsMkcol}
 use Rattle.dav_engine.specs.Plan.{Plan, Done, Ask, Look, Keep, Locks, Ran}
 use Rattle.dav_engine.specs.Put.{PutHeaders, put, put_allowed, IsPut}

@@ -2,7 +2,7 @@
 use Rattle.std.specs.Prelude.{◌≡◌, ◌++◌, false, List, [], ◌∷◌, All, Option, Some, None}
 use Rattle.dav_core.specs.declared.errors.FsError.{FsError}
 use Rattle.dav_core.specs.Asking.{StoreState, Asks}
-use Rattle.dav_engine.specs.MethodPlan.{MethodPlan}
+use Rattle.dav_engine.specs.Method.{MethodPlan}
 use Rattle.dav_engine.specs.Plan.{Locks, CallStep}
 use Rattle.dav_engine.specs.Response.{Response}
 use Rattle.dav_server.specs.Machine.{Asked, Settings, Means, StepsBy, StepCutBy}

@@ -5,7 +5,7 @@ ghost use Rattle.dav_core.specs.Path.{names};
 ghost use Rattle.dav_core.specs.World.{last_moment};
 ghost use Rattle.dav_engine.specs.ConditionView.{locks_in};
 ghost use Rattle.dav_engine.specs.Follows.{as_is, Makes, Serves, Heeds};
-ghost use Rattle.dav_engine.specs.MethodPlan.{MethodPlan};
+ghost use Rattle.dav_engine.specs.Method.{MethodPlan};
 ghost use Rattle.dav_engine.specs.Response.{Response, headers_in};
 ghost use Rattle.dav_server.specs.Get as spec;
 
