@@ -9,13 +9,13 @@ use Rattle.dav_engine.specs.Plan.{Locks, ServerState}
 use Rattle.dav_engine.specs.Response.{Response}
 use Rattle.dav_server.specs.Machine.{Settings}
 use Rattle.dav_server.specs.Run.{Turn, Runs, no_more, one_more}
-use Rattle.dav_server.specs.Server.{Server, AnswersAll}
+use Rattle.dav_server.specs.Server.{Server, AnswersAll, AnswersSome}
 use Rattle.dav_server.specs.Setup.{IsPrefix}
 use Rattle.dav_run.specs.declared.play.Fault.{Fault}
 use Rattle.dav_run.specs.Print.{lines_of}
 use Rattle.dav_run.specs.Script as script
 use Rattle.dav_run.specs.Script.{ScriptContent, IsShort, IsScript, IsScriptValue}
-use Rattle.dav_run.specs.Play.{Plays, PlaysSome, IsPlayable, new_server, turn_for}
+use Rattle.dav_run.specs.Play.{Plays, PlaysSome, IsPlayable, settings_for, new_state, new_server, turn_for}
 
 -- a script that was read, the run of its requests and the lines of the replies meet `Plays`
 pub together : {E : Type 0} (result : Result (Unit {0}) E) (o : Option (List ℕ)) (Wrote : List ℕ → Type 0) (s : ScriptContent) (replies : List Response) (left : Server)
@@ -58,6 +58,8 @@ run_first : {s : Settings} (k : ℕ) (ts : List Turn) {old new : StoreState} {ls
     → (mid : StoreState) × (ks : Locks) × Runs s (take k ts) old ls (take k replies) mid ks
 run_first zero ts {old = old} {ls = ls} replies run = (old, ls, no_more)
 run_first (suc k) [] {old = old} {ls = ls} [] no_more = (old, ls, no_more)
+run_first (suc k) [] (r ∷ rs) run = elim run [ ]
+run_first (suc k) (t ∷ ts) [] run = elim run [ ]
 run_first (suc k) (t ∷ ts) (r ∷ rs) (one_more step run) = let (mid, ks, first) = run_first k ts rs run in (mid, ks, one_more step first)
 
 appends_nothing : (a : Option (List ℕ)) → Appends a a []
@@ -69,18 +71,37 @@ pub none_played : (o : Option (List ℕ)) (a : Option (List ℕ)) → IfSome o (
 none_played None a = tt
 none_played (Some text) a = ([], inl refl, appends_nothing a)
 
--- the first replies of a run were written
+-- all replies of the first turns were written
+pub all_played : (o : Option (List ℕ)) (Wrote : List ℕ → Type 0) (s : ScriptContent) (first rest : List Turn) (replies : List Response) (left : Server)
+    → IfSome o (λ text. IsShort text × IsScript text s) → IsPrefix s.prefix → map turn_for s.requests ≡ first ++ rest
+    → AnswersAll (new_server s) first replies left → Wrote (lines_of replies) → IfSome o (λ text. (lines : List ℕ) × PlaysSome text lines × Wrote lines)
+all_played None Wrote s first rest replies left read prefix parts run wrote = tt
+all_played (Some text) Wrote s first rest replies left read prefix parts run wrote =
+    (lines_of replies, inr (s, first, rest, replies, left, read.0, read.1, prefix, parts, run, refl), wrote)
+
+-- or the first of them were
 pub some_played : (o : Option (List ℕ)) (Wrote : List ℕ → Type 0) (s : ScriptContent) (first rest : List Turn) (replies : List Response) (left : Server) (k : ℕ)
     → IfSome o (λ text. IsShort text × IsScript text s) → IsPrefix s.prefix → map turn_for s.requests ≡ first ++ rest
     → AnswersAll (new_server s) first replies left → Wrote (lines_of (take k replies)) → IfSome o (λ text. (lines : List ℕ) × PlaysSome text lines × Wrote lines)
-some_played None Wrote s first rest replies left k read prefix parts run wrote = tt
-some_played (Some text) Wrote s first rest replies left k read prefix parts run wrote =
+some_played o Wrote s first rest replies left k read prefix parts run wrote =
     let (mid, ks, part) = run_first k first replies run in
-    let more : first ++ rest ≡ take k first ++ (drop k first ++ rest) = ap (λ l. l ++ rest) (sym (take-append-drop k first)) ∙ append_assoc (take k first) (drop k first) rest in (
-      lines_of (take k replies),
-      inr (s, take k first, drop k first ++ rest, take k replies, record { settings = left.settings; state = record { store = mid; locks = ks } }, read.0, read.1, prefix, parts ∙ more, part, refl),
-      wrote,
-    )
+    let more : first ++ rest ≡ take k first ++ (drop k first ++ rest) = ap (λ l. l ++ rest) (sym (take-append-drop k first)) ∙ append_assoc (take k first) (drop k first) rest in
+    let mid_way : Server = record { settings = left.settings; state = record { store = mid; locks = ks } } in
+    all_played o Wrote s (take k first) (drop k first ++ rest) (take k replies) mid_way read prefix (parts ∙ more) part wrote
+
+-- a run that memory cut short, as one of the first requests of a script
+pub record FirstRun (s : ScriptContent) (replies : List Response) : Type 0 where
+  pub first : List Turn
+  pub rest : List Turn
+  pub left : Server
+  pub parts : map turn_for s.requests ≡ first ++ rest
+  pub run : AnswersAll (new_server s) first replies left
+
+pub first_run : {one : Server} (s : ScriptContent) (ts : List Turn) (replies : List Response) (new : Server) → one.settings ≡ settings_for s → one.state ≡ new_state s
+    → ts ≡ map turn_for s.requests → AnswersSome one ts replies new → FirstRun s replies
+first_run {one} s ts replies new settings state turns (first, t, rest, mid, ks, parts, run, cut) =
+    let left : Server = record { settings = one.settings; state = record { store = mid; locks = ks } } in
+    record { first = first; rest = t ∷ rest; left = left; parts = sym turns ∙ parts; run = run_set_up replies left settings state refl run }
 
 -- where two results are the same error, so are the errors
 pub same_error : {A : Type 0} {a b : Fault} → ◌≡◌ {A = Result A Fault} (Err a) (Err b) → a ≡ b
