@@ -1,7 +1,7 @@
 use super::*;
 use crate::asserting::{is_row, parts, same};
 use http::Method;
-use http_header::HeaderValue;
+use http_header::{HeaderName, HeaderValue};
 use std::process::Abort;
 use std::test::Fail;
 
