@@ -99,7 +99,7 @@ pub record FirstRun (s : ScriptContent) (replies : List Response) : Type 0 where
 
 pub first_run : {one : Server} (s : ScriptContent) (ts : List Turn) (replies : List Response) (new : Server) → one.settings ≡ settings_for s → one.state ≡ new_state s
     → ts ≡ map turn_for s.requests → AnswersSome one ts replies new → FirstRun s replies
-first_run {one} s ts replies new settings state turns (first, t, rest, mid, ks, parts, run, cut) =
+first_run {one} s ts replies new settings state turns (first, t, rest, mid, ks, parts, run, stop) =
     let left : Server = record { settings = one.settings; state = record { store = mid; locks = ks } } in
     record { first = first; rest = t ∷ rest; left = left; parts = sym turns ∙ parts; run = run_set_up replies left settings state refl run }
 
