@@ -127,7 +127,8 @@ fn http_status(
     found: Option<&DavMetaData>,
 ) -> Result<Option<StatusCode>, NoMemory>
     ensures { IfOk result (λ status.
-        status ≡ spec.http_conditions method (option_map tag_list if_match.now) (option_map tag_list if_none_match.now) (option_copied found.entry)) }
+        status ≡ spec.http_conditions method (option_map tag_list if_match.now)
+        (option_map tag_list if_none_match.now) (option_copied found.entry)) }
 {
     let exists = found.is_some();
     let tag = tag_found(alloc, found)?;
@@ -163,7 +164,8 @@ fn match_in(alloc: Global, headers: &HeaderMap) -> Result<Option<ETagList>, NoMe
 // The list of an If-None-Match header.
 fn none_match_in(alloc: Global, headers: &HeaderMap) -> Result<Option<ETagList>, NoMemory>
     ensures { IfOk result (λ list.
-        Decodes IsTagList (get_all headers.now (codes "if-none-match")) (option_map tag_list list)) }
+        Decodes IsTagList (get_all headers.now (codes "if-none-match"))
+        (option_map tag_list list)) }
 {
     let values = values_of(alloc, headers, names::IF_NONE_MATCH())?;
     match IfNoneMatch::decode(alloc, &values) {
@@ -246,7 +248,9 @@ fn lists_in(
     own: &DavPath,
 ) -> Result<Option<Vec<Addressed>>, NoMemory>
     ensures { IfOk result (λ lists.
-        Decodes (spec.SaysLists request.now.path.prefix (names own.now)) (get_all request.now.headers (codes "if")) (option_map (λ ls. map list_of ls.items) lists)) }
+        Decodes (spec.SaysLists request.now.path.prefix (names own.now))
+        (get_all request.now.headers (codes "if"))
+        (option_map (λ ls. map list_of ls.items) lists)) }
 {
     let values = values_of(alloc, &request.headers, names::IF())?;
     match If::decode(alloc, &values) {

@@ -370,7 +370,8 @@ fn put_body<F: DavFileSystem, L: DavLockSystem>(
 ) -> DavResult<Reply>
     requires { caller.now.moment ≤ last_moment }
     ensures { Heeds (locks_in L.locks ls.entry) as_is
-        (spec.put_body request.now.method headers.now (names request.now.path) caller.now (spec.bytes_of_body body.now))
+        (spec.put_body request.now.method headers.now (names request.now.path) caller.now
+        (spec.bytes_of_body body.now))
         (F.state fs.old) result (F.state fs.new) }
 {
     let path = &request.path;

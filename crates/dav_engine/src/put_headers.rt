@@ -74,7 +74,8 @@ fn content_length(alloc: Global, headers: &HeaderMap) -> Result<Option<u64>, NoM
 // The length that X-Expected-Entity-Length announces.
 fn expected_length(alloc: Global, headers: &HeaderMap) -> Result<Option<u64>, NoMemory>
     ensures { IfOk result (λ length.
-        Decodes spec.IsExpectedLength (get_all headers.now (codes "x-expected-entity-length")) length) }
+        Decodes spec.IsExpectedLength (get_all headers.now (codes "x-expected-entity-length"))
+        length) }
 {
     let values = values_of(
         alloc,

@@ -121,7 +121,8 @@ pub fn set_length(alloc: Global, headers: &mut HeaderMap, len: u64) -> Result<()
 /// Sets `content-location`: the text of the path in a URL, with the prefix (RFC 9110, section 8.7).
 pub fn set_location(alloc: Global, headers: &mut HeaderMap, path: &DavPath) -> Result<(), NoMemory>
     ensures { OnOk result (headers.new
-        ≡ insert headers.old (codes "content-location") (plain_value (path_text (full_bytes path.now)))) }
+        ≡ insert headers.old (codes "content-location")
+        (plain_value (path_text (full_bytes path.now)))) }
 {
     let text = path.with_prefix().as_url_string(alloc)?;
     let value = HeaderValue::from_string(text).map_err(|_| NoMemory)?;
