@@ -1,5 +1,5 @@
 -- The names in the bytes of any path are segments, and a segment that is added is the last.
-use Rattle.std.proofs.Common.{◌≡◌, ◌≢◌, ℕ, ◌==◌, ◌-◌, Bool, true, false, List, [], ◌∷◌, ◌++◌, length, take, All, cond, inl, inr, refl, sym, ap, ◌∙◌, arith, append_assoc}
+use Rattle.std.proofs.Common.{◌≡◌, ◌≢◌, ℕ, ◌==◌, ◌-◌, ◌≤◌, suc, Bool, true, false, List, [], ◌∷◌, ◌++◌, length, take, All, cond, inl, inr, refl, sym, ap, ◌∙◌, arith, append_assoc}
 use Rattle.std.specs.List.{filter, slice_split, onto_first}
 use Rattle.std.specs.Str.{bytes_eq}
 use Rattle.std.proofs.lemmas.Bool.{cases_Bool}
@@ -8,8 +8,8 @@ use Rattle.std.proofs.lemmas.Slice.Eq.{bytes_eq-Decides, ends_is}
 use Rattle.std.proofs.lemmas.List.{append-nil}
 use Rattle.std.proofs.lemmas.List.Elements.{filter-append, All-weaker, All-head, All-tail, All-cons, All-nil}
 use Rattle.std.proofs.lemmas.List.Splits.{slice_split_none}
-use Rattle.dav_core.specs.Path.{IsSegment, is_nonempty, is_collection, end_for, star, names_in, names_of}
-use Rattle.dav_core.specs.Laws.{AddsSegment, NamesAreSegments, NameIsSegment}
+use Rattle.dav_core.specs.Path.{IsSegment, is_nonempty, is_collection, end_for, star, with_slash, names_in, names_of}
+use Rattle.dav_core.specs.Laws.{AddsSegment, SlashAddsNoName, MemberIsNoStar, FewNames, NamesAreSegments, NameIsSegment}
 
 pub name_is_segment : NameIsSegment
 name_is_segment n name = (λ e. name.not_blank (inl e), All-weaker (λ b. (b ≢ 0) × (b ≢ 47)) (λ b. b ≢ 47) (λ b h. h.1) n name.clean)
@@ -116,3 +116,41 @@ added_by bytes n true is segment other =
 
 pub adds_segment : AddsSegment
 adds_segment bytes n segment other = added_by bytes n (is_collection bytes) refl segment other
+
+slash_added : (bytes : List ℕ) (closed : Bool) → is_collection bytes ≡ closed → bytes ≢ star → names_of (bytes ++ end_for closed) ≡ names_of bytes
+slash_added bytes true is other = ap names_of (append-nil bytes)
+slash_added bytes false is other = names_other (bytes ++ 47 ∷ []) (not_star_at bytes []) ∙ names_at bytes [] ∙ append-nil (names_in bytes) ∙ sym (names_other bytes other)
+
+pub slash_adds_no_name : SlashAddsNoName
+slash_adds_no_name bytes other = slash_added bytes (is_collection bytes) refl other
+
+no_star_by : (bytes n : List ℕ) (closed : Bool) → is_collection bytes ≡ closed → (bytes ++ end_for closed) ++ n ≢ star
+no_star_by bytes n false is e = not_star_at bytes n (sym (append_assoc bytes (47 ∷ []) n) ∙ e)
+no_star_by bytes n true is e =
+    let front = take (length bytes - 1) bytes in
+    let parts : bytes ≡ front ++ 47 ∷ [] = (ends_is Decides-eqb bytes (47 ∷ []) (is_collection bytes) refl).0 is in
+    not_star_at front n (sym (append_assoc front (47 ∷ []) n) ∙ ap (λ xs. xs ++ n) (sym parts ∙ sym (append-nil bytes)) ∙ e)
+
+pub member_is_no_star : MemberIsNoStar
+member_is_no_star bytes n e = no_star_by bytes n (is_collection bytes) refl e
+
+-- a path has no more names than bytes
+few_step : (b : ℕ) (parts : List (List ℕ)) (c : Bool) → length (filter is_nonempty (cond c ([] ∷ parts) (onto_first b parts))) ≤ suc (length (filter is_nonempty parts))
+few_step b parts true = omega arith
+few_step b [] false = omega arith
+few_step b ([] ∷ ps) false = omega arith
+few_step b ((x ∷ p) ∷ ps) false = omega arith
+
+few_in : (bytes : List ℕ) → length (names_in bytes) ≤ length bytes
+few_in [] = omega arith
+few_in (b ∷ bs) =
+    let one = few_step b (split bs) (b == 47) in
+    let more = few_in bs in
+    omega (arith, one, more)
+
+few_by : (bytes : List ℕ) (is_star : Bool) → length (cond is_star [] (names_in bytes)) ≤ length bytes
+few_by bytes true = omega arith
+few_by bytes false = few_in bytes
+
+pub few_names : FewNames
+few_names bytes = few_by bytes (bytes_eq bytes star)

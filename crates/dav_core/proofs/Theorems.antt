@@ -1,4 +1,5 @@
 -- What the proofs of the crates above rest on.
+pub use Rattle.dav_core.proofs.AddedLemmas.{adds_segment, slash_adds_no_name, member_is_no_star, few_names}
 pub use Rattle.dav_core.proofs.AskingLemmas.{answered_as}
 pub use Rattle.dav_core.proofs.CoverLemmas.{some_held, grantable_by_tests}
 pub use Rattle.dav_core.proofs.CutLemmas.{cut_keeps_names}

@@ -1,5 +1,5 @@
 -- What holds of every text, path, world and set of methods: the statements of the laws.
-use Rattle.std.specs.Prelude.{◌≡◌, ◌≢◌, ◌↔◌, ◌++◌, ◌∷◌, ℕ, ◌+◌, ◌^◌, ◌<◌, ◌≤◌, Bool, true, false, T, List, [], All, Contains, Some, None}
+use Rattle.std.specs.Prelude.{◌≡◌, ◌≢◌, ◌↔◌, ◌++◌, ◌∷◌, ℕ, ◌+◌, ◌^◌, ◌<◌, ◌≤◌, Bool, true, false, T, length, List, [], All, Contains, Some, None}
 use Rattle.dav_core.specs.declared.errors.ParseError.TheVariants.{InvalidPath, ForbiddenPath}
 use Rattle.dav_core.specs.Path.{Path, PathText, IsName, IsSegment, parent_of, joined, path_bytes, star, names_of, IsParent, with_slash, IsCut, are_equal}
 use Rattle.dav_core.specs.Target.{Leaves, Climbs, HasBadPiece, Reads, IsRefused}
@@ -97,6 +97,18 @@ AddsName =
 abbrev pub AddsSegment : Type 0
 AddsSegment =
     (bytes n : List ℕ) → IsSegment n → bytes ≢ star → names_of (with_slash bytes ++ n) ≡ names_of bytes ++ n ∷ []
+
+-- a slash at the end adds no name, to any path but the star path
+abbrev pub SlashAddsNoName : Type 0
+SlashAddsNoName = (bytes : List ℕ) → bytes ≢ star → names_of (with_slash bytes) ≡ names_of bytes
+
+-- the path of a member, whatever its name, isn't the star path
+abbrev pub MemberIsNoStar : Type 0
+MemberIsNoStar = (bytes n : List ℕ) → with_slash bytes ++ n ≢ star
+
+-- a path has no more names than bytes
+abbrev pub FewNames : Type 0
+FewNames = (bytes : List ℕ) → length (names_of bytes) ≤ length bytes
 
 -- the names in any bytes are segments
 abbrev pub NamesAreSegments : Type 0

@@ -3,7 +3,7 @@
 pub mod calls;
 
 ghost use Rattle.std.specs.Prelude.{◌≡◌, [], ◌∷◌};
-ghost use Rattle.dav_core.specs.Laws.{LeavesOnePath, LeavesNoFault, OneFault, ReadsOnePath, ReadIsNotRefused, OneRefusal, KeepsNames, ReadsNames, StarHasNoNames, ReadsAgain, NamesReadAgain, SameText, SlashKeepsNames, AddsName, AddsSegment, NamesAreSegments, NameIsSegment, ParentOfNames, OneParent, CutsAtNames, CutKeepsNames, OneCut, EmptyIsWorld, NewKeepsWorld, ChangeKeepsWorld, OneMethod, NameNames, MembersAreHad, SameMethodsSameSet, EqualToItself, EqualBothWays, EqualThrough};
+ghost use Rattle.dav_core.specs.Laws.{LeavesOnePath, LeavesNoFault, OneFault, ReadsOnePath, ReadIsNotRefused, OneRefusal, KeepsNames, ReadsNames, StarHasNoNames, ReadsAgain, NamesReadAgain, SameText, SlashKeepsNames, AddsName, AddsSegment, SlashAddsNoName, MemberIsNoStar, FewNames, NamesAreSegments, NameIsSegment, ParentOfNames, OneParent, CutsAtNames, CutKeepsNames, OneCut, EmptyIsWorld, NewKeepsWorld, ChangeKeepsWorld, OneMethod, NameNames, MembersAreHad, SameMethodsSameSet, EqualToItself, EqualBothWays, EqualThrough};
 ghost use Rattle.dav_core.specs.LockLaws.{FreeHoldsExclusive, FreeDeepHoldsBelow, FreeIsNoConflict, GrantedCanBeUnlocked, TakenBack, CoveringAreShared, GrantedAreShared, UnlockedAreShared, RefreshedAreShared, DeletedAreShared, UnlockTakesOne, RefreshChangesOne, DiscoveredAreCovering};
 ghost use Rattle.dav_core.specs.Method.{all_methods, methods_in};
 
@@ -49,12 +49,15 @@ pub fn equal_paths_are_alike()
 {}
 
 /// A slash at the end changes no name, a name or segment that is added is the last, and the parent has all names but the
-/// last. A path that is cut after a prefix has the names that follow those of the prefix. A path has one parent, and a prefix
+/// last; a path has no more names than bytes. A path that is cut after a prefix has the names that follow those of the prefix. A path has one parent, and a prefix
 /// cuts it in one way.
 pub fn names_are_added()
     ensures slash { SlashKeepsNames }
     ensures name { AddsName }
     ensures segment { AddsSegment }
+    ensures closed { SlashAddsNoName }
+    ensures member { MemberIsNoStar }
+    ensures few { FewNames }
     ensures parent { ParentOfNames }
     ensures cut { CutsAtNames }
     ensures after { CutKeepsNames }
