@@ -8,7 +8,7 @@ use Rattle.std.proofs.lemmas.Slice.Eq.{bytes_eq-Decides, ends_is}
 use Rattle.std.proofs.lemmas.List.{append-nil}
 use Rattle.std.proofs.lemmas.List.Elements.{filter-append, All-weaker, All-head, All-tail, All-cons, All-nil}
 use Rattle.std.proofs.lemmas.List.Splits.{slice_split_none}
-use Rattle.dav_core.specs.Path.{IsSegment, is_nonempty, is_collection, end_for, star, with_slash, names_in, names_of}
+use Rattle.dav_core.specs.Path.{IsSegment, is_nonempty, is_collection, end_for, star, names_in, names_of}
 use Rattle.dav_core.specs.Laws.{AddsSegment, SlashAddsNoName, MemberIsNoStar, FewNames, NamesAreSegments, NameIsSegment}
 
 pub name_is_segment : NameIsSegment

@@ -25,7 +25,7 @@ use Rattle.dav_engine.specs.Mkcol.{mkcol, mkcol_allowed, create_error, is_mkcol}
 use Rattle.dav_engine.specs.Plan.{Locks, Ran, ran_done, ran_ask}
 use Rattle.dav_engine.specs.Put.{PutHeaders, writing_of, put_opening, is_announced, unsatisfiable, sought, written, open_error, store, put_allowed, put_body, bytes_of_body, is_put}
 use Rattle.dav_engine.specs.Response.{Response}
-use Rattle.dav_engine.specs.WorldLaws.{OnlyReads, IsProperPlan, proper_done, proper_ask, RefusedPutLeavesAll, RefusedMkcolLeavesAll, PutIsProper, MkcolIsProper, CreatesOnly}
+use Rattle.dav_engine.specs.WorldLaws.{OnlyReads, IsProperPlan, proper_done, proper_ask, RefusedPutLeavesAll, RefusedMkcolLeavesAll, PutIsProper, MkcolIsProper, CreatesOnly, CreateOnlyLeavesAll, reads_done}
 use Rattle.dav_engine.proofs.Following.{ran_bind}
 use Rattle.dav_engine.proofs.CallWorlds.{Did, stays, means, did}
 use Rattle.dav_engine.proofs.WorldPlans.{Only, only_done, only_ask, only_look, only_then, only_bind, only_require, only_reads, only_proper, proper_then, proper_bind, reading_leaves, ran_outcome, ran_split}
@@ -186,3 +186,39 @@ pub creates_only : CreatesOnly
 creates_only m h p who bytes old new ls ms r star_is ran =
     let parts = ran_split (put_allowed m h p who bytes) _ ran in
     split_new m h p who bytes parts.outcome (ap is_star star_is) parts.first parts.rest
+
+-- ---- and where something is, it stays
+
+no_node : (w : World) (p : Path) (n : Node) {A : Type 0} → node_at w p ≡ None → node_at w p ≡ Some n → A
+no_node w p n none some = let clash = sym none ∙ some in absurd (cc)
+
+kept_open : (w : World) (p : Path) (how : Opening) (now : ℕ) (n : Node) (answer : Result Handle FsError) (f : Handle → MethodPlan Response) (mid : StoreState) {new : StoreState} {ls ms : Locks} {a : Result Response DavError}
+    → how.create_new ≡ true → node_at w p ≡ Some n → Did (meaning (Open p how now) w) w answer mid.world
+    → Ran Asks (followed_by (refused_as (open_error how) answer) f) mid ls a new ms → (new.world ≡ w) × (ms ≡ ls)
+kept_open w p how now n answer f mid new there (means file h is same) ran = no_node w p n (opened_new w p how now file new h) there
+kept_open w p how now n (Err e) f mid new there (stays d is same) ran =
+    let (world, locks) = reading_leaves reads_done ran in
+    (world ∙ same, locks)
+kept_open w p how now n (Ok file) f mid new there (stays d is same) ran = absurd (cc)
+
+kept_store : (how : Opening) (place : Option ℕ) (p : Path) (bytes : List ℕ) (now : ℕ) (found : Bool) (n : Node) {old new : StoreState} {ls ms : Locks} {a : Result Response DavError}
+    → how.create_new ≡ true → node_at old.world p ≡ Some n → Ran Asks (store how place p bytes now found) old ls a new ms → (new.world ≡ old.world) × (ms ≡ ls)
+kept_store how place p bytes now found n is there (ran_ask {old = old} {mid = mid} {answer = answer} one rest) =
+    kept_open old.world p how now n answer _ mid is there (did one) rest
+
+kept_new : (m : DavMethod) (h : PutHeaders) (p : Path) (who : Client) (bytes : List ℕ) (n : Node) {old mid new : StoreState} {ls ks ms : Locks} {a : Result Response DavError} (outcome : Result (Writing × Bool) DavError)
+    → is_star h.conditions.if_none_match ≡ true → node_at old.world p ≡ Some n → Ran Asks (put_allowed m h p who bytes) old ls outcome mid ks
+    → Ran Asks (followed_by outcome (λ allowed. store (put_opening h allowed.0) allowed.0.from p bytes who.moment allowed.1)) mid ks a new ms → (new.world ≡ old.world) × (ms ≡ ls)
+kept_new m h p who bytes n (Err e) is there first rest =
+    let (world, locks) = reading_leaves (only_reads look_reads (only_put_allowed m h p who bytes)) first in
+    let (same, kept) = reading_leaves reads_done rest in
+    (same ∙ world, kept ∙ locks)
+kept_new m h p who bytes n (Ok allowed) is there first rest =
+    let (world, locks) = reading_leaves (only_reads look_reads (only_put_allowed m h p who bytes)) first in
+    let (same, kept) = kept_store (put_opening h allowed.0) allowed.0.from p bytes who.moment allowed.1 n is (ap (λ (w : World). node_at w p) world ∙ there) rest in
+    (same ∙ world, kept ∙ locks)
+
+pub create_only_leaves_all : CreateOnlyLeavesAll
+create_only_leaves_all m h p who bytes old new ls ms a n star_is there ran =
+    let parts = ran_split (put_allowed m h p who bytes) _ ran in
+    kept_new m h p who bytes n parts.outcome (ap is_star star_is) there parts.first parts.rest

@@ -96,6 +96,14 @@ CreatesOnly =
     (m : DavMethod) (h : PutHeaders) (p : Path) (who : Client) (bytes : List ℕ) (old new : StoreState) (ls ms : Locks) (r : Response)
     → h.conditions.if_none_match ≡ Some star → Ran Asks (put m h p who bytes) old ls (Ok r) new ms → node_at old.world p ≡ None
 
+-- Where something is at its path, it leaves the world and the list of locks, whatever the store refuses.
+abbrev pub CreateOnlyLeavesAll : Type 0
+CreateOnlyLeavesAll =
+    (m : DavMethod) (h : PutHeaders) (p : Path) (who : Client) (bytes : List ℕ) (old new : StoreState) (ls ms : Locks)
+    (a : Result Response DavError) (n : Node)
+    → h.conditions.if_none_match ≡ Some star → node_at old.world p ≡ Some n → Ran Asks (put m h p who bytes) old ls a new ms
+    → (new.world ≡ old.world) × (ms ≡ ls)
+
 -- The change number was handed out, and whatever has it is a file with these bytes.
 pub record Remembers (number : ℕ) (bytes : List ℕ) (w : World) : Type 0 where
   pub below : number < w.next

@@ -2,7 +2,7 @@
 ghost use Rattle.dav_engine.specs.Date.{DatesOfMoments};
 ghost use Rattle.dav_engine.specs.OnePlan.{OneReadingOfConditions, OnePutPlan, OneMkcolPlan};
 ghost use Rattle.dav_engine.specs.PlanLaws.{PlansAreDetermined, PlansEnd, WantIsLikeRefusals, CutsAreLikeRefusals};
-ghost use Rattle.dav_engine.specs.WorldLaws.{ReadingLeavesAll, ProperPlansKeepWorlds, PutIsProper, MkcolIsProper, RefusedPutLeavesAll, RefusedMkcolLeavesAll, CreatesOnly, PlansRemember};
+ghost use Rattle.dav_engine.specs.WorldLaws.{ReadingLeavesAll, ProperPlansKeepWorlds, PutIsProper, MkcolIsProper, RefusedPutLeavesAll, RefusedMkcolLeavesAll, CreatesOnly, CreateOnlyLeavesAll, PlansRemember};
 
 /// Where the store never ran out of memory, the outcome of a plan is determined, and so are the store and the list of locks
 /// that it leaves.
@@ -68,10 +68,11 @@ pub fn refused_writes_leave_all()
     ensures mkcol { RefusedMkcolLeavesAll }
 {}
 
-/// A PUT or PATCH with If-None-Match `*` that succeeds found nothing at its path, whatever the store refused: what is
-/// there is never overwritten (RFC 9110, section 13.1.2).
+/// A PUT or PATCH with If-None-Match `*` that succeeds found nothing at its path, whatever the store refused; and where
+/// something is at its path, it leaves the world and the list of locks (RFC 9110, section 13.1.2).
 pub fn creates_only()
-    ensures { CreatesOnly }
+    ensures nothing { CreatesOnly }
+    ensures kept { CreateOnlyLeavesAll }
 {}
 
 /// What once holds of an entity tag holds from then on: whatever carries its number is a file of the same bytes, so a

@@ -14,4 +14,6 @@ pub mod MeansWorld
 pub mod TagLemmas
 pub mod PlanStatuses
 pub mod NotModified
+pub mod WriteLemmas
+pub mod RefusedLemmas
 pub mod TurnLemmas

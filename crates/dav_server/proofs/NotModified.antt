@@ -145,7 +145,7 @@ get_304 m c p now tag outcome says (ran_ask {old = old} {answer = answer} one re
 -- ---- one step
 
 -- what the header says is what the conditions have
-says_tags : (values : List FieldValue) (o : Option TagList) (l : TagList) → Decodes IsTagList values o → IsTagList values l → o ≡ Some l
+pub says_tags : (values : List FieldValue) (o : Option TagList) (l : TagList) → Decodes IsTagList values o → IsTagList values l → o ≡ Some l
 says_tags values None l none is = absurd (none l is)
 says_tags values (Some k) l decoded is = ap Some (one_tag_list values k l decoded is)
 
@@ -175,7 +175,7 @@ plan_304 {p = p} {given} {who} tag outcome says (patches (is_put h are)) ran is 
 plan_304 {p = p} {who = who} tag outcome says (makes (is_mkcol c are)) ran is = absurd (other_status outcome (ran_ends (ends_mkcol c p who) ran) is)
 plan_304 tag outcome says (not_yet out) ran is = failed_status {e = dav.Status 501} (λ same. absurd (omega (arith, same))) ran is
 
-one_value : {A : Type 0} {a b : A} → ◌≡◌ {A = Result A DavError} (Ok a) (Ok b) → a ≡ b
+pub one_value : {A : Type 0} {a b : A} → ◌≡◌ {A = Result A DavError} (Ok a) (Ok b) → a ≡ b
 one_value same = cc
 
 no_error : {A B : Type 0} {a : A} {e : DavError} → ◌≡◌ {A = Result A DavError} (Ok a) (Err e) → B

@@ -51,11 +51,11 @@ ran_ends (ends_done is) ran_done = is
 ran_ends (ends_ask more) (ran_ask {answer = answer} one rest) = ran_ends (more answer) rest
 ran_ends (ends_look more) (ran_look {ls = ls} rest) = ran_ends (more ls) rest
 
-ends_then : {E : DavError → Type 0} {A B : Type 0} {P : A → Type 0} {Q : B → Type 0} (r : Result A DavError) (f : A → MethodPlan B) → Outcome E P r → ((a : A) → P a → Ends E Q (f a)) → Ends E Q (followed_by r f)
+pub ends_then : {E : DavError → Type 0} {A B : Type 0} {P : A → Type 0} {Q : B → Type 0} (r : Result A DavError) (f : A → MethodPlan B) → Outcome E P r → ((a : A) → P a → Ends E Q (f a)) → Ends E Q (followed_by r f)
 ends_then (Ok a) f is more = more a is
 ends_then (Err e) f is more = ends_done is
 
-ends_bind : {E : DavError → Type 0} {A B : Type 0} {P : A → Type 0} {Q : B → Type 0} {plan : MethodPlan A} (f : A → MethodPlan B) → Ends E P plan → ((a : A) → P a → Ends E Q (f a)) → Ends E Q (plan >>= f)
+pub ends_bind : {E : DavError → Type 0} {A B : Type 0} {P : A → Type 0} {Q : B → Type 0} {plan : MethodPlan A} (f : A → MethodPlan B) → Ends E P plan → ((a : A) → P a → Ends E Q (f a)) → Ends E Q (plan >>= f)
 ends_bind f (ends_done {r = r} is) more = ends_then r f is more
 ends_bind f (ends_ask rest) more = ends_ask (λ answer. ends_bind f (rest answer) more)
 ends_bind f (ends_look rest) more = ends_look (λ ls. ends_bind f (rest ls) more)
@@ -263,7 +263,7 @@ ends_sought None file = ends_done tt
 ends_sought (Some k) file = ends_ask (λ answer.
     ends_then (refused_as (λ e. unsatisfiable) answer) _ (asked_other (λ e. unsatisfiable) (λ e same. absurd (omega (arith, same))) answer) (λ moved any. ends_done tt))
 
-ends_either : {E : DavError → Type 0} {A : Type 0} {P : A → Type 0} (b : Bool) (one other : MethodPlan A) → Ends E P one → Ends E P other → Ends E P (if b then one else other)
+pub ends_either : {E : DavError → Type 0} {A : Type 0} {P : A → Type 0} (b : Bool) (one other : MethodPlan A) → Ends E P one → Ends E P other → Ends E P (if b then one else other)
 ends_either true one other is is' = is
 ends_either false one other is is' = is'
 

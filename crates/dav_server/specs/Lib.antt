@@ -14,6 +14,7 @@ pub mod Run
 pub mod Setup
 pub mod GivenBody
 pub mod TagLaws
+pub mod WriteLaws
 pub mod Server
 pub mod ServerCode
 pub mod ExchangeView

@@ -4,6 +4,7 @@ ghost use Rattle.dav_server.specs.Headers.{KeepsValues};
 ghost use Rattle.dav_server.specs.Run.{RunsAreDetermined, RunsSplit, RunsJoin, RunsEnd};
 ghost use Rattle.dav_server.specs.TagLaws.{TagsTellBytes, NotModifiedIsTrue, ReadingLeaves, RunsKeepWorlds};
 ghost use Rattle.dav_server.specs.Target.{OneOutcome};
+ghost use Rattle.dav_server.specs.WriteLaws.{CreateOnlyKeeps, RefusedLeaves};
 
 /// Bytes are a head in one way at most.
 pub fn heads_say_one_thing()
@@ -66,4 +67,18 @@ pub fn reading_leaves_all()
 #[tactic(auto, using(crate::proofs::MeansWorld::runs_keep_worlds))]
 pub fn runs_keep_worlds()
     ensures { RunsKeepWorlds }
+{}
+
+/// A PUT or PATCH whose If-None-Match is `*`, at a path where something is, leaves the world and the list of locks: what is
+/// there is never overwritten, whatever the store refuses (RFC 9110, section 13.1.2).
+#[tactic(auto, using(crate::proofs::WriteLemmas::create_only_keeps))]
+pub fn creating_only_keeps_what_is_there()
+    ensures { CreateOnlyKeeps }
+{}
+
+/// A request that is answered 412 or 423 leaves the world and the list of locks: a condition that fails, or a lock that
+/// conflicts, changes nothing (RFC 9110, section 13.2.1; RFC 4918, section 7).
+#[tactic(auto, using(crate::proofs::RefusedLemmas::refused_leaves))]
+pub fn refused_requests_leave_all()
+    ensures { RefusedLeaves }
 {}

@@ -1,5 +1,5 @@
-use Rattle.dav_engine.proofs.PutWorld.{creates_only}
+use Rattle.dav_engine.proofs.PutWorld.{creates_only, create_only_leaves_all}
 use Rattle.dav_engine.proofs.laws.creates_only.Goals as goal
 
 pub returns : goal.returns
-returns c = creates_only
+returns c = record { nothing = creates_only; kept = create_only_leaves_all }

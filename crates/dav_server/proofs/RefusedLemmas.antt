@@ -1,0 +1,165 @@
+-- A request that is answered 412 or 423 leaves everything: after the file was opened, or the folder made, no such status comes.
+use Rattle.std.proofs.Common.{◌≡◌, ◌≢◌, inl, inr, ℕ, ◌==◌, Bool, true, false, if◌then◌else◌, length, List, Option, Some, None, Result, Ok, Err, ◌∙◌, arith}
+use Rattle.dav_core.specs.declared.errors.FsError.{FsError}
+use Rattle.dav_core.specs.declared.errors.FsError.TheVariants as fs
+use Rattle.dav_core.specs.declared.errors.DavError.{DavError}
+use Rattle.dav_core.specs.declared.errors.DavError.TheVariants as dav
+use Rattle.dav_core.specs.declared.method.DavMethod.{DavMethod}
+use Rattle.dav_core.specs.declared.method.DavMethod.TheVariants.{Get, Head, Put, Patch}
+use Rattle.dav_core.specs.Asking.{Open, CreateDir, Write, meaning, StoreState, Asks as Asking}
+use Rattle.dav_core.specs.Handle.{Handle, Opening}
+use Rattle.dav_core.specs.Path.{Path, PathText, names}
+use Rattle.dav_core.specs.Status.{dav_status, fs_status}
+use Rattle.dav_core.specs.World.{World}
+use Rattle.dav_engine.specs.declared.request.Body.{Body}
+use Rattle.dav_engine.specs.declared.put_headers.Writing.{Writing}
+use Rattle.dav_engine.specs.Client.{Client}
+use Rattle.dav_engine.specs.Conditions.{Conditions}
+use Rattle.dav_engine.specs.Headers.{Headers}
+use Rattle.dav_engine.specs.Method.{MethodPlan, then as followed_by, ◌>>=◌, gives, ask_for, ask_or, refused_as}
+use Rattle.dav_engine.specs.Mkcol.{mkcol_allowed, create_error, made, is_mkcol}
+use Rattle.dav_engine.specs.Plan.{Locks, Ran, ran_ask}
+use Rattle.dav_engine.specs.Put.{PutHeaders, put_opening, open_error, unsatisfiable, sought, written, store, put_allowed, put_body, bytes_of_body, is_put}
+use Rattle.dav_engine.specs.Response.{Response, reply_to}
+use Rattle.dav_engine.specs.WorldLaws.{reads_done}
+use Rattle.dav_engine.proofs.CallWorlds.{Did, stays, means, did}
+use Rattle.dav_engine.proofs.PutWorld.{look_reads, only_put_allowed, only_mkcol_allowed}
+use Rattle.dav_engine.proofs.WorldPlans.{only_reads, reading_leaves, ran_split}
+use Rattle.dav_server.specs.Get.{is_get}
+use Rattle.dav_server.specs.Head.{Request}
+use Rattle.dav_server.specs.Machine.{Settings, Asked, PlanOf, gets, heads, puts, patches, makes, not_yet, MeansOf, not_allowed, no_path, no_body, method, no_head, no_method, known, steps}
+use Rattle.dav_server.specs.WriteLaws.{IsRefusedStatus, RefusedLeaves}
+use Rattle.dav_server.proofs.GetWorld.{get_is_reading}
+use Rattle.dav_server.proofs.PlanStatuses.{Outcome, Any, Ends, ends_done, ends_ask, ends_then, ends_bind, ends_either, ran_ends}
+
+-- ---- statuses that come after a change
+
+abbrev Later : ℕ → Type 0
+Later status = (status ≢ 412) × (status ≢ 423)
+
+abbrev LaterError : DavError → Type 0
+LaterError e = Later (dav_status e)
+
+abbrev LaterReply : Response → Type 0
+LaterReply r = Later r.status
+
+later_fs : (e : FsError) → Later (fs_status e)
+later_fs fs.NotImplemented = (λ same. absurd (omega (arith, same)), λ same. absurd (omega (arith, same)))
+later_fs fs.GeneralFailure = (λ same. absurd (omega (arith, same)), λ same. absurd (omega (arith, same)))
+later_fs fs.Exists = (λ same. absurd (omega (arith, same)), λ same. absurd (omega (arith, same)))
+later_fs fs.NotFound = (λ same. absurd (omega (arith, same)), λ same. absurd (omega (arith, same)))
+later_fs fs.Forbidden = (λ same. absurd (omega (arith, same)), λ same. absurd (omega (arith, same)))
+later_fs fs.InsufficientStorage = (λ same. absurd (omega (arith, same)), λ same. absurd (omega (arith, same)))
+later_fs fs.LoopDetected = (λ same. absurd (omega (arith, same)), λ same. absurd (omega (arith, same)))
+later_fs fs.PathTooLong = (λ same. absurd (omega (arith, same)), λ same. absurd (omega (arith, same)))
+later_fs fs.TooLarge = (λ same. absurd (omega (arith, same)), λ same. absurd (omega (arith, same)))
+later_fs fs.IsRemote = (λ same. absurd (omega (arith, same)), λ same. absurd (omega (arith, same)))
+
+later_asked : {A : Type 0} (g : FsError → DavError) → ((e : FsError) → LaterError (g e)) → (answer : Result A FsError) → Outcome LaterError Any (refused_as g answer)
+later_asked g later (Ok a) = tt
+later_asked g later (Err e) = later e
+
+later_store : {A : Type 0} (answer : Result A FsError) → Outcome LaterError Any (refused_as dav.FsError answer)
+later_store answer = later_asked dav.FsError later_fs answer
+
+later_sought : (place : Option ℕ) (file : Handle) → Ends LaterError Any (sought place file)
+later_sought None file = ends_done tt
+later_sought (Some k) file = ends_ask (λ answer.
+    ends_then (refused_as (λ e. unsatisfiable) answer) _ (later_asked (λ e. unsatisfiable) (λ e. (λ same. absurd (omega (arith, same)), λ same. absurd (omega (arith, same)))) answer) (λ moved any. ends_done tt))
+
+later_written : (file : Handle) (bytes : List ℕ) (now : ℕ) → Ends LaterError Any (written file bytes now)
+later_written file bytes now = ends_either (length bytes == 0) (gives file) (ask_for (Write file bytes now)) (ends_done tt) (ends_ask (λ answer. ends_done (later_store answer)))
+
+later_stored : (b : Bool) → Later (if b then 204 else 201)
+later_stored true = (λ same. absurd (omega (arith, same)), λ same. absurd (omega (arith, same)))
+later_stored false = (λ same. absurd (omega (arith, same)), λ same. absurd (omega (arith, same)))
+
+not_later : (outcome : Result Response DavError) → Outcome LaterError LaterReply outcome → ¬ IsRefusedStatus (reply_to outcome).status
+not_later (Ok r) later (inl is) = later.0 is
+not_later (Ok r) later (inr is) = later.1 is
+not_later (Err e) later (inl is) = later.0 is
+not_later (Err e) later (inr is) = later.1 is
+
+-- ---- the call that makes the first change
+
+abbrev Same : StoreState → Locks → StoreState → Locks → Type 0
+Same old ls new ms = (new.world ≡ old.world) × (ms ≡ ls)
+
+-- where it is refused the plan ends; where it isn't, none of these statuses comes
+first_change : {A : Type 0} (w : World) (m : Result (A × World) FsError) (g : FsError → DavError) (answer : Result A FsError) (f : A → MethodPlan Response) (mid : StoreState) {new : StoreState} {ls ms : Locks} (outcome : Result Response DavError)
+    → ((a : A) → Ends LaterError LaterReply (f a)) → Did m w answer mid.world → IsRefusedStatus (reply_to outcome).status
+    → Ran Asking (followed_by (refused_as g answer) f) mid ls outcome new ms → (new.world ≡ w) × (ms ≡ ls)
+first_change w m g (Ok a) f mid outcome later done refused ran = absurd (not_later outcome (ran_ends (later a) ran) refused)
+first_change w m g (Err e) f mid outcome later (stays d is same) refused ran =
+    let (world, locks) = reading_leaves reads_done ran in
+    (world ∙ same, locks)
+first_change w m g (Err e) f mid outcome later (means r h is same) refused ran = absurd (cc)
+
+-- ---- PUT and PATCH
+
+store_leaves : (how : Opening) (place : Option ℕ) (p : Path) (bytes : List ℕ) (now : ℕ) (found : Bool) (outcome : Result Response DavError) {old new : StoreState} {ls ms : Locks}
+    → IsRefusedStatus (reply_to outcome).status → Ran Asking (store how place p bytes now found) old ls outcome new ms → Same old ls new ms
+store_leaves how place p bytes now found outcome refused (ran_ask {old = old} {mid = mid} {answer = answer} one rest) =
+    first_change old.world (meaning (Open p how now) old.world) (open_error how) answer _ mid outcome (λ file.
+    ends_bind _ (later_sought place file) (λ file any.
+    ends_bind _ (later_written file bytes now) (λ file any.
+    ends_ask (λ answer. ends_then (refused_as dav.FsError answer) _ (later_store answer) (λ done any. ends_ask (λ answer. ends_done (later_stored found))))))) (did one) refused rest
+
+put_leaves : (m : DavMethod) (h : PutHeaders) (p : Path) (who : Client) (bytes : List ℕ) (checked : Result (Writing × Bool) DavError) (outcome : Result Response DavError) {old mid new : StoreState} {ls ks ms : Locks}
+    → IsRefusedStatus (reply_to outcome).status → Ran Asking (put_allowed m h p who bytes) old ls checked mid ks
+    → Ran Asking (followed_by checked (λ allowed. store (put_opening h allowed.0) allowed.0.from p bytes who.moment allowed.1)) mid ks outcome new ms → Same old ls new ms
+put_leaves m h p who bytes (Err e) outcome refused first rest =
+    let (world, locks) = reading_leaves (only_reads look_reads (only_put_allowed m h p who bytes)) first in
+    let (same, kept) = reading_leaves reads_done rest in
+    (same ∙ world, kept ∙ locks)
+put_leaves m h p who bytes (Ok allowed) outcome refused first rest =
+    let (world, locks) = reading_leaves (only_reads look_reads (only_put_allowed m h p who bytes)) first in
+    let (same, kept) = store_leaves (put_opening h allowed.0) allowed.0.from p bytes who.moment allowed.1 outcome refused rest in
+    (same ∙ world, kept ∙ locks)
+
+body_leaves : (m : DavMethod) (h : PutHeaders) (p : Path) (who : Client) (bytes : Option (List ℕ)) (outcome : Result Response DavError) {old new : StoreState} {ls ms : Locks}
+    → IsRefusedStatus (reply_to outcome).status → Ran Asking (put_body m h p who bytes) old ls outcome new ms → Same old ls new ms
+body_leaves m h p who None outcome refused ran = reading_leaves reads_done ran
+body_leaves m h p who (Some bytes) outcome refused ran =
+    let parts = ran_split (put_allowed m h p who bytes) _ ran in
+    put_leaves m h p who bytes parts.outcome outcome refused parts.first parts.rest
+
+-- ---- MKCOL
+
+mkcol_leaves : (c : Conditions) (p : PathText) (who : Client) (checked : Result (Unit {0}) DavError) (outcome : Result Response DavError) {old mid new : StoreState} {ls ks ms : Locks}
+    → IsRefusedStatus (reply_to outcome).status → Ran Asking (mkcol_allowed c p who) old ls checked mid ks
+    → Ran Asking (followed_by checked (λ _. ask_or create_error (CreateDir (names p) who.moment) >>= (λ _. gives (made p)))) mid ks outcome new ms → Same old ls new ms
+mkcol_leaves c p who (Err e) outcome refused first rest =
+    let (world, locks) = reading_leaves (only_reads look_reads (only_mkcol_allowed c p who)) first in
+    let (same, kept) = reading_leaves reads_done rest in
+    (same ∙ world, kept ∙ locks)
+mkcol_leaves c p who (Ok allowed) outcome refused first (ran_ask {old = old} {mid = mid} {answer = answer} one rest) =
+    let (world, locks) = reading_leaves (only_reads look_reads (only_mkcol_allowed c p who)) first in
+    let (same, kept) = first_change old.world (meaning (CreateDir (names p) who.moment) old.world) create_error answer (λ _. gives (made p)) mid outcome
+    (λ done. ends_done (λ same. absurd (omega (arith, same)), λ same. absurd (omega (arith, same)))) (did one) refused rest in
+    (same ∙ world, kept ∙ locks)
+
+-- ---- a step
+
+plan_leaves : {headers : Headers} {p : PathText} {given : Body} {who : Client} {m : DavMethod} {plan : MethodPlan Response} (outcome : Result Response DavError) {old new : StoreState} {ls ms : Locks}
+    → IsRefusedStatus (reply_to outcome).status → PlanOf headers p given who m plan → Ran Asking plan old ls outcome new ms → Same old ls new ms
+plan_leaves {p = p} {who = who} outcome refused (gets (is_get c are)) ran = reading_leaves (get_is_reading Get c (names p) who.moment) ran
+plan_leaves {p = p} {who = who} outcome refused (heads (is_get c are)) ran = reading_leaves (get_is_reading Head c (names p) who.moment) ran
+plan_leaves {p = p} {given} {who} outcome refused (puts (is_put h are)) ran = body_leaves Put h (names p) who (bytes_of_body given) outcome refused ran
+plan_leaves {p = p} {given} {who} outcome refused (patches (is_put h are)) ran = body_leaves Patch h (names p) who (bytes_of_body given) outcome refused ran
+plan_leaves {p = p} {who = who} outcome refused (makes (is_mkcol c are)) ran =
+    let parts = ran_split (mkcol_allowed c p who) _ ran in
+    mkcol_leaves c p who parts.outcome outcome refused parts.first parts.rest
+plan_leaves outcome refused (not_yet out) ran = reading_leaves reads_done ran
+
+of_leaves : {s : Settings} {x : Asked} {r : Request} {m : DavMethod} {plan : MethodPlan Response} (outcome : Result Response DavError) {old new : StoreState} {ls ms : Locks}
+    → IsRefusedStatus (reply_to outcome).status → MeansOf s x r m plan → Ran Asking plan old ls outcome new ms → Same old ls new ms
+of_leaves outcome refused (not_allowed out) ran = reading_leaves reads_done ran
+of_leaves outcome refused (no_path e has none) ran = reading_leaves reads_done ran
+of_leaves outcome refused (no_body p e has named bad) ran = reading_leaves reads_done ran
+of_leaves outcome refused (method p given has named good plan) ran = plan_leaves outcome refused plan ran
+
+pub refused_leaves : RefusedLeaves
+refused_leaves s x old new ls ms reply refused (steps plan outcome (no_head out) ran) = reading_leaves reads_done ran
+refused_leaves s x old new ls ms reply refused (steps plan outcome (no_method r e head known_by) ran) = reading_leaves reads_done ran
+refused_leaves s x old new ls ms reply refused (steps plan outcome (known r m head known_by its) ran) = of_leaves outcome refused its ran

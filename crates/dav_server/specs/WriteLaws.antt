@@ -1,0 +1,41 @@
+-- What holds of the requests that write, from the bytes of their heads on.
+use Rattle.std.specs.Prelude.{◌≡◌, ◌⊎◌, ℕ, codes, Some, Ok}
+use Rattle.http_header.specs.HeaderMap.{get_all}
+use Rattle.dav_core.specs.declared.method.DavMethod.{DavMethod}
+use Rattle.dav_core.specs.declared.method.DavMethod.TheVariants.{Put, Patch}
+use Rattle.dav_core.specs.Asking.{StoreState}
+use Rattle.dav_core.specs.Path.{PathText, names}
+use Rattle.dav_core.specs.World.{Node, node_at}
+use Rattle.dav_headers.specs.ETagList.{star, IsTagList}
+use Rattle.dav_engine.specs.Plan.{Locks}
+use Rattle.dav_engine.specs.Response.{Response}
+use Rattle.dav_server.specs.Head.{Request, IsHead}
+use Rattle.dav_server.specs.Headers.{headers_of}
+use Rattle.dav_server.specs.Machine.{Asked, Settings, Steps}
+use Rattle.dav_server.specs.Method.{GivesServed}
+use Rattle.dav_server.specs.Target.{TargetNames}
+
+-- The request is a PUT or PATCH of this path, and its If-None-Match is `*` (RFC 9110, section 13.1.2).
+abbrev pub IsCreateOnly : Settings → Asked → PathText → Type 0
+IsCreateOnly s x p =
+    (r : Request) × (m : DavMethod)
+    × IsHead x.head r × GivesServed r.method (Ok m) × ((m ≡ Put) ⊎ (m ≡ Patch)) × TargetNames s.prefix m r.target (Ok p)
+    × IsTagList (get_all (headers_of r.fields) (codes "if-none-match")) star
+
+-- Where something is at its path, such a request leaves the world and the list of locks, whatever its reply is and whatever
+-- the store refuses.
+abbrev pub CreateOnlyKeeps : Type 0
+CreateOnlyKeeps =
+    (s : Settings) (x : Asked) (p : PathText) (n : Node) (old new : StoreState) (ls ms : Locks) (reply : Response)
+    → IsCreateOnly s x p → node_at old.world (names p) ≡ Some n → Steps s x old ls reply new ms
+    → (new.world ≡ old.world) × (ms ≡ ls)
+
+-- 412 answers a condition that fails, 423 a lock that conflicts (RFC 9110, section 15.5.13; RFC 4918, section 11.3)
+abbrev pub IsRefusedStatus : ℕ → Type 0
+IsRefusedStatus status = (status ≡ 412) ⊎ (status ≡ 423)
+
+-- A request that is answered so leaves the world and the list of locks, whatever its method is.
+abbrev pub RefusedLeaves : Type 0
+RefusedLeaves =
+    (s : Settings) (x : Asked) (old new : StoreState) (ls ms : Locks) (reply : Response)
+    → IsRefusedStatus reply.status → Steps s x old ls reply new ms → (new.world ≡ old.world) × (ms ≡ ls)
