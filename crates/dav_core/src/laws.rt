@@ -49,8 +49,8 @@ pub fn equal_paths_are_alike()
 {}
 
 /// A slash at the end changes no name, a name or segment that is added is the last, and the parent has all names but the
-/// last; a path has no more names than bytes. A path that is cut after a prefix has the names that follow those of the prefix. A path has one parent, and a prefix
-/// cuts it in one way.
+/// last. A path has no more names than bytes, and the path of a member is never `*`. A path that is cut after a prefix has
+/// the names that follow those of the prefix. A path has one parent, and a prefix cuts it in one way.
 pub fn names_are_added()
     ensures slash { SlashKeepsNames }
     ensures name { AddsName }

@@ -96,7 +96,8 @@ CreatesOnly =
     (m : DavMethod) (h : PutHeaders) (p : Path) (who : Client) (bytes : List ℕ) (old new : StoreState) (ls ms : Locks) (r : Response)
     → h.conditions.if_none_match ≡ Some star → Ran Asks (put m h p who bytes) old ls (Ok r) new ms → node_at old.world p ≡ None
 
--- Where something is at its path, it leaves the world and the list of locks, whatever the store refuses.
+-- Where something is at the path of such a PUT or PATCH, it leaves the world and the list of locks, whatever the store
+-- refuses.
 abbrev pub CreateOnlyLeavesAll : Type 0
 CreateOnlyLeavesAll =
     (m : DavMethod) (h : PutHeaders) (p : Path) (who : Client) (bytes : List ℕ) (old new : StoreState) (ls ms : Locks)
