@@ -17,11 +17,11 @@ pub record KeepsLent {F A B L : Type 0} (old new : DavInner F A B L) : Type 0 wh
   pub backend : new.backend.ghost_name ≡ old.backend.ghost_name
   pub allow : new.allow ≡ old.allow
   pub caller : new.caller ≡ old.caller
-  pub locks : new.backend.now.locks ≡ old.backend.now.locks
+  pub locks : new.backend.now.state.locks ≡ old.backend.now.state.locks
 
 -- the request was answered by a plan of this kind for its caller, on the state that it borrows
 abbrev pub ServesFrom : {F A B L : Type 0} → (Client → MethodPlan Response → Type 0) → DavInner F A B L → Result Response DavError → DavInner F A B L → Type 0
-ServesFrom kind old result new = Serves (kind old.caller.now) old.backend.now result new.backend.now
+ServesFrom kind old result new = Serves (kind old.caller.now) old.backend.now.state result new.backend.now.state
 
 -- the plans of a MKCOL, by who makes it
 abbrev pub MkcolOf : DavRequest → Client → MethodPlan Response → Type 0

@@ -1,4 +1,5 @@
 pub mod AtWork
+pub mod BackendView
 pub mod Client
 pub mod ConditionView
 pub mod Conditions

@@ -36,15 +36,18 @@ pub struct Backend<F: DavFileSystem, L: DavLockSystem> {
 
 impl<F: DavFileSystem, L: DavLockSystem> Model for Backend<F, L> {
     ghost use Rattle.std.specs.Option.{option_map};
-    ghost use Rattle.dav_engine.specs.Plan.{ServerState};
-    ghost use Rattle.dav_engine.specs.StateCode.{coded_state};
+    ghost use Rattle.dav_engine.specs.BackendView.{BackendView, coded_backend};
     ghost use Rattle.dav_core.specs.contracts.errors.FsError as fs_error;
 
-    ghost Value = { ServerState };
+    ghost Value = { BackendView F L };
 
-    ghost coded = { coded_state fs_error.the_row.coded };
+    ghost coded = { coded_backend F.code L.code fs_error.the_row.coded };
 
-    ghost view = { λ b. record { store = F.state b.fs; locks = option_map L.locks b.ls } };
+    ghost view = { λ b. record {
+      fs = b.fs;
+      ls = b.ls;
+      state = record { store = F.state b.fs; locks = option_map L.locks b.ls };
+    } };
 }
 
 /// One request while it is answered, on the borrowed state of a server. The methods of a server are its functions.

@@ -192,8 +192,10 @@ fn read_bytes<R: Read>(alloc: Global, reader: &mut R) -> Result<Vec<u8>, Fault>
 // The server that a script sets up.
 fn server_of(alloc: Global, script: &Script) -> Result<DavHandler<Refusing<MemFs>, MemLs>, Fault>
     ensures prefix { OnOk result (IsPrefix (script_content script.now).prefix) }
-    ensures settings { IfOk result (λ h. h.settings ≡ settings_for (script_content script.now)) }
-    ensures state { IfOk result (λ h. h.state ≡ new_state (script_content script.now)) }
+    ensures settings { IfOk result (λ h.
+        h.server.settings ≡ settings_for (script_content script.now)) }
+    ensures state { IfOk result (λ h.
+        h.server.state ≡ new_state (script_content script.now)) }
     ensures bad { IsErrOf result NotScript → ¬ IsPrefix (script_content script.now).prefix }
 {
     let fs = Refusing::new(MemFs::new_at(alloc, script.next)?);

@@ -64,7 +64,7 @@ one_get {m} {headers} {p} {now} (is_get a h) (is_get b k) = ap (λ (c : Conditio
 never : {A : Type 0} → ◌≡◌ {A = Bool} true false → A
 never same = absurd (true≢false same)
 
-one_plan : {headers : Headers} {p : PathText} {body : Body} {who : Client} {m : DavMethod} {plan other : MethodPlan Response} → PlanOf headers p body who m plan → PlanOf headers p body who m other → plan ≡ other
+one_plan : {allowed : ℕ} {headers : Headers} {p : PathText} {body : Body} {who : Client} {m : DavMethod} {plan other : MethodPlan Response} → PlanOf allowed headers p body who m plan → PlanOf allowed headers p body who m other → plan ≡ other
 one_plan (gets one) (gets two) = one_get one two
 one_plan (gets one) (not_yet out) = never out
 one_plan (heads one) (heads two) = one_get one two
@@ -110,8 +110,8 @@ one_of (method p body has named good is) (no_body q f _ also bad) = not_both (sy
 one_of {s} {x} {r} {m} {other = other} (method p body has named good is) (method q given _ also better too) =
     let path : p ≡ q = one_value (one_outcome s.prefix m r.target _ _ named also) in
     let same : body ≡ given = one_value (sym good ∙ better) in
-    one_plan is (subst (λ (t : PathText). PlanOf (headers_of r.fields) t body (client x) m other) (sym path)
-    (subst (λ (b : Body). PlanOf (headers_of r.fields) q b (client x) m other) (sym same) too))
+    one_plan is (subst (λ (t : PathText). PlanOf s.allowed (headers_of r.fields) t body (client x) m other) (sym path)
+    (subst (λ (b : Body). PlanOf s.allowed (headers_of r.fields) q b (client x) m other) (sym same) too))
 
 -- a request results in one plan
 pub one_means : {s : Settings} {x : Asked} {plan other : MethodPlan Response} → Means s x plan → Means s x other → plan ≡ other

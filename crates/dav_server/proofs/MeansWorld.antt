@@ -84,7 +84,7 @@ target_storable {prefix} (path {text} {bytes} {p} has reads cut) = read_cut text
 proper_get : {m : DavMethod} {headers : Headers} {p : PathText} {now : ℕ} {plan : MethodPlan Response} → IsStorable (names p) → now ≤ last_moment → IsGet m headers p now plan → IsProperPlan plan
 proper_get {m} {p = p} {now} storable small (is_get c are) = get_is_proper m c (names p) now storable small
 
-plan_proper : {headers : Headers} {p : PathText} {body : Body} {who : Client} {m : DavMethod} {plan : MethodPlan Response} → IsStorable (names p) → who.moment ≤ last_moment → PlanOf headers p body who m plan → IsProperPlan plan
+plan_proper : {allowed : ℕ} {headers : Headers} {p : PathText} {body : Body} {who : Client} {m : DavMethod} {plan : MethodPlan Response} → IsStorable (names p) → who.moment ≤ last_moment → PlanOf allowed headers p body who m plan → IsProperPlan plan
 plan_proper storable small (gets is) = proper_get storable small is
 plan_proper storable small (heads is) = proper_get storable small is
 plan_proper {headers} {p} {body} {who} {plan = plan} storable small (puts is) = put_is_proper Put headers p body who plan storable small is
@@ -139,7 +139,7 @@ pub asks_one : (x : Asked) {r : Request} (m : DavMethod) {n : DavMethod} → Has
 asks_one x {r} m {n} (q, head, gives) also too =
     one_method r.method n m too (subst (λ (h : Request). GivesServed h.method (Ok m)) (one_head x.head q r head also) gives)
 
-plan_reads : {headers : Headers} {p : PathText} {body : Body} {who : Client} {m : DavMethod} {plan : MethodPlan Response} → is_reading m ≡ true → PlanOf headers p body who m plan → IsReading plan
+plan_reads : {allowed : ℕ} {headers : Headers} {p : PathText} {body : Body} {who : Client} {m : DavMethod} {plan : MethodPlan Response} → is_reading m ≡ true → PlanOf allowed headers p body who m plan → IsReading plan
 plan_reads {p = p} {who = who} is (gets (is_get c are)) = get_is_reading Get c (names p) who.moment
 plan_reads {p = p} {who = who} is (heads (is_get c are)) = get_is_reading Head c (names p) who.moment
 plan_reads is (puts out) = absurd (true≢false (sym is))

@@ -165,8 +165,8 @@ body_status TakesTree body.Malformed = tt
 body_status TakesBytes body.Malformed = not_415
 body_status TakesNone body.Malformed = not_415
 
-plan_304 : {headers : Headers} {p : PathText} {given : Body} {who : Client} {m : DavMethod} {plan : MethodPlan Response} (tag : EntityTag) (outcome : Result Response DavError) {old new : StoreState} {ls ms : Locks}
-    → IsTagList (get_all headers (codes "if-none-match")) (tags (tag ∷ [])) → PlanOf headers p given who m plan → Ran Asking plan old ls outcome new ms → (reply_to outcome).status ≡ 304
+plan_304 : {allowed : ℕ} {headers : Headers} {p : PathText} {given : Body} {who : Client} {m : DavMethod} {plan : MethodPlan Response} (tag : EntityTag) (outcome : Result Response DavError) {old new : StoreState} {ls ms : Locks}
+    → IsTagList (get_all headers (codes "if-none-match")) (tags (tag ∷ [])) → PlanOf allowed headers p given who m plan → Ran Asking plan old ls outcome new ms → (reply_to outcome).status ≡ 304
     → SomeStands old.world (names p) (tag_text tag.weak tag.tag)
 plan_304 {p = p} {who = who} tag outcome says (gets (is_get c are)) ran is = get_304 Get c (names p) who.moment tag outcome (says_tags _ c.if_none_match _ are.none_match says) ran is
 plan_304 {p = p} {who = who} tag outcome says (heads (is_get c are)) ran is = get_304 Head c (names p) who.moment tag outcome (says_tags _ c.if_none_match _ are.none_match says) ran is

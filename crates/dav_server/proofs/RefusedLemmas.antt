@@ -141,8 +141,8 @@ mkcol_leaves c p who (Ok allowed) outcome refused first (ran_ask {old = old} {mi
 
 -- ---- a step
 
-plan_leaves : {headers : Headers} {p : PathText} {given : Body} {who : Client} {m : DavMethod} {plan : MethodPlan Response} (outcome : Result Response DavError) {old new : StoreState} {ls ms : Locks}
-    → IsRefusedStatus (reply_to outcome).status → PlanOf headers p given who m plan → Ran Asking plan old ls outcome new ms → Same old ls new ms
+plan_leaves : {allowed : ℕ} {headers : Headers} {p : PathText} {given : Body} {who : Client} {m : DavMethod} {plan : MethodPlan Response} (outcome : Result Response DavError) {old new : StoreState} {ls ms : Locks}
+    → IsRefusedStatus (reply_to outcome).status → PlanOf allowed headers p given who m plan → Ran Asking plan old ls outcome new ms → Same old ls new ms
 plan_leaves {p = p} {who = who} outcome refused (gets (is_get c are)) ran = reading_leaves (get_is_reading Get c (names p) who.moment) ran
 plan_leaves {p = p} {who = who} outcome refused (heads (is_get c are)) ran = reading_leaves (get_is_reading Head c (names p) who.moment) ran
 plan_leaves {p = p} {given} {who} outcome refused (puts (is_put h are)) ran = body_leaves Put h (names p) who (bytes_of_body given) outcome refused ran

@@ -1,14 +1,12 @@
 -- Runs split, join and end.
-use Rattle.std.proofs.Common.{◌≡◌, Bool, List, [], ◌∷◌, ◌++◌, All, Option, Some, None, Result, refl, ap, ◌∙◌}
+use Rattle.std.proofs.Common.{◌≡◌, List, [], ◌∷◌, Option, Some, None, refl, ap, ◌∙◌}
 use Rattle.std.proofs.lemmas.List.Elements.{All-head, All-tail}
 use Rattle.dav_core.specs.declared.errors.FsError.{FsError}
 use Rattle.dav_core.specs.Asking.{StoreState}
-use Rattle.dav_engine.specs.Method.{MethodPlan}
-use Rattle.dav_engine.specs.Plan.{Locks}
 use Rattle.dav_engine.specs.Response.{Response, reply_to}
-use Rattle.dav_engine.proofs.PlanLemmas.{Comes, comes}
-use Rattle.dav_server.specs.Machine.{Settings, Asked, Means, Steps, steps}
-use Rattle.dav_server.specs.Run.{Turn, begun, Runs, no_more, one_more, HasPlan, RunsSplit, RunsJoin, RunsEnd}
+use Rattle.dav_engine.proofs.PlanLemmas.{comes}
+use Rattle.dav_server.specs.Machine.{steps}
+use Rattle.dav_server.specs.Run.{begun, no_more, one_more, HasPlan, RunsSplit, RunsJoin, RunsEnd}
 
 pub runs_split : RunsSplit
 runs_split s [] us old new ls ms replies run = ([], replies, old, ls, refl, no_more, run)

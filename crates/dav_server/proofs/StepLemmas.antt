@@ -1,5 +1,5 @@
 -- What the handler does is a step of the machine.
-use Rattle.std.proofs.Common.{◌≡◌, ℕ, List, OnErr, Result, Ok, Err, refl, sym, subst, ap, ◌∙◌}
+use Rattle.std.proofs.Common.{◌≡◌, ℕ, List, OnErr, Result, Ok, Err, refl, sym, subst}
 use Rattle.dav_core.specs.declared.errors.DavError.{DavError}
 use Rattle.dav_core.specs.declared.errors.DavError.TheVariants as dav
 use Rattle.dav_core.specs.Asking.{StoreState, Asks}
@@ -15,14 +15,12 @@ use Rattle.dav_engine.specs.declared.request.Body.{Body}
 use Rattle.dav_engine.specs.Client.{Client}
 use Rattle.dav_engine.specs.Headers.{Headers}
 use Rattle.dav_core.specs.Method.{Has}
-use Rattle.dav_server.specs.declared.body.Given.{Given}
-use Rattle.dav_server.specs.GivenBody.{handed}
 use Rattle.dav_server.specs.Head.{Request}
 use Rattle.dav_server.specs.Headers.{headers_of}
 use Rattle.dav_server.specs.Target.{TargetNames}
 use Rattle.dav_server.specs.Method.{GivesServed}
 use Rattle.dav_server.specs.TargetCode.{GivesPath}
-use Rattle.dav_server.specs.Server.{Server}
+use Rattle.dav_server.specs.Server.{HandlerView}
 use Rattle.dav_server.specs.Machine.{client, PlanOf, MeansOf, method, body_for, taken_by, Asked, Settings, Means, Steps, steps, StepCut, untouched, cut}
 
 -- what is served as one kind of plan is served as another that has each of its plans
@@ -63,27 +61,23 @@ served_err (served plan means (gave_up is' front)) is other = absurd (other (cc)
 served_err (not_begun is' same kept) is other = absurd (other (cc))
 
 -- a plan of a method is one of an equal method
-pub plan_at : {headers : Headers} {p : PathText} {body : Body} {who : Client} {m n : DavMethod} {plan : MethodPlan Response} → m ≡ n → PlanOf headers p body who n plan → PlanOf headers p body who m plan
-plan_at {headers} {p} {body} {who} {plan = plan} same is = subst (λ k. PlanOf headers p body who k plan) (sym same) is
+pub plan_at : {allowed : ℕ} {headers : Headers} {p : PathText} {body : Body} {who : Client} {m n : DavMethod} {plan : MethodPlan Response} → m ≡ n → PlanOf allowed headers p body who n plan → PlanOf allowed headers p body who m plan
+plan_at {allowed} {headers} {p} {body} {who} {plan = plan} same is = subst (λ k. PlanOf allowed headers p body who k plan) (sym same) is
 
 -- what an equal name gives as method
 pub served_at : {text name : List ℕ} (result : Result DavMethod DavError) → text ≡ name → GivesServed text result → GivesServed name result
 served_at result same is = subst (λ t. GivesServed t result) same is
 
--- a plan with headers is one with equal headers
-pub plan_with : {headers others : Headers} {p : PathText} {body : Body} {who : Client} {m : DavMethod} {plan : MethodPlan Response} → others ≡ headers → PlanOf others p body who m plan → PlanOf headers p body who m plan
-plan_with {p = p} {body} {who} {m} {plan} same is = subst (λ h. PlanOf h p body who m plan) same is
-
 -- what an equal target names below an equal prefix
 pub path_at : {prefix given target text : List ℕ} (m : DavMethod) (result : Result PathText DavError) → given ≡ prefix → text ≡ target → GivesPath given m text result → GivesPath prefix m target result
 path_at {prefix} {text = text} m result one two is = subst (λ t. GivesPath prefix m t result) two (subst (λ x. GivesPath x m text result) one is)
 
--- a body, by which one the method is handed
-pub handed_at : {s : Settings} {x : Asked} {r : Request} {m : DavMethod} {p : PathText} (g k : Given) (b : Body) {old new : ServerState} {result : Result Response DavError}
-    → Has s.allowed m → TargetNames s.prefix m r.target (Ok p) → b ≡ x.body → body_for (taken_by m) b ≡ Ok (handed g b) → g ≡ k
-    → Serves (PlanOf (headers_of r.fields) p (handed k b) (client x) m) old result new → Serves (MeansOf s x r m) old result new
-handed_at {x = x} {r} {m} {p} g k b has named here is same done =
-    serves_as (λ plan one. method p (handed k b) has named (subst (λ c. body_for (taken_by m) c ≡ Ok (handed k b)) here (is ∙ ap (λ h. Ok (handed h b)) same)) one) done
+-- what was served by a plan of its method was served by the plan of a request with these headers and this body
+pub handed_at : {s : Settings} {x : Asked} {r : Request} {m : DavMethod} {p : PathText} {headers : Headers} {body : Body} {old new : ServerState} {result : Result Response DavError}
+    → Has s.allowed m → TargetNames s.prefix m r.target (Ok p) → Ok body ≡ body_for (taken_by m) x.body → headers ≡ headers_of r.fields
+    → Serves (PlanOf s.allowed headers p body (client x) m) old result new → Serves (MeansOf s x r m) old result new
+handed_at {s} {x} {m = m} {p} {body = body} has named is same done =
+    serves_as (λ plan one. method p body has named (sym is) (subst (λ h. PlanOf s.allowed h p body (client x) m plan) same one)) done
 
 -- what holds anyway holds where there is an error
 pub any_err : {A E P : Type 0} (r : Result A E) → P → OnErr r P
@@ -94,10 +88,10 @@ any_err (Err e) p = p
 pub serves_by : {K J : MethodPlan Response → Type 0} {old new : ServerState} {r : Result Response DavError} → K ≡ J → Serves K old r new → Serves J old r new
 serves_by {old = old} {new} {r} same done = subst (λ (k : MethodPlan Response → Type 0). Serves k old r new) same done
 
--- what was served on the state of a server was served on that of an equal one
-pub serves_held : {K : MethodPlan Response → Type 0} {one other : Server} {new : ServerState} {r : Result Response DavError}
-    → one ≡ other → Serves K one.state r new → Serves K other.state r new
-serves_held {K} {new = new} {r} same done = subst (λ s. Serves K s.state r new) same done
+-- what was served on the state of a handler was served on that of an equal one
+pub serves_held : {K : MethodPlan Response → Type 0} {F L : Type 0} {one other : HandlerView F L} {new : ServerState} {r : Result Response DavError}
+    → one ≡ other → Serves K one.server.state r new → Serves K other.server.state r new
+serves_held {K} {new = new} {r} same done = subst (λ h. Serves K h.server.state r new) same done
 
 -- the same, by equal requests
 pub serves_asked : (K : Asked → MethodPlan Response → Type 0) {one other : Asked} {old new : ServerState} {r : Result Response DavError}

@@ -34,8 +34,8 @@ StandsSomewhere w tag bytes = (p : Path) × Stands w p tag bytes
 fails_shows_none : {A : Type 0} (e : DavError) (outcome : Result Response DavError) {old new : StoreState} {ls ms : Locks} (tag bytes : List ℕ) → Ran Asking (fails e) old ls outcome new ms → Shows tag bytes (reply_to outcome) → A
 fails_shows_none e outcome tag bytes ran shows = absurd (error_shows_none e tag bytes (subst (λ o. Shows tag bytes (reply_to o)) (ran_outcome ran) shows))
 
-plan_shows : {headers : Headers} {p : PathText} {body : Body} {who : Client} {m : DavMethod} {plan : MethodPlan Response} (outcome : Result Response DavError) {old new : StoreState} {ls ms : Locks} (tag bytes : List ℕ) → m ≡ Get → IsWorld old.world
-    → PlanOf headers p body who m plan → Ran Asking plan old ls outcome new ms → Shows tag bytes (reply_to outcome) → StandsSomewhere old.world tag bytes
+plan_shows : {allowed : ℕ} {headers : Headers} {p : PathText} {body : Body} {who : Client} {m : DavMethod} {plan : MethodPlan Response} (outcome : Result Response DavError) {old new : StoreState} {ls ms : Locks} (tag bytes : List ℕ) → m ≡ Get → IsWorld old.world
+    → PlanOf allowed headers p body who m plan → Ran Asking plan old ls outcome new ms → Shows tag bytes (reply_to outcome) → StandsSomewhere old.world tag bytes
 plan_shows {p = p} {who = who} outcome tag bytes is world (gets (is_get c are)) ran shows = (names p, get_shows c (names p) who.moment outcome tag bytes world ran shows)
 plan_shows outcome tag bytes is world (heads other) ran shows = absurd (cc)
 plan_shows outcome tag bytes is world (puts other) ran shows = absurd (cc)

@@ -45,9 +45,9 @@ no_write : {A : Type 0} (m : DavMethod) → Writes m → (m ≡ Put → A) → (
 no_write m (inl one) put patch = put one
 no_write m (inr other) put patch = patch other
 
-plan_keeps : {headers : Headers} {p : PathText} {given : Body} {who : Client} {m : DavMethod} {plan : MethodPlan Response} (n : Node) (old new : StoreState) (ls ms : Locks) (outcome : Result Response DavError)
+plan_keeps : {allowed : ℕ} {headers : Headers} {p : PathText} {given : Body} {who : Client} {m : DavMethod} {plan : MethodPlan Response} (n : Node) (old new : StoreState) (ls ms : Locks) (outcome : Result Response DavError)
     → Writes m → IsTagList (get_all headers (codes "if-none-match")) star → node_at old.world (names p) ≡ Some n
-    → PlanOf headers p given who m plan → Ran Asking plan old ls outcome new ms → Same old ls new ms
+    → PlanOf allowed headers p given who m plan → Ran Asking plan old ls outcome new ms → Same old ls new ms
 plan_keeps n old new ls ms outcome writes says there (gets is) ran = no_write Get writes (λ e. absurd (cc)) (λ e. absurd (cc))
 plan_keeps n old new ls ms outcome writes says there (heads is) ran = no_write Head writes (λ e. absurd (cc)) (λ e. absurd (cc))
 plan_keeps {p = p} {given} {who} n old new ls ms outcome writes says there (puts (is_put h are)) ran =

@@ -1,18 +1,9 @@
--- What the code that checks bodies returns.
-use Rattle.std.specs.Prelude.{◌≡◌, Result, Ok, Err}
-use Rattle.dav_core.specs.declared.errors.DavError.{DavError}
+-- The body that a method is handed, as contracts see it.
 use Rattle.dav_engine.specs.declared.request.Body.{Body}
-use Rattle.dav_engine.specs.declared.request.Body.TheVariants as body
 use Rattle.dav_server.specs.declared.body.Given.{Given}
-use Rattle.dav_server.specs.declared.body.Given.TheVariants as given
+use Rattle.dav_server.specs.declared.body.Given.TheVariants.{Whole, Other}
 
--- the body that the method is handed, of the one that came in
-abbrev pub handed : Given → Body → Body
-handed given.Whole came = came
-handed given.None came = body.None
-handed given.Malformed came = body.Malformed
-
--- the result says which body the method is handed, or gives the error
-abbrev pub GivesBody : Result Body DavError → Body → Result Given DavError → Type 0
-GivesBody meant came (Ok g) = meant ≡ Ok (handed g came)
-GivesBody meant came (Err e) = meant ≡ Err e
+-- the one that came in, or the other one
+abbrev pub given_body : Given → Body
+given_body (Whole body) = body.now
+given_body (Other body) = body

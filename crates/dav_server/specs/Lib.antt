@@ -12,9 +12,9 @@ pub mod Get
 pub mod Machine
 pub mod Run
 pub mod Setup
-pub mod GivenBody
 pub mod TagLaws
 pub mod WriteLaws
 pub mod Server
 pub mod ServerCode
 pub mod ExchangeView
+pub mod GivenBody

@@ -82,14 +82,14 @@ is_done Patch = true
 is_done MkCol = true
 is_done _ = false
 
--- The plan of a method, with its headers, its path and its body. 501 for a method that isn't served yet.
-pub data PlanOf (headers : Headers) (p : PathText) (body : Body) (who : Client) : DavMethod → MethodPlan Response → Type 0 where
-  gets : {plan : MethodPlan Response} → IsGet Get headers p who.moment plan → PlanOf headers p body who Get plan
-  heads : {plan : MethodPlan Response} → IsGet Head headers p who.moment plan → PlanOf headers p body who Head plan
-  puts : {plan : MethodPlan Response} → IsPut Put headers p body who plan → PlanOf headers p body who Put plan
-  patches : {plan : MethodPlan Response} → IsPut Patch headers p body who plan → PlanOf headers p body who Patch plan
-  makes : {plan : MethodPlan Response} → IsMkcol headers p who plan → PlanOf headers p body who MkCol plan
-  not_yet : {m : DavMethod} → is_done m ≡ false → PlanOf headers p body who m (fails (dav.Status 501))
+-- The plan of a method, with the set of the methods that are allowed, its headers, its path and its body. 501 for a method that isn't served yet.
+pub data PlanOf (allowed : ℕ) (headers : Headers) (p : PathText) (body : Body) (who : Client) : DavMethod → MethodPlan Response → Type 0 where
+  gets : {plan : MethodPlan Response} → IsGet Get headers p who.moment plan → PlanOf allowed headers p body who Get plan
+  heads : {plan : MethodPlan Response} → IsGet Head headers p who.moment plan → PlanOf allowed headers p body who Head plan
+  puts : {plan : MethodPlan Response} → IsPut Put headers p body who plan → PlanOf allowed headers p body who Put plan
+  patches : {plan : MethodPlan Response} → IsPut Patch headers p body who plan → PlanOf allowed headers p body who Patch plan
+  makes : {plan : MethodPlan Response} → IsMkcol headers p who plan → PlanOf allowed headers p body who MkCol plan
+  not_yet : {m : DavMethod} → is_done m ≡ false → PlanOf allowed headers p body who m (fails (dav.Status 501))
 
 -- The plan that a request results in, given what its head says and its method. It is refused, before anything is asked of
 -- the store, for the first of these: 405 for a method that isn't allowed, and the connection closes; then the error of its
@@ -99,7 +99,7 @@ pub data MeansOf (s : Settings) (x : Asked) (r : Request) (m : DavMethod) : Meth
   no_path : (e : DavError) → Has s.allowed m → TargetNames s.prefix m r.target (Err e) → MeansOf s x r m (fails e)
   no_body : (p : PathText) (e : DavError) → Has s.allowed m → TargetNames s.prefix m r.target (Ok p) → body_for (taken_by m) x.body ≡ Err e → MeansOf s x r m (fails e)
   method : (p : PathText) (body : Body) {plan : MethodPlan Response} → Has s.allowed m → TargetNames s.prefix m r.target (Ok p) → body_for (taken_by m) x.body ≡ Ok body
-      → PlanOf (headers_of r.fields) p body (client x) m plan → MeansOf s x r m plan
+      → PlanOf s.allowed (headers_of r.fields) p body (client x) m plan → MeansOf s x r m plan
 
 -- The plan that a request results in. 400 for bytes that are no head, and 501 for a method that isn't known; then the plan
 -- with its method.

@@ -1,5 +1,5 @@
 -- Servers as contracts see them, and what they answer.
-use Rattle.std.specs.Prelude.{◌≡◌, ◌++◌, List, [], ◌∷◌, map, None}
+use Rattle.std.specs.Prelude.{◌≡◌, ◌++◌, List, Option, [], ◌∷◌, map, None}
 use Rattle.dav_core.specs.World.{IsWorld}
 use Rattle.dav_engine.specs.Plan.{ServerState}
 use Rattle.dav_engine.specs.Response.{Response}
@@ -11,6 +11,12 @@ use Rattle.dav_server.specs.TagLaws.{EqualTagsShowEqualBytes}
 pub record Server : Type 0 where
   pub settings : Settings
   pub state : ServerState
+
+-- a handler: its store and its locks themselves, and the server that it is
+pub record HandlerView (F L : Type 0) : Type 0 where
+  pub fs : F
+  pub ls : Option L
+  pub server : Server
 
 -- the reply to a request and the server that is left are those of a step of the machine
 abbrev pub Answers : Server → Asked → Response → Server → Type 0

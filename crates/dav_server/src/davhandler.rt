@@ -22,7 +22,7 @@ mod engine_calls;
 #[cfg(test)]
 pub(crate) mod tests;
 
-use crate::body::{Given, body_for};
+use crate::body::body_for;
 use crate::exchange::{Exchange, GrantToken};
 use crate::handle_gethead::handle_gethead;
 use crate::head::{RequestView, headers_of, read_head};
@@ -88,16 +88,20 @@ pub struct DavHandler<F: DavFileSystem, L: DavLockSystem> {
 impl<F: DavFileSystem, L: DavLockSystem> Model for DavHandler<F, L> {
     ghost use Rattle.std.specs.Prelude.{string_bytes};
     ghost use Rattle.dav_core.specs.contracts.errors.FsError as fs_error;
-    ghost use Rattle.dav_server.specs.Server.{Server};
-    ghost use Rattle.dav_server.specs.ServerCode.{coded_server};
+    ghost use Rattle.dav_server.specs.Server.{HandlerView};
+    ghost use Rattle.dav_server.specs.ServerCode.{coded_handler};
 
-    ghost Value = { Server };
+    ghost Value = { HandlerView F L };
 
-    ghost coded = { coded_server fs_error.the_row.coded };
+    ghost coded = { coded_handler F.code L.code fs_error.the_row.coded };
 
     ghost view = { λ h. record {
-      settings = record { prefix = string_bytes h.prefix; allowed = h.allowed };
-      state = h.backend;
+      fs = h.backend.fs;
+      ls = h.backend.ls;
+      server = record {
+        settings = record { prefix = string_bytes h.prefix; allowed = h.allowed };
+        state = h.backend.state;
+      };
     } };
 }
 
@@ -148,11 +152,13 @@ impl<F: DavFileSystem + Drop, L: DavLockSystem + Drop> DavHandler<F, L> {
         ls: Option<L>,
     ) -> Result<DavHandler<F, L>, HandlerError>
         ensures prefix { OnOk result (IsPrefix prefix.now) }
-        ensures settings { IfOk result (λ h. h.settings ≡ record {
+        ensures settings { IfOk result (λ h. h.server.settings ≡ record {
           prefix = prefix.now;
           allowed = allowed;
         }) }
-        ensures state { IfOk result (λ h. h.state ≡ record {
+        ensures fs { IfOk result (λ h. h.fs ≡ fs) }
+        ensures ls { IfOk result (λ h. h.ls ≡ ls) }
+        ensures state { IfOk result (λ h. h.server.state ≡ record {
           store = F.state fs;
           locks = option_map L.locks ls;
         }) }
@@ -194,61 +200,15 @@ fn caller_of<'c>(exchange: &'c Exchange<'_>) -> Caller<'c>
     }
 }
 
-// Stores the body of a request.
-fn put<F: DavFileSystem, L: DavLockSystem>(
-    handler: &mut DavHandler<F, L>,
-    alloc: Global,
-    request: &DavRequest,
-    body: &Body,
-    exchange: &Exchange<'_>,
-) -> DavResult<Reply>
-    ensures same { handler.new.settings ≡ handler.old.settings }
-    ensures serves { Serves (PutOf request.now body.now (client exchange.now))
-        handler.old.state result handler.new.state }
-{
-    let caller = caller_of(exchange);
-    let mut inner = DavInner {
-        backend: &mut handler.backend,
-        allow: handler.allowed,
-        caller: &caller,
+// A request of this caller while it is answered by a handler.
+macro_rules! inner {
+    ($handler:expr, $caller:expr) => {
+        DavInner {
+            backend: &mut $handler.backend,
+            allow: $handler.allowed,
+            caller: $caller,
+        }
     };
-    inner.handle_put(alloc, request, body)
-}
-
-// Makes a folder.
-fn mkcol<F: DavFileSystem, L: DavLockSystem>(
-    handler: &mut DavHandler<F, L>,
-    alloc: Global,
-    request: &DavRequest,
-    body: &Body,
-    exchange: &Exchange<'_>,
-) -> DavResult<Reply>
-    ensures same { handler.new.settings ≡ handler.old.settings }
-    ensures serves { Serves (MkcolOf request.now (client exchange.now))
-        handler.old.state result handler.new.state }
-{
-    let caller = caller_of(exchange);
-    let mut inner = DavInner {
-        backend: &mut handler.backend,
-        allow: handler.allowed,
-        caller: &caller,
-    };
-    inner.handle_mkcol(alloc, request, body)
-}
-
-// Answers a GET or HEAD.
-fn show<F: DavFileSystem, L: DavLockSystem>(
-    handler: &mut DavHandler<F, L>,
-    alloc: Global,
-    request: &DavRequest,
-    exchange: &Exchange<'_>,
-) -> DavResult<Reply>
-    ensures same { handler.new.settings ≡ handler.old.settings }
-    ensures serves { Serves (GetOf request.now exchange.now.moment)
-        handler.old.state result handler.new.state }
-{
-    let now = exchange.moment.seconds;
-    handle_gethead(&mut handler.backend, alloc, request, now)
 }
 
 // Hands a request to its method.
@@ -259,41 +219,21 @@ fn serve<F: DavFileSystem, L: DavLockSystem>(
     body: &Body,
     exchange: &Exchange<'_>,
 ) -> DavResult<Reply>
-    ensures same { handler.new.settings ≡ handler.old.settings }
-    ensures serves { Serves (PlanOf request.now.headers request.now.path body.now
-        (client exchange.now) request.now.method) handler.old.state result handler.new.state }
+    ensures same { handler.new.server.settings ≡ handler.old.server.settings }
+    ensures serves { Serves (PlanOf handler.old.server.settings.allowed request.now.headers
+        request.now.path body.now (client exchange.now) request.now.method)
+        handler.old.server.state result handler.new.server.state }
 {
+    let caller = &caller_of(exchange);
+    let now = exchange.moment.seconds;
     match request.method {
-        DavMethod::Get => show(handler, alloc, request, exchange),
-        DavMethod::Head => show(handler, alloc, request, exchange),
-        DavMethod::Put => put(handler, alloc, request, body, exchange),
-        DavMethod::Patch => put(handler, alloc, request, body, exchange),
-        DavMethod::MkCol => mkcol(handler, alloc, request, body, exchange),
+        DavMethod::Get => handle_gethead(&mut handler.backend, alloc, request, now),
+        DavMethod::Head => handle_gethead(&mut handler.backend, alloc, request, now),
+        DavMethod::Put => inner!(handler, caller).handle_put(alloc, request, body),
+        DavMethod::Patch => inner!(handler, caller).handle_put(alloc, request, body),
+        DavMethod::MkCol => inner!(handler, caller).handle_mkcol(alloc, request, body),
         _ => Err(DavError::Status(StatusCode::NOT_IMPLEMENTED)),
     }
-}
-
-// Hands a request to its method, with the headers of its head.
-fn answer_with<F: DavFileSystem, L: DavLockSystem>(
-    handler: &mut DavHandler<F, L>,
-    alloc: Global,
-    view: &RequestView<'_>,
-    method: DavMethod,
-    path: DavPath,
-    body: &Body,
-    exchange: &Exchange<'_>,
-) -> DavResult<Reply>
-    ensures same { handler.new.settings ≡ handler.old.settings }
-    ensures serves { Serves (PlanOf (headers_of view.now.fields) path body.now
-        (client exchange.now) method) handler.old.state result handler.new.state }
-{
-    let headers = headers_of(alloc, view)?;
-    let request = DavRequest {
-        method,
-        path,
-        headers,
-    };
-    serve(handler, alloc, &request, body, exchange)
 }
 
 // The outcome of a request whose method is known.
@@ -304,31 +244,22 @@ fn answer_method<F: DavFileSystem, L: DavLockSystem>(
     method: DavMethod,
     exchange: &Exchange<'_>,
 ) -> DavResult<Reply>
-    ensures same { handler.new.settings ≡ handler.old.settings }
-    ensures serves { Serves (MeansOf handler.old.settings exchange.now view.now method)
-        handler.old.state result handler.new.state }
+    ensures same { handler.new.server.settings ≡ handler.old.server.settings }
+    ensures serves { Serves (MeansOf handler.old.server.settings exchange.now view.now method)
+        handler.old.server.state result handler.new.server.state }
 {
     if !handler.allowed.contains(method) {
         return Err(DavError::StatusClose(StatusCode::METHOD_NOT_ALLOWED));
     }
     let path = path_of(alloc, method, view.target(), &handler.prefix)?;
-    match body_for(method, &exchange.body)? {
-        Given::Whole => {
-            answer_with(handler, alloc, view, method, path, &exchange.body, exchange)
-        }
-        Given::None => answer_with(handler, alloc, view, method, path, &Body::None, exchange),
-        Given::Malformed => {
-            answer_with(
-                handler,
-                alloc,
-                view,
-                method,
-                path,
-                &Body::Malformed,
-                exchange,
-            )
-        }
-    }
+    let body = body_for(method, &exchange.body)?;
+    let headers = headers_of(alloc, view)?;
+    let request = DavRequest {
+        method,
+        path,
+        headers,
+    };
+    serve(handler, alloc, &request, body.as_body(), exchange)
 }
 
 // The outcome of a request, from the bytes of its head on.
@@ -337,9 +268,9 @@ fn answer<F: DavFileSystem, L: DavLockSystem>(
     alloc: Global,
     exchange: &Exchange<'_>,
 ) -> DavResult<Reply>
-    ensures same { handler.new.settings ≡ handler.old.settings }
-    ensures serves { Serves (Means handler.old.settings exchange.now)
-        handler.old.state result handler.new.state }
+    ensures same { handler.new.server.settings ≡ handler.old.server.settings }
+    ensures serves { Serves (Means handler.old.server.settings exchange.now)
+        handler.old.server.state result handler.new.server.state }
 {
     let view = match read_head(exchange.head) {
         Ok(view) => view,
@@ -352,7 +283,8 @@ fn answer<F: DavFileSystem, L: DavLockSystem>(
 impl<F: DavFileSystem, L: DavLockSystem> DavHandler<F, L> {
     /// The store. Allocates nothing.
     pub fn fs(&self) -> &F
-        ensures { F.state result.now ≡ self.now.state.store }
+        ensures fs { result.now ≡ self.now.fs }
+        ensures state { F.state result.now ≡ self.now.server.state.store }
     {
         let backend = &self.backend;
         &backend.fs
@@ -360,7 +292,8 @@ impl<F: DavFileSystem, L: DavLockSystem> DavHandler<F, L> {
 
     /// The locks, where there is a lock system. Allocates nothing.
     pub fn locks(&self) -> Option<&L>
-        ensures { locks_in L.locks result ≡ self.now.state.locks }
+        ensures ls { option_copied result ≡ self.now.ls }
+        ensures state { locks_in L.locks result ≡ self.now.server.state.locks }
     {
         let backend = &self.backend;
         backend.ls.as_ref()
@@ -373,9 +306,10 @@ impl<F: DavFileSystem, L: DavLockSystem> DavHandler<F, L> {
     /// are as before, or as the request leaves them where the store refuses each later call. The handler can still answer
     /// requests.
     pub fn handle(&mut self, alloc: Global, exchange: &Exchange<'_>) -> Result<Reply, NoMemory>
-        ensures same { self.new.settings ≡ self.old.settings }
-        ensures ok { IfOk result (λ reply. Answers self.old exchange.now reply self.new) }
-        ensures err { OnErr result (StopsIn self.old exchange.now self.new) }
+        ensures same { self.new.server.settings ≡ self.old.server.settings }
+        ensures ok { IfOk result (λ reply. Answers self.old.server exchange.now reply
+            self.new.server) }
+        ensures err { OnErr result (StopsIn self.old.server exchange.now self.new.server) }
     {
         match answer(self, alloc, exchange) {
             Ok(reply) => Ok(reply),

@@ -182,7 +182,7 @@ pub fn handle_gethead<F: DavFileSystem, L: DavLockSystem>(
     now: u64,
 ) -> DavResult<Reply>
     requires { now ≤ last_moment }
-    ensures { Serves (spec.GetOf request.now now) backend.old result backend.new }
+    ensures { Serves (spec.GetOf request.now now) backend.old.state result backend.new.state }
 {
     let conditions = Conditions::decode(alloc, request, &request.path)?;
     get(

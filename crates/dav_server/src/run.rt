@@ -65,11 +65,12 @@ fn answer_next<F: DavFileSystem, L: DavLockSystem>(
     exchange: &Exchange<'_>,
     replies: &mut Vec<Reply>,
 ) -> Result<(), NoMemory>
-    ensures same { handler.new.settings ≡ handler.old.settings }
-    ensures ok { OnOk result (AddsReply handler.old exchange.now
-        replies.old.items replies.new.items handler.new) }
+    ensures same { handler.new.server.settings ≡ handler.old.server.settings }
+    ensures ok { OnOk result (AddsReply handler.old.server exchange.now
+        replies.old.items replies.new.items handler.new.server) }
     ensures replies { OnErr result (replies.new.items ≡ replies.old.items) }
-    ensures cut { OnErr result (StopsIn handler.old exchange.now handler.new) }
+    ensures cut { OnErr result (StopsIn handler.old.server exchange.now
+        handler.new.server) }
     ensures moment { exchange.now.moment ≤ last_moment }
 {
     let _ = &exchange.moment;
@@ -86,13 +87,13 @@ impl<F: DavFileSystem, L: DavLockSystem> DavHandler<F, L> {
     /// `RunFault` where memory ran out outside the store, with the replies that were given before; they are those of a run
     /// of the machine, and of the next request at most the first calls of the store were made, each of them whole.
     pub fn run(&mut self, alloc: Global, exchanges: &[Exchange<'_>]) -> Result<Vec<Reply>, RunFault>
-        ensures same { self.new.settings ≡ self.old.settings }
+        ensures same { self.new.server.settings ≡ self.old.server.settings }
         ensures run { IfOk result (λ replies.
-            AnswersAll self.old (turns exchanges.now) replies.items self.new) }
+            AnswersAll self.old.server (turns exchanges.now) replies.items self.new.server) }
         ensures tags { IfOk result (λ replies.
-            TagsTell self.old (turns exchanges.now) replies.items) }
+            TagsTell self.old.server (turns exchanges.now) replies.items) }
         ensures fault { IfErr result (λ fault.
-            AnswersSome self.old (turns exchanges.now) fault.replies.items self.new) }
+            AnswersSome self.old.server (turns exchanges.now) fault.replies.items self.new.server) }
     {
         let mut replies = Vec::new(alloc);
         for exchange in exchanges {
@@ -112,12 +113,12 @@ fn answer_step(
     step: Step<'_>,
     replies: &mut Vec<Reply>,
 ) -> Result<(), NoMemory>
-    ensures same { handler.new.settings ≡ handler.old.settings }
-    ensures ok { OnOk result (AddsReply (at_turn step.entry handler.old) step.entry.asked
-        replies.old.items replies.new.items handler.new) }
+    ensures same { handler.new.server.settings ≡ handler.old.server.settings }
+    ensures ok { OnOk result (AddsReply (at_turn step.entry handler.old.server) step.entry.asked
+        replies.old.items replies.new.items handler.new.server) }
     ensures replies { OnErr result (replies.new.items ≡ replies.old.items) }
-    ensures cut { OnErr result (StopsIn (at_turn step.entry handler.old)
-        step.entry.asked handler.new) }
+    ensures cut { OnErr result (StopsIn (at_turn step.entry handler.old.server)
+        step.entry.asked handler.new.server) }
     ensures moment { step.entry.asked.moment ≤ last_moment }
 {
     let Step { exchange, refusals } = step;
@@ -137,12 +138,13 @@ pub fn run_refused(
     alloc: Global,
     steps: Vec<Step<'_>>,
 ) -> Result<Vec<Reply>, RunFault>
-    ensures same { handler.new.settings ≡ handler.old.settings }
+    ensures same { handler.new.server.settings ≡ handler.old.server.settings }
     ensures run { IfOk result (λ replies.
-        AnswersAll handler.old steps.entry.items replies.items handler.new) }
-    ensures tags { IfOk result (λ replies. TagsTell handler.old steps.entry.items replies.items) }
+        AnswersAll handler.old.server steps.entry.items replies.items handler.new.server) }
+    ensures tags { IfOk result (λ replies.
+        TagsTell handler.old.server steps.entry.items replies.items) }
     ensures fault { IfErr result (λ fault.
-        AnswersSome handler.old steps.entry.items fault.replies.items handler.new) }
+        AnswersSome handler.old.server steps.entry.items fault.replies.items handler.new.server) }
 {
     let mut replies = Vec::new(alloc);
     for step in steps {

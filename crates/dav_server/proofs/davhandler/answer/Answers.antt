@@ -6,7 +6,7 @@ use Rattle.dav_server.proofs.StepLemmas.{serves_as, serves_asked, serves_error, 
 use Rattle.dav_server.proofs.davhandler.answer.Goals as goal
 
 pub returns-in-Err-clause-serves : goal.returns-in-Err-clause-serves
-returns-in-Err-clause-serves g c = rw c.in-Err.ensures.err.0 (serves_asked (Means c.args.handler.now.settings) c.exchange.view_is (serves_error _ (no_head c.in-Err.ensures.err.1)))
+returns-in-Err-clause-serves g c = rw c.in-Err.ensures.err.0 (serves_asked (Means c.args.handler.now.server.settings) c.exchange.view_is (serves_error _ (no_head c.in-Err.ensures.err.1)))
 
 pub returns-in_err-method-clause-serves : goal.returns-in_err-method-clause-serves
 returns-in_err-method-clause-serves g c =

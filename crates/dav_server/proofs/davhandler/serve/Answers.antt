@@ -1,25 +1,36 @@
-use Rattle.std.proofs.Common.{subst}
+use Rattle.std.proofs.Common.{ap, subst}
+use Rattle.dav_engine.specs.AtWork.{PutOf, MkcolOf}
 use Rattle.dav_engine.specs.Put.{IsPut}
-use Rattle.dav_server.specs.Get.{IsGet}
+use Rattle.dav_server.specs.Get.{IsGet, GetOf}
 use Rattle.dav_server.specs.Machine.{client, gets, heads, puts, patches, makes, not_yet}
 use Rattle.dav_server.proofs.MethodLemmas.{is_not_done}
-use Rattle.dav_server.proofs.StepLemmas.{serves_as, serves_error, plan_at}
+use Rattle.dav_server.proofs.StepLemmas.{serves_as, serves_asked, serves_by, serves_held, serves_error, plan_at}
 use Rattle.dav_server.proofs.davhandler.serve.Goals as goal
 
 pub returns-in-Get-clause-serves : goal.returns-in-Get-clause-serves
-returns-in-Get-clause-serves g c = serves_as (λ plan is. plan_at c.in-Get.is (gets (subst (λ m. IsGet m c.args.request.now.headers c.args.request.now.path c.args.exchange.now.moment plan) c.in-Get.is is))) c.show.ensures.serves
+returns-in-Get-clause-serves g c =
+    serves_as (λ plan is. plan_at c.in-Get.is (gets (subst (λ m. IsGet m c.args.request.now.headers c.args.request.now.path c.args.exchange.now.moment plan) c.in-Get.is is)))
+    (serves_asked (λ x. GetOf c.args.request.now x.moment) c.exchange.view_is (serves_held c.handler.view_is c.handle_gethead.ensures))
 
 pub returns-in-Head-clause-serves : goal.returns-in-Head-clause-serves
-returns-in-Head-clause-serves g c = serves_as (λ plan is. plan_at c.in-Head.is (heads (subst (λ m. IsGet m c.args.request.now.headers c.args.request.now.path c.args.exchange.now.moment plan) c.in-Head.is is))) c.show-in-Head.ensures.serves
+returns-in-Head-clause-serves g c =
+    serves_as (λ plan is. plan_at c.in-Head.is (heads (subst (λ m. IsGet m c.args.request.now.headers c.args.request.now.path c.args.exchange.now.moment plan) c.in-Head.is is)))
+    (serves_asked (λ x. GetOf c.args.request.now x.moment) c.exchange.view_is (serves_held c.handler.view_is c.handle_gethead-in-Head.ensures))
 
 pub returns-in-Put-clause-serves : goal.returns-in-Put-clause-serves
-returns-in-Put-clause-serves g c = serves_as (λ plan is. plan_at c.in-Put.is (puts (subst (λ m. IsPut m c.args.request.now.headers c.args.request.now.path c.args.body.now (client c.args.exchange.now) plan) c.in-Put.is is))) c.put.ensures.serves
+returns-in-Put-clause-serves g c =
+    serves_as (λ plan is. plan_at c.in-Put.is (puts (subst (λ m. IsPut m c.args.request.now.headers c.args.request.now.path c.args.body.now (client c.args.exchange.now) plan) c.in-Put.is is)))
+    (serves_held c.handler.view_is (serves_by (ap (PutOf c.args.request.now c.args.body.now) c.caller_of.ensures.client) c.handle_put.ensures.serves))
 
 pub returns-in-Patch-clause-serves : goal.returns-in-Patch-clause-serves
-returns-in-Patch-clause-serves g c = serves_as (λ plan is. plan_at c.in-Patch.is (patches (subst (λ m. IsPut m c.args.request.now.headers c.args.request.now.path c.args.body.now (client c.args.exchange.now) plan) c.in-Patch.is is))) c.put-in-Patch.ensures.serves
+returns-in-Patch-clause-serves g c =
+    serves_as (λ plan is. plan_at c.in-Patch.is (patches (subst (λ m. IsPut m c.args.request.now.headers c.args.request.now.path c.args.body.now (client c.args.exchange.now) plan) c.in-Patch.is is)))
+    (serves_held c.handler.view_is (serves_by (ap (PutOf c.args.request.now c.args.body.now) c.caller_of.ensures.client) c.handle_put-in-Patch.ensures.serves))
 
 pub returns-in-MkCol-clause-serves : goal.returns-in-MkCol-clause-serves
-returns-in-MkCol-clause-serves g c = serves_as (λ plan is. plan_at c.in-MkCol.is (makes is)) c.mkcol.ensures.serves
+returns-in-MkCol-clause-serves g c =
+    serves_as (λ plan is. plan_at c.in-MkCol.is (makes is))
+    (serves_held c.handler.view_is (serves_by (ap (MkcolOf c.args.request.now) c.caller_of.ensures.client) c.handle_mkcol.ensures.serves))
 
 pub returns-in_default-clause-serves : goal.returns-in_default-clause-serves
 returns-in_default-clause-serves g c = serves_error _ (not_yet (is_not_done _ c.in_default.not-Get c.in_default.not-Head c.in_default.not-Put c.in_default.not-Patch c.in_default.not-MkCol))

@@ -6,7 +6,7 @@ use Rattle.dav_server.proofs.run.run_refused.Given as goal
 -- the replies so far are those of a run of the steps so far, and the rest is to come
 abbrev pub invariant-loop-step : goal.invariant-loop-step
 invariant-loop-step l =
-    (l.handler.settings ≡ l.fn.handler.settings)
-    × AnswersAll l.fn.handler l.yielded l.replies.items l.handler
+    (l.handler.server.settings ≡ l.fn.handler.server.settings)
+    × AnswersAll l.fn.handler.server l.yielded l.replies.items l.handler.server
     × AreShowable l.yielded
     × (l.fn.steps.items ≡ l.yielded ++ l.step-iterator.rest.items)
