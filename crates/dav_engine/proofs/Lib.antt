@@ -21,3 +21,4 @@ pub mod TagPathLemmas
 pub mod VerdictLemmas
 pub mod ModelLemmas
 pub mod LaterLemmas
+pub mod Theorems

@@ -6,7 +6,7 @@ use Rattle.dav_core.specs.Asking.{StoreState}
 use Rattle.dav_engine.specs.Method.{MethodPlan}
 use Rattle.dav_engine.specs.Plan.{Locks}
 use Rattle.dav_engine.specs.Response.{Response, reply_to}
-use Rattle.dav_engine.proofs.PlanLemmas.{Comes, comes}
+use Rattle.dav_engine.proofs.Theorems.{Comes, comes}
 use Rattle.dav_server.specs.Machine.{Settings, Asked, Means, Steps, steps}
 use Rattle.dav_server.specs.Run.{Turn, begun, Runs, no_more, one_more, HasPlan, RunsSplit, RunsJoin, RunsEnd}
 
