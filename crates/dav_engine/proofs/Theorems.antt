@@ -7,4 +7,5 @@ pub use Rattle.dav_engine.proofs.ModelLemmas.{serves_from}
 pub use Rattle.dav_engine.proofs.OnePlanLemmas.{one_conditions, one_put_plan, one_mkcol_plan}
 pub use Rattle.dav_engine.proofs.PlanLemmas.{ran_same, ran_unset, Comes, comes}
 pub use Rattle.dav_engine.proofs.PutWorld.{look_reads, only_put_allowed, only_mkcol_allowed, IsLook, looks, only_conditions, put_is_proper, mkcol_is_proper, create_only_leaves_all}
+pub use Rattle.dav_engine.proofs.SomePlanLemmas.{some_conditions, some_put_plan, some_mkcol_plan}
 pub use Rattle.dav_engine.proofs.WorldPlans.{only_reads, reading_leaves, ran_split, ran_outcome, Only, only_done, only_ask, only_look, only_then, only_bind, only_require, only_proper, proper_keeps}
