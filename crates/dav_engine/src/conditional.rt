@@ -17,7 +17,7 @@ ghost use Rattle.dav_engine.specs.Headers.{Decodes};
 #[cfg(test)]
 mod tests;
 
-use crate::headers::values_of;
+use crate::headers::{absent_if_invalid, values_of};
 use crate::request::DavRequest;
 use dav_core::davpath::DavPath;
 use dav_core::errors::{NoMemory, ParseError};
@@ -25,7 +25,7 @@ use dav_core::fs::{DavFileSystem, DavMetaData};
 use dav_core::ls::DavLockSystem;
 use dav_core::method::DavMethod;
 use dav_headers::{
-    ETag, ETagList, HeaderError, If, IfCondition, IfItem, IfMatch, IfNoneMatch, IfRange, names,
+    ETag, ETagList, If, IfCondition, IfItem, IfMatch, IfNoneMatch, IfRange, names,
 };
 use http::StatusCode;
 use http_header::HeaderMap;
@@ -154,10 +154,9 @@ fn match_in(alloc: Global, headers: &HeaderMap) -> Result<Option<ETagList>, NoMe
         Decodes IsTagList (get_all headers.now (codes "if-match")) (option_map tag_list list)) }
 {
     let values = values_of(alloc, headers, names::IF_MATCH())?;
-    match IfMatch::decode(alloc, &values) {
-        Ok(list) => Ok(Some(list.0)),
-        Err(HeaderError::Invalid) => Ok(None),
-        Err(HeaderError::Memory) => Err(NoMemory),
+    match absent_if_invalid(IfMatch::decode(alloc, &values))? {
+        Some(list) => Ok(Some(list.0)),
+        None => Ok(None),
     }
 }
 
@@ -168,10 +167,9 @@ fn none_match_in(alloc: Global, headers: &HeaderMap) -> Result<Option<ETagList>,
         (option_map tag_list list)) }
 {
     let values = values_of(alloc, headers, names::IF_NONE_MATCH())?;
-    match IfNoneMatch::decode(alloc, &values) {
-        Ok(list) => Ok(Some(list.0)),
-        Err(HeaderError::Invalid) => Ok(None),
-        Err(HeaderError::Memory) => Err(NoMemory),
+    match absent_if_invalid(IfNoneMatch::decode(alloc, &values))? {
+        Some(list) => Ok(Some(list.0)),
+        None => Ok(None),
     }
 }
 
@@ -253,10 +251,9 @@ fn lists_in(
         (option_map (λ ls. map list_of ls.items) lists)) }
 {
     let values = values_of(alloc, &request.headers, names::IF())?;
-    match If::decode(alloc, &values) {
-        Ok(header) => Ok(Some(lists_of(alloc, request.path.prefix(), own, header)?)),
-        Err(HeaderError::Invalid) => Ok(None),
-        Err(HeaderError::Memory) => Err(NoMemory),
+    match absent_if_invalid(If::decode(alloc, &values))? {
+        Some(header) => Ok(Some(lists_of(alloc, request.path.prefix(), own, header)?)),
+        None => Ok(None),
     }
 }
 
