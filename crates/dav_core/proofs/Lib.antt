@@ -37,4 +37,5 @@ pub mod CoverLemmas
 pub mod EqualLemmas
 pub mod ListedLocks
 pub mod CoveringLocks
+pub mod OutcomeLemmas
 pub mod Theorems

@@ -9,6 +9,7 @@ pub use Rattle.dav_core.proofs.KeptLemmas.{calls_keep_worlds, numbers_rise}
 pub use Rattle.dav_core.proofs.LockLemmas.{free_is_no_conflict}
 pub use Rattle.dav_core.proofs.MemberLemmas.{lists_what_stands}
 pub use Rattle.dav_core.proofs.NamedLemmas.{named_once}
+pub use Rattle.dav_core.proofs.OutcomeLemmas.{read_or_refused}
 pub use Rattle.dav_core.proofs.StepLemmas.{went_on, found}
 pub use Rattle.dav_core.proofs.TargetLemmas.{Leaves-names, names_kept, Reads-one, Reads-valid, Reads-allowed, refused_once}
 pub use Rattle.dav_core.proofs.UrlLemmas.{Reads-bytes}

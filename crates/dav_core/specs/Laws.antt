@@ -35,6 +35,11 @@ ReadIsNotRefused =
 abbrev pub OneRefusal : Type 0
 OneRefusal = (src : List ℕ) → IsRefused src InvalidPath → ¬ IsRefused src ForbiddenPath
 
+-- no text is neither read nor refused
+abbrev pub ReadOrRefused : Type 0
+ReadOrRefused =
+    (src : List ℕ) → ((a : List ℕ) → ¬ Reads src a) → ¬ IsRefused src InvalidPath → ¬ ¬ IsRefused src ForbiddenPath
+
 -- the names in the bytes of a path are its names
 abbrev pub KeepsNames : Type 0
 KeepsNames = (ns : Path) (closed : Bool) → All IsName ns → names_of (path_bytes ns closed) ≡ ns

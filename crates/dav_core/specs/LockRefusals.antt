@@ -1,16 +1,16 @@
 -- Why a call on locks is refused.
-use Rattle.std.specs.Prelude.{◌≡◌, ⊤, Bool, false, Option, None}
+use Rattle.std.specs.Prelude.{◌≡◌, Bool, true, false, Option, None, IsSome}
 use Rattle.dav_core.specs.declared.ls.LockRefusal.{LockRefusal}
 use Rattle.dav_core.specs.declared.ls.LockRefusal.TheVariants as grant
 use Rattle.dav_core.specs.declared.ls.RefreshRefusal.{RefreshRefusal}
 use Rattle.dav_core.specs.declared.ls.RefreshRefusal.TheVariants as refresh
 
--- a lock isn't granted: it isn't grantable, or memory ran out
+-- a lock isn't granted: it isn't grantable; or it is, and memory ran out
 abbrev pub IsRefusedGrant : LockRefusal → Bool → Type 0
 IsRefusedGrant grant.Conflict grantable = grantable ≡ false
-IsRefusedGrant grant.Memory grantable = ⊤
+IsRefusedGrant grant.Memory grantable = grantable ≡ true
 
--- a lock isn't refreshed: it isn't there, or memory ran out
+-- a lock isn't refreshed: it isn't there; or it is, and memory ran out
 abbrev pub IsRefusedRefresh : {A : Type 0} → RefreshRefusal → Option A → Type 0
 IsRefusedRefresh refresh.NotThere found = found ≡ None
-IsRefusedRefresh refresh.Memory found = ⊤
+IsRefusedRefresh refresh.Memory found = IsSome found

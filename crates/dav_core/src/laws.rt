@@ -3,14 +3,14 @@
 pub mod calls;
 
 ghost use Rattle.std.specs.Prelude.{◌≡◌, [], ◌∷◌};
-ghost use Rattle.dav_core.specs.Laws.{LeavesOnePath, LeavesNoFault, OneFault, ReadsOnePath, ReadIsNotRefused, OneRefusal, KeepsNames, ReadsNames, StarHasNoNames, ReadsAgain, NamesReadAgain, SameText, SlashKeepsNames, AddsName, AddsSegment, SlashAddsNoName, MemberIsNoStar, FewNames, NamesAreSegments, NameIsSegment, ParentOfNames, OneParent, CutsAtNames, CutKeepsNames, OneCut, EmptyIsWorld, NewKeepsWorld, ChangeKeepsWorld, OneMethod, NameNames, MembersAreHad, SameMethodsSameSet, EqualToItself, EqualBothWays, EqualThrough};
+ghost use Rattle.dav_core.specs.Laws.{LeavesOnePath, LeavesNoFault, OneFault, ReadsOnePath, ReadIsNotRefused, OneRefusal, ReadOrRefused, KeepsNames, ReadsNames, StarHasNoNames, ReadsAgain, NamesReadAgain, SameText, SlashKeepsNames, AddsName, AddsSegment, SlashAddsNoName, MemberIsNoStar, FewNames, NamesAreSegments, NameIsSegment, ParentOfNames, OneParent, CutsAtNames, CutKeepsNames, OneCut, EmptyIsWorld, NewKeepsWorld, ChangeKeepsWorld, OneMethod, NameNames, MembersAreHad, SameMethodsSameSet, EqualToItself, EqualBothWays, EqualThrough};
 ghost use Rattle.dav_core.specs.LockLaws.{FreeHoldsExclusive, FreeDeepHoldsBelow, FreeIsNoConflict, GrantedCanBeUnlocked, TakenBack, CoveringAreShared, GrantedAreShared, UnlockedAreShared, RefreshedAreShared, DeletedAreShared, UnlockTakesOne, RefreshChangesOne, DiscoveredAreCovering};
 ghost use Rattle.dav_core.specs.Method.{all_methods, methods_in};
 
 use crate::method::{DavMethod, DavMethodSet};
 
-/// Apart from memory that runs out, a text is read as one path at most, and refused for one reason at most, and not both: the
-/// pieces between slashes leave one path, or the first of them that is refused decides (RFC 3986, sections 3.3 and 5.2.4).
+/// Apart from memory that runs out, a text is read as one path, or refused for one reason, and not both: the pieces between
+/// slashes leave one path, or the first of them that is refused decides (RFC 3986, sections 3.3 and 5.2.4).
 pub fn one_reading()
     ensures leaves { LeavesOnePath }
     ensures leaves_no_fault { LeavesNoFault }
@@ -18,6 +18,7 @@ pub fn one_reading()
     ensures reads { ReadsOnePath }
     ensures read_is_not_refused { ReadIsNotRefused }
     ensures one_refusal { OneRefusal }
+    ensures read_or_refused { ReadOrRefused }
 {}
 
 /// A path keeps its names: those in its bytes are the names that it was made of, and a text that is read gives

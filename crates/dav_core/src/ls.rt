@@ -82,7 +82,7 @@ pub enum RefreshRefusal {
 /// A list of locks, in the order in which they were granted. A call that is refused leaves the list as it was. Moments
 /// are in seconds since 1970, timeouts in seconds.
 pub trait DavLockSystem {
-    ghost use Rattle.std.specs.Prelude.{◌≡◌, ◌≤◌, ◌+◌, ◌++◌, ◌∷◌, [], ℕ, Bool, true, false, List, map, Option, Some, None, Result, Ok, Err, IfOk, IfErr, OnOk, OnErr, IsOk, IsErrOf, IfSome, IsSome, string_bytes, if◌then◌else◌};
+    ghost use Rattle.std.specs.Prelude.{◌≡◌, ◌≤◌, ◌+◌, ◌++◌, ◌∷◌, [], ℕ, Bool, true, false, List, map, Option, Some, None, Result, Ok, Err, IfOk, IfErr, OnOk, OnErr, IsOk, IfSome, string_bytes, if◌then◌else◌};
     ghost use Rattle.std.specs.Option.{option_map, option_copied, option_and_then};
     ghost use Rattle.dav_core.specs.Numbers.{max_u64};
     ghost use Rattle.dav_core.specs.LockRefusals.{IsRefusedGrant, IsRefusedRefresh};
@@ -118,9 +118,6 @@ pub trait DavLockSystem {
             (is_grantable
             (new_lock token.now path.now (option_copied principal.entry)
             (option_copied owner.entry) timeout shared deep now) (locks self.old))) }
-        ensures memory { IsErrOf result LockRefusal.Memory
-            → is_grantable (new_lock token.now path.now (option_copied principal.entry)
-            (option_copied owner.entry) timeout shared deep now) (locks self.old) ≡ true }
         ensures same { OnErr result (locks self.new ≡ locks self.old) };
 
     /// Ends the lock that a token and a path mean (RFC 4918, section 9.11): of the locks with this token that are on the
@@ -150,8 +147,6 @@ pub trait DavLockSystem {
             ≡ Some (locks self.new))) }
         ensures err { IfErr result
             (λ e. IsRefusedRefresh e (named_lock token.now (names path.now) (locks self.old))) }
-        ensures memory { IsErrOf result RefreshRefusal.Memory
-            → IsSome (named_lock token.now (names path.now) (locks self.old)) }
         ensures same { OnErr result (locks self.new ≡ locks self.old) };
 
     /// Whether a path is free for the requester that submits these tokens (RFC 4918, section 7.5): it holds each

@@ -13,9 +13,9 @@ use Rattle.dav_core.specs.declared.errors.DavError.TheVariants as dav
 use Rattle.dav_core.specs.Asking.{StoreState}
 use Rattle.dav_core.specs.Locks.{Lock, requester_of, is_free}
 use Rattle.dav_core.specs.Path.{Path, PathText, names}
-use Rattle.dav_headers.specs.ETag.{EntityTag, IsStrongMatch}
+use Rattle.dav_headers.specs.ETag.{EntityTag, is_strong_match}
 use Rattle.dav_headers.specs.ETagList.{tags}
-use Rattle.dav_headers.specs.If.{Item, Condition, ConditionList, tokens_in}
+use Rattle.dav_headers.specs.If.{Item, Condition, ConditionList, tokens_among}
 use Rattle.dav_headers.specs.IfView.{item_value, condition_value, list_value}
 use Rattle.dav_headers.specs.declared.if_header.IfList.{IfList}
 use Rattle.dav_headers.specs.declared.if_header.IfItem.{IfItem}
@@ -40,22 +40,13 @@ pub token_free : {L : Type 0} (locks : L → List Lock) (ls : Option (Bor L)) (l
 token_free locks ls l token p b is other same =
     same ∙ ap (λ d. not d && is_free (requester_of (token ∷ []) true None) p (locks l.now)) (sym other) ∙ ap (λ x. spec.token_holds token p (locks_in locks x)) (sym is)
 
-decided : (b d : Bool) (P : Type 0) → Decides d P → (IsTrue b → P) → (P → IsTrue b) → b ≡ (d || false)
-decided true true P d to from = refl
-decided false true P d to from = from (d.0 refl)
-decided true false P d to from = sym (d.1 (to refl))
-decided false false P d to from = refl
-
-strong : (b v w : Bool) (x y : List ℕ) → (IsTrue b → (v ≡ false) × (w ≡ false) × (x ≡ y)) → ((v ≡ false) × (w ≡ false) × (x ≡ y) → IsTrue b) → b ≡ ((not v && not w && bytes_eq x y) || false)
-strong false true w x y to from = refl
-strong true true w x y to from = (to refl).0
-strong false false true x y to from = refl
-strong true false true x y to from = (to refl).1
-strong b false false x y to from = decided b (bytes_eq x y) (x ≡ y) (bytes_eq-Decides x y) (λ h. (to h).2) (λ e. from (refl, refl, e))
+or_false : (b : Bool) → (b || false) ≡ b
+or_false false = refl
+or_false true = refl
 
 -- one tag equals another exactly where it is the only tag of a list that matches it
-pub one_tag : (b : Bool) (e f : EntityTag) → (IsTrue b → IsStrongMatch e f) → (IsStrongMatch e f → IsTrue b) → b ≡ spec.matches (tags (e ∷ [])) true (Some f)
-one_tag b e f to from = strong b e.weak f.weak e.tag f.tag to from
+pub one_tag : (b : Bool) (e f : EntityTag) → b ≡ is_strong_match e f → b ≡ spec.matches (tags (e ∷ [])) true (Some f)
+one_tag b e f is = is ∙ sym (or_false (is_strong_match e f))
 
 -- where there is no path, no item is true
 pub item_of_none : (path : Option PathText) (i : Item) {s : StoreState} {ls : Locks} → path ≡ None → Follows (λ (b : Bool). b) (item_holds (option_map names path) i) s ls (Ok false) s ls
@@ -188,12 +179,12 @@ some_holds_end xs i {s} {ls} le =
 -- the tokens of the lists from this place on: those of the list there, and of those after it
 pub submitted_at : (tokens : List (List ℕ)) (more : List (List ℕ)) (xs : List listed.Addressed) (i : ℕ) (x : listed.Addressed) (all : List (List ℕ))
     → i < length xs → x ≡ get_or xs i x
-    → more ≡ tokens ++ flat_map (λ c. tokens_in c.item) (map condition_value x.conditions.items)
+    → more ≡ tokens ++ tokens_among (map condition_value x.conditions.items)
     → tokens ++ spec.submitted (Some (map list_of (drop i xs))) ≡ all
     → more ++ spec.submitted (Some (map list_of (drop (i + 1) xs))) ≡ all
 submitted_at tokens more xs i x all lt is added before =
     ap (λ ts. ts ++ spec.submitted (Some (map list_of (drop (i + 1) xs)))) added
-    ∙ append_assoc tokens (flat_map (λ c. tokens_in c.item) (map condition_value x.conditions.items)) (spec.submitted (Some (map list_of (drop (i + 1) xs))))
+    ∙ append_assoc tokens (tokens_among (map condition_value x.conditions.items)) (spec.submitted (Some (map list_of (drop (i + 1) xs))))
     ∙ ap (λ rest. tokens ++ spec.submitted (Some (map list_of rest))) (sym (drop_turn xs i x lt is))
     ∙ before
 

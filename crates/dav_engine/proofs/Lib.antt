@@ -21,3 +21,5 @@ pub mod TagPathLemmas
 pub mod VerdictLemmas
 pub mod ModelLemmas
 pub mod LaterLemmas
+pub mod SomePlanLemmas
+pub mod Theorems

@@ -16,9 +16,9 @@ use Rattle.dav_core.specs.Asking.{Metadata}
 use Rattle.dav_core.specs.Locks.{requester_of, is_free}
 use Rattle.dav_core.specs.Path.{Path, PathText, names, star as server, IsCut, without_slash}
 use Rattle.dav_core.specs.Target.{Reads}
-use Rattle.dav_headers.specs.ETag.{EntityTag}
+use Rattle.dav_headers.specs.ETag.{EntityTag, is_strong_match}
 use Rattle.dav_headers.specs.ETagList.{TagList, star, tags, IsTagList}
-use Rattle.dav_headers.specs.If.{Item, state_token, entity_tag, Condition, ConditionList, IsIfHeader, tokens_in}
+use Rattle.dav_headers.specs.If.{Item, state_token, entity_tag, Condition, ConditionList, IsIfHeader, tokens_among}
 use Rattle.dav_engine.specs.Headers.{Headers, Decodes}
 use Rattle.dav_engine.specs.Method.{MethodPlan, ◌>>=◌, gives, look, answer_of}
 use Rattle.dav_engine.specs.Plan.{Locks, Done}
@@ -72,11 +72,8 @@ abbrev pub tag_found : Option DavMetaData → Option EntityTag
 tag_found None = None
 tag_found (Some m) = option_map (λ number. record { weak = false; tag = digits 16 false number }) m.number
 
--- the strong comparison (RFC 9110, section 8.8.3.2), for If-None-Match too, where the standard uses the weak one
-abbrev pub is_strong_match : EntityTag → EntityTag → Bool
-is_strong_match e f = not e.weak && not f.weak && bytes_eq e.tag f.tag
-
--- whether a list matches what is there: `*` matches anything, tags match what has one of them
+-- Whether a list matches what is there: `*` matches anything, tags match what has one of them, by the strong comparison, for
+-- If-None-Match too, where the standard uses the weak one.
 abbrev pub matches : TagList → Bool → Option EntityTag → Bool
 matches star exists tag = exists
 matches (tags ts) exists None = false
@@ -169,7 +166,7 @@ if_holds (Some ls) = some_holds ls
 -- 10.4.1)
 abbrev pub submitted : Option (List Addressed) → List (List ℕ)
 submitted None = []
-submitted (Some ls) = flat_map (λ l. flat_map (λ c. tokens_in c.item) l.conditions) ls
+submitted (Some ls) = flat_map (λ l. tokens_among l.conditions) ls
 
 -- ---- all conditions
 

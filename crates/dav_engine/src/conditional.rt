@@ -1,12 +1,11 @@
 //! Conditions (RFC 9110, section 13; RFC 4918, section 10.4).
 ghost use Rattle.std.specs.Prelude.{◌≡◌, ◌≢◌, ◌++◌, ◌∷◌, [], true, ℕ, List, Option, Some, None, Result, codes, map, string_bytes, IfOk, OnOk};
-ghost use Rattle.std.specs.List.{flat_map};
 ghost use Rattle.std.specs.Option.{option_map, option_copied};
 ghost use Rattle.http_header.specs.HeaderMap.{get_all};
 ghost use Rattle.dav_core.specs.Path.{names};
 ghost use Rattle.dav_core.specs.declared.errors.ParseError.TheVariants as ParseError;
 ghost use Rattle.dav_headers.specs.ETagList.{IsTagList, tags, tag_list, range_tag};
-ghost use Rattle.dav_headers.specs.If.{tokens_in};
+ghost use Rattle.dav_headers.specs.If.{tokens_among};
 ghost use Rattle.dav_engine.specs.Plan.{Locks};
 ghost use Rattle.dav_headers.specs.IfView.{item_value, condition_value, if_lists};
 ghost use Rattle.dav_engine.specs.Conditions as spec;
@@ -17,7 +16,7 @@ ghost use Rattle.dav_engine.specs.Headers.{Decodes};
 #[cfg(test)]
 mod tests;
 
-use crate::headers::values_of;
+use crate::headers::{absent_if_invalid, values_of};
 use crate::request::DavRequest;
 use dav_core::davpath::DavPath;
 use dav_core::errors::{NoMemory, ParseError};
@@ -25,7 +24,7 @@ use dav_core::fs::{DavFileSystem, DavMetaData};
 use dav_core::ls::DavLockSystem;
 use dav_core::method::DavMethod;
 use dav_headers::{
-    ETag, ETagList, HeaderError, If, IfCondition, IfItem, IfMatch, IfNoneMatch, IfRange, names,
+    ETag, ETagList, If, IfCondition, IfItem, IfMatch, IfNoneMatch, IfRange, names,
 };
 use http::StatusCode;
 use http_header::HeaderMap;
@@ -154,10 +153,9 @@ fn match_in(alloc: Global, headers: &HeaderMap) -> Result<Option<ETagList>, NoMe
         Decodes IsTagList (get_all headers.now (codes "if-match")) (option_map tag_list list)) }
 {
     let values = values_of(alloc, headers, names::IF_MATCH())?;
-    match IfMatch::decode(alloc, &values) {
-        Ok(list) => Ok(Some(list.0)),
-        Err(HeaderError::Invalid) => Ok(None),
-        Err(HeaderError::Memory) => Err(NoMemory),
+    match absent_if_invalid(IfMatch::decode(alloc, &values))? {
+        Some(list) => Ok(Some(list.0)),
+        None => Ok(None),
     }
 }
 
@@ -168,10 +166,9 @@ fn none_match_in(alloc: Global, headers: &HeaderMap) -> Result<Option<ETagList>,
         (option_map tag_list list)) }
 {
     let values = values_of(alloc, headers, names::IF_NONE_MATCH())?;
-    match IfNoneMatch::decode(alloc, &values) {
-        Ok(list) => Ok(Some(list.0)),
-        Err(HeaderError::Invalid) => Ok(None),
-        Err(HeaderError::Memory) => Err(NoMemory),
+    match absent_if_invalid(IfNoneMatch::decode(alloc, &values))? {
+        Some(list) => Ok(Some(list.0)),
+        None => Ok(None),
     }
 }
 
@@ -253,10 +250,9 @@ fn lists_in(
         (option_map (λ ls. map list_of ls.items) lists)) }
 {
     let values = values_of(alloc, &request.headers, names::IF())?;
-    match If::decode(alloc, &values) {
-        Ok(header) => Ok(Some(lists_of(alloc, request.path.prefix(), own, header)?)),
-        Err(HeaderError::Invalid) => Ok(None),
-        Err(HeaderError::Memory) => Err(NoMemory),
+    match absent_if_invalid(If::decode(alloc, &values))? {
+        Some(header) => Ok(Some(lists_of(alloc, request.path.prefix(), own, header)?)),
+        None => Ok(None),
     }
 }
 
@@ -371,8 +367,8 @@ fn if_holds<F: DavFileSystem, L: DavLockSystem>(
 
 // Adds the state tokens of a list.
 fn push_tokens(tokens: &mut Vec<String>, conditions: &[IfCondition]) -> Result<(), NoMemory>
-    ensures { OnOk result (texts_of tokens.new ≡ texts_of tokens.old ++ flat_map (λ c.
-        tokens_in c.item) (map condition_value conditions.now)) }
+    ensures { OnOk result (texts_of tokens.new ≡ texts_of tokens.old
+        ++ tokens_among (map condition_value conditions.now)) }
 {
     for condition in conditions {
         if let IfItem::StateToken(token) = &condition.item {

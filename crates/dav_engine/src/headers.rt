@@ -1,8 +1,11 @@
 //! The headers of a request, as methods read them (RFC 9110, section 5).
-ghost use Rattle.std.specs.Prelude.{◌≡◌, IfOk};
+ghost use Rattle.std.specs.Prelude.{◌≡◌, IfOk, IfErr, Err};
+ghost use Rattle.std.specs.Option.{ok_or};
 ghost use Rattle.http_header.specs.HeaderMap.{get_all};
+ghost use Rattle.dav_headers.specs.declared.errors.HeaderError.TheVariants as HeaderError;
 
 use dav_core::errors::NoMemory;
+use dav_headers::HeaderError;
 use http_header::{HeaderMap, HeaderName, HeaderValue};
 use std::alloc::Global;
 
@@ -19,4 +22,16 @@ pub fn values_of(
         values.push(value.clone()?)?;
     }
     Ok(values)
+}
+
+/// What was decoded: nothing where a header is invalid, which counts as absent.
+pub fn absent_if_invalid<T>(decoded: Result<T, HeaderError>) -> Result<Option<T>, NoMemory>
+    ensures ok { IfOk result (λ header. decoded ≡ ok_or header HeaderError.Invalid) }
+    ensures err { IfErr result (λ e. decoded ≡ Err HeaderError.Memory) }
+{
+    match decoded {
+        Ok(header) => Ok(Some(header)),
+        Err(HeaderError::Invalid) => Ok(None),
+        Err(HeaderError::Memory) => Err(NoMemory),
+    }
 }

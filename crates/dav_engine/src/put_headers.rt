@@ -11,10 +11,10 @@ ghost use Rattle.dav_engine.specs.Put as spec;
 mod tests;
 
 use crate::conditional::Conditions;
-use crate::headers::values_of;
+use crate::headers::{absent_if_invalid, values_of};
 use crate::request::DavRequest;
 use dav_core::errors::NoMemory;
-use dav_headers::{ContentLength, ContentRange, ContentType, HeaderError, XUpdateRange, names};
+use dav_headers::{ContentLength, ContentRange, ContentType, XUpdateRange, names};
 use http_header::{HeaderMap, HeaderName, HeaderValue};
 use std::alloc::Global;
 use std::marker::Model;
@@ -92,10 +92,9 @@ fn expected_length(alloc: Global, headers: &HeaderMap) -> Result<Option<u64>, No
 fn decoded(alloc: Global, values: &[HeaderValue]) -> Result<Option<u64>, NoMemory>
     ensures { IfOk result (λ length. Decodes IsContentLength values.now length) }
 {
-    match ContentLength::decode(alloc, values) {
-        Ok(length) => Ok(Some(length.0)),
-        Err(HeaderError::Invalid) => Ok(None),
-        Err(HeaderError::Memory) => Err(NoMemory),
+    match absent_if_invalid(ContentLength::decode(alloc, values))? {
+        Some(length) => Ok(Some(length.0)),
+        None => Ok(None),
     }
 }
 
@@ -139,10 +138,9 @@ fn is_partial_update(alloc: Global, headers: &HeaderMap) -> Result<bool, NoMemor
         it ≡ spec.is_partial_update (get_all headers.now (codes "content-type"))) }
 {
     let values = values_of(alloc, headers, names::CONTENT_TYPE())?;
-    match ContentType::decode(alloc, &values) {
-        Ok(kind) => Ok(kind.0.as_str() == "application/x-sabredav-partialupdate"),
-        Err(HeaderError::Invalid) => Ok(false),
-        Err(HeaderError::Memory) => Err(NoMemory),
+    match absent_if_invalid(ContentType::decode(alloc, &values))? {
+        Some(kind) => Ok(kind.0.as_str() == "application/x-sabredav-partialupdate"),
+        None => Ok(false),
     }
 }
 
@@ -152,10 +150,7 @@ fn update_in(alloc: Global, headers: &HeaderMap) -> Result<Option<XUpdateRange>,
         Decodes IsUpdateRange (get_all headers.now (codes "x-update-range")) range) }
 {
     let values = values_of(alloc, headers, names::X_UPDATE_RANGE())?;
-    match XUpdateRange::decode(alloc, &values) {
-        Ok(range) => Ok(Some(range)),
-        Err(_) => Ok(None),
-    }
+    absent_if_invalid(XUpdateRange::decode(alloc, &values))
 }
 
 // The text of a value, where it is text.

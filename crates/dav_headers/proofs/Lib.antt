@@ -14,6 +14,7 @@ pub mod LoopLemmas
 pub mod NumberLemmas
 pub mod RangeLemmas
 pub mod ReadingLemmas
+pub mod StrongLemmas
 pub mod TextLemmas
 pub mod Theorems
 pub mod TimeoutAgain

@@ -1,5 +1,5 @@
 -- Entity tags (RFC 9110, section 8.8.3).
-use Rattle.std.specs.Prelude.{ℕ, List, [], ◌∷◌, ◌++◌, Bool, true, false, ◌≡◌, Contains, codes, IsSomeAnd, refl}
+use Rattle.std.specs.Prelude.{ℕ, List, [], ◌∷◌, ◌++◌, Bool, true, false, not, ◌&&◌, bytes_eq, ◌≡◌, Contains, codes, IsSomeAnd, refl}
 use Rattle.std.specs.Coded.{Coded, code_by, coded×, coded_list, coded_ℕ, coded_bool}
 use Rattle.http_header.specs.FieldValue.{FieldValue}
 use Rattle.dav_headers.specs.Value.{only_text}
@@ -33,5 +33,5 @@ abbrev pub IsETag : List FieldValue → EntityTag → Type 0
 IsETag values e = IsSomeAnd (only_text values) (λ text. IsEntityTag text e)
 
 -- the strong comparison (RFC 9110, section 8.8.3.2): neither is weak, and the tags are equal
-abbrev pub IsStrongMatch : EntityTag → EntityTag → Type 0
-IsStrongMatch e f = (e.weak ≡ false) × (f.weak ≡ false) × (e.tag ≡ f.tag)
+abbrev pub is_strong_match : EntityTag → EntityTag → Bool
+is_strong_match e f = not e.weak && not f.weak && bytes_eq e.tag f.tag

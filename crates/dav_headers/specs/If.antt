@@ -76,6 +76,10 @@ abbrev pub tokens_in : Item → List (List ℕ)
 tokens_in (state_token t) = t ∷ []
 tokens_in (entity_tag e) = []
 
--- all state tokens of the lists in order, those under `Not` too, each as often as it occurs
+-- the state tokens of these conditions in order, those under `Not` too, each as often as it occurs
+abbrev pub tokens_among : List Condition → List (List ℕ)
+tokens_among conditions = flat_map (λ c. tokens_in c.item) conditions
+
+-- all state tokens of the lists in order
 abbrev pub tokens_of : List ConditionList → List (List ℕ)
-tokens_of ls = flat_map (λ l. flat_map (λ c. tokens_in c.item) l.conditions) ls
+tokens_of ls = flat_map (λ l. tokens_among l.conditions) ls

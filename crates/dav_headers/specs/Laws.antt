@@ -1,7 +1,7 @@
 -- Laws of headers, which are stated over their grammars.
-use Rattle.std.specs.Prelude.{ℕ, ◌<◌, ◌^◌, Bool, false, List, [], ◌∷◌, ◌≡◌, ◌↔◌, ⊤, Option, Some, None, All, decimal}
+use Rattle.std.specs.Prelude.{ℕ, ◌<◌, ◌^◌, Bool, true, false, not, List, [], ◌∷◌, ◌≡◌, ◌↔◌, ⊤, Option, Some, None, All, decimal}
 use Rattle.http_header.specs.FieldValue.{FieldValue, plain_value}
-use Rattle.dav_headers.specs.ETag.{EntityTag, IsEntityTag, IsETag, IsStrongMatch, IsUnquoted, tag_text}
+use Rattle.dav_headers.specs.ETag.{EntityTag, IsEntityTag, IsETag, is_strong_match, IsUnquoted, tag_text}
 use Rattle.dav_headers.specs.ContentRange.{IsContentRange, content_range_text}
 use Rattle.dav_headers.specs.Destination.{IsDestination}
 use Rattle.dav_headers.specs.ETagList.{TagList, IsTagList}
@@ -25,13 +25,13 @@ written text = plain_value text ∷ []
 
 -- the strong comparison of entity tags
 abbrev pub StrongIsSymmetric : Type 0
-StrongIsSymmetric = (e f : EntityTag) → IsStrongMatch e f → IsStrongMatch f e
+StrongIsSymmetric = (e f : EntityTag) → is_strong_match e f ≡ is_strong_match f e
 
 abbrev pub StrongIsTransitive : Type 0
-StrongIsTransitive = (e f g : EntityTag) → IsStrongMatch e f → IsStrongMatch f g → IsStrongMatch e g
+StrongIsTransitive = (e f g : EntityTag) → is_strong_match e f ≡ true → is_strong_match f g ≡ true → is_strong_match e g ≡ true
 
 abbrev pub StrongMatchesItself : Type 0
-StrongMatchesItself = (e : EntityTag) → IsStrongMatch e e ↔ (e.weak ≡ false)
+StrongMatchesItself = (e : EntityTag) → is_strong_match e e ≡ not e.weak
 
 -- what is written is read back as the same
 abbrev pub OverwriteReadsAgain : Type 0

@@ -28,7 +28,7 @@ impl Model for ETag {
 
 ghost use Rattle.std.specs.Prelude.{◌≡◌, ◌∷◌, [], ◌↔◌, ℕ, List, false, IfOk, IfSome, IfNone, IsErrOf, IsTrue};
 ghost use Rattle.dav_headers.specs.Value.{IsText, ReadsBy, Writes};
-ghost use Rattle.dav_headers.specs.ETag.{tag_text, EntityTag, IsUnquoted, IsEntityTag, IsETag, IsStrongMatch};
+ghost use Rattle.dav_headers.specs.ETag.{tag_text, EntityTag, IsUnquoted, IsEntityTag, IsETag, is_strong_match};
 
 // Whether a tag's text is that of a weak tag, and what is between its quotes.
 pub(super) fn parts(text: &str) -> Option<(bool, &str)>
@@ -90,7 +90,7 @@ impl ETag {
 
     /// The strong comparison (RFC 9110, section 8.8.3.2): neither is weak, and the texts between the quotes are equal.
     pub fn strong_eq(&self, other: &ETag) -> bool
-        ensures { IsTrue result ↔ IsStrongMatch self.now other.now }
+        ensures { result ≡ is_strong_match self.now other.now }
     {
         !self.weak && !other.weak && self.tag == other.tag
     }

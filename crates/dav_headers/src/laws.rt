@@ -3,6 +3,7 @@ ghost use Rattle.dav_headers.specs.Laws.{StrongIsSymmetric, StrongIsTransitive, 
 
 /// The strong comparison of entity tags (RFC 9110, section 8.8.3.2) is symmetric and transitive, and a tag matches itself
 /// exactly where it is strong.
+#[tactic(auto, using(crate::proofs::StrongLemmas::strong_is_symmetric, crate::proofs::StrongLemmas::strong_is_transitive, crate::proofs::StrongLemmas::strong_matches_itself))]
 pub fn strong_comparison()
     ensures symmetric { StrongIsSymmetric }
     ensures transitive { StrongIsTransitive }

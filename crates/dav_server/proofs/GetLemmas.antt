@@ -15,7 +15,7 @@ use Rattle.dav_engine.specs.Follows.{as_is, Follows, viewed, or_memory}
 use Rattle.dav_engine.specs.Method.{MethodPlan, gives, fails}
 use Rattle.dav_engine.specs.Plan.{Locks}
 use Rattle.dav_engine.specs.Response.{Response}
-use Rattle.dav_engine.proofs.Following.{follows_ask, follows_done, follows_on, follows_then, follows_err}
+use Rattle.dav_engine.proofs.Theorems.{follows_ask, follows_done, follows_on, follows_then, follows_err}
 use Rattle.dav_server.specs.Get.{get, show, show_or_tell, judged, not_modified}
 
 -- a file that was opened in the same way

@@ -27,9 +27,7 @@ use Rattle.dav_engine.specs.Method.{MethodPlan, then as followed_by, ◌>>=◌, 
 use Rattle.dav_engine.specs.Plan.{Plan, Ask, Locks, Ran, ran_ask}
 use Rattle.dav_engine.specs.Response.{Response, Header, reply_to, etag, last_modified, content_length}
 use Rattle.dav_engine.specs.WorldLaws.{OnlyReads, IsReading, IsProperPlan, Remembers}
-use Rattle.dav_engine.proofs.CallWorlds.{Did, stays, means, did, did_leave}
-use Rattle.dav_engine.proofs.WorldPlans.{Only, only_done, only_ask, only_look, only_then, only_bind, only_require, only_reads, only_proper, reading_leaves, ran_split, ran_outcome}
-use Rattle.dav_engine.proofs.PutWorld.{IsLook, looks, only_conditions}
+use Rattle.dav_engine.proofs.Theorems.{Did, stays, means, did, did_leave, Only, only_done, only_ask, only_look, only_then, only_bind, only_require, only_reads, only_proper, reading_leaves, ran_split, ran_outcome, IsLook, looks, only_conditions}
 use Rattle.dav_server.specs.Get.{reading, shown, not_modified, show, show_or_tell, judged, get}
 use Rattle.dav_server.specs.TagLaws.{Shows}
 

@@ -3,6 +3,7 @@ pub mod RefusalLemmas
 pub mod HeaderLemmas
 pub mod TargetLemmas
 pub mod RunLemmas
+pub mod SomePlan
 pub mod RunLaws
 pub mod StepLemmas
 pub mod GetLemmas

@@ -15,8 +15,7 @@ use Rattle.dav_engine.specs.Headers.{Headers}
 use Rattle.dav_engine.specs.Method.{MethodPlan, fails}
 use Rattle.dav_engine.specs.Plan.{Locks, Ran}
 use Rattle.dav_engine.specs.Response.{Response, reply_to}
-use Rattle.dav_engine.proofs.PlanLemmas.{ran_same, ran_unset}
-use Rattle.dav_engine.proofs.OnePlanLemmas.{one_conditions, one_put_plan, one_mkcol_plan}
+use Rattle.dav_engine.proofs.Theorems.{ran_same, ran_unset, one_conditions, one_put_plan, one_mkcol_plan}
 use Rattle.dav_server.specs.Get.{get, IsGet, is_get}
 use Rattle.dav_server.specs.Head.{Request}
 use Rattle.dav_server.specs.Headers.{headers_of}

@@ -19,9 +19,7 @@ use Rattle.dav_engine.specs.Method.{MethodPlan}
 use Rattle.dav_engine.specs.Plan.{Locks}
 use Rattle.dav_engine.specs.Response.{Response}
 use Rattle.dav_engine.specs.WorldLaws.{IsReading, reads_done, IsProperPlan, proper_done}
-use Rattle.dav_engine.proofs.CallWorlds.{Kept, kept_same, kept_on}
-use Rattle.dav_engine.proofs.PutWorld.{put_is_proper, mkcol_is_proper}
-use Rattle.dav_engine.proofs.WorldPlans.{reading_leaves, proper_keeps}
+use Rattle.dav_engine.proofs.Theorems.{Kept, kept_same, kept_on, put_is_proper, mkcol_is_proper, reading_leaves, proper_keeps}
 use Rattle.dav_server.specs.Get.{IsGet, is_get}
 use Rattle.dav_server.specs.Head.{Request, IsHead}
 use Rattle.dav_server.specs.Machine.{Settings, Asked, PlanOf, gets, heads, puts, patches, makes, not_yet, MeansOf, not_allowed, no_path, no_body, method, Means, no_head, no_method, known, Steps, steps}

@@ -30,8 +30,7 @@ use Rattle.dav_engine.specs.Mkcol.{is_mkcol}
 use Rattle.dav_engine.specs.Plan.{Locks, Ran, ran_ask}
 use Rattle.dav_engine.specs.Put.{bytes_of_body, is_put}
 use Rattle.dav_engine.specs.Response.{Response, reply_to}
-use Rattle.dav_engine.proofs.CallWorlds.{Did, did}
-use Rattle.dav_engine.proofs.WorldPlans.{ran_split, ran_outcome}
+use Rattle.dav_engine.proofs.Theorems.{Did, did, ran_split, ran_outcome}
 use Rattle.dav_server.specs.Get.{not_modified, show_or_tell, judged, get, is_get}
 use Rattle.dav_server.specs.Head.{Request}
 use Rattle.dav_server.specs.Headers.{headers_of}

@@ -22,9 +22,7 @@ use Rattle.dav_engine.specs.Plan.{Locks, Ran, ran_ask}
 use Rattle.dav_engine.specs.Put.{PutHeaders, put_opening, open_error, unsatisfiable, sought, written, store, put_allowed, put_body, bytes_of_body, is_put}
 use Rattle.dav_engine.specs.Response.{Response, reply_to}
 use Rattle.dav_engine.specs.WorldLaws.{reads_done}
-use Rattle.dav_engine.proofs.CallWorlds.{Did, stays, means, did}
-use Rattle.dav_engine.proofs.PutWorld.{look_reads, only_put_allowed, only_mkcol_allowed}
-use Rattle.dav_engine.proofs.WorldPlans.{only_reads, reading_leaves, ran_split}
+use Rattle.dav_engine.proofs.Theorems.{Did, stays, means, did, look_reads, only_put_allowed, only_mkcol_allowed, only_reads, reading_leaves, ran_split}
 use Rattle.dav_server.specs.Get.{is_get}
 use Rattle.dav_server.specs.Head.{Request}
 use Rattle.dav_server.specs.Machine.{Settings, Asked, PlanOf, gets, heads, puts, patches, makes, not_yet, MeansOf, not_allowed, no_path, no_body, method, no_head, no_method, known, steps}

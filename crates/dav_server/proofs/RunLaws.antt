@@ -4,9 +4,10 @@ use Rattle.std.proofs.lemmas.List.Elements.{All-head, All-tail}
 use Rattle.dav_core.specs.declared.errors.FsError.{FsError}
 use Rattle.dav_core.specs.Asking.{StoreState}
 use Rattle.dav_engine.specs.Response.{Response, reply_to}
-use Rattle.dav_engine.proofs.PlanLemmas.{comes}
+use Rattle.dav_engine.proofs.Theorems.{comes}
 use Rattle.dav_server.specs.Machine.{steps}
-use Rattle.dav_server.specs.Run.{begun, no_more, one_more, HasPlan, RunsSplit, RunsJoin, RunsEnd}
+use Rattle.dav_server.specs.Run.{begun, no_more, one_more, HasPlan, RunsSplit, RunsJoin, RunsEnd, RequestsHaveRuns}
+use Rattle.dav_server.proofs.SomePlan.{requests_have_plans}
 
 pub runs_split : RunsSplit
 runs_split s [] us old new ls ms replies run = ([], replies, old, ls, refl, no_more, run)
@@ -29,3 +30,11 @@ runs_end s (t ∷ ts) old ls all =
     let end = comes plan (begun t.refusals old) ls in
     let (replies, new, ms, run, short) = runs_end s ts end.new end.locks (All-tail (HasPlan s) t ts all) in
     (reply_to end.outcome ∷ replies, new, ms, one_more (steps plan end.outcome means end.ran) run, short ∙ end.flag ∙ begun_short t.refusals old)
+
+pub requests_have_runs : RequestsHaveRuns
+requests_have_runs s [] old ls without = without [] old ls no_more refl
+requests_have_runs s (t ∷ ts) old ls without =
+    requests_have_plans s t.asked (λ plan means.
+    let end = comes plan (begun t.refusals old) ls in
+    requests_have_runs s ts end.new end.locks (λ replies new ms run short.
+        without (reply_to end.outcome ∷ replies) new ms (one_more (steps plan end.outcome means end.ran) run) (short ∙ end.flag ∙ begun_short t.refusals old)))

@@ -6,9 +6,8 @@ use Rattle.dav_core.specs.Asking.{StoreState, Asks}
 use Rattle.dav_engine.specs.Follows.{followed, gave_up, Serves, served, not_begun}
 use Rattle.dav_engine.specs.Method.{MethodPlan, fails}
 use Rattle.dav_engine.specs.Plan.{Plan, Locks, ServerState, Ran, ran_done, ran_ask, ran_look, ran_keep, Cut, refused_done}
-use Rattle.dav_engine.proofs.CutPlans.{cut_refused, cut_ask, cut_look, cut_keep}
+use Rattle.dav_engine.proofs.Theorems.{cut_refused, cut_ask, cut_look, cut_keep, follows_done}
 use Rattle.dav_engine.specs.Response.{Response, error_reply}
-use Rattle.dav_engine.proofs.Following.{follows_done}
 use Rattle.dav_core.specs.declared.method.DavMethod.{DavMethod}
 use Rattle.dav_core.specs.Path.{PathText}
 use Rattle.dav_engine.specs.declared.request.Body.{Body}

@@ -14,8 +14,7 @@ use Rattle.dav_engine.specs.Headers.{Headers}
 use Rattle.dav_engine.specs.Method.{MethodPlan, fails}
 use Rattle.dav_engine.specs.Plan.{Locks, Ran}
 use Rattle.dav_engine.specs.Response.{Response, reply_to}
-use Rattle.dav_engine.proofs.CallWorlds.{Kept}
-use Rattle.dav_engine.proofs.WorldPlans.{ran_outcome}
+use Rattle.dav_engine.proofs.Theorems.{Kept, ran_outcome}
 use Rattle.dav_server.specs.Get.{is_get}
 use Rattle.dav_server.specs.Head.{Request}
 use Rattle.dav_server.specs.Machine.{Settings, Asked, PlanOf, gets, heads, puts, patches, makes, not_yet, MeansOf, not_allowed, no_path, no_body, method, Means, no_head, no_method, known, Steps, steps}

@@ -16,8 +16,7 @@ use Rattle.dav_engine.specs.Plan.{Locks, Ran}
 use Rattle.dav_engine.specs.Put.{PutHeaders, put_body, bytes_of_body, is_put}
 use Rattle.dav_engine.specs.Response.{Response}
 use Rattle.dav_engine.specs.WorldLaws.{reads_done}
-use Rattle.dav_engine.proofs.PutWorld.{create_only_leaves_all}
-use Rattle.dav_engine.proofs.WorldPlans.{reading_leaves}
+use Rattle.dav_engine.proofs.Theorems.{create_only_leaves_all, reading_leaves}
 use Rattle.dav_server.specs.Head.{Request}
 use Rattle.dav_server.specs.Headers.{headers_of}
 use Rattle.dav_server.specs.Machine.{Settings, Asked, PlanOf, gets, heads, puts, patches, makes, not_yet, MeansOf, not_allowed, no_path, no_body, method, no_head, no_method, known, steps}

@@ -1,5 +1,5 @@
 -- Runs of the machine.
-use Rattle.std.specs.Prelude.{◌≡◌, ◌++◌, false, List, [], ◌∷◌, All, Option, Some, None}
+use Rattle.std.specs.Prelude.{◌≡◌, ◌≢◌, ◌++◌, false, List, [], ◌∷◌, All, Option, Some, None}
 use Rattle.dav_core.specs.declared.errors.FsError.{FsError}
 use Rattle.dav_core.specs.Asking.{StoreState, Asks}
 use Rattle.dav_engine.specs.Method.{MethodPlan}
@@ -70,3 +70,13 @@ abbrev pub RunsEnd : Type 0
 RunsEnd =
     (s : Settings) (ts : List Turn) (old : StoreState) (ls : Locks) → All (HasPlan s) ts
     → (replies : List Response) × (new : StoreState) × (ms : Locks) × Runs s ts old ls replies new ms × (new.short ≡ old.short)
+
+-- No request is without a plan, whatever its bytes are.
+abbrev pub RequestsHavePlans : Type 0
+RequestsHavePlans = (s : Settings) (x : Asked) → ¬ ((plan : MethodPlan Response) → ¬ Means s x plan)
+
+-- So no requests are without a run, from any state, in which the store doesn't run out of memory.
+abbrev pub RequestsHaveRuns : Type 0
+RequestsHaveRuns =
+    (s : Settings) (ts : List Turn) (old : StoreState) (ls : Locks)
+    → ¬ ((replies : List Response) (new : StoreState) (ms : Locks) → Runs s ts old ls replies new ms → new.short ≢ old.short)

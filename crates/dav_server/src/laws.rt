@@ -1,7 +1,7 @@
 //! Laws of heads, their headers, targets and runs. Each function does nothing: its contract is a theorem on the definitions.
 ghost use Rattle.dav_server.specs.Head.{OneHead};
 ghost use Rattle.dav_server.specs.Headers.{KeepsValues};
-ghost use Rattle.dav_server.specs.Run.{RunsAreDetermined, RunsSplit, RunsJoin, RunsEnd};
+ghost use Rattle.dav_server.specs.Run.{RunsAreDetermined, RunsSplit, RunsJoin, RunsEnd, RequestsHavePlans, RequestsHaveRuns};
 ghost use Rattle.dav_server.specs.TagLaws.{TagsTellBytes, NotModifiedIsTrue, ReadingLeaves, RunsKeepWorlds};
 ghost use Rattle.dav_server.specs.Target.{OneOutcome};
 ghost use Rattle.dav_server.specs.WriteLaws.{CreateOnlyKeeps, RefusedLeaves};
@@ -38,11 +38,20 @@ pub fn runs_split()
     ensures join { RunsJoin }
 {}
 
+/// No request is without a plan, whatever its bytes are. Whether bytes are a head, or a text names a path, is a relation that
+/// the law doesn't decide: so it says that it can't be that there is none, and not which one it is.
+#[tactic(auto, using(crate::proofs::SomePlan::requests_have_plans))]
+pub fn requests_have_plans()
+    ensures { RequestsHavePlans }
+{}
+
 /// Requests that each result in a plan have a run from every state, in which the store doesn't run out of memory; from a
-/// state where it never did, that run is the only one (`runs_are_determined`).
-#[tactic(auto, using(crate::proofs::RunLaws::runs_end))]
+/// state where it never did, that run is the only one (`runs_are_determined`). And since no request is without a plan, no
+/// requests at all are without such a run.
+#[tactic(auto, using(crate::proofs::RunLaws::runs_end, crate::proofs::RunLaws::requests_have_runs))]
 pub fn runs_end()
-    ensures { RunsEnd }
+    ensures planned { RunsEnd }
+    ensures all { RequestsHaveRuns }
 {}
 
 /// Equal entity tags show equal bytes: from a world, in any run and under any refusals, where two GETs are answered with

@@ -1,5 +1,5 @@
 //! A list of locks in memory (RFC 4918, sections 6 and 7).
-ghost use Rattle.std.specs.Prelude.{◌≡◌, ◌&&◌, ◌||◌, ◌+◌, ◌++◌, ◌∷◌, ◌≤◌, not, [], map, IfOk, IfErr, OnOk, OnErr, IfSome, IsSome, IsErrOf, MatchOption, Some, None, Contains, true, bytes_eq, string_bytes, option_copied, position, take};
+ghost use Rattle.std.specs.Prelude.{◌≡◌, ◌&&◌, ◌||◌, ◌+◌, ◌++◌, ◌∷◌, ◌≤◌, not, [], map, IfOk, IfErr, OnOk, OnErr, IfSome, MatchOption, Some, None, Contains, true, bytes_eq, string_bytes, option_copied, position, take};
 ghost use Rattle.std.specs.List.{list_any, filter};
 ghost use Rattle.std.specs.Option.{option_map};
 ghost use Rattle.dav_core.specs.Path.{names, is_same_path, is_under, is_at_or_under};
@@ -323,8 +323,6 @@ fn refresh_in(
         ≡ Some locks.new.items)) }
     ensures err { IfErr result
         (λ e. IsRefusedRefresh e (named_lock token.now (names path.now) locks.old.items)) }
-    ensures memory { IsErrOf result RefreshRefusal.Memory
-        → IsSome (named_lock token.now (names path.now) locks.old.items) }
     ensures same { OnErr result (locks.new.items ≡ locks.old.items) }
 {
     let Some(i) = named_place(locks, path, token) else {

@@ -1,4 +1,5 @@
 use Rattle.dav_core.proofs.TargetLemmas.{Leaves-one, Leaves-allowed, Leaves-valid, Climbs-valid, Reads-one, Reads-valid, Reads-allowed, refused_once}
+use Rattle.dav_core.proofs.OutcomeLemmas.{read_or_refused}
 use Rattle.dav_core.proofs.laws.one_reading.Goals as goal
 
 pub returns : goal.returns
@@ -9,4 +10,5 @@ returns c = record {
   reads = Reads-one;
   read_is_not_refused = λ src a h. (Reads-valid src a h, Reads-allowed src a h);
   one_refusal = refused_once;
+  read_or_refused = read_or_refused;
 }

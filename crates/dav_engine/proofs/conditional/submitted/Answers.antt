@@ -1,9 +1,8 @@
 use Rattle.std.proofs.Common.{◌++◌, ◌∙◌, map, List, Some, Option, Vec, string_bytes, ap, sym}
 use Rattle.std.specs.Global.{Global}
-use Rattle.std.specs.List.{flat_map}
 use Rattle.std.specs.Option.{option_map}
 use Rattle.dav_headers.specs.declared.if_header.IfCondition.{IfCondition}
-use Rattle.dav_headers.specs.If.{tokens_in}
+use Rattle.dav_headers.specs.If.{tokens_among}
 use Rattle.dav_headers.specs.IfView.{condition_value}
 use Rattle.dav_engine.specs.declared.conditional.Addressed.{Addressed}
 use Rattle.dav_engine.specs.Conditions as spec
@@ -16,7 +15,7 @@ pub loop-list-preserved : goal.loop-list-preserved
 loop-list-preserved c =
     submitted_at (texts_of c.loop-list.tokens) (texts_of c.push_tokens.new.tokens) c.deref-list-items.result.now c.loop-list.list-index c.list-item.result _
     c.loop-list-test.true c.list-item.is
-    (c.in_ok-push_tokens.ensures ∙ ap (λ (cs : List IfCondition). texts_of c.loop-list.tokens ++ flat_map (λ c. tokens_in c.item) (map condition_value cs)) c.deref.ensures.value)
+    (c.in_ok-push_tokens.ensures ∙ ap (λ (cs : List IfCondition). texts_of c.loop-list.tokens ++ tokens_among (map condition_value cs)) c.deref.ensures.value)
     c.loop-list.invariant
 
 pub returns : goal.returns

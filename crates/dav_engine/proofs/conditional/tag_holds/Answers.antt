@@ -15,7 +15,7 @@ returns-in_err-current g c = λ ls.
 pub returns-in-Some : goal.returns-in-Some
 returns-in-Some g c = λ ls.
     let found : Some c.in-Some.current ≡ spec.tag_found (result_ok c.metadata.result) = sym c.in-Some.is ∙ c.in_ok-current.ensures ∙ ap spec.tag_found (c.as_ref.ensures.value ∙ c.ok-found.ensures.value) in
-    follows_ask c.metadata.ensures.asks (follows_done (ap Ok (one_tag c.strong_eq.result c.args.tag.now c.in-Some.current c.strong_eq.ensures.0 c.strong_eq.ensures.1
+    follows_ask c.metadata.ensures.asks (follows_done (ap Ok (one_tag c.strong_eq.result c.args.tag.now c.in-Some.current c.strong_eq.ensures
     ∙ ap (spec.matches (tags (c.args.tag.now ∷ [])) true) found)))
 
 pub returns-in-None : goal.returns-in-None

@@ -1,7 +1,7 @@
 use Rattle.std.proofs.Common.{refl, sym, ap, not, Some}
 use Rattle.std.proofs.lemmas.Result.{err_from_is_err_and}
 use Rattle.dav_core.specs.Path.{names}
-use Rattle.dav_engine.proofs.Following.{follows_done, follows_ask, follows_out}
+use Rattle.dav_engine.proofs.Theorems.{follows_done, follows_ask, follows_out}
 use Rattle.dav_server.specs.Get.{show_or_tell}
 use Rattle.dav_server.proofs.GetLemmas.{get_stopped, get_goes}
 use Rattle.dav_server.proofs.handle_gethead.get.Goals as goal

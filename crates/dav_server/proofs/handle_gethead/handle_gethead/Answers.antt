@@ -1,6 +1,5 @@
 use Rattle.dav_core.specs.Path.{names}
-use Rattle.dav_engine.proofs.GuardLemmas.{carried}
-use Rattle.dav_engine.proofs.ModelLemmas.{serves_from}
+use Rattle.dav_engine.proofs.Theorems.{carried, serves_from}
 use Rattle.dav_server.specs.Get.{get, is_get}
 use Rattle.dav_server.proofs.handle_gethead.handle_gethead.Goals as goal
 

@@ -1,6 +1,6 @@
 use Rattle.std.proofs.Common.{ap, Ok, rules}
 use Rattle.std.proofs.lemmas.Result.{err_from_is_err_and}
-use Rattle.dav_engine.proofs.Following.{follows_up_to}
+use Rattle.dav_engine.proofs.Theorems.{follows_up_to}
 use Rattle.dav_server.proofs.GetLemmas.{has_it, refuses_it}
 use Rattle.dav_server.proofs.handle_gethead.judged.Goals as goal
 

@@ -1,6 +1,6 @@
 use Rattle.std.proofs.Common.{refl, ap, Ok}
 use Rattle.std.proofs.lemmas.Result.{err_from_is_err_and}
-use Rattle.dav_engine.proofs.Following.{follows_done, follows_ask, follows_up_to}
+use Rattle.dav_engine.proofs.Theorems.{follows_done, follows_ask, follows_up_to}
 use Rattle.dav_server.proofs.handle_gethead.show.Goals as goal
 
 pub returns-in-Err : goal.returns-in-Err

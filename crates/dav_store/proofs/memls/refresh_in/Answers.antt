@@ -15,7 +15,7 @@ returns-clause-ok c =
           ∙ ap (λ l. Some (set ls c.in-Some.i (f l))) (sym c.index_mut.ensures.value) ∙ ap (λ l. Some (set ls c.in-Some.i l)) (sym c.set_timeout-2.ensures),
     )
 
-pub returns-in_default-clone-clause-memory : goal.returns-in_default-clone-clause-memory
-returns-in_default-clone-clause-memory c is =
+pub returns-in_default-clone-clause-err : goal.returns-in_default-clone-clause-err
+returns-in_default-clone-clause-err c =
     let there = named_lock_at c.args.token.now (names c.args.path.now) c.args.locks.now.items c.deref.result.now c.in-Some.i c.index.result.now c.deref.ensures.value c.in-Some.ensures c.index.ensures in
     subst IsSome (sym there) refl

@@ -19,12 +19,12 @@ returns-then-any_refuses-clause-err c =
     let new : Lock = new_lock c.args.token.now c.args.path.now (option_copied c.args.principal) (option_copied c.args.owner) c.args.timeout c.args.shared c.args.deep c.args.now in
     conflict_seen new c.args.self.now c.deref.result.now (c.deref.ensures.value ∙ c.self.view_is) (sym c.if-any_refuses.ensures)
 
-pub returns-in_default-clause-memory : goal.returns-in_default-clause-memory
-returns-in_default-clause-memory c is =
+pub returns-in_default-clause-err : goal.returns-in_default-clause-err
+returns-in_default-clause-err c =
     let new : Lock = new_lock c.args.token.now c.args.path.now (option_copied c.args.principal) (option_copied c.args.owner) c.args.timeout c.args.shared c.args.deep c.args.now in
     grantable_seen new c.args.self.now c.deref.result.now (c.deref.ensures.value ∙ c.self.view_is) (sym c.if-any_refuses.ensures)
 
-pub returns-in_default-keep-clause-memory : goal.returns-in_default-keep-clause-memory
-returns-in_default-keep-clause-memory c is =
+pub returns-in_default-keep-clause-err : goal.returns-in_default-keep-clause-err
+returns-in_default-keep-clause-err c =
     let new : Lock = new_lock c.args.token.now c.args.path.now (option_copied c.args.principal) (option_copied c.args.owner) c.args.timeout c.args.shared c.args.deep c.args.now in
     grantable_seen new c.args.self.now c.deref.result.now (c.deref.ensures.value ∙ c.self.view_is) (sym c.if-any_refuses.ensures)

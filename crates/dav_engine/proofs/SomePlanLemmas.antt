@@ -1,0 +1,67 @@
+-- No PUT, PATCH or MKCOL is without a plan, since a header decodes or doesn't.
+use Rattle.std.proofs.Common.{◌≡◌, ℕ, List, [], inl, inr, Option, Some, None, refl}
+use Rattle.std.specs.Option.{option_or}
+use Rattle.std.specs.Prelude.{codes}
+use Rattle.http_header.specs.FieldValue.{FieldValue}
+use Rattle.http_header.specs.HeaderMap.{get_all}
+use Rattle.dav_core.specs.declared.method.DavMethod.{DavMethod}
+use Rattle.dav_core.specs.Path.{Path, PathText, names}
+use Rattle.dav_headers.specs.ContentRange.{IsContentRange}
+use Rattle.dav_headers.specs.ETagList.{IsTagList}
+use Rattle.dav_headers.specs.Length.{IsContentLength}
+use Rattle.dav_headers.specs.UpdateRange.{IsUpdateRange}
+use Rattle.dav_headers.specs.declared.range.ContentRange.{ContentRange}
+use Rattle.dav_engine.specs.declared.put_headers.Bounds.{Bounds}
+use Rattle.dav_engine.specs.declared.put_headers.Bounds.TheVariants.{Unread, Whole, Within}
+use Rattle.dav_engine.specs.declared.request.Body.{Body}
+use Rattle.dav_engine.specs.Client.{Client}
+use Rattle.dav_engine.specs.Conditions.{Conditions, AreConditions, SaysLists}
+use Rattle.dav_engine.specs.Headers.{Headers, Decodes}
+use Rattle.dav_engine.specs.Method.{MethodPlan}
+use Rattle.dav_engine.specs.Mkcol.{mkcol, IsMkcol, is_mkcol}
+use Rattle.dav_engine.specs.Put.{PutHeaders, ArePutHeaders, IsPut, is_put, put_body, bytes_of_body, IsAnnounced, IsExpectedLength, TellsBounds, is_partial_update, checksum_in}
+use Rattle.dav_engine.specs.Response.{Response}
+
+-- what is read decodes to something, or to nothing
+decoded_some : {A B : Type 0} (grammar : A → B → Type 0) (input : A) → ¬ ((r : Option B) → ¬ Decodes grammar input r)
+decoded_some grammar input unread = unread None (λ x is. unread (Some x) is)
+
+pub some_conditions : (headers : Headers) (prefix : List ℕ) (own : Path) → ¬ ((c : Conditions) → ¬ AreConditions headers prefix own c)
+some_conditions headers prefix own unsaid =
+    decoded_some IsTagList (get_all headers (codes "if-match")) (λ match one.
+    decoded_some IsTagList (get_all headers (codes "if-none-match")) (λ none_match two.
+    decoded_some (SaysLists prefix own) (get_all headers (codes "if")) (λ lists three.
+        unsaid (record { if_match = match; if_none_match = none_match; lists = lists }) (record { match = one; none_match = two; lists = three }))))
+
+some_announced : (headers : Headers) → ¬ ((announced : Option ℕ) → ¬ IsAnnounced headers announced)
+some_announced headers unsaid =
+    decoded_some IsContentLength (get_all headers (codes "content-length")) (λ length one.
+    decoded_some IsExpectedLength (get_all headers (codes "x-expected-entity-length")) (λ expected two.
+        unsaid (option_or length expected) (length, expected, one, two, refl)))
+
+-- a range has bounds, or it has none
+range_tells : (values : List FieldValue) (bounds : Option (ℕ × ℕ)) (length : Option ℕ) → IsContentRange values (record { bounds = bounds; length = length }) → ¬ ((b : Bounds) → ¬ TellsBounds values b)
+range_tells values None length is untold = untold Whole (inr (length, is))
+range_tells values (Some (first, last)) length is untold = untold (Within first last) (length, is)
+
+some_bounds : (values : List FieldValue) → ¬ ((b : Bounds) → ¬ TellsBounds values b)
+some_bounds values untold =
+    untold Unread (λ empty. untold Whole (inl empty), λ range is. range_tells values range.bounds range.length is untold)
+
+some_put_headers : (headers : Headers) (p : PathText) → ¬ ((h : PutHeaders) → ¬ ArePutHeaders headers p h)
+some_put_headers headers p unsaid =
+    some_conditions headers p.prefix (names p) (λ conditions one.
+    some_announced headers (λ announced two.
+    some_bounds (get_all headers (codes "content-range")) (λ range three.
+    decoded_some IsUpdateRange (get_all headers (codes "x-update-range")) (λ update four.
+        unsaid
+            (record { conditions = conditions; announced = announced; range = range; is_partial = is_partial_update (get_all headers (codes "content-type")); update = update; checksum = checksum_in headers })
+            (record { conditions = one; announced = two; range = three; is_partial = refl; update = four; checksum = refl })))))
+
+pub some_put_plan : (m : DavMethod) (headers : Headers) (p : PathText) (body : Body) (who : Client) → ¬ ((plan : MethodPlan Response) → ¬ IsPut m headers p body who plan)
+some_put_plan m headers p body who without =
+    some_put_headers headers p (λ h is. without (put_body m h (names p) who (bytes_of_body body)) (is_put h is))
+
+pub some_mkcol_plan : (headers : Headers) (p : PathText) (who : Client) → ¬ ((plan : MethodPlan Response) → ¬ IsMkcol headers p who plan)
+some_mkcol_plan headers p who without =
+    some_conditions headers p.prefix (names p) (λ c is. without (mkcol c p who) (is_mkcol c is))

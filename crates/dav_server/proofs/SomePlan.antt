@@ -1,0 +1,76 @@
+-- No request is without a plan.
+use Rattle.std.proofs.Common.{◌≡◌, ◌≢◌, ℕ, List, Result, Ok, Err, refl}
+use Rattle.dav_core.specs.declared.errors.DavError.{DavError}
+use Rattle.dav_core.specs.declared.errors.DavError.TheVariants as dav
+use Rattle.dav_core.specs.declared.method.DavMethod.{DavMethod}
+use Rattle.dav_core.specs.declared.method.DavMethod.TheVariants.{Get, Head, Put, Patch, MkCol}
+use Rattle.dav_core.specs.Method.{method_name, Has}
+use Rattle.dav_core.specs.Path.{PathText, names, HasNoCut, star, without_slash}
+use Rattle.dav_core.specs.Target.{Reads}
+use Rattle.dav_core.proofs.Theorems.{read_or_refused}
+use Rattle.dav_engine.specs.declared.request.Body.{Body}
+use Rattle.dav_engine.specs.Client.{Client}
+use Rattle.dav_engine.specs.Headers.{Headers}
+use Rattle.dav_engine.specs.Method.{MethodPlan, fails}
+use Rattle.dav_engine.specs.Response.{Response}
+use Rattle.dav_engine.proofs.Theorems.{some_conditions, some_put_plan, some_mkcol_plan}
+use Rattle.dav_server.specs.Get.{get, IsGet, is_get}
+use Rattle.dav_server.specs.Head.{Request, IsHead}
+use Rattle.dav_server.specs.Headers.{headers_of}
+use Rattle.dav_server.specs.Machine.{Settings, Asked, client, taken_by, body_for, PlanOf, gets, heads, puts, patches, makes, not_yet, MeansOf, not_allowed, no_path, no_body, method, no_head, no_method, known}
+use Rattle.dav_server.specs.Method.{IsServed}
+use Rattle.dav_server.specs.Run.{RequestsHavePlans}
+use Rattle.dav_server.specs.Target.{HasPathText, formless, invalid, climbing, TargetNames, server, reserved, unreadable, outside, path}
+
+-- no target is without an outcome
+some_outcome : (prefix : List ℕ) (m : DavMethod) (target : List ℕ) → ¬ ((r : Result PathText DavError) → ¬ TargetNames prefix m target r)
+some_outcome prefix m target unnamed =
+    let apart : target ≢ star = λ is. unnamed (Err (dav.Status 400)) (reserved is (λ options. unnamed _ (server is options))) in
+    let textless : (text : List ℕ) → ¬ HasPathText target text = λ text has.
+        let unread : (bytes : List ℕ) → ¬ Reads text bytes = λ bytes reads.
+            let uncut : HasNoCut (without_slash prefix) bytes = λ p cut. unnamed (Ok p) (path has reads cut) in
+            unnamed (Err dav.IllegalPath) (outside has reads uncut) in
+        read_or_refused text unread
+            (λ bad. unnamed (Err dav.InvalidPath) (unreadable apart (invalid has bad)))
+            (λ climbs. unnamed (Err dav.ForbiddenPath) (unreadable apart (climbing has climbs))) in
+    unnamed (Err (dav.Status 400)) (unreadable apart (formless textless))
+
+some_get : (m : DavMethod) (headers : Headers) (p : PathText) (now : ℕ) → ¬ ((plan : MethodPlan Response) → ¬ IsGet m headers p now plan)
+some_get m headers p now without =
+    some_conditions headers p.prefix (names p) (λ c is. without (get m c (names p) now) (is_get c is))
+
+-- no method is without a plan
+some_plan_of : (allowed : ℕ) (headers : Headers) (p : PathText) (body : Body) (who : Client) (m : DavMethod) → ¬ ((plan : MethodPlan Response) → ¬ PlanOf allowed headers p body who m plan)
+some_plan_of headers p body who Get without = some_get Get headers p who.moment (λ plan is. without plan (gets is))
+some_plan_of headers p body who Head without = some_get Head headers p who.moment (λ plan is. without plan (heads is))
+some_plan_of headers p body who Put without = some_put_plan Put headers p body who (λ plan is. without plan (puts is))
+some_plan_of headers p body who Patch without = some_put_plan Patch headers p body who (λ plan is. without plan (patches is))
+some_plan_of headers p body who MkCol without = some_mkcol_plan headers p who (λ plan is. without plan (makes is))
+some_plan_of headers p body who _ without = without (fails (dav.Status 501)) (not_yet refl)
+
+-- nor a request whose head, method and path are known, whatever its body is
+some_with_body : (s : Settings) (x : Asked) (r : Request) (m : DavMethod) (p : PathText) → Has s.allowed m → TargetNames s.prefix m r.target (Ok p)
+    → (given : Result Body DavError) → body_for (taken_by m) x.body ≡ given → ¬ ((plan : MethodPlan Response) → ¬ MeansOf s x r m plan)
+some_with_body s x r m p has named (Err e) is without = without (fails e) (no_body p e has named is)
+some_with_body s x r m p has named (Ok body) is without =
+    some_plan_of (headers_of r.fields) p body (client x) m (λ plan planned. without plan (method p body has named is planned))
+
+-- nor one whose head and method are known, whatever its target names
+some_with_target : (s : Settings) (x : Asked) (r : Request) (m : DavMethod) → Has s.allowed m → (outcome : Result PathText DavError) → TargetNames s.prefix m r.target outcome
+    → ¬ ((plan : MethodPlan Response) → ¬ MeansOf s x r m plan)
+some_with_target s x r m has (Err e) named without = without (fails e) (no_path e has named)
+some_with_target s x r m has (Ok p) named without =
+    some_with_body s x r m p has named (body_for (taken_by m) x.body) refl without
+
+some_means_of : (s : Settings) (x : Asked) (r : Request) (m : DavMethod) → ¬ ((plan : MethodPlan Response) → ¬ MeansOf s x r m plan)
+some_means_of s x r m without =
+    let barred : ¬ Has s.allowed m = λ has. some_outcome s.prefix m r.target (λ outcome named. some_with_target s x r m has outcome named without) in
+    without (fails (dav.StatusClose 405)) (not_allowed barred)
+
+pub requests_have_plans : RequestsHavePlans
+requests_have_plans s x without =
+    let headless : (r : Request) → ¬ IsHead x.head r = λ r is.
+        let unknown : (m : DavMethod) → IsServed m → r.method ≢ method_name m = λ m served named.
+            some_means_of s x r m (λ plan means. without plan (known r m is (served, named) means)) in
+        without (fails dav.UnknownDavMethod) (no_method r dav.UnknownDavMethod is (refl, unknown)) in
+    without (fails (dav.Status 400)) (no_head headless)
