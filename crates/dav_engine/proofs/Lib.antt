@@ -21,3 +21,7 @@ pub mod TagPathLemmas
 pub mod VerdictLemmas
 pub mod ModelLemmas
 pub mod LaterLemmas
+pub mod GuardedFolders
+pub mod InsideLemmas
+pub mod SparingCalls
+pub mod SparingLaw

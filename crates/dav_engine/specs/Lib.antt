@@ -16,3 +16,6 @@ pub mod Response
 pub mod WorldLaws
 pub mod StateCode
 pub mod CallerView
+pub mod Inside
+pub mod Guard
+pub mod Sparing

@@ -1,0 +1,22 @@
+//! Laws of locked folders. Each function does nothing: its contract is a theorem on the definitions.
+ghost use Rattle.dav_engine.specs.Guard.{FreeIsHeld, FreeIsApart, FreeIsUncovered};
+ghost use Rattle.dav_engine.specs.Sparing.{SparingLeavesCovered, SparingLeavesInside};
+
+/// At a folder that a lock guards (exclusive, of infinite depth) and below it, a path is free exactly for the requester that
+/// holds the lock. What is free with everything below, for any other requester, is apart from the folder. And what is free
+/// for a requester that doesn't hold an exclusive lock isn't covered by it (RFC 4918, sections 6.2 and 7).
+#[tactic(auto, using(crate::proofs::GuardedFolders::free_is_held, crate::proofs::GuardedFolders::free_is_apart, crate::proofs::GuardedFolders::free_is_uncovered))]
+pub fn guarded_folders_are_free_for_holders()
+    ensures held { FreeIsHeld }
+    ensures apart { FreeIsApart }
+    ensures uncovered { FreeIsUncovered }
+{}
+
+/// A plan that spares what an exclusive lock covers leaves the content there, whatever else is in the list of locks, whatever
+/// the store refuses and where it runs out of memory. A plan that spares a guarded folder leaves what is inside, and the
+/// folder stays guarded as long as the lock is in the list (RFC 4918, section 7).
+#[tactic(auto, using(crate::proofs::SparingLaw::sparing_leaves_covered, crate::proofs::SparingLaw::sparing_leaves_inside))]
+pub fn sparing_plans_leave_locked_content()
+    ensures covered { SparingLeavesCovered }
+    ensures inside { SparingLeavesInside }
+{}
