@@ -25,3 +25,4 @@ pub mod GuardedFolders
 pub mod InsideLemmas
 pub mod SparingCalls
 pub mod SparingLaw
+pub mod SparingPlans

@@ -19,3 +19,4 @@ pub mod CallerView
 pub mod Inside
 pub mod Guard
 pub mod Sparing
+pub mod SparingPlans

@@ -1,6 +1,7 @@
 //! Laws of locked folders. Each function does nothing: its contract is a theorem on the definitions.
 ghost use Rattle.dav_engine.specs.Guard.{FreeIsHeld, FreeIsApart, FreeIsUncovered};
 ghost use Rattle.dav_engine.specs.Sparing.{SparingLeavesCovered, SparingLeavesInside};
+ghost use Rattle.dav_engine.specs.SparingPlans.{ReadingSpares, PutSpares, MkcolSpares};
 
 /// At a folder that a lock guards (exclusive, of infinite depth) and below it, a path is free exactly for the requester that
 /// holds the lock. What is free with everything below, for any other requester, is apart from the folder. And what is free
@@ -19,4 +20,12 @@ pub fn guarded_folders_are_free_for_holders()
 pub fn sparing_plans_leave_locked_content()
     ensures covered { SparingLeavesCovered }
     ensures inside { SparingLeavesInside }
+{}
+
+/// PUT, PATCH and MKCOL of a client that doesn't hold an exclusive lock spare what it covers, and plans that only read spare
+/// all (RFC 4918, section 7).
+pub fn strangers_spare_what_is_locked()
+    ensures reading { ReadingSpares }
+    ensures put { PutSpares }
+    ensures mkcol { MkcolSpares }
 {}
