@@ -26,3 +26,6 @@ pub mod InsideLemmas
 pub mod SparingCalls
 pub mod SparingLaw
 pub mod SparingPlans
+pub mod BesideLemmas
+pub mod AlongsideLaw
+pub mod AlongsidePlans

@@ -10,6 +10,10 @@ use Rattle.dav_engine.specs.Plan.{Locks}
 abbrev pub folder_of : Lock → Path
 folder_of h = names h.path
 
+-- a path at the lock's folder or below it
+abbrev pub IsInReach : Lock → Path → Type 0
+IsInReach h p = is_at_or_under p (folder_of h) ≡ true
+
 -- the lock is exclusive and of infinite depth
 pub record IsGuard (h : Lock) : Type 0 where
   pub exclusive : h.shared ≡ false

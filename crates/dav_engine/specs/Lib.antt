@@ -20,3 +20,6 @@ pub mod Inside
 pub mod Guard
 pub mod Sparing
 pub mod SparingPlans
+pub mod AnswerParts
+pub mod Alongside
+pub mod AlongsidePlans

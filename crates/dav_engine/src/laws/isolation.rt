@@ -1,4 +1,6 @@
 //! Laws of locked folders. Each function does nothing: its contract is a theorem on the definitions.
+ghost use Rattle.dav_engine.specs.Alongside.{AlongsideAgree};
+ghost use Rattle.dav_engine.specs.AlongsidePlans.{PutGoesAlong, MkcolGoesAlong};
 ghost use Rattle.dav_engine.specs.Guard.{FreeIsHeld, FreeIsApart, FreeIsUncovered};
 ghost use Rattle.dav_engine.specs.Sparing.{SparingLeavesCovered, SparingLeavesInside};
 ghost use Rattle.dav_engine.specs.SparingPlans.{ReadingSpares, PutSpares, MkcolSpares};
@@ -28,4 +30,13 @@ pub fn strangers_spare_what_is_locked()
     ensures reading { ReadingSpares }
     ensures put { PutSpares }
     ensures mkcol { MkcolSpares }
+{}
+
+/// A plan that goes along with itself has the same outcome in two worlds that have the same content in a guarded folder, but
+/// for change numbers and times, and leaves the same content there. PUT, PATCH and MKCOL at the folder or below it, with the
+/// guard's token as their only condition, have such plans.
+pub fn plans_agree_in_alike_worlds()
+    ensures agree { AlongsideAgree }
+    ensures put { PutGoesAlong }
+    ensures mkcol { MkcolGoesAlong }
 {}
