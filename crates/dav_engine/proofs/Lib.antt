@@ -29,3 +29,5 @@ pub mod SparingPlans
 pub mod BesideLemmas
 pub mod AlongsideLaw
 pub mod AlongsidePlans
+pub mod NumberLemmas
+pub mod GrantLemmas

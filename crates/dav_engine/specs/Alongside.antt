@@ -1,5 +1,5 @@
 -- Two runs of a plan, side by side, in worlds that have the same content in a guarded folder.
-use Rattle.std.specs.Prelude.{◌≡◌, ◌++◌, ◌⊎◌, ℕ, ◌≤◌, ⊤, Bool, true, false, List, Option, Some, None, Result, Ok, Err}
+use Rattle.std.specs.Prelude.{◌≡◌, ◌++◌, ◌⊎◌, ℕ, ◌<◌, ◌≤◌, ⊤, Bool, true, false, List, Option, Some, None, Result, Ok, Err}
 use Rattle.std.specs.declared.io.traits.SeekFrom.{SeekFrom}
 use Rattle.dav_core.specs.declared.errors.FsError.{FsError}
 use Rattle.dav_core.specs.declared.errors.FsError.TheVariants.{GeneralFailure}
@@ -9,7 +9,7 @@ use Rattle.dav_core.specs.Asking.{Call, Answer, meaning, next_refusal, StoreStat
 use Rattle.dav_core.specs.Handle.{Handle, Opening}
 use Rattle.dav_core.specs.Locks.{Lock}
 use Rattle.dav_core.specs.Path.{Path}
-use Rattle.dav_core.specs.World.{World, Node, node_at, is_folder_kind, IsWorld}
+use Rattle.dav_core.specs.World.{World, Node, node_at, is_folder_kind, last_number, IsWorld}
 use Rattle.dav_engine.specs.AnswerParts.{answers_of}
 use Rattle.dav_engine.specs.Guard.{folder_of, IsGuard, Guards, IsListed, Guarded, Stands}
 use Rattle.dav_engine.specs.Inside.{SameInside, HasFoldersAbove}
@@ -153,3 +153,10 @@ AlongsideAgree =
     → IsGuard h → Alongside h true (λ file. SameAnswers) None plan plan → IsProperPlan plan
     → Ran AsksWithNumbers plan old ls a new ms → Ran Asks plan old' ls' b new' ms' → new.short ≡ false → new'.short ≡ false → old.refusals ≡ old'.refusals
     → Guarded h ls → Guarded h ls' → AreAlike (folder_of h) None old.world old'.world → Agrees SameAnswers h a b new.world new'.world ms ms'
+
+-- A plan that ends with a number to spare, below the last, found each number that it took.
+abbrev pub SpareNumbersSuffice : Type 0
+SpareNumbersSuffice =
+    (plan : MethodPlan Response) (old new : StoreState) (ls ms : Locks) (a : Result Response DavError)
+    → IsProperPlan plan → IsWorld old.world → Ran Asks plan old ls a new ms → new.world.next < last_number
+    → Ran AsksWithNumbers plan old ls a new ms

@@ -1,6 +1,6 @@
 -- A lock that guards a folder: exclusive, and of infinite depth (RFC 4918, sections 6.1 and 7).
-use Rattle.std.specs.Prelude.{◌≡◌, ◌≢◌, ◌++◌, ℕ, Bool, true, false, List, [], ◌∷◌, Option, Some, None}
-use Rattle.dav_core.specs.Locks.{Lock, Requester, covers, is_held, is_free_for}
+use Rattle.std.specs.Prelude.{◌≡◌, ◌≢◌, ◌++◌, ℕ, Bool, true, false, List, [], ◌∷◌, All, Option, Some, None}
+use Rattle.dav_core.specs.Locks.{Lock, Requester, covers, is_held, is_free_for, is_grantable}
 use Rattle.dav_core.specs.Path.{Path, names, is_at_or_under}
 use Rattle.dav_headers.specs.If.{state_token}
 use Rattle.dav_engine.specs.Conditions.{Addressed}
@@ -86,3 +86,9 @@ abbrev pub FreeIsUncovered : Type 0
 FreeIsUncovered =
     (h : Lock) (deep : Bool) (who : Requester) (p : Path) (ls : List Lock)
     → h.shared ≡ false → is_held who h ≡ false → IsListed h ls → is_free_for deep who p ls ≡ true → covers h p ≡ false
+
+-- A lock that is exclusive and of infinite depth and may be granted guards its folder, after locks of other tokens.
+abbrev pub GrantedGuards : Type 0
+GrantedGuards =
+    (h : Lock) (ls : List Lock)
+    → IsGuard h → All (λ l. l.token ≢ h.token) ls → is_grantable h ls ≡ true → Guards h (ls ++ h ∷ [])

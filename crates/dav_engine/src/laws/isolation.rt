@@ -1,7 +1,8 @@
 //! Laws of locked folders. Each function does nothing: its contract is a theorem on the definitions.
-ghost use Rattle.dav_engine.specs.Alongside.{AlongsideAgree};
+ghost use Rattle.dav_engine.specs.Alongside.{AlongsideAgree, SpareNumbersSuffice};
 ghost use Rattle.dav_engine.specs.AlongsidePlans.{PutGoesAlong, MkcolGoesAlong};
-ghost use Rattle.dav_engine.specs.Guard.{FreeIsHeld, FreeIsApart, FreeIsUncovered};
+ghost use Rattle.dav_engine.specs.Guard.{FreeIsHeld, FreeIsApart, FreeIsUncovered, GrantedGuards};
+ghost use Rattle.dav_engine.specs.Inside.{FoldersAreAbove};
 ghost use Rattle.dav_engine.specs.Sparing.{SparingLeavesCovered, SparingLeavesInside};
 ghost use Rattle.dav_engine.specs.SparingPlans.{ReadingSpares, PutSpares, MkcolSpares};
 
@@ -39,4 +40,17 @@ pub fn plans_agree_in_alike_worlds()
     ensures agree { AlongsideAgree }
     ensures put { PutGoesAlong }
     ensures mkcol { MkcolGoesAlong }
+{}
+
+/// A plan that ends with a change number to spare found each number that it took.
+#[tactic(auto, using(crate::proofs::NumberLemmas::spare_numbers_suffice))]
+pub fn spare_numbers_suffice()
+    ensures { SpareNumbersSuffice }
+{}
+
+/// A lock that is exclusive and of infinite depth, and that may be granted after locks of other tokens, guards its folder.
+/// In a world there are folders above whatever is there (RFC 4918, sections 5.1 and 6.2).
+pub fn granted_locks_guard_their_folders()
+    ensures guards { GrantedGuards }
+    ensures above { FoldersAreAbove }
 {}
