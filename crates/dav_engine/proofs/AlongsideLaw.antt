@@ -1,29 +1,28 @@
 -- The law of plans that go side by side.
-use Rattle.std.proofs.Common.{◌≡◌, ℕ, ◌≤◌, ◌++◌, ◌⊎◌, inl, inr, Bool, true, false, true≢false, List, [], ◌∷◌, Option, Some, None, Result, Ok, Err, refl, sym, ap, subst, ◌∙◌, arith}
+use Rattle.std.proofs.Common.{◌≡◌, ℕ, ◌++◌, inl, inr, Bool, true, false, true≢false, List, [], ◌∷◌, Option, Some, None, Result, Ok, Err, refl, sym, ap, subst, ◌∙◌}
 use Rattle.std.specs.Bool.{⊤}
 use Rattle.std.specs.declared.io.traits.SeekFrom.{SeekFrom}
 use Rattle.dav_core.specs.declared.errors.FsError.{FsError}
 use Rattle.dav_core.specs.declared.errors.FsError.TheVariants.{GeneralFailure}
 use Rattle.dav_core.specs.declared.errors.DavError.{DavError}
-use Rattle.dav_core.specs.declared.fs.DavMetaData.{DavMetaData}
 use Rattle.dav_core.specs.Asking.{Call, Answer, StoreState, Asks, asked, ran_short, ask, answered, next_refusal, rest_of, meaning, Metadata, ReadDir, EntryMetadata, CreateDir, RemoveDir, RemoveFile, Rename, Copy, HaveProps, PatchProps, GetProps, GetProp, GetQuota, SetAccessed, SetModified, Open, Read, Write, Seek, Flush, FileMetadata}
 use Rattle.dav_core.specs.CallLaws.{IsProper, TakesAway, brought}
 use Rattle.dav_core.specs.Handle.{Handle, Opening}
 use Rattle.dav_core.specs.Locks.{Lock}
 use Rattle.dav_core.specs.Meaning.{Meaning}
-use Rattle.dav_core.specs.Path.{Path, is_under}
-use Rattle.dav_core.specs.World.{World, Node, node_at, is_folder_kind, IsWorld}
+use Rattle.dav_core.specs.Path.{Path}
+use Rattle.dav_core.specs.World.{World, node_at, IsWorld}
 use Rattle.dav_core.proofs.FollowLemmas.{nodes_stay, opened_stands}
 use Rattle.dav_core.proofs.KeptLemmas.{calls_keep_worlds}
 use Rattle.dav_core.proofs.MadeLemmas.{made_stands}
 use Rattle.dav_engine.specs.Method.{MethodPlan}
-use Rattle.dav_engine.specs.Plan.{Plan, Done, Ask, Look, Keep, Locks, CallStep, Ran, ran_done, ran_ask, ran_look, ran_keep}
+use Rattle.dav_engine.specs.Plan.{Plan, Locks, Ran, ran_done, ran_ask, ran_look, ran_keep}
 use Rattle.dav_engine.specs.WorldLaws.{IsProperPlan, proper_done, proper_ask, proper_look, proper_keep}
-use Rattle.dav_engine.proofs.CallWorlds.{Did, stays, means, did, Kept, asks_keep, asks_tell}
+use Rattle.dav_engine.proofs.CallWorlds.{Did, stays, means, did, asks_keep, asks_tell}
 use Rattle.dav_engine.proofs.PlanLemmas.{ran_unset}
-use Rattle.dav_engine.specs.Guard.{folder_of, IsGuard, Guards, IsListed, Guarded, Stands}
-use Rattle.dav_engine.specs.Inside.{SameInside, HasFoldersAbove}
-use Rattle.dav_engine.specs.Alongside.{TakesNumber, FindsNoNumber, AsksWithNumbers, SameResult, SameMetadata, BothOpen, SameHandle, AreOpen, opened_at, IsCallInside, SameAnswer, Alongside, side_ok, side_err, side_asks, side_opens, side_reads, side_writes, side_seeks, side_flushes, side_tells, side_look, side_keep, side_last, IsFileAt, AreBothThere, AreAlike, Agrees, SameAnswers, AlongsideAgree}
+use Rattle.dav_engine.specs.Guard.{folder_of, Guarded}
+use Rattle.dav_engine.specs.Inside.{HasFoldersAbove}
+use Rattle.dav_engine.specs.Alongside.{TakesNumber, FindsNoNumber, AsksWithNumbers, SameResult, SameMetadata, BothOpen, SameHandle, AreOpen, IsCallInside, SameAnswer, Alongside, side_ok, side_err, side_asks, side_opens, side_reads, side_writes, side_seeks, side_flushes, side_tells, side_look, side_keep, side_last, IsFileAt, AreBothThere, AreAlike, Agrees, SameAnswers, AlongsideAgree}
 use Rattle.dav_engine.proofs.BesideLemmas.{Beside, beside_err, beside_ok, used_up, Like, metadata_beside, create_beside, open_beside, flush_beside, tells_beside, seek_beside, read_beside, write_beside}
 use Rattle.dav_engine.proofs.SparingCalls.{folder_stays}
 

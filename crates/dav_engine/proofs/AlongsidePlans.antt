@@ -8,16 +8,16 @@ use Rattle.dav_core.specs.declared.errors.DavError.{DavError}
 use Rattle.dav_core.specs.declared.errors.DavError.TheVariants as dav
 use Rattle.dav_core.specs.declared.fs.DavMetaData.{DavMetaData}
 use Rattle.dav_core.specs.declared.method.DavMethod.{DavMethod}
-use Rattle.dav_core.specs.declared.method.DavMethod.TheVariants.{MkCol, Head, Patch}
-use Rattle.dav_core.specs.Asking.{Call, Answer, Metadata, CreateDir, Open, Read, Write, Seek, Flush, FileMetadata}
+use Rattle.dav_core.specs.declared.method.DavMethod.TheVariants.{MkCol, Patch}
+use Rattle.dav_core.specs.Asking.{Metadata, CreateDir, Write, Flush}
 use Rattle.dav_core.specs.Handle.{Handle, Opening}
-use Rattle.dav_core.specs.Locks.{Lock, Requester, requester_of, is_held}
+use Rattle.dav_core.specs.Locks.{Lock, requester_of, is_held}
 use Rattle.dav_core.specs.Path.{Path, PathText, names, rest_after, is_at_or_under}
 use Rattle.dav_core.proofs.FrontLemmas.{from_rest}
 use Rattle.http_header.specs.FieldValue.{FieldValue}
 use Rattle.http_header.specs.HeaderMap.{get_all}
 use Rattle.std.specs.Option.{is_some}
-use Rattle.dav_headers.specs.ETagList.{TagList, IsTagList}
+use Rattle.dav_headers.specs.ETagList.{IsTagList}
 use Rattle.dav_engine.specs.Headers.{Headers, Decodes}
 use Rattle.dav_engine.specs.AlongsidePlans.{SubmitsAlone, GoesAlong, PutGoesAlong, MkcolGoesAlong}
 use Rattle.dav_engine.proofs.OnePlanLemmas.{one_conditions}
@@ -26,15 +26,14 @@ use Rattle.dav_headers.specs.declared.range.XUpdateRange.{XUpdateRange}
 use Rattle.dav_headers.specs.declared.range.XUpdateRange.TheVariants.{FromTo, AllFrom, Last, Append}
 use Rattle.dav_engine.specs.declared.put_headers.Writing.{Writing}
 use Rattle.dav_engine.specs.Client.{Client, requester}
-use Rattle.dav_engine.specs.Conditions.{Conditions, Addressed, AreConditions, token_holds, item_holds, while_true, while_false, all_hold, some_holds, if_holds, submitted, http_conditions, unless, if_match, if_match_get_tokens, guarded, status_as}
-use Rattle.dav_engine.specs.Method.{MethodPlan, then as followed_by, ◌>>=◌, require, require_free, is_open, gives, refused_as, ask_for}
-use Rattle.dav_engine.specs.Mkcol.{mkcol, mkcol_allowed, create_error, made, is_mkcol}
-use Rattle.dav_engine.specs.Plan.{Plan, Done, Ask}
-use Rattle.dav_engine.specs.Put.{PutHeaders, from_end, update_from, update_at, updates, written_by, bounded_by, writing_of, put_opening, is_announced, unsatisfiable, open_error, sought, written, stored, store, put_allowed, put, put_body, bytes_of_body, is_put}
-use Rattle.dav_engine.specs.Response.{Response}
-use Rattle.dav_engine.specs.AnswerParts.{answers_of, bytes_in}
+use Rattle.dav_engine.specs.Conditions.{Conditions, Addressed, AreConditions, token_holds, while_true, while_false, some_holds, submitted, guarded, status_as}
+use Rattle.dav_engine.specs.Method.{MethodPlan, then as followed_by, ◌>>=◌, require, require_free, gives, refused_as, ask_for}
+use Rattle.dav_engine.specs.Mkcol.{mkcol, create_error, made, is_mkcol}
+use Rattle.dav_engine.specs.Plan.{Done}
+use Rattle.dav_engine.specs.Put.{PutHeaders, from_end, update_from, update_at, updates, written_by, bounded_by, writing_of, put_opening, is_announced, unsatisfiable, sought, stored, store, put_body, bytes_of_body, is_put}
+use Rattle.dav_engine.specs.AnswerParts.{answers_of}
 use Rattle.dav_engine.specs.Guard.{folder_of, IsGuard, Guards, IsInReach, SubmitOnly, no_list, a_list}
-use Rattle.dav_engine.specs.Alongside.{SameResult, SameMetadata, BothOpen, SameHandle, AreOpen, opened_at, IsCallInside, SameAnswer, Alongside, side_ok, side_err, side_asks, side_opens, side_reads, side_writes, side_seeks, side_flushes, side_tells, side_look, side_keep, side_last, SameAnswers}
+use Rattle.dav_engine.specs.Alongside.{SameResult, SameMetadata, BothOpen, AreOpen, Alongside, side_ok, side_err, side_asks, side_opens, side_reads, side_writes, side_seeks, side_flushes, side_tells, side_look, side_keep, side_last, SameAnswers}
 use Rattle.dav_engine.proofs.GuardedFolders.{free_for_is}
 
 -- ---- parts

@@ -1,23 +1,21 @@
 -- What a call means in two worlds that are alike.
-use Rattle.std.proofs.Common.{◌≡◌, ◌≢◌, ℕ, ◌+◌, ◌≤◌, ◌<◌, ◌==◌, ◌||◌, ◌&&◌, ◌++◌, nat_lt, Bool, true, false, not, true≢false, cond, if◌then◌else◌, List, [], ◌∷◌, length, take, drop, append-nil, Option, Some, None, Result, Ok, Err, ◌⊎◌, inl, inr, refl, sym, ap, subst, ◌∙◌, arith}
+use Rattle.std.proofs.Common.{◌≡◌, ℕ, ◌+◌, ◌≤◌, ◌==◌, ◌||◌, ◌++◌, nat_lt, Bool, true, false, not, true≢false, cond, if◌then◌else◌, List, [], ◌∷◌, length, take, drop, append-nil, Option, Some, None, Ok, Err, ◌⊎◌, inl, inr, refl, sym, ap, subst, ◌∙◌, arith}
 use Rattle.std.proofs.lemmas.Bool.{eqb-true, eqb-false}
 use Rattle.std.specs.Bool.{⊤}
-use Rattle.std.specs.Option.{option_map, is_none, is_some}
+use Rattle.std.specs.Option.{option_map, is_none}
 use Rattle.std.specs.declared.io.traits.SeekFrom.{SeekFrom}
 use Rattle.dav_core.specs.declared.errors.FsError.{FsError}
 use Rattle.dav_core.specs.declared.errors.FsError.TheVariants.{GeneralFailure, Exists, NotFound, Forbidden, TooLarge}
-use Rattle.dav_core.specs.declared.fs.DavMetaData.{DavMetaData}
-use Rattle.dav_core.specs.Asking.{Call, Answer, meaning, Metadata, CreateDir, Open, Read, Write, Seek, Flush, FileMetadata}
 use Rattle.dav_core.specs.Calls.{metadata_of, metadata, create_dir, open_at, emptied, read_bytes, write_bytes, written, seek, sought, flush, file_metadata}
 use Rattle.dav_core.specs.Handle.{Handle, Opening, opened, write_place, place_for}
 use Rattle.dav_core.specs.Meaning.{Meaning, refuse_if, at_node}
 use Rattle.dav_core.specs.Path.{Path, is_same_path, is_under, has_names, is_nonempty, rest_after, parent_of}
 use Rattle.dav_core.specs.Property.{Properties}
-use Rattle.dav_core.specs.World.{World, Node, Nodes, Kind, Folder, File, node_at, is_missing, is_folder, is_folder_kind, is_folder_node, with_new, adjust, change_node, is_file_made_with, file_made_with, last_number, bytes_of, max_file_len, splice, IsWorld}
+use Rattle.dav_core.specs.World.{World, Node, Nodes, Kind, Folder, File, node_at, is_folder, is_folder_kind, is_folder_node, with_new, adjust, change_node, is_file_made_with, file_made_with, last_number, bytes_of, max_file_len, splice, IsWorld}
 use Rattle.dav_core.proofs.FrontLemmas.{parent-append, shape, rest_after-append}
-use Rattle.dav_core.proofs.MadeLemmas.{stands_made, change_made, made_stands}
-use Rattle.dav_engine.specs.Inside.{Content, content_of, inside, SameInside, HasFoldersAbove}
-use Rattle.dav_engine.specs.Alongside.{SameResult, SameMetadata, BothOpen, SameHandle, AreOpen, IsCallInside, SameAnswer, TakesNumber, IsFileAt, AreAlike}
+use Rattle.dav_core.proofs.MadeLemmas.{stands_made, change_made}
+use Rattle.dav_engine.specs.Inside.{Content, content_of, SameInside, HasFoldersAbove}
+use Rattle.dav_engine.specs.Alongside.{SameMetadata, BothOpen, SameHandle, AreOpen, IsFileAt}
 use Rattle.dav_engine.proofs.InsideLemmas.{content-new, content-adjust}
 
 -- ---- meanings side by side

@@ -1,11 +1,11 @@
 -- What a grant leaves: a list that its lock guards, and folders above it.
-use Rattle.std.proofs.Common.{◌≡◌, ◌≢◌, ◌++◌, ◌&&◌, ◌||◌, Bool, true, false, not, true≢false, List, [], ◌∷◌, All, cond, ℕ, Option, Some, None, ◌⊎◌, inl, inr, refl, sym, ap, subst, ◌∙◌, append_assoc, append-nil}
+use Rattle.std.proofs.Common.{◌≡◌, ◌≢◌, ◌++◌, ◌&&◌, ◌||◌, Bool, true, false, not, true≢false, List, [], ◌∷◌, All, cond, ℕ, Option, Some, None, ◌⊎◌, inl, inr, refl, sym, ap, ◌∙◌, append_assoc, append-nil}
 use Rattle.std.specs.List.{list_any}
 use Rattle.std.specs.Option.{is_some}
 use Rattle.std.specs.FinMap.{find}
 use Rattle.dav_core.specs.Locks.{Lock, covers, is_grantable}
-use Rattle.dav_core.specs.Path.{Path, path_cmp, names, rest_after, is_same_path, is_under, is_at_or_under, has_names, parent_of}
-use Rattle.dav_core.specs.World.{World, Node, node_at, is_folder, is_folder_node, IsWorld}
+use Rattle.dav_core.specs.Path.{Path, path_cmp, names, rest_after, is_same_path, is_under, is_at_or_under, has_names}
+use Rattle.dav_core.specs.World.{World, Node, node_at, is_folder, IsWorld}
 use Rattle.dav_core.proofs.FrontLemmas.{rest_after-append, from_rest, parent-append, outside}
 use Rattle.dav_core.proofs.MemberLemmas.{above}
 use Rattle.dav_core.proofs.NodesLemmas.{same_path, path-itself}
@@ -15,8 +15,8 @@ use Rattle.dav_core.specs.Path.{name_cmp}
 use Rattle.std.specs.Ordering.{is_eq}
 use Rattle.dav_core.proofs.CoverLemmas.{grantable_by_tests}
 use Rattle.dav_core.proofs.FrontLemmas.{same_name, name-itself}
-use Rattle.dav_engine.specs.Guard.{folder_of, IsGuard, IsElsewhere, AllElsewhere, no_others, another, Guards, guards_here, guards_later, GrantedGuards}
-use Rattle.dav_engine.specs.Inside.{HasFoldersAbove, FoldersAreAbove}
+use Rattle.dav_engine.specs.Guard.{folder_of, IsGuard, no_others, Guards, guards_here, guards_later, GrantedGuards}
+use Rattle.dav_engine.specs.Inside.{FoldersAreAbove}
 
 -- ---- fronts of one path
 

@@ -1,5 +1,5 @@
 -- What is free at a guarded folder, and of what an exclusive lock covers.
-use Rattle.std.proofs.Common.{◌≡◌, ◌≢◌, ℕ, bytes_eq, ◌++◌, ◌&&◌, ◌||◌, Bool, true, false, not, true≢false, if◌then◌else◌, List, [], ◌∷◌, append-nil, append_assoc, Option, Some, None, refl, sym, ap, subst, ◌∙◌, arith}
+use Rattle.std.proofs.Common.{◌≡◌, ℕ, bytes_eq, ◌++◌, ◌&&◌, ◌||◌, Bool, true, false, not, true≢false, List, [], ◌∷◌, append-nil, append_assoc, Option, Some, None, refl, sym, ap, subst, ◌∙◌}
 use Rattle.std.specs.List.{list_all, list_any}
 use Rattle.std.specs.Option.{is_some}
 use Rattle.dav_core.specs.Locks.{Lock, Requester, Claimant, Anyone, By, covers, is_of, is_same_principal, is_held, is_free, is_free_deep, is_free_for}

@@ -1,14 +1,13 @@
 -- What is content_of at a path after a change.
-use Rattle.std.proofs.Common.{◌≡◌, ◌≢◌, ℕ, ◌++◌, Bool, true, false, true≢false, cond, Option, Some, None, refl, sym, ap, subst, ◌∙◌}
-use Rattle.std.specs.Option.{option_map, is_some}
+use Rattle.std.proofs.Common.{◌≡◌, ℕ, Bool, true, false, cond, Option, Some, None, refl, ap, ◌∙◌}
+use Rattle.std.specs.Option.{option_map}
 use Rattle.std.specs.FinMap.{find, put}
-use Rattle.dav_core.specs.Path.{Path, path_cmp, is_same_path, is_at_or_under, rest_after, parent_of}
+use Rattle.dav_core.specs.Path.{Path, path_cmp, is_same_path, is_at_or_under, parent_of}
 use Rattle.dav_core.specs.Property.{Properties}
-use Rattle.dav_core.specs.World.{Kind, Node, Nodes, World, node_at, fresh, adjust, touched, modified_at, with_new, prune}
-use Rattle.dav_core.proofs.NodesLemmas.{same_path, turned, find-adjust, find-put_node}
+use Rattle.dav_core.specs.World.{Kind, Node, Nodes, World, fresh, adjust, touched, modified_at, with_new, prune}
+use Rattle.dav_core.proofs.NodesLemmas.{find-adjust, find-put_node}
 use Rattle.dav_core.proofs.NodesAfter.{find-prune}
-use Rattle.dav_core.proofs.FrontLemmas.{rest_after-append, from_rest}
-use Rattle.dav_engine.specs.Inside.{Content, content_of, inside, SameInside}
+use Rattle.dav_engine.specs.Inside.{Content, content_of}
 
 -- what is content_of at a path
 abbrev pub content_at : Path → Nodes → Option Content

@@ -1,17 +1,15 @@
 -- What calls leave of paths that they spare.
-use Rattle.std.proofs.Common.{◌≡◌, ℕ, ◌+◌, ◌≤◌, ◌==◌, ◌||◌, ◌++◌, ◌&&◌, nat_lt, append_assoc, Bool, true, false, not, true≢false, cond, if◌then◌else◌, List, [], ◌∷◌, length, Option, Some, None, Result, Ok, Err, ◌⊎◌, inl, inr, refl, sym, ap, subst, ◌∙◌}
+use Rattle.std.proofs.Common.{◌≡◌, ℕ, ◌+◌, ◌==◌, ◌||◌, ◌++◌, ◌&&◌, nat_lt, append_assoc, Bool, true, false, not, true≢false, cond, List, [], length, Option, Some, None, Ok, inl, inr, refl, sym, ap, subst, ◌∙◌}
 use Rattle.std.specs.Option.{option_map, is_some, unwrap_or}
-use Rattle.std.specs.Ordering.{is_eq}
 use Rattle.dav_core.specs.declared.errors.FsError.TheVariants.{GeneralFailure, Exists, NotFound, Forbidden, TooLarge}
 use Rattle.dav_core.specs.Asking.{Call, Answer, meaning, Metadata, ReadDir, EntryMetadata, CreateDir, RemoveDir, RemoveFile, Rename, Copy, HaveProps, PatchProps, GetProps, GetProp, GetQuota, SetAccessed, SetModified, Open, Read, Write, Seek, Flush, FileMetadata}
-use Rattle.dav_core.specs.CallLaws.{IsProper, TakesAway, brought, path_after}
+use Rattle.dav_core.specs.CallLaws.{IsProper, TakesAway, brought}
 use Rattle.dav_core.specs.Calls.{rename, create_dir, remove_dir, remove_file, copy, with_copy, copied_over, open_at, emptied, write_bytes, written, repatched, without}
 use Rattle.dav_core.specs.Handle.{Handle, Opening, opened, write_place}
-use Rattle.dav_core.specs.Meaning.{Meaning}
 use Rattle.dav_core.specs.Property.{Properties}
-use Rattle.dav_core.specs.Path.{Path, name_cmp, rest_after, is_same_path, is_at_or_under, is_under, is_root, is_nonempty, has_names, parent_of}
-use Rattle.dav_core.specs.World.{World, Node, Nodes, Kind, Folder, File, node_at, is_missing, is_folder, is_file, has_members, is_folder_kind, is_folder_node, with_new, adjust, moved, change_node, is_file_made_with, file_made_with, touched, prune, last_number, bytes_of, max_file_len, IsWorld}
-use Rattle.dav_core.proofs.FollowLemmas.{nodes_stay, opened_stands}
+use Rattle.dav_core.specs.Path.{Path, rest_after, is_same_path, is_at_or_under, is_under, is_root, is_nonempty, has_names, parent_of}
+use Rattle.dav_core.specs.World.{World, Node, Kind, Folder, File, node_at, is_missing, is_folder, is_file, has_members, is_folder_kind, is_folder_node, with_new, adjust, moved, change_node, is_file_made_with, file_made_with, touched, last_number, bytes_of, max_file_len, IsWorld}
+use Rattle.dav_core.proofs.FollowLemmas.{nodes_stay}
 use Rattle.dav_core.proofs.FrontLemmas.{rest_after-append, from_rest}
 use Rattle.dav_core.proofs.NodesLemmas.{same_path, turned, find-adjust}
 use Rattle.dav_core.proofs.CarriedLemmas.{stays-moved, renamed_world}
@@ -20,7 +18,7 @@ use Rattle.dav_core.proofs.StepLemmas.{went_on, went_if, found, left}
 use Rattle.dav_engine.specs.Inside.{content_of}
 use Rattle.dav_engine.specs.Sparing.{OpenFile}
 use Rattle.dav_engine.specs.Sparing.{NoneUnder, Spares, Spared}
-use Rattle.dav_engine.proofs.InsideLemmas.{content_at, content-removed, content-new, content-touched}
+use Rattle.dav_engine.proofs.InsideLemmas.{content-removed, content-new, content-touched}
 
 -- ---- paths that stay
 

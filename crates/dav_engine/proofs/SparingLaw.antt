@@ -1,6 +1,5 @@
 -- A plan that spares paths leaves their content.
 use Rattle.std.proofs.Common.{◌≡◌, ◌++◌, append-nil, length, ℕ, ◌≤◌, Bool, true, false, List, [], Option, Some, None, Result, Ok, Err, refl, sym, ap, subst, ◌∙◌, arith}
-use Rattle.std.specs.Bool.{⊤}
 use Rattle.dav_core.specs.declared.errors.FsError.{FsError}
 use Rattle.dav_core.specs.declared.errors.DavError.{DavError}
 use Rattle.dav_core.specs.Asking.{Call, Answer, StoreState, Asks, meaning, Open, Write, Seek}
@@ -10,19 +9,18 @@ use Rattle.dav_core.specs.Calls.{sought}
 use Rattle.dav_core.specs.Handle.{Handle, Opening, place_for}
 use Rattle.dav_core.specs.Locks.{Lock, covers}
 use Rattle.dav_core.specs.Path.{Path}
-use Rattle.dav_core.specs.World.{World, Node, node_at, bytes_of, file_made_with, IsWorld}
+use Rattle.dav_core.specs.World.{World, node_at, bytes_of, file_made_with, IsWorld}
 use Rattle.dav_core.proofs.FollowLemmas.{nodes_stay, opened_stands}
 use Rattle.dav_core.proofs.KeptLemmas.{calls_keep_worlds}
 use Rattle.dav_core.proofs.MadeLemmas.{made_stands}
 use Rattle.dav_core.proofs.StepLemmas.{found}
 use Rattle.dav_engine.specs.Method.{MethodPlan}
-use Rattle.dav_engine.specs.Plan.{Plan, Done, Ask, Look, Keep, Locks, Ran, ran_done, ran_ask, ran_look, ran_keep}
-use Rattle.dav_engine.specs.WorldLaws.{OnlyReads, IsProperPlan, proper_done, proper_ask, proper_look, proper_keep}
-use Rattle.dav_engine.proofs.CallWorlds.{Did, stays, means, did, did_leave, Kept, asks_keep, asks_tell}
-use Rattle.dav_engine.specs.Guard.{folder_of, IsGuard, Guards, Guarded, IsListed, Stands, StillGuards, OnList}
-use Rattle.dav_engine.specs.Inside.{HasFoldersAbove}
-use Rattle.dav_engine.specs.Sparing.{Spares, Sparing, spares_ok, spares_err, spares_reads, spares_call, spares_opens, spares_seeks, spares_writes, spares_look, spares_keep, spares_last, Spared, OpenFile, Anything, AnyList, LeftAlone, SparesGuard, SparingLeavesCovered, SparingLeavesInside}
-use Rattle.dav_engine.proofs.GuardedFolders.{covers_by, stands_guarded}
+use Rattle.dav_engine.specs.Plan.{Locks, Ran, ran_done, ran_ask, ran_look, ran_keep}
+use Rattle.dav_engine.specs.WorldLaws.{IsProperPlan, proper_done, proper_ask, proper_look, proper_keep}
+use Rattle.dav_engine.proofs.CallWorlds.{Did, stays, means, did, did_leave, asks_keep, asks_tell}
+use Rattle.dav_engine.specs.Guard.{folder_of, Guards, Guarded, IsListed, Stands, StillGuards, OnList}
+use Rattle.dav_engine.specs.Sparing.{Spares, Sparing, spares_ok, spares_err, spares_reads, spares_call, spares_opens, spares_seeks, spares_writes, spares_look, spares_keep, spares_last, Spared, OpenFile, Anything, AnyList, SparingLeavesCovered, SparingLeavesInside}
+use Rattle.dav_engine.proofs.GuardedFolders.{covers_by}
 use Rattle.dav_engine.proofs.SparingCalls.{folder_stays, HasOpenFile, spared_all, opened_all_same, written_all_same}
 
 pub file_same : (file : Option OpenFile) (w v : World) → v ≡ w → HasOpenFile file w → HasOpenFile file v

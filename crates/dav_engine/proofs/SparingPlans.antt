@@ -1,5 +1,5 @@
 -- Plans that spare what a lock covers, part by part; and those of PUT, PATCH and MKCOL.
-use Rattle.std.proofs.Common.{◌≡◌, ℕ, ◌==◌, Bool, true, false, List, [], length, if◌then◌else◌, Option, Some, None, Result, Ok, Err, refl, sym, ap, subst, ◌∙◌}
+use Rattle.std.proofs.Common.{◌≡◌, ℕ, ◌==◌, Bool, true, false, List, length, if◌then◌else◌, Option, Some, None, Result, Ok, Err, refl, sym, subst, ◌∙◌}
 use Rattle.std.specs.Bool.{⊤}
 use Rattle.std.specs.Result.{result_ok}
 use Rattle.dav_core.specs.declared.errors.FsError.{FsError}
@@ -8,24 +8,23 @@ use Rattle.dav_core.specs.declared.errors.DavError.TheVariants as dav
 use Rattle.dav_core.specs.declared.fs.DavMetaData.{DavMetaData}
 use Rattle.dav_core.specs.declared.method.DavMethod.{DavMethod}
 use Rattle.dav_core.specs.declared.method.DavMethod.TheVariants.{MkCol}
-use Rattle.dav_core.specs.Asking.{Call, Answer, Metadata, CreateDir, Write, Flush, FileMetadata}
+use Rattle.dav_core.specs.Asking.{Call, Metadata, CreateDir, Write, Flush, FileMetadata}
 use Rattle.dav_core.specs.Handle.{Handle, Opening}
-use Rattle.dav_core.specs.Locks.{Lock, Requester, covers, is_free_for}
-use Rattle.dav_core.specs.Path.{Path, PathText, names, is_at_or_under}
+use Rattle.dav_core.specs.Locks.{Lock, covers, is_free_for}
+use Rattle.dav_core.specs.Path.{Path, PathText, names}
 use Rattle.dav_engine.specs.declared.put_headers.Writing.{Writing}
 use Rattle.dav_engine.specs.Client.{Client, requester}
-use Rattle.dav_engine.specs.Conditions.{Conditions, Addressed, if_holds, submitted, http_conditions, unless, if_match_get_tokens, guarded, status_as}
+use Rattle.dav_engine.specs.Conditions.{Conditions, Addressed, if_holds, submitted, http_conditions, unless, guarded, status_as}
 use Rattle.dav_engine.specs.Method.{MethodPlan, then as followed_by, ◌>>=◌, require, require_free, is_open, gives, refused_as, ask_for}
-use Rattle.dav_engine.specs.Mkcol.{mkcol, mkcol_allowed, create_error, is_mkcol}
-use Rattle.dav_engine.specs.Plan.{Plan, Done}
-use Rattle.dav_engine.specs.Put.{PutHeaders, writing_of, put_opening, is_announced, unsatisfiable, open_error, sought, written, store, put_allowed, put, put_body, bytes_of_body, is_put}
-use Rattle.dav_engine.specs.Response.{Response}
+use Rattle.dav_engine.specs.Mkcol.{mkcol, create_error, is_mkcol}
+use Rattle.dav_engine.specs.Plan.{Done}
+use Rattle.dav_engine.specs.Put.{PutHeaders, writing_of, put_opening, is_announced, sought, store, put_body, bytes_of_body, is_put}
 use Rattle.dav_engine.specs.Guard.{Guards, IsListed, StillGuards}
 use Rattle.dav_engine.specs.Sparing.{OpenFile, Anything, AnyList, Sparing, spares_ok, spares_err, spares_reads, spares_call, spares_opens, spares_seeks, spares_writes, spares_look, spares_keep, spares_last}
-use Rattle.dav_engine.specs.SparingPlans.{IsStranger, ReadingSpares, PutSpares, MkcolSpares}
+use Rattle.dav_engine.specs.SparingPlans.{ReadingSpares, PutSpares, MkcolSpares}
 use Rattle.dav_engine.proofs.GuardedFolders.{stands_guarded, free_passes}
 use Rattle.dav_engine.specs.WorldLaws.{OnlyReads, IsReading, reads_done, reads_ask, reads_look}
-use Rattle.dav_engine.proofs.PutWorld.{IsLook, looks, look_reads, only_if}
+use Rattle.dav_engine.proofs.PutWorld.{look_reads, only_if}
 use Rattle.dav_engine.proofs.WorldPlans.{Only, only_done, only_ask, only_look}
 
 -- ---- parts

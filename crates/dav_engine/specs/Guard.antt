@@ -1,5 +1,5 @@
 -- A lock that guards a folder: exclusive, and of infinite depth (RFC 4918, sections 6.1 and 7).
-use Rattle.std.specs.Prelude.{◌≡◌, ◌≢◌, ◌++◌, ℕ, Bool, true, false, List, [], ◌∷◌, All, Option, Some, None}
+use Rattle.std.specs.Prelude.{◌≡◌, ◌≢◌, ◌++◌, Bool, true, false, List, [], ◌∷◌, All, Some, None}
 use Rattle.dav_core.specs.Locks.{Lock, Requester, covers, is_held, is_free_for, is_grantable}
 use Rattle.dav_core.specs.Path.{Path, names, is_at_or_under}
 use Rattle.dav_headers.specs.If.{state_token}

@@ -9,10 +9,10 @@ use Rattle.dav_core.specs.Handle.{Handle, Opening}
 use Rattle.dav_core.specs.Locks.{Lock, covers}
 use Rattle.dav_core.specs.Path.{Path, is_at_or_under, is_under}
 use Rattle.dav_core.specs.World.{World, node_at, is_folder, IsWorld}
-use Rattle.dav_engine.specs.Guard.{folder_of, IsGuard, Guards, Guarded, IsListed, Stands, StillGuards, OnList}
+use Rattle.dav_engine.specs.Guard.{folder_of, IsGuard, Guards, Guarded, IsListed, Stands, StillGuards}
 use Rattle.dav_engine.specs.Inside.{content_of, SameInside, HasFoldersAbove}
 use Rattle.dav_engine.specs.Method.{MethodPlan}
-use Rattle.dav_engine.specs.Plan.{Plan, Done, Ask, Look, Keep, Locks, Ran}
+use Rattle.dav_engine.specs.Plan.{Done, Ask, Look, Keep, Locks, Ran}
 use Rattle.dav_engine.specs.Response.{Response}
 use Rattle.dav_engine.specs.WorldLaws.{OnlyReads, IsProperPlan}
 
