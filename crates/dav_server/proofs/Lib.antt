@@ -17,3 +17,4 @@ pub mod NotModified
 pub mod WriteLemmas
 pub mod RefusedLemmas
 pub mod TurnLemmas
+pub mod StrangerLemmas

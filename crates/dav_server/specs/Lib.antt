@@ -18,3 +18,6 @@ pub mod WriteLaws
 pub mod Server
 pub mod ServerCode
 pub mod ExchangeView
+pub mod Naming
+pub mod Holder
+pub mod Passing
