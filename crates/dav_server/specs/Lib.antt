@@ -21,3 +21,4 @@ pub mod ExchangeView
 pub mod Naming
 pub mod Holder
 pub mod Passing
+pub mod Isolation
