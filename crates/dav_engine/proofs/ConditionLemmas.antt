@@ -1,11 +1,9 @@
 -- How code follows the plans that evaluate conditions.
-use Rattle.std.proofs.Common.{◌≡◌, ◌==◌, ◌++◌, ◌&&◌, ◌||◌, not, bytes_eq, ℕ, ◌+◌, ◌<◌, Bool, true, false, true≢false, List, [], ◌∷◌, map, drop, length, get_or, codes, string_bytes, Option, Some, None, Result, Ok, Err, refl, sym, subst, ap, ◌∙◌, String, IsTrue, ◌≤◌, append-nil, append_assoc}
-use Rattle.std.specs.List.{starts_with, flat_map}
+use Rattle.std.proofs.Common.{◌≡◌, ◌==◌, ◌++◌, ◌&&◌, ◌||◌, not, ℕ, ◌+◌, ◌<◌, Bool, true, false, true≢false, List, [], ◌∷◌, map, drop, length, get_or, codes, string_bytes, Option, Some, None, Result, Ok, Err, refl, sym, subst, ap, ◌∙◌, String, ◌≤◌, append-nil, append_assoc}
+use Rattle.std.specs.List.{starts_with}
 use Rattle.std.specs.Option.{option_map}
-use Rattle.std.specs.Bool.{Decides}
 use Rattle.std.specs.Global.{Global}
 use Rattle.std.proofs.lemmas.List.{drop_all, map_push}
-use Rattle.std.proofs.lemmas.Slice.Eq.{bytes_eq-Decides}
 use mathlib.Core.Bool.{beq}
 use denote.Ref.{Bor}
 use Rattle.dav_core.specs.declared.errors.DavError.{DavError}

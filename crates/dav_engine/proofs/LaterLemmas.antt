@@ -6,9 +6,9 @@ use Rattle.dav_core.specs.declared.errors.DavError.TheVariants as dav
 use Rattle.dav_core.specs.declared.errors.FsError.TheVariants.{GeneralFailure}
 use Rattle.dav_core.specs.Asking.{Call, Answer, StoreState, Asks}
 use Rattle.dav_core.specs.Locks.{Lock}
-use Rattle.dav_engine.specs.Plan.{Plan, Done, Ask, Look, Keep, CallStep, Locks, kept, ran_done, ran_ask, ran_look, ran_keep, RanUpTo, up_to_here, up_to_ask, up_to_look, up_to_keep, Cut, Refused, refused_done, refused_ask, refused_look, refused_keep}
+use Rattle.dav_engine.specs.Plan.{Plan, Ask, Look, Keep, CallStep, Locks, kept, ran_done, ran_ask, ran_look, ran_keep, RanUpTo, up_to_here, up_to_ask, up_to_look, up_to_keep, Cut, Refused, refused_done, refused_ask, refused_look, refused_keep}
 use Rattle.dav_engine.specs.Method.{MethodPlan, then, ◌>>=◌}
-use Rattle.dav_engine.specs.Follows.{Follows, FollowsFrom, followed, gave_up, viewed}
+use Rattle.dav_engine.specs.Follows.{Follows, FollowsFrom, followed, gave_up}
 use Rattle.dav_engine.proofs.CutPlans.{cut_refused, cut_ask, cut_look, cut_keep, cut_bind, up_to_in}
 use Rattle.dav_engine.proofs.Following.{ran_bind}
 use Rattle.dav_engine.proofs.WorldPlans.{Only, only_done, only_ask, only_look}

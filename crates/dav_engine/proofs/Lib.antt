@@ -23,3 +23,13 @@ pub mod ModelLemmas
 pub mod LaterLemmas
 pub mod SomePlanLemmas
 pub mod Theorems
+pub mod GuardedFolders
+pub mod InsideLemmas
+pub mod SparingCalls
+pub mod SparingLaw
+pub mod SparingPlans
+pub mod BesideLemmas
+pub mod AlongsideLaw
+pub mod AlongsidePlans
+pub mod NumberLemmas
+pub mod GrantLemmas

@@ -1,5 +1,5 @@
 -- No PUT, PATCH or MKCOL is without a plan, since a header decodes or doesn't.
-use Rattle.std.proofs.Common.{◌≡◌, ℕ, List, [], inl, inr, Option, Some, None, refl}
+use Rattle.std.proofs.Common.{ℕ, List, inl, inr, Option, Some, None, refl}
 use Rattle.std.specs.Option.{option_or}
 use Rattle.std.specs.Prelude.{codes}
 use Rattle.http_header.specs.FieldValue.{FieldValue}
@@ -10,7 +10,6 @@ use Rattle.dav_headers.specs.ContentRange.{IsContentRange}
 use Rattle.dav_headers.specs.ETagList.{IsTagList}
 use Rattle.dav_headers.specs.Length.{IsContentLength}
 use Rattle.dav_headers.specs.UpdateRange.{IsUpdateRange}
-use Rattle.dav_headers.specs.declared.range.ContentRange.{ContentRange}
 use Rattle.dav_engine.specs.declared.put_headers.Bounds.{Bounds}
 use Rattle.dav_engine.specs.declared.put_headers.Bounds.TheVariants.{Unread, Whole, Within}
 use Rattle.dav_engine.specs.declared.request.Body.{Body}
@@ -31,13 +30,13 @@ some_conditions headers prefix own unsaid =
     decoded_some IsTagList (get_all headers (codes "if-match")) (λ match one.
     decoded_some IsTagList (get_all headers (codes "if-none-match")) (λ none_match two.
     decoded_some (SaysLists prefix own) (get_all headers (codes "if")) (λ lists three.
-        unsaid (record { if_match = match; if_none_match = none_match; lists = lists }) (record { match = one; none_match = two; lists = three }))))
+    unsaid (record { if_match = match; if_none_match = none_match; lists = lists }) (record { match = one; none_match = two; lists = three }))))
 
 some_announced : (headers : Headers) → ¬ ((announced : Option ℕ) → ¬ IsAnnounced headers announced)
 some_announced headers unsaid =
     decoded_some IsContentLength (get_all headers (codes "content-length")) (λ length one.
     decoded_some IsExpectedLength (get_all headers (codes "x-expected-entity-length")) (λ expected two.
-        unsaid (option_or length expected) (length, expected, one, two, refl)))
+    unsaid (option_or length expected) (length, expected, one, two, refl)))
 
 -- a range has bounds, or it has none
 range_tells : (values : List FieldValue) (bounds : Option (ℕ × ℕ)) (length : Option ℕ) → IsContentRange values (record { bounds = bounds; length = length }) → ¬ ((b : Bounds) → ¬ TellsBounds values b)
@@ -54,9 +53,9 @@ some_put_headers headers p unsaid =
     some_announced headers (λ announced two.
     some_bounds (get_all headers (codes "content-range")) (λ range three.
     decoded_some IsUpdateRange (get_all headers (codes "x-update-range")) (λ update four.
-        unsaid
-            (record { conditions = conditions; announced = announced; range = range; is_partial = is_partial_update (get_all headers (codes "content-type")); update = update; checksum = checksum_in headers })
-            (record { conditions = one; announced = two; range = three; is_partial = refl; update = four; checksum = refl })))))
+    unsaid
+    (record { conditions = conditions; announced = announced; range = range; is_partial = is_partial_update (get_all headers (codes "content-type")); update = update; checksum = checksum_in headers })
+    (record { conditions = one; announced = two; range = three; is_partial = refl; update = four; checksum = refl })))))
 
 pub some_put_plan : (m : DavMethod) (headers : Headers) (p : PathText) (body : Body) (who : Client) → ¬ ((plan : MethodPlan Response) → ¬ IsPut m headers p body who plan)
 some_put_plan m headers p body who without =

@@ -1,11 +1,16 @@
 -- What the proofs of the crates above rest on.
+pub use Rattle.dav_engine.proofs.AlongsideLaw.{alongside_agree, ran_plain}
+pub use Rattle.dav_engine.proofs.AlongsidePlans.{holders, in_reach, only_lists, side_bind, side_require, side_lists, put_goes_along, mkcol_goes_along}
 pub use Rattle.dav_engine.proofs.CallWorlds.{Did, stays, means, did, Kept, did_leave, kept_same, kept_on}
 pub use Rattle.dav_engine.proofs.CutPlans.{cut_refused, cut_ask, cut_look, cut_keep}
 pub use Rattle.dav_engine.proofs.Following.{follows_done, follows_ask, follows_on, follows_then, follows_err, follows_up_to, follows_out}
 pub use Rattle.dav_engine.proofs.GuardLemmas.{carried}
+pub use Rattle.dav_engine.proofs.GuardedFolders.{free_for_is}
 pub use Rattle.dav_engine.proofs.ModelLemmas.{serves_from}
 pub use Rattle.dav_engine.proofs.OnePlanLemmas.{one_conditions, one_put_plan, one_mkcol_plan}
 pub use Rattle.dav_engine.proofs.PlanLemmas.{ran_same, ran_unset, Comes, comes}
 pub use Rattle.dav_engine.proofs.PutWorld.{look_reads, only_put_allowed, only_mkcol_allowed, IsLook, looks, only_conditions, put_is_proper, mkcol_is_proper, create_only_leaves_all}
 pub use Rattle.dav_engine.proofs.SomePlanLemmas.{some_conditions, some_put_plan, some_mkcol_plan}
+pub use Rattle.dav_engine.proofs.SparingLaw.{sparing_leaves_covered, sparing_leaves_inside}
+pub use Rattle.dav_engine.proofs.SparingPlans.{reading_spares, put_spares, mkcol_spares}
 pub use Rattle.dav_engine.proofs.WorldPlans.{only_reads, reading_leaves, ran_split, ran_outcome, Only, only_done, only_ask, only_look, only_then, only_bind, only_require, only_proper, proper_keeps}

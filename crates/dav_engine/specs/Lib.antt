@@ -17,3 +17,10 @@ pub mod Response
 pub mod WorldLaws
 pub mod StateCode
 pub mod CallerView
+pub mod Inside
+pub mod Guard
+pub mod Sparing
+pub mod SparingPlans
+pub mod AnswerParts
+pub mod Alongside
+pub mod AlongsidePlans

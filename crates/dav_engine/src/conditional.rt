@@ -23,9 +23,7 @@ use dav_core::errors::{NoMemory, ParseError};
 use dav_core::fs::{DavFileSystem, DavMetaData};
 use dav_core::ls::DavLockSystem;
 use dav_core::method::DavMethod;
-use dav_headers::{
-    ETag, ETagList, If, IfCondition, IfItem, IfMatch, IfNoneMatch, IfRange, names,
-};
+use dav_headers::{ETag, ETagList, If, IfCondition, IfItem, IfMatch, IfNoneMatch, IfRange, names};
 use http::StatusCode;
 use http_header::HeaderMap;
 use std::alloc::Global;

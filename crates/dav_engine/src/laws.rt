@@ -4,6 +4,8 @@ ghost use Rattle.dav_engine.specs.OnePlan.{OneReadingOfConditions, OnePutPlan, O
 ghost use Rattle.dav_engine.specs.PlanLaws.{PlansAreDetermined, PlansEnd, WantIsLikeRefusals, CutsAreLikeRefusals};
 ghost use Rattle.dav_engine.specs.WorldLaws.{ReadingLeavesAll, ProperPlansKeepWorlds, PutIsProper, MkcolIsProper, RefusedPutLeavesAll, RefusedMkcolLeavesAll, CreatesOnly, CreateOnlyLeavesAll, PlansRemember};
 
+pub mod isolation;
+
 /// Where the store never ran out of memory, the outcome of a plan is determined, and so are the store and the list of locks
 /// that it leaves.
 #[tactic(auto, using(crate::proofs::PlanAnswers::plans_are_determined))]

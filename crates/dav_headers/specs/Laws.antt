@@ -1,5 +1,5 @@
 -- Laws of headers, which are stated over their grammars.
-use Rattle.std.specs.Prelude.{ℕ, ◌<◌, ◌^◌, Bool, true, false, not, List, [], ◌∷◌, ◌≡◌, ◌↔◌, ⊤, Option, Some, None, All, decimal}
+use Rattle.std.specs.Prelude.{ℕ, ◌<◌, ◌^◌, Bool, true, not, List, [], ◌∷◌, ◌≡◌, ⊤, Option, Some, None, All, decimal}
 use Rattle.http_header.specs.FieldValue.{FieldValue, plain_value}
 use Rattle.dav_headers.specs.ETag.{EntityTag, IsEntityTag, IsETag, is_strong_match, IsUnquoted, tag_text}
 use Rattle.dav_headers.specs.ContentRange.{IsContentRange, content_range_text}

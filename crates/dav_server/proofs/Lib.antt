@@ -18,3 +18,7 @@ pub mod NotModified
 pub mod WriteLemmas
 pub mod RefusedLemmas
 pub mod TurnLemmas
+pub mod StrangerLemmas
+pub mod AlongsideGet
+pub mod HolderLemmas
+pub mod IsolationLemmas

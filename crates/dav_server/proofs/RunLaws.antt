@@ -37,4 +37,4 @@ requests_have_runs s (t ∷ ts) old ls without =
     requests_have_plans s t.asked (λ plan means.
     let end = comes plan (begun t.refusals old) ls in
     requests_have_runs s ts end.new end.locks (λ replies new ms run short.
-        without (reply_to end.outcome ∷ replies) new ms (one_more (steps plan end.outcome means end.ran) run) (short ∙ end.flag ∙ begun_short t.refusals old)))
+    without (reply_to end.outcome ∷ replies) new ms (one_more (steps plan end.outcome means end.ran) run) (short ∙ end.flag ∙ begun_short t.refusals old)))

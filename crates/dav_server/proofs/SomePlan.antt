@@ -27,12 +27,12 @@ some_outcome : (prefix : List ℕ) (m : DavMethod) (target : List ℕ) → ¬ ((
 some_outcome prefix m target unnamed =
     let apart : target ≢ star = λ is. unnamed (Err (dav.Status 400)) (reserved is (λ options. unnamed _ (server is options))) in
     let textless : (text : List ℕ) → ¬ HasPathText target text = λ text has.
-        let unread : (bytes : List ℕ) → ¬ Reads text bytes = λ bytes reads.
-            let uncut : HasNoCut (without_slash prefix) bytes = λ p cut. unnamed (Ok p) (path has reads cut) in
-            unnamed (Err dav.IllegalPath) (outside has reads uncut) in
-        read_or_refused text unread
-            (λ bad. unnamed (Err dav.InvalidPath) (unreadable apart (invalid has bad)))
-            (λ climbs. unnamed (Err dav.ForbiddenPath) (unreadable apart (climbing has climbs))) in
+    let unread : (bytes : List ℕ) → ¬ Reads text bytes = λ bytes reads.
+    let uncut : HasNoCut (without_slash prefix) bytes = λ p cut. unnamed (Ok p) (path has reads cut) in
+    unnamed (Err dav.IllegalPath) (outside has reads uncut) in
+    read_or_refused text unread
+    (λ bad. unnamed (Err dav.InvalidPath) (unreadable apart (invalid has bad)))
+    (λ climbs. unnamed (Err dav.ForbiddenPath) (unreadable apart (climbing has climbs))) in
     unnamed (Err (dav.Status 400)) (unreadable apart (formless textless))
 
 some_get : (m : DavMethod) (headers : Headers) (p : PathText) (now : ℕ) → ¬ ((plan : MethodPlan Response) → ¬ IsGet m headers p now plan)
@@ -41,19 +41,19 @@ some_get m headers p now without =
 
 -- no method is without a plan
 some_plan_of : (allowed : ℕ) (headers : Headers) (p : PathText) (body : Body) (who : Client) (m : DavMethod) → ¬ ((plan : MethodPlan Response) → ¬ PlanOf allowed headers p body who m plan)
-some_plan_of headers p body who Get without = some_get Get headers p who.moment (λ plan is. without plan (gets is))
-some_plan_of headers p body who Head without = some_get Head headers p who.moment (λ plan is. without plan (heads is))
-some_plan_of headers p body who Put without = some_put_plan Put headers p body who (λ plan is. without plan (puts is))
-some_plan_of headers p body who Patch without = some_put_plan Patch headers p body who (λ plan is. without plan (patches is))
-some_plan_of headers p body who MkCol without = some_mkcol_plan headers p who (λ plan is. without plan (makes is))
-some_plan_of headers p body who _ without = without (fails (dav.Status 501)) (not_yet refl)
+some_plan_of allowed headers p body who Get without = some_get Get headers p who.moment (λ plan is. without plan (gets is))
+some_plan_of allowed headers p body who Head without = some_get Head headers p who.moment (λ plan is. without plan (heads is))
+some_plan_of allowed headers p body who Put without = some_put_plan Put headers p body who (λ plan is. without plan (puts is))
+some_plan_of allowed headers p body who Patch without = some_put_plan Patch headers p body who (λ plan is. without plan (patches is))
+some_plan_of allowed headers p body who MkCol without = some_mkcol_plan headers p who (λ plan is. without plan (makes is))
+some_plan_of allowed headers p body who _ without = without (fails (dav.Status 501)) (not_yet refl)
 
 -- nor a request whose head, method and path are known, whatever its body is
 some_with_body : (s : Settings) (x : Asked) (r : Request) (m : DavMethod) (p : PathText) → Has s.allowed m → TargetNames s.prefix m r.target (Ok p)
     → (given : Result Body DavError) → body_for (taken_by m) x.body ≡ given → ¬ ((plan : MethodPlan Response) → ¬ MeansOf s x r m plan)
 some_with_body s x r m p has named (Err e) is without = without (fails e) (no_body p e has named is)
 some_with_body s x r m p has named (Ok body) is without =
-    some_plan_of (headers_of r.fields) p body (client x) m (λ plan planned. without plan (method p body has named is planned))
+    some_plan_of s.allowed (headers_of r.fields) p body (client x) m (λ plan planned. without plan (method p body has named is planned))
 
 -- nor one whose head and method are known, whatever its target names
 some_with_target : (s : Settings) (x : Asked) (r : Request) (m : DavMethod) → Has s.allowed m → (outcome : Result PathText DavError) → TargetNames s.prefix m r.target outcome
@@ -70,7 +70,7 @@ some_means_of s x r m without =
 pub requests_have_plans : RequestsHavePlans
 requests_have_plans s x without =
     let headless : (r : Request) → ¬ IsHead x.head r = λ r is.
-        let unknown : (m : DavMethod) → IsServed m → r.method ≢ method_name m = λ m served named.
-            some_means_of s x r m (λ plan means. without plan (known r m is (served, named) means)) in
-        without (fails dav.UnknownDavMethod) (no_method r dav.UnknownDavMethod is (refl, unknown)) in
+    let unknown : (m : DavMethod) → IsServed m → r.method ≢ method_name m = λ m served named.
+    some_means_of s x r m (λ plan means. without plan (known r m is (served, named) means)) in
+    without (fails dav.UnknownDavMethod) (no_method r dav.UnknownDavMethod is (refl, unknown)) in
     without (fails (dav.Status 400)) (no_head headless)

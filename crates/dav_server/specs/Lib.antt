@@ -18,3 +18,7 @@ pub mod Server
 pub mod ServerCode
 pub mod ExchangeView
 pub mod GivenBody
+pub mod Naming
+pub mod Holder
+pub mod Passing
+pub mod Isolation

@@ -6,6 +6,8 @@ ghost use Rattle.dav_server.specs.TagLaws.{TagsTellBytes, NotModifiedIsTrue, Rea
 ghost use Rattle.dav_server.specs.Target.{OneOutcome};
 ghost use Rattle.dav_server.specs.WriteLaws.{CreateOnlyKeeps, RefusedLeaves};
 
+pub mod isolation;
+
 /// Bytes are a head in one way at most.
 pub fn heads_say_one_thing()
     ensures { OneHead }

@@ -1,0 +1,57 @@
+-- What is content_of at a path after a change.
+use Rattle.std.proofs.Common.{◌≡◌, ℕ, Bool, true, false, cond, Option, Some, None, refl, ap, ◌∙◌}
+use Rattle.std.specs.Option.{option_map}
+use Rattle.std.specs.FinMap.{find, put}
+use Rattle.dav_core.specs.Path.{Path, path_cmp, is_same_path, is_at_or_under, parent_of}
+use Rattle.dav_core.specs.Property.{Properties}
+use Rattle.dav_core.specs.World.{Kind, Node, Nodes, World, fresh, adjust, touched, modified_at, with_new, prune}
+use Rattle.dav_core.proofs.NodesLemmas.{find-adjust, find-put_node}
+use Rattle.dav_core.proofs.NodesAfter.{find-prune}
+use Rattle.dav_engine.specs.Inside.{Content, content_of}
+
+-- what is content_of at a path
+abbrev pub content_at : Path → Nodes → Option Content
+content_at q ns = option_map content_of (find path_cmp q ns)
+
+pub content_mapped : (f : Node → Node) (g : Content → Content) → ((n : Node) → content_of (f n) ≡ g (content_of n)) → (b : Bool) (o : Option Node)
+    → option_map content_of (cond b (option_map f o) o) ≡ cond b (option_map g (option_map content_of o)) (option_map content_of o)
+content_mapped f g same true None = refl
+content_mapped f g same true (Some n) = ap (λ (s : Content). Some s) (same n)
+content_mapped f g same false o = refl
+
+-- a change of the node at a path
+pub content-adjust : (p : Path) (f : Node → Node) (g : Content → Content) → ((n : Node) → content_of (f n) ≡ g (content_of n)) → (q : Path) (ns : Nodes)
+    → content_at q (adjust p f ns) ≡ cond (is_same_path p q) (option_map g (content_at q ns)) (content_at q ns)
+content-adjust p f g same q ns = ap (option_map content_of) (find-adjust p f q ns) ∙ content_mapped f g same (is_same_path p q) (find path_cmp q ns)
+
+itself : (b : Bool) (o : Option Content) → cond b (option_map (λ (s : Content). s) o) o ≡ o
+itself true None = refl
+itself true (Some s) = refl
+itself false o = refl
+
+-- a time is not content_of
+pub content-touched : (p : Path) (now : ℕ) (q : Path) (ns : Nodes) → content_at q (touched p now ns) ≡ content_at q ns
+content-touched p now q ns = content-adjust (parent_of p) (modified_at now) (λ s. s) (λ n. refl) q ns ∙ itself (is_same_path (parent_of p) q) (content_at q ns)
+
+put_content : (b : Bool) (n : Node) (o : Option Node) → option_map content_of (cond b (Some n) o) ≡ cond b (Some (content_of n)) (option_map content_of o)
+put_content true n o = refl
+put_content false n o = refl
+
+pub content-put : (p : Path) (n : Node) (q : Path) (ns : Nodes) → content_at q (put path_cmp p n ns) ≡ cond (is_same_path q p) (Some (content_of n)) (content_at q ns)
+content-put p n q ns = ap (option_map content_of) (find-put_node q p n ns) ∙ put_content (is_same_path q p) n (find path_cmp q ns)
+
+-- a new folder or file
+pub content-new : (w : World) (p : Path) (kind : Kind) (properties : Properties) (now : ℕ) (q : Path)
+    → content_at q (with_new w p kind properties now).nodes ≡ cond (is_same_path q p) (Some (kind, properties)) (content_at q w.nodes)
+content-new w p kind properties now q =
+    content-touched p now q (put path_cmp p (record (fresh w.next kind now) { properties = properties }) w.nodes)
+    ∙ content-put p (record (fresh w.next kind now) { properties = properties }) q w.nodes
+
+prune_content : (b : Bool) (o : Option Node) → option_map content_of (cond b None o) ≡ cond b None (option_map content_of o)
+prune_content true o = refl
+prune_content false o = refl
+
+-- a removal
+pub content-removed : (w : World) (p : Path) (now : ℕ) (q : Path) → content_at q (touched p now (prune p w.nodes)) ≡ cond (is_at_or_under q p) None (content_at q w.nodes)
+content-removed w p now q =
+    content-touched p now q (prune p w.nodes) ∙ ap (option_map content_of) (find-prune p q w.nodes) ∙ prune_content (is_at_or_under q p) (find path_cmp q w.nodes)

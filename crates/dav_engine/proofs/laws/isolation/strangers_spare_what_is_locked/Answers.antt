@@ -1,0 +1,11 @@
+use Rattle.dav_engine.proofs.SparingPlans.{reading_spares, put_spares, mkcol_spares}
+use Rattle.dav_engine.proofs.laws.isolation.strangers_spare_what_is_locked.Goals as goal
+
+pub returns-clause-reading : goal.returns-clause-reading
+returns-clause-reading c = reading_spares
+
+pub returns-clause-put : goal.returns-clause-put
+returns-clause-put c = put_spares
+
+pub returns-clause-mkcol : goal.returns-clause-mkcol
+returns-clause-mkcol c = mkcol_spares

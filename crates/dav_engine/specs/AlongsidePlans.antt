@@ -1,0 +1,40 @@
+-- The plans of a lock's holder go along with themselves (RFC 4918, section 7).
+use Rattle.std.specs.Prelude.{◌≡◌, [], true, List, codes, None}
+use Rattle.http_header.specs.HeaderMap.{get_all}
+use Rattle.dav_core.specs.declared.method.DavMethod.{DavMethod}
+use Rattle.dav_core.specs.Locks.{Lock}
+use Rattle.dav_core.specs.Path.{PathText, names}
+use Rattle.dav_engine.specs.declared.request.Body.{Body}
+use Rattle.dav_engine.specs.Alongside.{Alongside, SameAnswers}
+use Rattle.dav_engine.specs.Client.{Client}
+use Rattle.dav_engine.specs.Conditions.{Addressed, SaysLists}
+use Rattle.dav_engine.specs.Guard.{IsGuard, IsInReach, SubmitOnly}
+use Rattle.dav_engine.specs.Headers.{Headers}
+use Rattle.dav_engine.specs.Method.{MethodPlan}
+use Rattle.dav_engine.specs.Mkcol.{IsMkcol}
+use Rattle.dav_engine.specs.Put.{IsPut}
+use Rattle.dav_engine.specs.Response.{Response}
+
+-- The headers of a request to a path submit the lock's token alone, and set no other condition.
+pub record SubmitsAlone (headers : Headers) (p : PathText) (h : Lock) : Type 0 where
+  pub lists : List Addressed
+  pub only : SubmitOnly h lists
+  pub says : SaysLists p.prefix (names p) (get_all headers (codes "if")) lists
+  pub match : get_all headers (codes "if-match") ≡ []
+  pub none_match : get_all headers (codes "if-none-match") ≡ []
+
+-- a whole plan goes along with itself, and answers the same
+abbrev pub GoesAlong : Lock → MethodPlan Response → Type 0
+GoesAlong h plan = Alongside h true (λ file. SameAnswers) None plan plan
+
+-- a PUT or PATCH at a guarded folder or below it, with the guard's token alone, goes along with itself
+abbrev pub PutGoesAlong : Type 0
+PutGoesAlong =
+    (h : Lock) (m : DavMethod) (headers : Headers) (p : PathText) (body : Body) (who : Client) (plan : MethodPlan Response)
+    → IsGuard h → IsInReach h (names p) → SubmitsAlone headers p h → IsPut m headers p body who plan → GoesAlong h plan
+
+-- so does a MKCOL
+abbrev pub MkcolGoesAlong : Type 0
+MkcolGoesAlong =
+    (h : Lock) (headers : Headers) (p : PathText) (who : Client) (plan : MethodPlan Response)
+    → IsGuard h → IsInReach h (names p) → SubmitsAlone headers p h → IsMkcol headers p who plan → GoesAlong h plan

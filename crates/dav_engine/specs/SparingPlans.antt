@@ -1,0 +1,40 @@
+-- The plans of requests that don't hold a lock spare what it covers (RFC 4918, section 7).
+use Rattle.std.specs.Prelude.{◌≡◌, false}
+use Rattle.dav_core.specs.declared.method.DavMethod.{DavMethod}
+use Rattle.dav_core.specs.Locks.{Lock, is_held}
+use Rattle.dav_core.specs.Path.{PathText, names}
+use Rattle.dav_engine.specs.declared.request.Body.{Body}
+use Rattle.dav_engine.specs.Client.{Client, requester}
+use Rattle.dav_engine.specs.Conditions.{Conditions, AreConditions, submitted}
+use Rattle.dav_engine.specs.Headers.{Headers}
+use Rattle.dav_engine.specs.Method.{MethodPlan}
+use Rattle.dav_engine.specs.Mkcol.{IsMkcol}
+use Rattle.dav_engine.specs.Put.{IsPut}
+use Rattle.dav_engine.specs.Response.{Response}
+use Rattle.dav_engine.specs.Sparing.{SparesLock, SparesGuard}
+use Rattle.dav_engine.specs.WorldLaws.{IsReading}
+
+-- A request with these headers, to a path, doesn't hold a lock: its If doesn't submit the lock's token, or its client isn't
+-- the lock's principal.
+abbrev pub IsStranger : Headers → PathText → Client → Lock → Type 0
+IsStranger headers p who h = (c : Conditions) → AreConditions headers p.prefix (names p) c → is_held (requester who (submitted c.lists)) h ≡ false
+
+-- the plan spares what a lock covers, also where the lock is known to guard its folder
+abbrev pub SparesBoth : Lock → MethodPlan Response → Type 0
+SparesBoth h plan = SparesLock h plan × SparesGuard h plan
+
+-- a plan that only reads spares all
+abbrev pub ReadingSpares : Type 0
+ReadingSpares = (h : Lock) (plan : MethodPlan Response) → IsReading plan → SparesBoth h plan
+
+-- so does a PUT or PATCH, of a client that doesn't hold an exclusive lock, with what it covers
+abbrev pub PutSpares : Type 0
+PutSpares =
+    (h : Lock) (m : DavMethod) (headers : Headers) (p : PathText) (body : Body) (who : Client) (plan : MethodPlan Response)
+    → h.shared ≡ false → IsStranger headers p who h → IsPut m headers p body who plan → SparesBoth h plan
+
+-- and a MKCOL
+abbrev pub MkcolSpares : Type 0
+MkcolSpares =
+    (h : Lock) (headers : Headers) (p : PathText) (who : Client) (plan : MethodPlan Response)
+    → h.shared ≡ false → IsStranger headers p who h → IsMkcol headers p who plan → SparesBoth h plan

@@ -1,0 +1,56 @@
+//! Laws of locked folders. Each function does nothing: its contract is a theorem on the definitions.
+ghost use Rattle.dav_engine.specs.Alongside.{AlongsideAgree, SpareNumbersSuffice};
+ghost use Rattle.dav_engine.specs.AlongsidePlans.{PutGoesAlong, MkcolGoesAlong};
+ghost use Rattle.dav_engine.specs.Guard.{FreeIsHeld, FreeIsApart, FreeIsUncovered, GrantedGuards};
+ghost use Rattle.dav_engine.specs.Inside.{FoldersAreAbove};
+ghost use Rattle.dav_engine.specs.Sparing.{SparingLeavesCovered, SparingLeavesInside};
+ghost use Rattle.dav_engine.specs.SparingPlans.{ReadingSpares, PutSpares, MkcolSpares};
+
+/// At a folder that a lock guards (exclusive, of infinite depth) and below it, a path is free exactly for the requester that
+/// holds the lock. What is free with everything below, for any other requester, is apart from the folder. And what is free
+/// for a requester that doesn't hold an exclusive lock isn't covered by it (RFC 4918, sections 6.2 and 7).
+#[tactic(auto, using(crate::proofs::GuardedFolders::free_is_held, crate::proofs::GuardedFolders::free_is_apart, crate::proofs::GuardedFolders::free_is_uncovered))]
+pub fn guarded_folders_are_free_for_holders()
+    ensures held { FreeIsHeld }
+    ensures apart { FreeIsApart }
+    ensures uncovered { FreeIsUncovered }
+{}
+
+/// A plan that spares what an exclusive lock covers leaves the content there, whatever else is in the list of locks, whatever
+/// the store refuses and where it runs out of memory. A plan that spares a guarded folder leaves what is inside, and the
+/// folder stays guarded as long as the lock is in the list (RFC 4918, section 7).
+#[tactic(auto, using(crate::proofs::SparingLaw::sparing_leaves_covered, crate::proofs::SparingLaw::sparing_leaves_inside))]
+pub fn sparing_plans_leave_locked_content()
+    ensures covered { SparingLeavesCovered }
+    ensures inside { SparingLeavesInside }
+{}
+
+/// PUT, PATCH and MKCOL of a client that doesn't hold an exclusive lock spare what it covers, and plans that only read spare
+/// all (RFC 4918, section 7).
+pub fn strangers_spare_what_is_locked()
+    ensures reading { ReadingSpares }
+    ensures put { PutSpares }
+    ensures mkcol { MkcolSpares }
+{}
+
+/// A plan that goes along with itself has the same outcome in two worlds that have the same content in a guarded folder, but
+/// for change numbers and times, and leaves the same content there. PUT, PATCH and MKCOL at the folder or below it, with the
+/// guard's token as their only condition, have such plans.
+pub fn plans_agree_in_alike_worlds()
+    ensures agree { AlongsideAgree }
+    ensures put { PutGoesAlong }
+    ensures mkcol { MkcolGoesAlong }
+{}
+
+/// A plan that ends with a change number to spare found each number that it took.
+#[tactic(auto, using(crate::proofs::NumberLemmas::spare_numbers_suffice))]
+pub fn spare_numbers_suffice()
+    ensures { SpareNumbersSuffice }
+{}
+
+/// A lock that is exclusive and of infinite depth, and that may be granted after locks of other tokens, guards its folder.
+/// In a world there are folders above whatever is there (RFC 4918, sections 5.1 and 6.2).
+pub fn granted_locks_guard_their_folders()
+    ensures guards { GrantedGuards }
+    ensures above { FoldersAreAbove }
+{}

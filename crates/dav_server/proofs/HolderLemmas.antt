@@ -1,0 +1,73 @@
+-- The plans of a holder's requests go along with themselves.
+use Rattle.std.proofs.Common.{◌≡◌, ℕ, Result, Ok, sym, subst}
+use Rattle.dav_core.specs.declared.errors.DavError.{DavError}
+use Rattle.dav_core.specs.declared.method.DavMethod.{DavMethod}
+use Rattle.dav_core.specs.declared.method.DavMethod.TheVariants.{Get, Head, Put, Patch, Unlock}
+use Rattle.dav_core.specs.Locks.{Lock}
+use Rattle.dav_core.specs.Path.{Path, PathText, names}
+use Rattle.dav_engine.specs.declared.request.Body.{Body}
+use Rattle.dav_engine.specs.Alongside.{side_err}
+use Rattle.dav_engine.specs.AlongsidePlans.{SubmitsAlone, GoesAlong}
+use Rattle.dav_engine.specs.Conditions.{Conditions, AreConditions}
+use Rattle.dav_engine.specs.Guard.{IsGuard, IsInReach}
+use Rattle.dav_engine.specs.Method.{MethodPlan}
+use Rattle.dav_engine.specs.Response.{Response}
+use Rattle.dav_engine.proofs.Theorems.{holders, in_reach, only_lists, put_goes_along, mkcol_goes_along}
+use Rattle.dav_server.specs.Get.{get, is_get}
+use Rattle.dav_server.specs.Head.{Request, IsHead}
+use Rattle.dav_server.specs.Headers.{headers_of}
+use Rattle.dav_server.specs.Holder.{IsHolderRequest, unlocks, acts}
+use Rattle.dav_server.specs.Machine.{Settings, Asked, client, PlanOf, gets, heads, puts, patches, makes, not_yet, MeansOf, not_allowed, no_path, no_body, method, Means, no_head, no_method, known}
+use Rattle.dav_server.specs.Method.{GivesServed}
+use Rattle.dav_server.specs.Target.{TargetNames}
+use Rattle.dav_server.proofs.AlongsideGet.{side_get}
+use Rattle.dav_server.proofs.HeadLemmas.{one_head}
+use Rattle.dav_server.proofs.MeansWorld.{one_method}
+use Rattle.dav_server.proofs.TargetLemmas.{one_outcome}
+
+-- what is known of a holder's request with this head and path
+record Holds (h : Lock) (r : Request) (p : PathText) : Type 0 where
+  within : IsInReach h (names p)
+  alone : SubmitsAlone (headers_of r.fields) p h
+
+one_path : (a b : PathText) → ◌≡◌ {A = Result PathText DavError} (Ok a) (Ok b) → a ≡ b
+one_path a b same = cc
+
+holds : (s : Settings) (h : Lock) (x : Asked) (r : Request) (m : DavMethod) (p : PathText) → IsHolderRequest s h x → IsHead x.head r → GivesServed r.method (Ok m) → TargetNames s.prefix m r.target (Ok p) → ¬ (Unlock ≡ m) → Holds h r p
+holds s h x r m p (unlocks r' p' principal for reach says) head gives named other =
+    let heads : r' ≡ r = one_head x.head r' r for.head head in
+    absurd (other (one_method r.method Unlock m (subst (λ (q : Request). GivesServed q.method (Ok Unlock)) heads for.method) gives))
+holds s h x r m p (acts r' m' p' principal for reach may alone range) head gives named other =
+    let heads : r' ≡ r = one_head x.head r' r for.head head in
+    let methods : m' ≡ m = one_method r.method m' m (subst (λ (q : Request). GivesServed q.method (Ok m')) heads for.method) gives in
+    let target : TargetNames s.prefix m r.target (Ok p') = subst (λ (n : DavMethod). TargetNames s.prefix n r.target (Ok p')) methods (subst (λ (q : Request). TargetNames s.prefix m' q.target (Ok p')) heads for.target) in
+    let paths : p' ≡ p = one_path p' p (one_outcome s.prefix m r.target (Ok p') (Ok p) target named) in
+    subst (Holds h r) paths (subst (λ (q : Request). Holds h q p') heads (record { within = reach; alone = alone }))
+
+module _ (h : Lock) (guard : IsGuard h) where
+  get_goes_along : (m : DavMethod) {r : Request} {p : PathText} (now : ℕ) (c : Conditions) → Holds h r p → AreConditions (headers_of r.fields) p.prefix (names p) c → GoesAlong h (get m c (names p) now)
+  get_goes_along m {r} {p} now c k are =
+      let (rest, at) = in_reach h (names p) k.within in
+      subst (λ (d : Conditions). GoesAlong h (get m d (names p) now)) (sym (only_lists k.alone c are))
+      (subst (λ (q : Path). GoesAlong h (get m (holders k.alone.lists) q now)) (sym at) (side_get h guard rest m now k.alone.only))
+
+  plan_goes_along : (x : Asked) (r : Request) {allowed : ℕ} {m : DavMethod} {p : PathText} {body : Body} {plan : MethodPlan Response}
+      → (¬ (Unlock ≡ m) → Holds h r p) → PlanOf allowed (headers_of r.fields) p body (client x) m plan → GoesAlong h plan
+  plan_goes_along x r k (gets (is_get c are)) = get_goes_along Get (client x).moment c (k (λ e. cc)) are
+  plan_goes_along x r k (heads (is_get c are)) = get_goes_along Head (client x).moment c (k (λ e. cc)) are
+  plan_goes_along x r {p = p} {body} {plan} k (puts is) = let known = k (λ e. cc) in put_goes_along h Put (headers_of r.fields) p body (client x) plan guard known.within known.alone is
+  plan_goes_along x r {p = p} {body} {plan} k (patches is) = let known = k (λ e. cc) in put_goes_along h Patch (headers_of r.fields) p body (client x) plan guard known.within known.alone is
+  plan_goes_along x r {p = p} {plan = plan} k (makes is) = let known = k (λ e. cc) in mkcol_goes_along h (headers_of r.fields) p (client x) plan guard known.within known.alone is
+  plan_goes_along x r k (not_yet out) = side_err
+
+  of_goes_along : (s : Settings) (x : Asked) (r : Request) {m : DavMethod} {plan : MethodPlan Response} → IsHolderRequest s h x → IsHead x.head r → GivesServed r.method (Ok m) → MeansOf s x r m plan → GoesAlong h plan
+  of_goes_along s x r holder head gives (not_allowed out) = side_err
+  of_goes_along s x r holder head gives (no_path e has none) = side_err
+  of_goes_along s x r holder head gives (no_body p e has named bad) = side_err
+  of_goes_along s x r {m} holder head gives (method p body has named good plan) = plan_goes_along x r (holds s h x r m p holder head gives named) plan
+
+  -- a holder's plan goes along with itself
+  pub means_along : (s : Settings) (x : Asked) {plan : MethodPlan Response} → IsHolderRequest s h x → Means s x plan → GoesAlong h plan
+  means_along s x holder (no_head out) = side_err
+  means_along s x holder (no_method r e head gives) = side_err
+  means_along s x holder (known r m head gives means) = of_goes_along s x r holder head gives means

@@ -1,0 +1,107 @@
+-- Isolation, by recursion on the run.
+use Rattle.std.proofs.Common.{◌≡◌, ◌++◌, ℕ, ◌≤◌, true, false, List, [], ◌∷◌, Option, Some, None, Result, Ok, Err, ◌⊎◌, inl, inr, refl, sym, ap, subst, ◌∙◌, arith}
+use Rattle.std.proofs.lemmas.List.Elements.{All-head, All-tail}
+use Rattle.std.specs.Option.{is_some}
+use Rattle.dav_core.specs.declared.errors.FsError.{FsError}
+use Rattle.dav_core.specs.declared.errors.DavError.{DavError}
+use Rattle.dav_core.specs.Asking.{StoreState}
+use Rattle.dav_core.specs.Locks.{Lock}
+use Rattle.dav_core.specs.World.{World, IsWorld, last_moment}
+use Rattle.dav_engine.specs.Plan.{Locks}
+use Rattle.dav_engine.specs.Response.{Response, reply_to, error_reply}
+use Rattle.dav_engine.proofs.Theorems.{ran_unset, comes, alongside_agree, ran_plain, sparing_leaves_inside}
+use Rattle.dav_server.specs.Machine.{Settings, steps}
+use Rattle.dav_server.specs.Run.{Turn, begun, no_more, one_more}
+use Rattle.dav_server.specs.TagLaws.{AreShowable}
+use Rattle.dav_server.specs.Server.{Server}
+use Rattle.dav_server.proofs.MeansWorld.{means_proper, begun_world, run_keeps, all_front, all_back}
+use Rattle.dav_engine.specs.Alongside.{AsksWithNumbers, SameResult, AreAlike, SameAnswers}
+use Rattle.dav_engine.specs.AnswerParts.{answers_of}
+use Rattle.dav_engine.specs.Guard.{folder_of, IsGuard, Guarded, Stands}
+use Rattle.dav_engine.specs.Inside.{HasFoldersAbove}
+use Rattle.dav_engine.specs.Sparing.{LeftAlone}
+use Rattle.dav_server.proofs.HolderLemmas.{means_along}
+use Rattle.dav_server.proofs.StrangerLemmas.{means_spares}
+use Rattle.dav_server.specs.Isolation.{AreLoaded, RunsUnder, under_none, under_more, Alone, alone_none, alone_other, alone_own, alike_none, alike_other, alike_own, AreAlone, HoldersAreAlone, IsIsolated}
+
+begun_short : (refusals : Option (List (Option FsError))) (s : StoreState) → (begun refusals s).short ≡ s.short
+begun_short None s = refl
+begun_short (Some list) s = refl
+
+begun_same : (refusals : Option (List (Option FsError))) (s t : StoreState) → is_some refusals ≡ true → (begun refusals s).refusals ≡ (begun refusals t).refusals
+begun_same None s t some = cc
+begun_same (Some list) s t some = refl
+
+-- the flag is never taken back
+under_unset : {s : Settings} {h : Lock} {ts : List Turn} {old new : StoreState} {ls ms : Locks} {replies : List Response} → RunsUnder AsksWithNumbers s h ts old ls replies new ms → new.short ≡ false → old.short ≡ false
+under_unset under_none u = u
+under_unset (under_more {t} {old = old} stands holds (steps plan outcome means ran) more) u = sym (begun_short t.refusals old) ∙ ran_unset (ran_plain ran) (under_unset more u)
+
+same_replies : (a b : Result Response DavError) → SameResult SameAnswers a b → SameAnswers (reply_to a) (reply_to b)
+same_replies (Ok x) (Ok y) same = same
+same_replies (Err e) (Err f) same = ap (λ (d : DavError). answers_of (error_reply d)) same
+same_replies (Ok x) (Err f) same = absurd same
+same_replies (Err e) (Ok y) same = absurd same
+
+at_begin : {folder : List (List ℕ)} (r q : Option (List (Option FsError))) (s t : StoreState) → AreAlike folder None s.world t.world → AreAlike folder None (begun r s).world (begun q t).world
+at_begin {folder} r q s t alike = subst (λ (w : World). AreAlike folder None w (begun q t).world) (sym (begun_world r s)) (subst (λ (v : World). AreAlike folder None s.world v) (sym (begun_world q t)) alike)
+
+either : (h : Lock) (ms ks : Locks) → ((Guarded h ms × Guarded h ks) ⊎ (¬ Stands h ms × ¬ Stands h ks)) → Stands h ms → Guarded h ms × Guarded h ks
+either h ms ks (inl both) stands = both
+either h ms ks (inr gone) stands = absurd (gone.0 stands)
+
+module _ (s : Settings) (h : Lock) (guard : IsGuard h) where
+  isolated : {ts us : List Turn} {old new old' : StoreState} {ls ms ls' : Locks} {replies : List Response}
+      → RunsUnder AsksWithNumbers s h ts old ls replies new ms → AreShowable ts → AreLoaded ts → new.short ≡ false → Alone h ts us
+      → AreAlike (folder_of h) None old.world old'.world → old'.short ≡ false → (Stands h ls → Guarded h ls × Guarded h ls')
+      → AreAlone s h ts us old' ls' replies new
+  isolated {old' = old'} {ls' = ls'} under_none small loaded u alone_none alike u' g =
+      record { alone = []; end = old'; locks = ls'; runs = no_more; ample = u'; answers = alike_none; inside = alike.same }
+  isolated {old' = old'} {ls' = ls'} (under_more {t} {ts} {old} {mid} {new} {ls} {ks} stands holds (steps plan outcome means ran) more) small loaded u (alone_other stranger rest) alike u' g =
+      let moment : t.asked.moment ≤ last_moment = All-head (λ t. t.asked.moment ≤ last_moment) t ts small in
+      let both = g stands in
+      let same : (begun t.refusals old).world ≡ old.world = begun_world t.refusals old in
+      let left : LeftAlone h old.world mid.world ks = subst (λ (w : World). LeftAlone h w mid.world ks) same
+      (sparing_leaves_inside h plan (begun t.refusals old) mid ls ks outcome guard (means_spares h guard.exclusive t.asked stranger means).1 (means_proper moment means) (ran_plain ran) both.0
+      (subst (HasFoldersAbove (folder_of h)) (sym same) alike.above) (subst IsWorld (sym same) alike.world)) in
+      let low = alike.next in
+      let high = left.next in
+      let go = isolated {old' = old'} {ls' = ls'} more (All-tail (λ t. t.asked.moment ≤ last_moment) t ts small) (All-tail (λ t. is_some t.refusals ≡ true) t ts loaded) u rest
+      (record { same = λ r. sym (left.same r) ∙ alike.same r; next = omega (arith, low, high); above = left.above; above_alone = alike.above_alone; world = left.world; world_alone = alike.world_alone; there = tt })
+      u' (λ still. (left.guarded still, both.1)) in
+      record { alone = go.alone; end = go.end; locks = go.locks; runs = go.runs; ample = go.ample; answers = alike_other stranger go.answers; inside = go.inside }
+  isolated {old' = old'} {ls' = ls'} (under_more {t} {ts} {old} {mid} {new} {ls} {ks} stands holds (steps plan outcome means ran) more) small loaded u (alone_own named rest) alike u' g =
+      let moment : t.asked.moment ≤ last_moment = All-head (λ t. t.asked.moment ≤ last_moment) t ts small in
+      let both = g stands in
+      let c = comes plan (begun t.refusals old') ls' in
+      let short : c.new.short ≡ false = c.flag ∙ begun_short t.refusals old' ∙ u' in
+      let ends = alongside_agree h plan (begun t.refusals old) mid (begun t.refusals old') c.new ls ks ls' c.locks outcome c.outcome guard
+      (means_along h guard s t.asked (holds named) means) (means_proper moment means) ran c.ran (under_unset more u) short
+      (begun_same t.refusals old old' (All-head (λ t. is_some t.refusals ≡ true) t ts loaded)) both.0 both.1 (at_begin t.refusals t.refusals old old' alike) in
+      let go = isolated {old' = c.new} {ls' = c.locks} more (All-tail (λ t. t.asked.moment ≤ last_moment) t ts small) (All-tail (λ t. is_some t.refusals ≡ true) t ts loaded) u rest
+      ends.alike short (either h ks c.locks ends.locks) in
+      record {
+        alone = reply_to c.outcome ∷ go.alone;
+        end = go.end;
+        locks = go.locks;
+        runs = one_more (steps plan c.outcome means c.ran) go.runs;
+        ample = go.ample;
+        answers = alike_own named (same_replies outcome c.outcome ends.outcomes) go.answers;
+        inside = go.inside;
+      }
+
+pub holders_are_alone : HoldersAreAlone
+holders_are_alone s h ts us old new ls ms replies guard guarded above world small loaded under u alone =
+    isolated s h guard under small loaded u alone
+    (record { same = λ r. refl; next = omega arith; above = above; above_alone = above; world = world; world_alone = world; there = tt }) (under_unset under u) (λ _. (guarded, guarded))
+
+-- of a run, from any moment on
+pub is_isolated : (old : Server) (ts : List Turn) (replies : List Response) → AreShowable ts → AreLoaded ts → IsIsolated old ts replies
+is_isolated old ts replies small loaded front later back us h mid new ks ms before given after is replied world ran guard guarded above under u alone =
+    let P = λ (t : Turn). t.asked.moment ≤ last_moment in
+    let Q = λ (t : Turn). is_some t.refusals ≡ true in
+    let all_small : AreShowable (front ++ (later ++ back)) = subst AreShowable is small in
+    let all_loaded : AreLoaded (front ++ (later ++ back)) = subst AreLoaded is loaded in
+    let kept = run_keeps world (all_front P front (later ++ back) all_small) ran in
+    holders_are_alone old.settings h later us mid new ks ms given guard guarded above kept.world
+    (all_front P later back (all_back P front (later ++ back) all_small)) (all_front Q later back (all_back Q front (later ++ back) all_loaded)) under u alone

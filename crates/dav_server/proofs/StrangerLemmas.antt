@@ -1,0 +1,110 @@
+-- Requests that don't name a lock as its principal spare what it covers, and pass no exclusive lock.
+use Rattle.std.proofs.Common.{◌≡◌, ◌++◌, ◌≤◌, ◌&&◌, ℕ, Bool, true, false, List, [], ◌∷◌, codes, bytes_eq, Option, Some, None, refl, sym, ap, subst, ◌∙◌}
+use Rattle.std.specs.List.{list_any, flat_map}
+use Rattle.std.proofs.lemmas.Slice.Eq.{bytes_eq-Decides}
+use Rattle.std.proofs.lemmas.Map.Views.{Contains-from_any}
+use Rattle.std.proofs.lemmas.List.Elements.{All-head}
+use Rattle.http_header.specs.HeaderMap.{get_all}
+use Rattle.dav_core.specs.declared.method.DavMethod.{DavMethod}
+use Rattle.dav_core.specs.declared.method.DavMethod.TheVariants.{Get, Head, Put, Patch}
+use Rattle.dav_core.specs.Locks.{Lock, covers, is_held, is_same_principal}
+use Rattle.dav_core.specs.Path.{Path, PathText, names}
+use Rattle.dav_core.specs.World.{World, IsWorld, last_moment}
+use Rattle.dav_headers.specs.If.{ConditionList, tokens_in, tokens_of}
+use Rattle.dav_engine.specs.declared.request.Body.{Body}
+use Rattle.dav_engine.specs.Client.{requester}
+use Rattle.dav_engine.specs.Conditions.{Conditions, Addressed, AreConditions, AreAddressed, SaysLists, submitted}
+use Rattle.dav_engine.specs.Headers.{Decodes}
+use Rattle.dav_engine.specs.Method.{MethodPlan}
+use Rattle.dav_engine.specs.Response.{Response}
+use Rattle.dav_engine.specs.Sparing.{spares_err, Spared}
+use Rattle.dav_engine.specs.SparingPlans.{IsStranger, SparesBoth}
+use Rattle.dav_engine.proofs.Theorems.{sparing_leaves_covered, reading_spares, put_spares, mkcol_spares}
+use Rattle.dav_server.specs.Get.{get, is_get}
+use Rattle.dav_server.specs.Head.{Request, IsHead}
+use Rattle.dav_server.specs.Headers.{headers_of}
+use Rattle.dav_server.specs.Machine.{Settings, Asked, client, PlanOf, gets, heads, puts, patches, makes, not_yet, MeansOf, not_allowed, no_path, no_body, method, Means, no_head, no_method, known, steps}
+use Rattle.dav_server.specs.Naming.{NamesLock, by_if}
+use Rattle.dav_server.specs.Passing.{NoLockIsPassed, PassesNoLock}
+use Rattle.dav_server.specs.Run.{Turn, begun}
+use Rattle.dav_server.specs.Server.{Server}
+use Rattle.dav_server.specs.TagLaws.{AreShowable}
+use Rattle.dav_server.proofs.GetWorld.{get_is_reading}
+use Rattle.dav_server.proofs.MeansWorld.{means_proper, begun_world, run_keeps, all_front, all_back}
+
+-- the tokens that conditions submit are those of the header
+tokens_alike : (prefix : List ℕ) (own : Path) (ls : List ConditionList) (lists : List Addressed) → AreAddressed prefix own ls lists → submitted (Some lists) ≡ tokens_of ls
+tokens_alike prefix own [] lists is = ap (λ (l : List Addressed). submitted (Some l)) is
+tokens_alike prefix own (l ∷ ls) lists (q, more, speaks, is, rest) =
+    ap (λ (l : List Addressed). submitted (Some l)) is ∙ ap (λ (ts : List (List ℕ)). flat_map (λ c. tokens_in c.item) l.conditions ++ ts) (tokens_alike prefix own ls more rest)
+
+same_principal : (a b : Option (List ℕ)) → is_same_principal a b ≡ true → b ≡ a
+same_principal None None h = refl
+same_principal (Some x) (Some y) h = ap (λ (z : List ℕ). Some z) (sym ((bytes_eq-Decides x y).0 h))
+same_principal None (Some y) h = cc
+same_principal (Some x) None h = cc
+
+both : (a b : Bool) → (a && b) ≡ true → (a ≡ true) × (b ≡ true)
+both true b h = (refl, h)
+both false b h = cc
+
+same_bytes : (a b : List ℕ) → bytes_eq a b ≡ true → a ≡ b
+same_bytes a b h = (bytes_eq-Decides a b).0 h
+
+module _ (h : Lock) (x : Asked) (r : Request) (head : IsHead x.head r) where
+  held_by_lists : (prefix : List ℕ) (own : Path) (o : Option (List Addressed)) → Decodes (SaysLists prefix own) (get_all (headers_of r.fields) (codes "if")) o
+      → is_held (requester (client x) (submitted o)) h ≡ true → NamesLock h x
+  held_by_lists prefix own None says held = cc
+  held_by_lists prefix own (Some lists) (ls, is_if, are) held =
+      let (named, principal) = both _ _ held in
+      record {
+        token = by_if r ls head is_if (Contains-from_any same_bytes h.token (tokens_of ls) (ap (list_any (bytes_eq h.token)) (sym (tokens_alike prefix own ls lists are)) ∙ named));
+        principal = same_principal h.principal x.principal principal;
+      }
+
+  unheld_by : (c : Conditions) (prefix : List ℕ) (own : Path) → AreConditions (headers_of r.fields) prefix own c → ¬ NamesLock h x → (b : Bool) → is_held (requester (client x) (submitted c.lists)) h ≡ b → b ≡ false
+  unheld_by c prefix own are other false held = refl
+  unheld_by c prefix own are other true held = absurd (other (held_by_lists prefix own c.lists are.lists held))
+
+  -- one that doesn't name the lock's token as its principal doesn't hold it
+  pub is_stranger : (p : PathText) → ¬ NamesLock h x → IsStranger (headers_of r.fields) p (client x) h
+  is_stranger p other c are = unheld_by c p.prefix (names p) are other (is_held (requester (client x) (submitted c.lists)) h) refl
+
+-- ---- plans of strangers
+
+module _ (h : Lock) (exclusive : h.shared ≡ false) (x : Asked) (other : ¬ NamesLock h x) where
+  plan_spares : (r : Request) → IsHead x.head r → {allowed : ℕ} {p : PathText} {body : Body} {m : DavMethod} {plan : MethodPlan Response} → PlanOf allowed (headers_of r.fields) p body (client x) m plan → SparesBoth h plan
+  plan_spares r head {p = p} (gets (is_get c are)) = reading_spares h (get Get c (names p) (client x).moment) (get_is_reading Get c (names p) (client x).moment)
+  plan_spares r head {p = p} (heads (is_get c are)) = reading_spares h (get Head c (names p) (client x).moment) (get_is_reading Head c (names p) (client x).moment)
+  plan_spares r head {p} {body} {plan = plan} (puts is) = put_spares h Put (headers_of r.fields) p body (client x) plan exclusive (is_stranger h x r head p other) is
+  plan_spares r head {p} {body} {plan = plan} (patches is) = put_spares h Patch (headers_of r.fields) p body (client x) plan exclusive (is_stranger h x r head p other) is
+  plan_spares r head {p = p} {plan = plan} (makes is) = mkcol_spares h (headers_of r.fields) p (client x) plan exclusive (is_stranger h x r head p other) is
+  plan_spares r head (not_yet out) = (spares_err, spares_err)
+
+  of_spares : (r : Request) → IsHead x.head r → {s : Settings} {m : DavMethod} {plan : MethodPlan Response} → MeansOf s x r m plan → SparesBoth h plan
+  of_spares r head (not_allowed out) = (spares_err, spares_err)
+  of_spares r head (no_path e has none) = (spares_err, spares_err)
+  of_spares r head (no_body p e has named bad) = (spares_err, spares_err)
+  of_spares r head (method p body has named good plan) = plan_spares r head plan
+
+  pub means_spares : {s : Settings} {plan : MethodPlan Response} → Means s x plan → SparesBoth h plan
+  means_spares (no_head out) = (spares_err, spares_err)
+  means_spares (no_method r e head gives) = (spares_err, spares_err)
+  means_spares (known r m head gives means) = of_spares r head means
+
+-- ---- passing
+
+pub no_lock_is_passed : NoLockIsPassed
+no_lock_is_passed s x old new ls ms reply h exclusive stands other small world (steps plan outcome means ran) =
+    sparing_leaves_covered h plan old new ls ms outcome (means_spares h exclusive x other means).0 (means_proper small means) ran stands world
+
+-- of a run, between any two requests
+pub passes_no_lock : (old : Server) (ts : List Turn) (replies : List Response) → AreShowable ts → PassesNoLock old ts replies
+passes_no_lock old ts replies small front back t before after reply mid new ks ms h is given world ran step exclusive stands other =
+    let P = λ (t : Turn). t.asked.moment ≤ last_moment in
+    let all : AreShowable (front ++ t ∷ back) = subst AreShowable is small in
+    let kept = run_keeps world (all_front P front (t ∷ back) all) ran in
+    let moment = All-head P t back (all_back P front (t ∷ back) all) in
+    let same : (begun t.refusals mid).world ≡ mid.world = begun_world t.refusals mid in
+    subst (λ (w : World). Spared (covers h) w new.world) same
+    (no_lock_is_passed old.settings t.asked (begun t.refusals mid) new ks ms reply h exclusive stands other moment (subst IsWorld (sym same) kept.world) step)

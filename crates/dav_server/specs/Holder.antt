@@ -1,0 +1,59 @@
+-- The requests of a lock's holder (RFC 4918, section 7).
+use Rattle.std.specs.Prelude.{◌≡◌, ℕ, ⊤, List, [], codes, Ok}
+use Rattle.http_header.specs.HeaderMap.{get_all}
+use Rattle.dav_core.specs.declared.method.DavMethod.{DavMethod}
+use Rattle.dav_core.specs.declared.method.DavMethod.TheVariants.{Head, Get, Put, Patch, Options, PropFind, PropPatch, MkCol, Copy, Move, Delete, Lock as LockMethod, Unlock}
+use Rattle.dav_core.specs.Locks.{Lock}
+use Rattle.dav_core.specs.Path.{Path, PathText, names, IsCut, without_slash}
+use Rattle.dav_core.specs.Target.{Reads}
+use Rattle.dav_headers.specs.Destination.{IsDestination}
+use Rattle.dav_engine.specs.declared.request.Body.TheVariants as body
+use Rattle.dav_engine.specs.AlongsidePlans.{SubmitsAlone}
+use Rattle.dav_engine.specs.Guard.{IsInReach}
+use Rattle.dav_engine.specs.Headers.{Headers}
+use Rattle.dav_server.specs.Head.{Request, IsHead}
+use Rattle.dav_server.specs.Headers.{headers_of}
+use Rattle.dav_server.specs.Machine.{Asked, Settings, body_for, taken_by}
+use Rattle.dav_server.specs.Method.{GivesServed}
+use Rattle.dav_server.specs.Naming.{SaysLockToken}
+use Rattle.dav_server.specs.Target.{TargetNames}
+
+-- the path that Destination names, below the prefix (RFC 4918, section 10.3)
+abbrev pub DestinationNames : Settings → Headers → Path → Type 0
+DestinationNames s headers q =
+    (text : List ℕ) × (bytes : List ℕ) × (p : PathText)
+    × IsDestination (get_all headers (codes "destination")) text × Reads text bytes × IsCut (without_slash s.prefix) bytes p × (q ≡ names p)
+
+-- the destination is at the lock's folder or below it
+abbrev pub HasNearDestination : Settings → Lock → Headers → Type 0
+HasNearDestination s h headers = (q : Path) × DestinationNames s headers q × IsInReach h q
+
+-- What is asked of a method besides: the destination of a COPY or MOVE is in the folder too, and a LOCK has no body, so it
+-- refreshes. UNLOCK has a rule of its own.
+abbrev pub MayHold : Settings → Lock → Asked → Headers → DavMethod → Type 0
+MayHold s h x headers Copy = HasNearDestination s h headers
+MayHold s h x headers Move = HasNearDestination s h headers
+MayHold s h x headers LockMethod = body_for (taken_by LockMethod) x.body ≡ Ok body.None
+MayHold s h x headers Get = ⊤
+MayHold s h x headers Head = ⊤
+MayHold s h x headers PropFind = ⊤
+MayHold s h x headers Options = ⊤
+MayHold s h x headers Put = ⊤
+MayHold s h x headers Patch = ⊤
+MayHold s h x headers MkCol = ⊤
+MayHold s h x headers Delete = ⊤
+MayHold s h x headers PropPatch = ⊤
+MayHold s h x headers _ = ⊥
+
+-- the request has this head, with this method, and its target names this path
+pub record IsFor (s : Settings) (x : Asked) (r : Request) (m : DavMethod) (p : PathText) : Type 0 where
+  pub head : IsHead x.head r
+  pub method : GivesServed r.method (Ok m)
+  pub target : TargetNames s.prefix m r.target (Ok p)
+
+-- A holder's request: one of the lock's principal, at the lock's folder or below it. It is an UNLOCK with the lock's token;
+-- or any other request but a LOCK with a body, whose If submits the lock's token alone, and which sets no other condition.
+pub data IsHolderRequest (s : Settings) (h : Lock) (x : Asked) : Type 0 where
+  unlocks : (r : Request) (p : PathText) → x.principal ≡ h.principal → IsFor s x r Unlock p → IsInReach h (names p) → SaysLockToken (headers_of r.fields) h.token → IsHolderRequest s h x
+  acts : (r : Request) (m : DavMethod) (p : PathText) → x.principal ≡ h.principal → IsFor s x r m p → IsInReach h (names p) → MayHold s h x (headers_of r.fields) m
+      → SubmitsAlone (headers_of r.fields) p h → get_all (headers_of r.fields) (codes "if-range") ≡ [] → IsHolderRequest s h x

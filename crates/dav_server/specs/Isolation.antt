@@ -1,0 +1,80 @@
+-- Isolation: a locked folder and the replies to its holder don't depend on what others do (RFC 4918, section 7).
+use Rattle.std.specs.Prelude.{◌≡◌, ◌++◌, true, false, List, [], ◌∷◌, All}
+use Rattle.std.specs.Option.{is_some}
+use Rattle.dav_core.specs.Asking.{StoreState}
+use Rattle.dav_core.specs.Locks.{Lock}
+use Rattle.dav_core.specs.World.{IsWorld}
+use Rattle.dav_engine.specs.Alongside.{AsksWithNumbers, SameAnswers}
+use Rattle.dav_engine.specs.Guard.{folder_of, IsGuard, Guarded, Stands}
+use Rattle.dav_engine.specs.Inside.{SameInside, HasFoldersAbove}
+use Rattle.dav_engine.specs.Plan.{Locks, CallStep}
+use Rattle.dav_engine.specs.Response.{Response}
+use Rattle.dav_server.specs.Holder.{IsHolderRequest}
+use Rattle.dav_server.specs.Machine.{Settings, StepsBy}
+use Rattle.dav_server.specs.Naming.{NamesLock}
+use Rattle.dav_server.specs.Run.{Turn, begun, Runs}
+use Rattle.dav_server.specs.Server.{Server}
+use Rattle.dav_server.specs.TagLaws.{AreShowable}
+
+-- ---- a run while a lock stands
+
+-- each turn has refusals of its own, so none are left of the turn before
+abbrev pub AreLoaded : List Turn → Type 0
+AreLoaded ts = All (λ t. is_some t.refusals ≡ true) ts
+
+-- A run while a lock stands: the lock is in the list when each request begins, and each request that names it as its principal
+-- is a holder's. The last request may be the one that ends it.
+pub data RunsUnder (step : CallStep) (s : Settings) (h : Lock) : List Turn → StoreState → Locks → List Response → StoreState → Locks → Type 0 where
+  under_none : {old : StoreState} {ls : Locks} → RunsUnder step s h [] old ls [] old ls
+  under_more : {t : Turn} {ts : List Turn} {old mid new : StoreState} {ls ks ms : Locks} {reply : Response} {replies : List Response}
+      → Stands h ls → (NamesLock h t.asked → IsHolderRequest s h t.asked) → StepsBy step s t.asked (begun t.refusals old) ls reply mid ks
+      → RunsUnder step s h ts mid ks replies new ms → RunsUnder step s h (t ∷ ts) old ls (reply ∷ replies) new ms
+
+-- ---- the holder's requests alone
+
+-- of these turns those whose request names the lock as its principal, each with its own refusals
+pub data Alone (h : Lock) : List Turn → List Turn → Type 0 where
+  alone_none : Alone h [] []
+  alone_other : {t : Turn} {ts us : List Turn} → ¬ NamesLock h t.asked → Alone h ts us → Alone h (t ∷ ts) us
+  alone_own : {t : Turn} {ts us : List Turn} → NamesLock h t.asked → Alone h ts us → Alone h (t ∷ ts) (t ∷ us)
+
+-- The replies to these turns, and the replies to the holder's turns alone: each of the latter has the same answers as the
+-- reply to the same request among all.
+pub data AnswerAlike (h : Lock) : List Turn → List Response → List Response → Type 0 where
+  alike_none : AnswerAlike h [] [] []
+  alike_other : {t : Turn} {ts : List Turn} {reply : Response} {replies alone : List Response} → ¬ NamesLock h t.asked → AnswerAlike h ts replies alone → AnswerAlike h (t ∷ ts) (reply ∷ replies) alone
+  alike_own : {t : Turn} {ts : List Turn} {reply other : Response} {replies alone : List Response}
+      → NamesLock h t.asked → SameAnswers reply other → AnswerAlike h ts replies alone → AnswerAlike h (t ∷ ts) (reply ∷ replies) (other ∷ alone)
+
+-- The holder's turns can be run alone, in a store that doesn't run out of memory, and then have the same answers and leave
+-- the same content in the folder as the run of all. (Such a run alone is determined.)
+pub record AreAlone (s : Settings) (h : Lock) (ts us : List Turn) (old : StoreState) (ls : Locks) (replies : List Response) (new : StoreState) : Type 0 where
+  pub alone : List Response
+  pub end : StoreState
+  pub locks : Locks
+  pub runs : Runs s us old ls alone end locks
+  pub ample : end.short ≡ false
+  pub answers : AnswerAlike h ts replies alone
+  pub inside : SameInside (folder_of h) new.world end.world
+
+-- While a folder is guarded, it and the answers to its holder are those of the holder's requests alone.
+abbrev pub HoldersAreAlone : Type 0
+HoldersAreAlone =
+    (s : Settings) (h : Lock) (ts us : List Turn) (old new : StoreState) (ls ms : Locks) (replies : List Response)
+    → IsGuard h → Guarded h ls → HasFoldersAbove (folder_of h) old.world → IsWorld old.world → AreShowable ts → AreLoaded ts
+    → RunsUnder AsksWithNumbers s h ts old ls replies new ms → new.short ≡ false → Alone h ts us → AreAlone s h ts us old ls replies new
+
+-- ---- what a run promises
+
+-- In a run of these turns with these replies, from a world on: from any moment at which a lock guards a folder, as long as the
+-- lock stands and all who name it as its principal are its holder, the folder and the replies to the holder are as if the
+-- holder's requests were alone. No call may have found the change numbers used up, and the store may not have run out of
+-- memory.
+abbrev pub IsIsolated : Server → List Turn → List Response → Type 0
+IsIsolated old ts replies =
+    (front later back us : List Turn) (h : Lock) (mid new : StoreState) (ks ms : Locks) (before given after : List Response)
+    → ts ≡ front ++ (later ++ back) → replies ≡ before ++ (given ++ after) → IsWorld old.state.store.world
+    → Runs old.settings front old.state.store old.state.locks before mid ks
+    → IsGuard h → Guarded h ks → HasFoldersAbove (folder_of h) mid.world
+    → RunsUnder AsksWithNumbers old.settings h later mid ks given new ms → new.short ≡ false
+    → Alone h later us → AreAlone old.settings h later us mid ks given new

@@ -1,0 +1,42 @@
+-- Which requests name a token, and which name a lock as its principal (RFC 4918, sections 6.4, 10.4 and 10.5).
+use Rattle.std.specs.Prelude.{◌≡◌, ℕ, ◌++◌, ◌⊎◌, List, [], ◌∷◌, All, Contains, codes, Some}
+use Rattle.http_header.specs.HeaderMap.{get, get_all}
+use Rattle.dav_core.specs.Locks.{Lock}
+use Rattle.dav_headers.specs.If.{ConditionList, IsIfHeader, tokens_of}
+use Rattle.dav_engine.specs.Headers.{Headers, text_in}
+use Rattle.dav_server.specs.Head.{Request, IsHead}
+use Rattle.dav_server.specs.Headers.{headers_of}
+use Rattle.dav_server.specs.Machine.{Asked}
+
+-- `<` or `>`
+abbrev pub IsAngle : ℕ → Type 0
+IsAngle b = (b ≡ 60) ⊎ (b ≡ 62)
+
+-- it neither begins nor ends with `<` or `>`
+pub record HasNoAngles (text : List ℕ) : Type 0 where
+  pub first : (b : ℕ) (rest : List ℕ) → text ≡ b ∷ rest → ¬ IsAngle b
+  pub last : (front : List ℕ) (b : ℕ) → text ≡ front ++ b ∷ [] → ¬ IsAngle b
+
+-- the text without all `<` and `>` at its ends
+pub record IsBetweenAngles (text token : List ℕ) : Type 0 where
+  pub front : List ℕ
+  pub back : List ℕ
+  pub opening : All IsAngle front
+  pub closing : All IsAngle back
+  pub whole : text ≡ front ++ token ++ back
+  pub bare : HasNoAngles token
+
+-- the token that Lock-Token says: its first value, where that is text, without the angle brackets (RFC 4918, section 10.5)
+abbrev pub SaysLockToken : Headers → List ℕ → Type 0
+SaysLockToken headers token = (text : List ℕ) × (text_in (get headers (codes "lock-token")) ≡ Some text) × IsBetweenAngles text token
+
+-- A request names a token: it is one of those of its If, under `Not` too, or it is that of its Lock-Token. Bytes that are no
+-- head name nothing.
+pub data NamesToken (x : Asked) (token : List ℕ) : Type 0 where
+  by_if : (r : Request) (ls : List ConditionList) → IsHead x.head r → IsIfHeader (get_all (headers_of r.fields) (codes "if")) ls → Contains (tokens_of ls) token → NamesToken x token
+  by_lock_token : (r : Request) → IsHead x.head r → SaysLockToken (headers_of r.fields) token → NamesToken x token
+
+-- it names a lock's token as the lock's principal, or, for a lock without a principal, without one
+pub record NamesLock (h : Lock) (x : Asked) : Type 0 where
+  pub token : NamesToken x h.token
+  pub principal : x.principal ≡ h.principal
