@@ -1,6 +1,6 @@
 -- Isolation, by recursion on the run.
 use Rattle.std.proofs.Common.{◌≡◌, ◌++◌, ℕ, ◌≤◌, true, false, List, [], ◌∷◌, Option, Some, None, Result, Ok, Err, ◌⊎◌, inl, inr, refl, sym, ap, subst, ◌∙◌, arith}
-use Rattle.std.proofs.lemmas.List.Elements.{All-head, All-tail}
+use Rattle.std.proofs.lemmas.List.Elements.{All-nil, All-push, All-head, All-tail}
 use Rattle.std.specs.Option.{is_some}
 use Rattle.dav_core.specs.declared.errors.FsError.{FsError}
 use Rattle.dav_core.specs.declared.errors.DavError.{DavError}
@@ -105,3 +105,15 @@ is_isolated old ts replies small loaded front later back us h mid new ks ms befo
     let kept = run_keeps world (all_front P front (later ++ back) all_small) ran in
     holders_are_alone old.settings h later us mid new ks ms given guard guarded above kept.world
     (all_front P later back (all_back P front (later ++ back) all_small)) (all_front Q later back (all_back Q front (later ++ back) all_loaded)) under u alone
+
+-- ---- turns that have refusals of their own
+
+pub none_loaded : AreLoaded []
+none_loaded = All-nil (λ (t : Turn). is_some t.refusals ≡ true)
+
+pub loaded_more : (front : List Turn) (t : Turn) → AreLoaded front → is_some t.refusals ≡ true → AreLoaded (front ++ t ∷ [])
+loaded_more front t some one = All-push (λ (u : Turn). is_some u.refusals ≡ true) front t some one
+
+-- the same for an equal list
+pub loaded_for : {ts us : List Turn} → ts ≡ us → AreLoaded us → AreLoaded ts
+loaded_for same some = subst AreLoaded (sym same) some

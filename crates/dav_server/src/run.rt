@@ -1,7 +1,10 @@
 //! Whole runs: requests one after another.
-ghost use Rattle.std.specs.Prelude.{◌≡◌, ◌<◌, ◌≤◌, ◌++◌, ◌∷◌, [], vec_len, IfOk, IfErr, OnOk, OnErr};
+ghost use Rattle.std.specs.Option.{is_some};
+ghost use Rattle.std.specs.Prelude.{◌≡◌, ◌<◌, ◌≤◌, ◌++◌, ◌∷◌, [], true, vec_len, IfOk, IfErr, OnOk, OnErr};
 ghost use Rattle.std.specs.Vec.{vec_capacity};
 ghost use Rattle.dav_core.specs.World.{last_moment};
+ghost use Rattle.dav_server.specs.Isolation.{IsIsolated};
+ghost use Rattle.dav_server.specs.Passing.{PassesNoLock};
 ghost use Rattle.dav_server.specs.Server.{AddsReply, AnswersAll, AnswersSome, StopsIn, TagsTell, at_turn, turns};
 
 #[cfg(test)]
@@ -82,7 +85,8 @@ fn answer_next<F: DavFileSystem, L: DavLockSystem>(
 
 impl<F: DavFileSystem, L: DavLockSystem> DavHandler<F, L> {
     /// Answers requests, one after another: the replies, the store and the locks are those of a run of the machine. From a
-    /// world, equal entity tags show equal bytes.
+    /// world, equal entity tags show equal bytes, and no request changes what an exclusive lock covers unless it names the
+    /// lock's token as the lock's principal.
     ///
     /// `RunFault` where memory ran out outside the store, with the replies that were given before; they are those of a run
     /// of the machine, and of the next request at most the first calls of the store were made, each of them whole.
@@ -92,6 +96,8 @@ impl<F: DavFileSystem, L: DavLockSystem> DavHandler<F, L> {
             AnswersAll self.old.server (turns exchanges.now) replies.items self.new.server) }
         ensures tags { IfOk result (λ replies.
             TagsTell self.old.server (turns exchanges.now) replies.items) }
+        ensures passed { IfOk result (λ replies.
+            PassesNoLock self.old.server (turns exchanges.now) replies.items) }
         ensures fault { IfErr result (λ fault.
             AnswersSome self.old.server (turns exchanges.now) fault.replies.items self.new.server) }
     {
@@ -120,6 +126,7 @@ fn answer_step(
     ensures cut { OnErr result (StopsIn (at_turn step.entry handler.old.server)
         step.entry.asked handler.new.server) }
     ensures moment { step.entry.asked.moment ≤ last_moment }
+    ensures loaded { is_some step.entry.refusals ≡ true }
 {
     let Step { exchange, refusals } = step;
     let backend = &mut handler.backend;
@@ -129,7 +136,10 @@ fn answer_step(
 
 /// Answers requests, one after another, on a store in memory that refuses the calls which each step names: the replies, the
 /// store and the locks are those of a run of the machine, and where the store's `was_short` is false, no other run leaves
-/// it so. From a world, equal entity tags show equal bytes, whatever is refused.
+/// it so. From a world, equal entity tags show equal bytes, whatever is refused, and no request changes what an exclusive
+/// lock covers unless it names the lock's token as the lock's principal. While an exclusive lock of infinite depth stands on
+/// a folder, and only its holder names it, the folder and the answers to the holder are as if the holder's requests were
+/// alone.
 ///
 /// `RunFault` where memory ran out outside the store, with the replies that were given before; they are those of a run of
 /// the machine, and of the next request at most the first calls of the store were made, each of them whole.
@@ -143,6 +153,10 @@ pub fn run_refused(
         AnswersAll handler.old.server steps.entry.items replies.items handler.new.server) }
     ensures tags { IfOk result (λ replies.
         TagsTell handler.old.server steps.entry.items replies.items) }
+    ensures passed { IfOk result (λ replies.
+        PassesNoLock handler.old.server steps.entry.items replies.items) }
+    ensures isolated { IfOk result (λ replies.
+        IsIsolated handler.old.server steps.entry.items replies.items) }
     ensures fault { IfErr result (λ fault.
         AnswersSome handler.old.server steps.entry.items fault.replies.items handler.new.server) }
 {

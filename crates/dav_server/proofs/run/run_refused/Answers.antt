@@ -1,11 +1,13 @@
 use Rattle.std.proofs.Common.{◌∙◌, [], refl, sym}
 use Rattle.dav_server.specs.Run.{no_more}
 use Rattle.dav_server.proofs.RunLemmas.{run_added, steps_at, cut_at, ran_to, ran_for, rest_after_one, turns_of}
+use Rattle.dav_server.proofs.IsolationLemmas.{is_isolated, none_loaded, loaded_more, loaded_for}
+use Rattle.dav_server.proofs.StrangerLemmas.{passes_no_lock}
 use Rattle.dav_server.proofs.TurnLemmas.{all_yielded, run_tells, none_showable, showable_more, showable_for}
 use Rattle.dav_server.proofs.run.run_refused.Goals as goal
 
 pub loop-step-init : goal.loop-step-init
-loop-step-init c = (refl, ran_to [] _ c.new-replies.ensures.items no_more, none_showable, sym c.into_iter-step-iterator.ensures.into_iter_gives.0)
+loop-step-init c = (refl, ran_to [] _ c.new-replies.ensures.items no_more, none_showable, sym c.into_iter-step-iterator.ensures.into_iter_gives.0, none_loaded)
 
 pub loop-step-preserved : goal.loop-step-preserved
 loop-step-preserved c =
@@ -14,6 +16,7 @@ loop-step-preserved c =
       run_added c.loop-step.replies.items c.answer_step.new.replies.items c.in-Some.step added.0 c.loop-step.invariant.1 added.1 (steps_at c.loop-step.invariant.0 added.2),
       showable_more c.loop-step.yielded c.in-Some.step c.loop-step.invariant.2 c.in-Ok.ensures.moment,
       rest_after_one _ _ _ _ _ c.loop-step.invariant.3 c.in-Some.ensures.steps.0,
+      loaded_more c.loop-step.yielded c.in-Some.step c.loop-step.invariant.4 c.in-Ok.ensures.loaded,
     )
 
 pub returns-in-Err-clause-fault : goal.returns-in-Err-clause-fault
@@ -33,3 +36,15 @@ returns-clause-tags c =
     let rest = c.loop-step.step-iterator.rest in
     let whole = all_yielded c.args.steps.items c.loop-step.yielded rest.items rest.len c.loop-step.invariant.3 rest.ok.0 c.in-None.ensures.steps.0 in
     run_tells c.args.steps.items (showable_for whole c.loop-step.invariant.2) (ran_for whole c.loop-step.invariant.1)
+
+pub returns-clause-passed : goal.returns-clause-passed
+returns-clause-passed c =
+    let rest = c.loop-step.step-iterator.rest in
+    let whole = all_yielded c.args.steps.items c.loop-step.yielded rest.items rest.len c.loop-step.invariant.3 rest.ok.0 c.in-None.ensures.steps.0 in
+    passes_no_lock _ c.args.steps.items _ (showable_for whole c.loop-step.invariant.2)
+
+pub returns-clause-isolated : goal.returns-clause-isolated
+returns-clause-isolated c =
+    let rest = c.loop-step.step-iterator.rest in
+    let whole = all_yielded c.args.steps.items c.loop-step.yielded rest.items rest.len c.loop-step.invariant.3 rest.ok.0 c.in-None.ensures.steps.0 in
+    is_isolated _ c.args.steps.items _ (showable_for whole c.loop-step.invariant.2) (loaded_for whole c.loop-step.invariant.4)

@@ -1,4 +1,5 @@
 use Rattle.std.proofs.Common.{◌≡◌, ◌++◌}
+use Rattle.dav_server.specs.Isolation.{AreLoaded}
 use Rattle.dav_server.specs.Server.{AnswersAll}
 use Rattle.dav_server.specs.TagLaws.{AreShowable}
 use Rattle.dav_server.proofs.run.run_refused.Given as goal
@@ -10,3 +11,4 @@ invariant-loop-step l =
     × AnswersAll l.fn.handler.server l.yielded l.replies.items l.handler.server
     × AreShowable l.yielded
     × (l.fn.steps.items ≡ l.yielded ++ l.step-iterator.rest.items)
+    × AreLoaded l.yielded
