@@ -28,11 +28,11 @@ pieces_decide front (p ∷ rest) ns leaves lacks =
     let on : (ms : Path) → ¬ Leaves (front ++ p ∷ []) ms = λ ms more. pieces_decide (front ++ p ∷ []) rest ms more (subst LacksOutcome (sym (append_assoc front (p ∷ []) rest)) lacks) in
     let filled : ¬ IsBlank p = λ is. on ns (Leaves-blank front ns p leaves is) in
     let apart : p ≢ parent_piece = λ is.
-        elim (snoc_cases ns) [
-          | inl none ↦ lacks.2 (front, rest, subst (Leaves front) none leaves, ap (λ (q : List ℕ). front ++ q ∷ rest) is)
-          | inr (init, last, same) ↦
-              on init (subst (λ (q : List ℕ). Leaves (front ++ q ∷ []) init) (sym is) (Leaves-parent front init last (subst (Leaves front) same leaves)))
-        ] in
+    elim (snoc_cases ns) [
+      | inl none ↦ lacks.2 (front, rest, subst (Leaves front) none leaves, ap (λ (q : List ℕ). front ++ q ∷ rest) is)
+      | inr (init, last, same) ↦
+          on init (subst (λ (q : List ℕ). Leaves (front ++ q ∷ []) init) (sym is) (Leaves-parent front init last (subst (Leaves front) same leaves)))
+    ] in
     let good : ¬ IsBad p = λ bad. lacks.1 (front, ns, p, rest, leaves, bad, refl) in
     on (ns ++ p ∷ []) (Leaves-name front ns p leaves (other_name p filled apart good))
 
@@ -40,8 +40,8 @@ pub read_or_refused : ReadOrRefused
 read_or_refused src unread valid allowed =
     let apart : src ≢ star = λ is. unread star (inl (is, refl)) in
     let unrooted : ¬ IsRooted src = λ rooted.
-        let unleft : (ns : Path) → ¬ Leaves (pieces_of src) ns = λ ns leaves.
-            let open_end : ¬ EndsInSlash (before_query src) = λ slash. unread (path_bytes ns true) (inr (ns, true, record { rooted = rooted; leaves = leaves; closed_if = slash }, refl)) in
-            unread (path_bytes ns false) (inr (ns, false, record { rooted = rooted; leaves = leaves; closed_if = open_end }, refl)) in
-        pieces_decide [] (pieces_of src) [] nothing (unleft, λ bad. valid (apart, inr bad), λ climbs. allowed (rooted, climbs)) in
+    let unleft : (ns : Path) → ¬ Leaves (pieces_of src) ns = λ ns leaves.
+    let open_end : ¬ EndsInSlash (before_query src) = λ slash. unread (path_bytes ns true) (inr (ns, true, record { rooted = rooted; leaves = leaves; closed_if = slash }, refl)) in
+    unread (path_bytes ns false) (inr (ns, false, record { rooted = rooted; leaves = leaves; closed_if = open_end }, refl)) in
+    pieces_decide [] (pieces_of src) [] nothing (unleft, λ bad. valid (apart, inr bad), λ climbs. allowed (rooted, climbs)) in
     valid (apart, inl unrooted)
