@@ -6,7 +6,7 @@ use Rattle.dav_core.specs.Path.{Path, names, fronts, is_same_path}
 use Rattle.dav_core.specs.Locks.{Lock, covers}
 use Rattle.dav_core.specs.LockLaws.{DiscoveredAreCovering}
 use Rattle.dav_core.proofs.NodesLemmas.{path-itself}
-use Rattle.dav_core.proofs.Tests.{both}
+use Rattle.std.proofs.lemmas.Bool.{and_parts}
 use Rattle.dav_core.proofs.SharedLemmas.{covering_way, front_of}
 
 first_is_contained : {X : Type 0} (x : X) (xs : List X) → Contains (x ∷ xs) x
@@ -88,7 +88,7 @@ discovered_are_covering p ls l = (
   λ h.
       let (q, found) = in_one (λ q. filter (at_front p q) ls) (fronts p) l h in (
         All-contains (Contains ls) (filter (at_front p q) ls) l (All-filter (at_front p q) (Contains ls) ls (All-contains_itself ls)) found,
-        (both (is_same_path (names l.path) q) (covers l p) (All-contains (λ m. at_front p q m ≡ true) (filter (at_front p q) ls) l (filter_passes (at_front p q) ls) found)).1,
+        (and_parts (is_same_path (names l.path) q) (covers l p) (All-contains (λ m. at_front p q m ≡ true) (filter (at_front p q) ls) l (filter_passes (at_front p q) ls) found)).1,
       ),
   λ h.
       let (r, is) = front_of l p (covering_way l p h.1) in

@@ -1,5 +1,5 @@
 -- Element trees: children as lists, and what is found among them.
-use Rattle.std.proofs.Common.{◌≡◌, ◌≢◌, ◌&&◌, ℕ, max, suc, zero, ◌+◌, ◌<◌, ◌||◌, not, cond, Bool, true, false, List, [], ◌∷◌, ◌++◌, length, map, take, drop, Some, None, refl, ap, ◌∙◌, sym, append_assoc, arith, slice_index_or}
+use Rattle.std.proofs.Common.{◌≡◌, ◌≢◌, ℕ, max, suc, zero, ◌+◌, ◌<◌, ◌||◌, not, cond, Bool, true, false, List, [], ◌∷◌, ◌++◌, length, map, take, drop, Some, None, refl, ap, ◌∙◌, sym, append_assoc, arith, slice_index_or}
 use Rattle.std.proofs.lemmas.List.{append-nil}
 use Rattle.std.proofs.lemmas.List.Folds.{list_any_more}
 use Rattle.std.specs.List.{find, concat, list_any, position_or_len}
@@ -7,7 +7,7 @@ use Rattle.std.specs.Option.{unwrap_or}
 use Rattle.dav_core.specs.ElementEq.{tree_eq, trees_eq}
 use Rattle.dav_core.specs.Element.{ElementTree, ElementTrees, no_trees, tree_then, tree_list, trees, joined_texts, depth_of, depth_among}
 use Rattle.dav_core.specs.Lists.{without_first}
-use Rattle.dav_core.proofs.Tests.{neither}
+use Rattle.std.proofs.lemmas.Bool.{or_parts, and_right}
 
 pub tree_list_trees : (ts : List ElementTree) → tree_list (trees ts) ≡ ts
 tree_list_trees [] = refl
@@ -37,14 +37,14 @@ pub find_at : {X Y : Type 0} (f : X → Y) (p : Y → Bool) (xs : List X) (i : �
 find_at f p [] i d lt none hit = absurd (omega arith)
 find_at f p (x ∷ xs) zero d lt none hit = (rw hit refl, rw hit refl)
 find_at f p (x ∷ xs) (suc i) d lt none hit =
-    let here = neither (p (f x)) (list_any (λ y. p (f y)) (take i xs)) none in
+    let here = or_parts (p (f x)) (list_any (λ y. p (f y)) (take i xs)) none in
     let rest = find_at f p xs i d (omega (arith, lt)) here.1 hit in
     (rw here.0 rest.0, rw here.0 (ap (λ ys. f x ∷ ys) rest.1))
 
 pub find_none : {X Y : Type 0} (f : X → Y) (p : Y → Bool) (xs : List X) → list_any (λ x. p (f x)) xs ≡ false → (find p (map f xs) ≡ None) × (without_first p (map f xs) ≡ map f xs)
 find_none f p [] none = (refl, refl)
 find_none f p (x ∷ xs) none =
-    let here = neither (p (f x)) (list_any (λ y. p (f y)) xs) none in
+    let here = or_parts (p (f x)) (list_any (λ y. p (f y)) xs) none in
     let rest = find_none f p xs here.1 in
     (rw here.0 rest.0, rw here.0 (ap (λ ys. f x ∷ ys) rest.1))
 
@@ -62,13 +62,9 @@ pub joined_texts_more : (xs : List (List ℕ)) (x : List ℕ) → joined_texts (
 joined_texts_more [] x = search (append-nil)
 joined_texts_more (y ∷ ys) x = ap Some (concat_more (y ∷ ys) x)
 
-and_false : (a b : Bool) → b ≡ false → (a && b) ≡ false
-and_false true b e = e
-and_false false b e = refl
-
 -- lists of trees of different lengths are not equal
 pub trees_eq_length : {X : Type 0} (f : X → ElementTree) (xs ys : List X) → length xs ≢ length ys → trees_eq (trees (map f xs)) (trees (map f ys)) ≡ false
 trees_eq_length f [] [] ne = absurd (ne refl)
 trees_eq_length f [] (y ∷ ys) ne = refl
 trees_eq_length f (x ∷ xs) [] ne = refl
-trees_eq_length f (x ∷ xs) (y ∷ ys) ne = and_false (tree_eq (f x) (f y)) _ (trees_eq_length f xs ys (λ e. ne (ap suc e)))
+trees_eq_length f (x ∷ xs) (y ∷ ys) ne = and_right (tree_eq (f x) (f y)) _ (trees_eq_length f xs ys (λ e. ne (ap suc e)))

@@ -9,7 +9,7 @@ use Rattle.dav_core.specs.Locks.{Lock, has_token_at, lock_front, refreshed_lock}
 use Rattle.dav_core.specs.LockLaws.{IsMeant, UnlockTakesOne, RefreshChangesOne}
 use Rattle.dav_core.proofs.NodesLemmas.{same_path}
 use Rattle.dav_core.proofs.FrontLemmas.{rest_after-append}
-use Rattle.dav_core.proofs.Tests.{both}
+use Rattle.std.proofs.lemmas.Bool.{and_parts}
 
 -- the items before the first one that passes, that one, and the others
 pub record Parted {X : Type 0} (test : X → Bool) (xs : List X) : Type 0 where
@@ -87,7 +87,7 @@ first_front (x ∷ p) test q h = front_step test x p q (test []) refl (first_fro
 -- a lock with this token on a front of the path is one that they can mean
 is_meant : (token : List ℕ) (p q rest : Path) (l : Lock) → p ≡ q ++ rest → has_token_at token q l ≡ true → IsMeant token p l
 is_meant token p q rest l e h =
-    let (same, at) = both (bytes_eq l.token token) (is_same_path (names l.path) q) h in
+    let (same, at) = and_parts (bytes_eq l.token token) (is_same_path (names l.path) q) h in
     record {
       token_is = (bytes_eq-Decides l.token token).0 same;
       above = ap (λ y. is_at_or_under p y) (same_path (names l.path) q at) ∙ ap (λ y. is_at_or_under y q) e ∙ ap is_some (rest_after-append q rest);

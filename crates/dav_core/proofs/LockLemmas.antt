@@ -17,7 +17,8 @@ use Rattle.std.proofs.lemmas.Slice.Eq.{bytes_eq-Decides}
 use Rattle.dav_core.proofs.CoverLemmas.{some_held, free_by_tests}
 use Rattle.std.proofs.lemmas.List.Folds.{list_any_none}
 use Rattle.dav_core.proofs.NodesLemmas.{apart, path-itself}
-use Rattle.dav_core.proofs.Tests.{both, neither}
+use Rattle.std.proofs.lemmas.Bool.{and_parts, or_parts}
+use Rattle.std.proofs.Math.Bool.{or-false}
 
 -- what passes for all of a list passes for one of it
 passes : {X : Type 0} (test : X → Bool) (xs : List X) (x : X) → list_all test xs ≡ true → Contains xs x → test x ≡ true
@@ -29,7 +30,7 @@ is_exclusive_held false s c passed covering exclusive = grind arith
 
 pub free_holds_exclusive : FreeHoldsExclusive
 free_holds_exclusive who p ls l free here covering exclusive =
-    is_exclusive_held (is_held who l) l.shared (covers l p) (passes (λ m. is_held who m || m.shared || not (covers m p)) ls l (both _ _ (sym (free_by_tests who p ls) ∙ free)).0 here) covering exclusive
+    is_exclusive_held (is_held who l) l.shared (covers l p) (passes (λ m. is_held who m || m.shared || not (covers m p)) ls l (and_parts _ _ (sym (free_by_tests who p ls) ∙ free)).0 here) covering exclusive
 
 is_below_held : (h a : Bool) → (h || not a) ≡ true → a ≡ true → h ≡ true
 is_below_held true a passed below = refl
@@ -37,7 +38,7 @@ is_below_held false a passed below = grind arith
 
 pub free_deep_holds_below : FreeDeepHoldsBelow
 free_deep_holds_below who p ls l free here below =
-    is_below_held (is_held who l) (is_at_or_under (names l.path) p) (passes (λ m. is_held who m || not (is_at_or_under (names m.path) p)) ls l (both _ _ free).1 here) below
+    is_below_held (is_held who l) (is_at_or_under (names l.path) p) (passes (λ m. is_held who m || not (is_at_or_under (names m.path) p)) ls l (and_parts _ _ free).1 here) below
 
 -- one lock of the list: it conflicts neither by covering the path nor by being at it or below it
 parted_step : (h s c a b deep all covered below : Bool)
@@ -130,10 +131,6 @@ first_mapped_step : (f : Path → Path) (test : Path → Bool) (q : Path) (ps : 
 first_mapped_step f test q ps p true ih h = let same : q ≡ p = cc in ap (λ x. Some (f x)) same
 first_mapped_step f test q ps p false ih h = ih h
 
-or_false : (b : Bool) → (b || false) ≡ b
-or_false true = refl
-or_false false = refl
-
 unnamed_by : (t u : List ℕ) (same b : Bool) → bytes_eq t u ≡ b → t ≢ u → (b && same) ≡ false
 unnamed_by t u same true is differ = absurd (differ ((bytes_eq-Decides t u).0 is))
 unnamed_by t u same false is differ = refl
@@ -156,7 +153,7 @@ only_front (x ∷ p) test here others =
 last_left_out : {X : Type 0} (test : X → Bool) (x : X) (xs : List X) → test x ≡ true → list_any test xs ≡ false → without_first test (xs ++ x ∷ []) ≡ xs
 last_left_out test x [] here none = ap (λ b. cond b [] (x ∷ [])) here
 last_left_out test x (y ∷ xs) here none =
-    let (fails, rest) = neither (test y) (list_any test xs) none in
+    let (fails, rest) = or_parts (test y) (list_any test xs) none in
     ap (λ b. cond b (xs ++ x ∷ []) (y ∷ without_first test (xs ++ x ∷ []))) fails ∙ ap (λ zs. y ∷ zs) (last_left_out test x xs here rest)
 
 token_itself : (l : Lock) → bytes_eq l.token l.token ≡ true
@@ -171,7 +168,7 @@ taken_back l ls others =
     let test = λ (q : Path). list_any (has_token_at l.token q) (ls ++ l ∷ []) in
     let only : (q : Path) → test q ≡ is_same_path (names l.path) q = λ q.
     list_any-append (has_token_at l.token q) ls (l ∷ []) ∙ ap (λ b. b || ((bytes_eq l.token l.token && is_same_path (names l.path) q) || false)) (none_named l q ls others)
-    ∙ ap (λ b. (b && is_same_path (names l.path) q) || false) (token_itself l) ∙ or_false (is_same_path (names l.path) q) in
+    ∙ ap (λ b. (b && is_same_path (names l.path) q) || false) (token_itself l) ∙ or-false (is_same_path (names l.path) q) in
     let front : lock_front l.token (names l.path) (ls ++ l ∷ []) ≡ Some (names l.path) =
     only_front (names l.path) test (only (names l.path) ∙ path-itself (names l.path)) (λ q differ. only q ∙ apart (names l.path) q (λ e. differ (sym e))) in
     ap (option_map (λ q. without_first (has_token_at l.token q) (ls ++ l ∷ []))) front

@@ -14,7 +14,7 @@ use Rattle.dav_core.specs.Element.{ElementTree, element, text, trees, children_o
 use Rattle.dav_core.specs.ElementEq.{attribute_eq}
 use Rattle.dav_core.specs.Lists.{without_first}
 use Rattle.dav_core.specs.ElementView.{tree_of, node_tree, is_node_named, attribute_bytes, has_name}
-use Rattle.dav_core.proofs.Tests.{neither}
+use Rattle.std.proofs.lemmas.Bool.{or_parts}
 use Rattle.dav_core.proofs.ElementLemmas.{tree_list_trees, trees_tree_list, find_at, find_none, joined_texts_more, depth_among_more}
 
 -- a list with one more item, under a map
@@ -53,14 +53,14 @@ attribute_set name [] i a v lt none is hit = absurd (omega arith)
 attribute_set name (x ∷ xs) zero a v lt none is hit =
     rw (subst (λ b. has_name name b ≡ true) is hit) (ap (λ n. (n, string_bytes v) ∷ map attribute_bytes xs) (same_text _ _ (sym hit)))
 attribute_set name (x ∷ xs) (suc i) a v lt none is hit =
-    let here = neither (has_name name x) (list_any (has_name name) (take i xs)) none in
+    let here = or_parts (has_name name x) (list_any (has_name name) (take i xs)) none in
     rw here.0 (ap (λ ys. attribute_bytes x ∷ ys) (attribute_set name xs i a v (omega (arith, lt)) here.1 is hit))
 
 pub attribute_added : (name : List ℕ) (items : List (String Global × String Global)) (v : List ℕ) → list_any (has_name name) items ≡ false
     → map attribute_bytes items ++ (name, v) ∷ [] ≡ set_attribute name v (map attribute_bytes items)
 attribute_added name [] v none = refl
 attribute_added name (x ∷ xs) v none =
-    let here = neither (has_name name x) (list_any (has_name name) xs) none in
+    let here = or_parts (has_name name x) (list_any (has_name name) xs) none in
     rw here.0 (ap (λ ys. attribute_bytes x ∷ ys) (attribute_added name xs v here.1))
 
 children_kept : (t : ElementTree) → with_children t (children_of t) ≡ t

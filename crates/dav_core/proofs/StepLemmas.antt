@@ -17,7 +17,7 @@ use Rattle.dav_core.specs.Meaning.{Meaning, refuse_if, at_node}
 use Rattle.dav_core.specs.Calls.{metadata_of, read_dir, create_dir, without, remove_dir, remove_file, rename, copy, copied_over, with_copy, emptied, open_at, open_file, read_bytes, written, write_bytes, sought, repatched, stored_tree}
 use Rattle.dav_core.specs.Asking.{Call, Metadata, ReadDir, EntryMetadata, CreateDir, RemoveDir, RemoveFile, Rename, Copy, HaveProps, PatchProps, GetProps, GetProp, GetQuota, SetAccessed, SetModified, Open, Read, Write, Seek, Flush, FileMetadata, Answer, meaning}
 use Rattle.dav_core.specs.CallLaws.{IsStorable, IsProper, TakesAway, MayChange, path_after, brought}
-use Rattle.dav_core.proofs.Tests.{neither}
+use Rattle.std.proofs.lemmas.Bool.{or_parts, and_right}
 use Rattle.dav_core.proofs.FrontLemmas.{outside, from_rest}
 use Rattle.dav_core.proofs.MadeLemmas.{made_stands}
 use Rattle.dav_core.proofs.NodesLemmas.{differ_from, same_path}
@@ -117,10 +117,6 @@ makes_dir w p now r h =
     makes p Folder [] now (nothing_there (node_at w p) none) (not-false (is_folder w (parent_of p)) folder) room
     (λ proper world. (proper.0, tt, proper.1)) (λ x. refl) (left tt (with_new w p Folder [] now) r h3)
 
-none_too : (a b : Bool) → b ≡ false → (a && b) ≡ false
-none_too true b h = h
-none_too false b h = refl
-
 unroot : (w : World) (p : Path) → is_folder w p ≡ false → IsWorld w → is_root p ≡ false
 unroot w [] file world = let folder : is_folder w [] ≡ true = world.tree.root in cc
 unroot w (x ∷ p) file world = refl
@@ -137,7 +133,7 @@ removes_dir w p now r h =
     let (there, h2) = went_on (is_missing w p) NotFound _ r h1 in
     let (folder, h3) = went_on (is_file w p) Forbidden _ r h2 in
     let (empty, h4) = went_on (has_members w p) Exists _ r h3 in
-    removes p now (λ _. some) (λ small. small) (λ world x n stood at. nothing_below w world p x n (none_too (is_folder w p) (has_members w p) empty) stood at) (λ x. refl) (left tt (without w p now) r h4)
+    removes p now (λ _. some) (λ small. small) (λ world x n stood at. nothing_below w world p x n (and_right (is_folder w p) (has_members w p) empty) stood at) (λ x. refl) (left tt (without w p now) r h4)
 
 module _ (w : World) (from to : Path) (now : ℕ) (r : Unit {0} × World) where
   renames_to : rename w from to now ≡ Ok r → Step (Rename from to now) w r.1
@@ -150,7 +146,7 @@ module _ (w : World) (from to : Path) (now : ℕ) (r : Unit {0} × World) where
             let (below, h3) = went_on (is_under to from) Forbidden _ r other.1 in
             let (folder, h4) = went_on (not (is_folder w (parent_of to))) NotFound _ r h3 in
             let (empty, h5) = went_on (is_folder w to && has_members w to) Exists _ r h4 in
-            let (a, b) = neither (is_root from) (is_root to) roots in
+            let (a, b) = or_parts (is_root from) (is_root to) roots in
             renames from to now a b (outside from to other.0 below) (not-false (is_folder w (parent_of to)) folder) (λ proper. proper)
             (λ world x n stood at. (differ_from from to other.0, nothing_below w world to x n empty stood at)) (λ x. refl) (left tt (renamed_world w from to now) r h5)
       ]

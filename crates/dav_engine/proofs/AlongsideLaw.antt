@@ -12,9 +12,7 @@ use Rattle.dav_core.specs.Locks.{Lock}
 use Rattle.dav_core.specs.Meaning.{Meaning}
 use Rattle.dav_core.specs.Path.{Path}
 use Rattle.dav_core.specs.World.{World, node_at, IsWorld}
-use Rattle.dav_core.proofs.FollowLemmas.{nodes_stay, opened_stands}
-use Rattle.dav_core.proofs.KeptLemmas.{calls_keep_worlds}
-use Rattle.dav_core.proofs.MadeLemmas.{made_stands}
+use Rattle.dav_core.proofs.Theorems.{nodes_stay, opened_stands, calls_keep_worlds, made_stands}
 use Rattle.dav_engine.specs.Method.{MethodPlan}
 use Rattle.dav_engine.specs.Plan.{Plan, Locks, Ran, ran_done, ran_ask, ran_look, ran_keep}
 use Rattle.dav_engine.specs.WorldLaws.{IsProperPlan, proper_done, proper_ask, proper_look, proper_keep}

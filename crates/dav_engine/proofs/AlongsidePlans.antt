@@ -13,7 +13,7 @@ use Rattle.dav_core.specs.Asking.{Metadata, CreateDir, Write, Flush}
 use Rattle.dav_core.specs.Handle.{Handle, Opening}
 use Rattle.dav_core.specs.Locks.{Lock, requester_of, is_held}
 use Rattle.dav_core.specs.Path.{Path, PathText, names, rest_after, is_at_or_under}
-use Rattle.dav_core.proofs.FrontLemmas.{from_rest}
+use Rattle.dav_core.proofs.Theorems.{from_rest}
 use Rattle.http_header.specs.FieldValue.{FieldValue}
 use Rattle.http_header.specs.HeaderMap.{get_all}
 use Rattle.std.specs.Option.{is_some}

@@ -12,8 +12,7 @@ use Rattle.dav_core.specs.Meaning.{Meaning, refuse_if, at_node}
 use Rattle.dav_core.specs.Path.{Path, is_same_path, is_under, has_names, is_nonempty, rest_after, parent_of}
 use Rattle.dav_core.specs.Property.{Properties}
 use Rattle.dav_core.specs.World.{World, Node, Nodes, Kind, Folder, File, node_at, is_folder, is_folder_kind, is_folder_node, with_new, adjust, change_node, is_file_made_with, file_made_with, last_number, bytes_of, max_file_len, splice, IsWorld}
-use Rattle.dav_core.proofs.FrontLemmas.{parent-append, shape, rest_after-append}
-use Rattle.dav_core.proofs.MadeLemmas.{stands_made, change_made}
+use Rattle.dav_core.proofs.Theorems.{parent-append, shape, rest_after-append, stands_made, change_made}
 use Rattle.dav_engine.specs.Inside.{Content, content_of, SameInside, HasFoldersAbove}
 use Rattle.dav_engine.specs.Alongside.{SameMetadata, BothOpen, SameHandle, AreOpen, IsFileAt}
 use Rattle.dav_engine.proofs.InsideLemmas.{content-new, content-adjust}

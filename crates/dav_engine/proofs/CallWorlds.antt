@@ -179,7 +179,7 @@ listed_name p w world (name, dir) there =
     let sound = world.sound (p ++ name ∷ []) n stands in
     stored_name p name (sound.names, sound.bytes)
 
-all_listed : (p : Path) (w : World) → IsWorld w → All (λ e. IsStorable (e.0 ∷ [])) (members p w.nodes)
+pub all_listed : (p : Path) (w : World) → IsWorld w → All (λ e. IsStorable (e.0 ∷ [])) (members p w.nodes)
 all_listed p w world = All-weaker (Contains (members p w.nodes)) (λ e. IsStorable (e.0 ∷ [])) (listed_name p w world) (members p w.nodes) (All-contains_itself (members p w.nodes))
 
 answer_is : {A : Type 0} (a : A) (w : World) (r : A × World) → ◌≡◌ {A = Meaning A} (Ok (a, w)) (Ok r) → r.0 ≡ a

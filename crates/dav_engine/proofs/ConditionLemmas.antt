@@ -1,5 +1,6 @@
 -- How code follows the plans that evaluate conditions.
-use Rattle.std.proofs.Common.{◌≡◌, ◌==◌, ◌++◌, ◌&&◌, ◌||◌, not, ℕ, ◌+◌, ◌<◌, Bool, true, false, true≢false, List, [], ◌∷◌, map, drop, length, get_or, codes, string_bytes, Option, Some, None, Result, Ok, Err, refl, sym, subst, ap, ◌∙◌, String, ◌≤◌, append-nil, append_assoc}
+use Rattle.std.proofs.Common.{◌≡◌, ◌==◌, ◌++◌, ◌&&◌, not, ℕ, ◌+◌, ◌<◌, Bool, true, false, true≢false, List, [], ◌∷◌, map, drop, length, get_or, codes, string_bytes, Option, Some, None, Result, Ok, Err, refl, sym, subst, ap, ◌∙◌, String, ◌≤◌, append-nil, append_assoc}
+use Rattle.std.proofs.Math.Bool.{or-false}
 use Rattle.std.specs.List.{starts_with}
 use Rattle.std.specs.Option.{option_map}
 use Rattle.std.specs.Global.{Global}
@@ -38,13 +39,9 @@ pub token_free : {L : Type 0} (locks : L → List Lock) (ls : Option (Bor L)) (l
 token_free locks ls l token p b is other same =
     same ∙ ap (λ d. not d && is_free (requester_of (token ∷ []) true None) p (locks l.now)) (sym other) ∙ ap (λ x. spec.token_holds token p (locks_in locks x)) (sym is)
 
-or_false : (b : Bool) → (b || false) ≡ b
-or_false false = refl
-or_false true = refl
-
 -- one tag equals another exactly where it is the only tag of a list that matches it
 pub one_tag : (b : Bool) (e f : EntityTag) → b ≡ is_strong_match e f → b ≡ spec.matches (tags (e ∷ [])) true (Some f)
-one_tag b e f is = is ∙ sym (or_false (is_strong_match e f))
+one_tag b e f is = is ∙ sym (or-false (is_strong_match e f))
 
 -- where there is no path, no item is true
 pub item_of_none : (path : Option PathText) (i : Item) {s : StoreState} {ls : Locks} → path ≡ None → Follows (λ (b : Bool). b) (item_holds (option_map names path) i) s ls (Ok false) s ls

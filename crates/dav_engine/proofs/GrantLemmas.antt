@@ -1,21 +1,19 @@
 -- What a grant leaves: a list that its lock guards, and folders above it.
 use Rattle.std.proofs.Common.{◌≡◌, ◌≢◌, ◌++◌, ◌&&◌, ◌||◌, Bool, true, false, not, true≢false, List, [], ◌∷◌, All, cond, ℕ, Option, Some, None, ◌⊎◌, inl, inr, refl, sym, ap, ◌∙◌, append_assoc, append-nil}
+use Rattle.std.proofs.lemmas.Bool.{or_parts}
 use Rattle.std.specs.List.{list_any}
 use Rattle.std.specs.Option.{is_some}
 use Rattle.std.specs.FinMap.{find}
 use Rattle.dav_core.specs.Locks.{Lock, covers, is_grantable}
 use Rattle.dav_core.specs.Path.{Path, path_cmp, names, rest_after, is_same_path, is_under, is_at_or_under, has_names}
 use Rattle.dav_core.specs.World.{World, Node, node_at, is_folder, IsWorld}
-use Rattle.dav_core.proofs.FrontLemmas.{rest_after-append, from_rest, parent-append, outside}
-use Rattle.dav_core.proofs.MemberLemmas.{above}
-use Rattle.dav_core.proofs.NodesLemmas.{same_path, path-itself}
+use Rattle.dav_core.proofs.Theorems.{rest_after-append, from_rest, parent-append, outside, above, same_path, path-itself, grantable_by_tests, same_name, name-itself}
 use Rattle.std.proofs.lemmas.List.Elements.{All-head, All-tail}
 use Rattle.dav_core.specs.Path.{name_cmp}
 use Rattle.std.specs.Ordering.{is_eq}
-use Rattle.dav_core.proofs.CoverLemmas.{grantable_by_tests}
-use Rattle.dav_core.proofs.FrontLemmas.{same_name, name-itself}
 use Rattle.dav_engine.specs.Guard.{folder_of, IsGuard, no_others, Guards, guards_here, guards_later, GrantedGuards}
 use Rattle.dav_engine.specs.Inside.{FoldersAreAbove}
+use Rattle.dav_engine.proofs.SparingCalls.{within_too}
 
 -- ---- fronts of one path
 
@@ -51,29 +49,21 @@ below_at p q h false false same below = sym (sym h ∙ outside p q same below)
 same_below : (p q : Path) → is_same_path p q ≡ true → is_at_or_under q p ≡ true
 same_below p q h = ap (λ (under : Path). is_at_or_under under p) (sym (same_path p q h)) ∙ ap (λ (under : Path). is_at_or_under under p) (sym (append-nil p)) ∙ ap is_some (rest_after-append p [])
 
-below_within : (p q : Path) (o : Option Path) → rest_after p q ≡ o → has_names o ≡ true → is_some o ≡ true
-below_within p q None is h = cc
-below_within p q (Some r) is h = refl
-
 either_within : (p q : Path) (deep a : Bool) → is_same_path p q ≡ a → (a || (deep && is_under q p)) ≡ true → is_at_or_under q p ≡ true
 either_within p q deep true same h = same_below p q same
-either_within p q true false same h = below_within p q (rest_after p q) refl h
+either_within p q true false same h = within_too p q h
 either_within p q false false same h = cc
 
 or_false : (a b : Bool) → (a || b) ≡ true → b ≡ false → a ≡ true
 or_false true b h no_b = refl
 or_false false b h no_b = sym no_b ∙ h
 
-neither : (a b : Bool) → (a || b) ≡ false → (a ≡ false) × (b ≡ false)
-neither true b h = cc
-neither false b h = (refl, h)
-
 module _ (folder : Path) (l : Lock) (uncovered : covers l folder ≡ false) (unbelow : is_under (names l.path) folder ≡ false) where
   abbrev q : Path
   q = names l.path
 
   not_same : is_same_path q folder ≡ false
-  not_same = (neither (is_same_path q folder) (l.deep && is_under folder q) uncovered).0
+  not_same = (or_parts (is_same_path q folder) (l.deep && is_under folder q) uncovered).0
 
   -- its path isn't at the folder or below it
   not_within : (b : Bool) → is_at_or_under q folder ≡ b → b ≡ false
@@ -115,8 +105,8 @@ module _ (h : Lock) (guard : IsGuard h) where
   guards_at_end : (ls : List Lock) → OtherTokens h ls → list_any in_way ls ≡ false → list_any (λ l. is_under (names l.path) (folder_of h)) ls ≡ false → Guards h (ls ++ h ∷ [])
   guards_at_end [] none_other free below = guards_here refl no_others
   guards_at_end (l ∷ ls) (one_other other more) free below =
-      let (out, rest) = neither (in_way l) (list_any in_way ls) free in
-      let (off, rest') = neither (is_under (names l.path) (folder_of h)) (list_any (λ m. is_under (names m.path) (folder_of h)) ls) below in
+      let (out, rest) = or_parts (in_way l) (list_any in_way ls) free in
+      let (off, rest') = or_parts (is_under (names l.path) (folder_of h)) (list_any (λ m. is_under (names m.path) (folder_of h)) ls) below in
       guards_later (record { token = other; apart = λ r. off_by (folder_of h) l (not_in_way l out) off r (covers l (folder_of h ++ r)) refl }) (guards_at_end ls more rest rest')
 
   grantable_parts : (a d b : Bool) → d ≡ true → (not a && not (d && b)) ≡ true → (a ≡ false) × (b ≡ false)

@@ -1,12 +1,12 @@
 -- What is free at a guarded folder, and of what an exclusive lock covers.
 use Rattle.std.proofs.Common.{◌≡◌, ℕ, bytes_eq, ◌++◌, ◌&&◌, ◌||◌, Bool, true, false, not, true≢false, List, [], ◌∷◌, append-nil, append_assoc, Option, Some, None, refl, sym, ap, subst, ◌∙◌}
+use Rattle.std.proofs.Math.Bool.{or-false}
+use Rattle.std.proofs.lemmas.Bool.{and_parts}
 use Rattle.std.specs.List.{list_all, list_any}
 use Rattle.std.specs.Option.{is_some}
 use Rattle.dav_core.specs.Locks.{Lock, Requester, Claimant, Anyone, By, covers, is_of, is_same_principal, is_held, is_free, is_free_deep, is_free_for}
 use Rattle.dav_core.specs.Path.{Path, names, rest_after, is_same_path, is_under, is_at_or_under, has_names}
-use Rattle.dav_core.proofs.CoverLemmas.{free_by_tests}
-use Rattle.dav_core.proofs.FrontLemmas.{rest_after-append, from_rest}
-use Rattle.dav_core.proofs.NodesLemmas.{path-itself}
+use Rattle.dav_core.proofs.Theorems.{free_by_tests, rest_after-append, from_rest, path-itself}
 use Rattle.dav_engine.specs.Guard.{folder_of, IsGuard, IsSameLock, IsElsewhere, AllElsewhere, no_others, another, Guards, guards_here, guards_later, IsListed, listed_here, listed_later, FreeIsHeld, FreeIsApart, FreeIsUncovered}
 
 pub stands_guarded : {h : Lock} {ls : List Lock} → Guards h ls → IsListed h ls
@@ -16,10 +16,6 @@ stands_guarded (guards_later off more) = listed_later (stands_guarded more)
 or_true : (a : Bool) → (a || true) ≡ true
 or_true true = refl
 or_true false = refl
-
-or_false : (a : Bool) → (a || false) ≡ a
-or_false true = refl
-or_false false = refl
 
 and_true : (a : Bool) → (a && true) ≡ a
 and_true true = refl
@@ -61,7 +57,7 @@ module _ (h : Lock) (is_guard : IsGuard h) (who : Requester) (r : Path) where
 
   guard_passes : (l : Lock) → IsSameLock h l → passes l ≡ is_held who h
   guard_passes l is =
-      ap (λ b. is_held who l || l.shared || not b) (covered l is) ∙ ap (λ b. is_held who l || b || false) (unshared l is) ∙ or_false (is_held who l || false) ∙ or_false (is_held who l) ∙ held_alike l is
+      ap (λ b. is_held who l || l.shared || not b) (covered l is) ∙ ap (λ b. is_held who l || b || false) (unshared l is) ∙ or-false (is_held who l || false) ∙ or-false (is_held who l) ∙ held_alike l is
 
   offs_pass : (ls : List Lock) → AllElsewhere h ls → list_all passes ls ≡ true
   offs_pass [] no_others = refl
@@ -80,7 +76,7 @@ module _ (h : Lock) (is_guard : IsGuard h) (who : Requester) (r : Path) where
   held_covers [] x = elim x [ ]
   held_covers (l ∷ ls) (guards_here is off) =
       ap (λ b. (b && is_held who l) || list_any (λ m. covers m place && is_held who m) ls) (covered l is)
-      ∙ ap (λ b. is_held who l || b) (offs_covered ls off) ∙ or_false (is_held who l) ∙ held_alike l is
+      ∙ ap (λ b. is_held who l || b) (offs_covered ls off) ∙ or-false (is_held who l) ∙ held_alike l is
   held_covers (l ∷ ls) (guards_later off more) = ap (λ b. (b && is_held who l) || list_any (λ m. covers m place && is_held who m) ls) (off.apart r) ∙ held_covers ls more
 
   some_covers : (ls : List Lock) → Guards h ls → list_any (λ l. covers l place) ls ≡ true
@@ -147,10 +143,6 @@ pub free_outside : (h : Lock) → IsGuard h → (who : Requester) (deep : Bool) 
     → is_at_or_under p (folder_of h) ≡ false
 free_outside h guard who deep p ls g unheld free = outside_by h guard who deep p ls g unheld free (rest_after (folder_of h) p) refl
 
-both : (a b : Bool) → (a && b) ≡ true → (a ≡ true) × (b ≡ true)
-both true b h = (refl, h)
-both false b h = cc
-
 not_below : (h l : Lock) (who : Requester) (p : Path) → IsSameLock h l → is_held who h ≡ false → (is_held who l || not (is_at_or_under (names l.path) p)) ≡ true → (b : Bool) → is_at_or_under (folder_of h) p ≡ b → b ≡ false
 not_below h l who p is unheld passed false there = refl
 not_below h l who p is unheld passed true there =
@@ -160,11 +152,11 @@ not_below h l who p is unheld passed true there =
 
 not_above : (h : Lock) (who : Requester) (p : Path) {ls : List Lock} → Guards h ls → is_held who h ≡ false → list_all (λ l. is_held who l || not (is_at_or_under (names l.path) p)) ls ≡ true
     → is_at_or_under (folder_of h) p ≡ false
-not_above h who p (guards_here {l} is off) unheld all = not_below h l who p is unheld (both _ _ all).0 (is_at_or_under (folder_of h) p) refl
-not_above h who p (guards_later off more) unheld all = not_above h who p more unheld (both _ _ all).1
+not_above h who p (guards_here {l} is off) unheld all = not_below h l who p is unheld (and_parts _ _ all).0 (is_at_or_under (folder_of h) p) refl
+not_above h who p (guards_later off more) unheld all = not_above h who p more unheld (and_parts _ _ all).1
 
 pub free_is_apart : FreeIsApart
-free_is_apart h who p ls guard g unheld free = (free_outside h guard who true p ls g unheld free, not_above h who p g unheld (both _ _ free).1)
+free_is_apart h who p ls guard g unheld free = (free_outside h guard who true p ls g unheld free, not_above h who p g unheld (and_parts _ _ free).1)
 
 -- ---- what an exclusive lock covers
 
@@ -181,14 +173,14 @@ module _ (h : Lock) (exclusive : h.shared ≡ false) (who : Requester) (unheld :
       ap (λ (m : Lock). covers m p) (sym is) ∙ no
 
   all_uncovered : {ls : List Lock} → IsListed h ls → list_all (λ l. is_held who l || l.shared || not (covers l p)) ls ≡ true → covers h p ≡ false
-  all_uncovered (listed_here {l} is) passed = one_uncovered l is (both _ _ passed).0
-  all_uncovered (listed_later more) passed = all_uncovered more (both _ _ passed).1
+  all_uncovered (listed_here {l} is) passed = one_uncovered l is (and_parts _ _ passed).0
+  all_uncovered (listed_later more) passed = all_uncovered more (and_parts _ _ passed).1
 
   free_uncovered : (ls : List Lock) → IsListed h ls → is_free who p ls ≡ true → covers h p ≡ false
-  free_uncovered ls listed free = all_uncovered listed (both _ _ (sym (free_by_tests who p ls) ∙ free)).0
+  free_uncovered ls listed free = all_uncovered listed (and_parts _ _ (sym (free_by_tests who p ls) ∙ free)).0
 
   pub free_passes : (deep : Bool) (ls : List Lock) → IsListed h ls → is_free_for deep who p ls ≡ true → covers h p ≡ false
-  free_passes true ls listed free = free_uncovered ls listed (both _ _ free).0
+  free_passes true ls listed free = free_uncovered ls listed (and_parts _ _ free).0
   free_passes false ls listed free = free_uncovered ls listed free
 
 pub free_is_uncovered : FreeIsUncovered

@@ -5,8 +5,7 @@ use Rattle.std.specs.FinMap.{find, put}
 use Rattle.dav_core.specs.Path.{Path, path_cmp, is_same_path, is_at_or_under, parent_of}
 use Rattle.dav_core.specs.Property.{Properties}
 use Rattle.dav_core.specs.World.{Kind, Node, Nodes, World, fresh, adjust, touched, modified_at, with_new, prune}
-use Rattle.dav_core.proofs.NodesLemmas.{find-adjust, find-put_node}
-use Rattle.dav_core.proofs.NodesAfter.{find-prune}
+use Rattle.dav_core.proofs.Theorems.{find-adjust, find-put_node, find-prune}
 use Rattle.dav_engine.specs.Inside.{Content, content_of}
 
 -- what is content_of at a path

@@ -9,22 +9,24 @@ use Rattle.dav_core.specs.declared.method.DavMethod.{DavMethod}
 use Rattle.dav_core.specs.Path.{Path, PathText, names, IsCut, without_slash}
 use Rattle.dav_core.proofs.Theorems.{Reads-one, one_cut}
 use Rattle.dav_headers.specs.ContentRange.{IsContentRange}
+use Rattle.dav_headers.specs.Depth.{IsDepth}
 use Rattle.dav_headers.specs.ETagList.{IsTagList}
 use Rattle.dav_headers.specs.If.{ConditionList, IsIf, IsIfHeader}
 use Rattle.dav_headers.specs.Length.{IsContentLength}
 use Rattle.dav_headers.specs.UpdateRange.{IsUpdateRange}
 use Rattle.dav_headers.specs.Value.{IsNumber}
 use Rattle.dav_headers.specs.declared.range.ContentRange.{ContentRange}
-use Rattle.dav_headers.proofs.Theorems.{says_one, one_update_range, same_number, one_tag_list, one_content_range, one_content_length}
+use Rattle.dav_headers.proofs.Theorems.{one_depth, says_one, one_update_range, same_number, one_tag_list, one_content_range, one_content_length}
 use Rattle.dav_engine.specs.declared.put_headers.Bounds.{Bounds}
 use Rattle.dav_engine.specs.declared.put_headers.Bounds.TheVariants.{Unread, Whole, Within}
 use Rattle.dav_engine.specs.declared.request.Body.{Body}
 use Rattle.dav_engine.specs.Client.{Client}
 use Rattle.dav_engine.specs.Conditions.{Addressed, Conditions, SaysLists, AreAddressed, SpeaksOf, TagNames}
+use Rattle.dav_engine.specs.Delete.{DeleteHeaders, AreDeleteHeaders, delete, IsDelete, is_delete}
 use Rattle.dav_engine.specs.Headers.{Headers, Decodes}
 use Rattle.dav_engine.specs.Method.{MethodPlan}
 use Rattle.dav_engine.specs.Mkcol.{mkcol, IsMkcol, is_mkcol}
-use Rattle.dav_engine.specs.OnePlan.{OneReadingOfConditions, OneReadingOfPut, OnePutPlan, OneMkcolPlan}
+use Rattle.dav_engine.specs.OnePlan.{OneReadingOfConditions, OneReadingOfPut, OnePutPlan, OneMkcolPlan, OneDeletePlan}
 use Rattle.dav_engine.specs.Put.{PutHeaders, IsPut, is_put, put_body, bytes_of_body, IsAnnounced, IsExpectedLength, TellsBounds}
 use Rattle.dav_engine.specs.Response.{Response}
 
@@ -138,3 +140,17 @@ same_mkcol {headers} {p} {who} (is_mkcol a h) (is_mkcol b k) = ap (λ (x : Condi
 
 pub one_mkcol_plan : OneMkcolPlan
 one_mkcol_plan headers p who one other h k = same_mkcol h k
+
+-- ---- DELETE
+
+one_delete_headers : (headers : Headers) (p : PathText) (a b : DeleteHeaders) → AreDeleteHeaders headers p a → AreDeleteHeaders headers p b → a ≡ b
+one_delete_headers headers p a b h k =
+    let conditions = one_conditions headers p.prefix (names p) a.conditions b.conditions h.conditions k.conditions in
+    let depth = decoded_one IsDepth (get_all headers (codes "depth")) (one_depth (get_all headers (codes "depth"))) a.depth b.depth h.depth k.depth in
+    λ i. record { conditions = conditions i; depth = depth i }
+
+same_delete : {headers : Headers} {p : PathText} {who : Client} {one other : MethodPlan Response} → IsDelete headers p who one → IsDelete headers p who other → one ≡ other
+same_delete {headers} {p} {who} (is_delete a h) (is_delete b k) = ap (λ (x : DeleteHeaders). delete x p who) (one_delete_headers headers p a b h k)
+
+pub one_delete_plan : OneDeletePlan
+one_delete_plan headers p who one other h k = same_delete h k

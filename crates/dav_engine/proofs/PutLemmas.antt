@@ -61,11 +61,11 @@ put_stores m h p who bytes x how {mid = mid} {new} {ls} {r} one opened stores =
     (subst (λ o. Follows as_is (store o x.0.from p bytes who.moment x.1) mid ls r new ls) opened stores)
 
 -- the bytes of a body are stored
-pub put_body_goes : (m : DavMethod) (h : PutHeaders) (p : Path) (who : Client) (body : Option (List ℕ)) (bytes : List ℕ) {old new : StoreState} {ls : Locks} {r : Result Reply DavError}
-    → body ≡ Some bytes → Follows as_is (put m h p who bytes) old ls r new ls → Follows as_is (put_body m h p who body) old ls r new ls
-put_body_goes m h p who body bytes {old} {new} {ls} {r} is goes = subst (λ b. Follows as_is (put_body m h p who b) old ls r new ls) (sym is) goes
+pub put_body_goes : (m : DavMethod) (h : PutHeaders) (p : Path) (who : Client) (body : Option (List ℕ)) (bytes : List ℕ) {old new : StoreState} {ls ms : Locks} {r : Result Reply DavError}
+    → Some bytes ≡ body → Follows as_is (put m h p who bytes) old ls r new ms → Follows as_is (put_body m h p who body) old ls r new ms
+put_body_goes m h p who body bytes {old} {new} {ls} {ms} {r} is goes = subst (λ b. Follows as_is (put_body m h p who b) old ls r new ms) is goes
 
 -- a body that isn't bytes is answered 415
 pub put_body_ends : (m : DavMethod) (h : PutHeaders) (p : Path) (who : Client) (body : Option (List ℕ)) {s : StoreState} {ls : Locks}
-    → body ≡ None → Follows as_is (put_body m h p who body) s ls (Err (dav.Status 415)) s ls
-put_body_ends m h p who body {s} {ls} is = subst (λ b. Follows as_is (put_body m h p who b) s ls (Err (dav.Status 415)) s ls) (sym is) (follows_done refl)
+    → None ≡ body → Follows as_is (put_body m h p who body) s ls (Err (dav.Status 415)) s ls
+put_body_ends m h p who body {s} {ls} is = subst (λ b. Follows as_is (put_body m h p who b) s ls (Err (dav.Status 415)) s ls) is (follows_done refl)

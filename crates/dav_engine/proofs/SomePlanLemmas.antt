@@ -1,4 +1,4 @@
--- No PUT, PATCH or MKCOL is without a plan, since a header decodes or doesn't.
+-- No PUT, PATCH, MKCOL or DELETE is without a plan, since a header decodes or doesn't.
 use Rattle.std.proofs.Common.{ℕ, List, inl, inr, Option, Some, None, refl}
 use Rattle.std.specs.Option.{option_or}
 use Rattle.std.specs.Prelude.{codes}
@@ -7,6 +7,7 @@ use Rattle.http_header.specs.HeaderMap.{get_all}
 use Rattle.dav_core.specs.declared.method.DavMethod.{DavMethod}
 use Rattle.dav_core.specs.Path.{Path, PathText, names}
 use Rattle.dav_headers.specs.ContentRange.{IsContentRange}
+use Rattle.dav_headers.specs.Depth.{IsDepth}
 use Rattle.dav_headers.specs.ETagList.{IsTagList}
 use Rattle.dav_headers.specs.Length.{IsContentLength}
 use Rattle.dav_headers.specs.UpdateRange.{IsUpdateRange}
@@ -15,6 +16,7 @@ use Rattle.dav_engine.specs.declared.put_headers.Bounds.TheVariants.{Unread, Who
 use Rattle.dav_engine.specs.declared.request.Body.{Body}
 use Rattle.dav_engine.specs.Client.{Client}
 use Rattle.dav_engine.specs.Conditions.{Conditions, AreConditions, SaysLists}
+use Rattle.dav_engine.specs.Delete.{delete, IsDelete, is_delete}
 use Rattle.dav_engine.specs.Headers.{Headers, Decodes}
 use Rattle.dav_engine.specs.Method.{MethodPlan}
 use Rattle.dav_engine.specs.Mkcol.{mkcol, IsMkcol, is_mkcol}
@@ -64,3 +66,9 @@ some_put_plan m headers p body who without =
 pub some_mkcol_plan : (headers : Headers) (p : PathText) (who : Client) → ¬ ((plan : MethodPlan Response) → ¬ IsMkcol headers p who plan)
 some_mkcol_plan headers p who without =
     some_conditions headers p.prefix (names p) (λ c is. without (mkcol c p who) (is_mkcol c is))
+
+pub some_delete_plan : (headers : Headers) (p : PathText) (who : Client) → ¬ ((plan : MethodPlan Response) → ¬ IsDelete headers p who plan)
+some_delete_plan headers p who without =
+    some_conditions headers p.prefix (names p) (λ c is.
+    decoded_some IsDepth (get_all headers (codes "depth")) (λ depth too.
+    without (delete (record { conditions = c; depth = depth }) p who) (is_delete (record { conditions = c; depth = depth }) (record { conditions = is; depth = too }))))

@@ -9,12 +9,7 @@ use Rattle.dav_core.specs.Handle.{Handle, Opening, opened, write_place}
 use Rattle.dav_core.specs.Property.{Properties}
 use Rattle.dav_core.specs.Path.{Path, rest_after, is_same_path, is_at_or_under, is_under, is_root, is_nonempty, has_names, parent_of}
 use Rattle.dav_core.specs.World.{World, Node, Kind, Folder, File, node_at, is_missing, is_folder, is_file, has_members, is_folder_kind, is_folder_node, with_new, adjust, moved, change_node, is_file_made_with, file_made_with, touched, last_number, bytes_of, max_file_len, IsWorld}
-use Rattle.dav_core.proofs.FollowLemmas.{nodes_stay}
-use Rattle.dav_core.proofs.FrontLemmas.{rest_after-append, from_rest}
-use Rattle.dav_core.proofs.NodesLemmas.{same_path, turned, find-adjust}
-use Rattle.dav_core.proofs.CarriedLemmas.{stays-moved, renamed_world}
-use Rattle.dav_core.proofs.MadeLemmas.{made_stands, change_made}
-use Rattle.dav_core.proofs.StepLemmas.{went_on, went_if, found, left}
+use Rattle.dav_core.proofs.Theorems.{nodes_stay, rest_after-append, from_rest, same_path, turned, find-adjust, stays-moved, renamed_world, made_stands, change_made, went_on, went_if, found, left}
 use Rattle.dav_engine.specs.Inside.{content_of}
 use Rattle.dav_engine.specs.Sparing.{OpenFile}
 use Rattle.dav_engine.specs.Sparing.{NoneUnder, Spares, Spared}
@@ -208,7 +203,8 @@ below_too : (p q : Path) (o : Option Path) → rest_after p q ≡ o → has_name
 below_too p q None is h = cc
 below_too p q (Some r) is h = refl
 
-within_too : (p q : Path) → is_under q p ≡ true → is_at_or_under q p ≡ true
+-- what is under a path is at it or under it
+pub within_too : (p q : Path) → is_under q p ≡ true → is_at_or_under q p ≡ true
 within_too p q up = below_too p q (rest_after p q) refl up
 
 through_by : (from p q : Path) (o o' : Option Path) → rest_after from p ≡ o → rest_after p q ≡ o' → is_some o ≡ true → is_some o' ≡ true → is_at_or_under q from ≡ true

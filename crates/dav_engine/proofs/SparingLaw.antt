@@ -10,17 +10,16 @@ use Rattle.dav_core.specs.Handle.{Handle, Opening, place_for}
 use Rattle.dav_core.specs.Locks.{Lock, covers}
 use Rattle.dav_core.specs.Path.{Path}
 use Rattle.dav_core.specs.World.{World, node_at, bytes_of, file_made_with, IsWorld}
-use Rattle.dav_core.proofs.FollowLemmas.{nodes_stay, opened_stands}
-use Rattle.dav_core.proofs.KeptLemmas.{calls_keep_worlds}
-use Rattle.dav_core.proofs.MadeLemmas.{made_stands}
-use Rattle.dav_core.proofs.StepLemmas.{found}
+use Rattle.dav_core.proofs.Theorems.{nodes_stay, opened_stands, calls_keep_worlds, made_stands, found}
 use Rattle.dav_engine.specs.Method.{MethodPlan}
 use Rattle.dav_engine.specs.Plan.{Locks, Ran, ran_done, ran_ask, ran_look, ran_keep}
 use Rattle.dav_engine.specs.WorldLaws.{IsProperPlan, proper_done, proper_ask, proper_look, proper_keep}
 use Rattle.dav_engine.proofs.CallWorlds.{Did, stays, means, did, did_leave, asks_keep, asks_tell}
 use Rattle.dav_engine.specs.Guard.{folder_of, Guards, Guarded, IsListed, Stands, StillGuards, OnList}
-use Rattle.dav_engine.specs.Sparing.{Spares, Sparing, spares_ok, spares_err, spares_reads, spares_call, spares_opens, spares_seeks, spares_writes, spares_look, spares_keep, spares_last, Spared, OpenFile, Anything, AnyList, SparingLeavesCovered, SparingLeavesInside}
+use Rattle.dav_engine.specs.Sparing.{Spares, Sparing, spares_ok, spares_err, spares_reads, spares_call, spares_opens, spares_seeks, spares_writes, spares_look, spares_keep, spares_last, Spared, OpenFile, Anything, AnyList, SparingLeavesCovered, SparingLeavesCoveredCut, SparingLeavesInside}
 use Rattle.dav_engine.proofs.GuardedFolders.{covers_by}
+use Rattle.dav_engine.specs.PlanLaws.{ample}
+use Rattle.dav_engine.proofs.PlanAnswers.{cuts_are_like_refusals}
 use Rattle.dav_engine.proofs.SparingCalls.{folder_stays, HasOpenFile, spared_all, opened_all_same, written_all_same}
 
 pub file_same : (file : Option OpenFile) (w v : World) → v ≡ w → HasOpenFile file w → HasOpenFile file v
@@ -159,6 +158,12 @@ still h (Some ls) e stands = e stands
 pub sparing_leaves_covered : SparingLeavesCovered
 sparing_leaves_covered h plan old new ls ms a sparing proper ran stands world =
     (leaves (covers h) (IsListed h) AnyList (λ ks g. tt) true Anything sparing proper ran stands world tt).spared
+
+-- a plan in which memory runs out leaves the store as it does where some of its calls are refused
+pub sparing_leaves_covered_cut : SparingLeavesCoveredCut
+sparing_leaves_covered_cut h plan old new ls ms sparing proper cut stands world =
+    let (refusals, a, ks, ran, list) = cuts_are_like_refusals plan old new ls ls ms cut in
+    sparing_leaves_covered h plan (ample old.world refusals) (ample new.world []) ls ks a sparing proper ran stands world
 
 -- the law of a guard is that of any exclusive lock, with more known of the list
 pub sparing_leaves_inside : SparingLeavesInside

@@ -5,7 +5,8 @@ use Rattle.dav_engine.specs.declared.davinner.DavInner.{DavInner}
 use Rattle.dav_engine.specs.declared.request.Body.{Body}
 use Rattle.dav_engine.specs.declared.request.DavRequest.{DavRequest}
 use Rattle.dav_engine.specs.Client.{Client}
-use Rattle.dav_engine.specs.Follows.{Serves}
+use Rattle.dav_engine.specs.Delete.{IsDelete}
+use Rattle.dav_engine.specs.Follows.{Follows, Serves}
 use Rattle.dav_engine.specs.Method.{MethodPlan}
 use Rattle.dav_engine.specs.Mkcol.{IsMkcol}
 use Rattle.dav_engine.specs.Put.{IsPut}
@@ -19,9 +20,20 @@ pub record KeepsLent {F A B L : Type 0} (old new : DavInner F A B L) : Type 0 wh
   pub caller : new.caller ≡ old.caller
   pub locks : new.backend.now.state.locks ≡ old.backend.now.state.locks
 
+-- the same, where the list of locks may change
+pub record StaysLent {F A B L : Type 0} (old new : DavInner F A B L) : Type 0 where
+  pub backend : new.backend.ghost_name ≡ old.backend.ghost_name
+  pub allow : new.allow ≡ old.allow
+  pub caller : new.caller ≡ old.caller
+
 -- the request was answered by a plan of this kind for its caller, on the state that it borrows
 abbrev pub ServesFrom : {F A B L : Type 0} → (Client → MethodPlan Response → Type 0) → DavInner F A B L → Result Response DavError → DavInner F A B L → Type 0
 ServesFrom kind old result new = Serves (kind old.caller.now) old.backend.now.state result new.backend.now.state
+
+-- a part of its plan was carried out for its caller, on the state that it borrows
+abbrev pub FollowsOn : {F A B L X Y : Type 0} → (Y → X) → (Client → MethodPlan X) → DavInner F A B L → Result Y DavError → DavInner F A B L → Type 0
+FollowsOn view plan old result new =
+    Follows view (plan old.caller.now) old.backend.now.state.store old.backend.now.state.locks result new.backend.now.state.store new.backend.now.state.locks
 
 -- the plans of a MKCOL, by who makes it
 abbrev pub MkcolOf : DavRequest → Client → MethodPlan Response → Type 0
@@ -30,3 +42,7 @@ MkcolOf request who = IsMkcol request.headers request.path who
 -- the plans of a PUT or PATCH with this body, by who makes it
 abbrev pub PutOf : DavRequest → Body → Client → MethodPlan Response → Type 0
 PutOf request body who = IsPut request.method request.headers request.path body who
+
+-- the plans of a DELETE, by who makes it
+abbrev pub DeleteOf : DavRequest → Client → MethodPlan Response → Type 0
+DeleteOf request who = IsDelete request.headers request.path who

@@ -5,6 +5,7 @@ use Rattle.dav_core.specs.Path.{Path, PathText}
 use Rattle.dav_engine.specs.declared.request.Body.{Body}
 use Rattle.dav_engine.specs.Client.{Client}
 use Rattle.dav_engine.specs.Conditions.{Conditions, AreConditions}
+use Rattle.dav_engine.specs.Delete.{IsDelete}
 use Rattle.dav_engine.specs.Headers.{Headers}
 use Rattle.dav_engine.specs.Method.{MethodPlan}
 use Rattle.dav_engine.specs.Mkcol.{IsMkcol}
@@ -32,3 +33,9 @@ abbrev pub OneMkcolPlan : Type 0
 OneMkcolPlan =
     (headers : Headers) (p : PathText) (who : Client) (one other : MethodPlan Response)
     → IsMkcol headers p who one → IsMkcol headers p who other → one ≡ other
+
+-- and so has a DELETE
+abbrev pub OneDeletePlan : Type 0
+OneDeletePlan =
+    (headers : Headers) (p : PathText) (who : Client) (one other : MethodPlan Response)
+    → IsDelete headers p who one → IsDelete headers p who other → one ≡ other

@@ -12,7 +12,7 @@ use Rattle.dav_core.specs.World.{World, node_at, is_folder, IsWorld}
 use Rattle.dav_engine.specs.Guard.{folder_of, IsGuard, Guards, Guarded, IsListed, Stands, StillGuards}
 use Rattle.dav_engine.specs.Inside.{content_of, SameInside, HasFoldersAbove}
 use Rattle.dav_engine.specs.Method.{MethodPlan}
-use Rattle.dav_engine.specs.Plan.{Done, Ask, Look, Keep, Locks, Ran}
+use Rattle.dav_engine.specs.Plan.{Done, Ask, Look, Keep, Locks, Ran, Cut}
 use Rattle.dav_engine.specs.Response.{Response}
 use Rattle.dav_engine.specs.WorldLaws.{OnlyReads, IsProperPlan}
 
@@ -85,6 +85,13 @@ abbrev pub SparingLeavesCovered : Type 0
 SparingLeavesCovered =
     (h : Lock) (plan : MethodPlan Response) (old new : StoreState) (ls ms : Locks) (a : Result Response DavError)
     → SparesLock h plan → IsProperPlan plan → Ran Asks plan old ls a new ms
+    → Stands h ls → IsWorld old.world → Spared (covers h) old.world new.world
+
+-- So it does where memory runs out in the plan itself.
+abbrev pub SparingLeavesCoveredCut : Type 0
+SparingLeavesCoveredCut =
+    (h : Lock) (plan : MethodPlan Response) (old new : StoreState) (ls ms : Locks)
+    → SparesLock h plan → IsProperPlan plan → Cut Asks ls plan old ls new ms
     → Stands h ls → IsWorld old.world → Spared (covers h) old.world new.world
 
 -- what the request of another leaves of a guarded folder

@@ -1,11 +1,12 @@
 -- The plans of requests that don't hold a lock spare what it covers (RFC 4918, section 7).
-use Rattle.std.specs.Prelude.{◌≡◌, false}
+use Rattle.std.specs.Prelude.{◌≡◌, ◌≢◌, false}
 use Rattle.dav_core.specs.declared.method.DavMethod.{DavMethod}
 use Rattle.dav_core.specs.Locks.{Lock, is_held}
-use Rattle.dav_core.specs.Path.{PathText, names}
+use Rattle.dav_core.specs.Path.{PathText, names, star}
 use Rattle.dav_engine.specs.declared.request.Body.{Body}
 use Rattle.dav_engine.specs.Client.{Client, requester}
 use Rattle.dav_engine.specs.Conditions.{Conditions, AreConditions, submitted}
+use Rattle.dav_engine.specs.Delete.{IsDelete}
 use Rattle.dav_engine.specs.Headers.{Headers}
 use Rattle.dav_engine.specs.Method.{MethodPlan}
 use Rattle.dav_engine.specs.Mkcol.{IsMkcol}
@@ -38,3 +39,9 @@ abbrev pub MkcolSpares : Type 0
 MkcolSpares =
     (h : Lock) (headers : Headers) (p : PathText) (who : Client) (plan : MethodPlan Response)
     → h.shared ≡ false → IsStranger headers p who h → IsMkcol headers p who plan → SparesBoth h plan
+
+-- and a DELETE
+abbrev pub DeleteSpares : Type 0
+DeleteSpares =
+    (h : Lock) (headers : Headers) (p : PathText) (who : Client) (plan : MethodPlan Response)
+    → h.shared ≡ false → p.bytes ≢ star → IsStranger headers p who h → IsDelete headers p who plan → SparesBoth h plan

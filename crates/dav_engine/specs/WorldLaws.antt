@@ -13,6 +13,7 @@ use Rattle.dav_headers.specs.ETagList.{star}
 use Rattle.dav_engine.specs.declared.request.Body.{Body}
 use Rattle.dav_engine.specs.Client.{Client}
 use Rattle.dav_engine.specs.Conditions.{Conditions}
+use Rattle.dav_engine.specs.Delete.{IsDelete}
 use Rattle.dav_engine.specs.Headers.{Headers}
 use Rattle.dav_engine.specs.Method.{MethodPlan}
 use Rattle.dav_engine.specs.Mkcol.{mkcol, mkcol_allowed, IsMkcol}
@@ -74,6 +75,12 @@ abbrev pub MkcolIsProper : Type 0
 MkcolIsProper =
     (headers : Headers) (p : PathText) (who : Client) (plan : MethodPlan Response)
     → IsStorable (names p) → who.moment ≤ last_moment → IsMkcol headers p who plan → IsProperPlan plan
+
+-- and the plan of DELETE, whatever its path is
+abbrev pub DeleteIsProper : Type 0
+DeleteIsProper =
+    (headers : Headers) (p : PathText) (who : Client) (plan : MethodPlan Response)
+    → who.moment ≤ last_moment → IsDelete headers p who plan → IsProperPlan plan
 
 -- An error of the checks before the file is opened is the outcome, and leaves the world and the list of locks as they are.
 abbrev pub RefusedPutLeavesAll : Type 0

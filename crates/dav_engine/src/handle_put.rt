@@ -1,18 +1,18 @@
 //! PUT (RFC 9110, section 9.3.4; RFC 4918, section 9.7) and PATCH (RFC 5789, with SabreDAV's partial updates).
-ghost use Rattle.std.specs.Prelude.{◌≡◌, ◌≤◌, Bool, Option, option_map, string_bytes, IfOk, IfSome, List};
+ghost use Rattle.std.specs.Prelude.{◌≡◌, ◌≤◌, [], Bool, Option, option_map, string_bytes, IfOk, IfSome, List};
 ghost use Rattle.std.specs.Option.{option_copied};
 ghost use Rattle.dav_core.specs.World.{last_moment};
 ghost use Rattle.dav_core.specs.Metadata.{opening_of};
 ghost use Rattle.dav_core.specs.Path.{names};
-ghost use Rattle.dav_engine.specs.AtWork.{KeepsLent, ServesFrom, PutOf};
+ghost use Rattle.dav_engine.specs.AtWork.{KeepsLent, FollowsOn, ServesFrom, PutOf};
 ghost use Rattle.dav_engine.specs.Client.{requester};
 ghost use Rattle.dav_engine.specs.ConditionView.{locks_in};
-ghost use Rattle.dav_engine.specs.Follows.{as_is, Makes, Heeds};
+ghost use Rattle.dav_engine.specs.Follows.{as_is, Makes};
 ghost use Rattle.dav_engine.specs.Plan.{Locks};
 ghost use Rattle.dav_engine.specs.Put as spec;
 
 use crate::check::is_open;
-use crate::davinner::{Caller, DavInner};
+use crate::davinner::DavInner;
 use crate::put_headers::{Bounds, PutHeaders, Writing};
 use crate::reply::{Reply, ReplyBody, set_header, set_length, set_validators};
 use crate::request::{Body, DavRequest};
@@ -297,98 +297,16 @@ fn store<F: DavFileSystem>(
     Ok(stored(alloc, found, after.ok())?)
 }
 
-// Checks whether bytes may be stored at a path: returns where they go, and whether something was found there.
-fn allowed<F: DavFileSystem, L: DavLockSystem>(
-    fs: &mut F,
-    ls: Option<&L>,
-    alloc: Global,
-    method: DavMethod,
-    headers: &PutHeaders,
-    path: &DavPath,
-    caller: &Caller<'_>,
-    bytes: &Bytes,
-) -> DavResult<(Writing, bool)>
-    ensures { Heeds (locks_in L.locks ls.entry) (λ r. r)
-        (spec.put_allowed method headers.now (names path.now) caller.now bytes.now)
-        (F.state fs.old) result (F.state fs.new) }
+// The bytes of a body; of one without, those of `empty`.
+fn bytes_of<'b>(body: &'b Body, empty: &'b Bytes) -> Option<&'b Bytes>
+    requires { empty.now ≡ [] }
+    ensures { option_copied result ≡ spec.bytes_of_body body.now }
 {
-    let found = fs.metadata(path).ok();
-    let writing = writing_of(method, headers, found.as_ref())?;
-    let conditions = &headers.conditions;
-    let tokens = match conditions.if_match_get_tokens(alloc, method, found.as_ref(), fs, ls)? {
-        Ok(tokens) => tokens,
-        Err(status) => return Err(DavError::StatusClose(status)),
-    };
-    if !is_open(ls, path, caller.principal, false, &tokens) {
-        return Err(DavError::StatusClose(StatusCode::LOCKED));
-    }
-    if !is_announced(writing.announced, bytes) {
-        return Err(DavError::StatusClose(StatusCode::BAD_REQUEST));
-    }
-    Ok((writing, found.is_some()))
-}
-
-// Stores bytes at a path, where they may be stored.
-fn put<F: DavFileSystem, L: DavLockSystem>(
-    fs: &mut F,
-    ls: Option<&L>,
-    alloc: Global,
-    method: DavMethod,
-    headers: &PutHeaders,
-    path: &DavPath,
-    caller: &Caller<'_>,
-    bytes: &Bytes,
-) -> DavResult<Reply>
-    requires { caller.now.moment ≤ last_moment }
-    ensures { Heeds (locks_in L.locks ls.entry) as_is
-        (spec.put method headers.now (names path.now) caller.now bytes.now)
-        (F.state fs.old) result (F.state fs.new) }
-{
-    let (writing, found) = allowed(fs, ls, alloc, method, headers, path, caller, bytes)?;
-    let options = put_opening(headers, writing)?;
-    store(
-        fs,
-        alloc,
-        path,
-        &options,
-        writing.from,
-        bytes,
-        caller.moment,
-        found,
-    )
-}
-
-// Stores the bytes of a body at a path.
-fn put_body<F: DavFileSystem, L: DavLockSystem>(
-    fs: &mut F,
-    ls: Option<&L>,
-    alloc: Global,
-    request: &DavRequest,
-    headers: &PutHeaders,
-    caller: &Caller<'_>,
-    body: &Body,
-) -> DavResult<Reply>
-    requires { caller.now.moment ≤ last_moment }
-    ensures { Heeds (locks_in L.locks ls.entry) as_is
-        (spec.put_body request.now.method headers.now (names request.now.path) caller.now
-        (spec.bytes_of_body body.now))
-        (F.state fs.old) result (F.state fs.new) }
-{
-    let path = &request.path;
     match body {
-        Body::None => put(
-            fs,
-            ls,
-            alloc,
-            request.method,
-            headers,
-            path,
-            caller,
-            &Bytes::new(),
-        ),
-        Body::Bytes(bytes) => put(fs, ls, alloc, request.method, headers, path, caller, bytes),
-        Body::Tree(_) => Err(DavError::Status(StatusCode::UNSUPPORTED_MEDIA_TYPE)),
-        Body::Malformed => Err(DavError::Status(StatusCode::UNSUPPORTED_MEDIA_TYPE)),
+        Body::None => Some(empty),
+        Body::Bytes(bytes) => Some(bytes),
+        Body::Tree(_) => None,
+        Body::Malformed => None,
     }
 }
 
@@ -415,15 +333,73 @@ impl<'a, 'b, 'c, F: DavFileSystem, L: DavLockSystem> DavInner<'a, 'b, 'c, F, L> 
         ensures serves { ServesFrom (PutOf request.now body.now) self.old result self.new }
     {
         let headers = PutHeaders::decode(alloc, request)?;
+        let empty = Bytes::new();
+        match bytes_of(body, &empty) {
+            Some(bytes) => self.put(alloc, request, &headers, bytes),
+            None => Err(DavError::Status(StatusCode::UNSUPPORTED_MEDIA_TYPE)),
+        }
+    }
+
+    // Stores bytes at the path of a request, where they may be stored.
+    fn put(
+        &mut self,
+        alloc: Global,
+        request: &DavRequest,
+        headers: &PutHeaders,
+        bytes: &Bytes,
+    ) -> DavResult<Reply>
+        requires { self.old.caller.now.moment ≤ last_moment }
+        ensures lent { KeepsLent self.old self.new }
+        ensures plan { FollowsOn as_is (λ who. spec.put request.now.method headers.now
+            (names request.now.path) who bytes.now) self.old result self.new }
+    {
+        let (writing, found) = self.may_put(alloc, request, headers, bytes)?;
+        let options = put_opening(headers, writing)?;
+        let caller = self.caller;
         let backend = &mut *self.backend;
-        put_body(
+        store(
             &mut backend.fs,
-            backend.ls.as_ref(),
             alloc,
-            request,
-            &headers,
-            self.caller,
-            body,
+            &request.path,
+            &options,
+            writing.from,
+            bytes,
+            caller.moment,
+            found,
         )
+    }
+
+    // Checks whether bytes may be stored at the path of a request: returns where they go, and whether something was found
+    // there.
+    fn may_put(
+        &mut self,
+        alloc: Global,
+        request: &DavRequest,
+        headers: &PutHeaders,
+        bytes: &Bytes,
+    ) -> DavResult<(Writing, bool)>
+        ensures lent { KeepsLent self.old self.new }
+        ensures plan { FollowsOn as_is (λ who. spec.put_allowed request.now.method headers.now
+            (names request.now.path) who bytes.now) self.old result self.new }
+    {
+        let caller = self.caller;
+        let backend = &mut *self.backend;
+        let fs = &mut backend.fs;
+        let ls = backend.ls.as_ref();
+        let method = request.method;
+        let found = fs.metadata(&request.path).ok();
+        let writing = writing_of(method, headers, found.as_ref())?;
+        let conditions = &headers.conditions;
+        let tokens = match conditions.if_match_get_tokens(alloc, method, found.as_ref(), fs, ls)? {
+            Ok(tokens) => tokens,
+            Err(status) => return Err(DavError::StatusClose(status)),
+        };
+        if !is_open(ls, &request.path, caller.principal, false, &tokens) {
+            return Err(DavError::StatusClose(StatusCode::LOCKED));
+        }
+        if !is_announced(writing.announced, bytes) {
+            return Err(DavError::StatusClose(StatusCode::BAD_REQUEST));
+        }
+        Ok((writing, found.is_some()))
     }
 }

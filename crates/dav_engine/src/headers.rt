@@ -1,8 +1,9 @@
 //! The headers of a request, as methods read them (RFC 9110, section 5).
-ghost use Rattle.std.specs.Prelude.{◌≡◌, IfOk, IfErr, Err};
-ghost use Rattle.std.specs.Option.{ok_or};
+ghost use Rattle.std.specs.Prelude.{◌≡◌, IfOk, IfErr, Some, Err};
+ghost use Rattle.std.specs.Option.{ok_or, option_map};
 ghost use Rattle.http_header.specs.HeaderMap.{get_all};
 ghost use Rattle.dav_headers.specs.declared.errors.HeaderError.TheVariants as HeaderError;
+ghost use Rattle.dav_engine.specs.Headers.{text_in};
 
 use dav_core::errors::NoMemory;
 use dav_headers::HeaderError;
@@ -22,6 +23,16 @@ pub fn values_of(
         values.push(value.clone()?)?;
     }
     Ok(values)
+}
+
+/// The text of a value, where it is text.
+pub fn text_of(value: &HeaderValue) -> Option<&str>
+    ensures { option_map (λ t. t.now) result ≡ text_in (Some value.now) }
+{
+    match value.to_str() {
+        Ok(text) => Some(text),
+        Err(_) => None,
+    }
 }
 
 /// What was decoded: nothing where a header is invalid, which counts as absent.

@@ -1,8 +1,9 @@
 //! Laws of methods. Each function does nothing: its contract is a theorem on the definitions.
 ghost use Rattle.dav_engine.specs.Date.{DatesOfMoments};
-ghost use Rattle.dav_engine.specs.OnePlan.{OneReadingOfConditions, OnePutPlan, OneMkcolPlan};
+ghost use Rattle.dav_engine.specs.OnePlan.{OneReadingOfConditions, OnePutPlan, OneMkcolPlan, OneDeletePlan};
 ghost use Rattle.dav_engine.specs.PlanLaws.{PlansAreDetermined, PlansEnd, WantIsLikeRefusals, CutsAreLikeRefusals};
-ghost use Rattle.dav_engine.specs.WorldLaws.{ReadingLeavesAll, ProperPlansKeepWorlds, PutIsProper, MkcolIsProper, RefusedPutLeavesAll, RefusedMkcolLeavesAll, CreatesOnly, CreateOnlyLeavesAll, PlansRemember};
+ghost use Rattle.dav_engine.specs.RemovalLaws.{RemovalsLeaveSurvivors, ReportedAreThere, DeletesLeaveSurvivors, NoContentMeansGone, RefusedDeleteLeavesAll};
+ghost use Rattle.dav_engine.specs.WorldLaws.{ReadingLeavesAll, ProperPlansKeepWorlds, PutIsProper, MkcolIsProper, DeleteIsProper, RefusedPutLeavesAll, RefusedMkcolLeavesAll, CreatesOnly, CreateOnlyLeavesAll, PlansRemember};
 
 pub mod isolation;
 
@@ -31,12 +32,13 @@ pub fn cuts_are_like_refusals()
     ensures { CutsAreLikeRefusals }
 {}
 
-/// Headers say one thing as conditions, and a PUT, PATCH or MKCOL has one plan at most: its headers, its path, its body and
-/// its client determine what it does (RFC 9110, section 9.3.4; RFC 4918, sections 9.3 and 10.4).
+/// Headers say one thing as conditions, and a PUT, PATCH, MKCOL or DELETE has one plan at most: its headers, its path, its body
+/// and its client determine what it does (RFC 9110, section 9.3.4; RFC 4918, sections 9.3, 9.6 and 10.4).
 pub fn requests_have_one_plan()
     ensures conditions { OneReadingOfConditions }
     ensures put { OnePutPlan }
     ensures mkcol { OneMkcolPlan }
+    ensures delete { OneDeletePlan }
 {}
 
 /// The date that is written for a moment is the one of the calendar with so many seconds since 1970 (RFC 9110, section
@@ -55,12 +57,13 @@ pub fn reading_leaves_all()
 
 /// A plan of calls that a caller may make keeps what makes a world a world (RFC 4918, section 5.1), and change numbers
 /// never fall. The plans of PUT, PATCH and MKCOL are such plans, for a path of names and a moment until the end of the year
-/// 9999.
-#[tactic(auto, using(crate::proofs::WorldAnswers::proper_plans_keep_worlds, crate::proofs::PutWorld::put_is_proper, crate::proofs::PutWorld::mkcol_is_proper))]
+/// 9999, and so is that of DELETE, for any path.
+#[tactic(auto, using(crate::proofs::WorldAnswers::proper_plans_keep_worlds, crate::proofs::PutWorld::put_is_proper, crate::proofs::PutWorld::mkcol_is_proper, crate::proofs::DeleteWorld::delete_is_proper))]
 pub fn proper_plans_keep_worlds()
     ensures kept { ProperPlansKeepWorlds }
     ensures put { PutIsProper }
     ensures mkcol { MkcolIsProper }
+    ensures delete { DeleteIsProper }
 {}
 
 /// An error of the checks before PUT, PATCH or MKCOL changes anything is the outcome, and leaves the world and the list of
@@ -81,4 +84,22 @@ pub fn creates_only()
 /// strong tag is never used for other bytes (RFC 9110, section 8.8.1).
 pub fn numbers_tell_bytes()
     ensures { PlansRemember }
+{}
+
+/// A removal leaves exactly what survives its faults, whatever the store refuses: each path that a fault names, all above it, and
+/// all that the fault withholds. Each path that it reports is there (RFC 4918, section 9.6.1).
+#[tactic(auto, using(crate::proofs::SurvivorLemmas::survivors, crate::proofs::NamedLemmas::reported_are_there))]
+pub fn removals_leave_survivors()
+    ensures survivors { RemovalsLeaveSurvivors }
+    ensures there { ReportedAreThere }
+{}
+
+/// A DELETE leaves exactly what survives the faults that its reply reports, and the locks at its path and below it end exactly
+/// where there is none; so after a 204 nothing is at the path or below it. An error leaves the world and the list of locks as they
+/// are (RFC 4918, section 9.6).
+#[tactic(auto, using(crate::proofs::DeletedWorlds::deletes_leave_survivors, crate::proofs::DeletedWorlds::no_content_means_gone, crate::proofs::DeletedWorlds::refused_delete_leaves_all))]
+pub fn deletes_leave_survivors()
+    ensures survivors { DeletesLeaveSurvivors }
+    ensures gone { NoContentMeansGone }
+    ensures refused { RefusedDeleteLeavesAll }
 {}

@@ -7,11 +7,14 @@ mod check;
 pub mod conditional;
 mod date;
 pub mod davinner;
+mod handle_delete;
 mod handle_mkcol;
 mod handle_put;
-mod headers;
+pub mod headers;
 pub mod laws;
+pub mod multierror;
 mod put_headers;
+mod removal;
 pub mod reply;
 pub mod request;
 

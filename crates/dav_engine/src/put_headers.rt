@@ -4,14 +4,14 @@ ghost use Rattle.http_header.specs.HeaderMap.{get, get_all};
 ghost use Rattle.dav_core.specs.Path.{names};
 ghost use Rattle.dav_headers.specs.Length.{IsContentLength};
 ghost use Rattle.dav_headers.specs.UpdateRange.{IsUpdateRange};
-ghost use Rattle.dav_engine.specs.Headers.{Decodes, text_in};
+ghost use Rattle.dav_engine.specs.Headers.{Decodes};
 ghost use Rattle.dav_engine.specs.Put as spec;
 
 #[cfg(test)]
 mod tests;
 
 use crate::conditional::Conditions;
-use crate::headers::{absent_if_invalid, values_of};
+use crate::headers::{absent_if_invalid, text_of, values_of};
 use crate::request::DavRequest;
 use dav_core::errors::NoMemory;
 use dav_headers::{ContentLength, ContentRange, ContentType, XUpdateRange, names};
@@ -151,16 +151,6 @@ fn update_in(alloc: Global, headers: &HeaderMap) -> Result<Option<XUpdateRange>,
 {
     let values = values_of(alloc, headers, names::X_UPDATE_RANGE())?;
     absent_if_invalid(XUpdateRange::decode(alloc, &values))
-}
-
-// The text of a value, where it is text.
-fn text_of(value: &HeaderValue) -> Option<&str>
-    ensures { option_map (λ t. t.now) result ≡ text_in (Some value.now) }
-{
-    match value.to_str() {
-        Ok(text) => Some(text),
-        Err(_) => None,
-    }
 }
 
 // The checksum that comes with a body, where it is text.

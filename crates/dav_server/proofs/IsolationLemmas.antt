@@ -14,7 +14,7 @@ use Rattle.dav_server.specs.Machine.{Settings, steps}
 use Rattle.dav_server.specs.Run.{Turn, begun, no_more, one_more}
 use Rattle.dav_server.specs.TagLaws.{AreShowable}
 use Rattle.dav_server.specs.Server.{Server}
-use Rattle.dav_server.proofs.MeansWorld.{means_proper, begun_world, run_keeps, all_front, all_back}
+use Rattle.dav_server.proofs.MeansWorld.{means_proper, begun_world, begun_short, run_keeps, all_front, all_back}
 use Rattle.dav_engine.specs.Alongside.{AsksWithNumbers, SameResult, AreAlike, SameAnswers}
 use Rattle.dav_engine.specs.AnswerParts.{answers_of}
 use Rattle.dav_engine.specs.Guard.{folder_of, IsGuard, Guarded, Stands}
@@ -23,10 +23,6 @@ use Rattle.dav_engine.specs.Sparing.{LeftAlone}
 use Rattle.dav_server.proofs.HolderLemmas.{means_along}
 use Rattle.dav_server.proofs.StrangerLemmas.{means_spares}
 use Rattle.dav_server.specs.Isolation.{AreLoaded, RunsUnder, under_none, under_more, Alone, alone_none, alone_other, alone_own, alike_none, alike_other, alike_own, AreAlone, HoldersAreAlone, IsIsolated}
-
-begun_short : (refusals : Option (List (Option FsError))) (s : StoreState) → (begun refusals s).short ≡ s.short
-begun_short None s = refl
-begun_short (Some list) s = refl
 
 begun_same : (refusals : Option (List (Option FsError))) (s t : StoreState) → is_some refusals ≡ true → (begun refusals s).refusals ≡ (begun refusals t).refusals
 begun_same None s t some = cc

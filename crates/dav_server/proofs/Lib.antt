@@ -1,6 +1,7 @@
 pub mod HeadLemmas
 pub mod RefusalLemmas
 pub mod HeaderLemmas
+pub mod NamingLemmas
 pub mod TargetLemmas
 pub mod RunLemmas
 pub mod SomePlan
@@ -19,6 +20,12 @@ pub mod WriteLemmas
 pub mod RefusedLemmas
 pub mod TurnLemmas
 pub mod StrangerLemmas
+pub mod EndingLemmas
 pub mod AlongsideGet
 pub mod HolderLemmas
 pub mod IsolationLemmas
+pub mod AloneLemmas
+pub mod SpareLemmas
+pub mod WorkedRun
+pub mod NeededPremises
+pub mod NeededFolders

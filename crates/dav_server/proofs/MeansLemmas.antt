@@ -1,12 +1,9 @@
 -- A request has one plan, and a run is determined.
-use Rattle.std.proofs.Common.{◌≡◌, ℕ, Bool, true, false, true≢false, List, ◌∷◌, map, get_or, bytes_eq, Option, Some, None, Result, Ok, Err, refl, sym, ap, subst, ◌∙◌}
-use Rattle.std.specs.List.{position_or_len}
-use Rattle.dav_core.specs.declared.errors.FsError.{FsError}
+use Rattle.std.proofs.Common.{◌≡◌, ℕ, Bool, true, false, true≢false, List, ◌∷◌, Result, Ok, Err, refl, sym, ap, subst, ◌∙◌}
 use Rattle.dav_core.specs.declared.errors.DavError.{DavError}
 use Rattle.dav_core.specs.declared.method.DavMethod.{DavMethod}
-use Rattle.dav_core.specs.declared.method.DavMethod.TheVariants.{Head, Get, Put, Patch, Options, PropFind, PropPatch, MkCol, Copy, Move, Delete, Lock, Unlock, Report, MkCalendar, MkAddressbook}
+use Rattle.dav_core.specs.declared.method.DavMethod.TheVariants.{Put, Patch}
 use Rattle.dav_core.specs.Asking.{StoreState, Asks}
-use Rattle.dav_core.specs.Method.{method_name, all_methods}
 use Rattle.dav_core.specs.Path.{PathText, names}
 use Rattle.dav_engine.specs.declared.request.Body.{Body}
 use Rattle.dav_engine.specs.Client.{Client}
@@ -21,37 +18,10 @@ use Rattle.dav_server.specs.Head.{Request}
 use Rattle.dav_server.specs.Headers.{headers_of}
 use Rattle.dav_server.specs.Machine.{Settings, Asked, client, PlanOf, gets, heads, puts, patches, makes, not_yet, MeansOf, not_allowed, no_path, no_body, method, Means, no_head, no_method, known, Steps, steps}
 use Rattle.dav_server.specs.Method.{GivesServed}
-use Rattle.dav_server.specs.Run.{Turn, begun, Runs, no_more, one_more, RunsAreDetermined}
+use Rattle.dav_server.specs.Run.{Turn, Runs, no_more, one_more, RunsAreDetermined}
 use Rattle.dav_server.proofs.HeadLemmas.{one_head}
 use Rattle.dav_server.proofs.TargetLemmas.{one_outcome}
-
-abbrev place_of_name : List ℕ → ℕ
-place_of_name text = position_or_len (bytes_eq text) (map method_name all_methods)
-
-back : (m : DavMethod) → get_or all_methods (place_of_name (method_name m)) Head ≡ m
-back Head = refl
-back Get = refl
-back Put = refl
-back Patch = refl
-back Options = refl
-back PropFind = refl
-back PropPatch = refl
-back MkCol = refl
-back Copy = refl
-back Move = refl
-back Delete = refl
-back Lock = refl
-back Unlock = refl
-back Report = refl
-back MkCalendar = refl
-back MkAddressbook = refl
-
-one_name : (m n : DavMethod) → method_name m ≡ method_name n → m ≡ n
-one_name m n same = sym (back m) ∙ ap (λ t. get_or all_methods (place_of_name t) Head) same ∙ back n
-
--- a name is that of one method
-one_method : (text : List ℕ) (m n : DavMethod) → GivesServed text (Ok m) → GivesServed text (Ok n) → m ≡ n
-one_method text m n one two = one_name m n (sym one.1 ∙ two.1)
+use Rattle.dav_server.proofs.MeansWorld.{one_method, begun_short}
 
 served_or_not : {A : Type 0} (text : List ℕ) (m : DavMethod) (e : DavError) → GivesServed text (Ok m) → GivesServed text (Err e) → A
 served_or_not text m e one two = absurd (two.1 m one.0 one.1)
@@ -133,13 +103,9 @@ one_means {s} {x} {plan} {other} (known r m is gives means) (known q n is' gives
 steps_unset : {s : Settings} {x : Asked} {old new : StoreState} {ls ms : Locks} {reply : Response} → Steps s x old ls reply new ms → new.short ≡ false → old.short ≡ false
 steps_unset (steps plan outcome means ran) u = ran_unset ran u
 
-begun_flag : (refusals : Option (List (Option FsError))) (old : StoreState) → (begun refusals old).short ≡ old.short
-begun_flag None old = refl
-begun_flag (Some list) old = refl
-
 runs_unset : {s : Settings} {ts : List Turn} {old new : StoreState} {ls ms : Locks} {replies : List Response} → Runs s ts old ls replies new ms → new.short ≡ false → old.short ≡ false
 runs_unset no_more u = u
-runs_unset {old = old} (one_more {t = t} step rest) u = sym (begun_flag t.refusals old) ∙ steps_unset step (runs_unset rest u)
+runs_unset {old = old} (one_more {t = t} step rest) u = sym (begun_short t.refusals old) ∙ steps_unset step (runs_unset rest u)
 
 steps_same : {s : Settings} {x : Asked} {old new other : StoreState} {ls ks ms : Locks} {reply answer : Response} → Steps s x old ls reply new ks → new.short ≡ false → Steps s x old ls answer other ms → other.short ≡ false
     → (reply ≡ answer) × (new ≡ other) × (ks ≡ ms)

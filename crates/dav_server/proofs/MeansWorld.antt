@@ -107,6 +107,10 @@ pub begun_world : (refusals : Option (List (Option FsError))) (old : StoreState)
 begun_world None old = refl
 begun_world (Some list) old = refl
 
+pub begun_short : (refusals : Option (List (Option FsError))) (old : StoreState) → (begun refusals old).short ≡ old.short
+begun_short None old = refl
+begun_short (Some list) old = refl
+
 step_keeps : {s : Settings} {x : Asked} {old new : StoreState} {ls ms : Locks} {reply : Response} → x.moment ≤ last_moment → IsWorld old.world → Steps s x old ls reply new ms → Kept old.world new.world
 step_keeps small world (steps plan outcome means ran) = proper_keeps (means_proper small means) world ran
 

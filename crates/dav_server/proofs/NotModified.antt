@@ -1,5 +1,6 @@
 -- A 304 is true: the file has the bytes that a GET of the run shows with its tag, before or after it.
 use Rattle.std.proofs.Common.{◌≡◌, ◌⊎◌, inl, inr, ℕ, ◌≤◌, ◌==◌, ◌||◌, ◌&&◌, ◌++◌, Bool, true, false, not, if◌then◌else◌, List, [], ◌∷◌, codes, Option, Some, None, Result, Ok, Err, refl, sym, ap, subst, ◌∙◌, arith}
+use Rattle.std.proofs.lemmas.Bool.{not-true}
 use Rattle.std.proofs.lemmas.Bool.{eqb-true}
 use Rattle.std.proofs.lemmas.Slice.Eq.{bytes_eq-Decides}
 use Rattle.std.specs.Fmt.{digits}
@@ -120,10 +121,6 @@ plain_304 : (m : DavMethod) (c : Conditions) (p : Path) (now : ℕ) (d : DavMeta
 plain_304 m c p now d true outcome ran is = (refl, conditions_304 m c p now d outcome ran is)
 plain_304 m c p now d false outcome ran is = failed_status no_file ran is
 
-not_true : (b : Bool) → not b ≡ true → b ≡ false
-not_true true h = sym h
-not_true false h = refl
-
 -- at the path there is a file of some bytes, with the number that the tag holds
 abbrev pub SomeStands : World → Path → List ℕ → Type 0
 SomeStands w p tag = (bytes : List ℕ) × Stands w p tag bytes
@@ -135,7 +132,7 @@ found_304 m c p now tag w (Err e) outcome says one ran is = failed_status (fs_ot
 found_304 m c p now tag w (Ok d) outcome {mid} {new} {ls} {ms} says one ran is =
     let (n, there, about) = told_of w mid.world p (Ok d) d one refl in
     let (plain, verdict) = plain_304 m c p now (metadata_of n) (not (metadata_of n).dir) outcome (subst (λ (x : DavMetaData). Ran Asking (after_found m c p now x) mid ls outcome new ms) about ran) is in
-    (_, record { node = n; there = there; kind = file_kind n.kind (not_true (is_folder_kind n.kind) plain); tag_is = has_tag m c.if_match c.if_none_match n tag says verdict })
+    (_, record { node = n; there = there; kind = file_kind n.kind (not-true (is_folder_kind n.kind) plain); tag_is = has_tag m c.if_match c.if_none_match n tag says verdict })
 
 get_304 : (m : DavMethod) (c : Conditions) (p : Path) (now : ℕ) (tag : EntityTag) (outcome : Result Response DavError) {old new : StoreState} {ls ms : Locks}
     → c.if_none_match ≡ Some (tags (tag ∷ [])) → Ran Asking (get m c p now) old ls outcome new ms → (reply_to outcome).status ≡ 304 → SomeStands old.world p (tag_text tag.weak tag.tag)

@@ -1,13 +1,12 @@
 -- Runs split, join and end.
-use Rattle.std.proofs.Common.{◌≡◌, List, [], ◌∷◌, Option, Some, None, refl, ap, ◌∙◌}
+use Rattle.std.proofs.Common.{List, [], ◌∷◌, refl, ap, ◌∙◌}
 use Rattle.std.proofs.lemmas.List.Elements.{All-head, All-tail}
-use Rattle.dav_core.specs.declared.errors.FsError.{FsError}
-use Rattle.dav_core.specs.Asking.{StoreState}
 use Rattle.dav_engine.specs.Response.{Response, reply_to}
 use Rattle.dav_engine.proofs.Theorems.{comes}
 use Rattle.dav_server.specs.Machine.{steps}
 use Rattle.dav_server.specs.Run.{begun, no_more, one_more, HasPlan, RunsSplit, RunsJoin, RunsEnd, RequestsHaveRuns}
 use Rattle.dav_server.proofs.SomePlan.{requests_have_plans}
+use Rattle.dav_server.proofs.MeansWorld.{begun_short}
 
 pub runs_split : RunsSplit
 runs_split s [] us old new ls ms replies run = ([], replies, old, ls, refl, no_more, run)
@@ -18,10 +17,6 @@ runs_split s (t ∷ ts) us old new ls ms replies (one_more {reply = reply} {repl
 pub runs_join : RunsJoin
 runs_join s [] us old mid new ls ks ms before after no_more two = two
 runs_join s (t ∷ ts) us old mid new ls ks ms before after (one_more {replies = rest} step one) two = one_more step (runs_join s ts us _ mid new _ ks ms rest after one two)
-
-begun_short : (refusals : Option (List (Option FsError))) (old : StoreState) → (begun refusals old).short ≡ old.short
-begun_short None old = refl
-begun_short (Some l) old = refl
 
 pub runs_end : RunsEnd
 runs_end s [] old ls all = ([], old, ls, no_more, refl)

@@ -1,14 +1,15 @@
 -- Runs of the machine, one step after another.
-use Rattle.std.proofs.Common.{◌≡◌, ℕ, ◌+◌, ◌<◌, get_or, List, [], ◌∷◌, ◌++◌, length, map, take, drop, Option, Some, None, refl, sym, ap, subst, ◌∙◌, take-append-drop, append_assoc}
+use Rattle.std.proofs.Common.{◌≡◌, ℕ, ◌+◌, ◌<◌, get_or, List, [], ◌∷◌, ◌++◌, length, map, take, drop, Option, Some, sym, ap, subst, ◌∙◌, take-append-drop, append_assoc}
 use Rattle.std.proofs.lemmas.List.{map-append, map_push, take_more, drop_more}
 use Rattle.dav_core.specs.Asking.{StoreState}
 use Rattle.dav_engine.specs.Plan.{Locks, ServerState}
 use Rattle.dav_engine.specs.Response.{Response}
 use Rattle.dav_core.specs.declared.errors.FsError.{FsError}
 use Rattle.dav_store.specs.Store.{Store, state_of}
-use Rattle.dav_server.specs.Refusals.{BehindList, over, behind}
+use Rattle.dav_server.specs.Refusals.{BehindList, behind}
 use Rattle.dav_server.specs.Server.{Server, at_turn, AddsReply, StopsIn}
 use Rattle.dav_server.specs.Machine.{Asked, Settings, Steps, StepCut}
+use Rattle.dav_server.proofs.RefusalLemmas.{over_none}
 use Rattle.dav_server.specs.Run.{Turn, begun, Runs, no_more, one_more}
 
 -- one more step at the end of a run
@@ -54,15 +55,9 @@ cut_at {x = x} {old} {new} {ls} {ms} same step = subst (λ u. StepCut u x old ls
 pub ran_to : {s : Settings} {ts : List Turn} {old new : StoreState} {ls ms : Locks} (before after : List Response) → after ≡ before → Runs s ts old ls before new ms → Runs s ts old ls after new ms
 ran_to {s} {ts} {old} {new} {ls} {ms} before after same ran = subst (λ (l : List Response). Runs s ts old ls l new ms) (sym same) ran
 
--- a list of refusals over none is the list itself
-pub over_nothing : (list : List (Option FsError)) → over list [] ≡ list
-over_nothing [] = refl
-over_nothing (Some e ∷ list) = ap (λ l. Some e ∷ l) (over_nothing list)
-over_nothing (None ∷ list) = ap (λ l. None ∷ l) (over_nothing list)
-
 -- the store in memory when a step begins
 pub loaded_store : (was : BehindList Store) (list : List (Option FsError)) → behind list (state_of was.inner) ≡ begun (Some list) (behind was.coming (state_of was.inner))
-loaded_store was list = ap (λ l. record (state_of was.inner) { refusals = l }) (over_nothing list)
+loaded_store was list = ap (λ l. record (state_of was.inner) { refusals = l }) (over_none list)
 
 abbrev server : Settings → StoreState → Locks → Server
 server settings store locks = record { settings = settings; state = record { store = store; locks = locks } }

@@ -1,6 +1,7 @@
 -- Requests that don't name a lock as its principal spare what it covers, and pass no exclusive lock.
-use Rattle.std.proofs.Common.{◌≡◌, ◌++◌, ◌≤◌, ◌&&◌, ℕ, Bool, true, false, List, [], ◌∷◌, codes, bytes_eq, Option, Some, None, refl, sym, ap, subst, ◌∙◌}
+use Rattle.std.proofs.Common.{◌≡◌, ◌++◌, ◌≤◌, ℕ, Bool, true, false, List, [], ◌∷◌, codes, bytes_eq, Option, Some, None, refl, sym, ap, subst, ◌∙◌}
 use Rattle.std.specs.List.{list_any, flat_map}
+use Rattle.std.proofs.lemmas.Bool.{and_parts}
 use Rattle.std.proofs.lemmas.Slice.Eq.{bytes_eq-Decides}
 use Rattle.std.proofs.lemmas.Map.Views.{Contains-from_any}
 use Rattle.std.proofs.lemmas.List.Elements.{All-head}
@@ -15,17 +16,20 @@ use Rattle.dav_engine.specs.declared.request.Body.{Body}
 use Rattle.dav_engine.specs.Client.{requester}
 use Rattle.dav_engine.specs.Conditions.{Conditions, Addressed, AreConditions, AreAddressed, SaysLists, submitted}
 use Rattle.dav_engine.specs.Headers.{Decodes}
+use Rattle.dav_core.specs.Asking.{StoreState}
+use Rattle.dav_engine.specs.Guard.{Stands}
 use Rattle.dav_engine.specs.Method.{MethodPlan}
+use Rattle.dav_engine.specs.Plan.{Locks}
 use Rattle.dav_engine.specs.Response.{Response}
 use Rattle.dav_engine.specs.Sparing.{spares_err, Spared}
 use Rattle.dav_engine.specs.SparingPlans.{IsStranger, SparesBoth}
-use Rattle.dav_engine.proofs.Theorems.{sparing_leaves_covered, reading_spares, put_spares, mkcol_spares}
+use Rattle.dav_engine.proofs.Theorems.{sparing_leaves_covered, sparing_leaves_covered_cut, reading_spares, put_spares, mkcol_spares}
 use Rattle.dav_server.specs.Get.{get, is_get}
 use Rattle.dav_server.specs.Head.{Request, IsHead}
 use Rattle.dav_server.specs.Headers.{headers_of}
-use Rattle.dav_server.specs.Machine.{Settings, Asked, client, PlanOf, gets, heads, puts, patches, makes, not_yet, MeansOf, not_allowed, no_path, no_body, method, Means, no_head, no_method, known, steps}
+use Rattle.dav_server.specs.Machine.{Settings, Asked, client, PlanOf, gets, heads, puts, patches, makes, not_yet, MeansOf, not_allowed, no_path, no_body, method, Means, no_head, no_method, known, StepCut, untouched, cut, steps}
 use Rattle.dav_server.specs.Naming.{NamesLock, by_if}
-use Rattle.dav_server.specs.Passing.{NoLockIsPassed, PassesNoLock}
+use Rattle.dav_server.specs.Passing.{NoLockIsPassed, NoLockIsPassedCut, PassesNoLock}
 use Rattle.dav_server.specs.Run.{Turn, begun}
 use Rattle.dav_server.specs.Server.{Server}
 use Rattle.dav_server.specs.TagLaws.{AreShowable}
@@ -44,21 +48,14 @@ same_principal (Some x) (Some y) h = ap (λ (z : List ℕ). Some z) (sym ((bytes
 same_principal None (Some y) h = cc
 same_principal (Some x) None h = cc
 
-both : (a b : Bool) → (a && b) ≡ true → (a ≡ true) × (b ≡ true)
-both true b h = (refl, h)
-both false b h = cc
-
-same_bytes : (a b : List ℕ) → bytes_eq a b ≡ true → a ≡ b
-same_bytes a b h = (bytes_eq-Decides a b).0 h
-
 module _ (h : Lock) (x : Asked) (r : Request) (head : IsHead x.head r) where
   held_by_lists : (prefix : List ℕ) (own : Path) (o : Option (List Addressed)) → Decodes (SaysLists prefix own) (get_all (headers_of r.fields) (codes "if")) o
       → is_held (requester (client x) (submitted o)) h ≡ true → NamesLock h x
   held_by_lists prefix own None says held = cc
   held_by_lists prefix own (Some lists) (ls, is_if, are) held =
-      let (named, principal) = both _ _ held in
+      let (named, principal) = and_parts _ _ held in
       record {
-        token = by_if r ls head is_if (Contains-from_any same_bytes h.token (tokens_of ls) (ap (list_any (bytes_eq h.token)) (sym (tokens_alike prefix own ls lists are)) ∙ named));
+        token = by_if r head (ls, is_if, Contains-from_any (λ a b. (bytes_eq-Decides a b).0) h.token (tokens_of ls) (ap (list_any (bytes_eq h.token)) (sym (tokens_alike prefix own ls lists are)) ∙ named));
         principal = same_principal h.principal x.principal principal;
       }
 
@@ -97,6 +94,15 @@ module _ (h : Lock) (exclusive : h.shared ≡ false) (x : Asked) (other : ¬ Nam
 pub no_lock_is_passed : NoLockIsPassed
 no_lock_is_passed s x old new ls ms reply h exclusive stands other small world (steps plan outcome means ran) =
     sparing_leaves_covered h plan old new ls ms outcome (means_spares h exclusive x other means).0 (means_proper small means) ran stands world
+
+cut_spares : (s : Settings) (x : Asked) (old : StoreState) (ls : Locks) (h : Lock) {new : StoreState} {ms : Locks} → h.shared ≡ false → Stands h ls → ¬ NamesLock h x → x.moment ≤ last_moment → IsWorld old.world
+    → StepCut s x old ls new ms → Spared (covers h) old.world new.world
+cut_spares s x old ls h exclusive stands other small world untouched = record { same = λ q within. refl; above = λ p q up within folder. folder }
+cut_spares s x old ls h exclusive stands other small world (cut plan {new} {ms} means some) =
+    sparing_leaves_covered_cut h plan old new ls ms (means_spares h exclusive x other means).0 (means_proper small means) some stands world
+
+pub no_lock_is_passed_cut : NoLockIsPassedCut
+no_lock_is_passed_cut s x old new ls ms h exclusive stands other small world stops = cut_spares s x old ls h exclusive stands other small world stops
 
 -- of a run, between any two requests
 pub passes_no_lock : (old : Server) (ts : List Turn) (replies : List Response) → AreShowable ts → PassesNoLock old ts replies

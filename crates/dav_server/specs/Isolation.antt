@@ -1,9 +1,9 @@
 -- Isolation: a locked folder and the replies to its holder don't depend on what others do (RFC 4918, section 7).
-use Rattle.std.specs.Prelude.{◌≡◌, ◌++◌, true, false, List, [], ◌∷◌, All}
+use Rattle.std.specs.Prelude.{◌≡◌, ◌<◌, ◌++◌, ◌⊎◌, true, false, List, [], ◌∷◌, All}
 use Rattle.std.specs.Option.{is_some}
-use Rattle.dav_core.specs.Asking.{StoreState}
+use Rattle.dav_core.specs.Asking.{StoreState, Asks}
 use Rattle.dav_core.specs.Locks.{Lock}
-use Rattle.dav_core.specs.World.{IsWorld}
+use Rattle.dav_core.specs.World.{IsWorld, last_number}
 use Rattle.dav_engine.specs.Alongside.{AsksWithNumbers, SameAnswers}
 use Rattle.dav_engine.specs.Guard.{folder_of, IsGuard, Guarded, Stands}
 use Rattle.dav_engine.specs.Inside.{SameInside, HasFoldersAbove}
@@ -12,7 +12,7 @@ use Rattle.dav_engine.specs.Response.{Response}
 use Rattle.dav_server.specs.Holder.{IsHolderRequest}
 use Rattle.dav_server.specs.Machine.{Settings, StepsBy}
 use Rattle.dav_server.specs.Naming.{NamesLock}
-use Rattle.dav_server.specs.Run.{Turn, begun, Runs}
+use Rattle.dav_server.specs.Run.{Turn, begun, RunsBy, Runs}
 use Rattle.dav_server.specs.Server.{Server}
 use Rattle.dav_server.specs.TagLaws.{AreShowable}
 
@@ -37,6 +37,22 @@ pub data Alone (h : Lock) : List Turn → List Turn → Type 0 where
   alone_none : Alone h [] []
   alone_other : {t : Turn} {ts us : List Turn} → ¬ NamesLock h t.asked → Alone h ts us → Alone h (t ∷ ts) us
   alone_own : {t : Turn} {ts us : List Turn} → NamesLock h t.asked → Alone h ts us → Alone h (t ∷ ts) (t ∷ us)
+
+-- it is known whether a request names the lock as its principal
+abbrev pub IsKnown : Lock → Turn → Type 0
+IsKnown h t = NamesLock h t.asked ⊎ ¬ NamesLock h t.asked
+
+-- Where that is known of each, turns have the holder's turns among them.
+abbrev pub KnownHaveAlone : Type 0
+KnownHaveAlone = (h : Lock) (ts : List Turn) → All (IsKnown h) ts → (us : List Turn) × Alone h ts us
+
+-- No turns are without the holder's turns among them, whatever their bytes are.
+abbrev pub TurnsHaveAlone : Type 0
+TurnsHaveAlone = (h : Lock) (ts : List Turn) → ¬ ((us : List Turn) → ¬ Alone h ts us)
+
+-- And these are one list.
+abbrev pub OneAlone : Type 0
+OneAlone = (h : Lock) (ts us vs : List Turn) → Alone h ts us → Alone h ts vs → us ≡ vs
 
 -- The replies to these turns, and the replies to the holder's turns alone: each of the latter has the same answers as the
 -- reply to the same request among all.
@@ -63,6 +79,22 @@ HoldersAreAlone =
     (s : Settings) (h : Lock) (ts us : List Turn) (old new : StoreState) (ls ms : Locks) (replies : List Response)
     → IsGuard h → Guarded h ls → HasFoldersAbove (folder_of h) old.world → IsWorld old.world → AreShowable ts → AreLoaded ts
     → RunsUnder AsksWithNumbers s h ts old ls replies new ms → new.short ≡ false → Alone h ts us → AreAlone s h ts us old ls replies new
+
+-- ---- numbers
+
+-- A run while a lock stands that ends with a change number to spare, below the last, found each number that it took.
+abbrev pub SpareNumbersSufficeInRuns : Type 0
+SpareNumbersSufficeInRuns =
+    (s : Settings) (h : Lock) (ts : List Turn) (old new : StoreState) (ls ms : Locks) (replies : List Response)
+    → IsWorld old.world → AreShowable ts → RunsUnder Asks s h ts old ls replies new ms → new.world.next < last_number
+    → RunsUnder AsksWithNumbers s h ts old ls replies new ms
+
+-- So did any run that ends with one.
+abbrev pub RunsFindNumbers : Type 0
+RunsFindNumbers =
+    (s : Settings) (ts : List Turn) (old new : StoreState) (ls ms : Locks) (replies : List Response)
+    → IsWorld old.world → AreShowable ts → Runs s ts old ls replies new ms → new.world.next < last_number
+    → RunsBy AsksWithNumbers s ts old ls replies new ms
 
 -- ---- what a run promises
 

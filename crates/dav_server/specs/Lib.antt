@@ -19,6 +19,8 @@ pub mod ServerCode
 pub mod ExchangeView
 pub mod GivenBody
 pub mod Naming
+pub mod NamingCode
 pub mod Holder
 pub mod Passing
+pub mod Ending
 pub mod Isolation

@@ -12,10 +12,13 @@ use Rattle.dav_server.specs.Machine.{Asked}
 abbrev pub IsAngle : ℕ → Type 0
 IsAngle b = (b ≡ 60) ⊎ (b ≡ 62)
 
--- it neither begins nor ends with `<` or `>`
-pub record HasNoAngles (text : List ℕ) : Type 0 where
-  pub first : (b : ℕ) (rest : List ℕ) → text ≡ b ∷ rest → ¬ IsAngle b
-  pub last : (front : List ℕ) (b : ℕ) → text ≡ front ++ b ∷ [] → ¬ IsAngle b
+-- it doesn't begin with `<` or `>`
+abbrev pub BeginsBare : List ℕ → Type 0
+BeginsBare text = (b : ℕ) (rest : List ℕ) → text ≡ b ∷ rest → ¬ IsAngle b
+
+-- it doesn't end with `<` or `>`
+abbrev pub EndsBare : List ℕ → Type 0
+EndsBare text = (front : List ℕ) (b : ℕ) → text ≡ front ++ b ∷ [] → ¬ IsAngle b
 
 -- the text without all `<` and `>` at its ends
 pub record IsBetweenAngles (text token : List ℕ) : Type 0 where
@@ -23,17 +26,21 @@ pub record IsBetweenAngles (text token : List ℕ) : Type 0 where
   pub back : List ℕ
   pub opening : All IsAngle front
   pub closing : All IsAngle back
-  pub whole : text ≡ front ++ token ++ back
-  pub bare : HasNoAngles token
+  pub whole : text ≡ front ++ (token ++ back)
+  pub begins : BeginsBare token
+  pub ends : EndsBare token
 
 -- the token that Lock-Token says: its first value, where that is text, without the angle brackets (RFC 4918, section 10.5)
 abbrev pub SaysLockToken : Headers → List ℕ → Type 0
 SaysLockToken headers token = (text : List ℕ) × (text_in (get headers (codes "lock-token")) ≡ Some text) × IsBetweenAngles text token
 
--- A request names a token: it is one of those of its If, under `Not` too, or it is that of its Lock-Token. Bytes that are no
--- head name nothing.
+-- a state token of the If, under `Not` too (RFC 4918, section 10.4)
+abbrev pub SaysIfToken : Headers → List ℕ → Type 0
+SaysIfToken headers token = (ls : List ConditionList) × IsIfHeader (get_all headers (codes "if")) ls × Contains (tokens_of ls) token
+
+-- A request names a token: it is one of those of its If, or it is that of its Lock-Token. Bytes that are no head name nothing.
 pub data NamesToken (x : Asked) (token : List ℕ) : Type 0 where
-  by_if : (r : Request) (ls : List ConditionList) → IsHead x.head r → IsIfHeader (get_all (headers_of r.fields) (codes "if")) ls → Contains (tokens_of ls) token → NamesToken x token
+  by_if : (r : Request) → IsHead x.head r → SaysIfToken (headers_of r.fields) token → NamesToken x token
   by_lock_token : (r : Request) → IsHead x.head r → SaysLockToken (headers_of r.fields) token → NamesToken x token
 
 -- it names a lock's token as the lock's principal, or, for a lock without a principal, without one

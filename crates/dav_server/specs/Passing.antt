@@ -7,7 +7,7 @@ use Rattle.dav_engine.specs.Guard.{Stands}
 use Rattle.dav_engine.specs.Plan.{Locks}
 use Rattle.dav_engine.specs.Response.{Response}
 use Rattle.dav_engine.specs.Sparing.{Spared}
-use Rattle.dav_server.specs.Machine.{Asked, Settings, Steps}
+use Rattle.dav_server.specs.Machine.{Asked, Settings, Steps, StepCut}
 use Rattle.dav_server.specs.Naming.{NamesLock}
 use Rattle.dav_server.specs.Run.{Turn, begun, Runs}
 use Rattle.dav_server.specs.Server.{Server}
@@ -19,6 +19,13 @@ NoLockIsPassed =
     (s : Settings) (x : Asked) (old new : StoreState) (ls ms : Locks) (reply : Response) (h : Lock)
     → h.shared ≡ false → Stands h ls → ¬ NamesLock h x → x.moment ≤ last_moment → IsWorld old.world
     → Steps s x old ls reply new ms → Spared (covers h) old.world new.world
+
+-- So it does where memory runs out in the step.
+abbrev pub NoLockIsPassedCut : Type 0
+NoLockIsPassedCut =
+    (s : Settings) (x : Asked) (old new : StoreState) (ls ms : Locks) (h : Lock)
+    → h.shared ≡ false → Stands h ls → ¬ NamesLock h x → x.moment ≤ last_moment → IsWorld old.world
+    → StepCut s x old ls new ms → Spared (covers h) old.world new.world
 
 -- In a run of these turns, from a world on: after the first of them, the next passes no exclusive lock.
 abbrev pub PassesNoLock : Server → List Turn → List Response → Type 0

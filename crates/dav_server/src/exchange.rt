@@ -5,8 +5,10 @@ ghost use Rattle.dav_server.specs.GrantToken.{IsTokenByte, IsReserved, IsGrantTo
 #[cfg(test)]
 mod tests;
 
+use crate::head::{headers_of, read_head};
 use crate::moment::Moment;
 pub use crate::moment::{BadMoment, LAST_MOMENT};
+use crate::naming::{is_if_token, is_lock_token};
 use dav_core::errors::NoMemory;
 use dav_engine::Body;
 use std::alloc::Global;
@@ -153,8 +155,10 @@ impl<'a> Model for Exchange<'a> {
 }
 
 impl<'a> Exchange<'a> {
-    ghost use Rattle.std.specs.Prelude.{◌≡◌, ◌≤◌, ◌↔◌, IsOk, IfOk};
+    ghost use Rattle.std.specs.Prelude.{◌≡◌, ◌≤◌, ◌↔◌, IsTrue, IsOk, IfOk, OnErr};
     ghost use Rattle.std.specs.Option.{option_copied};
+    ghost use Rattle.dav_server.specs.Head.{Request, IsHead};
+    ghost use Rattle.dav_server.specs.Naming.{NamesToken};
 
     /// A request: the bytes of its head, its body, who makes it, when, in seconds since 1970, and the token for a lock that
     /// it creates. `BadMoment` past 253402300799, the end of the year 9999. Allocates nothing.
@@ -182,5 +186,23 @@ impl<'a> Exchange<'a> {
             moment,
             token,
         })
+    }
+
+    /// Whether the request names a token of a lock: by its If, under `Not` too, or by its Lock-Token, whose angle brackets
+    /// don't count (RFC 4918, sections 10.4 and 10.5). Bytes that are no head name nothing.
+    ///
+    /// `NoMemory` where memory runs out, and only where the bytes are a head.
+    pub fn names(&self, alloc: Global, token: &str) -> Result<bool, NoMemory>
+        ensures ok { IfOk result (λ named. IsTrue named ↔ NamesToken self.now token.now) }
+        ensures err { OnErr result ((r : Request) × IsHead self.now.head r) }
+    {
+        let Ok(view) = read_head(self.head) else {
+            return Ok(false);
+        };
+        let headers = headers_of(alloc, &view)?;
+        if is_lock_token(&headers, token) {
+            return Ok(true);
+        }
+        is_if_token(alloc, &headers, token)
     }
 }

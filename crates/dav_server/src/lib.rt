@@ -11,6 +11,7 @@ pub mod head;
 pub mod laws;
 pub mod method;
 mod moment;
+mod naming;
 pub mod refusing;
 #[cfg(test)]
 mod rows;

@@ -3,6 +3,7 @@ ghost use Rattle.std.specs.Option.{is_some};
 ghost use Rattle.std.specs.Prelude.{◌≡◌, ◌<◌, ◌≤◌, ◌++◌, ◌∷◌, [], true, vec_len, IfOk, IfErr, OnOk, OnErr};
 ghost use Rattle.std.specs.Vec.{vec_capacity};
 ghost use Rattle.dav_core.specs.World.{last_moment};
+ghost use Rattle.dav_server.specs.Ending.{EndsNoLock};
 ghost use Rattle.dav_server.specs.Isolation.{IsIsolated};
 ghost use Rattle.dav_server.specs.Passing.{PassesNoLock};
 ghost use Rattle.dav_server.specs.Server.{AddsReply, AnswersAll, AnswersSome, StopsIn, TagsTell, at_turn, turns};
@@ -86,7 +87,7 @@ fn answer_next<F: DavFileSystem, L: DavLockSystem>(
 impl<F: DavFileSystem, L: DavLockSystem> DavHandler<F, L> {
     /// Answers requests, one after another: the replies, the store and the locks are those of a run of the machine. From a
     /// world, equal entity tags show equal bytes, and no request changes what an exclusive lock covers unless it names the
-    /// lock's token as the lock's principal.
+    /// lock's token as the lock's principal. No request ends a lock whose token it doesn't name.
     ///
     /// `RunFault` where memory ran out outside the store, with the replies that were given before; they are those of a run
     /// of the machine, and of the next request at most the first calls of the store were made, each of them whole.
@@ -98,6 +99,8 @@ impl<F: DavFileSystem, L: DavLockSystem> DavHandler<F, L> {
             TagsTell self.old.server (turns exchanges.now) replies.items) }
         ensures passed { IfOk result (λ replies.
             PassesNoLock self.old.server (turns exchanges.now) replies.items) }
+        ensures kept { IfOk result (λ replies.
+            EndsNoLock self.old.server (turns exchanges.now) replies.items) }
         ensures fault { IfErr result (λ fault.
             AnswersSome self.old.server (turns exchanges.now) fault.replies.items self.new.server) }
     {
@@ -137,9 +140,9 @@ fn answer_step(
 /// Answers requests, one after another, on a store in memory that refuses the calls which each step names: the replies, the
 /// store and the locks are those of a run of the machine, and where the store's `was_short` is false, no other run leaves
 /// it so. From a world, equal entity tags show equal bytes, whatever is refused, and no request changes what an exclusive
-/// lock covers unless it names the lock's token as the lock's principal. While an exclusive lock of infinite depth stands on
-/// a folder, and only its holder names it, the folder and the answers to the holder are as if the holder's requests were
-/// alone.
+/// lock covers unless it names the lock's token as the lock's principal; nor does any request end a lock whose token it
+/// doesn't name. While an exclusive lock of infinite depth stands on a folder, and only its holder names it, the folder and
+/// the answers to the holder are as if the holder's requests were alone.
 ///
 /// `RunFault` where memory ran out outside the store, with the replies that were given before; they are those of a run of
 /// the machine, and of the next request at most the first calls of the store were made, each of them whole.
@@ -155,6 +158,8 @@ pub fn run_refused(
         TagsTell handler.old.server steps.entry.items replies.items) }
     ensures passed { IfOk result (λ replies.
         PassesNoLock handler.old.server steps.entry.items replies.items) }
+    ensures kept { IfOk result (λ replies.
+        EndsNoLock handler.old.server steps.entry.items replies.items) }
     ensures isolated { IfOk result (λ replies.
         IsIsolated handler.old.server steps.entry.items replies.items) }
     ensures fault { IfErr result (λ fault.

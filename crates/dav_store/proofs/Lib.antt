@@ -8,3 +8,7 @@ pub mod StoreLaws
 pub mod FrontLemmas
 pub mod LockLemmas
 pub mod NamedLemmas
+pub mod TreeLists
+pub mod TreeSteps
+pub mod TreeNumbers
+pub mod TreeClimbs

@@ -4,3 +4,6 @@ pub mod StoreCode
 pub mod KindOf
 pub mod Answered
 pub mod LockCalls
+pub mod Tree
+pub mod TreeLaws
+pub mod TreeLends

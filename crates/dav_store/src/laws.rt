@@ -1,8 +1,10 @@
 //! Laws of the stores in memory. Each function does nothing: its contract is a theorem on the definitions.
 ghost use Rattle.dav_store.specs.Laws.{RefusesNothing, MemoryComesLast, NeverRunsShort};
+ghost use Rattle.dav_store.specs.TreeLaws.{BeginsAtTheRoot, AddsTheNextNumber, KeepsNumbers, ClimbsFarEnough};
 
 use crate::memfs::MemFs;
 use dav_core::fs::DavFileSystem;
+use std::hash::Hash;
 
 /// A store in memory refuses no call but by the call's own rules, and memory comes last: a call is answered by what it
 /// means, and only where no rule refuses it, and it allocates, may it report that memory ran out, which changes nothing
@@ -11,4 +13,18 @@ pub fn memory_comes_last()
     ensures refusals { RefusesNothing ⟦<MemFs as DavFileSystem>⟧.state }
     ensures memory { MemoryComesLast ⟦<MemFs as DavFileSystem>⟧.state }
     ensures exact { NeverRunsShort ⟦<MemFs as DavFileSystem>⟧.state }
+{}
+
+/// In a tree no number is used twice: a node that is added takes the number after the last that was handed out, which no
+/// node had, and no call makes a node of a number that was handed out before.
+pub fn numbers_are_used_once<K: Eq + Hash, D>()
+    ensures begins { BeginsAtTheRoot K D }
+    ensures added { AddsTheNextNumber K.eq D }
+    ensures kept { KeepsNumbers K.eq D }
+{}
+
+/// What is found by climbing as many steps as a tree has nodes is all that is at or below a node: where any number of
+/// steps to the parent leads to the node, these do.
+pub fn climbs_are_far_enough<K: Eq + Hash, D>()
+    ensures { ClimbsFarEnough K D }
 {}

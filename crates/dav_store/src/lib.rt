@@ -13,3 +13,4 @@ mod paths;
 mod properties;
 #[cfg(test)]
 mod tests;
+pub mod tree;

@@ -1,10 +1,11 @@
 //! Laws of locked folders. Each function does nothing: its contract is a theorem on the definitions.
 ghost use Rattle.dav_engine.specs.Alongside.{AlongsideAgree, SpareNumbersSuffice};
 ghost use Rattle.dav_engine.specs.AlongsidePlans.{PutGoesAlong, MkcolGoesAlong};
+ghost use Rattle.dav_engine.specs.Ending.{KeptLocksStand, KeptLocksStandCut, ReadingKeepsLocks, PutKeepsLocks, MkcolKeepsLocks, DeleteKeepsLocks};
 ghost use Rattle.dav_engine.specs.Guard.{FreeIsHeld, FreeIsApart, FreeIsUncovered, GrantedGuards};
 ghost use Rattle.dav_engine.specs.Inside.{FoldersAreAbove};
-ghost use Rattle.dav_engine.specs.Sparing.{SparingLeavesCovered, SparingLeavesInside};
-ghost use Rattle.dav_engine.specs.SparingPlans.{ReadingSpares, PutSpares, MkcolSpares};
+ghost use Rattle.dav_engine.specs.Sparing.{SparingLeavesCovered, SparingLeavesCoveredCut, SparingLeavesInside};
+ghost use Rattle.dav_engine.specs.SparingPlans.{ReadingSpares, PutSpares, MkcolSpares, DeleteSpares};
 
 /// At a folder that a lock guards (exclusive, of infinite depth) and below it, a path is free exactly for the requester that
 /// holds the lock. What is free with everything below, for any other requester, is apart from the folder. And what is free
@@ -19,18 +20,19 @@ pub fn guarded_folders_are_free_for_holders()
 /// A plan that spares what an exclusive lock covers leaves the content there, whatever else is in the list of locks, whatever
 /// the store refuses and where it runs out of memory. A plan that spares a guarded folder leaves what is inside, and the
 /// folder stays guarded as long as the lock is in the list (RFC 4918, section 7).
-#[tactic(auto, using(crate::proofs::SparingLaw::sparing_leaves_covered, crate::proofs::SparingLaw::sparing_leaves_inside))]
 pub fn sparing_plans_leave_locked_content()
     ensures covered { SparingLeavesCovered }
+    ensures cut { SparingLeavesCoveredCut }
     ensures inside { SparingLeavesInside }
 {}
 
-/// PUT, PATCH and MKCOL of a client that doesn't hold an exclusive lock spare what it covers, and plans that only read spare
-/// all (RFC 4918, section 7).
+/// PUT, PATCH, MKCOL and DELETE of a client that doesn't hold an exclusive lock spare what it covers, and plans that only read
+/// spare all (RFC 4918, section 7).
 pub fn strangers_spare_what_is_locked()
     ensures reading { ReadingSpares }
     ensures put { PutSpares }
     ensures mkcol { MkcolSpares }
+    ensures delete { DeleteSpares }
 {}
 
 /// A plan that goes along with itself has the same outcome in two worlds that have the same content in a guarded folder, but
@@ -53,4 +55,16 @@ pub fn spare_numbers_suffice()
 pub fn granted_locks_guard_their_folders()
     ensures guards { GrantedGuards }
     ensures above { FoldersAreAbove }
+{}
+
+/// A lock that a plan leaves in the list stands after it, whatever the store refuses, and also where memory runs out in the
+/// plan. Plans that only read leave every lock, and so do PUT, PATCH and MKCOL, whoever
+/// asks for them, and a DELETE of a client that doesn't hold the lock (RFC 4918, sections 7 and 9.6).
+pub fn kept_locks_stand()
+    ensures stands { KeptLocksStand }
+    ensures cut { KeptLocksStandCut }
+    ensures reading { ReadingKeepsLocks }
+    ensures put { PutKeepsLocks }
+    ensures mkcol { MkcolKeepsLocks }
+    ensures delete { DeleteKeepsLocks }
 {}

@@ -3,7 +3,7 @@ use super::*;
 use crate::asserting::same;
 use crate::davhandler::HandlerError;
 use crate::moment::Moment;
-use crate::rows::{Player, play_rows, unescaped};
+use crate::rows::{NoRow, Player, play_rows, unescaped};
 use std::str;
 use std::test::Fail;
 
@@ -34,6 +34,63 @@ a) -> Refused
 a\x7F -> Refused
 \xC3\xA9 -> Refused
 "##;
+
+// The head of a request, and a token, one after the other, and whether the request names the token.
+const NAMES: &str = r##"# no header names a token
+PUT /a HTTP/1.1\r\n\r\n | urn:t:1 -> false
+PUT /a HTTP/1.1\r\nX: <urn:t:1>\r\n\r\n | urn:t:1 -> false
+# If names its state tokens
+PUT /a HTTP/1.1\r\nIf: (<urn:t:1>)\r\n\r\n | urn:t:1 -> true
+PUT /a HTTP/1.1\r\nIf: (<urn:t:1>)\r\n\r\n | urn:t:2 -> false
+PUT /a HTTP/1.1\r\nIf: (<urn:t:1>)\r\n\r\n | urn:t -> false
+PUT /a HTTP/1.1\r\nIf: (<urn:t:1>)\r\n\r\n | <urn:t:1> -> false
+PUT /a HTTP/1.1\r\nif: (["x"] <urn:t:1>) (<urn:t:2>)\r\n\r\n | urn:t:2 -> true
+PUT /a HTTP/1.1\r\nif: (["x"] <urn:t:1>) (<urn:t:2>)\r\n\r\n | "x" -> false
+# under Not too
+PUT /a HTTP/1.1\r\nIf: (Not <urn:t:1>)\r\n\r\n | urn:t:1 -> true
+# an If that doesn't decode, and two of them, name nothing
+PUT /a HTTP/1.1\r\nIf: (<urn:t:1>\r\n\r\n | urn:t:1 -> false
+PUT /a HTTP/1.1\r\nIf: (<urn:t:1>)\r\nIf: (<urn:t:2>)\r\n\r\n | urn:t:1 -> false
+# Lock-Token names what it has between angle brackets, its first value alone
+UNLOCK /a HTTP/1.1\r\nLock-Token: <urn:t:1>\r\n\r\n | urn:t:1 -> true
+UNLOCK /a HTTP/1.1\r\nLock-Token: <<urn:t:1>>>\r\n\r\n | urn:t:1 -> true
+UNLOCK /a HTTP/1.1\r\nLock-Token: urn:t:1\r\n\r\n | urn:t:1 -> true
+UNLOCK /a HTTP/1.1\r\nLock-Token: <urn:<t>:1>\r\n\r\n | urn:<t>:1 -> true
+UNLOCK /a HTTP/1.1\r\nLock-Token: <urn:t:1>\r\n\r\n | <urn:t:1> -> false
+UNLOCK /a HTTP/1.1\r\nLock-Token: <urn:t:1>\r\nLock-Token: <urn:t:2>\r\n\r\n | urn:t:1 -> true
+UNLOCK /a HTTP/1.1\r\nLock-Token: <urn:t:1>\r\nLock-Token: <urn:t:2>\r\n\r\n | urn:t:2 -> false
+UNLOCK /a HTTP/1.1\r\nLock-Token: <urn:t:\xE9>\r\n\r\n | urn:t: -> false
+# both name tokens
+PUT /a HTTP/1.1\r\nIf: (<urn:t:1>)\r\nLock-Token: <urn:t:2>\r\n\r\n | urn:t:1 -> true
+PUT /a HTTP/1.1\r\nIf: (<urn:t:1>)\r\nLock-Token: <urn:t:2>\r\n\r\n | urn:t:2 -> true
+# bytes that are no head name nothing
+ | urn:t:1 -> false
+If: (<urn:t:1>) | urn:t:1 -> false
+PUT /a HTTP/1.1\r\nIf: (<urn:t:1>)\r\n\r\nmore | urn:t:1 -> false
+"##;
+
+// Asks whether a request names a token.
+#[derive(Drop)]
+struct Naming;
+
+impl Player for Naming {
+    fn begin(&mut self, _alloc: Global) -> Result<(), Fail> {
+        Ok(())
+    }
+
+    fn answer(&mut self, alloc: Global, question: &'static str) -> Result<Vec<u8>, Fail> {
+        let (head, token) = question.split_once(" | ").ok_or(NoRow(question))?;
+        let head = unescaped(alloc, head)?;
+        let exchange = Exchange::new(&head, Body::None, None, 1, None)?;
+        let named = exchange.names(alloc, token)?;
+        Ok(format!(in alloc; "{named}")?.into_bytes())
+    }
+}
+
+#[test]
+fn names_tokens(rt: HostRuntime) -> Result<(), Fail> {
+    play_rows(&rt, &mut Naming, NAMES)
+}
 
 // Asks for the token of a text.
 #[derive(Drop)]

@@ -1,16 +1,42 @@
 //! Laws of locked folders. Each function does nothing: its contract is a theorem on the definitions.
-ghost use Rattle.dav_server.specs.Isolation.{HoldersAreAlone};
-ghost use Rattle.dav_server.specs.Passing.{NoLockIsPassed};
+ghost use Rattle.dav_server.specs.Ending.{NoLockEnds, NoLockEndsCut};
+ghost use Rattle.dav_server.specs.Isolation.{HoldersAreAlone, KnownHaveAlone, TurnsHaveAlone, OneAlone, RunsFindNumbers, SpareNumbersSufficeInRuns};
+ghost use Rattle.dav_server.specs.Passing.{NoLockIsPassed, NoLockIsPassedCut};
 
 /// What an exclusive lock covers when a request begins keeps its content, unless the request names the lock's token as the
-/// lock's principal, whatever else is in the list of locks and whatever the store refuses (RFC 4918, section 7).
-#[tactic(auto, using(crate::proofs::StrangerLemmas::no_lock_is_passed))]
+/// lock's principal, whatever else is in the list of locks, whatever the store refuses, and where memory runs out in the
+/// step (RFC 4918, section 7).
 pub fn no_lock_is_passed()
-    ensures { NoLockIsPassed }
+    ensures step { NoLockIsPassed }
+    ensures cut { NoLockIsPassedCut }
+{}
+
+/// A lock that is in the list when a request begins is in the list after it, perhaps refreshed, unless the request names the
+/// lock's token; whatever the store refuses, and where memory runs out in the step (RFC 4918, sections 7 and 9.11).
+pub fn no_lock_ends()
+    ensures step { NoLockEnds }
+    ensures cut { NoLockEndsCut }
 {}
 
 /// While a folder is guarded by a lock, the folder and the answers to its holder are those of the holder's requests alone
 /// (RFC 4918, section 7).
 pub fn holders_are_alone()
     ensures { HoldersAreAlone }
+{}
+
+/// Where it is known of each request whether it names a lock as its principal, requests have the holder's requests among
+/// them, in order. [`Exchange::names`](crate::exchange::Exchange::names) decides it of a request. Whether bytes are a head
+/// is a relation that the law doesn't decide: so of any requests at all it says that it can't be that there is no such list.
+/// There is one at most.
+pub fn holders_turns_are_known()
+    ensures known { KnownHaveAlone }
+    ensures all { TurnsHaveAlone }
+    ensures one { OneAlone }
+{}
+
+/// A run that ends with a change number to spare found each number that it took, so no call of it met used-up numbers; the
+/// same of a run while a lock stands.
+pub fn spare_numbers_suffice_in_runs()
+    ensures runs { RunsFindNumbers }
+    ensures under { SpareNumbersSufficeInRuns }
 {}

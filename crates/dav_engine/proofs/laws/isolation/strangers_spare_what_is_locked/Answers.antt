@@ -1,4 +1,5 @@
 use Rattle.dav_engine.proofs.SparingPlans.{reading_spares, put_spares, mkcol_spares}
+use Rattle.dav_engine.proofs.SparingDelete.{delete_spares}
 use Rattle.dav_engine.proofs.laws.isolation.strangers_spare_what_is_locked.Goals as goal
 
 pub returns-clause-reading : goal.returns-clause-reading
@@ -9,3 +10,6 @@ returns-clause-put c = put_spares
 
 pub returns-clause-mkcol : goal.returns-clause-mkcol
 returns-clause-mkcol c = mkcol_spares
+
+pub returns-clause-delete : goal.returns-clause-delete
+returns-clause-delete c = delete_spares

@@ -2,6 +2,7 @@ use Rattle.std.proofs.Common.{◌∙◌, [], ◌+◌, map, take, drop, refl}
 use Rattle.dav_server.specs.Run.{no_more}
 use Rattle.dav_server.specs.Server.{turn_of}
 use Rattle.dav_server.proofs.RunLemmas.{run_further, parts_of, steps_at, cut_at, ran_to}
+use Rattle.dav_server.proofs.EndingLemmas.{ends_no_lock}
 use Rattle.dav_server.proofs.StrangerLemmas.{passes_no_lock}
 use Rattle.dav_server.proofs.TurnLemmas.{ran_all, run_tells, none_showable, showable_further, showable_all}
 use Rattle.dav_server.proofs.davhandler.DavHandler.run.Goals as goal
@@ -40,3 +41,6 @@ pub returns-clause-passed : goal.returns-clause-passed
 returns-clause-passed g c =
     passes_no_lock _ (map turn_of c.args.exchanges.now) _
     (showable_all c.args.exchanges.now c.loop-exchange.exchange-index c.loop-exchange-test.false c.loop-exchange.invariant.2)
+
+pub returns-clause-kept : goal.returns-clause-kept
+returns-clause-kept g c = ends_no_lock _ (map turn_of c.args.exchanges.now) _

@@ -1,5 +1,8 @@
-use Rattle.dav_server.proofs.StrangerLemmas as strangers
+use Rattle.dav_server.proofs.StrangerLemmas.{no_lock_is_passed, no_lock_is_passed_cut}
 use Rattle.dav_server.proofs.laws.isolation.no_lock_is_passed.Goals as goal
 
-pub returns : goal.returns
-returns c = strangers.no_lock_is_passed
+pub returns-clause-step : goal.returns-clause-step
+returns-clause-step c = no_lock_is_passed
+
+pub returns-clause-cut : goal.returns-clause-cut
+returns-clause-cut c = no_lock_is_passed_cut

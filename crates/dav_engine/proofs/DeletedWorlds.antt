@@ -1,0 +1,283 @@
+-- What a DELETE leaves.
+use Rattle.std.proofs.Common.{◌≡◌, ◌≢◌, ℕ, ◌≤◌, ◌&&◌, arith, if◌then◌else◌, zero, suc, Bool, true, false, List, [], ◌∷◌, Option, Some, None, Result, Ok, Err, refl, sym, ap, subst, ◌∙◌, map}
+use Rattle.std.specs.Prelude.{⊤}
+use Rattle.std.specs.Option.{option_map}
+use Rattle.std.proofs.lemmas.List.Elements.{All-append, All-cons, All-head, All-nil}
+use Rattle.dav_core.specs.declared.errors.FsError.{FsError}
+use Rattle.dav_core.specs.declared.errors.FsError.TheVariants as fs
+use Rattle.dav_core.specs.declared.errors.DavError.{DavError}
+use Rattle.dav_core.specs.declared.errors.DavError.TheVariants as dav
+use Rattle.dav_core.specs.declared.fs.DavMetaData.{DavMetaData}
+use Rattle.dav_core.specs.Asking.{Call, Answer, StoreState, Asks, meaning, Metadata}
+use Rattle.dav_core.specs.Path.{Path, PathText, names, star, is_at_or_under, are_equal}
+use Rattle.dav_core.specs.Status.{fs_status}
+use Rattle.dav_core.specs.Locks.{Lock, deleted}
+use Rattle.dav_core.specs.World.{World, Node, node_at, is_folder, IsWorld}
+use Rattle.dav_engine.specs.Client.{Client}
+use Rattle.dav_engine.specs.Conditions.{Conditions}
+use Rattle.dav_engine.specs.Delete.{DeleteHeaders, whole_depth, delete_allowed, drop_if_gone, delete_reply, delete_found}
+use Rattle.dav_engine.specs.Folder.{closed, child_of, room_at}
+use Rattle.dav_engine.specs.Method.{MethodPlan, then as followed_by, ◌>>=◌, refused_as, ask_for, set_by}
+use Rattle.dav_engine.specs.Multistatus.{PathStatus, multi_reply, one_reply, status_reply, multistatus_reply}
+use Rattle.dav_engine.specs.Plan.{Plan, Done, Ask, Look, Keep, Locks, kept, Ran, ran_look, ran_keep}
+use Rattle.dav_engine.specs.Removal.{Fault, Stays, StaysWhole, StaysWith, Walk, refused_by, emptied_status, report_of, removal, remove, each, remove_emptied, remove_found, remove_listed, remove_member}
+use Rattle.dav_engine.specs.Response.{Response}
+use Rattle.dav_engine.specs.RemovalLaws.{timeless, timeless_at, LeavesSurvivors, IsErrorReport, AreErrorReports, NoContentMeansGone, locks_after, DeleteLeaves, DeletesLeaveSurvivors, RefusedDeleteLeavesAll}
+use Rattle.dav_engine.proofs.CallWorlds.{did, did_leave}
+use Rattle.dav_engine.proofs.ChildLemmas.{names_closed, closed_is_path}
+use Rattle.dav_engine.proofs.DeleteWorld.{only_delete_allowed}
+use Rattle.dav_engine.proofs.PutWorld.{look_reads}
+use Rattle.dav_engine.proofs.RunLemmas.{first, finish, parts, only_list}
+use Rattle.dav_engine.proofs.SurvivorLemmas.{answered, dir_told, survivors_by}
+use Rattle.dav_engine.proofs.DeleteWorld.{only_removal}
+use Rattle.dav_engine.proofs.WorldPlans.{only_reads, reading_leaves, ran_split}
+
+behind_look : {A : Type 0} {go : Locks → Plan A} {old new : StoreState} {ls ms : Locks} {a : A} → Ran Asks (Look go) old ls a new ms → Ran Asks (go ls) old ls a new ms
+behind_look (ran_look more) = more
+
+behind_keep : {A : Type 0} {locks : List Lock} {rest : Plan A} {old new : StoreState} {ls ms : Locks} {a : A} → Ran Asks (Keep locks rest) old ls a new ms → Ran Asks rest old (kept ls locks) a new ms
+behind_keep (ran_keep more) = more
+
+-- the locks are dropped where nothing stays, and the store is left
+record Dropped (q : PathText) (faults : List Fault) (old : StoreState) (ls : Locks) (new : StoreState) (ms : Locks) : Type 0 where
+  same : new ≡ old
+  locks : ms ≡ locks_after (names q) faults ls
+
+drops : (q : PathText) (ls : Locks) {old new : StoreState} {ms : Locks} → Ran Asks (set_by (deleted (names q)) ls) old ls (Ok tt) new ms → Dropped q [] old ls new ms
+drops q None ran = let ends = finish ran in record { same = ends.1; locks = ends.2 }
+drops q (Some l) ran = let ends = finish (behind_keep ran) in record { same = ends.1; locks = ends.2 }
+
+dropped : (q : PathText) (faults : List Fault) {old new : StoreState} {ls ms : Locks} → Ran Asks (drop_if_gone q faults) old ls (Ok tt) new ms → Dropped q faults old ls new ms
+dropped q [] {ls = ls} ran = drops q ls (behind_look ran)
+dropped q (f ∷ faults) ran = let ends = finish ran in record { same = ends.1; locks = ends.2 }
+
+-- looking at a path tells whether a folder is there, and leaves the world
+told_dir : {p : Path} {old new : StoreState} {m : DavMetaData} → Asks (Metadata p) old (Ok m) new → (m.dir ≡ is_folder old.world p) × (new.world ≡ old.world)
+unfolding meaning
+told_dir {p} {old} one =
+    let (r, h, is, after) = answered one in
+    let (dir, world) = dir_told old.world p r h in
+    (ap (λ (x : DavMetaData). x.dir) (sym is) ∙ dir, after ∙ world)
+
+-- ---- a removal: no error ends it, and what it reports are errors
+
+-- a plan that no error ends, and what holds of all that it may give
+data Gives {A : Type 0} (P : A → Type 0) : MethodPlan A → Type 0 where
+  gives_done : {a : A} → P a → Gives P (Done (Ok a))
+  gives_ask : {c : Call} {go : Result (Answer c) FsError → MethodPlan A} → ((answer : Result (Answer c) FsError) → Gives P (go answer)) → Gives P (Ask c go)
+  gives_look : {go : Locks → MethodPlan A} → ((ls : Locks) → Gives P (go ls)) → Gives P (Look go)
+  gives_keep : {locks : List Lock} {rest : MethodPlan A} → Gives P rest → Gives P (Keep locks rest)
+
+never_errs : {A : Type 0} {P : A → Type 0} {plan : MethodPlan A} {old new : StoreState} {ls ms : Locks} {e : DavError} → Gives P plan → Ran Asks plan old ls (Err e) new ms → ⊥
+never_errs (gives_done p) ran = let ends = finish ran in let clash = ends.0 in cc
+never_errs (gives_ask more) ran = let f = first ran in never_errs (more f.answer) f.more
+never_errs (gives_look more) (ran_look {ls = ls} rest) = never_errs (more ls) rest
+never_errs (gives_keep more) (ran_keep rest) = never_errs more rest
+
+gave_by : {A : Type 0} {P : A → Type 0} {plan : MethodPlan A} {old new : StoreState} {ls ms : Locks} {a : A} → Gives P plan → Ran Asks plan old ls (Ok a) new ms → P a
+gave_by {P = P} {a = a} (gives_done {a = b} p) ran = let ends = finish ran in let is = ends.0 in let same : a ≡ b = cc in subst P (sym same) p
+gave_by (gives_ask more) ran = let f = first ran in gave_by (more f.answer) f.more
+gave_by (gives_look more) (ran_look {ls = ls} rest) = gave_by (more ls) rest
+gave_by (gives_keep more) (ran_keep rest) = gave_by more rest
+
+gives_bind : {A B : Type 0} {P : A → Type 0} {Q : B → Type 0} (plan : MethodPlan A) (f : A → MethodPlan B) → Gives P plan → ((a : A) → P a → Gives Q (f a)) → Gives Q (plan >>= f)
+gives_bind plan f (gives_done {a = a} p) more = more a p
+gives_bind plan f (gives_ask {go = go} rest) more = gives_ask (λ answer. gives_bind (go answer) f (rest answer) more)
+gives_bind plan f (gives_look {go = go} rest) more = gives_look (λ ls. gives_bind (go ls) f (rest ls) more)
+gives_bind plan f (gives_keep {rest = rest} is) more = gives_keep (gives_bind rest f is more)
+
+error_status : (e : FsError) → 400 ≤ fs_status e
+error_status fs.NotImplemented = omega arith
+error_status fs.GeneralFailure = omega arith
+error_status fs.Exists = omega arith
+error_status fs.NotFound = omega arith
+error_status fs.Forbidden = omega arith
+error_status fs.InsufficientStorage = omega arith
+error_status fs.LoopDetected = omega arith
+error_status fs.PathTooLong = omega arith
+error_status fs.TooLarge = omega arith
+error_status fs.IsRemote = omega arith
+
+error_emptied : (e : FsError) → 400 ≤ emptied_status e
+error_emptied fs.NotImplemented = omega arith
+error_emptied fs.GeneralFailure = omega arith
+error_emptied fs.Exists = omega arith
+error_emptied fs.NotFound = omega arith
+error_emptied fs.Forbidden = omega arith
+error_emptied fs.InsufficientStorage = omega arith
+error_emptied fs.LoopDetected = omega arith
+error_emptied fs.PathTooLong = omega arith
+error_emptied fs.TooLarge = omega arith
+error_emptied fs.IsRemote = omega arith
+
+one_error : (f : Fault) → IsErrorReport f → AreErrorReports (f ∷ [])
+one_error f is = All-cons IsErrorReport f [] is (All-nil IsErrorReport)
+
+refused_errors : {A : Type 0} (fault : FsError → Fault) (r : Result A FsError) → ((e : FsError) → IsErrorReport (fault e)) → AreErrorReports (refused_by fault r)
+refused_errors fault (Ok a) all = All-nil IsErrorReport
+refused_errors fault (Err e) all = one_error (fault e) (all e)
+
+gives_each : {X : Type 0} (f : X → MethodPlan (List Fault)) (xs : List X) → ((x : X) → Gives AreErrorReports (f x)) → Gives AreErrorReports (each f xs)
+gives_each f [] more = gives_done (All-nil IsErrorReport)
+gives_each f (x ∷ xs) more =
+    gives_bind (f x) _ (more x) (λ reports errors. gives_bind (each f xs) _ (gives_each f xs more) (λ others too. gives_done (All-append IsErrorReport reports others errors too)))
+
+gives_emptied : (now : ℕ) (p : PathText) (faults : List Fault) → AreErrorReports faults → Gives AreErrorReports (remove_emptied now p faults)
+gives_emptied now p [] errors = gives_ask (λ answer. gives_done (refused_errors (λ e. Stays p (emptied_status e)) answer error_emptied))
+gives_emptied now p (f ∷ faults) errors = gives_done errors
+
+gives_found : (walk : Walk) (p : PathText) (name : List ℕ) (seen : Result DavMetaData FsError) → ((q : PathText) (dir : Bool) → Gives AreErrorReports (walk q dir)) → Gives AreErrorReports (remove_found walk p name seen)
+gives_found walk p name (Ok m) more = more (child_of p name m.dir) m.dir
+gives_found walk p name (Err e) more = gives_done (one_error (StaysWith p name (fs_status e)) (error_status e))
+
+gives_listed : (walk : Walk) (now : ℕ) (p : PathText) (listed : Result (List (List ℕ × Bool)) FsError) → ((q : PathText) (dir : Bool) → Gives AreErrorReports (walk q dir)) → Gives AreErrorReports (remove_listed walk now p listed)
+gives_listed walk now p (Err e) more = gives_done (one_error (StaysWhole p (fs_status e)) (error_status e))
+gives_listed walk now p (Ok entries) more =
+    gives_bind (each (remove_member walk p) entries) _
+    (gives_each (remove_member walk p) entries (λ entry. gives_ask (λ seen. gives_found walk p entry.0 seen more)))
+    (λ faults errors. gives_emptied now p faults errors)
+
+gives_remove : (room now : ℕ) (p : PathText) (dir : Bool) → Gives AreErrorReports (remove room now p dir)
+gives_remove room now p false = gives_ask (λ answer. gives_done (refused_errors (λ e. Stays p (fs_status e)) answer error_status))
+gives_remove zero now p true = gives_done (one_error (StaysWhole p (fs_status fs.PathTooLong)) (error_status fs.PathTooLong))
+gives_remove (suc room) now p true = gives_ask (λ listed. gives_listed (λ q dir. remove room now q dir) now p listed (λ q dir. gives_remove room now q dir))
+
+gives_removal : (deep : Bool) (now : ℕ) (p : PathText) (dir : Bool) → Gives AreErrorReports (removal deep now p dir)
+gives_removal true now p dir = gives_remove (room_at p) now p dir
+gives_removal false now p true = gives_ask (λ answer. gives_done (refused_errors (λ e. StaysWhole p (fs_status e)) answer error_status))
+gives_removal false now p false = gives_ask (λ answer. gives_done (refused_errors (λ e. Stays p (fs_status e)) answer error_status))
+
+-- ---- a DELETE that a reply ends
+
+found_leaves : (deep : Bool) (c : Conditions) (p : PathText) (who : Client) (m : DavMetaData) {old new : StoreState} {ls ms : Locks} {r : Response}
+    → IsWorld old.world → p.bytes ≢ star → m.dir ≡ is_folder old.world (names p) → Ran Asks (delete_found deep c (closed m.dir p) who m) old ls (Ok r) new ms
+    → (faults : List Fault) × DeleteLeaves p faults old new ls ms r
+found_leaves deep c p who m {old} {new} {ls} {ms} {r} world other dir ran =
+    let q : PathText = closed m.dir p in
+    let a = parts (delete_allowed c q who m) _ ran in
+    let (w1, l1) = reading_leaves (only_reads look_reads (only_delete_allowed c q who m)) a.one in
+    let b = parts (removal deep who.moment q m.dir) _ a.more in
+    let l2 = only_list (only_removal deep who.moment q m.dir) b.one in
+    let d = parts (drop_if_gone q b.value) _ b.more in
+    let drop = dropped q b.value d.one in
+    let ends = finish d.more in
+    let path : names q ≡ names p = names_closed m.dir p other in
+    let told : m.dir ≡ is_folder a.mid.world (names q) = dir ∙ ap (λ (w : World). is_folder w (names p)) (sym w1) ∙ ap (is_folder a.mid.world) (sym path) in
+    let left : LeavesSurvivors (names q) b.value a.mid.world b.mid.world = survivors_by deep who.moment q m.dir (subst IsWorld (sym w1) world) (closed_is_path m.dir p other) told b.one in (
+      b.value,
+      record {
+        survivors =
+            subst (λ (x : Path). LeavesSurvivors x b.value old.world new.world) path
+            (subst (λ (w : World). LeavesSurvivors (names q) b.value w new.world) w1
+            (subst (λ (s : StoreState). LeavesSurvivors (names q) b.value a.mid.world s.world) (sym (ends.1 ∙ drop.same)) left));
+        errors = gave_by (gives_removal deep who.moment q m.dir) b.one;
+        reply = ends.0 ∙ ap (λ x. delete_reply (closed x p) b.value) dir;
+        locks = ends.2 ∙ drop.locks ∙ ap (λ (x : Path). locks_after x b.value b.ks) path ∙ ap (locks_after (names p) b.value) (l2 ∙ l1);
+      },
+    )
+
+answer_leaves : (deep : Bool) (h : DeleteHeaders) (p : PathText) (who : Client) (answer : Result DavMetaData FsError) {old mid new : StoreState} {ls ms : Locks} {r : Response}
+    → IsWorld old.world → p.bytes ≢ star → Asks (Metadata (names p)) old answer mid
+    → Ran Asks (followed_by (refused_as dav.FsError answer) (λ found. delete_found deep h.conditions (closed found.dir p) who found)) mid ls (Ok r) new ms
+    → (faults : List Fault) × DeleteLeaves p faults old new ls ms r
+answer_leaves deep h p who (Err e) world other one ran = let ends = finish ran in let clash = ends.0 in cc
+answer_leaves deep h p who (Ok m) {old} {mid} {new} {ls} {ms} {r} world other one ran =
+    let (dir, same) = told_dir one in
+    let (faults, d) = found_leaves deep h.conditions p who m (subst IsWorld (sym same) world) other (dir ∙ ap (λ (w : World). is_folder w (names p)) (sym same)) ran in (
+      faults,
+      record {
+        survivors = subst (λ (w : World). LeavesSurvivors (names p) faults w new.world) same d.survivors;
+        errors = d.errors;
+        reply = d.reply ∙ ap (λ (w : World). delete_reply (closed (is_folder w (names p)) p) faults) same;
+        locks = d.locks;
+      },
+    )
+
+depth_leaves : (deep : Result Bool DavError) (h : DeleteHeaders) (p : PathText) (who : Client) {old new : StoreState} {ls ms : Locks} {r : Response}
+    → IsWorld old.world → p.bytes ≢ star
+    → Ran Asks (followed_by deep (λ d. ask_for (Metadata (names p)) >>= (λ found. delete_found d h.conditions (closed found.dir p) who found))) old ls (Ok r) new ms
+    → (faults : List Fault) × DeleteLeaves p faults old new ls ms r
+depth_leaves (Err e) h p who world other ran = let ends = finish ran in let clash = ends.0 in cc
+depth_leaves (Ok deep) h p who world other ran = let f = first ran in answer_leaves deep h p who f.answer world other f.one f.more
+
+-- a DELETE that a reply ends leaves exactly what survives its faults
+pub deletes_leave_survivors : DeletesLeaveSurvivors
+deletes_leave_survivors h p who old new ls ms r world other ran = depth_leaves (whole_depth h.depth) h p who world other ran
+
+-- ---- after a 204 all is gone
+
+no_node : (o : Option Node) → option_map timeless o ≡ None → o ≡ None
+no_node None is = refl
+no_node (Some n) is = cc
+
+none_left : (p q : Path) {old new : World} → LeavesSurvivors p [] old new → is_at_or_under q p ≡ true → node_at new q ≡ None
+none_left p q {old} {new} left within = no_node (node_at new q) (left.after q ∙ ap (λ b. if b && true then None else timeless_at old q) within)
+
+one_status : (b : Bool) (t : PathStatus) (p : PathText) → 400 ≤ t.1 → (if b then status_reply t.1 else multistatus_reply (t ∷ [])).status ≢ 204
+one_status true t p error is = absurd (omega (arith, error, is))
+one_status false t p error is = absurd (omega (arith, is))
+
+error_reply_status : (p : PathText) (f : Fault) (faults : List Fault) (r : Response) → IsErrorReport f → Ok r ≡ multi_reply p (map report_of (f ∷ faults)) → r.status ≢ 204
+error_reply_status p f [] r error is status =
+    let same : r ≡ one_reply p (report_of f) = let whole : Ok r ≡ Ok (one_reply p (report_of f)) = is in cc in
+    one_status (are_equal (report_of f).0 p) (report_of f) p error (sym (ap (λ (x : Response). x.status) same) ∙ status)
+error_reply_status p f (g ∷ faults) r error is status =
+    let items = map report_of (f ∷ g ∷ faults) in
+    let same : r ≡ multistatus_reply items = let whole : Ok r ≡ Ok (multistatus_reply items) = is in cc in
+    let clash : 207 ≡ 204 = sym (ap (λ (x : Response). x.status) same) ∙ status in
+    absurd (omega (arith, clash))
+
+gone_by : (p : PathText) (q : Path) (faults : List Fault) {old new : StoreState} {ls ms : Locks} {r : Response} → DeleteLeaves p faults old new ls ms r → r.status ≡ 204 → is_at_or_under q (names p) ≡ true → node_at new.world q ≡ None
+gone_by p q [] left status within = none_left (names p) q left.survivors within
+gone_by p q (f ∷ faults) {old} {r = r} left status within =
+    absurd (error_reply_status (closed (is_folder old.world (names p)) p) f faults r (All-head IsErrorReport f faults left.errors) left.reply status)
+
+pub no_content_means_gone : NoContentMeansGone
+no_content_means_gone h p who old new ls ms r q world other ran status within =
+    let (faults, left) = deletes_leave_survivors h p who old new ls ms r world other ran in
+    gone_by p q faults left status within
+
+-- ---- a DELETE that an error ends
+
+-- no error comes after the removal
+gives_reply : (q : PathText) (t : PathStatus) (more : List PathStatus) → Gives (λ r. ⊤) (Done (multi_reply q (t ∷ more)))
+gives_reply q t [] = gives_done tt
+gives_reply q t (u ∷ more) = gives_done tt
+
+gives_dropping : (q : PathText) (ls : Locks) → Gives (λ r. ⊤) (set_by (deleted (names q)) ls >>= (λ done. Done (delete_reply q [])))
+gives_dropping q None = gives_done tt
+gives_dropping q (Some ls) = gives_keep (gives_done tt)
+
+gives_dropped : (q : PathText) (faults : List Fault) → Gives (λ r. ⊤) (drop_if_gone q faults >>= (λ done. Done (delete_reply q faults)))
+gives_dropped q [] = gives_look (λ ls. gives_dropping q ls)
+gives_dropped q (f ∷ faults) = gives_reply q (report_of f) (map report_of faults)
+
+after_allowed : (deep : Bool) (q : PathText) (who : Client) (dir : Bool) (o : Result (Unit {0}) DavError) (w : World) {mid new : StoreState} {ls ks ms : Locks} {e : DavError}
+    → (mid.world ≡ w) × (ks ≡ ls)
+    → Ran Asks (followed_by o (λ free. removal deep who.moment q dir >>= (λ faults. drop_if_gone q faults >>= (λ done. Done (delete_reply q faults))))) mid ks (Err e) new ms
+    → (new.world ≡ w) × (ms ≡ ls)
+after_allowed deep q who dir (Err x) w left ran = let ends = finish ran in (ap (λ (s : StoreState). s.world) ends.1 ∙ left.0, ends.2 ∙ left.1)
+after_allowed deep q who dir (Ok free) w left ran =
+    absurd (never_errs (gives_bind (removal deep who.moment q dir) _ (gives_removal deep who.moment q dir) (λ faults errors. gives_dropped q faults)) ran)
+
+after_answer : (deep : Bool) (h : DeleteHeaders) (p : PathText) (who : Client) (answer : Result DavMetaData FsError) (w : World) {mid new : StoreState} {ls ms : Locks} {e : DavError} → mid.world ≡ w
+    → Ran Asks (followed_by (refused_as dav.FsError answer) (λ found. delete_found deep h.conditions (closed found.dir p) who found)) mid ls (Err e) new ms
+    → (new.world ≡ w) × (ms ≡ ls)
+after_answer deep h p who (Err x) w same ran = let ends = finish ran in (ap (λ (s : StoreState). s.world) ends.1 ∙ same, ends.2)
+after_answer deep h p who (Ok m) w same ran =
+    let q : PathText = closed m.dir p in
+    let s = ran_split (delete_allowed h.conditions q who m) _ ran in
+    let (world, locks) = reading_leaves (only_reads look_reads (only_delete_allowed h.conditions q who m)) s.first in
+    after_allowed deep q who m.dir s.outcome w (world ∙ same, locks) s.rest
+
+after_depth : (deep : Result Bool DavError) (h : DeleteHeaders) (p : PathText) (who : Client) {old new : StoreState} {ls ms : Locks} {e : DavError}
+    → Ran Asks (followed_by deep (λ d. ask_for (Metadata (names p)) >>= (λ found. delete_found d h.conditions (closed found.dir p) who found))) old ls (Err e) new ms
+    → (new.world ≡ old.world) × (ms ≡ ls)
+after_depth (Err x) h p who ran = let ends = finish ran in (ap (λ (s : StoreState). s.world) ends.1, ends.2)
+after_depth (Ok deep) h p who {old} ran =
+    let f = first ran in
+    after_answer deep h p who f.answer old.world (did_leave (Metadata (names p)) old.world f.mid.world f.answer tt (did f.one)) f.more
+
+-- an error is answered before anything changed
+pub refused_delete_leaves_all : RefusedDeleteLeavesAll
+refused_delete_leaves_all h p who old new ls ms e ran = after_depth (whole_depth h.depth) h p who ran

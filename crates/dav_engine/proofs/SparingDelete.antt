@@ -1,0 +1,250 @@
+-- A DELETE of a client that doesn't hold an exclusive lock spares what the lock covers.
+use Rattle.std.proofs.Common.{◌≡◌, ◌≢◌, ◌++◌, ◌-◌, ◌&&◌, ◌||◌, inl, inr, ℕ, ◌==◌, zero, suc, Bool, true, false, not, true≢false, cond, length, take, List, [], ◌∷◌, append_assoc, append-nil, Some, None, Result, Ok, Err, refl, sym, ap, subst, ◌∙◌}
+use Rattle.std.proofs.lemmas.Bool.{and_parts}
+use Rattle.std.specs.Bool.{⊤}
+use Rattle.std.specs.List.{filter, list_all, slice_split, onto_first}
+use Rattle.std.specs.Str.{bytes_eq}
+use Rattle.std.proofs.lemmas.Bool.{cases_Bool}
+use Rattle.std.proofs.lemmas.Bool.Decides.{Decides-eqb}
+use Rattle.std.proofs.lemmas.Slice.Eq.{bytes_eq-Decides, ends_is}
+use Rattle.std.proofs.lemmas.List.Elements.{filter-append}
+use Rattle.dav_core.specs.declared.errors.FsError.{FsError}
+use Rattle.dav_core.specs.declared.errors.DavError.{DavError}
+use Rattle.dav_core.specs.declared.errors.DavError.TheVariants as dav
+use Rattle.dav_core.specs.declared.fs.DavMetaData.{DavMetaData}
+use Rattle.dav_core.specs.declared.method.DavMethod.TheVariants.{Delete}
+use Rattle.dav_core.specs.Asking.{Metadata, ReadDir, EntryMetadata, RemoveDir, RemoveFile}
+use Rattle.dav_core.specs.Locks.{Lock, Requester, covers, is_held, is_free_for, deleted}
+use Rattle.dav_core.specs.Path.{Path, PathText, is_nonempty, is_collection, end_for, star, names, names_in, names_of, with_slash, with_bytes, is_same_path, is_at_or_under, is_under}
+use Rattle.dav_core.proofs.Theorems.{member_is_no_star, same_path}
+use Rattle.dav_engine.specs.Client.{Client, requester}
+use Rattle.dav_engine.specs.Conditions.{Conditions, submitted}
+use Rattle.dav_engine.specs.Delete.{whole_depth, drop_if_gone, delete_reply, delete_found, is_delete}
+use Rattle.dav_engine.specs.Folder.{closed, child_of, room_at}
+use Rattle.dav_engine.specs.Guard.{folder_of, IsSameLock, IsListed, listed_here, listed_later, IsElsewhere, AllElsewhere, no_others, another, Guards, guards_here, guards_later, StillGuards}
+use Rattle.dav_engine.specs.Method.{MethodPlan, ◌>>=◌, require, require_free, is_open, refused_as, ask_for}
+use Rattle.dav_engine.specs.Plan.{Done}
+use Rattle.dav_engine.specs.Removal.{Fault, Walk, each, remove, removal, remove_member, remove_found, remove_listed, remove_emptied}
+use Rattle.dav_engine.specs.Sparing.{NoneUnder, Anything, AnyList, Sparing, spares_ok, spares_err, spares_reads, spares_call, spares_look, spares_last}
+use Rattle.dav_engine.specs.SparingPlans.{DeleteSpares}
+use Rattle.dav_engine.proofs.ChildLemmas.{names_closed, closed_is_path, slash_is_path}
+use Rattle.dav_engine.proofs.FaultLemmas.{rest, at_path, below_trans, one_line, strictly}
+use Rattle.dav_engine.proofs.GuardedFolders.{covers_by, stands_guarded, held_still, free_passes}
+use Rattle.dav_engine.proofs.SparingPlans.{At, spare_bind, spare_then, spare_guarded}
+
+-- ---- the path of a member, whatever its name, is below that of its folder
+
+abbrev split : List ℕ → List (List ℕ)
+split = slice_split (λ b. b == 47)
+
+put_first : (b : ℕ) (parts more : List (List ℕ)) → parts ≢ [] → onto_first b (parts ++ more) ≡ onto_first b parts ++ more
+put_first b [] more some = absurd (some refl)
+put_first b (p ∷ ps) more some = refl
+
+some_first : (b : ℕ) (parts : List (List ℕ)) → onto_first b parts ≢ []
+some_first b [] e = cc
+some_first b (p ∷ ps) e = cc
+
+some_step : (b : ℕ) (parts : List (List ℕ)) (c : Bool) → cond c ([] ∷ parts) (onto_first b parts) ≢ []
+some_step b parts true e = cc
+some_step b parts false e = some_first b parts e
+
+some_pieces : (bytes : List ℕ) → split bytes ≢ []
+some_pieces [] e = cc
+some_pieces (b ∷ bs) e = some_step b (split bs) (b == 47) e
+
+split_step : (b : ℕ) (whole parts more : List (List ℕ)) (c : Bool) → whole ≡ parts ++ more → parts ≢ [] → cond c ([] ∷ whole) (onto_first b whole) ≡ cond c ([] ∷ parts) (onto_first b parts) ++ more
+split_step b whole parts more true ih some = ap (λ ps. [] ∷ ps) ih
+split_step b whole parts more false ih some = ap (onto_first b) ih ∙ put_first b parts more some
+
+split_at : (xs ys : List ℕ) → split (xs ++ 47 ∷ ys) ≡ split xs ++ split ys
+split_at [] ys = refl
+split_at (x ∷ xs) ys = split_step x (split (xs ++ 47 ∷ ys)) (split xs) (split ys) (x == 47) (split_at xs ys) (some_pieces xs)
+
+names_at : (xs ys : List ℕ) → names_in (xs ++ 47 ∷ ys) ≡ names_in xs ++ names_in ys
+names_at xs ys = ap (filter is_nonempty) (split_at xs ys) ∙ filter-append is_nonempty (split xs) (split ys)
+
+names_other : (bytes : List ℕ) → bytes ≢ star → names_of bytes ≡ names_in bytes
+names_other bytes other =
+    elim (cases_Bool (bytes_eq bytes star)) [
+      | inl e ↦ absurd (other ((bytes_eq-Decides bytes star).0 e))
+      | inr e ↦ rw e refl
+    ]
+
+names_joined : (bytes n : List ℕ) (c : Bool) → is_collection bytes ≡ c → names_in ((bytes ++ end_for c) ++ n) ≡ names_in bytes ++ names_in n
+names_joined bytes n false is = ap names_in (append_assoc bytes (47 ∷ []) n) ∙ names_at bytes n
+names_joined bytes n true is =
+    let front = take (length bytes - 1) bytes in
+    let parts : bytes ≡ front ++ 47 ∷ [] = (ends_is Decides-eqb bytes (47 ∷ []) (is_collection bytes) refl).0 is in
+    let before : names_in bytes ≡ names_in front = ap names_in parts ∙ names_at front [] ∙ append-nil (names_in front) in
+    ap (λ xs. names_in (xs ++ n)) (append-nil bytes ∙ parts) ∙ ap names_in (append_assoc front (47 ∷ []) n) ∙ names_at front n ∙ ap (λ ns. ns ++ names_in n) (sym before)
+
+member_names : (p : PathText) (n : List ℕ) (dir : Bool) → p.bytes ≢ star → names (child_of p n dir) ≡ names p ++ names_in n
+member_names p n dir other =
+    names_closed dir (with_bytes p (with_slash p.bytes ++ n)) (member_is_no_star p.bytes n)
+    ∙ names_other (with_slash p.bytes ++ n) (member_is_no_star p.bytes n) ∙ names_joined p.bytes n (is_collection p.bytes) refl
+    ∙ ap (λ ns. ns ++ names_in n) (sym (names_other p.bytes other))
+
+member_under : (p : PathText) (n : List ℕ) (dir : Bool) → p.bytes ≢ star → is_at_or_under (names (child_of p n dir)) (names p) ≡ true
+member_under p n dir other = at_path (names p) (names (child_of p n dir)) (names_in n) (member_names p n dir other)
+
+-- ---- the removal
+
+module _ (covered : Path → Bool) (G E : List Lock → Type 0) where
+  abbrev Part : {A : Type 0} → MethodPlan A → Type 0
+  Part plan = Sparing covered G E false (At None (λ a. ⊤)) None plan
+
+  none_below : (p q : Path) → is_at_or_under q p ≡ true → NoneUnder covered p → NoneUnder covered q
+  none_below p q within none r under = none r (below_trans p q r within under)
+
+  spare_each : {X F : Type 0} (f : X → MethodPlan (List F)) (xs : List X) → ((x : X) → Part (f x)) → Part (each f xs)
+  spare_each f [] more = spares_ok (refl, tt)
+  spare_each f (x ∷ xs) more = spare_bind _ (more x) (λ reports _. spare_bind _ (spare_each f xs more) (λ others _. spares_ok (refl, tt)))
+
+  abbrev SparesWalk : Walk → Type 0
+  SparesWalk walk = (q : PathText) (dir : Bool) → q.bytes ≢ star → NoneUnder covered (names q) → Part (walk q dir)
+
+  spare_found : (walk : Walk) (p : PathText) (name : List ℕ) (found : Result DavMetaData FsError) → SparesWalk walk → p.bytes ≢ star → NoneUnder covered (names p) → Part (remove_found walk p name found)
+  spare_found walk p name (Err e) more other none = spares_ok (refl, tt)
+  spare_found walk p name (Ok m) more other none =
+      more (child_of p name m.dir) m.dir (slash_is_path p name m.dir) (none_below (names p) (names (child_of p name m.dir)) (member_under p name m.dir other) none)
+
+  spare_emptied : (now : ℕ) (p : PathText) (faults : List Fault) → NoneUnder covered (names p) → Part (remove_emptied now p faults)
+  spare_emptied now p (f ∷ faults) none = spares_ok (refl, tt)
+  spare_emptied now p [] none = spares_call {c = RemoveDir (names p) now} none (λ answer. spares_ok (refl, tt))
+
+  spare_listed : (walk : Walk) (now : ℕ) (p : PathText) (listed : Result (List (List ℕ × Bool)) FsError) → SparesWalk walk → p.bytes ≢ star → NoneUnder covered (names p) → Part (remove_listed walk now p listed)
+  spare_listed walk now p (Err e) more other none = spares_ok (refl, tt)
+  spare_listed walk now p (Ok entries) more other none =
+      spare_bind _
+      (spare_each (remove_member walk p) entries (λ entry. spares_reads {c = EntryMetadata (names p ++ entry.0 ∷ [])} tt (λ found. spare_found walk p entry.0 found more other none)))
+      (λ faults _. spare_emptied now p faults none)
+
+  spare_remove : (room now : ℕ) (p : PathText) (dir : Bool) → p.bytes ≢ star → NoneUnder covered (names p) → Part (remove room now p dir)
+  spare_remove room now p false other none = spares_call {c = RemoveFile (names p) now} none (λ answer. spares_ok (refl, tt))
+  spare_remove zero now p true other none = spares_ok (refl, tt)
+  spare_remove (suc room) now p true other none =
+      spares_reads {c = ReadDir (names p)} tt (λ listed. spare_listed (λ q dir. remove room now q dir) now p listed (λ q dir path out. spare_remove room now q dir path out) other none)
+
+  pub spare_removal : (deep : Bool) (now : ℕ) (p : PathText) (dir : Bool) → p.bytes ≢ star → NoneUnder covered (names p) → Part (removal deep now p dir)
+  spare_removal true now p dir other none = spare_remove (room_at p) now p dir other none
+  spare_removal false now p true other none = spares_call {c = RemoveDir (names p) now} none (λ answer. spares_ok (refl, tt))
+  spare_removal false now p false other none = spares_call {c = RemoveFile (names p) now} none (λ answer. spares_ok (refl, tt))
+
+  -- ---- the whole
+
+  answered_by : (p : PathText) (f : Fault) (faults : List Fault) → Sparing covered G E true Anything None (Done (delete_reply p (f ∷ faults)))
+  answered_by p f [] = spares_ok tt
+  answered_by p f (g ∷ faults) = spares_ok tt
+
+  module _ (who : Client) (c : Conditions) (ends : (p : Path) (ls : List Lock) → G ls → E (deleted p ls))
+      (spares : (p : Path) (ls : List Lock) → G ls → is_free_for true (requester who (submitted c.lists)) p ls ≡ true → NoneUnder covered p) where
+    spare_dropped : (p : PathText) (faults : List Fault) → Sparing covered G E true Anything None (drop_if_gone p faults >>= (λ done. Done (delete_reply p faults)))
+    spare_dropped p (f ∷ faults) = answered_by p f faults
+    spare_dropped p [] = spares_look (λ ls g. spares_last refl (ends (names p) ls g))
+
+    free_by : (p : Path) (ls : List Lock) → G ls → (b : Bool) → is_open true (requester who (submitted c.lists)) p (Some ls) ≡ b
+        → Sparing covered G E false (At None (λ u. NoneUnder covered p)) None (require b (dav.Status 423))
+    free_by p ls g true free = spares_ok (refl, spares p ls g free)
+    free_by p ls g false free = spares_err
+
+    spare_checked : (p : Path) (tokens : List (List ℕ)) → tokens ≡ submitted c.lists
+        → Sparing covered G E false (At None (λ u. NoneUnder covered p)) None (require_free true (requester who tokens) p (dav.Status 423))
+    spare_checked p tokens same =
+        subst (λ (ts : List (List ℕ)). Sparing covered G E false (At None (λ u. NoneUnder covered p)) None (require_free true (requester who ts) p (dav.Status 423))) (sym same)
+        (spares_look (λ ls g. free_by p ls g (is_open true (requester who (submitted c.lists)) p (Some ls)) refl))
+
+    spare_delete_found : (deep : Bool) (p : PathText) (found : DavMetaData) → p.bytes ≢ star → Sparing covered G E true Anything None (delete_found deep c p who found)
+    spare_delete_found deep p found other =
+        spare_bind _
+        (spare_bind _ (spare_guarded covered G E dav.Status Delete c (Some found)) (λ tokens same. spare_checked (names p) tokens same))
+        (λ u none. spare_bind _ (spare_removal deep who.moment p found.dir other none) (λ faults _. spare_dropped p faults))
+
+    pub spare_deleting : (depth : Result Bool DavError) (p : PathText) → p.bytes ≢ star
+        → Sparing covered G E true Anything None (Done depth >>= (λ deep. ask_for (Metadata (names p)) >>= (λ found. delete_found deep c (closed found.dir p) who found)))
+    spare_deleting depth p other =
+        spare_then depth _ (λ deep _.
+        spares_reads {c = Metadata (names p)} tt (λ answer.
+        spare_then (refused_as dav.FsError answer) _ (λ found _. spare_delete_found deep (closed found.dir p) found (closed_is_path found.dir p other))))
+
+-- ---- the list of locks
+
+-- no lock of another token is the lock
+not_listed : (h : Lock) {ls : List Lock} → AllElsewhere h ls → IsListed h ls → ⊥
+not_listed h no_others there = elim there [ ]
+not_listed h (another {l} off more) (listed_here is) = off.token (ap (λ (m : Lock). m.token) is)
+not_listed h (another off more) (listed_later there) = not_listed h more there
+
+module _ (h : Lock) (p : Path) where
+  abbrev stays : Lock → Bool
+  stays l = not (is_at_or_under (names l.path) p)
+
+  others_left : (ls : List Lock) → AllElsewhere h ls → AllElsewhere h (deleted p ls)
+  others_left [] no_others = no_others
+  others_left (l ∷ ls) (another off more) = others_by l ls (stays l) off (others_left ls more) where
+    others_by : (l : Lock) (ls : List Lock) (b : Bool) → IsElsewhere h l → AllElsewhere h (deleted p ls) → AllElsewhere h (cond b (l ∷ deleted p ls) (deleted p ls))
+    others_by l ls true off more = another off more
+    others_by l ls false off more = more
+
+  left_here : (l : Lock) (ls : List Lock) (b : Bool) → IsSameLock h l → AllElsewhere h (deleted p ls) → IsListed h (cond b (l ∷ deleted p ls) (deleted p ls)) → Guards h (cond b (l ∷ deleted p ls) (deleted p ls))
+  left_here l ls true is off there = guards_here is off
+  left_here l ls false is off there = absurd (not_listed h off there)
+
+  left_later : (l : Lock) (ls : List Lock) (b : Bool) → IsElsewhere h l → (IsListed h (deleted p ls) → Guards h (deleted p ls)) → IsListed h (cond b (l ∷ deleted p ls) (deleted p ls)) → Guards h (cond b (l ∷ deleted p ls) (deleted p ls))
+  left_later l ls true off more (listed_here is) = absurd (off.token (ap (λ (m : Lock). m.token) is))
+  left_later l ls true off more (listed_later there) = guards_later off (more there)
+  left_later l ls false off more there = more there
+
+  -- where the locks at a path and below it end, the guard is left, or it is gone
+  pub still_guards : (ls : List Lock) → Guards h ls → StillGuards h (deleted p ls)
+  still_guards [] g there = elim g [ ]
+  still_guards (l ∷ ls) (guards_here is off) there = left_here l ls (stays l) is (others_left ls off) there
+  still_guards (l ∷ ls) (guards_later off more) there = left_later l ls (stays l) off (still_guards ls more) there
+
+-- ---- what is free with everything below it
+
+module _ (h : Lock) (who : Requester) (unheld : is_held who h ≡ false) (p : Path) where
+  one_outside : (l : Lock) → IsSameLock h l → (is_held who l || not (is_at_or_under (names l.path) p)) ≡ true → (b : Bool) → is_at_or_under (folder_of h) p ≡ b → b ≡ false
+  one_outside l is passed false there = refl
+  one_outside l is passed true there =
+      let held : is_held who l ≡ false = held_still who h l is ∙ unheld in
+      let here : is_at_or_under (names l.path) p ≡ true = ap (λ (m : Lock). is_at_or_under (names m.path) p) is ∙ there in
+      absurd (true≢false (sym passed ∙ ap (λ b. b || not (is_at_or_under (names l.path) p)) held ∙ ap not here))
+
+  lock_outside : {ls : List Lock} → IsListed h ls → list_all (λ l. is_held who l || not (is_at_or_under (names l.path) p)) ls ≡ true → is_at_or_under (folder_of h) p ≡ false
+  lock_outside (listed_here {l} is) passed = one_outside l is (and_parts _ _ passed).0 (is_at_or_under (folder_of h) p) refl
+  lock_outside (listed_later more) passed = lock_outside more (and_parts _ _ passed).1
+
+  -- the lock isn't on what is free with everything below it, nor below
+  pub free_outside_lock : (ls : List Lock) → IsListed h ls → is_free_for true who p ls ≡ true → is_at_or_under (folder_of h) p ≡ false
+  free_outside_lock ls listed free = lock_outside listed (and_parts _ _ free).1
+
+module _ (h : Lock) (exclusive : h.shared ≡ false) (who : Requester) (unheld : is_held who h ≡ false) (p : Path) where
+  covered_by : (q : Path) (same under : Bool) → is_same_path (folder_of h) q ≡ same → (h.deep && is_under q (folder_of h)) ≡ under → is_at_or_under (folder_of h) p ≡ false → covers h p ≡ false
+      → is_at_or_under q p ≡ true → (same || under) ≡ false
+  covered_by q true under is deep outside uncovered within =
+      let path : folder_of h ≡ q = same_path (folder_of h) q is in
+      absurd (true≢false (sym within ∙ ap (λ (r : Path). is_at_or_under r p) (sym path) ∙ outside))
+  covered_by q false false is deep outside uncovered within = refl
+  covered_by q false true is deep outside uncovered within =
+      let parts = and_parts h.deep (is_under q (folder_of h)) deep in
+      elim (one_line p (folder_of h) q within (strictly (folder_of h) q parts.1)) [
+        | inl below ↦ absurd (true≢false (sym below ∙ outside))
+        | inr above ↦ absurd (true≢false (sym (deep_covers parts.0 above) ∙ uncovered))
+      ]
+    where
+      deep_covers : h.deep ≡ true → is_at_or_under p (folder_of h) ≡ true → covers h p ≡ true
+      deep_covers deep within = let r = rest (folder_of h) p within in subst (λ (x : Path). covers h x ≡ true) (sym r.1) (covers_by h r.0 deep)
+
+  pub free_none : (ls : List Lock) → IsListed h ls → is_free_for true who p ls ≡ true → NoneUnder (covers h) p
+  free_none ls listed free q within =
+      covered_by q (is_same_path (folder_of h) q) (h.deep && is_under q (folder_of h)) refl refl
+      (free_outside_lock h who unheld p ls listed free) (free_passes h exclusive who unheld p true ls listed free) within
+
+pub delete_spares : DeleteSpares
+delete_spares h headers p who plan exclusive other stranger (is_delete k are) =
+    let unheld = stranger k.conditions are.conditions in
+    let asks = requester who (submitted k.conditions.lists) in (
+      spare_deleting (covers h) (IsListed h) AnyList who k.conditions (λ q ls listed. tt) (λ q ls listed free. free_none h exclusive asks unheld q ls listed free) (whole_depth k.depth) p other,
+      spare_deleting (covers h) (Guards h) (StillGuards h) who k.conditions (λ q ls guards. still_guards h q ls guards) (λ q ls guards free. free_none h exclusive asks unheld q ls (stands_guarded guards) free) (whole_depth k.depth) p other,
+    )

@@ -1,0 +1,130 @@
+-- Plans that the two laws of locked folders refuse.
+use Rattle.std.proofs.Common.{◌≡◌, ℕ, Bool, true, false, true≢false, List, [], ◌∷◌, get_or, codes, not, Option, Some, None, Result, Ok, Err, refl, sym, ap, ◌∙◌, arith}
+use Rattle.std.specs.Option.{unwrap_or}
+use Rattle.dav_core.specs.declared.errors.FsError.{FsError}
+use Rattle.dav_core.specs.declared.errors.DavError.{DavError}
+use Rattle.dav_core.specs.declared.errors.DavError.TheVariants as dav
+use Rattle.dav_core.specs.declared.fs.DavMetaData.{DavMetaData}
+use Rattle.dav_core.specs.Asking.{Metadata, CreateDir, Open}
+use Rattle.dav_core.specs.Handle.{Handle, Opening}
+use Rattle.dav_core.specs.Locks.{Lock, Requester, requester_of, covers, is_free_for}
+use Rattle.dav_core.specs.Path.{Path}
+use Rattle.dav_engine.specs.declared.put_headers.Writing.{Writing}
+use Rattle.dav_engine.specs.declared.reply.ReplyBody.TheVariants as body
+use Rattle.dav_engine.specs.Alongside.{Alongside, BothOpen, side_ok, side_asks, side_look, SameAnswers}
+use Rattle.dav_engine.specs.AlongsidePlans.{GoesAlong}
+use Rattle.dav_engine.specs.AnswerParts.{AnswerParts}
+use Rattle.dav_engine.specs.Conditions.{is_star}
+use Rattle.dav_engine.specs.Guard.{listed_here, guards_here, guards_later, no_others, IsElsewhere}
+use Rattle.dav_engine.specs.Method.{MethodPlan, ◌>>=◌, require, require_free, is_open, ask_or, gives}
+use Rattle.dav_engine.specs.Mkcol.{create_error}
+use Rattle.dav_engine.specs.Plan.{Done, Ask}
+use Rattle.dav_engine.specs.Put.{PutHeaders, put_opening, open_error, store}
+use Rattle.dav_engine.specs.Response.{Response}
+use Rattle.dav_engine.specs.Sparing.{SparesLock, spares_reads, spares_call, spares_opens, spares_look}
+
+-- ---- the plans of strangers
+
+-- a plan that begins with an opening that may create a file, where it is covered, spares nothing
+opens_first : {h : Lock} {how : Opening} {p : Path} {now : ℕ} {go : Result Handle FsError → MethodPlan Response} → how.create ≡ true → covers h p ≡ true → ¬ SparesLock h (Ask (Open p how now) go)
+opens_first creates within (spares_reads only more) = true≢false (sym creates ∙ only.1)
+opens_first creates within (spares_call out more) = out
+opens_first creates within (spares_opens out more failed) = true≢false (sym within ∙ out)
+
+-- a PUT that opens without asking for the list of locks
+pub put_without_a_look : (h : Lock) (how : Opening) (place : Option ℕ) (p : Path) (bytes : List ℕ) (now : ℕ) (found : Bool)
+    → how.create ≡ true → covers h p ≡ true → ¬ SparesLock h (store how place p bytes now found)
+put_without_a_look h how place p bytes now found creates within = opens_first creates within
+
+-- a PATCH that opens before it asks
+abbrev pub patch_by_a_late_look : PutHeaders → Writing → Requester → Path → ℕ → Response → MethodPlan Response
+patch_by_a_late_look headers w who p now reply = do
+  file ← ask_or (open_error (put_opening headers w)) (Open p (put_opening headers w) now)
+  _ ← require_free false who p (dav.StatusClose 423)
+  gives reply
+
+pub late_look_spares_nothing : (h : Lock) (headers : PutHeaders) (w : Writing) (who : Requester) (p : Path) (now : ℕ) (reply : Response)
+    → is_star headers.conditions.if_match ≡ false → covers h p ≡ true → ¬ SparesLock h (patch_by_a_late_look headers w who p now reply)
+late_look_spares_nothing h headers w who p now reply other within = opens_first (ap not other) within
+
+-- a MKCOL that asks for the parent alone
+abbrev pub mkcol_by_parent : Requester → Path → Path → ℕ → Response → MethodPlan Response
+mkcol_by_parent who parent p now reply = do
+  _ ← require_free false who parent (dav.Status 423)
+  _ ← ask_or create_error (CreateDir p now)
+  gives reply
+
+makes_covered : {h : Lock} {p : Path} {now : ℕ} {go : Result (Unit {0}) FsError → MethodPlan Response} → covers h p ≡ true → ¬ SparesLock h (Ask (CreateDir p now) go)
+makes_covered within (spares_reads only more) = only
+makes_covered within (spares_call out more) = true≢false (sym within ∙ out)
+
+passed : (h : Lock) (b : Bool) (p : Path) (now : ℕ) (reply : Response) → b ≡ true → covers h p ≡ true
+    → ¬ SparesLock h (require b (dav.Status 423) >>= (λ _. ask_or create_error (CreateDir p now) >>= (λ _. gives reply)))
+passed h true p now reply is within spares = makes_covered within spares
+passed h false p now reply is within spares = true≢false (sym is)
+
+by_parent : (h : Lock) (who : Requester) (parent p : Path) (now : ℕ) (reply : Response) → is_free_for false who parent (h ∷ []) ≡ true → covers h p ≡ true
+    → ¬ SparesLock h (mkcol_by_parent who parent p now reply)
+by_parent h who parent p now reply free within (spares_look next) = passed h (is_open false who parent (Some (h ∷ []))) p now reply free within (next (h ∷ []) (listed_here refl))
+
+-- a lock on the path /a/b alone, and a client without tokens
+abbrev pub on_b : Lock
+on_b = record {
+  token = codes "urn:t:1";
+  path = record { prefix = []; bytes = codes "/a/b" };
+  principal = None;
+  owner = None;
+  timeout_at = None;
+  timeout = None;
+  shared = false;
+  deep = false;
+}
+
+pub mkcol_by_parent_spares_nothing : (now : ℕ) (reply : Response) → ¬ SparesLock on_b (mkcol_by_parent (requester_of [] false None) (codes "a" ∷ []) (codes "a" ∷ codes "b" ∷ []) now reply)
+mkcol_by_parent_spares_nothing now reply = by_parent on_b (requester_of [] false None) (codes "a" ∷ []) (codes "a" ∷ codes "b" ∷ []) now reply refl refl
+
+-- ---- the plans of holders
+
+-- a lock that guards the folder /a, and a lock of Depth 0 on the folder above it
+abbrev pub on_a : Lock
+on_a = record on_b { path = record { prefix = []; bytes = codes "/a" }; deep = true }
+
+abbrev pub above : Lock
+above = record on_b { token = codes "urn:t:2"; path = record { prefix = []; bytes = codes "/" } }
+
+above_elsewhere : IsElsewhere on_a above
+above_elsewhere = record { token = λ same. let e : ◌≡◌ {A = ℕ} 50 49 = ap (λ (t : List ℕ). get_or t 6 0) same in omega (arith, e); apart = λ rest. refl }
+
+-- a PUT of the holder that is refused where the parent of the folder is locked
+abbrev pub put_by_parent : MethodPlan Response
+put_by_parent = do
+  _ ← require_free false (requester_of (on_a.token ∷ []) false None) [] (dav.StatusClose 423)
+  gives (record { status = 201; headers = []; body = body.Nothing })
+
+not_both : {h : Lock} {R : Option BothOpen → Response → Response → Type 0} {a : Response} {e : DavError} → ¬ Alongside h true R None (Done (Ok a)) (Done (Err e))
+not_both s = elim s [ ]
+
+pub lock_above_is_no_reason : ¬ GoesAlong on_a put_by_parent
+lock_above_is_no_reason (side_look next) = not_both (next (on_a ∷ []) (above ∷ on_a ∷ []) (guards_here refl no_others) (guards_later above_elsewhere (guards_here refl no_others)))
+
+-- a reply that shows the change number of what is there
+abbrev pub number_reply : DavMetaData → Response
+number_reply m = record { status = 200; headers = []; body = body.Bytes (unwrap_or m.number 0 ∷ []) }
+
+abbrev pub shows_number : Path → MethodPlan Response
+shows_number p = do
+  found ← ask_or dav.FsError (Metadata p)
+  gives (number_reply found)
+
+-- a file that was last changed under this number
+abbrev pub changed : ℕ → DavMetaData
+changed n = record { len = 0; dir = false; created = 0; modified = 0; number = Some n }
+
+told_apart : ¬ Alongside on_a true (λ file. SameAnswers) None (gives (number_reply (changed 1))) (gives (number_reply (changed 2)))
+told_apart (side_ok same) = let e : ◌≡◌ {A = ℕ} 1 2 = ap (λ (a : AnswerParts). get_or (unwrap_or a.bytes []) 0 0) same in omega (arith, e)
+
+numbers_apart : (p q : Path) → ¬ Alongside on_a true (λ file. SameAnswers) None (shows_number p) (shows_number q)
+numbers_apart p q (side_asks inside next) = told_apart (next (Ok (changed 1)) (Ok (changed 2)) (record { len = refl; dir = refl }))
+
+pub numbers_are_not_told : (p : Path) → ¬ GoesAlong on_a (shows_number p)
+numbers_are_not_told p side = numbers_apart p p side

@@ -1,0 +1,21 @@
+use Rattle.dav_engine.proofs.EndingDelete.{delete_keeps_locks}
+use Rattle.dav_engine.proofs.EndingLemmas.{kept_locks_stand, kept_locks_stand_cut, reading_keeps_locks, put_keeps_locks, mkcol_keeps_locks}
+use Rattle.dav_engine.proofs.laws.isolation.kept_locks_stand.Goals as goal
+
+pub returns-clause-stands : goal.returns-clause-stands
+returns-clause-stands c = kept_locks_stand
+
+pub returns-clause-cut : goal.returns-clause-cut
+returns-clause-cut c = kept_locks_stand_cut
+
+pub returns-clause-reading : goal.returns-clause-reading
+returns-clause-reading c = reading_keeps_locks
+
+pub returns-clause-put : goal.returns-clause-put
+returns-clause-put c = put_keeps_locks
+
+pub returns-clause-mkcol : goal.returns-clause-mkcol
+returns-clause-mkcol c = mkcol_keeps_locks
+
+pub returns-clause-delete : goal.returns-clause-delete
+returns-clause-delete c = delete_keeps_locks

@@ -1,0 +1,62 @@
+-- Plans that leave a lock in the list (RFC 4918, sections 6.1 and 9.11).
+use Rattle.std.specs.Prelude.{List, Some, Result}
+use Rattle.dav_core.specs.declared.errors.FsError.{FsError}
+use Rattle.dav_core.specs.declared.errors.DavError.{DavError}
+use Rattle.dav_core.specs.declared.method.DavMethod.{DavMethod}
+use Rattle.dav_core.specs.Asking.{Call, Answer, StoreState, Asks}
+use Rattle.dav_core.specs.Locks.{Lock}
+use Rattle.dav_core.specs.Path.{PathText}
+use Rattle.dav_engine.specs.declared.request.Body.{Body}
+use Rattle.dav_engine.specs.Client.{Client}
+use Rattle.dav_engine.specs.Delete.{IsDelete}
+use Rattle.dav_engine.specs.Guard.{IsListed, Stands}
+use Rattle.dav_engine.specs.Headers.{Headers}
+use Rattle.dav_engine.specs.Method.{MethodPlan}
+use Rattle.dav_engine.specs.Mkcol.{IsMkcol}
+use Rattle.dav_engine.specs.Plan.{Plan, Done, Ask, Look, Keep, Locks, Ran, Cut}
+use Rattle.dav_engine.specs.Put.{IsPut}
+use Rattle.dav_engine.specs.Response.{Response}
+use Rattle.dav_engine.specs.SparingPlans.{IsStranger}
+use Rattle.dav_engine.specs.WorldLaws.{IsReading}
+
+-- Each list that a plan sets has the lock, as long as each list that it reads has it. A lock that is refreshed stays the
+-- lock that it was.
+pub data KeepsLock (h : Lock) {A : Type 0} : Plan A → Type 0 where
+  keeps_done : {a : A} → KeepsLock h (Done a)
+  keeps_ask : {c : Call} {go : Result (Answer c) FsError → Plan A} → ((answer : Result (Answer c) FsError) → KeepsLock h (go answer)) → KeepsLock h (Ask c go)
+  keeps_look : {go : Locks → Plan A} → ((ls : List Lock) → IsListed h ls → KeepsLock h (go (Some ls))) → KeepsLock h (Look go)
+  keeps_list : {locks : List Lock} {rest : Plan A} → IsListed h locks → KeepsLock h rest → KeepsLock h (Keep locks rest)
+
+-- A lock that a plan keeps stands after it, whatever the store refuses.
+abbrev pub KeptLocksStand : Type 0
+KeptLocksStand =
+    (h : Lock) (plan : MethodPlan Response) (old new : StoreState) (ls ms : Locks) (a : Result Response DavError)
+    → KeepsLock h plan → Ran Asks plan old ls a new ms → Stands h ls → Stands h ms
+
+-- So it does where memory runs out in the plan.
+abbrev pub KeptLocksStandCut : Type 0
+KeptLocksStandCut =
+    (h : Lock) (plan : MethodPlan Response) (old new : StoreState) (ls ms : Locks)
+    → KeepsLock h plan → Cut Asks ls plan old ls new ms → Stands h ls → Stands h ms
+
+-- a plan that only reads keeps every lock
+abbrev pub ReadingKeepsLocks : Type 0
+ReadingKeepsLocks = (h : Lock) (plan : MethodPlan Response) → IsReading plan → KeepsLock h plan
+
+-- so does a PUT or PATCH, whoever asks for it
+abbrev pub PutKeepsLocks : Type 0
+PutKeepsLocks =
+    (h : Lock) (m : DavMethod) (headers : Headers) (p : PathText) (body : Body) (who : Client) (plan : MethodPlan Response)
+    → IsPut m headers p body who plan → KeepsLock h plan
+
+-- and a DELETE, of a client that doesn't hold the lock
+abbrev pub DeleteKeepsLocks : Type 0
+DeleteKeepsLocks =
+    (h : Lock) (headers : Headers) (p : PathText) (who : Client) (plan : MethodPlan Response)
+    → IsStranger headers p who h → IsDelete headers p who plan → KeepsLock h plan
+
+-- and a MKCOL
+abbrev pub MkcolKeepsLocks : Type 0
+MkcolKeepsLocks =
+    (h : Lock) (headers : Headers) (p : PathText) (who : Client) (plan : MethodPlan Response)
+    → IsMkcol headers p who plan → KeepsLock h plan

@@ -1,0 +1,62 @@
+-- Requests end no lock whose token they don't name.
+use Rattle.std.proofs.Common.{ℕ, List}
+use Rattle.dav_core.specs.declared.method.DavMethod.{DavMethod}
+use Rattle.dav_core.specs.declared.method.DavMethod.TheVariants.{Get, Head, Put, Patch}
+use Rattle.dav_core.specs.Asking.{StoreState}
+use Rattle.dav_core.specs.Locks.{Lock}
+use Rattle.dav_core.specs.Path.{PathText, names}
+use Rattle.dav_engine.specs.declared.request.Body.{Body}
+use Rattle.dav_engine.specs.Client.{Client}
+use Rattle.dav_engine.specs.Ending.{KeepsLock, keeps_done}
+use Rattle.dav_engine.specs.Guard.{Stands}
+use Rattle.dav_engine.specs.Headers.{Headers}
+use Rattle.dav_engine.specs.Method.{MethodPlan}
+use Rattle.dav_engine.specs.Plan.{Locks}
+use Rattle.dav_engine.specs.Response.{Response}
+use Rattle.dav_engine.proofs.Theorems.{kept_locks_stand, kept_locks_stand_cut, reading_keeps_locks, put_keeps_locks, mkcol_keeps_locks}
+use Rattle.dav_server.specs.Ending.{NoLockEnds, NoLockEndsCut, EndsNoLock}
+use Rattle.dav_server.specs.Get.{get, is_get}
+use Rattle.dav_server.specs.Head.{Request}
+use Rattle.dav_server.specs.Machine.{Settings, Asked, PlanOf, gets, heads, puts, patches, makes, not_yet, MeansOf, not_allowed, no_path, no_body, method, Means, no_head, no_method, known, StepCut, untouched, cut, steps}
+use Rattle.dav_server.specs.Naming.{NamesToken}
+use Rattle.dav_server.specs.Run.{Turn, begun}
+use Rattle.dav_server.specs.Server.{Server}
+use Rattle.dav_server.proofs.GetWorld.{get_is_reading}
+
+-- no method that is served sets the list of locks
+plan_keeps : (h : Lock) {allowed : ℕ} {headers : Headers} {p : PathText} {body : Body} {who : Client} {m : DavMethod} {plan : MethodPlan Response} → PlanOf allowed headers p body who m plan → KeepsLock h plan
+plan_keeps h {p = p} {who = who} (gets (is_get c are)) = reading_keeps_locks h (get Get c (names p) who.moment) (get_is_reading Get c (names p) who.moment)
+plan_keeps h {p = p} {who = who} (heads (is_get c are)) = reading_keeps_locks h (get Head c (names p) who.moment) (get_is_reading Head c (names p) who.moment)
+plan_keeps h {headers = headers} {p} {body} {who} {plan = plan} (puts is) = put_keeps_locks h Put headers p body who plan is
+plan_keeps h {headers = headers} {p} {body} {who} {plan = plan} (patches is) = put_keeps_locks h Patch headers p body who plan is
+plan_keeps h {headers = headers} {p} {who = who} {plan = plan} (makes is) = mkcol_keeps_locks h headers p who plan is
+plan_keeps h (not_yet out) = keeps_done
+
+module _ (h : Lock) (x : Asked) (other : ¬ NamesToken x h.token) where
+  of_keeps : {s : Settings} {r : Request} {m : DavMethod} {plan : MethodPlan Response} → MeansOf s x r m plan → KeepsLock h plan
+  of_keeps (not_allowed out) = keeps_done
+  of_keeps (no_path e has none) = keeps_done
+  of_keeps (no_body p e has named bad) = keeps_done
+  of_keeps (method p body has named good is) = plan_keeps h is
+
+  pub means_keeps : {s : Settings} {plan : MethodPlan Response} → Means s x plan → KeepsLock h plan
+  means_keeps (no_head out) = keeps_done
+  means_keeps (no_method r e head gives) = keeps_done
+  means_keeps (known r m head gives means) = of_keeps means
+
+-- ---- the laws
+
+pub no_lock_ends : NoLockEnds
+no_lock_ends s x old new ls ms reply h stands other (steps plan outcome means ran) = kept_locks_stand h plan old new ls ms outcome (means_keeps h x other means) ran stands
+
+cut_keeps : (s : Settings) (x : Asked) (h : Lock) {old new : StoreState} {ls ms : Locks} → Stands h ls → ¬ NamesToken x h.token → StepCut s x old ls new ms → Stands h ms
+cut_keeps s x h stands other untouched = stands
+cut_keeps s x h {old} {ls = ls} stands other (cut plan {new} {ms} means some) = kept_locks_stand_cut h plan old new ls ms (means_keeps h x other means) some stands
+
+pub no_lock_ends_cut : NoLockEndsCut
+no_lock_ends_cut s x old new ls ms h stands other stops = cut_keeps s x h stands other stops
+
+-- of a run, between any two requests
+pub ends_no_lock : (old : Server) (ts : List Turn) (replies : List Response) → EndsNoLock old ts replies
+ends_no_lock old ts replies front back t before after reply mid new ks ms h is given ran step stands other =
+    no_lock_ends old.settings t.asked (begun t.refusals mid) new ks ms reply h stands other step

@@ -1,0 +1,32 @@
+-- No lock ends by a request that doesn't name its token (RFC 4918, sections 7 and 9.11).
+use Rattle.std.specs.Prelude.{◌≡◌, ◌++◌, List, ◌∷◌}
+use Rattle.dav_core.specs.Asking.{StoreState}
+use Rattle.dav_core.specs.Locks.{Lock}
+use Rattle.dav_engine.specs.Guard.{Stands}
+use Rattle.dav_engine.specs.Plan.{Locks}
+use Rattle.dav_engine.specs.Response.{Response}
+use Rattle.dav_server.specs.Machine.{Asked, Settings, Steps, StepCut}
+use Rattle.dav_server.specs.Naming.{NamesToken}
+use Rattle.dav_server.specs.Run.{Turn, begun, Runs}
+use Rattle.dav_server.specs.Server.{Server}
+
+-- A lock that is in the list when a request begins is in the list after it, perhaps refreshed, unless the request names its
+-- token; whatever the store refuses.
+abbrev pub NoLockEnds : Type 0
+NoLockEnds =
+    (s : Settings) (x : Asked) (old new : StoreState) (ls ms : Locks) (reply : Response) (h : Lock)
+    → Stands h ls → ¬ NamesToken x h.token → Steps s x old ls reply new ms → Stands h ms
+
+-- So it is where memory runs out in the step.
+abbrev pub NoLockEndsCut : Type 0
+NoLockEndsCut =
+    (s : Settings) (x : Asked) (old new : StoreState) (ls ms : Locks) (h : Lock)
+    → Stands h ls → ¬ NamesToken x h.token → StepCut s x old ls new ms → Stands h ms
+
+-- In a run of these turns: after the first of them, the next ends no lock.
+abbrev pub EndsNoLock : Server → List Turn → List Response → Type 0
+EndsNoLock old ts replies =
+    (front back : List Turn) (t : Turn) (before after : List Response) (reply : Response) (mid new : StoreState) (ks ms : Locks) (h : Lock)
+    → ts ≡ front ++ t ∷ back → replies ≡ before ++ reply ∷ after
+    → Runs old.settings front old.state.store old.state.locks before mid ks → Steps old.settings t.asked (begun t.refusals mid) ks reply new ms
+    → Stands h ks → ¬ NamesToken t.asked h.token → Stands h ms

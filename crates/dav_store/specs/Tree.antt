@@ -1,0 +1,254 @@
+-- Trees of numbered nodes: what contracts see of them, and what each call refuses and makes.
+use Rattle.std.specs.Prelude.{◌≡◌, ℕ, zero, suc, ◌+◌, ◌-◌, nat_eq, ◌<◌, ◌==◌, Bool, true, false, not, if◌then◌else◌, ◌||◌, List, [], ◌∷◌, length, position, swap_remove, slice_get, Option, None, Some, is_none, Result, Ok, Err, ◌⊎◌, refl}
+use Rattle.std.specs.Option.{option_or, option_and_then, option_map, option_map_or}
+use Rattle.std.specs.Ordering.{nat_cmp}
+use Rattle.std.specs.BTreeMap.{is_at, insert_entry}
+use Rattle.std.specs.Cmp.Lexicographic.{pointwise}
+use Rattle.std.specs.declared.vec.Vec.{Vec}
+use Rattle.std.specs.List.{AllZip}
+use Rattle.std.specs.Map.{lookup, set_value, remove_entry}
+use Rattle.std.specs.Coded.{Coded, code_by, coded×, coded_list, coded_ℕ}
+use Rattle.indexmap.specs.IndexMap.{insert_entry as put_key}
+use Rattle.dav_core.specs.Numbers.{max_u64}
+use Rattle.dav_core.specs.declared.errors.FsError.{FsError}
+use Rattle.dav_core.specs.declared.errors.FsError.TheVariants.{NotFound, Exists, Forbidden, GeneralFailure, InsufficientStorage}
+
+-- a node: the number of its parent, its value, and the keys and numbers of its children
+pub record Node (K D : Type 0) : Type 0 where
+  pub parent : ℕ
+  pub value : D
+  pub children : List (K × ℕ)
+
+-- the nodes with their numbers, in order of these, and the last number that was handed out
+pub record Tree (K D : Type 0) : Type 0 where
+  pub nodes : List (ℕ × Node K D)
+  pub last : ℕ
+
+-- the root's number
+abbrev pub root_id : ℕ
+root_id = 1
+
+-- a child as it is listed: a clone of its key, and its number
+abbrev pub IsListedAs : {K : Type 0} → (K → K → Type 0) → K × ℕ → K × ℕ → Type 0
+IsListedAs is_clone child listed = is_clone child.0 listed.0 × (listed.1 ≡ child.1)
+
+module _ {K : Type 0} where
+  -- whether there are children
+  abbrev pub has_some : List (K × ℕ) → Bool
+  has_some [] = false
+  has_some (e ∷ es) = true
+
+  -- the children without the one at a place, which the last takes
+  abbrev pub without_place : ℕ → List (K × ℕ) → List (K × ℕ)
+  without_place i es = option_map_or (λ e. swap_remove es i e) (slice_get es i) es
+
+module _ {K D : Type 0} where
+  abbrev pub coded_node : Coded K → Coded D → Coded (Node K D)
+  coded_node k d =
+      code_by (ℕ × (D × List (K × ℕ)))
+      (coded× coded_ℕ (coded× d (coded_list (coded× k coded_ℕ))))
+      (λ n. (n.parent, (n.value, n.children)))
+      (λ p. record { parent = p.0; value = p.1.0; children = p.1.1 }) (λ _. refl)
+
+  abbrev pub coded_tree : Coded K → Coded D → Coded (Tree K D)
+  coded_tree k d =
+      code_by (List (ℕ × Node K D) × ℕ)
+      (coded× (coded_list (coded× coded_ℕ (coded_node k d))) coded_ℕ)
+      (λ t. (t.nodes, t.last)) (λ p. record { nodes = p.0; last = p.1 }) (λ _. refl)
+
+  -- the node of a number
+  abbrev pub node : Tree K D → ℕ → Option (Node K D)
+  node t n = lookup (is_at (nat_cmp n)) t.nodes
+
+  -- the value of a node
+  abbrev pub value_of : Tree K D → ℕ → Option D
+  value_of t n = option_map (λ x. x.value) (node t n)
+
+  -- the number of the parent of a node; 0 where there is no node, and of the root
+  abbrev pub parent_of : Tree K D → ℕ → ℕ
+  parent_of t n = option_map_or (λ x. x.parent) (node t n) 0
+
+  -- the keys and numbers of the children of a node
+  abbrev pub children_of : Tree K D → ℕ → List (K × ℕ)
+  children_of t n = option_map_or (λ x. x.children) (node t n) []
+
+  -- whether a node has children
+  abbrev pub has_children : Tree K D → ℕ → Bool
+  has_children t n = option_map_or (λ x. has_some x.children) (node t n) false
+
+  -- whether n is `top` or comes to it by fewer than so many steps to the parent
+  abbrev pub is_within : ℕ → Tree K D → ℕ → ℕ → Bool
+  is_within zero t top n = false
+  is_within (suc steps) t top n =
+      if n == top then true
+      else option_map_or (λ x. is_within steps t top x.parent) (node t n) false
+
+  -- whether n is `top` or below it
+  abbrev pub is_at_or_below : Tree K D → ℕ → ℕ → Bool
+  is_at_or_below t top n = is_within (length t.nodes) t top n
+
+  -- the place of a node among the children of another
+  abbrev pub place_of : Tree K D → ℕ → ℕ → Option ℕ
+  place_of t parent n =
+      option_and_then (λ x. position (λ e. e.1 == n) x.children) (node t parent)
+
+  -- a node without children
+  abbrev pub leaf : ℕ → D → Node K D
+  leaf parent value = record { parent = parent; value = value; children = [] }
+
+  -- the tree of a root alone
+  abbrev pub single : D → Tree K D
+  single value = record { nodes = (root_id, leaf 0 value) ∷ []; last = root_id }
+
+  -- the tree in which the node of a number is this one
+  abbrev pub with_node : Tree K D → ℕ → Node K D → Tree K D
+  with_node t n x = record t { nodes = set_value (is_at (nat_cmp n)) t.nodes x }
+
+  -- the tree in which the node of a number has this value
+  abbrev pub with_value : Tree K D → ℕ → D → Tree K D
+  with_value t n value =
+      option_map_or (λ x. with_node t n (record x { value = value })) (node t n) t
+
+  -- the tree without the node of a number
+  abbrev pub without : Tree K D → ℕ → Tree K D
+  without t n = record t { nodes = remove_entry (is_at (nat_cmp n)) t.nodes }
+
+  -- the same, where there may be none to go
+  abbrev pub without_old : Option ℕ → Tree K D → Tree K D
+  without_old old t = option_map_or (λ n. without t n) old t
+
+  -- the tree with one node more, which is nobody's child yet, and a tree without its last node
+  abbrev pub grown : Tree K D → ℕ → D → Tree K D
+  grown t parent value =
+      record {
+        nodes = insert_entry nat_cmp t.nodes (t.last + 1) (leaf parent value);
+        last = t.last + 1;
+      }
+
+  abbrev pub shrunk : Tree K D → Tree K D
+  shrunk t = record (without t t.last) { last = t.last - 1 }
+
+  -- the tree without the child at a place of a node
+  abbrev pub unlinked_at : Tree K D → ℕ → Option ℕ → Tree K D
+  unlinked_at t parent None = t
+  unlinked_at t parent (Some i) =
+      option_map_or
+      (λ x. with_node t parent (record x { children = without_place i x.children }))
+      (node t parent) t
+
+  -- the tree in which n is no child of its parent
+  abbrev pub unlinked : Tree K D → ℕ → Tree K D
+  unlinked t n = unlinked_at t (parent_of t n) (place_of t (parent_of t n) n)
+
+  -- the tree in which a node has this parent
+  abbrev pub seated : Tree K D → ℕ → ℕ → Tree K D
+  seated t n parent =
+      option_map_or (λ x. with_node t n (record x { parent = parent })) (node t n) t
+
+  -- no node has a number that wasn't handed out
+  abbrev pub NoneAbove : Tree K D → Type 0
+  NoneAbove t = (n : ℕ) → t.last < n → node t n ≡ None
+
+  -- why a node isn't deleted; `None` where it is
+  abbrev pub delete_refusal : Tree K D → ℕ → Option FsError
+  delete_refusal t n =
+      if is_none (node t n) then Some NotFound
+      else if n == root_id then Some Forbidden
+      else if has_children t n then Some Exists
+      else None
+
+  -- the tree without a node that has no children
+  abbrev pub deleted : Tree K D → ℕ → Tree K D
+  deleted t n = without (unlinked t n) n
+
+  -- what follows is about keys that are compared by `eq`
+  module _ (eq : K → K → Bool) where
+    -- the number of the child of a node under a key
+    abbrev pub child : Tree K D → ℕ → K → Option ℕ
+    child t n k = option_and_then (λ x. lookup (eq k) x.children) (node t n)
+
+    -- whether a node is the child under a key
+    abbrev pub is_child : Tree K D → ℕ → K → ℕ → Bool
+    is_child t parent k n = option_map_or (λ m. m == n) (child t parent k) false
+
+    -- the tree in which a node has this child under a key, in the place of one that is there
+    abbrev pub linked : Tree K D → ℕ → K → ℕ → Tree K D
+    linked t n k m =
+        option_map_or
+        (λ x. with_node t n (record x { children = put_key eq x.children k m }))
+        (node t n) t
+
+    -- why a key isn't free for a node, which may be there already: another child is, which is not
+    -- to be replaced, or has children
+    abbrev pub key_refusal : Tree K D → ℕ → K → Bool → Option FsError
+    key_refusal t parent k overwrite =
+        option_map_or
+        (λ old. if not overwrite || has_children t old then Some Exists else None)
+        (child t parent k) None
+
+    -- why a child isn't added; `None` where it is
+    abbrev pub add_refusal : Tree K D → ℕ → K → Bool → Option FsError
+    add_refusal t parent k overwrite =
+        if is_none (node t parent) then Some NotFound
+        else option_or (key_refusal t parent k overwrite)
+        (if t.last == max_u64 then Some GeneralFailure else None)
+
+    -- the tree with a new node under a key of its parent, in the place of a child that is there
+    abbrev pub added : Tree K D → ℕ → K → D → Tree K D
+    added t parent k value =
+        without_old (child t parent k) (linked (grown t parent value) parent k (t.last + 1))
+
+    -- why a node isn't moved; `None` where it is
+    abbrev pub move_refusal : Tree K D → ℕ → ℕ → K → Bool → Option FsError
+    move_refusal t n parent k overwrite =
+        if is_none (node t n) || is_none (node t parent) then Some NotFound
+        else if n == root_id then Some Forbidden
+        else if is_at_or_below t n parent then Some Forbidden
+        else if is_child t parent k n then None
+        else key_refusal t parent k overwrite
+
+    -- the tree with a node, and what is below it, under a key that isn't its own, in the place of
+    -- a child that is there
+    abbrev pub moved_over : Tree K D → ℕ → ℕ → K → Tree K D
+    moved_over t n parent k =
+        without_old (child t parent k)
+        (seated (unlinked_at (linked t parent k n) (parent_of t n)
+        (place_of t (parent_of t n) n)) n parent)
+
+    -- the same under any key: under its own it stays
+    abbrev pub moved : Tree K D → ℕ → ℕ → K → Tree K D
+    moved t n parent k = if is_child t parent k n then t else moved_over t n parent k
+
+module _ {K D : Type 0} (is_key : K → K → Type 0) (is_value : D → D → Type 0) where
+  -- a node again: of the same parent, with a clone of the value, and the same children in the same
+  -- order under clones of their keys
+  abbrev pub IsCloneOfNode : Node K D → Node K D → Type 0
+  IsCloneOfNode old new =
+      (new.parent ≡ old.parent) × is_value old.value new.value
+      × AllZip (IsListedAs is_key) old.children new.children
+
+  -- a tree again: the same numbers, and clones of the nodes
+  abbrev pub IsCloneOfTree : Tree K D → Tree K D → Type 0
+  IsCloneOfTree old new =
+      (new.last ≡ old.last)
+      × AllZip (λ e c. (c.0 ≡ e.0) × IsCloneOfNode e.1 c.1) old.nodes new.nodes
+
+-- the number of the child under a key of these bytes
+abbrev pub child_of_bytes : {Z D : Type 0} → Tree (Vec ℕ Z) D → ℕ → List ℕ → Option ℕ
+child_of_bytes t n bytes =
+    option_and_then (λ x. lookup (λ k. pointwise nat_eq bytes k.items) x.children) (node t n)
+
+module _ {X Y : Type 0} where
+  -- What a call answers and leaves: refused with this error, it changes nothing; else it answers
+  -- this and makes this of the tree.
+  abbrev pub Does : Option FsError → Y → X → Result Y FsError → X → X → Type 0
+  Does None answer made result old new = (result ≡ Ok answer) × (new ≡ made)
+  Does (Some e) answer made result old new = (result ≡ Err e) × (new ≡ old)
+
+  -- The same of a call that takes memory where `takes` is true: where no rule refuses it, it may
+  -- answer InsufficientStorage, which changes nothing.
+  abbrev pub DoesOrLacks : Bool → Option FsError → Y → X → Result Y FsError → X → X → Type 0
+  DoesOrLacks takes None answer made result old new =
+      ((result ≡ Ok answer) × (new ≡ made))
+      ⊎ ((takes ≡ true) × (result ≡ Err InsufficientStorage) × (new ≡ old))
+  DoesOrLacks takes (Some e) answer made result old new = (result ≡ Err e) × (new ≡ old)
