@@ -149,7 +149,7 @@ without_step : {X : Type 0} (P : X → Type 0) (x : X) (xs rest : List X) (b : B
 without_step P x xs rest true h all ih = all
 without_step P x xs rest false h all ih = All-cons P x rest h ih
 
-All-without_first : {X : Type 0} (P : X → Type 0) (test : X → Bool) (xs : List X) → All P xs → All P (without_first test xs)
+pub All-without_first : {X : Type 0} (P : X → Type 0) (test : X → Bool) (xs : List X) → All P xs → All P (without_first test xs)
 All-without_first P test [] all = all
 All-without_first P test (x ∷ xs) all =
     without_step P x xs (without_first test xs) (test x) (All-head P x xs all) (All-tail P x xs all) (All-without_first P test xs (All-tail P x xs all))
@@ -169,7 +169,7 @@ module _ {X : Type 0} (test : X → Bool) (f : X → X) where
   change_step P keeps x xs rest true h all ih = All-cons P (f x) xs (keeps x h) all
   change_step P keeps x xs rest false h all ih = All-cons P x rest h ih
 
-  All-change_first : (P : X → Type 0) → ((y : X) → P y → P (f y)) → (xs : List X) → All P xs → All P (change_first test f xs)
+  pub All-change_first : (P : X → Type 0) → ((y : X) → P y → P (f y)) → (xs : List X) → All P xs → All P (change_first test f xs)
   All-change_first P keeps [] all = all
   All-change_first P keeps (x ∷ xs) all =
       change_step P keeps x xs (change_first test f xs) (test x) (All-head P x xs all) (All-tail P x xs all) (All-change_first P keeps xs (All-tail P x xs all))

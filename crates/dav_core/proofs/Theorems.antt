@@ -8,13 +8,15 @@ pub use Rattle.dav_core.proofs.CutOnce.{one_cut}
 pub use Rattle.dav_core.proofs.FollowLemmas.{numbers_look_back, made_stands_there, nodes_stay, opened_stands}
 pub use Rattle.dav_core.proofs.FrontLemmas.{from_rest, name-itself, outside, parent-append, rest_after-append, same_name, shape}
 pub use Rattle.dav_core.proofs.KeptLemmas.{calls_keep_worlds, numbers_rise}
-pub use Rattle.dav_core.proofs.LockLemmas.{free_is_no_conflict}
+pub use Rattle.dav_core.proofs.ListedLocks.{unlock_takes_one, refresh_changes_one}
+pub use Rattle.dav_core.proofs.LockLemmas.{free_is_no_conflict, granted_can_be_unlocked, taken_back}
 pub use Rattle.dav_core.proofs.MadeLemmas.{change_made, made_stands, stands_made}
 pub use Rattle.dav_core.proofs.MemberLemmas.{lists_what_stands, above, members_rise, members_stand_below, nothing_below, sorted-members}
 pub use Rattle.dav_core.proofs.NamedLemmas.{named_once}
 pub use Rattle.dav_core.proofs.NodesAfter.{find-prune, adjust_keeps_order, left_true, right_true, sorted-prune, touched_is_modified}
 pub use Rattle.dav_core.proofs.NodesLemmas.{find-adjust, find-put_node, path-itself, same_path, turned}
 pub use Rattle.dav_core.proofs.OutcomeLemmas.{read_or_refused}
+pub use Rattle.dav_core.proofs.SharedLemmas.{granted_are_shared, unlocked_are_shared, refreshed_are_shared, deleted_are_shared, none_are_shared, All-without_first, All-change_first}
 pub use Rattle.dav_core.proofs.StepLemmas.{went_on, found, left, went_if}
 pub use Rattle.dav_core.proofs.TargetLemmas.{Leaves-names, names_kept, Reads-one, Reads-valid, Reads-allowed, refused_once}
 pub use Rattle.dav_core.proofs.UrlLemmas.{Reads-bytes}

@@ -41,6 +41,7 @@ pub mod SparingLaw
 pub mod SparingPlans
 pub mod EndingLemmas
 pub mod EndingDelete
+pub mod ListChangeLemmas
 pub mod SparingDelete
 pub mod BesideLemmas
 pub mod AlongsideLaw

@@ -27,6 +27,7 @@ pub mod Guard
 pub mod Sparing
 pub mod SparingPlans
 pub mod Ending
+pub mod ListChanges
 pub mod AnswerParts
 pub mod Alongside
 pub mod AlongsidePlans

@@ -4,6 +4,7 @@ ghost use Rattle.dav_engine.specs.AlongsidePlans.{PutGoesAlong, MkcolGoesAlong};
 ghost use Rattle.dav_engine.specs.Ending.{KeptLocksStand, KeptLocksStandCut, ReadingKeepsLocks, PutKeepsLocks, MkcolKeepsLocks, DeleteKeepsLocks};
 ghost use Rattle.dav_engine.specs.Guard.{FreeIsHeld, FreeIsApart, FreeIsUncovered, GrantedGuards};
 ghost use Rattle.dav_engine.specs.Inside.{FoldersAreAbove};
+ghost use Rattle.dav_engine.specs.ListChanges.{ListsAreChanged, ListsAreChangedCut, ChangesKeepShared, ChangesBringTokens, ReadingChangesList, PutChangesList, MkcolChangesList, DeleteChangesList};
 ghost use Rattle.dav_engine.specs.Sparing.{SparingLeavesCovered, SparingLeavesCoveredCut, SparingLeavesInside};
 ghost use Rattle.dav_engine.specs.SparingPlans.{ReadingSpares, PutSpares, MkcolSpares, DeleteSpares};
 
@@ -67,4 +68,23 @@ pub fn kept_locks_stand()
     ensures put { PutKeepsLocks }
     ensures mkcol { MkcolKeepsLocks }
     ensures delete { DeleteKeepsLocks }
+{}
+
+/// Each change that a plan makes to the list of locks is a grant of a lock with the client's token where it may be granted, a
+/// refresh, an unlock, or the end of the locks at a path and below it; also where memory runs out in the plan, and whatever the
+/// store refuses. Plans that only read change no list, nor do PUT, PATCH and MKCOL (RFC 4918, sections 6.1, 7 and 9.11).
+pub fn lists_are_changed()
+    ensures changed { ListsAreChanged }
+    ensures cut { ListsAreChangedCut }
+    ensures reading { ReadingChangesList }
+    ensures put { PutChangesList }
+    ensures mkcol { MkcolChangesList }
+    ensures delete { DeleteChangesList }
+{}
+
+/// Through such changes locks that cover one path stay shared, and no lock has a token but those that locks had before, and the
+/// one that the client handed in (RFC 4918, sections 6.2 and 6.5).
+pub fn changed_lists_stay_shared()
+    ensures shared { ChangesKeepShared }
+    ensures tokens { ChangesBringTokens }
 {}
