@@ -89,44 +89,45 @@ module _ {who : Client} where
   shared_after_all no_change shared = shared
   shared_after_all (a_change one more) shared = shared_after_all more (shared_after one shared)
 
-  module _ {P : List ℕ → Type 0} (own : (token : List ℕ) → who.token ≡ Some token → P token) where
-    abbrev Good : Lock → Type 0
-    Good l = P l.token
+-- the locks whose tokens meet P
+abbrev Good : (List ℕ → Type 0) → Lock → Type 0
+Good P l = P l.token
 
-    parts : (front back : List Lock) (l : Lock) → All Good (front ++ l ∷ back) → All Good front × Good l × All Good back
-    parts [] back l all = (λ k d small. absurd (omega (arith, small)), All-head Good l back all, All-tail Good l back all)
-    parts (m ∷ front) back l all =
-        let (more, here, rest) = parts front back l (All-tail Good m (front ++ l ∷ back) all) in
-        (All-cons Good m front (All-head Good m (front ++ l ∷ back) all) more, here, rest)
+parts : (P : List ℕ → Type 0) (front back : List Lock) (l : Lock) → All (Good P) (front ++ l ∷ back) → All (Good P) front × Good P l × All (Good P) back
+parts P [] back l all = (λ k d small. absurd (omega (arith, small)), All-head (Good P) l back all, All-tail (Good P) l back all)
+parts P (m ∷ front) back l all =
+    let (more, here, rest) = parts P front back l (All-tail (Good P) m (front ++ l ∷ back) all) in
+    (All-cons (Good P) m front (All-head (Good P) m (front ++ l ∷ back) all) more, here, rest)
 
-    tokens_refreshed : {token : List ℕ} {p : Path} {timeout : Option ℕ} {now : ℕ} {ls ms : List Lock} → refreshed token p timeout now ls ≡ Some ms → All Good ls → All Good ms
-    tokens_refreshed {token} {p} {timeout} {now} {ls} {ms} is all =
-        let (l, front, back, meant, was, new) = refresh_changes_one token p timeout now ls ms is in
-        let (before, here, after) = parts front back l (All-same Good (front ++ l ∷ back) ls (sym was) all) in
-        All-same Good ms (front ++ refreshed_lock timeout now l ∷ back) new (All-append Good front (refreshed_lock timeout now l ∷ back) before (All-cons Good (refreshed_lock timeout now l) back here after))
+tokens_refreshed : (P : List ℕ → Type 0) (token : List ℕ) (p : Path) (timeout : Option ℕ) (now : ℕ) (ls ms : List Lock) → refreshed token p timeout now ls ≡ Some ms → All (Good P) ls → All (Good P) ms
+tokens_refreshed P token p timeout now ls ms is all =
+    let (l, front, back, meant, was, new) = refresh_changes_one token p timeout now ls ms is in
+    let (before, here, after) = parts P front back l (All-same (Good P) (front ++ l ∷ back) ls (sym was) all) in
+    All-same (Good P) ms (front ++ refreshed_lock timeout now l ∷ back) new (All-append (Good P) front (refreshed_lock timeout now l ∷ back) before (All-cons (Good P) (refreshed_lock timeout now l) back here after))
 
-    tokens_unlocked : {token : List ℕ} {p : Path} {ls ms : List Lock} → unlocked token p ls ≡ Some ms → All Good ls → All Good ms
-    tokens_unlocked {token} {p} {ls} {ms} is all =
-        let (l, front, back, meant, was, new) = unlock_takes_one token p ls ms is in
-        let (before, here, after) = parts front back l (All-same Good (front ++ l ∷ back) ls (sym was) all) in
-        All-same Good ms (front ++ back) new (All-append Good front back before after)
+tokens_unlocked : (P : List ℕ → Type 0) (token : List ℕ) (p : Path) (ls ms : List Lock) → unlocked token p ls ≡ Some ms → All (Good P) ls → All (Good P) ms
+tokens_unlocked P token p ls ms is all =
+    let (l, front, back, meant, was, new) = unlock_takes_one token p ls ms is in
+    let (before, here, after) = parts P front back l (All-same (Good P) (front ++ l ∷ back) ls (sym was) all) in
+    All-same (Good P) ms (front ++ back) new (All-append (Good P) front back before after)
 
-    tokens_after : {ls ms : List Lock} → IsChange who ls ms → All Good ls → All Good ms
-    tokens_after {ls} (grants l is ok) all = All-push Good ls l all (own l.token is)
-    tokens_after (refreshes token p timeout now is) all = tokens_refreshed is all
-    tokens_after (unlocks token p is) all = tokens_unlocked is all
-    tokens_after {ls} (drops p) all = All-filter (λ l. not (is_at_or_under (names l.path) p)) Good ls all
+module _ {who : Client} (P : List ℕ → Type 0) (own : (token : List ℕ) → who.token ≡ Some token → P token) where
+  tokens_after : {ls ms : List Lock} → IsChange who ls ms → All (Good P) ls → All (Good P) ms
+  tokens_after {ls} (grants l is ok) all = All-push (Good P) ls l all (own l.token is)
+  tokens_after {ls} {ms} (refreshes token p timeout now is) all = tokens_refreshed P token p timeout now ls ms is all
+  tokens_after {ls} {ms} (unlocks token p is) all = tokens_unlocked P token p ls ms is all
+  tokens_after {ls} (drops p) all = All-filter (λ l. not (is_at_or_under (names l.path) p)) (Good P) ls all
 
-    -- what holds of the tokens of the locks before, and of the client's token, holds of those after
-    pub tokens_after_all : {ls ms : List Lock} → AreChanges who ls ms → All Good ls → All Good ms
-    tokens_after_all no_change all = all
-    tokens_after_all (a_change one more) all = tokens_after_all more (tokens_after one all)
+  -- what holds of the tokens of the locks before, and of the client's token, holds of those after
+  pub tokens_after_all : {ls ms : List Lock} → AreChanges who ls ms → All (λ l. P l.token) ls → All (λ l. P l.token) ms
+  tokens_after_all no_change all = all
+  tokens_after_all (a_change one more) all = tokens_after_all more (tokens_after one all)
 
 pub changes_keep_shared : ChangesKeepShared
 changes_keep_shared who ls ms changes shared = shared_after_all changes shared
 
 pub changes_bring_tokens : ChangesBringTokens
-changes_bring_tokens who tokens ls ms changes have own = tokens_after_all {P = Contains tokens} own changes have
+changes_bring_tokens who tokens ls ms changes have own = tokens_after_all (Contains tokens) own changes have
 
 -- ---- parts
 
