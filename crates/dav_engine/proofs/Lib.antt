@@ -45,6 +45,7 @@ pub mod SparingDelete
 pub mod BesideLemmas
 pub mod AlongsideLaw
 pub mod AlongsidePlans
+pub mod AlongsideDelete
 pub mod NumberLemmas
 pub mod WrongPlans
 pub mod GrantLemmas

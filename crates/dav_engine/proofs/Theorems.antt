@@ -1,4 +1,5 @@
 -- What the proofs of the crates above rest on.
+pub use Rattle.dav_engine.proofs.AlongsideDelete.{delete_goes_along}
 pub use Rattle.dav_engine.proofs.AlongsideLaw.{alongside_agree, ran_plain}
 pub use Rattle.dav_engine.proofs.AlongsidePlans.{holders, in_reach, only_lists, side_bind, side_require, side_lists, put_goes_along, mkcol_goes_along}
 pub use Rattle.dav_engine.proofs.CallWorlds.{Did, stays, means, did, Kept, did_leave, kept_same, kept_on}
