@@ -32,6 +32,7 @@ pub mod RunLemmas
 pub mod FaultLemmas
 pub mod SurvivorLemmas
 pub mod NamedLemmas
+pub mod RemovalReports
 pub mod DeletedWorlds
 pub mod Theorems
 pub mod GuardedFolders
