@@ -8,7 +8,7 @@ use Rattle.std.proofs.lemmas.Slice.Eq.{bytes_eq-Decides, ends_is}
 use Rattle.std.proofs.lemmas.List.{append-nil}
 use Rattle.std.proofs.lemmas.List.Elements.{filter-append, All-weaker, All-head, All-tail, All-cons, All-nil}
 use Rattle.std.proofs.lemmas.List.Splits.{slice_split_none}
-use Rattle.dav_core.specs.Path.{IsSegment, is_nonempty, is_collection, end_for, star, names_in, names_of}
+use Rattle.dav_core.specs.Path.{IsSegment, is_nonempty, is_collection, end_for, star, names_in, names_of, with_slash}
 use Rattle.dav_core.specs.Laws.{AddsSegment, SlashAddsNoName, MemberIsNoStar, FewNames, NamesAreSegments, NameIsSegment}
 
 pub name_is_segment : NameIsSegment
@@ -101,29 +101,6 @@ not_star_at : (xs ys : List ℕ) → xs ++ 47 ∷ ys ≢ star
 not_star_at [] ys e = let same : ◌≡◌ {A = ℕ} 47 42 = cc in absurd (omega (arith, same))
 not_star_at (x ∷ xs) ys e = let rest : xs ++ 47 ∷ ys ≡ [] = cc in never_empty xs ys rest
 
--- a segment after a slash is one more name
-added : (xs n : List ℕ) → IsSegment n → names_of (xs ++ 47 ∷ n) ≡ names_in xs ++ n ∷ []
-added xs n segment = names_other (xs ++ 47 ∷ n) (not_star_at xs n) ∙ names_at xs n ∙ ap (λ ns. names_in xs ++ ns) (one_name n segment)
-
-added_by : (bytes n : List ℕ) (closed : Bool) → is_collection bytes ≡ closed → IsSegment n → bytes ≢ star → names_of ((bytes ++ end_for closed) ++ n) ≡ names_of bytes ++ n ∷ []
-added_by bytes n false is segment other =
-    ap names_of (append_assoc bytes (47 ∷ []) n) ∙ added bytes n segment ∙ ap (λ ns. ns ++ n ∷ []) (sym (names_other bytes other))
-added_by bytes n true is segment other =
-    let front = take (length bytes - 1) bytes in
-    let parts : bytes ≡ front ++ 47 ∷ [] = (ends_is Decides-eqb bytes (47 ∷ []) (is_collection bytes) refl).0 is in
-    let before : names_of bytes ≡ names_in front = names_other bytes other ∙ ap names_in parts ∙ names_at front [] ∙ append-nil (names_in front) in
-    ap (λ xs. names_of (xs ++ n)) (append-nil bytes ∙ parts) ∙ ap names_of (append_assoc front (47 ∷ []) n) ∙ added front n segment ∙ ap (λ ns. ns ++ n ∷ []) (sym before)
-
-pub adds_segment : AddsSegment
-adds_segment bytes n segment other = added_by bytes n (is_collection bytes) refl segment other
-
-slash_added : (bytes : List ℕ) (closed : Bool) → is_collection bytes ≡ closed → bytes ≢ star → names_of (bytes ++ end_for closed) ≡ names_of bytes
-slash_added bytes true is other = ap names_of (append-nil bytes)
-slash_added bytes false is other = names_other (bytes ++ 47 ∷ []) (not_star_at bytes []) ∙ names_at bytes [] ∙ append-nil (names_in bytes) ∙ sym (names_other bytes other)
-
-pub slash_adds_no_name : SlashAddsNoName
-slash_adds_no_name bytes other = slash_added bytes (is_collection bytes) refl other
-
 no_star_by : (bytes n : List ℕ) (closed : Bool) → is_collection bytes ≡ closed → (bytes ++ end_for closed) ++ n ≢ star
 no_star_by bytes n false is e = not_star_at bytes n (sym (append_assoc bytes (47 ∷ []) n) ∙ e)
 no_star_by bytes n true is e =
@@ -133,6 +110,30 @@ no_star_by bytes n true is e =
 
 pub member_is_no_star : MemberIsNoStar
 member_is_no_star bytes n e = no_star_by bytes n (is_collection bytes) refl e
+
+joined_by : (bytes n : List ℕ) (closed : Bool) → is_collection bytes ≡ closed → names_in ((bytes ++ end_for closed) ++ n) ≡ names_in bytes ++ names_in n
+joined_by bytes n false is = ap names_in (append_assoc bytes (47 ∷ []) n) ∙ names_at bytes n
+joined_by bytes n true is =
+    let front = take (length bytes - 1) bytes in
+    let parts : bytes ≡ front ++ 47 ∷ [] = (ends_is Decides-eqb bytes (47 ∷ []) (is_collection bytes) refl).0 is in
+    let before : names_in bytes ≡ names_in front = ap names_in parts ∙ names_at front [] ∙ append-nil (names_in front) in
+    ap (λ xs. names_in (xs ++ n)) (append-nil bytes ∙ parts) ∙ ap names_in (append_assoc front (47 ∷ []) n) ∙ names_at front n ∙ ap (λ ns. ns ++ names_in n) (sym before)
+
+-- what follows a slash adds its own names
+pub names_joined : (bytes n : List ℕ) → bytes ≢ star → names_of (with_slash bytes ++ n) ≡ names_of bytes ++ names_in n
+names_joined bytes n other =
+    names_other (with_slash bytes ++ n) (member_is_no_star bytes n) ∙ joined_by bytes n (is_collection bytes) refl ∙ ap (λ ns. ns ++ names_in n) (sym (names_other bytes other))
+
+-- a segment is one more name
+pub adds_segment : AddsSegment
+adds_segment bytes n segment other = names_joined bytes n other ∙ ap (λ ns. names_of bytes ++ ns) (one_name n segment)
+
+slash_added : (bytes : List ℕ) (closed : Bool) → is_collection bytes ≡ closed → bytes ≢ star → names_of (bytes ++ end_for closed) ≡ names_of bytes
+slash_added bytes true is other = ap names_of (append-nil bytes)
+slash_added bytes false is other = names_other (bytes ++ 47 ∷ []) (not_star_at bytes []) ∙ names_at bytes [] ∙ append-nil (names_in bytes) ∙ sym (names_other bytes other)
+
+pub slash_adds_no_name : SlashAddsNoName
+slash_adds_no_name bytes other = slash_added bytes (is_collection bytes) refl other
 
 -- a path has no more names than bytes
 few_step : (b : ℕ) (parts : List (List ℕ)) (c : Bool) → length (filter is_nonempty (cond c ([] ∷ parts) (onto_first b parts))) ≤ suc (length (filter is_nonempty parts))

@@ -1,5 +1,5 @@
 -- What the proofs of the crates above rest on.
-pub use Rattle.dav_core.proofs.AddedLemmas.{adds_segment, slash_adds_no_name, member_is_no_star, few_names, name_is_segment}
+pub use Rattle.dav_core.proofs.AddedLemmas.{adds_segment, slash_adds_no_name, member_is_no_star, few_names, name_is_segment, names_joined}
 pub use Rattle.dav_core.proofs.AskingLemmas.{answered_as, errors_leave_worlds}
 pub use Rattle.dav_core.proofs.CarriedLemmas.{renamed_world, stays-moved, without_keeps}
 pub use Rattle.dav_core.proofs.CoverLemmas.{some_held, grantable_by_tests, free_by_tests}
@@ -11,7 +11,7 @@ pub use Rattle.dav_core.proofs.KeptLemmas.{calls_keep_worlds, numbers_rise}
 pub use Rattle.dav_core.proofs.ListedLocks.{unlock_takes_one, refresh_changes_one}
 pub use Rattle.dav_core.proofs.LockLemmas.{free_is_no_conflict, granted_can_be_unlocked, taken_back}
 pub use Rattle.dav_core.proofs.MadeLemmas.{change_made, made_stands, stands_made}
-pub use Rattle.dav_core.proofs.MemberLemmas.{lists_what_stands, above, members_rise, members_stand_below, nothing_below, sorted-members}
+pub use Rattle.dav_core.proofs.MemberLemmas.{lists_what_stands, above, members_rise, members_same, members_stand_below, nothing_below, sorted-members}
 pub use Rattle.dav_core.proofs.NamedLemmas.{named_once}
 pub use Rattle.dav_core.proofs.NodesAfter.{find-prune, adjust_keeps_order, left_true, right_true, sorted-prune, touched_is_modified}
 pub use Rattle.dav_core.proofs.NodesLemmas.{find-adjust, find-put_node, path-itself, same_path, turned}

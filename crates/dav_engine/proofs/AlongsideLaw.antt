@@ -1,5 +1,5 @@
 -- The law of plans that go side by side.
-use Rattle.std.proofs.Common.{◌≡◌, ℕ, ◌++◌, inl, inr, Bool, true, false, true≢false, List, [], ◌∷◌, Option, Some, None, Result, Ok, Err, refl, sym, ap, subst, ◌∙◌}
+use Rattle.std.proofs.Common.{◌≡◌, ℕ, ◌++◌, inl, inr, Bool, true, false, true≢false, List, [], ◌∷◌, append-nil, Option, Some, None, Result, Ok, Err, refl, sym, ap, subst, ◌∙◌}
 use Rattle.std.specs.Bool.{⊤}
 use Rattle.std.specs.declared.io.traits.SeekFrom.{SeekFrom}
 use Rattle.dav_core.specs.declared.errors.FsError.{FsError}
@@ -10,9 +10,9 @@ use Rattle.dav_core.specs.CallLaws.{IsProper, TakesAway, brought}
 use Rattle.dav_core.specs.Handle.{Handle, Opening}
 use Rattle.dav_core.specs.Locks.{Lock}
 use Rattle.dav_core.specs.Meaning.{Meaning}
-use Rattle.dav_core.specs.Path.{Path}
+use Rattle.dav_core.specs.Path.{Path, rest_after, has_names, is_under}
 use Rattle.dav_core.specs.World.{World, node_at, IsWorld}
-use Rattle.dav_core.proofs.Theorems.{nodes_stay, opened_stands, calls_keep_worlds, made_stands}
+use Rattle.dav_core.proofs.Theorems.{nodes_stay, opened_stands, calls_keep_worlds, made_stands, rest_after-append}
 use Rattle.dav_engine.specs.Method.{MethodPlan}
 use Rattle.dav_engine.specs.Plan.{Plan, Locks, Ran, ran_done, ran_ask, ran_look, ran_keep}
 use Rattle.dav_engine.specs.WorldLaws.{IsProperPlan, proper_done, proper_ask, proper_look, proper_keep}
@@ -21,7 +21,8 @@ use Rattle.dav_engine.proofs.PlanLemmas.{ran_unset}
 use Rattle.dav_engine.specs.Guard.{folder_of, Guarded}
 use Rattle.dav_engine.specs.Inside.{HasFoldersAbove}
 use Rattle.dav_engine.specs.Alongside.{TakesNumber, FindsNoNumber, AsksWithNumbers, SameResult, SameMetadata, BothOpen, SameHandle, AreOpen, IsCallInside, SameAnswer, Alongside, side_ok, side_err, side_asks, side_opens, side_reads, side_writes, side_seeks, side_flushes, side_tells, side_look, side_keep, side_last, IsFileAt, AreBothThere, AreAlike, Agrees, SameAnswers, AlongsideAgree}
-use Rattle.dav_engine.proofs.BesideLemmas.{Beside, beside_err, beside_ok, used_up, Like, metadata_beside, create_beside, open_beside, flush_beside, tells_beside, seek_beside, read_beside, write_beside}
+use Rattle.dav_engine.proofs.BesideLemmas.{Beside, beside_err, beside_ok, used_up, Like, metadata_beside, read_dir_beside, create_beside, remove_dir_beside, remove_file_beside, open_beside, flush_beside, tells_beside, seek_beside, read_beside, write_beside}
+use Rattle.dav_engine.proofs.FaultLemmas.{not_above, strictly}
 use Rattle.dav_engine.proofs.SparingCalls.{folder_stays}
 
 -- ---- two calls side by side under the same refusals
@@ -65,27 +66,33 @@ module _ (c c' : Call) {R : Answer c → Answer c' → Type 0} {S : World → Wo
 
 -- ---- what stays
 
--- a call that takes nothing away, and brings nothing elsewhere
-Calmly : Call → Type 0
-Calmly c = ((p : Path) → ¬ TakesAway c p) × ((p : Path) → brought c p ≡ p)
+-- a call that takes away neither a folder above this one nor the file that is open, and brings nothing elsewhere
+SparesFile : Path → Option BothOpen → Call → Type 0
+SparesFile folder None c = ⊤
+SparesFile folder (Some file) c = ¬ TakesAway c (folder ++ file.at)
 
-above_after : (folder : Path) (c : Call) (w v : World) (a : Result (Answer c) FsError) → Calmly c → IsProper c → IsWorld w → Did (meaning c w) w a v → HasFoldersAbove folder w → HasFoldersAbove folder v
+Calmly : Path → Option BothOpen → Call → Type 0
+Calmly folder file c = ((p : Path) → is_under folder p ≡ true → ¬ TakesAway c p) × ((p : Path) → brought c p ≡ p) × SparesFile folder file c
+
+above_after : (folder : Path) (file : Option BothOpen) (c : Call) (w v : World) (a : Result (Answer c) FsError) → Calmly folder file c → IsProper c → IsWorld w → Did (meaning c w) w a v → HasFoldersAbove folder w → HasFoldersAbove folder v
 unfolding Calmly
-above_after folder c w v a calm proper world (stays e failed is) above = subst (HasFoldersAbove folder) (sym is) above
-above_after folder c w v a calm proper world (means r h gave is) above = subst (HasFoldersAbove folder) (sym is) (λ p up. folder_stays c w r p proper world h (calm.0 p) (calm.1 p) (above p up))
+above_after folder file c w v a calm proper world (stays e failed is) above = subst (HasFoldersAbove folder) (sym is) above
+above_after folder file c w v a calm proper world (means r h gave is) above = subst (HasFoldersAbove folder) (sym is) (λ p up. folder_stays c w r p proper world h (calm.0 p up) (calm.1 p) (above p up))
 
-file_after : (p : Path) (made : ℕ) (c : Call) (w v : World) (a : Result (Answer c) FsError) → Calmly c → IsProper c → IsWorld w → Did (meaning c w) w a v → IsFileAt w p made → IsFileAt v p made
-unfolding Calmly
-file_after p made c w v a calm proper world (stays e failed is) there = subst (λ (x : World). IsFileAt x p made) (sym is) there
-file_after p made c w v a calm proper world (means r h gave is) (n, at, same, file) =
-    let (m, stood, still) = nodes_stay c w r p n proper world h at (calm.0 p) in
-    subst (λ (x : World). IsFileAt x p made) (sym is) (m, ap (λ (q : Path). node_at r.1 q) (sym (calm.1 p)) ∙ stood, still.0 ∙ same, still.1 ∙ file)
+file_after : (p : Path) (made : ℕ) (c : Call) (w v : World) (a : Result (Answer c) FsError) → ¬ TakesAway c p → brought c p ≡ p → IsProper c → IsWorld w → Did (meaning c w) w a v → IsFileAt w p made → IsFileAt v p made
+file_after p made c w v a spared still proper world (stays e failed is) there = subst (λ (x : World). IsFileAt x p made) (sym is) there
+file_after p made c w v a spared still proper world (means r h gave is) (n, at, same, file) =
+    let (m, stood, alike) = nodes_stay c w r p n proper world h at spared in
+    subst (λ (x : World). IsFileAt x p made) (sym is) (m, ap (λ (q : Path). node_at r.1 q) (sym still) ∙ stood, alike.0 ∙ same, alike.1 ∙ file)
 
-there_after : (folder : Path) (file : Option BothOpen) (c c' : Call) (w v w' v' : World) (a : Result (Answer c) FsError) (b : Result (Answer c') FsError) → Calmly c → Calmly c' → IsProper c → IsProper c' → IsWorld w → IsWorld w'
+there_after : (folder : Path) (file : Option BothOpen) (c c' : Call) (w v w' v' : World) (a : Result (Answer c) FsError) (b : Result (Answer c') FsError) → Calmly folder file c → Calmly folder file c' → IsProper c → IsProper c' → IsWorld w → IsWorld w'
     → Did (meaning c w) w a v → Did (meaning c' w') w' b v' → AreBothThere folder file w w' → AreBothThere folder file v v'
+unfolding Calmly SparesFile
 there_after folder None c c' w v w' v' a b calm calm' proper proper' world world' d d' there = tt
-there_after folder (Some file) c c' w v w' v' a b calm calm' proper proper' world world' d d' there =
-    (file_after (folder ++ file.at) file.here c w v a calm proper world d there.0, file_after (folder ++ file.at) file.alone c' w' v' b calm' proper' world' d' there.1)
+there_after folder (Some file) c c' w v w' v' a b calm calm' proper proper' world world' d d' there = (
+  file_after (folder ++ file.at) file.here c w v a calm.2 (calm.1 (folder ++ file.at)) proper world d there.0,
+  file_after (folder ++ file.at) file.alone c' w' v' b calm'.2 (calm'.1 (folder ++ file.at)) proper' world' d' there.1,
+)
 
 record Stepped {A B : Type 0} (R : A → B → Type 0) (folder : Path) (file : Option BothOpen) (a : Result A FsError) (b : Result B FsError) (mid mid' : StoreState) : Type 0 where
   outcomes : SameResult R a b
@@ -94,7 +101,7 @@ record Stepped {A B : Type 0} (R : A → B → Type 0) (folder : Path) (file : O
 
 -- two calls side by side, and what they leave
 stepped : (folder : Path) (file : Option BothOpen) (c c' : Call) {R : Answer c → Answer c' → Type 0} {old mid old' mid' : StoreState} {a : Result (Answer c) FsError} {b : Result (Answer c') FsError}
-    → Calmly c → Calmly c' → IsProper c → IsProper c' → AsksWithNumbers c old a mid → Asks c' old' b mid' → mid.short ≡ false → mid'.short ≡ false → old.refusals ≡ old'.refusals
+    → Calmly folder file c → Calmly folder file c' → IsProper c → IsProper c' → AsksWithNumbers c old a mid → Asks c' old' b mid' → mid.short ≡ false → mid'.short ≡ false → old.refusals ≡ old'.refusals
     → AreAlike folder file old.world old'.world → Beside (TakesNumber c) R (Like folder) (meaning c old.world) (meaning c' old'.world) → Stepped R folder file a b mid mid'
 stepped folder file c c' {R} {old} {mid} {old'} {mid'} {a} {b} calm calm' proper proper' one one' u u' same alike beside =
     let (p, rest) = pair c c' {S = Like folder} one one' u u' same beside (alike.same, alike.next) in
@@ -106,8 +113,8 @@ stepped folder file c c' {R} {old} {mid} {old'} {mid'} {a} {b} calm calm' proper
       alike = record {
         same = p.worlds.0;
         next = p.worlds.1;
-        above = above_after folder c old.world mid.world a calm proper alike.world (did one.0) alike.above;
-        above_alone = above_after folder c' old'.world mid'.world b calm' proper' alike.world_alone (did one') alike.above_alone;
+        above = above_after folder file c old.world mid.world a calm proper alike.world (did one.0) alike.above;
+        above_alone = above_after folder file c' old'.world mid'.world b calm' proper' alike.world_alone (did one') alike.above_alone;
         world = kept.world;
         world_alone = kept'.world;
         there = there_after folder file c c' old.world mid.world old'.world mid'.world a b calm calm' proper proper' alike.world alike.world_alone (did one.0) (did one') alike.there;
@@ -125,10 +132,18 @@ module _ (folder : Path) {file : Option BothOpen} (w v : World) (alike : AreAlik
   inside_means (CreateDir p now) (rest, is) =
       subst (λ (q : Path). Beside ⊤ (λ a b. ⊤) (Like folder) (meaning (CreateDir q now) w) (meaning (CreateDir q now) v)) (sym is)
       (create_beside folder w v alike.same alike.next alike.above alike.above_alone alike.world ⊤ tt rest now)
-  inside_means (ReadDir p) inside = absurd inside
-  inside_means (EntryMetadata p) inside = absurd inside
-  inside_means (RemoveDir p now) inside = absurd inside
-  inside_means (RemoveFile p now) inside = absurd inside
+  inside_means (ReadDir p) (rest, is) =
+      subst (λ (q : Path). Beside ⊥ (λ a b. a ≡ b) (Like folder) (meaning (ReadDir q) w) (meaning (ReadDir q) v)) (sym is)
+      (read_dir_beside folder w v alike.same alike.next alike.above alike.above_alone alike.world alike.world_alone rest)
+  inside_means (EntryMetadata p) (rest, is) =
+      subst (λ (q : Path). Beside ⊥ SameMetadata (Like folder) (meaning (EntryMetadata q) w) (meaning (EntryMetadata q) v)) (sym is)
+      (metadata_beside folder w v alike.same alike.next alike.above alike.above_alone alike.world rest)
+  inside_means (RemoveDir p now) (rest, is) =
+      subst (λ (q : Path). Beside ⊥ (λ a b. ⊤) (Like folder) (meaning (RemoveDir q now) w) (meaning (RemoveDir q now) v)) (sym is)
+      (remove_dir_beside folder w v alike.same alike.next alike.above alike.above_alone alike.world alike.world_alone rest now)
+  inside_means (RemoveFile p now) (rest, is) =
+      subst (λ (q : Path). Beside ⊥ (λ a b. ⊤) (Like folder) (meaning (RemoveFile q now) w) (meaning (RemoveFile q now) v)) (sym is)
+      (remove_file_beside folder w v alike.same alike.next alike.above alike.above_alone alike.world rest now)
   inside_means (Rename from to now) inside = absurd inside
   inside_means (Copy from to now) inside = absurd inside
   inside_means (HaveProps p) inside = absurd inside
@@ -149,14 +164,24 @@ module _ (folder : Path) {file : Option BothOpen} (w v : World) (alike : AreAlik
   unfolding meaning
   open_means rest how now = open_beside folder w v alike.same alike.next alike.above alike.above_alone alike.world ⊤ tt rest how now
 
-inside_calm : (folder : Path) (c : Call) → IsCallInside folder c → Calmly c
-unfolding Calmly
-inside_calm folder (Metadata p) inside = (λ q t. t, λ q. refl)
-inside_calm folder (CreateDir p now) inside = (λ q t. t, λ q. refl)
-inside_calm folder (ReadDir p) inside = absurd inside
-inside_calm folder (EntryMetadata p) inside = absurd inside
-inside_calm folder (RemoveDir p now) inside = absurd inside
-inside_calm folder (RemoveFile p now) inside = absurd inside
+-- nothing in a folder is above it
+not_above_itself : (folder rest : Path) → is_under folder (folder ++ rest) ≡ true → ⊥
+not_above_itself folder [] up =
+    let none : rest_after folder folder ≡ Some [] = ap (rest_after folder) (sym (append-nil folder)) ∙ rest_after-append folder [] in
+    true≢false (sym up ∙ ap (λ (p : Path). has_names (rest_after p folder)) (append-nil folder) ∙ ap has_names none)
+not_above_itself folder (x ∷ r) up = true≢false (sym (strictly (folder ++ x ∷ r) folder up) ∙ not_above folder x r)
+
+spares_above : (folder rest p q : Path) → p ≡ folder ++ rest → is_under folder q ≡ true → p ≡ q → ⊥
+spares_above folder rest p q is up same = not_above_itself folder rest (ap (is_under folder) (sym is ∙ same) ∙ up)
+
+inside_calm : (folder : Path) (c : Call) → IsCallInside folder c → Calmly folder None c
+unfolding Calmly SparesFile
+inside_calm folder (Metadata p) inside = (λ q up t. t, λ q. refl, tt)
+inside_calm folder (CreateDir p now) inside = (λ q up t. t, λ q. refl, tt)
+inside_calm folder (ReadDir p) inside = (λ q up t. t, λ q. refl, tt)
+inside_calm folder (EntryMetadata p) inside = (λ q up t. t, λ q. refl, tt)
+inside_calm folder (RemoveDir p now) (rest, is) = (λ q up same. spares_above folder rest p q is up same, λ q. refl, tt)
+inside_calm folder (RemoveFile p now) (rest, is) = (λ q up same. spares_above folder rest p q is up same, λ q. refl, tt)
 inside_calm folder (Rename from to now) inside = absurd inside
 inside_calm folder (Copy from to now) inside = absurd inside
 inside_calm folder (HaveProps p) inside = absurd inside
@@ -236,39 +261,39 @@ module _ {A : Type 0} (h : Lock) (whole : Bool) (R : Option BothOpen → A → A
       → Alongside h whole R file plan plan' → IsProperPlan plan → IsProperPlan plan'
       → Ran AsksWithNumbers plan old ls a new ms → Ran Asks plan' old' ls' b new' ms' → new.short ≡ false → new'.short ≡ false → old.refusals ≡ old'.refusals
       → Guarded h ls → Guarded h ls' → AreAlike F file old.world old'.world → Agrees Ends h a b new.world new'.world ms ms'
-  unfolding Calmly
+  unfolding Calmly SparesFile
   agree {file} (side_ok r) proper_done proper_done ran_done ran_done u u' same g g' alike = record { outcomes = (file, r); alike = closed alike; locks = inl (g, g') }
   agree side_err proper_done proper_done ran_done ran_done u u' same g g' alike = record { outcomes = refl; alike = closed alike; locks = inl (g, g') }
   agree (side_asks {c} inside more) (proper_ask proper next) (proper_ask proper' next') (ran_ask {old} {mid} {answer = x} one rest) (ran_ask {old = old'} {mid = mid'} {answer = y} one' rest') u u' same g g' alike =
       let s = stepped F None c c {R = SameAnswer c} (inside_calm F c inside) (inside_calm F c inside) proper proper' one one' (ran_unset (ran_plain rest) u) (ran_unset rest' u') same alike (inside_means F old.world old'.world alike c inside) in
       agree (more x y s.outcomes) (next x (asks_tell alike.world one.0)) (next' y (asks_tell alike.world_alone one')) rest rest' u u' s.refusals g g' s.alike
   agree (side_reads {file} {j} {k} {count} are more) (proper_ask proper next) (proper_ask proper' next') (ran_ask {old} {mid} {answer = x} one rest) (ran_ask {old = old'} {mid = mid'} {answer = y} one' rest') u u' same g g' alike =
-      let s = stepped F (Some file) (Read j count) (Read k count) (λ q t. t, λ q. refl) (λ q t. t, λ q. refl) proper proper' one one' (ran_unset (ran_plain rest) u) (ran_unset rest' u') same alike (read_means F file old.world old'.world alike j k are count) in
+      let s = stepped F (Some file) (Read j count) (Read k count) (λ q up t. t, λ q. refl, λ t. t) (λ q up t. t, λ q. refl, λ t. t) proper proper' one one' (ran_unset (ran_plain rest) u) (ran_unset rest' u') same alike (read_means F file old.world old'.world alike j k are count) in
       agree (more x y s.outcomes) (next x (asks_tell alike.world one.0)) (next' y (asks_tell alike.world_alone one')) rest rest' u u' s.refusals g g' s.alike
   agree (side_writes {file} {j} {k} {bytes} {now} are more) (proper_ask proper next) (proper_ask proper' next') (ran_ask {old} {mid} {answer = x} one rest) (ran_ask {old = old'} {mid = mid'} {answer = y} one' rest') u u' same g g' alike =
-      let s = stepped F (Some file) (Write j bytes now) (Write k bytes now) (λ q t. t, λ q. refl) (λ q t. t, λ q. refl) proper proper' one one' (ran_unset (ran_plain rest) u) (ran_unset rest' u') same alike (write_means F file old.world old'.world alike j k are bytes now) in
+      let s = stepped F (Some file) (Write j bytes now) (Write k bytes now) (λ q up t. t, λ q. refl, λ t. t) (λ q up t. t, λ q. refl, λ t. t) proper proper' one one' (ran_unset (ran_plain rest) u) (ran_unset rest' u') same alike (write_means F file old.world old'.world alike j k are bytes now) in
       agree (more x y s.outcomes) (next x (asks_tell alike.world one.0)) (next' y (asks_tell alike.world_alone one')) rest rest' u u' s.refusals g g' s.alike
   agree (side_seeks {file} {j} {k} {to} are more) (proper_ask proper next) (proper_ask proper' next') (ran_ask {old} {mid} {answer = x} one rest) (ran_ask {old = old'} {mid = mid'} {answer = y} one' rest') u u' same g g' alike =
-      let s = stepped F (Some file) (Seek j to) (Seek k to) (λ q t. t, λ q. refl) (λ q t. t, λ q. refl) proper proper' one one' (ran_unset (ran_plain rest) u) (ran_unset rest' u') same alike (seek_means F file old.world old'.world alike j k are to) in
+      let s = stepped F (Some file) (Seek j to) (Seek k to) (λ q up t. t, λ q. refl, λ t. t) (λ q up t. t, λ q. refl, λ t. t) proper proper' one one' (ran_unset (ran_plain rest) u) (ran_unset rest' u') same alike (seek_means F file old.world old'.world alike j k are to) in
       agree (more x y s.outcomes) (next x (asks_tell alike.world one.0)) (next' y (asks_tell alike.world_alone one')) rest rest' u u' s.refusals g g' s.alike
   agree (side_flushes {file} {j} {k} are more) (proper_ask proper next) (proper_ask proper' next') (ran_ask {old} {mid} {answer = x} one rest) (ran_ask {old = old'} {mid = mid'} {answer = y} one' rest') u u' same g g' alike =
-      let s = stepped F (Some file) (Flush j) (Flush k) (λ q t. t, λ q. refl) (λ q t. t, λ q. refl) proper proper' one one' (ran_unset (ran_plain rest) u) (ran_unset rest' u') same alike (flush_means F file old.world old'.world alike j k are) in
+      let s = stepped F (Some file) (Flush j) (Flush k) (λ q up t. t, λ q. refl, λ t. t) (λ q up t. t, λ q. refl, λ t. t) proper proper' one one' (ran_unset (ran_plain rest) u) (ran_unset rest' u') same alike (flush_means F file old.world old'.world alike j k are) in
       agree (more x y s.outcomes) (next x (asks_tell alike.world one.0)) (next' y (asks_tell alike.world_alone one')) rest rest' u u' s.refusals g g' s.alike
   agree (side_tells {file} {j} {k} are more) (proper_ask proper next) (proper_ask proper' next') (ran_ask {old} {mid} {answer = x} one rest) (ran_ask {old = old'} {mid = mid'} {answer = y} one' rest') u u' same g g' alike =
-      let s = stepped F (Some file) (FileMetadata j) (FileMetadata k) (λ q t. t, λ q. refl) (λ q t. t, λ q. refl) proper proper' one one' (ran_unset (ran_plain rest) u) (ran_unset rest' u') same alike (tells_means F file old.world old'.world alike j k are) in
+      let s = stepped F (Some file) (FileMetadata j) (FileMetadata k) (λ q up t. t, λ q. refl, λ t. t) (λ q up t. t, λ q. refl, λ t. t) proper proper' one one' (ran_unset (ran_plain rest) u) (ran_unset rest' u') same alike (tells_means F file old.world old'.world alike j k are) in
       agree (more x y s.outcomes) (next x (asks_tell alike.world one.0)) (next' y (asks_tell alike.world_alone one')) rest rest' u u' s.refusals g g' s.alike
   agree (side_opens {how} {now} {go' = go'} r more failed) (proper_ask proper next) (proper_ask proper' next') (ran_ask {old} {mid} {answer = Ok j} one rest) (ran_ask {old = old'} {mid = mid'} {new = new'} {ls = ls'} {ms = ms'} {answer = Ok k} {a = b} one' rest') u u' same g g' alike =
-      let s = stepped F None (Open (F ++ r) how now) (Open (F ++ r) how now) {R = SameHandle} (λ q t. t, λ q. refl) (λ q t. t, λ q. refl) proper proper' one one' (ran_unset (ran_plain rest) u) (ran_unset rest' u') same alike (open_means F old.world old'.world alike r how now) in
+      let s = stepped F None (Open (F ++ r) how now) (Open (F ++ r) how now) {R = SameHandle} (λ q up t. t, λ q. refl, tt) (λ q up t. t, λ q. refl, tt) proper proper' one one' (ran_unset (ran_plain rest) u) (ran_unset rest' u') same alike (open_means F old.world old'.world alike r how now) in
       agree (more j k s.outcomes) (next (Ok j) tt) (next' (Ok k) tt) rest rest' u u' s.refusals g g'
       (with_file (record { at = r; here = j.made; alone = k.made }) s.alike (opened_there (F ++ r) how now old.world mid.world j proper alike.world (did one.0)) (opened_there (F ++ r) how now old'.world mid'.world k proper' alike.world_alone (did one')))
   agree (side_opens {how} {now} {go' = go'} r more failed) (proper_ask proper next) (proper_ask proper' next') (ran_ask {old} {mid} {answer = Err e} one rest) (ran_ask {old = old'} {mid = mid'} {new = new'} {ls = ls'} {ms = ms'} {answer = Err f} {a = b} one' rest') u u' same g g' alike =
-      let s = stepped F None (Open (F ++ r) how now) (Open (F ++ r) how now) {R = SameHandle} (λ q t. t, λ q. refl) (λ q t. t, λ q. refl) proper proper' one one' (ran_unset (ran_plain rest) u) (ran_unset rest' u') same alike (open_means F old.world old'.world alike r how now) in
+      let s = stepped F None (Open (F ++ r) how now) (Open (F ++ r) how now) {R = SameHandle} (λ q up t. t, λ q. refl, tt) (λ q up t. t, λ q. refl, tt) proper proper' one one' (ran_unset (ran_plain rest) u) (ran_unset rest' u') same alike (open_means F old.world old'.world alike r how now) in
       agree (failed e) (next (Err e) tt) (next' (Err e) tt) rest (subst (λ d. Ran Asks (go' (Err d)) mid' ls' b new' ms') (sym s.outcomes) rest') u u' s.refusals g g' s.alike
   agree (side_opens {how} {now} {go' = go'} r more failed) (proper_ask proper next) (proper_ask proper' next') (ran_ask {old} {mid} {answer = Ok j} one rest) (ran_ask {old = old'} {mid = mid'} {new = new'} {ls = ls'} {ms = ms'} {answer = Err f} {a = b} one' rest') u u' same g g' alike =
-      let s = stepped F None (Open (F ++ r) how now) (Open (F ++ r) how now) {R = SameHandle} (λ q t. t, λ q. refl) (λ q t. t, λ q. refl) proper proper' one one' (ran_unset (ran_plain rest) u) (ran_unset rest' u') same alike (open_means F old.world old'.world alike r how now) in
+      let s = stepped F None (Open (F ++ r) how now) (Open (F ++ r) how now) {R = SameHandle} (λ q up t. t, λ q. refl, tt) (λ q up t. t, λ q. refl, tt) proper proper' one one' (ran_unset (ran_plain rest) u) (ran_unset rest' u') same alike (open_means F old.world old'.world alike r how now) in
       absurd s.outcomes
   agree (side_opens {how} {now} {go' = go'} r more failed) (proper_ask proper next) (proper_ask proper' next') (ran_ask {old} {mid} {answer = Err e} one rest) (ran_ask {old = old'} {mid = mid'} {new = new'} {ls = ls'} {ms = ms'} {answer = Ok k} {a = b} one' rest') u u' same g g' alike =
-      let s = stepped F None (Open (F ++ r) how now) (Open (F ++ r) how now) {R = SameHandle} (λ q t. t, λ q. refl) (λ q t. t, λ q. refl) proper proper' one one' (ran_unset (ran_plain rest) u) (ran_unset rest' u') same alike (open_means F old.world old'.world alike r how now) in
+      let s = stepped F None (Open (F ++ r) how now) (Open (F ++ r) how now) {R = SameHandle} (λ q up t. t, λ q. refl, tt) (λ q up t. t, λ q. refl, tt) proper proper' one one' (ran_unset (ran_plain rest) u) (ran_unset rest' u') same alike (open_means F old.world old'.world alike r how now) in
       absurd s.outcomes
   agree (side_look more) (proper_look next) (proper_look next') (ran_look {ls = Some ls} rest) (ran_look {ls = Some ks} rest') u u' same g g' alike =
       agree (more ls ks g g') (next (Some ls)) (next' (Some ks)) rest rest' u u' same g g' alike

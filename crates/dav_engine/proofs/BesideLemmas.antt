@@ -1,21 +1,21 @@
 -- What a call means in two worlds that are alike.
-use Rattle.std.proofs.Common.{◌≡◌, ℕ, ◌+◌, ◌≤◌, ◌==◌, ◌||◌, ◌++◌, nat_lt, Bool, true, false, not, true≢false, cond, if◌then◌else◌, List, [], ◌∷◌, length, take, drop, append-nil, Option, Some, None, Ok, Err, ◌⊎◌, inl, inr, refl, sym, ap, subst, ◌∙◌, arith}
+use Rattle.std.proofs.Common.{◌≡◌, ℕ, ◌+◌, ◌≤◌, ◌==◌, ◌||◌, ◌++◌, nat_lt, Bool, true, false, not, true≢false, cond, if◌then◌else◌, List, [], ◌∷◌, length, take, drop, append-nil, append_assoc, Option, Some, None, Ok, Err, ◌⊎◌, inl, inr, refl, sym, ap, subst, ◌∙◌, arith}
 use Rattle.std.proofs.lemmas.Bool.{eqb-true, eqb-false}
 use Rattle.std.specs.Bool.{⊤}
 use Rattle.std.specs.Option.{option_map, is_none}
 use Rattle.std.specs.declared.io.traits.SeekFrom.{SeekFrom}
 use Rattle.dav_core.specs.declared.errors.FsError.{FsError}
 use Rattle.dav_core.specs.declared.errors.FsError.TheVariants.{GeneralFailure, Exists, NotFound, Forbidden, TooLarge}
-use Rattle.dav_core.specs.Calls.{metadata_of, metadata, create_dir, open_at, emptied, read_bytes, write_bytes, written, seek, sought, flush, file_metadata}
+use Rattle.dav_core.specs.Calls.{metadata_of, metadata, read_dir, create_dir, without, remove_dir, remove_file, open_at, emptied, read_bytes, write_bytes, written, seek, sought, flush, file_metadata}
 use Rattle.dav_core.specs.Handle.{Handle, Opening, opened, write_place, place_for}
 use Rattle.dav_core.specs.Meaning.{Meaning, refuse_if, at_node}
-use Rattle.dav_core.specs.Path.{Path, is_same_path, is_under, has_names, is_nonempty, rest_after, parent_of}
+use Rattle.dav_core.specs.Path.{Path, is_same_path, is_at_or_under, is_under, is_root, has_names, is_nonempty, rest_after, parent_of}
 use Rattle.dav_core.specs.Property.{Properties}
-use Rattle.dav_core.specs.World.{World, Node, Nodes, Kind, Folder, File, node_at, is_folder, is_folder_kind, is_folder_node, with_new, adjust, change_node, is_file_made_with, file_made_with, last_number, bytes_of, max_file_len, splice, IsWorld}
-use Rattle.dav_core.proofs.Theorems.{parent-append, shape, rest_after-append, stands_made, change_made}
+use Rattle.dav_core.specs.World.{World, Node, Nodes, Kind, Folder, File, node_at, is_folder, is_folder_kind, is_folder_node, is_file_node, members, with_new, adjust, change_node, is_file_made_with, file_made_with, last_number, bytes_of, max_file_len, splice, IsWorld}
+use Rattle.dav_core.proofs.Theorems.{members_same, parent-append, shape, rest_after-append, stands_made, change_made}
 use Rattle.dav_engine.specs.Inside.{Content, content_of, SameInside, HasFoldersAbove}
 use Rattle.dav_engine.specs.Alongside.{SameMetadata, BothOpen, SameHandle, AreOpen, IsFileAt}
-use Rattle.dav_engine.proofs.InsideLemmas.{content-new, content-adjust}
+use Rattle.dav_engine.proofs.InsideLemmas.{content-new, content-adjust, content-removed}
 
 -- ---- meanings side by side
 
@@ -80,6 +80,14 @@ missing_same (something same) = refl
 folder_same : {o p : Option Node} → Shows o p → is_folder_node o ≡ is_folder_node p
 folder_same nothing = refl
 folder_same (something {n} {m} same) = ap is_folder_kind (kind_same n m same)
+
+file_same : {o p : Option Node} → Shows o p → is_file_node o ≡ is_file_node p
+file_same nothing = refl
+file_same (something {n} {m} same) = ap (λ (k : Kind). not (is_folder_kind k)) (kind_same n m same)
+
+listed_same : {o p : Option Node} → Shows o p → option_map (λ n. is_folder_kind n.kind) o ≡ option_map (λ n. is_folder_kind n.kind) p
+listed_same nothing = refl
+listed_same (something {n} {m} same) = ap (λ (k : Kind). Some (is_folder_kind k)) (kind_same n m same)
 
 parent_below : (x : List ℕ) (p : Path) → ((x ∷ p ≡ []) ⊎ ((z : List ℕ) × (x ∷ p ≡ parent_of (x ∷ p) ++ z ∷ []))) → is_under (x ∷ p) (parent_of (x ∷ p)) ≡ true
 parent_below x p (inl e) = cc
@@ -146,6 +154,43 @@ module _ (folder : Path) (w v : World) (same : SameInside folder w v) (low : v.n
   pub open_beside : (U : Type 0) → U → (rest : Path) (how : Opening) (now : ℕ)
       → Beside U SameHandle (Like folder) (open_at w (folder ++ rest) how now (node_at w (folder ++ rest))) (open_at v (folder ++ rest) how now (node_at v (folder ++ rest)))
   open_beside U u rest how now = open_beside_at U u rest how now (at_both rest)
+
+  -- ---- what is listed and removed
+
+  without_like : (rest : Path) (now : ℕ) → Like folder (without w (folder ++ rest) now) (without v (folder ++ rest) now)
+  without_like rest now = (
+    λ q. content-removed w (folder ++ rest) now (folder ++ q)
+        ∙ ap (cond (is_at_or_under (folder ++ q) (folder ++ rest)) None) (same q)
+        ∙ sym (content-removed v (folder ++ rest) now (folder ++ q)),
+    low,
+  )
+
+  pub remove_file_beside : (rest : Path) (now : ℕ) → Beside ⊥ (λ a b. ⊤) (Like folder) (remove_file w (folder ++ rest) now) (remove_file v (folder ++ rest) now)
+  remove_file_beside rest now =
+      refuse_beside _ _ NotFound _ _ (missing_same (at_both rest)) (λ _.
+      refuse_beside _ _ Forbidden _ _ (folder_same (at_both rest)) (λ _.
+      beside_ok tt (without_like rest now)))
+
+  module _ (world' : IsWorld v) where
+    members_alike : (rest : Path) → members (folder ++ rest) w.nodes ≡ members (folder ++ rest) v.nodes
+    members_alike rest =
+        members_same (folder ++ rest) (folder ++ rest) w v world world' (λ x.
+        subst (λ (p : Path). option_map (λ n. is_folder_kind n.kind) (node_at w p) ≡ option_map (λ n. is_folder_kind n.kind) (node_at v p))
+        (sym (append_assoc folder rest (x ∷ []))) (listed_same (at_both (rest ++ x ∷ []))))
+
+    pub read_dir_beside : (rest : Path) → Beside ⊥ (λ a b. a ≡ b) (Like folder) (read_dir w (folder ++ rest)) (read_dir v (folder ++ rest))
+    read_dir_beside rest =
+        refuse_beside _ _ NotFound _ _ (missing_same (at_both rest)) (λ _.
+        refuse_beside _ _ Forbidden _ _ (file_same (at_both rest)) (λ _.
+        beside_ok (members_alike rest) (same, low)))
+
+    pub remove_dir_beside : (rest : Path) (now : ℕ) → Beside ⊥ (λ a b. ⊤) (Like folder) (remove_dir w (folder ++ rest) now) (remove_dir v (folder ++ rest) now)
+    remove_dir_beside rest now =
+        refuse_beside (is_root (folder ++ rest)) (is_root (folder ++ rest)) Forbidden _ _ refl (λ _.
+        refuse_beside _ _ NotFound _ _ (missing_same (at_both rest)) (λ _.
+        refuse_beside _ _ Forbidden _ _ (file_same (at_both rest)) (λ _.
+        refuse_beside _ _ Exists _ _ (ap is_nonempty (members_alike rest)) (λ _.
+        beside_ok tt (without_like rest now)))))
 
   -- ---- an open file
 

@@ -1,8 +1,8 @@
 -- The names of a path of a member, and of a path that gets a slash.
 use Rattle.std.proofs.Common.{◌≡◌, ◌≢◌, ℕ, Bool, true, false, List, [], ◌∷◌, ◌++◌, refl, ◌∙◌}
 use Rattle.std.proofs.lemmas.List.{append-nil}
-use Rattle.dav_core.specs.Path.{PathText, IsSegment, star, names, with_slash, with_bytes}
-use Rattle.dav_core.proofs.Theorems.{adds_segment, slash_adds_no_name, member_is_no_star}
+use Rattle.dav_core.specs.Path.{PathText, IsSegment, star, names, names_in, with_slash, with_bytes}
+use Rattle.dav_core.proofs.Theorems.{adds_segment, slash_adds_no_name, member_is_no_star, names_joined}
 use Rattle.dav_engine.specs.Folder.{closed, child_of}
 
 pub names_closed : (wanted : Bool) (p : PathText) → p.bytes ≢ star → names (closed wanted p) ≡ names p
@@ -22,3 +22,7 @@ slash_is_path p name dir e = closed_is_path dir (with_bytes p (with_slash p.byte
 pub names_child : (p : PathText) (name : List ℕ) (dir : Bool) → IsSegment name → p.bytes ≢ star → names (child_of p name dir) ≡ names p ++ name ∷ []
 names_child p name dir segment other =
     names_closed dir (with_bytes p (with_slash p.bytes ++ name)) (member_is_no_star p.bytes name) ∙ adds_segment p.bytes name segment other
+
+-- and whatever is given as its name, what that names
+pub names_member : (p : PathText) (name : List ℕ) (dir : Bool) → p.bytes ≢ star → names (child_of p name dir) ≡ names p ++ names_in name
+names_member p name dir other = names_closed dir (with_bytes p (with_slash p.bytes ++ name)) (member_is_no_star p.bytes name) ∙ names_joined p.bytes name other

@@ -27,6 +27,7 @@ use Rattle.dav_engine.proofs.CallWorlds.{did, did_leave}
 use Rattle.dav_engine.proofs.ChildLemmas.{names_closed, closed_is_path}
 use Rattle.dav_engine.proofs.DeleteWorld.{only_delete_allowed}
 use Rattle.dav_engine.proofs.PutWorld.{look_reads}
+use Rattle.dav_engine.proofs.RemovalReports.{Gives, gives_done, gives_look, gives_keep, never_errs, gave_by, gives_bind, gives_removal}
 use Rattle.dav_engine.proofs.RunLemmas.{first, finish, parts, only_list}
 use Rattle.dav_engine.proofs.SurvivorLemmas.{answered, dir_told, survivors_by}
 use Rattle.dav_engine.proofs.DeleteWorld.{only_removal}
@@ -59,32 +60,7 @@ told_dir {p} {old} one =
     let (dir, world) = dir_told old.world p r h in
     (ap (λ (x : DavMetaData). x.dir) (sym is) ∙ dir, after ∙ world)
 
--- ---- a removal: no error ends it, and what it reports are errors
-
--- a plan that no error ends, and what holds of all that it may give
-data Gives {A : Type 0} (P : A → Type 0) : MethodPlan A → Type 0 where
-  gives_done : {a : A} → P a → Gives P (Done (Ok a))
-  gives_ask : {c : Call} {go : Result (Answer c) FsError → MethodPlan A} → ((answer : Result (Answer c) FsError) → Gives P (go answer)) → Gives P (Ask c go)
-  gives_look : {go : Locks → MethodPlan A} → ((ls : Locks) → Gives P (go ls)) → Gives P (Look go)
-  gives_keep : {locks : List Lock} {rest : MethodPlan A} → Gives P rest → Gives P (Keep locks rest)
-
-never_errs : {A : Type 0} {P : A → Type 0} {plan : MethodPlan A} {old new : StoreState} {ls ms : Locks} {e : DavError} → Gives P plan → Ran Asks plan old ls (Err e) new ms → ⊥
-never_errs (gives_done p) ran = let ends = finish ran in let clash = ends.0 in cc
-never_errs (gives_ask more) ran = let f = first ran in never_errs (more f.answer) f.more
-never_errs (gives_look more) (ran_look {ls = ls} rest) = never_errs (more ls) rest
-never_errs (gives_keep more) (ran_keep rest) = never_errs more rest
-
-gave_by : {A : Type 0} {P : A → Type 0} {plan : MethodPlan A} {old new : StoreState} {ls ms : Locks} {a : A} → Gives P plan → Ran Asks plan old ls (Ok a) new ms → P a
-gave_by {P = P} {a = a} (gives_done {a = b} p) ran = let ends = finish ran in let is = ends.0 in let same : a ≡ b = cc in subst P (sym same) p
-gave_by (gives_ask more) ran = let f = first ran in gave_by (more f.answer) f.more
-gave_by (gives_look more) (ran_look {ls = ls} rest) = gave_by (more ls) rest
-gave_by (gives_keep more) (ran_keep rest) = gave_by more rest
-
-gives_bind : {A B : Type 0} {P : A → Type 0} {Q : B → Type 0} (plan : MethodPlan A) (f : A → MethodPlan B) → Gives P plan → ((a : A) → P a → Gives Q (f a)) → Gives Q (plan >>= f)
-gives_bind plan f (gives_done {a = a} p) more = more a p
-gives_bind plan f (gives_ask {go = go} rest) more = gives_ask (λ answer. gives_bind (go answer) f (rest answer) more)
-gives_bind plan f (gives_look {go = go} rest) more = gives_look (λ ls. gives_bind (go ls) f (rest ls) more)
-gives_bind plan f (gives_keep {rest = rest} is) more = gives_keep (gives_bind rest f is more)
+-- ---- what a removal reports are errors
 
 error_status : (e : FsError) → 400 ≤ fs_status e
 error_status fs.NotImplemented = omega arith
@@ -98,54 +74,8 @@ error_status fs.PathTooLong = omega arith
 error_status fs.TooLarge = omega arith
 error_status fs.IsRemote = omega arith
 
-error_emptied : (e : FsError) → 400 ≤ emptied_status e
-error_emptied fs.NotImplemented = omega arith
-error_emptied fs.GeneralFailure = omega arith
-error_emptied fs.Exists = omega arith
-error_emptied fs.NotFound = omega arith
-error_emptied fs.Forbidden = omega arith
-error_emptied fs.InsufficientStorage = omega arith
-error_emptied fs.LoopDetected = omega arith
-error_emptied fs.PathTooLong = omega arith
-error_emptied fs.TooLarge = omega arith
-error_emptied fs.IsRemote = omega arith
-
-one_error : (f : Fault) → IsErrorReport f → AreErrorReports (f ∷ [])
-one_error f is = All-cons IsErrorReport f [] is (All-nil IsErrorReport)
-
-refused_errors : {A : Type 0} (fault : FsError → Fault) (r : Result A FsError) → ((e : FsError) → IsErrorReport (fault e)) → AreErrorReports (refused_by fault r)
-refused_errors fault (Ok a) all = All-nil IsErrorReport
-refused_errors fault (Err e) all = one_error (fault e) (all e)
-
-gives_each : {X : Type 0} (f : X → MethodPlan (List Fault)) (xs : List X) → ((x : X) → Gives AreErrorReports (f x)) → Gives AreErrorReports (each f xs)
-gives_each f [] more = gives_done (All-nil IsErrorReport)
-gives_each f (x ∷ xs) more =
-    gives_bind (f x) _ (more x) (λ reports errors. gives_bind (each f xs) _ (gives_each f xs more) (λ others too. gives_done (All-append IsErrorReport reports others errors too)))
-
-gives_emptied : (now : ℕ) (p : PathText) (faults : List Fault) → AreErrorReports faults → Gives AreErrorReports (remove_emptied now p faults)
-gives_emptied now p [] errors = gives_ask (λ answer. gives_done (refused_errors (λ e. Stays p (emptied_status e)) answer error_emptied))
-gives_emptied now p (f ∷ faults) errors = gives_done errors
-
-gives_found : (walk : Walk) (p : PathText) (name : List ℕ) (seen : Result DavMetaData FsError) → ((q : PathText) (dir : Bool) → Gives AreErrorReports (walk q dir)) → Gives AreErrorReports (remove_found walk p name seen)
-gives_found walk p name (Ok m) more = more (child_of p name m.dir) m.dir
-gives_found walk p name (Err e) more = gives_done (one_error (StaysWith p name (fs_status e)) (error_status e))
-
-gives_listed : (walk : Walk) (now : ℕ) (p : PathText) (listed : Result (List (List ℕ × Bool)) FsError) → ((q : PathText) (dir : Bool) → Gives AreErrorReports (walk q dir)) → Gives AreErrorReports (remove_listed walk now p listed)
-gives_listed walk now p (Err e) more = gives_done (one_error (StaysWhole p (fs_status e)) (error_status e))
-gives_listed walk now p (Ok entries) more =
-    gives_bind (each (remove_member walk p) entries) _
-    (gives_each (remove_member walk p) entries (λ entry. gives_ask (λ seen. gives_found walk p entry.0 seen more)))
-    (λ faults errors. gives_emptied now p faults errors)
-
-gives_remove : (room now : ℕ) (p : PathText) (dir : Bool) → Gives AreErrorReports (remove room now p dir)
-gives_remove room now p false = gives_ask (λ answer. gives_done (refused_errors (λ e. Stays p (fs_status e)) answer error_status))
-gives_remove zero now p true = gives_done (one_error (StaysWhole p (fs_status fs.PathTooLong)) (error_status fs.PathTooLong))
-gives_remove (suc room) now p true = gives_ask (λ listed. gives_listed (λ q dir. remove room now q dir) now p listed (λ q dir. gives_remove room now q dir))
-
-gives_removal : (deep : Bool) (now : ℕ) (p : PathText) (dir : Bool) → Gives AreErrorReports (removal deep now p dir)
-gives_removal true now p dir = gives_remove (room_at p) now p dir
-gives_removal false now p true = gives_ask (λ answer. gives_done (refused_errors (λ e. StaysWhole p (fs_status e)) answer error_status))
-gives_removal false now p false = gives_ask (λ answer. gives_done (refused_errors (λ e. Stays p (fs_status e)) answer error_status))
+gives_errors : (deep : Bool) (now : ℕ) (p : PathText) (dir : Bool) → Gives AreErrorReports (removal deep now p dir)
+gives_errors deep now p dir = gives_removal (λ status. 400 ≤ status) error_status (omega arith) deep now p dir
 
 -- ---- a DELETE that a reply ends
 
@@ -170,7 +100,7 @@ found_leaves deep c p who m {old} {new} {ls} {ms} {r} world other dir ran =
             subst (λ (x : Path). LeavesSurvivors x b.value old.world new.world) path
             (subst (λ (w : World). LeavesSurvivors (names q) b.value w new.world) w1
             (subst (λ (s : StoreState). LeavesSurvivors (names q) b.value a.mid.world s.world) (sym (ends.1 ∙ drop.same)) left));
-        errors = gave_by (gives_removal deep who.moment q m.dir) b.one;
+        errors = gave_by (gives_errors deep who.moment q m.dir) b.one;
         reply = ends.0 ∙ ap (λ x. delete_reply (closed x p) b.value) dir;
         locks = ends.2 ∙ drop.locks ∙ ap (λ (x : Path). locks_after x b.value b.ks) path ∙ ap (locks_after (names p) b.value) (l2 ∙ l1);
       },
@@ -258,7 +188,7 @@ after_allowed : (deep : Bool) (q : PathText) (who : Client) (dir : Bool) (o : Re
     → (new.world ≡ w) × (ms ≡ ls)
 after_allowed deep q who dir (Err x) w left ran = let ends = finish ran in (ap (λ (s : StoreState). s.world) ends.1 ∙ left.0, ends.2 ∙ left.1)
 after_allowed deep q who dir (Ok free) w left ran =
-    absurd (never_errs (gives_bind (removal deep who.moment q dir) _ (gives_removal deep who.moment q dir) (λ faults errors. gives_dropped q faults)) ran)
+    absurd (never_errs (gives_bind (removal deep who.moment q dir) _ (gives_errors deep who.moment q dir) (λ faults errors. gives_dropped q faults)) ran)
 
 after_answer : (deep : Bool) (h : DeleteHeaders) (p : PathText) (who : Client) (answer : Result DavMetaData FsError) (w : World) {mid new : StoreState} {ls ms : Locks} {e : DavError} → mid.world ≡ w
     → Ran Asks (followed_by (refused_as dav.FsError answer) (λ found. delete_found deep h.conditions (closed found.dir p) who found)) mid ls (Err e) new ms

@@ -70,7 +70,7 @@ module _ (h : Lock) (p : Path) (outside : is_at_or_under (folder_of h) p ≡ fal
   later_by l more true there = listed_later there
   later_by l more false there = there
 
-  still_listed : (ls : List Lock) → IsListed h ls → IsListed h (deleted p ls)
+  pub still_listed : (ls : List Lock) → IsListed h ls → IsListed h (deleted p ls)
   still_listed [] there = elim there [ ]
   still_listed (l ∷ ls) (listed_here is) = here_by l (deleted p ls) (is_at_or_under (names l.path) p) is refl
   still_listed (l ∷ ls) (listed_later there) = later_by l (deleted p ls) (not (is_at_or_under (names l.path) p)) (still_listed ls there)

@@ -32,6 +32,7 @@ pub mod RunLemmas
 pub mod FaultLemmas
 pub mod SurvivorLemmas
 pub mod NamedLemmas
+pub mod RemovalReports
 pub mod DeletedWorlds
 pub mod Theorems
 pub mod GuardedFolders
@@ -46,6 +47,7 @@ pub mod SparingDelete
 pub mod BesideLemmas
 pub mod AlongsideLaw
 pub mod AlongsidePlans
+pub mod AlongsideDelete
 pub mod NumberLemmas
 pub mod WrongPlans
 pub mod GrantLemmas

@@ -1,13 +1,8 @@
 -- A DELETE of a client that doesn't hold an exclusive lock spares what the lock covers.
-use Rattle.std.proofs.Common.{◌≡◌, ◌≢◌, ◌++◌, ◌-◌, ◌&&◌, ◌||◌, inl, inr, ℕ, ◌==◌, zero, suc, Bool, true, false, not, true≢false, cond, length, take, List, [], ◌∷◌, append_assoc, append-nil, Some, None, Result, Ok, Err, refl, sym, ap, subst, ◌∙◌}
+use Rattle.std.proofs.Common.{◌≡◌, ◌≢◌, ◌++◌, ◌&&◌, ◌||◌, inl, inr, ℕ, zero, suc, Bool, true, false, not, true≢false, cond, List, [], ◌∷◌, Some, None, Result, Ok, Err, refl, sym, ap, subst, ◌∙◌}
 use Rattle.std.proofs.lemmas.Bool.{and_parts}
 use Rattle.std.specs.Bool.{⊤}
-use Rattle.std.specs.List.{filter, list_all, slice_split, onto_first}
-use Rattle.std.specs.Str.{bytes_eq}
-use Rattle.std.proofs.lemmas.Bool.{cases_Bool}
-use Rattle.std.proofs.lemmas.Bool.Decides.{Decides-eqb}
-use Rattle.std.proofs.lemmas.Slice.Eq.{bytes_eq-Decides, ends_is}
-use Rattle.std.proofs.lemmas.List.Elements.{filter-append}
+use Rattle.std.specs.List.{list_all}
 use Rattle.dav_core.specs.declared.errors.FsError.{FsError}
 use Rattle.dav_core.specs.declared.errors.DavError.{DavError}
 use Rattle.dav_core.specs.declared.errors.DavError.TheVariants as dav
@@ -15,8 +10,8 @@ use Rattle.dav_core.specs.declared.fs.DavMetaData.{DavMetaData}
 use Rattle.dav_core.specs.declared.method.DavMethod.TheVariants.{Delete}
 use Rattle.dav_core.specs.Asking.{Metadata, ReadDir, EntryMetadata, RemoveDir, RemoveFile}
 use Rattle.dav_core.specs.Locks.{Lock, Requester, covers, is_held, is_free_for, deleted}
-use Rattle.dav_core.specs.Path.{Path, PathText, is_nonempty, is_collection, end_for, star, names, names_in, names_of, with_slash, with_bytes, is_same_path, is_at_or_under, is_under}
-use Rattle.dav_core.proofs.Theorems.{member_is_no_star, same_path}
+use Rattle.dav_core.specs.Path.{Path, PathText, star, names, names_in, is_same_path, is_at_or_under, is_under}
+use Rattle.dav_core.proofs.Theorems.{same_path}
 use Rattle.dav_engine.specs.Client.{Client, requester}
 use Rattle.dav_engine.specs.Conditions.{Conditions, submitted}
 use Rattle.dav_engine.specs.Delete.{whole_depth, drop_if_gone, delete_reply, delete_found, is_delete}
@@ -27,66 +22,15 @@ use Rattle.dav_engine.specs.Plan.{Done}
 use Rattle.dav_engine.specs.Removal.{Fault, Walk, each, remove, removal, remove_member, remove_found, remove_listed, remove_emptied}
 use Rattle.dav_engine.specs.Sparing.{NoneUnder, Anything, AnyList, Sparing, spares_ok, spares_err, spares_reads, spares_call, spares_look, spares_last}
 use Rattle.dav_engine.specs.SparingPlans.{DeleteSpares}
-use Rattle.dav_engine.proofs.ChildLemmas.{names_closed, closed_is_path, slash_is_path}
+use Rattle.dav_engine.proofs.ChildLemmas.{closed_is_path, slash_is_path, names_member}
 use Rattle.dav_engine.proofs.FaultLemmas.{rest, at_path, below_trans, one_line, strictly}
 use Rattle.dav_engine.proofs.GuardedFolders.{covers_by, stands_guarded, held_still, free_passes}
 use Rattle.dav_engine.proofs.SparingPlans.{At, spare_bind, spare_then, spare_guarded}
 
 -- ---- the path of a member, whatever its name, is below that of its folder
 
-abbrev split : List ℕ → List (List ℕ)
-split = slice_split (λ b. b == 47)
-
-put_first : (b : ℕ) (parts more : List (List ℕ)) → parts ≢ [] → onto_first b (parts ++ more) ≡ onto_first b parts ++ more
-put_first b [] more some = absurd (some refl)
-put_first b (p ∷ ps) more some = refl
-
-some_first : (b : ℕ) (parts : List (List ℕ)) → onto_first b parts ≢ []
-some_first b [] e = cc
-some_first b (p ∷ ps) e = cc
-
-some_step : (b : ℕ) (parts : List (List ℕ)) (c : Bool) → cond c ([] ∷ parts) (onto_first b parts) ≢ []
-some_step b parts true e = cc
-some_step b parts false e = some_first b parts e
-
-some_pieces : (bytes : List ℕ) → split bytes ≢ []
-some_pieces [] e = cc
-some_pieces (b ∷ bs) e = some_step b (split bs) (b == 47) e
-
-split_step : (b : ℕ) (whole parts more : List (List ℕ)) (c : Bool) → whole ≡ parts ++ more → parts ≢ [] → cond c ([] ∷ whole) (onto_first b whole) ≡ cond c ([] ∷ parts) (onto_first b parts) ++ more
-split_step b whole parts more true ih some = ap (λ ps. [] ∷ ps) ih
-split_step b whole parts more false ih some = ap (onto_first b) ih ∙ put_first b parts more some
-
-split_at : (xs ys : List ℕ) → split (xs ++ 47 ∷ ys) ≡ split xs ++ split ys
-split_at [] ys = refl
-split_at (x ∷ xs) ys = split_step x (split (xs ++ 47 ∷ ys)) (split xs) (split ys) (x == 47) (split_at xs ys) (some_pieces xs)
-
-names_at : (xs ys : List ℕ) → names_in (xs ++ 47 ∷ ys) ≡ names_in xs ++ names_in ys
-names_at xs ys = ap (filter is_nonempty) (split_at xs ys) ∙ filter-append is_nonempty (split xs) (split ys)
-
-names_other : (bytes : List ℕ) → bytes ≢ star → names_of bytes ≡ names_in bytes
-names_other bytes other =
-    elim (cases_Bool (bytes_eq bytes star)) [
-      | inl e ↦ absurd (other ((bytes_eq-Decides bytes star).0 e))
-      | inr e ↦ rw e refl
-    ]
-
-names_joined : (bytes n : List ℕ) (c : Bool) → is_collection bytes ≡ c → names_in ((bytes ++ end_for c) ++ n) ≡ names_in bytes ++ names_in n
-names_joined bytes n false is = ap names_in (append_assoc bytes (47 ∷ []) n) ∙ names_at bytes n
-names_joined bytes n true is =
-    let front = take (length bytes - 1) bytes in
-    let parts : bytes ≡ front ++ 47 ∷ [] = (ends_is Decides-eqb bytes (47 ∷ []) (is_collection bytes) refl).0 is in
-    let before : names_in bytes ≡ names_in front = ap names_in parts ∙ names_at front [] ∙ append-nil (names_in front) in
-    ap (λ xs. names_in (xs ++ n)) (append-nil bytes ∙ parts) ∙ ap names_in (append_assoc front (47 ∷ []) n) ∙ names_at front n ∙ ap (λ ns. ns ++ names_in n) (sym before)
-
-member_names : (p : PathText) (n : List ℕ) (dir : Bool) → p.bytes ≢ star → names (child_of p n dir) ≡ names p ++ names_in n
-member_names p n dir other =
-    names_closed dir (with_bytes p (with_slash p.bytes ++ n)) (member_is_no_star p.bytes n)
-    ∙ names_other (with_slash p.bytes ++ n) (member_is_no_star p.bytes n) ∙ names_joined p.bytes n (is_collection p.bytes) refl
-    ∙ ap (λ ns. ns ++ names_in n) (sym (names_other p.bytes other))
-
 member_under : (p : PathText) (n : List ℕ) (dir : Bool) → p.bytes ≢ star → is_at_or_under (names (child_of p n dir)) (names p) ≡ true
-member_under p n dir other = at_path (names p) (names (child_of p n dir)) (names_in n) (member_names p n dir other)
+member_under p n dir other = at_path (names p) (names (child_of p n dir)) (names_in n) (names_member p n dir other)
 
 -- ---- the removal
 

@@ -1,9 +1,12 @@
 -- What the proofs of the crates above rest on.
+pub use Rattle.dav_engine.proofs.AlongsideDelete.{delete_goes_along}
 pub use Rattle.dav_engine.proofs.AlongsideLaw.{alongside_agree, ran_plain}
 pub use Rattle.dav_engine.proofs.AlongsidePlans.{holders, in_reach, only_lists, side_bind, side_require, side_lists, put_goes_along, mkcol_goes_along}
 pub use Rattle.dav_engine.proofs.CallWorlds.{Did, stays, means, did, Kept, did_leave, kept_same, kept_on}
 pub use Rattle.dav_engine.proofs.CutPlans.{cut_refused, cut_ask, cut_look, cut_keep}
+pub use Rattle.dav_engine.proofs.DeletedWorlds.{refused_delete_leaves_all}
 pub use Rattle.dav_engine.proofs.DeleteWorld.{only_delete_allowed, only_removal, delete_is_proper}
+pub use Rattle.dav_engine.proofs.EndingDelete.{delete_keeps_locks}
 pub use Rattle.dav_engine.proofs.EndingLemmas.{kept_locks_stand, kept_locks_stand_cut, reading_keeps_locks, put_keeps_locks, mkcol_keeps_locks}
 pub use Rattle.dav_engine.proofs.Following.{follows_done, follows_ask, follows_on, follows_then, follows_err, follows_up_to, follows_out}
 pub use Rattle.dav_engine.proofs.GuardLemmas.{carried}
@@ -14,6 +17,7 @@ pub use Rattle.dav_engine.proofs.NumberLemmas.{spare_numbers_suffice}
 pub use Rattle.dav_engine.proofs.OnePlanLemmas.{one_conditions, one_put_plan, one_mkcol_plan, one_delete_plan}
 pub use Rattle.dav_engine.proofs.PlanLemmas.{ran_same, ran_unset, Comes, comes}
 pub use Rattle.dav_engine.proofs.PutWorld.{look_reads, only_put_allowed, only_mkcol_allowed, IsLook, looks, only_conditions, put_is_proper, mkcol_is_proper, create_only_leaves_all}
+pub use Rattle.dav_engine.proofs.RemovalReports.{Gives, gives_done, gives_ask, gives_look, gives_keep, gives_removal}
 pub use Rattle.dav_engine.proofs.SomePlanLemmas.{some_conditions, some_put_plan, some_mkcol_plan, some_delete_plan}
 pub use Rattle.dav_engine.proofs.SparingDelete.{delete_spares}
 pub use Rattle.dav_engine.proofs.SparingLaw.{sparing_leaves_covered, sparing_leaves_covered_cut, sparing_leaves_inside}

@@ -5,7 +5,7 @@ use Rattle.dav_core.specs.declared.errors.FsError.{FsError}
 use Rattle.dav_core.specs.declared.errors.FsError.TheVariants.{GeneralFailure}
 use Rattle.dav_core.specs.declared.errors.DavError.{DavError}
 use Rattle.dav_core.specs.declared.fs.DavMetaData.{DavMetaData}
-use Rattle.dav_core.specs.Asking.{Call, Answer, meaning, next_refusal, StoreState, Asks, Metadata, CreateDir, Copy, Open, Read, Write, Seek, Flush, FileMetadata}
+use Rattle.dav_core.specs.Asking.{Call, Answer, meaning, next_refusal, StoreState, Asks, Metadata, ReadDir, EntryMetadata, CreateDir, RemoveDir, RemoveFile, Copy, Open, Read, Write, Seek, Flush, FileMetadata}
 use Rattle.dav_core.specs.Handle.{Handle, Opening}
 use Rattle.dav_core.specs.Locks.{Lock}
 use Rattle.dav_core.specs.Path.{Path}
@@ -72,12 +72,18 @@ opened_at rest j k = Some (record { at = rest; here = j.made; alone = k.made })
 -- A call at a folder or below it that needs no open file. (The calls of a method are added here with the method.)
 abbrev pub IsCallInside : Path → Call → Type 0
 IsCallInside folder (Metadata p) = (rest : Path) × (p ≡ folder ++ rest)
+IsCallInside folder (ReadDir p) = (rest : Path) × (p ≡ folder ++ rest)
+IsCallInside folder (EntryMetadata p) = (rest : Path) × (p ≡ folder ++ rest)
 IsCallInside folder (CreateDir p now) = (rest : Path) × (p ≡ folder ++ rest)
+IsCallInside folder (RemoveDir p now) = (rest : Path) × (p ≡ folder ++ rest)
+IsCallInside folder (RemoveFile p now) = (rest : Path) × (p ≡ folder ++ rest)
 IsCallInside folder _ = ⊥
 
 -- answers that are the same but for numbers and times
 abbrev pub SameAnswer : (c : Call) → Answer c → Answer c → Type 0
 SameAnswer (Metadata p) m n = SameMetadata m n
+SameAnswer (ReadDir p) a b = a ≡ b
+SameAnswer (EntryMetadata p) m n = SameMetadata m n
 SameAnswer _ a b = ⊤
 
 -- ---- plans side by side

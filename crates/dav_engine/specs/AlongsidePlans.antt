@@ -1,13 +1,14 @@
 -- The plans of a lock's holder go along with themselves (RFC 4918, section 7).
-use Rattle.std.specs.Prelude.{◌≡◌, [], true, List, codes, None}
+use Rattle.std.specs.Prelude.{◌≡◌, ◌≢◌, [], true, List, codes, None}
 use Rattle.http_header.specs.HeaderMap.{get_all}
 use Rattle.dav_core.specs.declared.method.DavMethod.{DavMethod}
 use Rattle.dav_core.specs.Locks.{Lock}
-use Rattle.dav_core.specs.Path.{PathText, names}
+use Rattle.dav_core.specs.Path.{PathText, names, star}
 use Rattle.dav_engine.specs.declared.request.Body.{Body}
 use Rattle.dav_engine.specs.Alongside.{Alongside, SameAnswers}
 use Rattle.dav_engine.specs.Client.{Client}
 use Rattle.dav_engine.specs.Conditions.{Addressed, SaysLists}
+use Rattle.dav_engine.specs.Delete.{IsDelete}
 use Rattle.dav_engine.specs.Guard.{IsGuard, IsInReach, SubmitOnly}
 use Rattle.dav_engine.specs.Headers.{Headers}
 use Rattle.dav_engine.specs.Method.{MethodPlan}
@@ -38,3 +39,9 @@ abbrev pub MkcolGoesAlong : Type 0
 MkcolGoesAlong =
     (h : Lock) (headers : Headers) (p : PathText) (who : Client) (plan : MethodPlan Response)
     → IsGuard h → IsInReach h (names p) → SubmitsAlone headers p h → IsMkcol headers p who plan → GoesAlong h plan
+
+-- and a DELETE, which ends the guard where it removes the folder itself
+abbrev pub DeleteGoesAlong : Type 0
+DeleteGoesAlong =
+    (h : Lock) (headers : Headers) (p : PathText) (who : Client) (plan : MethodPlan Response)
+    → IsGuard h → p.bytes ≢ star → IsInReach h (names p) → SubmitsAlone headers p h → IsDelete headers p who plan → GoesAlong h plan

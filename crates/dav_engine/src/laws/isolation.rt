@@ -1,6 +1,6 @@
 //! Laws of locked folders. Each function does nothing: its contract is a theorem on the definitions.
 ghost use Rattle.dav_engine.specs.Alongside.{AlongsideAgree, SpareNumbersSuffice};
-ghost use Rattle.dav_engine.specs.AlongsidePlans.{PutGoesAlong, MkcolGoesAlong};
+ghost use Rattle.dav_engine.specs.AlongsidePlans.{PutGoesAlong, MkcolGoesAlong, DeleteGoesAlong};
 ghost use Rattle.dav_engine.specs.Ending.{KeptLocksStand, KeptLocksStandCut, ReadingKeepsLocks, PutKeepsLocks, MkcolKeepsLocks, DeleteKeepsLocks};
 ghost use Rattle.dav_engine.specs.Guard.{FreeIsHeld, FreeIsApart, FreeIsUncovered, GrantedGuards};
 ghost use Rattle.dav_engine.specs.Inside.{FoldersAreAbove};
@@ -37,12 +37,13 @@ pub fn strangers_spare_what_is_locked()
 {}
 
 /// A plan that goes along with itself has the same outcome in two worlds that have the same content in a guarded folder, but
-/// for change numbers and times, and leaves the same content there. PUT, PATCH and MKCOL at the folder or below it, with the
-/// guard's token as their only condition, have such plans.
+/// for change numbers and times, and leaves the same content there. PUT, PATCH, MKCOL and DELETE at the folder or below it,
+/// with the guard's token as their only condition, have such plans.
 pub fn plans_agree_in_alike_worlds()
     ensures agree { AlongsideAgree }
     ensures put { PutGoesAlong }
     ensures mkcol { MkcolGoesAlong }
+    ensures delete { DeleteGoesAlong }
 {}
 
 /// A plan that ends with a change number to spare found each number that it took.

@@ -1,3 +1,4 @@
+use Rattle.dav_engine.proofs.AlongsideDelete.{delete_goes_along}
 use Rattle.dav_engine.proofs.AlongsideLaw.{alongside_agree}
 use Rattle.dav_engine.proofs.AlongsidePlans.{put_goes_along, mkcol_goes_along}
 use Rattle.dav_engine.proofs.laws.isolation.plans_agree_in_alike_worlds.Goals as goal
@@ -10,3 +11,6 @@ returns-clause-put c = put_goes_along
 
 pub returns-clause-mkcol : goal.returns-clause-mkcol
 returns-clause-mkcol c = mkcol_goes_along
+
+pub returns-clause-delete : goal.returns-clause-delete
+returns-clause-delete c = delete_goes_along
