@@ -1,18 +1,20 @@
 -- What a grant leaves: a list that its lock guards, and folders above it.
-use Rattle.std.proofs.Common.{◌≡◌, ◌≢◌, ◌++◌, ◌&&◌, ◌||◌, Bool, true, false, not, true≢false, List, [], ◌∷◌, All, cond, ℕ, Option, Some, None, ◌⊎◌, inl, inr, refl, sym, ap, ◌∙◌, append_assoc, append-nil}
+use Rattle.std.proofs.Common.{◌≡◌, ◌≢◌, ◌++◌, ◌&&◌, ◌||◌, Bool, true, false, not, true≢false, List, [], ◌∷◌, All, cond, ℕ, suc, arith, Option, Some, None, ◌⊎◌, inl, inr, refl, sym, ap, ◌∙◌, append_assoc, append-nil}
 use Rattle.std.proofs.lemmas.Bool.{or_parts}
 use Rattle.std.specs.List.{list_any}
 use Rattle.std.specs.Option.{is_some}
 use Rattle.std.specs.FinMap.{find}
+use Rattle.dav_core.specs.LockLaws.{CoveringAreShared}
 use Rattle.dav_core.specs.Locks.{Lock, covers, is_grantable}
 use Rattle.dav_core.specs.Path.{Path, path_cmp, names, rest_after, is_same_path, is_under, is_at_or_under, has_names}
 use Rattle.dav_core.specs.World.{World, Node, node_at, is_folder, IsWorld}
 use Rattle.dav_core.proofs.Theorems.{rest_after-append, from_rest, parent-append, outside, above, same_path, path-itself, grantable_by_tests, same_name, name-itself}
-use Rattle.std.proofs.lemmas.List.Elements.{All-head, All-tail}
+use Rattle.std.proofs.lemmas.List.Elements.{All-head, All-tail, All-contains, Contains-push}
 use Rattle.dav_core.specs.Path.{name_cmp}
 use Rattle.std.specs.Ordering.{is_eq}
-use Rattle.dav_engine.specs.Guard.{folder_of, IsGuard, no_others, Guards, guards_here, guards_later, GrantedGuards}
+use Rattle.dav_engine.specs.Guard.{folder_of, IsGuard, no_others, Guards, guards_here, guards_later, GrantedGuards, SharedGuards}
 use Rattle.dav_engine.specs.Inside.{FoldersAreAbove}
+use Rattle.dav_engine.proofs.GuardedFolders.{covers_by}
 use Rattle.dav_engine.proofs.SparingCalls.{within_too}
 
 -- ---- fronts of one path
@@ -127,6 +129,28 @@ other_tokens h (l ∷ ls) all = one_other (All-head (λ m. m.token ≢ h.token) 
 
 pub granted_guards : GrantedGuards
 granted_guards h ls guard others ok = granted_at_end h guard ls (other_tokens h ls others) ok
+
+-- ---- where covering locks are shared
+
+-- where both locks cover a path, both are shared
+abbrev ShareBoth : Lock → Lock → Type 0
+ShareBoth l m = (p : Path) → covers l p ≡ true → covers m p ≡ true → (l.shared ≡ true) × (m.shared ≡ true)
+
+module _ (h : Lock) (guard : IsGuard h) where
+  -- what covers a path below the folder would be shared with the guard
+  off_shared : (l : Lock) (rest : Path) → ShareBoth l h → (b : Bool) → covers l (folder_of h ++ rest) ≡ b → b ≡ false
+  off_shared l rest both false is = refl
+  off_shared l rest both true is = sym (both (folder_of h ++ rest) is (covers_by h rest guard.deep)).1 ∙ guard.exclusive
+
+  guards_shared : (ls : List Lock) → OtherTokens h ls → CoveringAreShared (ls ++ h ∷ []) → Guards h (ls ++ h ∷ [])
+  guards_shared [] none_other shared = guards_here refl no_others
+  guards_shared (l ∷ ls) (one_other other more) shared =
+      let both : ShareBoth l h = All-contains (ShareBoth l) (ls ++ h ∷ []) h (λ k d small. shared 0 (suc k) d (omega arith) (omega (arith, small))) (Contains-push ls h) in
+      guards_later (record { token = other; apart = λ rest. off_shared l rest both (covers l (folder_of h ++ rest)) refl })
+      (guards_shared ls more (λ i j d less small. shared (suc i) (suc j) d (omega (arith, less)) (omega (arith, small))))
+
+pub shared_guards : SharedGuards
+shared_guards h ls guard others shared = guards_shared h guard ls (other_tokens h ls others) shared
 
 -- ---- the world
 

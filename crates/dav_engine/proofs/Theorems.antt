@@ -9,6 +9,7 @@ pub use Rattle.dav_engine.proofs.DeleteWorld.{only_delete_allowed, only_removal,
 pub use Rattle.dav_engine.proofs.EndingDelete.{delete_keeps_locks}
 pub use Rattle.dav_engine.proofs.EndingLemmas.{kept_locks_stand, kept_locks_stand_cut, reading_keeps_locks, put_keeps_locks, mkcol_keeps_locks}
 pub use Rattle.dav_engine.proofs.Following.{follows_done, follows_ask, follows_on, follows_then, follows_err, follows_up_to, follows_out}
+pub use Rattle.dav_engine.proofs.GrantLemmas.{shared_guards, folders_are_above}
 pub use Rattle.dav_engine.proofs.GuardLemmas.{carried}
 pub use Rattle.dav_engine.proofs.GuardedFolders.{free_for_is}
 pub use Rattle.dav_engine.proofs.ListChangeLemmas.{lists_are_changed, lists_are_changed_cut, changes_keep_shared, changes_bring_tokens, tokens_after_all, changes_join, changes_reading, reading_changes_list, put_changes_list, mkcol_changes_list, delete_changes_list}

@@ -1,5 +1,6 @@
 -- A lock that guards a folder: exclusive, and of infinite depth (RFC 4918, sections 6.1 and 7).
 use Rattle.std.specs.Prelude.{◌≡◌, ◌≢◌, ◌++◌, Bool, true, false, List, [], ◌∷◌, All, Some, None}
+use Rattle.dav_core.specs.LockLaws.{CoveringAreShared}
 use Rattle.dav_core.specs.Locks.{Lock, Requester, covers, is_held, is_free_for, is_grantable}
 use Rattle.dav_core.specs.Path.{Path, names, is_at_or_under}
 use Rattle.dav_headers.specs.If.{state_token}
@@ -92,3 +93,9 @@ abbrev pub GrantedGuards : Type 0
 GrantedGuards =
     (h : Lock) (ls : List Lock)
     → IsGuard h → All (λ l. l.token ≢ h.token) ls → is_grantable h ls ≡ true → Guards h (ls ++ h ∷ [])
+
+-- So does one that stands at the end of a list in which locks that cover one path are shared, after locks of other tokens.
+abbrev pub SharedGuards : Type 0
+SharedGuards =
+    (h : Lock) (ls : List Lock)
+    → IsGuard h → All (λ l. l.token ≢ h.token) ls → CoveringAreShared (ls ++ h ∷ []) → Guards h (ls ++ h ∷ [])

@@ -2,7 +2,7 @@
 ghost use Rattle.dav_engine.specs.Alongside.{AlongsideAgree, SpareNumbersSuffice};
 ghost use Rattle.dav_engine.specs.AlongsidePlans.{PutGoesAlong, MkcolGoesAlong, DeleteGoesAlong};
 ghost use Rattle.dav_engine.specs.Ending.{KeptLocksStand, KeptLocksStandCut, ReadingKeepsLocks, PutKeepsLocks, MkcolKeepsLocks, DeleteKeepsLocks};
-ghost use Rattle.dav_engine.specs.Guard.{FreeIsHeld, FreeIsApart, FreeIsUncovered, GrantedGuards};
+ghost use Rattle.dav_engine.specs.Guard.{FreeIsHeld, FreeIsApart, FreeIsUncovered, GrantedGuards, SharedGuards};
 ghost use Rattle.dav_engine.specs.Inside.{FoldersAreAbove};
 ghost use Rattle.dav_engine.specs.ListChanges.{ListsAreChanged, ListsAreChangedCut, ChangesKeepShared, ChangesBringTokens, ReadingChangesList, PutChangesList, MkcolChangesList, DeleteChangesList};
 ghost use Rattle.dav_engine.specs.Sparing.{SparingLeavesCovered, SparingLeavesCoveredCut, SparingLeavesInside};
@@ -52,10 +52,11 @@ pub fn spare_numbers_suffice()
     ensures { SpareNumbersSuffice }
 {}
 
-/// A lock that is exclusive and of infinite depth, and that may be granted after locks of other tokens, guards its folder.
-/// In a world there are folders above whatever is there (RFC 4918, sections 5.1 and 6.2).
+/// A lock that is exclusive and of infinite depth, and that may be granted after locks of other tokens, guards its folder; so
+/// does one that stands after them where locks that cover one path are shared. In a world there are folders above whatever is there (RFC 4918, sections 5.1 and 6.2).
 pub fn granted_locks_guard_their_folders()
     ensures guards { GrantedGuards }
+    ensures shared { SharedGuards }
     ensures above { FoldersAreAbove }
 {}
 
