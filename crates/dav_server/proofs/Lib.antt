@@ -21,9 +21,11 @@ pub mod RefusedLemmas
 pub mod TurnLemmas
 pub mod StrangerLemmas
 pub mod EndingLemmas
+pub mod ListLemmas
 pub mod AlongsideGet
 pub mod HolderLemmas
 pub mod IsolationLemmas
+pub mod GrantedRuns
 pub mod AloneLemmas
 pub mod SpareLemmas
 pub mod WorkedRun

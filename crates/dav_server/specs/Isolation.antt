@@ -1,16 +1,16 @@
 -- Isolation: a locked folder and the replies to its holder don't depend on what others do (RFC 4918, section 7).
-use Rattle.std.specs.Prelude.{◌≡◌, ◌<◌, ◌++◌, ◌⊎◌, true, false, List, [], ◌∷◌, All}
+use Rattle.std.specs.Prelude.{◌≡◌, ◌≢◌, ℕ, ◌<◌, ◌++◌, ◌⊎◌, true, false, List, [], ◌∷◌, All, AllPairs, Some}
 use Rattle.std.specs.Option.{is_some}
 use Rattle.dav_core.specs.Asking.{StoreState, Asks}
 use Rattle.dav_core.specs.Locks.{Lock}
-use Rattle.dav_core.specs.World.{IsWorld, last_number}
+use Rattle.dav_core.specs.World.{is_folder, IsWorld, last_number}
 use Rattle.dav_engine.specs.Alongside.{AsksWithNumbers, SameAnswers}
 use Rattle.dav_engine.specs.Guard.{folder_of, IsGuard, Guarded, Stands}
 use Rattle.dav_engine.specs.Inside.{SameInside, HasFoldersAbove}
 use Rattle.dav_engine.specs.Plan.{Locks, CallStep}
 use Rattle.dav_engine.specs.Response.{Response}
 use Rattle.dav_server.specs.Holder.{IsHolderRequest}
-use Rattle.dav_server.specs.Machine.{Settings, StepsBy}
+use Rattle.dav_server.specs.Machine.{Settings, StepsBy, Steps}
 use Rattle.dav_server.specs.Naming.{NamesLock}
 use Rattle.dav_server.specs.Run.{Turn, begun, RunsBy, Runs}
 use Rattle.dav_server.specs.Server.{Server}
@@ -110,3 +110,30 @@ IsIsolated old ts replies =
     → IsGuard h → Guarded h ks → HasFoldersAbove (folder_of h) mid.world
     → RunsUnder AsksWithNumbers old.settings h later mid ks given new ms → new.short ≡ false
     → Alone h later us → AreAlone old.settings h later us mid ks given new
+
+-- ---- from an empty list of locks, from the grant on
+
+-- no two requests hand in one token
+abbrev pub TokensDiffer : List Turn → Type 0
+TokensDiffer ts = AllPairs (λ t u. (token : List ℕ) → t.asked.token ≡ Some token → u.asked.token ≢ Some token) ts
+
+-- a request's step granted a lock: with the token that was handed in, at the end of the list
+pub record Grants (t : Turn) (h : Lock) (ls ms : List Lock) : Type 0 where
+  pub token_is : t.asked.token ≡ Some h.token
+  pub listed : ms ≡ ls ++ h ∷ []
+
+-- In a run of these turns, from a world and no locks, with tokens that differ: from the grant of an exclusive lock of infinite
+-- depth on a folder, as long as the lock stands and all who name it as its principal are its holder, the folder and the replies
+-- to the holder are as if the holder's requests were alone from the grant on. No call may have found the change numbers used
+-- up, and the store may not have run out of memory.
+abbrev pub IsIsolatedFromGrants : Server → List Turn → List Response → Type 0
+IsIsolatedFromGrants old ts replies =
+    (front later back us : List Turn) (grant : Turn) (h : Lock) (asked granted new : StoreState) (ks js : List Lock) (ms : Locks)
+    (before given after : List Response) (reply : Response)
+    → ts ≡ front ++ grant ∷ (later ++ back) → replies ≡ before ++ reply ∷ (given ++ after) → TokensDiffer ts
+    → IsWorld old.state.store.world → old.state.locks ≡ Some []
+    → Runs old.settings front old.state.store old.state.locks before asked (Some ks)
+    → Steps old.settings grant.asked (begun grant.refusals asked) (Some ks) reply granted (Some js)
+    → IsGuard h → Grants grant h ks js → is_folder granted.world (folder_of h) ≡ true
+    → RunsUnder AsksWithNumbers old.settings h later granted (Some js) given new ms → new.short ≡ false
+    → Alone h later us → AreAlone old.settings h later us granted (Some js) given new

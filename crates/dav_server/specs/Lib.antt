@@ -23,4 +23,5 @@ pub mod NamingCode
 pub mod Holder
 pub mod Passing
 pub mod Ending
+pub mod LockLists
 pub mod Isolation

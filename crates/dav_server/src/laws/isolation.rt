@@ -1,6 +1,7 @@
 //! Laws of locked folders. Each function does nothing: its contract is a theorem on the definitions.
 ghost use Rattle.dav_server.specs.Ending.{NoLockEnds, NoLockEndsCut};
 ghost use Rattle.dav_server.specs.Isolation.{HoldersAreAlone, KnownHaveAlone, TurnsHaveAlone, OneAlone, RunsFindNumbers, SpareNumbersSufficeInRuns};
+ghost use Rattle.dav_server.specs.LockLists.{StepsChangeLists, StepsChangeListsCut, TokensAreHandedIn};
 ghost use Rattle.dav_server.specs.Passing.{NoLockIsPassed, NoLockIsPassedCut};
 
 /// What an exclusive lock covers when a request begins keeps its content, unless the request names the lock's token as the
@@ -39,4 +40,13 @@ pub fn holders_turns_are_known()
 pub fn spare_numbers_suffice_in_runs()
     ensures runs { RunsFindNumbers }
     ensures under { SpareNumbersSufficeInRuns }
+{}
+
+/// A request's step changes the list of locks only by grants of a lock with the request's token where it may be granted, by
+/// refreshes, by unlocks and by ends of the locks at a path and below it; also where memory runs out in the step. So in a run
+/// that begins with no locks each lock has a token that was handed in with a request (RFC 4918, sections 6.1 and 6.5).
+pub fn steps_change_lists()
+    ensures step { StepsChangeLists }
+    ensures cut { StepsChangeListsCut }
+    ensures tokens { TokensAreHandedIn }
 {}

@@ -3,6 +3,8 @@ use Rattle.dav_server.specs.Run.{no_more}
 use Rattle.dav_server.proofs.RunLemmas.{run_added, steps_at, cut_at, ran_to, ran_for, rest_after_one, turns_of}
 use Rattle.dav_server.proofs.IsolationLemmas.{is_isolated, none_loaded, loaded_more, loaded_for}
 use Rattle.dav_server.proofs.EndingLemmas.{ends_no_lock}
+use Rattle.dav_server.proofs.GrantedRuns.{is_isolated_from_grants}
+use Rattle.dav_server.proofs.ListLemmas.{shares_locks}
 use Rattle.dav_server.proofs.StrangerLemmas.{passes_no_lock}
 use Rattle.dav_server.proofs.TurnLemmas.{all_yielded, run_tells, none_showable, showable_more, showable_for}
 use Rattle.dav_server.proofs.run.run_refused.Goals as goal
@@ -52,3 +54,12 @@ returns-clause-isolated c =
 
 pub returns-clause-kept : goal.returns-clause-kept
 returns-clause-kept c = ends_no_lock _ c.args.steps.items _
+
+pub returns-clause-shared : goal.returns-clause-shared
+returns-clause-shared c = shares_locks _ c.args.steps.items _
+
+pub returns-clause-granted : goal.returns-clause-granted
+returns-clause-granted c =
+    let rest = c.loop-step.step-iterator.rest in
+    let whole = all_yielded c.args.steps.items c.loop-step.yielded rest.items rest.len c.loop-step.invariant.3 rest.ok.0 c.in-None.ensures.steps.0 in
+    is_isolated_from_grants _ c.args.steps.items _ (showable_for whole c.loop-step.invariant.2) (loaded_for whole c.loop-step.invariant.4)

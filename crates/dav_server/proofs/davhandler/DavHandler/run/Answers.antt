@@ -3,6 +3,7 @@ use Rattle.dav_server.specs.Run.{no_more}
 use Rattle.dav_server.specs.Server.{turn_of}
 use Rattle.dav_server.proofs.RunLemmas.{run_further, parts_of, steps_at, cut_at, ran_to}
 use Rattle.dav_server.proofs.EndingLemmas.{ends_no_lock}
+use Rattle.dav_server.proofs.ListLemmas.{shares_locks}
 use Rattle.dav_server.proofs.StrangerLemmas.{passes_no_lock}
 use Rattle.dav_server.proofs.TurnLemmas.{ran_all, run_tells, none_showable, showable_further, showable_all}
 use Rattle.dav_server.proofs.davhandler.DavHandler.run.Goals as goal
@@ -44,3 +45,6 @@ returns-clause-passed g c =
 
 pub returns-clause-kept : goal.returns-clause-kept
 returns-clause-kept g c = ends_no_lock _ (map turn_of c.args.exchanges.now) _
+
+pub returns-clause-shared : goal.returns-clause-shared
+returns-clause-shared g c = shares_locks _ (map turn_of c.args.exchanges.now) _

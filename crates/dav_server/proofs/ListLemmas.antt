@@ -1,0 +1,83 @@
+-- The list of locks over whole runs.
+use Rattle.std.proofs.Common.{◌≡◌, ◌++◌, ℕ, List, [], ◌∷◌, All, Contains, Option, Some, None, refl, sym, subst}
+use Rattle.std.proofs.lemmas.List.Elements.{All-nil, All-head, All-tail, All-contains_itself}
+use Rattle.dav_core.specs.declared.method.DavMethod.{DavMethod}
+use Rattle.dav_core.specs.declared.method.DavMethod.TheVariants.{Get, Head, Put, Patch}
+use Rattle.dav_core.specs.Asking.{StoreState}
+use Rattle.dav_core.specs.Locks.{Lock}
+use Rattle.dav_core.specs.LockLaws.{CoveringAreShared}
+use Rattle.dav_core.specs.Path.{PathText, names}
+use Rattle.dav_engine.specs.declared.request.Body.{Body}
+use Rattle.dav_engine.specs.Client.{Client}
+use Rattle.dav_engine.specs.Guard.{OnList}
+use Rattle.dav_engine.specs.Headers.{Headers}
+use Rattle.dav_engine.specs.ListChanges.{AreChanges, no_change, ChangesList, changes_done}
+use Rattle.dav_engine.specs.Method.{MethodPlan}
+use Rattle.dav_engine.specs.Plan.{Locks}
+use Rattle.dav_engine.specs.Response.{Response}
+use Rattle.dav_engine.proofs.Theorems.{lists_are_changed, lists_are_changed_cut, changes_keep_shared, tokens_after_all, reading_changes_list, put_changes_list, mkcol_changes_list, delete_changes_list}
+use Rattle.dav_server.specs.Get.{get, is_get}
+use Rattle.dav_server.specs.Head.{Request}
+use Rattle.dav_server.specs.LockLists.{StepsChangeLists, StepsChangeListsCut, SharesLocks, IsHandedIn, TokensAreHandedIn}
+use Rattle.dav_server.specs.Machine.{Settings, Asked, client, PlanOf, gets, heads, puts, patches, makes, not_yet, MeansOf, not_allowed, no_path, no_body, method, Means, no_head, no_method, known, Steps, StepCut, untouched, cut, steps}
+use Rattle.dav_server.specs.Run.{Turn, begun, Runs, no_more, one_more}
+use Rattle.dav_server.specs.Server.{Server}
+use Rattle.dav_server.proofs.GetWorld.{get_is_reading}
+
+plan_changes : {allowed : ℕ} {headers : Headers} {p : PathText} {body : Body} {who : Client} {m : DavMethod} {plan : MethodPlan Response} → PlanOf allowed headers p body who m plan → (ls : List Lock) → ChangesList who ls plan
+plan_changes {p = p} {who = who} (gets (is_get c are)) ls = reading_changes_list who ls (get Get c (names p) who.moment) (get_is_reading Get c (names p) who.moment)
+plan_changes {p = p} {who = who} (heads (is_get c are)) ls = reading_changes_list who ls (get Head c (names p) who.moment) (get_is_reading Head c (names p) who.moment)
+plan_changes {headers = headers} {p} {body} {who} {plan = plan} (puts is) ls = put_changes_list Put headers p body who ls plan is
+plan_changes {headers = headers} {p} {body} {who} {plan = plan} (patches is) ls = put_changes_list Patch headers p body who ls plan is
+plan_changes {headers = headers} {p} {who = who} {plan = plan} (makes is) ls = mkcol_changes_list headers p who ls plan is
+plan_changes (not_yet out) ls = changes_done
+
+module _ (x : Asked) (ls : List Lock) where
+  of_changes : {s : Settings} {r : Request} {m : DavMethod} {plan : MethodPlan Response} → MeansOf s x r m plan → ChangesList (client x) ls plan
+  of_changes (not_allowed out) = changes_done
+  of_changes (no_path e has none) = changes_done
+  of_changes (no_body p e has named bad) = changes_done
+  of_changes (method p body has named good is) = plan_changes is ls
+
+  means_changes : {s : Settings} {plan : MethodPlan Response} → Means s x plan → ChangesList (client x) ls plan
+  means_changes (no_head out) = changes_done
+  means_changes (no_method r e head gives) = changes_done
+  means_changes (known r m head gives means) = of_changes means
+
+-- ---- steps
+
+pub steps_change_lists : StepsChangeLists
+steps_change_lists s x old new ls ms reply (steps plan outcome means ran) = lists_are_changed (client x) plan old new ls ms outcome (means_changes x ls means) ran
+
+cut_changes : (s : Settings) (x : Asked) {old new : StoreState} (ls : List Lock) {ms : Locks} → StepCut s x old (Some ls) new ms → OnList (AreChanges (client x) ls) ms
+cut_changes s x ls untouched = no_change
+cut_changes s x {old} ls (cut plan {new} {ms} means some) = lists_are_changed_cut (client x) plan old new ls ms (means_changes x ls means) some
+
+pub steps_change_lists_cut : StepsChangeListsCut
+steps_change_lists_cut s x old new ls ms stops = cut_changes s x ls stops
+
+-- ---- runs
+
+module _ (s : Settings) where
+  -- what lasts through the changes of each request's step lasts through a run
+  module _ (G : List Lock → Type 0) (ts : List Turn) (lasts : (t : Turn) → Contains ts t → (ls ms : List Lock) → AreChanges (client t.asked) ls ms → G ls → G ms) where
+    after_step : {t : Turn} {old new : StoreState} {ls : List Lock} (ms : Locks) {reply : Response} → Contains ts t → G ls → Steps s t.asked old (Some ls) reply new ms → OnList G ms
+    after_step {t} {old} {new} {ls} None {reply} here g step = absurd (steps_change_lists s t.asked old new ls None reply step)
+    after_step {t} {old} {new} {ls} (Some ms) {reply} here g step = lasts t here ls ms (steps_change_lists s t.asked old new ls (Some ms) reply step) g
+
+    run_lasts : {us : List Turn} {old new : StoreState} {ls : Locks} {ms : Locks} {replies : List Response} → All (Contains ts) us → OnList G ls → Runs s us old ls replies new ms → OnList G ms
+    run_lasts all g no_more = g
+    run_lasts {ls = None} all g (one_more one more) = absurd g
+    run_lasts {ls = Some ls} all g (one_more {t} {ts = us} {ks = ks} one more) =
+        run_lasts (All-tail (Contains ts) t us all) (after_step ks (All-head (Contains ts) t us all) g one) more
+
+pub shares_locks : (old : Server) (ts : List Turn) (replies : List Response) → SharesLocks old ts replies
+shares_locks old ts replies front back before after mid ls ks is replied listed shared ran =
+    run_lasts old.settings CoveringAreShared front (λ t here ls ms changes was. changes_keep_shared (client t.asked) ls ms changes was)
+    (All-contains_itself front) shared (subst (λ (l : Locks). Runs old.settings front old.state.store l before mid (Some ks)) listed ran)
+
+pub tokens_are_handed_in : TokensAreHandedIn
+tokens_are_handed_in s ts old new ms replies ran =
+    run_lasts s (λ ls. All (λ l. IsHandedIn ts l.token) ls) ts
+    (λ t here ls ms changes was. tokens_after_all (IsHandedIn ts) (λ token is. (t, here, is)) changes was)
+    (All-contains_itself ts) (All-nil (λ (l : Lock). IsHandedIn ts l.token)) ran
