@@ -16,7 +16,7 @@ use Rattle.dav_engine.specs.Client.{Client, requester}
 use Rattle.dav_engine.specs.Conditions.{Conditions, Addressed}
 use Rattle.dav_engine.specs.Delete.{whole_depth, drop_if_gone, delete_reply, delete_found, deleting, is_delete}
 use Rattle.dav_engine.specs.Folder.{closed, child_of, room_at}
-use Rattle.dav_engine.specs.Guard.{folder_of, IsGuard, IsSameLock, IsListed, listed_here, listed_later, Guards, SubmitOnly}
+use Rattle.dav_engine.specs.Guard.{folder_of, IsGuard, IsListed, listed_here, listed_later, Guards, SubmitOnly}
 use Rattle.dav_engine.specs.Method.{MethodPlan, then as followed_by, ◌>>=◌, require_free, gives, ask_for, refused_as}
 use Rattle.dav_engine.specs.Plan.{Done}
 use Rattle.dav_engine.specs.Removal.{Fault, StaysWhole, StaysWith, Stays, refused_by, emptied_status, Walk, each, remove, removal, remove_member, remove_found, remove_listed, remove_emptied}

@@ -1,14 +1,14 @@
 -- What a DELETE leaves.
-use Rattle.std.proofs.Common.{◌≡◌, ◌≢◌, ℕ, ◌≤◌, ◌&&◌, arith, if◌then◌else◌, zero, suc, Bool, true, false, List, [], ◌∷◌, Option, Some, None, Result, Ok, Err, refl, sym, ap, subst, ◌∙◌, map}
+use Rattle.std.proofs.Common.{◌≡◌, ◌≢◌, ℕ, ◌≤◌, ◌&&◌, arith, if◌then◌else◌, Bool, true, false, List, [], ◌∷◌, Option, Some, None, Result, Ok, Err, refl, sym, ap, subst, ◌∙◌, map}
 use Rattle.std.specs.Prelude.{⊤}
 use Rattle.std.specs.Option.{option_map}
-use Rattle.std.proofs.lemmas.List.Elements.{All-append, All-cons, All-head, All-nil}
+use Rattle.std.proofs.lemmas.List.Elements.{All-head}
 use Rattle.dav_core.specs.declared.errors.FsError.{FsError}
 use Rattle.dav_core.specs.declared.errors.FsError.TheVariants as fs
 use Rattle.dav_core.specs.declared.errors.DavError.{DavError}
 use Rattle.dav_core.specs.declared.errors.DavError.TheVariants as dav
 use Rattle.dav_core.specs.declared.fs.DavMetaData.{DavMetaData}
-use Rattle.dav_core.specs.Asking.{Call, Answer, StoreState, Asks, meaning, Metadata}
+use Rattle.dav_core.specs.Asking.{StoreState, Asks, meaning, Metadata}
 use Rattle.dav_core.specs.Path.{Path, PathText, names, star, is_at_or_under, are_equal}
 use Rattle.dav_core.specs.Status.{fs_status}
 use Rattle.dav_core.specs.Locks.{Lock, deleted}
@@ -16,11 +16,11 @@ use Rattle.dav_core.specs.World.{World, Node, node_at, is_folder, IsWorld}
 use Rattle.dav_engine.specs.Client.{Client}
 use Rattle.dav_engine.specs.Conditions.{Conditions}
 use Rattle.dav_engine.specs.Delete.{DeleteHeaders, whole_depth, delete_allowed, drop_if_gone, delete_reply, delete_found}
-use Rattle.dav_engine.specs.Folder.{closed, child_of, room_at}
-use Rattle.dav_engine.specs.Method.{MethodPlan, then as followed_by, ◌>>=◌, refused_as, ask_for, set_by}
+use Rattle.dav_engine.specs.Folder.{closed}
+use Rattle.dav_engine.specs.Method.{then as followed_by, ◌>>=◌, refused_as, ask_for, set_by}
 use Rattle.dav_engine.specs.Multistatus.{PathStatus, multi_reply, one_reply, status_reply, multistatus_reply}
-use Rattle.dav_engine.specs.Plan.{Plan, Done, Ask, Look, Keep, Locks, kept, Ran, ran_look, ran_keep}
-use Rattle.dav_engine.specs.Removal.{Fault, Stays, StaysWhole, StaysWith, Walk, refused_by, emptied_status, report_of, removal, remove, each, remove_emptied, remove_found, remove_listed, remove_member}
+use Rattle.dav_engine.specs.Plan.{Plan, Done, Look, Keep, Locks, kept, Ran, ran_look, ran_keep}
+use Rattle.dav_engine.specs.Removal.{Fault, report_of, removal}
 use Rattle.dav_engine.specs.Response.{Response}
 use Rattle.dav_engine.specs.RemovalLaws.{timeless, timeless_at, LeavesSurvivors, IsErrorReport, AreErrorReports, NoContentMeansGone, locks_after, DeleteLeaves, DeletesLeaveSurvivors, RefusedDeleteLeavesAll}
 use Rattle.dav_engine.proofs.CallWorlds.{did, did_leave}

@@ -1,10 +1,10 @@
 -- The plans of a holder's requests go along with themselves.
-use Rattle.std.proofs.Common.{◌≡◌, ℕ, Result, Ok, sym, subst}
+use Rattle.std.proofs.Common.{◌≡◌, ◌≢◌, ℕ, Result, Ok, sym, subst}
 use Rattle.dav_core.specs.declared.errors.DavError.{DavError}
 use Rattle.dav_core.specs.declared.method.DavMethod.{DavMethod}
-use Rattle.dav_core.specs.declared.method.DavMethod.TheVariants.{Get, Head, Put, Patch, Unlock}
+use Rattle.dav_core.specs.declared.method.DavMethod.TheVariants.{Get, Head, Put, Patch, Options, Unlock}
 use Rattle.dav_core.specs.Locks.{Lock}
-use Rattle.dav_core.specs.Path.{Path, PathText, names}
+use Rattle.dav_core.specs.Path.{Path, PathText, names, star}
 use Rattle.dav_engine.specs.declared.request.Body.{Body}
 use Rattle.dav_engine.specs.Alongside.{side_err}
 use Rattle.dav_engine.specs.AlongsidePlans.{SubmitsAlone, GoesAlong}
@@ -12,18 +12,18 @@ use Rattle.dav_engine.specs.Conditions.{Conditions, AreConditions}
 use Rattle.dav_engine.specs.Guard.{IsGuard, IsInReach}
 use Rattle.dav_engine.specs.Method.{MethodPlan}
 use Rattle.dav_engine.specs.Response.{Response}
-use Rattle.dav_engine.proofs.Theorems.{holders, in_reach, only_lists, put_goes_along, mkcol_goes_along}
+use Rattle.dav_engine.proofs.Theorems.{holders, in_reach, only_lists, put_goes_along, mkcol_goes_along, delete_goes_along}
 use Rattle.dav_server.specs.Get.{get, is_get}
 use Rattle.dav_server.specs.Head.{Request, IsHead}
 use Rattle.dav_server.specs.Headers.{headers_of}
 use Rattle.dav_server.specs.Holder.{IsHolderRequest, unlocks, acts}
-use Rattle.dav_server.specs.Machine.{Settings, Asked, client, PlanOf, gets, heads, puts, patches, makes, not_yet, MeansOf, not_allowed, no_path, no_body, method, Means, no_head, no_method, known}
+use Rattle.dav_server.specs.Machine.{Settings, Asked, client, PlanOf, gets, heads, puts, patches, makes, deletes, not_yet, MeansOf, not_allowed, no_path, no_body, method, Means, no_head, no_method, known}
 use Rattle.dav_server.specs.Method.{GivesServed}
 use Rattle.dav_server.specs.Target.{TargetNames}
 use Rattle.dav_server.proofs.AlongsideGet.{side_get}
 use Rattle.dav_server.proofs.HeadLemmas.{one_head}
 use Rattle.dav_server.proofs.MeansWorld.{one_method}
-use Rattle.dav_server.proofs.TargetLemmas.{one_outcome}
+use Rattle.dav_server.proofs.TargetLemmas.{one_outcome, target_is_path}
 
 -- what is known of a holder's request with this head and path
 record Holds (h : Lock) (r : Request) (p : PathText) : Type 0 where
@@ -52,19 +52,20 @@ module _ (h : Lock) (guard : IsGuard h) where
       (subst (λ (q : Path). GoesAlong h (get m (holders k.alone.lists) q now)) (sym at) (side_get h guard rest m now k.alone.only))
 
   plan_goes_along : (x : Asked) (r : Request) {allowed : ℕ} {m : DavMethod} {p : PathText} {body : Body} {plan : MethodPlan Response}
-      → (¬ (Unlock ≡ m) → Holds h r p) → PlanOf allowed (headers_of r.fields) p body (client x) m plan → GoesAlong h plan
-  plan_goes_along x r k (gets (is_get c are)) = get_goes_along Get (client x).moment c (k (λ e. cc)) are
-  plan_goes_along x r k (heads (is_get c are)) = get_goes_along Head (client x).moment c (k (λ e. cc)) are
-  plan_goes_along x r {p = p} {body} {plan} k (puts is) = let known = k (λ e. cc) in put_goes_along h Put (headers_of r.fields) p body (client x) plan guard known.within known.alone is
-  plan_goes_along x r {p = p} {body} {plan} k (patches is) = let known = k (λ e. cc) in put_goes_along h Patch (headers_of r.fields) p body (client x) plan guard known.within known.alone is
-  plan_goes_along x r {p = p} {plan = plan} k (makes is) = let known = k (λ e. cc) in mkcol_goes_along h (headers_of r.fields) p (client x) plan guard known.within known.alone is
-  plan_goes_along x r k (not_yet out) = side_err
+      → (¬ (Unlock ≡ m) → Holds h r p) → (m ≢ Options → p.bytes ≢ star) → PlanOf allowed (headers_of r.fields) p body (client x) m plan → GoesAlong h plan
+  plan_goes_along x r k below (gets (is_get c are)) = get_goes_along Get (client x).moment c (k (λ e. cc)) are
+  plan_goes_along x r k below (heads (is_get c are)) = get_goes_along Head (client x).moment c (k (λ e. cc)) are
+  plan_goes_along x r {p = p} {body} {plan} k below (puts is) = let known = k (λ e. cc) in put_goes_along h Put (headers_of r.fields) p body (client x) plan guard known.within known.alone is
+  plan_goes_along x r {p = p} {body} {plan} k below (patches is) = let known = k (λ e. cc) in put_goes_along h Patch (headers_of r.fields) p body (client x) plan guard known.within known.alone is
+  plan_goes_along x r {p = p} {plan = plan} k below (makes is) = let known = k (λ e. cc) in mkcol_goes_along h (headers_of r.fields) p (client x) plan guard known.within known.alone is
+  plan_goes_along x r {p = p} {plan = plan} k below (deletes is) = let known = k (λ e. cc) in delete_goes_along h (headers_of r.fields) p (client x) plan guard (below (λ e. cc)) known.within known.alone is
+  plan_goes_along x r k below (not_yet out) = side_err
 
   of_goes_along : (s : Settings) (x : Asked) (r : Request) {m : DavMethod} {plan : MethodPlan Response} → IsHolderRequest s h x → IsHead x.head r → GivesServed r.method (Ok m) → MeansOf s x r m plan → GoesAlong h plan
   of_goes_along s x r holder head gives (not_allowed out) = side_err
   of_goes_along s x r holder head gives (no_path e has none) = side_err
   of_goes_along s x r holder head gives (no_body p e has named bad) = side_err
-  of_goes_along s x r {m} holder head gives (method p body has named good plan) = plan_goes_along x r (holds s h x r m p holder head gives named) plan
+  of_goes_along s x r {m} holder head gives (method p body has named good plan) = plan_goes_along x r (holds s h x r m p holder head gives named) (target_is_path named) plan
 
   -- a holder's plan goes along with itself
   pub means_along : (s : Settings) (x : Asked) {plan : MethodPlan Response} → IsHolderRequest s h x → Means s x plan → GoesAlong h plan

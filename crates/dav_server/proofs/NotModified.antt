@@ -27,6 +27,7 @@ use Rattle.dav_engine.specs.Client.{Client}
 use Rattle.dav_engine.specs.Conditions.{Conditions, is_reading, matches, http_conditions, if_match}
 use Rattle.dav_engine.specs.Headers.{Headers, Decodes}
 use Rattle.dav_engine.specs.Method.{MethodPlan, then as followed_by, ◌>>=◌, gives, fails, require, refused_as}
+use Rattle.dav_engine.specs.Delete.{is_delete}
 use Rattle.dav_engine.specs.Mkcol.{is_mkcol}
 use Rattle.dav_engine.specs.Plan.{Locks, Ran, ran_ask}
 use Rattle.dav_engine.specs.Put.{bytes_of_body, is_put}
@@ -35,7 +36,7 @@ use Rattle.dav_engine.proofs.Theorems.{Did, did, ran_split, ran_outcome}
 use Rattle.dav_server.specs.Get.{not_modified, show_or_tell, judged, get, is_get}
 use Rattle.dav_server.specs.Head.{Request}
 use Rattle.dav_server.specs.Headers.{headers_of}
-use Rattle.dav_server.specs.Machine.{Settings, Asked, Taken, TakesBytes, TakesTree, TakesNone, taken_by, body_for, PlanOf, gets, heads, puts, patches, makes, not_yet, MeansOf, not_allowed, no_path, no_body, method, Means, no_head, no_method, known, Steps, steps}
+use Rattle.dav_server.specs.Machine.{Settings, Asked, Taken, TakesBytes, TakesTree, TakesNone, taken_by, body_for, PlanOf, gets, heads, puts, patches, makes, deletes, not_yet, MeansOf, not_allowed, no_path, no_body, method, Means, no_head, no_method, known, Steps, steps}
 use Rattle.dav_server.specs.Method.{GivesServed}
 use Rattle.dav_server.specs.Run.{Turn, begun, Runs, no_more, one_more}
 use Rattle.dav_server.specs.TagLaws.{AreShowable, LacksTag, NotModifiedIsTrue}
@@ -43,7 +44,7 @@ use Rattle.dav_server.specs.Target.{TargetNames}
 use Rattle.dav_server.proofs.GetWorld.{Stands, after_found, file_kind, told_of, stands_known, known_bytes}
 use Rattle.dav_server.proofs.HeadLemmas.{one_head}
 use Rattle.dav_server.proofs.MeansWorld.{all_front, all_back, begun_world, turn_keeps, run_keeps, one_method}
-use Rattle.dav_server.proofs.PlanStatuses.{Outcome, Any, IsOther, fs_other, outcome_if, ran_ends, conditions_end, ends_put, ends_mkcol, ends_show_or_tell, other_status}
+use Rattle.dav_server.proofs.PlanStatuses.{Outcome, Any, IsOther, fs_other, outcome_if, ran_ends, conditions_end, ends_put, ends_mkcol, ends_delete, ends_show_or_tell, other_status}
 use Rattle.dav_server.proofs.TagLemmas.{ShownAmong, shown_among, known_on, known_shown, shown_known, small_first, small_rest}
 use Rattle.dav_server.proofs.TargetLemmas.{one_outcome}
 
@@ -169,6 +170,7 @@ plan_304 {p = p} {who = who} tag outcome says (heads (is_get c are)) ran is = ge
 plan_304 {p = p} {given} {who} tag outcome says (puts (is_put h are)) ran is = absurd (other_status outcome (ran_ends (ends_put Put h (names p) who (bytes_of_body given) refl) ran) is)
 plan_304 {p = p} {given} {who} tag outcome says (patches (is_put h are)) ran is = absurd (other_status outcome (ran_ends (ends_put Patch h (names p) who (bytes_of_body given) refl) ran) is)
 plan_304 {p = p} {who = who} tag outcome says (makes (is_mkcol c are)) ran is = absurd (other_status outcome (ran_ends (ends_mkcol c p who) ran) is)
+plan_304 {p = p} {who = who} tag outcome says (deletes (is_delete h are)) ran is = absurd (other_status outcome (ran_ends (ends_delete h p who) ran) is)
 plan_304 tag outcome says (not_yet out) ran is = failed_status {e = dav.Status 501} (λ same. absurd (omega (arith, same))) ran is
 
 pub one_value : {A : Type 0} {a b : A} → ◌≡◌ {A = Result A DavError} (Ok a) (Ok b) → a ≡ b

@@ -1,5 +1,6 @@
 -- Which statuses plans result in: 304 is that of the conditions of GET and HEAD alone.
-use Rattle.std.proofs.Common.{◌≡◌, ◌≢◌, ◌⊎◌, inl, inr, ℕ, ◌==◌, ◌||◌, Bool, true, false, true≢false, not, if◌then◌else◌, nat_lt, length, List, [], ◌∷◌, Option, Some, None, Result, Ok, Err, refl, arith, ◌-◌, ◌+◌}
+use Rattle.std.proofs.Common.{◌≡◌, ◌≢◌, ◌⊎◌, inl, inr, ℕ, ◌==◌, ◌||◌, Bool, true, false, true≢false, not, if◌then◌else◌, nat_lt, length, List, [], ◌∷◌, All, Option, Some, None, Result, Ok, Err, refl, arith, ◌-◌, ◌+◌}
+use Rattle.std.proofs.lemmas.List.Elements.{All-head}
 use Rattle.std.specs.Bool.{⊤}
 use Rattle.std.specs.Option.{unwrap_or}
 use Rattle.std.specs.Result.{result_ok}
@@ -9,13 +10,15 @@ use Rattle.dav_core.specs.declared.errors.DavError.{DavError}
 use Rattle.dav_core.specs.declared.errors.DavError.TheVariants as dav
 use Rattle.dav_core.specs.declared.fs.DavMetaData.{DavMetaData}
 use Rattle.dav_core.specs.declared.method.DavMethod.{DavMethod}
-use Rattle.dav_core.specs.declared.method.DavMethod.TheVariants.{Head, Patch, MkCol}
+use Rattle.dav_core.specs.declared.method.DavMethod.TheVariants.{Head, Patch, MkCol, Delete}
 use Rattle.dav_core.specs.Asking.{Call, Answer, StoreState, Asks, Write}
 use Rattle.dav_core.specs.Handle.{Handle, Opening}
-use Rattle.dav_core.specs.Locks.{Requester}
+use Rattle.dav_core.specs.Locks.{Lock, Requester, deleted}
 use Rattle.dav_core.specs.Numbers.{max_u64}
-use Rattle.dav_core.specs.Path.{Path, PathText, names}
+use Rattle.dav_core.specs.Path.{Path, PathText, names, are_equal}
 use Rattle.dav_core.specs.Status.{dav_status, fs_status}
+use Rattle.dav_headers.specs.declared.depth.Depth.{Depth}
+use Rattle.dav_headers.specs.declared.depth.Depth.TheVariants.{Default, Zero, One, Infinity}
 use Rattle.dav_headers.specs.ETagList.{TagList}
 use Rattle.dav_headers.specs.If.{Item, state_token, entity_tag, Condition}
 use Rattle.dav_headers.specs.declared.range.XUpdateRange.{XUpdateRange}
@@ -25,11 +28,16 @@ use Rattle.dav_engine.specs.declared.put_headers.Bounds.TheVariants.{Unread, Who
 use Rattle.dav_engine.specs.declared.put_headers.Writing.{Writing}
 use Rattle.dav_engine.specs.Client.{Client, requester}
 use Rattle.dav_engine.specs.Conditions.{Conditions, Addressed, is_reading, matches_found, item_holds, while_true, while_false, all_hold, some_holds, if_holds, http_conditions, if_match, unless, status_as, guarded}
-use Rattle.dav_engine.specs.Method.{MethodPlan, then as followed_by, ◌>>=◌, gives, require, require_free, refused_as, ask_for}
+use Rattle.dav_engine.specs.Method.{MethodPlan, then as followed_by, ◌>>=◌, gives, require, require_free, refused_as, ask_for, set_by}
+use Rattle.dav_engine.specs.Delete.{DeleteHeaders, whole_depth, delete_allowed, drop_if_gone, delete_reply, delete_found, delete}
+use Rattle.dav_engine.specs.Folder.{closed as folder_path}
 use Rattle.dav_engine.specs.Mkcol.{mkcol, create_error}
-use Rattle.dav_engine.specs.Plan.{Done, Ask, Look, Locks, Ran, ran_done, ran_ask, ran_look}
+use Rattle.dav_engine.specs.Multistatus.{PathStatus, status_reply, multistatus_reply}
+use Rattle.dav_engine.specs.Plan.{Done, Ask, Look, Keep, Locks, Ran, ran_done, ran_ask, ran_look, ran_keep}
 use Rattle.dav_engine.specs.Put.{PutHeaders, from_end, update_from, update_at, updates, written_by, placed, bounded, bounded_by, writing_of, open_error, put_opening, sought, written, is_announced, unsatisfiable, spans, store, put_allowed, put_body}
+use Rattle.dav_engine.specs.Removal.{Fault, report_of}
 use Rattle.dav_engine.specs.Response.{Response, reply_to}
+use Rattle.dav_engine.proofs.Theorems.{Gives, gives_done, gives_ask, gives_look, gives_keep, gives_removal}
 use Rattle.dav_server.specs.Get.{show, show_or_tell}
 
 -- ---- the outcomes of plans
@@ -44,12 +52,14 @@ pub data Ends (E : DavError → Type 0) {A : Type 0} (P : A → Type 0) : Method
   ends_done : {r : Result A DavError} → Outcome E P r → Ends E P (Done r)
   ends_ask : {c : Call} {go : Result (Answer c) FsError → MethodPlan A} → ((answer : Result (Answer c) FsError) → Ends E P (go answer)) → Ends E P (Ask c go)
   ends_look : {go : Locks → MethodPlan A} → ((ls : Locks) → Ends E P (go ls)) → Ends E P (Look go)
+  ends_keep : {locks : List Lock} {rest : MethodPlan A} → Ends E P rest → Ends E P (Keep locks rest)
 
 pub ran_ends : {E : DavError → Type 0} {A : Type 0} {P : A → Type 0} {plan : MethodPlan A} {old new : StoreState} {ls ms : Locks} {outcome : Result A DavError}
     → Ends E P plan → Ran Asks plan old ls outcome new ms → Outcome E P outcome
 ran_ends (ends_done is) ran_done = is
 ran_ends (ends_ask more) (ran_ask {answer = answer} one rest) = ran_ends (more answer) rest
 ran_ends (ends_look more) (ran_look {ls = ls} rest) = ran_ends (more ls) rest
+ran_ends (ends_keep more) (ran_keep rest) = ran_ends more rest
 
 pub ends_then : {E : DavError → Type 0} {A B : Type 0} {P : A → Type 0} {Q : B → Type 0} (r : Result A DavError) (f : A → MethodPlan B) → Outcome E P r → ((a : A) → P a → Ends E Q (f a)) → Ends E Q (followed_by r f)
 ends_then (Ok a) f is more = more a is
@@ -59,6 +69,7 @@ pub ends_bind : {E : DavError → Type 0} {A B : Type 0} {P : A → Type 0} {Q :
 ends_bind f (ends_done {r = r} is) more = ends_then r f is more
 ends_bind f (ends_ask rest) more = ends_ask (λ answer. ends_bind f (rest answer) more)
 ends_bind f (ends_look rest) more = ends_look (λ ls. ends_bind f (rest ls) more)
+ends_bind f (ends_keep rest) more = ends_keep (ends_bind f rest more)
 
 -- any value
 abbrev pub Any : {A : Type 0} → A → Type 0
@@ -306,6 +317,64 @@ ends_mkcol c p who =
     ends_bind _ (ends_guarded dav.Status MkCol c (result_ok answer) (λ status other. other) refl) (λ tokens any.
     ends_free false (requester who tokens) (names p) (dav.Status 423) (λ same. absurd (omega (arith, same)))))) (λ allowed any.
     ends_ask (λ answer. ends_then (refused_as create_error answer) _ (asked_other create_error create_other answer) (λ done any. ends_done (λ same. absurd (omega (arith, same))))))
+
+-- ---- DELETE
+
+-- a plan that no error ends
+gives_ends : {E : DavError → Type 0} {A : Type 0} {P : A → Type 0} {plan : MethodPlan A} → Gives P plan → Ends E P plan
+gives_ends (gives_done is) = ends_done is
+gives_ends (gives_ask more) = ends_ask (λ answer. gives_ends (more answer))
+gives_ends (gives_look more) = ends_look (λ ls. gives_ends (more ls))
+gives_ends (gives_keep more) = ends_keep (gives_ends more)
+
+-- the reply to a DELETE has one of these statuses, where those of refusals and of its own are such
+module _ (E : DavError → Type 0) (P : ℕ → Type 0) (refusal : (e : FsError) → P (fs_status e)) (conflict : P 409) (gone : P 204) (several : P 207) where
+  abbrev AnswersBy : Response → Type 0
+  AnswersBy r = P r.status
+
+  one_status : (b : Bool) (item : PathStatus) → P item.1 → P (if b then status_reply item.1 else multistatus_reply (item ∷ [])).status
+  one_status true item is = is
+  one_status false item is = several
+
+  reported_status : (p : PathText) (faults : List Fault) → All (λ f. P (report_of f).1) faults → Outcome E AnswersBy (delete_reply p faults)
+  reported_status p [] are = gone
+  reported_status p (f ∷ []) are = one_status (are_equal (report_of f).0 p) (report_of f) (All-head (λ f. P (report_of f).1) f [] are)
+  reported_status p (f ∷ g ∷ faults) are = several
+
+  ends_set : (p : PathText) (ls : Locks) → Ends E Any (set_by (deleted (names p)) ls)
+  ends_set p None = ends_done tt
+  ends_set p (Some ls) = ends_keep (ends_done tt)
+
+  ends_dropped : (p : PathText) (faults : List Fault) → Ends E Any (drop_if_gone p faults)
+  ends_dropped p [] = ends_look (λ ls. ends_set p ls)
+  ends_dropped p (f ∷ faults) = ends_done tt
+
+  ends_delete_found : (deep : Bool) (c : Conditions) (p : PathText) (who : Client) (found : DavMetaData) → Ends E Any (delete_allowed c p who found) → Ends E AnswersBy (delete_found deep c p who found)
+  ends_delete_found deep c p who found allowed =
+      ends_bind _ allowed (λ u any.
+      ends_bind _ (gives_ends (gives_removal P refusal conflict deep who.moment p found.dir)) (λ faults are.
+      ends_bind _ (ends_dropped p faults) (λ u any. ends_done (reported_status p faults are))))
+
+  pub ends_deleting : (h : DeleteHeaders) (p : PathText) (who : Client) → Outcome E Any (whole_depth h.depth) → ((answer : Result DavMetaData FsError) → Outcome E Any (refused_as dav.FsError answer))
+      → ((q : PathText) (found : DavMetaData) → Ends E Any (delete_allowed h.conditions q who found)) → Ends E AnswersBy (delete h p who)
+  ends_deleting h p who depth store allowed =
+      ends_then (whole_depth h.depth) _ depth (λ deep any.
+      ends_ask (λ answer. ends_then (refused_as dav.FsError answer) _ (store answer) (λ found any.
+      ends_delete_found deep h.conditions (folder_path found.dir p) who found (allowed (folder_path found.dir p) found))))
+
+depth_other : (depth : Option Depth) → Outcome IsOther Any (whole_depth depth)
+depth_other None = tt
+depth_other (Some Default) = tt
+depth_other (Some Zero) = tt
+depth_other (Some One) = λ same. absurd (omega (arith, same))
+depth_other (Some Infinity) = tt
+
+pub ends_delete : (h : DeleteHeaders) (p : PathText) (who : Client) → Ends IsOther AnswersOther (delete h p who)
+ends_delete h p who =
+    ends_deleting IsOther IsOtherStatus fs_other (λ same. absurd (omega (arith, same))) (λ same. absurd (omega (arith, same))) (λ same. absurd (omega (arith, same)))
+    h p who (depth_other h.depth) store_other (λ q found.
+    ends_bind _ (ends_guarded dav.Status Delete h.conditions (Some found) (λ status other. other) refl) (λ tokens any.
+    ends_free true (requester who tokens) (names q) (dav.Status 423) (λ same. absurd (omega (arith, same)))))
 
 -- ---- GET and HEAD, where the conditions hold
 

@@ -6,7 +6,8 @@ use Rattle.dav_core.specs.declared.errors.DavError.{DavError}
 use Rattle.dav_core.specs.declared.errors.DavError.TheVariants as dav
 use Rattle.dav_core.specs.declared.method.DavMethod.{DavMethod}
 use Rattle.dav_core.specs.declared.method.DavMethod.TheVariants.{Get, Head, Put, Patch}
-use Rattle.dav_core.specs.Asking.{Open, CreateDir, Write, meaning, StoreState, Asks as Asking}
+use Rattle.std.specs.Bool.{⊤}
+use Rattle.dav_core.specs.Asking.{Call, Open, CreateDir, Write, meaning, StoreState, Asks as Asking}
 use Rattle.dav_core.specs.Handle.{Handle, Opening}
 use Rattle.dav_core.specs.Path.{Path, PathText, names}
 use Rattle.dav_core.specs.Status.{dav_status, fs_status}
@@ -17,18 +18,19 @@ use Rattle.dav_engine.specs.Client.{Client}
 use Rattle.dav_engine.specs.Conditions.{Conditions}
 use Rattle.dav_engine.specs.Headers.{Headers}
 use Rattle.dav_engine.specs.Method.{MethodPlan, then as followed_by, ◌>>=◌, gives, ask_for, ask_or, refused_as}
+use Rattle.dav_engine.specs.Delete.{DeleteHeaders, whole_depth, delete, is_delete}
 use Rattle.dav_engine.specs.Mkcol.{mkcol_allowed, create_error, made, is_mkcol}
 use Rattle.dav_engine.specs.Plan.{Locks, Ran, ran_ask}
 use Rattle.dav_engine.specs.Put.{PutHeaders, put_opening, open_error, unsatisfiable, sought, written, store, put_allowed, put_body, bytes_of_body, is_put}
 use Rattle.dav_engine.specs.Response.{Response, reply_to}
 use Rattle.dav_engine.specs.WorldLaws.{reads_done}
-use Rattle.dav_engine.proofs.Theorems.{Did, stays, means, did, look_reads, only_put_allowed, only_mkcol_allowed, only_reads, reading_leaves, ran_split}
+use Rattle.dav_engine.proofs.Theorems.{Did, stays, means, did, look_reads, only_put_allowed, only_mkcol_allowed, only_delete_allowed, Only, only_done, only_ask, only_look, only_reads, reading_leaves, ran_split, refused_delete_leaves_all}
 use Rattle.dav_server.specs.Get.{is_get}
 use Rattle.dav_server.specs.Head.{Request}
-use Rattle.dav_server.specs.Machine.{Settings, Asked, PlanOf, gets, heads, puts, patches, makes, not_yet, MeansOf, not_allowed, no_path, no_body, method, no_head, no_method, known, steps}
+use Rattle.dav_server.specs.Machine.{Settings, Asked, PlanOf, gets, heads, puts, patches, makes, deletes, not_yet, MeansOf, not_allowed, no_path, no_body, method, no_head, no_method, known, steps}
 use Rattle.dav_server.specs.WriteLaws.{IsRefusedStatus, RefusedLeaves}
 use Rattle.dav_server.proofs.GetWorld.{get_is_reading}
-use Rattle.dav_server.proofs.PlanStatuses.{Outcome, Any, Ends, ends_done, ends_ask, ends_then, ends_bind, ends_either, ran_ends}
+use Rattle.dav_server.proofs.PlanStatuses.{Outcome, Any, Ends, ends_done, ends_ask, ends_look, ends_then, ends_bind, ends_either, ends_deleting, ran_ends}
 
 -- ---- statuses that come after a change
 
@@ -137,6 +139,30 @@ mkcol_leaves c p who (Ok allowed) outcome refused first (ran_ask {old = old} {mi
     (λ done. ends_done (λ same. absurd (omega (arith, same)), λ same. absurd (omega (arith, same)))) (did one) refused rest in
     (same ∙ world, kept ∙ locks)
 
+-- ---- DELETE
+
+any_outcome : {A : Type 0} (r : Result A DavError) → Outcome (λ e. ⊤) Any r
+any_outcome (Ok a) = tt
+any_outcome (Err e) = tt
+
+only_ends : {P : Call → Type 0} {A : Type 0} {plan : MethodPlan A} → Only P plan → Ends (λ e. ⊤) Any plan
+only_ends (only_done {a = r}) = ends_done (any_outcome r)
+only_ends (only_ask is more) = ends_ask (λ answer. only_ends (more answer))
+only_ends (only_look more) = ends_look (λ ls. only_ends (more ls))
+
+-- no reply to a DELETE has such a status, but one that an error makes
+later_delete : (h : DeleteHeaders) (p : PathText) (who : Client) → Ends (λ e. ⊤) LaterReply (delete h p who)
+later_delete h p who =
+    ends_deleting (λ e. ⊤) Later later_fs (λ same. absurd (omega (arith, same)), λ same. absurd (omega (arith, same)))
+    (λ same. absurd (omega (arith, same)), λ same. absurd (omega (arith, same))) (λ same. absurd (omega (arith, same)), λ same. absurd (omega (arith, same)))
+    h p who (any_outcome (whole_depth h.depth)) (λ answer. any_outcome (refused_as dav.FsError answer)) (λ q found. only_ends (only_delete_allowed h.conditions q who found))
+
+delete_leaves : (h : DeleteHeaders) (p : PathText) (who : Client) (outcome : Result Response DavError) {old new : StoreState} {ls ms : Locks}
+    → IsRefusedStatus (reply_to outcome).status → Ran Asking (delete h p who) old ls outcome new ms → Same old ls new ms
+delete_leaves h p who (Ok r) (inl is) ran = absurd ((ran_ends (later_delete h p who) ran).0 is)
+delete_leaves h p who (Ok r) (inr is) ran = absurd ((ran_ends (later_delete h p who) ran).1 is)
+delete_leaves h p who (Err e) {old} {new} {ls} {ms} refused ran = refused_delete_leaves_all h p who old new ls ms e ran
+
 -- ---- a step
 
 plan_leaves : {allowed : ℕ} {headers : Headers} {p : PathText} {given : Body} {who : Client} {m : DavMethod} {plan : MethodPlan Response} (outcome : Result Response DavError) {old new : StoreState} {ls ms : Locks}
@@ -148,6 +174,7 @@ plan_leaves {p = p} {given} {who} outcome refused (patches (is_put h are)) ran =
 plan_leaves {p = p} {who = who} outcome refused (makes (is_mkcol c are)) ran =
     let parts = ran_split (mkcol_allowed c p who) _ ran in
     mkcol_leaves c p who parts.outcome outcome refused parts.first parts.rest
+plan_leaves {p = p} {who = who} outcome refused (deletes (is_delete h are)) ran = delete_leaves h p who outcome refused ran
 plan_leaves outcome refused (not_yet out) ran = reading_leaves reads_done ran
 
 of_leaves : {s : Settings} {x : Asked} {r : Request} {m : DavMethod} {plan : MethodPlan Response} (outcome : Result Response DavError) {old new : StoreState} {ls ms : Locks}

@@ -1,5 +1,5 @@
 -- Requests that don't name a lock as its principal spare what it covers, and pass no exclusive lock.
-use Rattle.std.proofs.Common.{◌≡◌, ◌++◌, ◌≤◌, ℕ, Bool, true, false, List, [], ◌∷◌, codes, bytes_eq, Option, Some, None, refl, sym, ap, subst, ◌∙◌}
+use Rattle.std.proofs.Common.{◌≡◌, ◌≢◌, ◌++◌, ◌≤◌, ℕ, Bool, true, false, List, [], ◌∷◌, codes, bytes_eq, Option, Some, None, refl, sym, ap, subst, ◌∙◌}
 use Rattle.std.specs.List.{list_any, flat_map}
 use Rattle.std.proofs.lemmas.Bool.{and_parts}
 use Rattle.std.proofs.lemmas.Slice.Eq.{bytes_eq-Decides}
@@ -7,9 +7,9 @@ use Rattle.std.proofs.lemmas.Map.Views.{Contains-from_any}
 use Rattle.std.proofs.lemmas.List.Elements.{All-head}
 use Rattle.http_header.specs.HeaderMap.{get_all}
 use Rattle.dav_core.specs.declared.method.DavMethod.{DavMethod}
-use Rattle.dav_core.specs.declared.method.DavMethod.TheVariants.{Get, Head, Put, Patch}
+use Rattle.dav_core.specs.declared.method.DavMethod.TheVariants.{Get, Head, Put, Patch, Options}
 use Rattle.dav_core.specs.Locks.{Lock, covers, is_held, is_same_principal}
-use Rattle.dav_core.specs.Path.{Path, PathText, names}
+use Rattle.dav_core.specs.Path.{Path, PathText, names, star}
 use Rattle.dav_core.specs.World.{World, IsWorld, last_moment}
 use Rattle.dav_headers.specs.If.{ConditionList, tokens_in, tokens_of}
 use Rattle.dav_engine.specs.declared.request.Body.{Body}
@@ -23,11 +23,11 @@ use Rattle.dav_engine.specs.Plan.{Locks}
 use Rattle.dav_engine.specs.Response.{Response}
 use Rattle.dav_engine.specs.Sparing.{spares_err, Spared}
 use Rattle.dav_engine.specs.SparingPlans.{IsStranger, SparesBoth}
-use Rattle.dav_engine.proofs.Theorems.{sparing_leaves_covered, sparing_leaves_covered_cut, reading_spares, put_spares, mkcol_spares}
+use Rattle.dav_engine.proofs.Theorems.{sparing_leaves_covered, sparing_leaves_covered_cut, reading_spares, put_spares, mkcol_spares, delete_spares}
 use Rattle.dav_server.specs.Get.{get, is_get}
 use Rattle.dav_server.specs.Head.{Request, IsHead}
 use Rattle.dav_server.specs.Headers.{headers_of}
-use Rattle.dav_server.specs.Machine.{Settings, Asked, client, PlanOf, gets, heads, puts, patches, makes, not_yet, MeansOf, not_allowed, no_path, no_body, method, Means, no_head, no_method, known, StepCut, untouched, cut, steps}
+use Rattle.dav_server.specs.Machine.{Settings, Asked, client, PlanOf, gets, heads, puts, patches, makes, deletes, not_yet, MeansOf, not_allowed, no_path, no_body, method, Means, no_head, no_method, known, StepCut, untouched, cut, steps}
 use Rattle.dav_server.specs.Naming.{NamesLock, by_if}
 use Rattle.dav_server.specs.Passing.{NoLockIsPassed, NoLockIsPassedCut, PassesNoLock}
 use Rattle.dav_server.specs.Run.{Turn, begun}
@@ -35,6 +35,7 @@ use Rattle.dav_server.specs.Server.{Server}
 use Rattle.dav_server.specs.TagLaws.{AreShowable}
 use Rattle.dav_server.proofs.GetWorld.{get_is_reading}
 use Rattle.dav_server.proofs.MeansWorld.{means_proper, begun_world, run_keeps, all_front, all_back}
+use Rattle.dav_server.proofs.TargetLemmas.{target_is_path}
 
 -- the tokens that conditions submit are those of the header
 tokens_alike : (prefix : List ℕ) (own : Path) (ls : List ConditionList) (lists : List Addressed) → AreAddressed prefix own ls lists → submitted (Some lists) ≡ tokens_of ls
@@ -70,19 +71,20 @@ module _ (h : Lock) (x : Asked) (r : Request) (head : IsHead x.head r) where
 -- ---- plans of strangers
 
 module _ (h : Lock) (exclusive : h.shared ≡ false) (x : Asked) (other : ¬ NamesLock h x) where
-  plan_spares : (r : Request) → IsHead x.head r → {allowed : ℕ} {p : PathText} {body : Body} {m : DavMethod} {plan : MethodPlan Response} → PlanOf allowed (headers_of r.fields) p body (client x) m plan → SparesBoth h plan
-  plan_spares r head {p = p} (gets (is_get c are)) = reading_spares h (get Get c (names p) (client x).moment) (get_is_reading Get c (names p) (client x).moment)
-  plan_spares r head {p = p} (heads (is_get c are)) = reading_spares h (get Head c (names p) (client x).moment) (get_is_reading Head c (names p) (client x).moment)
-  plan_spares r head {p} {body} {plan = plan} (puts is) = put_spares h Put (headers_of r.fields) p body (client x) plan exclusive (is_stranger h x r head p other) is
-  plan_spares r head {p} {body} {plan = plan} (patches is) = put_spares h Patch (headers_of r.fields) p body (client x) plan exclusive (is_stranger h x r head p other) is
-  plan_spares r head {p = p} {plan = plan} (makes is) = mkcol_spares h (headers_of r.fields) p (client x) plan exclusive (is_stranger h x r head p other) is
-  plan_spares r head (not_yet out) = (spares_err, spares_err)
+  plan_spares : (r : Request) → IsHead x.head r → {allowed : ℕ} {p : PathText} {body : Body} {m : DavMethod} {plan : MethodPlan Response} → (m ≢ Options → p.bytes ≢ star) → PlanOf allowed (headers_of r.fields) p body (client x) m plan → SparesBoth h plan
+  plan_spares r head {p = p} below (gets (is_get c are)) = reading_spares h (get Get c (names p) (client x).moment) (get_is_reading Get c (names p) (client x).moment)
+  plan_spares r head {p = p} below (heads (is_get c are)) = reading_spares h (get Head c (names p) (client x).moment) (get_is_reading Head c (names p) (client x).moment)
+  plan_spares r head {p} {body} {plan = plan} below (puts is) = put_spares h Put (headers_of r.fields) p body (client x) plan exclusive (is_stranger h x r head p other) is
+  plan_spares r head {p} {body} {plan = plan} below (patches is) = put_spares h Patch (headers_of r.fields) p body (client x) plan exclusive (is_stranger h x r head p other) is
+  plan_spares r head {p = p} {plan = plan} below (makes is) = mkcol_spares h (headers_of r.fields) p (client x) plan exclusive (is_stranger h x r head p other) is
+  plan_spares r head {p = p} {plan = plan} below (deletes is) = delete_spares h (headers_of r.fields) p (client x) plan exclusive (below (λ e. cc)) (is_stranger h x r head p other) is
+  plan_spares r head below (not_yet out) = (spares_err, spares_err)
 
   of_spares : (r : Request) → IsHead x.head r → {s : Settings} {m : DavMethod} {plan : MethodPlan Response} → MeansOf s x r m plan → SparesBoth h plan
   of_spares r head (not_allowed out) = (spares_err, spares_err)
   of_spares r head (no_path e has none) = (spares_err, spares_err)
   of_spares r head (no_body p e has named bad) = (spares_err, spares_err)
-  of_spares r head (method p body has named good plan) = plan_spares r head plan
+  of_spares r head (method p body has named good plan) = plan_spares r head (target_is_path named) plan
 
   pub means_spares : {s : Settings} {plan : MethodPlan Response} → Means s x plan → SparesBoth h plan
   means_spares (no_head out) = (spares_err, spares_err)

@@ -1,14 +1,15 @@
 -- Targets: the text that is to name a path, and what it results in.
-use Rattle.std.proofs.Common.{rules, arith, length, ◌∷◌, ◌≡◌, ◌≢◌, ◌⊎◌, ℕ, List, [], Contains, Option, Some, None, Result, Ok, Err, ◌||◌, not, is_some, if◌then◌else◌, refl, sym, ap, ap₂, subst, ◌∙◌, inl, inr}
+use Rattle.std.proofs.Common.{rules, arith, length, ◌∷◌, ◌≡◌, ◌≢◌, ◌⊎◌, ℕ, zero, suc, Bool, IsTrue, take, slice_index, List, [], Contains, Option, Some, None, Result, Ok, Err, ◌||◌, not, is_some, if◌then◌else◌, refl, sym, ap, ap₂, subst, ◌∙◌, inl, inr}
 use Rattle.http_uri.specs.declared.uri.Uri.{Uri}
-use Rattle.http_uri.specs.Grammar.{IsUriText, or_slash}
+use Rattle.http_uri.specs.Grammar.{IsUriText, IsTail, without_fragment, or_slash}
+use Rattle.http_uri.specs.ByteClasses.{is_delimiter, index_of, hash_sign}
 use Rattle.http_uri.specs.Uri.{Spells, SpellsNone, uri_scheme, uri_authority, uri_data, uri_path_and_query}
 use Rattle.http_uri.proofs.Theorems.{Spells_unique}
 use Rattle.dav_core.specs.declared.errors.DavError.{DavError}
 use Rattle.dav_core.specs.declared.errors.DavError.TheVariants as dav
 use Rattle.dav_core.specs.declared.method.DavMethod.{DavMethod}
 use Rattle.dav_core.specs.declared.method.DavMethod.TheVariants.{Options}
-use Rattle.dav_core.specs.Path.{star, PathText, full_bytes, IsCut, HasNoCut, without_slash}
+use Rattle.dav_core.specs.Path.{Path, star, PathText, path_bytes, full_bytes, IsCut, at_start, at_slash, at_end, HasNoCut, without_slash}
 use Rattle.dav_core.specs.declared.errors.ParseError.TheVariants as parse
 use Rattle.dav_core.specs.Target.{Reads, IsRefused}
 use Rattle.dav_core.proofs.Theorems.{one_cut, Reads-one, Reads-valid, Reads-allowed, refused_once}
@@ -198,3 +199,42 @@ one_outcome prefix method target _ b (outside {text} {bytes} has reads cut) also
     cut_once (without_slash prefix) bytes (Err dav.IllegalPath) b (refl, cut) (when_read prefix method target text bytes b has reads also)
 one_outcome prefix method target _ b (path {text} {bytes} {p} has reads cut) also =
     cut_once (without_slash prefix) bytes (Ok p) b cut (when_read prefix method target text bytes b has reads also)
+
+-- ---- only OPTIONS is for the server itself
+
+slash_no_star : (rest : List ℕ) → 47 ∷ rest ≢ star
+slash_no_star rest e = let same : ◌≡◌ {A = ℕ} 47 42 = cc in absurd (omega (arith, same))
+
+path_no_star : (ns : Path) (closed : Bool) → path_bytes ns closed ≢ star
+path_no_star [] closed e = slash_no_star [] e
+path_no_star (n ∷ ns) closed e = slash_no_star _ e
+
+-- a first byte that ends an authority isn't `*`
+front_no_star : (k : ℕ) (tail : List ℕ) → IsTrue (is_delimiter (slice_index tail 0)) → or_slash (take k tail) ≢ star
+front_no_star zero tail delimits e = slash_no_star [] e
+front_no_star (suc k) [] delimits e = slash_no_star [] e
+front_no_star (suc k) (b ∷ tail) delimits e = grind (rules, arith, delimits, e)
+
+-- what follows an authority isn't `*`
+tail_no_star : (tail behind : List ℕ) → IsTail tail behind → or_slash behind ≢ star
+tail_no_star tail behind (inl (empty, is)) e = slash_no_star [] (ap or_slash (sym is) ∙ e)
+tail_no_star tail behind (inr (delimits, input, is)) e = front_no_star (index_of hash_sign tail) tail delimits (ap or_slash (sym is) ∙ e)
+
+text_no_star : (target text : List ℕ) → HasPathText target text → text ≢ star
+text_no_star target text (inl ((rest, slash), is)) e = slash_no_star rest (sym slash ∙ sym is ∙ e)
+text_no_star target text (inr (bare, (clean, scheme, authority, behind, form, is))) e = tail_no_star form.1.tail behind form.1.is_tail (sym is ∙ e)
+
+-- what is left of a path behind a prefix is a path
+cut_no_star : (prefix : List ℕ) (ns : Path) (closed : Bool) (p : PathText) → IsCut prefix (path_bytes ns closed) p → p.bytes ≢ star
+cut_no_star prefix ns closed p (at_start empty is) e = path_no_star ns closed (sym (ap (λ (q : PathText). q.bytes) is) ∙ e)
+cut_no_star prefix ns closed p (at_slash {rest} whole is) e = slash_no_star rest (sym (ap (λ (q : PathText). q.bytes) is) ∙ e)
+cut_no_star prefix ns closed p (at_end some whole is) e = slash_no_star [] (sym (ap (λ (q : PathText). q.bytes) is) ∙ e)
+
+read_no_star : (prefix text bytes : List ℕ) (p : PathText) → text ≢ star → Reads text bytes → IsCut prefix bytes p → p.bytes ≢ star
+read_no_star prefix text bytes p other (inl (is, star_is)) cut = absurd (other is)
+read_no_star prefix text bytes p other (inr (ns, closed, named, is)) cut = cut_no_star prefix ns closed p (subst (λ (b : List ℕ). IsCut prefix b p) is cut)
+
+-- the target of any other method names a path
+pub target_is_path : {prefix target : List ℕ} {m : DavMethod} {p : PathText} → TargetNames prefix m target (Ok p) → m ≢ Options → p.bytes ≢ star
+target_is_path (server is options) other = absurd (other options)
+target_is_path {prefix} {target} (path {text} {bytes} {p} has reads cut) other = read_no_star (without_slash prefix) text bytes p (text_no_star target text has) reads cut

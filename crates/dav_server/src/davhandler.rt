@@ -1,11 +1,12 @@
 //! The handler: from a request to its reply (RFC 9110; RFC 4918).
 ghost use Rattle.std.specs.Prelude.{◌≡◌, ◌≢◌, ◌≤◌, ◌↔◌, ◌⊎◌, [], IsTrue, Ok, IfOk, OnOk, OnErr};
 ghost use Rattle.dav_core.specs.Method.{Has};
+ghost use Rattle.dav_core.specs.Path.{star};
 ghost use Rattle.std.specs.Option.{option_map, option_copied};
 ghost use Rattle.dav_core.specs.declared.errors.DavError.TheVariants.{Memory};
 ghost use Rattle.dav_engine.specs.Follows.{Serves};
 ghost use Rattle.dav_core.specs.World.{last_moment};
-ghost use Rattle.dav_engine.specs.AtWork.{MkcolOf, PutOf};
+ghost use Rattle.dav_engine.specs.AtWork.{MkcolOf, DeleteOf, PutOf};
 ghost use Rattle.dav_engine.specs.ConditionView.{locks_in};
 ghost use Rattle.dav_server.specs.Get.{GetOf};
 ghost use Rattle.dav_engine.specs.Response.{error_reply};
@@ -211,7 +212,7 @@ macro_rules! inner {
     };
 }
 
-// Hands a request to its method.
+// Hands a request to its method. Only OPTIONS is for the server itself.
 fn serve<F: DavFileSystem, L: DavLockSystem>(
     handler: &mut DavHandler<F, L>,
     alloc: Global,
@@ -219,6 +220,7 @@ fn serve<F: DavFileSystem, L: DavLockSystem>(
     body: &Body,
     exchange: &Exchange<'_>,
 ) -> DavResult<Reply>
+    requires path { request.now.method ≢ DavMethod.Options → request.now.path.bytes ≢ star }
     ensures same { handler.new.server.settings ≡ handler.old.server.settings }
     ensures serves { Serves (PlanOf handler.old.server.settings.allowed request.now.headers
         request.now.path body.now (client exchange.now) request.now.method)
@@ -232,6 +234,7 @@ fn serve<F: DavFileSystem, L: DavLockSystem>(
         DavMethod::Put => inner!(handler, caller).handle_put(alloc, request, body),
         DavMethod::Patch => inner!(handler, caller).handle_put(alloc, request, body),
         DavMethod::MkCol => inner!(handler, caller).handle_mkcol(alloc, request, body),
+        DavMethod::Delete => inner!(handler, caller).handle_delete(alloc, request, body),
         _ => Err(DavError::Status(StatusCode::NOT_IMPLEMENTED)),
     }
 }
