@@ -1,7 +1,7 @@
 -- Targets: the text that is to name a path, and what it results in.
 use Rattle.std.proofs.Common.{rules, arith, length, ◌∷◌, ◌≡◌, ◌≢◌, ◌⊎◌, ℕ, zero, suc, Bool, IsTrue, take, slice_index, List, [], Contains, Option, Some, None, Result, Ok, Err, ◌||◌, not, is_some, if◌then◌else◌, refl, sym, ap, ap₂, subst, ◌∙◌, inl, inr}
 use Rattle.http_uri.specs.declared.uri.Uri.{Uri}
-use Rattle.http_uri.specs.Grammar.{IsUriText, IsTail, without_fragment, or_slash}
+use Rattle.http_uri.specs.Grammar.{IsUriText, IsTail, or_slash}
 use Rattle.http_uri.specs.ByteClasses.{is_delimiter, index_of, hash_sign}
 use Rattle.http_uri.specs.Uri.{Spells, SpellsNone, uri_scheme, uri_authority, uri_data, uri_path_and_query}
 use Rattle.http_uri.proofs.Theorems.{Spells_unique}
