@@ -9,6 +9,8 @@ pub mod Folder
 pub mod Follows
 pub mod Headers
 pub mod Method
+pub mod LockToken
+pub mod LockTokenCode
 pub mod Mkcol
 pub mod Multistatus
 pub mod OnePlan
@@ -19,6 +21,7 @@ pub mod PutView
 pub mod Removal
 pub mod RemovalLaws
 pub mod Response
+pub mod Unlock
 pub mod WorldLaws
 pub mod StateCode
 pub mod CallerView

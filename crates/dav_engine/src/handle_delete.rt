@@ -10,7 +10,6 @@ ghost use Rattle.dav_engine.specs.AtWork.{KeepsLent, StaysLent, ServesFrom, Dele
 ghost use Rattle.dav_engine.specs.ConditionView.{locks_in};
 ghost use Rattle.dav_engine.specs.Delete.{delete_allowed, delete_found, deleting};
 ghost use Rattle.dav_engine.specs.Delete as spec;
-ghost use Rattle.dav_engine.specs.Folder.{closed};
 ghost use Rattle.dav_engine.specs.Follows.{as_is, Follows, Heeds};
 ghost use Rattle.dav_engine.specs.Headers.{Decodes};
 ghost use Rattle.dav_engine.specs.Removal.{removal};
@@ -19,6 +18,7 @@ ghost use Rattle.dav_engine.specs.Walked.{Removes, goes_below};
 use crate::check::is_open;
 use crate::conditional::Conditions;
 use crate::davinner::{Caller, DavInner};
+use crate::folder::closed;
 use crate::headers::{absent_if_invalid, values_of};
 use crate::multierror::{MultiError, multi_error, status_reply};
 use crate::removal::removal;
@@ -89,15 +89,6 @@ fn allowed<F: DavFileSystem, L: DavLockSystem>(
     } else {
         Err(DavError::Status(StatusCode::LOCKED))
     }
-}
-
-// The path with a slash at its end, where that is wanted.
-fn closed(path: &DavPath, wanted: bool) -> Result<DavPath, NoMemory>
-    ensures { IfOk result (λ p. p ≡ closed wanted path.now) }
-{
-    let mut path = path.clone()?;
-    path.add_slash_if(wanted)?;
-    Ok(path)
 }
 
 // Ends the locks at a path and below it, where there is a lock system.
