@@ -47,6 +47,8 @@ pub mod SparingDelete
 pub mod BesideLemmas
 pub mod AlongsideLaw
 pub mod AlongsidePlans
+pub mod LockListLemmas
+pub mod UnlockPlans
 pub mod NumberLemmas
 pub mod WrongPlans
 pub mod GrantLemmas

@@ -1,6 +1,6 @@
 -- A Lock-Token says one token at most, and what the code finds is it.
-use Rattle.std.proofs.Common.{◌≡◌, ◌≢◌, ◌++◌, inl, inr, ℕ, List, [], ◌∷◌, drop, get_or, All, codes, option_map, Option, Some, None, refl, sym, ap, subst, ◌∙◌, lit<}
-use Rattle.std.specs.Option.{MatchOption, IfSome, IfNone}
+use Rattle.std.proofs.Common.{◌≡◌, ◌≢◌, ◌++◌, inl, inr, ℕ, List, [], ◌∷◌, drop, get_or, All, codes, Option, Some, None, refl, sym, ap, subst, ◌∙◌}
+use Rattle.std.specs.Option.{MatchOption, IfNone}
 use denote.Ref.{Bor}
 use Rattle.std.proofs.lemmas.List.{append_assoc}
 use Rattle.std.proofs.lemmas.List.Elements.{All-nil, All-head, All-tail, All-cons, All-push}

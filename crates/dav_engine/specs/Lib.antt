@@ -22,6 +22,7 @@ pub mod Removal
 pub mod RemovalLaws
 pub mod Response
 pub mod Unlock
+pub mod UnlockLaws
 pub mod WorldLaws
 pub mod StateCode
 pub mod CallerView
