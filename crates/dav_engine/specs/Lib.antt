@@ -8,6 +8,8 @@ pub mod Delete
 pub mod Folder
 pub mod Follows
 pub mod Headers
+pub mod LockHeaders
+pub mod LockView
 pub mod Method
 pub mod Mkcol
 pub mod Multistatus

@@ -12,6 +12,7 @@ mod handle_mkcol;
 mod handle_put;
 pub mod headers;
 pub mod laws;
+mod lock_headers;
 pub mod multierror;
 mod put_headers;
 mod removal;
