@@ -9,6 +9,7 @@ pub mod Folder
 pub mod Follows
 pub mod Headers
 pub mod LockHeaders
+pub mod LockInfo
 pub mod LockView
 pub mod Method
 pub mod Mkcol

@@ -13,6 +13,7 @@ mod handle_put;
 pub mod headers;
 pub mod laws;
 mod lock_headers;
+mod lockinfo;
 pub mod multierror;
 mod put_headers;
 mod removal;
