@@ -10,6 +10,7 @@ pub mod Follows
 pub mod Headers
 pub mod LockHeaders
 pub mod LockInfo
+pub mod LockTree
 pub mod LockView
 pub mod Method
 pub mod Mkcol

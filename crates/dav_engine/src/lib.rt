@@ -14,6 +14,7 @@ pub mod headers;
 pub mod laws;
 mod lock_headers;
 mod lockinfo;
+pub mod locktree;
 pub mod multierror;
 mod put_headers;
 mod removal;
