@@ -9,7 +9,7 @@ use Rattle.dav_core.specs.Asking.{StoreState, Asks, meaning, ReadDir, EntryMetad
 use Rattle.dav_core.specs.CallLaws.{IsStorable}
 use Rattle.dav_core.specs.Path.{Path, PathText, IsName, IsSegment, names, star, is_at_or_under}
 use Rattle.dav_core.specs.Status.{fs_status}
-use Rattle.dav_core.specs.World.{World, Node, node_at, is_folder, is_missing, IsWorld}
+use Rattle.dav_core.specs.World.{World, Node, node_at, is_folder}
 use Rattle.dav_core.proofs.Theorems.{name_is_segment, found}
 use Rattle.dav_engine.specs.Folder.{child_of, room_at}
 use Rattle.dav_engine.specs.Plan.{Locks, Ran}

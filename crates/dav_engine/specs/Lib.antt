@@ -8,6 +8,10 @@ pub mod Delete
 pub mod Folder
 pub mod Follows
 pub mod Headers
+pub mod LockHeaders
+pub mod LockInfo
+pub mod LockTree
+pub mod LockView
 pub mod Method
 pub mod LockToken
 pub mod LockTokenCode

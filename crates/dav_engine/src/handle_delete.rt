@@ -35,15 +35,15 @@ use http_header::HeaderMap;
 use std::alloc::Global;
 
 // What the header Depth says.
-fn depth_in(alloc: Global, headers: &HeaderMap) -> Result<Option<Depth>, NoMemory>
+pub(crate) fn depth_in(alloc: Global, headers: &HeaderMap) -> Result<Option<Depth>, NoMemory>
     ensures { IfOk result (λ depth. Decodes IsDepth (get_all headers.now (codes "depth")) depth) }
 {
     let values = values_of(alloc, headers, names::DEPTH())?;
     absent_if_invalid(Depth::decode(alloc, &values))
 }
 
-// Whether everything below is removed too.
-fn whole_depth(depth: Option<Depth>) -> DavResult<bool>
+// Whether everything below goes too: it is removed, or locked.
+pub(crate) fn whole_depth(depth: Option<Depth>) -> DavResult<bool>
     ensures { result ≡ spec.whole_depth depth }
 {
     match depth {
