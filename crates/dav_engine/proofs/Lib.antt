@@ -4,6 +4,7 @@ pub mod Following
 pub mod PlanLemmas
 pub mod OnePlanLemmas
 pub mod HeaderLemmas
+pub mod LockTokenLemmas
 pub mod PutLemmas
 pub mod GuardLemmas
 pub mod PutGuardLemmas
@@ -28,6 +29,7 @@ pub mod RoomLemmas
 pub mod RemovalLemmas
 pub mod DeleteLemmas
 pub mod DeleteWorld
+pub mod UnlockLemmas
 pub mod RunLemmas
 pub mod FaultLemmas
 pub mod SurvivorLemmas
@@ -48,6 +50,8 @@ pub mod BesideLemmas
 pub mod AlongsideLaw
 pub mod AlongsidePlans
 pub mod AlongsideDelete
+pub mod LockListLemmas
+pub mod UnlockPlans
 pub mod NumberLemmas
 pub mod WrongPlans
 pub mod GrantLemmas

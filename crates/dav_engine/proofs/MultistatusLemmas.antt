@@ -1,33 +1,55 @@
--- How the tree of several statuses is built, one response after another.
+-- How trees are built, one child after another.
 use Rattle.std.proofs.Common.{◌≡◌, ℕ, ◌+◌, ◌-◌, ◌<◌, arith, List, [], ◌∷◌, ◌++◌, map, take, length, get_or, suc, codes, Some, None, refl, ap, sym, ◌∙◌}
+use Rattle.dav_core.specs.Locks.{Lock}
 use Rattle.dav_core.specs.Element.{ElementTree, element, tree_list, trees, with_child}
 use Rattle.std.specs.List.{last_or, slice_get}
 use Rattle.dav_core.specs.declared.errors.DavError.TheVariants.{Status}
 use Rattle.dav_headers.proofs.Theorems.{take_turn}
+use Rattle.dav_engine.specs.LockTree.{active_lock, lock_discovery}
 use Rattle.dav_engine.specs.Multistatus.{PathStatus, error_of, last_error, response_for, multistatus}
 
 list_of_trees : (ts : List ElementTree) → tree_list (trees ts) ≡ ts
 list_of_trees [] = refl
 list_of_trees (t ∷ ts) = ap (λ us. t ∷ us) (list_of_trees ts)
 
--- one response more
-response_added : (responses : List ElementTree) (response : ElementTree) → with_child (multistatus responses) response ≡ multistatus (responses ++ response ∷ [])
-response_added responses response =
-    ap (λ us. element (codes "multistatus") (Some (codes "D")) None ((codes "xmlns:D", codes "DAV:") ∷ []) (trees (us ++ response ∷ []))) (list_of_trees responses)
-
 one_mapped : {X Y : Type 0} (f : X → Y) (xs : List X) (x : X) → map f xs ++ f x ∷ [] ≡ map f (xs ++ x ∷ [])
 one_mapped f [] x = refl
 one_mapped f (y ∷ xs) x = ap (λ ys. f y ∷ ys) (one_mapped f xs x)
 
--- the turn of the loop over the items
+-- an element with a child for each item
+with_each : List ℕ → List (List ℕ × List ℕ) → List ElementTree → ElementTree
+with_each name attributes ts = element name (Some (codes "D")) None attributes (trees ts)
+
+-- one child more
+child_added : (name : List ℕ) (attributes : List (List ℕ × List ℕ)) (ts : List ElementTree) (t : ElementTree)
+    → with_child (with_each name attributes ts) t ≡ with_each name attributes (ts ++ t ∷ [])
+unfolding with_each
+child_added name attributes ts t = ap (λ us. element name (Some (codes "D")) None attributes (trees (us ++ t ∷ []))) (list_of_trees ts)
+
+-- the turn of a loop that adds a child for each item
+child_turn : {X : Type 0} (f : X → ElementTree) (name : List ℕ) (attributes : List (List ℕ × List ℕ))
+    (items : List X) (i : ℕ) (item : X) (old new child : ElementTree) → i < length items → item ≡ get_or items i item
+    → old ≡ with_each name attributes (map f (take i items)) → child ≡ f item → new ≡ with_child old child
+    → new ≡ with_each name attributes (map f (take (i + 1) items))
+child_turn f name attributes items i item old new child lt is so_far one added =
+    added ∙ ap (λ e. with_child e child) so_far ∙ child_added name attributes (map f (take i items)) child
+    ∙ ap (λ t. with_each name attributes (map f (take i items) ++ t ∷ [])) one
+    ∙ ap (with_each name attributes) (one_mapped f (take i items) item)
+    ∙ ap (λ l. with_each name attributes (map f l)) (sym (take_turn items i item lt is))
+
+-- the turn of the loop over the items of a multistatus
 pub response_turn : (items : List PathStatus) (i : ℕ) (item : PathStatus) (old new response : ElementTree) → i < length items → item ≡ get_or items i item
     → old ≡ multistatus (map response_for (take i items)) → response ≡ response_for item → new ≡ with_child old response
     → new ≡ multistatus (map response_for (take (i + 1) items))
+unfolding with_each
 response_turn items i item old new response lt is so_far one added =
-    added ∙ ap (λ e. with_child e response) so_far ∙ response_added (map response_for (take i items)) response
-    ∙ ap (λ r. multistatus (map response_for (take i items) ++ r ∷ [])) one
-    ∙ ap multistatus (one_mapped response_for (take i items) item)
-    ∙ ap (λ l. multistatus (map response_for l)) (sym (take_turn items i item lt is))
+    child_turn response_for (codes "multistatus") ((codes "xmlns:D", codes "DAV:") ∷ []) items i item old new response lt is so_far one added
+
+-- the turn of the loop over locks
+pub lock_turn : (ls : List Lock) (i : ℕ) (l : Lock) (old new child : ElementTree) → i < length ls → l ≡ get_or ls i l
+    → old ≡ lock_discovery (take i ls) → child ≡ active_lock l → new ≡ with_child old child → new ≡ lock_discovery (take (i + 1) ls)
+unfolding with_each
+lock_turn ls i l old new child lt is so_far one added = child_turn active_lock (codes "lockdiscovery") [] ls i l old new child lt is so_far one added
 
 -- ---- the last of the items
 

@@ -26,12 +26,15 @@ use Rattle.dav_engine.specs.Delete.{DeleteHeaders, AreDeleteHeaders, delete, IsD
 use Rattle.dav_engine.specs.Headers.{Headers, Decodes}
 use Rattle.dav_engine.specs.Method.{MethodPlan}
 use Rattle.dav_engine.specs.Mkcol.{mkcol, IsMkcol, is_mkcol}
-use Rattle.dav_engine.specs.OnePlan.{OneReadingOfConditions, OneReadingOfPut, OnePutPlan, OneMkcolPlan, OneDeletePlan}
+use Rattle.dav_engine.specs.LockToken.{SaysLockToken}
+use Rattle.dav_engine.specs.OnePlan.{OneReadingOfConditions, OneReadingOfPut, OnePutPlan, OneMkcolPlan, OneDeletePlan, OneUnlockPlan}
 use Rattle.dav_engine.specs.Put.{PutHeaders, IsPut, is_put, put_body, bytes_of_body, IsAnnounced, IsExpectedLength, TellsBounds}
 use Rattle.dav_engine.specs.Response.{Response}
+use Rattle.dav_engine.specs.Unlock.{unlock, IsUnlock, is_unlock}
+use Rattle.dav_engine.proofs.LockTokenLemmas.{one_lock_token}
 
 -- what a grammar reads in one way is decoded in one way
-decoded_one : {A : Type 0} (grammar : List FieldValue → A → Type 0) (values : List FieldValue) → ((a b : A) → grammar values a → grammar values b → a ≡ b)
+decoded_one : {V A : Type 0} (grammar : V → A → Type 0) (values : V) → ((a b : A) → grammar values a → grammar values b → a ≡ b)
     → (a b : Option A) → Decodes grammar values a → Decodes grammar values b → a ≡ b
 decoded_one grammar values one None None p q = refl
 decoded_one grammar values one None (Some b) p q = absurd (p b q)
@@ -154,3 +157,11 @@ same_delete {headers} {p} {who} (is_delete a h) (is_delete b k) = ap (λ (x : De
 
 pub one_delete_plan : OneDeletePlan
 one_delete_plan headers p who one other h k = same_delete h k
+
+-- ---- UNLOCK
+
+same_unlock : {headers : Headers} {p : PathText} {who : Client} {one other : MethodPlan Response} → IsUnlock headers p who one → IsUnlock headers p who other → one ≡ other
+same_unlock {headers} {p} (is_unlock a h) (is_unlock b k) = ap (λ (x : Option (List ℕ)). unlock x p) (decoded_one SaysLockToken headers (one_lock_token headers) a b h k)
+
+pub one_unlock_plan : OneUnlockPlan
+one_unlock_plan headers p who one other h k = same_unlock h k

@@ -1,4 +1,4 @@
--- No PUT, PATCH, MKCOL or DELETE is without a plan, since a header decodes or doesn't.
+-- No PUT, PATCH, MKCOL, DELETE or UNLOCK is without a plan, since a header decodes or doesn't.
 use Rattle.std.proofs.Common.{ℕ, List, inl, inr, Option, Some, None, refl}
 use Rattle.std.specs.Option.{option_or}
 use Rattle.std.specs.Prelude.{codes}
@@ -22,6 +22,8 @@ use Rattle.dav_engine.specs.Method.{MethodPlan}
 use Rattle.dav_engine.specs.Mkcol.{mkcol, IsMkcol, is_mkcol}
 use Rattle.dav_engine.specs.Put.{PutHeaders, ArePutHeaders, IsPut, is_put, put_body, bytes_of_body, IsAnnounced, IsExpectedLength, TellsBounds, is_partial_update, checksum_in}
 use Rattle.dav_engine.specs.Response.{Response}
+use Rattle.dav_engine.specs.LockToken.{SaysLockToken}
+use Rattle.dav_engine.specs.Unlock.{unlock, IsUnlock, is_unlock}
 
 -- what is read decodes to something, or to nothing
 decoded_some : {A B : Type 0} (grammar : A → B → Type 0) (input : A) → ¬ ((r : Option B) → ¬ Decodes grammar input r)
@@ -72,3 +74,6 @@ some_delete_plan headers p who without =
     some_conditions headers p.prefix (names p) (λ c is.
     decoded_some IsDepth (get_all headers (codes "depth")) (λ depth too.
     without (delete (record { conditions = c; depth = depth }) p who) (is_delete (record { conditions = c; depth = depth }) (record { conditions = is; depth = too }))))
+
+pub some_unlock_plan : (headers : Headers) (p : PathText) (who : Client) → ¬ ((plan : MethodPlan Response) → ¬ IsUnlock headers p who plan)
+some_unlock_plan headers p who without = decoded_some SaysLockToken headers (λ token is. without (unlock token p) (is_unlock token is))

@@ -114,7 +114,7 @@ module _ (covered : Path → Bool) (G E : List Lock → Type 0) where
 -- ---- the list of locks
 
 -- no lock of another token is the lock
-not_listed : (h : Lock) {ls : List Lock} → AllElsewhere h ls → IsListed h ls → ⊥
+pub not_listed : (h : Lock) {ls : List Lock} → AllElsewhere h ls → IsListed h ls → ⊥
 not_listed h no_others there = elim there [ ]
 not_listed h (another {l} off more) (listed_here is) = off.token (ap (λ (m : Lock). m.token) is)
 not_listed h (another off more) (listed_later there) = not_listed h more there

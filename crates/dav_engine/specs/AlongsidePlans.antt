@@ -11,10 +11,12 @@ use Rattle.dav_engine.specs.Conditions.{Addressed, SaysLists}
 use Rattle.dav_engine.specs.Delete.{IsDelete}
 use Rattle.dav_engine.specs.Guard.{IsGuard, IsInReach, SubmitOnly}
 use Rattle.dav_engine.specs.Headers.{Headers}
+use Rattle.dav_engine.specs.LockToken.{SaysLockToken}
 use Rattle.dav_engine.specs.Method.{MethodPlan}
 use Rattle.dav_engine.specs.Mkcol.{IsMkcol}
 use Rattle.dav_engine.specs.Put.{IsPut}
 use Rattle.dav_engine.specs.Response.{Response}
+use Rattle.dav_engine.specs.Unlock.{IsUnlock}
 
 -- The headers of a request to a path submit the lock's token alone, and set no other condition.
 pub record SubmitsAlone (headers : Headers) (p : PathText) (h : Lock) : Type 0 where
@@ -45,3 +47,9 @@ abbrev pub DeleteGoesAlong : Type 0
 DeleteGoesAlong =
     (h : Lock) (headers : Headers) (p : PathText) (who : Client) (plan : MethodPlan Response)
     → IsGuard h → p.bytes ≢ star → IsInReach h (names p) → SubmitsAlone headers p h → IsDelete headers p who plan → GoesAlong h plan
+
+-- and an UNLOCK at a guarded folder or below it, with the guard's token: the lock ends in both
+abbrev pub UnlockGoesAlong : Type 0
+UnlockGoesAlong =
+    (h : Lock) (headers : Headers) (p : PathText) (who : Client) (plan : MethodPlan Response)
+    → IsGuard h → IsInReach h (names p) → SaysLockToken headers h.token → IsUnlock headers p who plan → GoesAlong h plan

@@ -11,6 +11,7 @@ use Rattle.dav_engine.specs.Method.{MethodPlan}
 use Rattle.dav_engine.specs.Mkcol.{IsMkcol}
 use Rattle.dav_engine.specs.Put.{IsPut}
 use Rattle.dav_engine.specs.Response.{Response}
+use Rattle.dav_engine.specs.Unlock.{IsUnlock}
 
 -- the request still borrows the same state of a server, and all else of it is as before: the allowed methods, the caller, and
 -- what else the borrowed state's contracts read
@@ -46,3 +47,7 @@ PutOf request body who = IsPut request.method request.headers request.path body 
 -- the plans of a DELETE, by who makes it
 abbrev pub DeleteOf : DavRequest → Client → MethodPlan Response → Type 0
 DeleteOf request who = IsDelete request.headers request.path who
+
+-- the plans of an UNLOCK, by who makes it
+abbrev pub UnlockOf : DavRequest → Client → MethodPlan Response → Type 0
+UnlockOf request who = IsUnlock request.headers request.path who

@@ -11,12 +11,14 @@ use Rattle.dav_engine.specs.Client.{Client}
 use Rattle.dav_engine.specs.Delete.{IsDelete}
 use Rattle.dav_engine.specs.Guard.{IsListed, Stands}
 use Rattle.dav_engine.specs.Headers.{Headers}
+use Rattle.dav_engine.specs.LockToken.{SaysLockToken}
 use Rattle.dav_engine.specs.Method.{MethodPlan}
 use Rattle.dav_engine.specs.Mkcol.{IsMkcol}
 use Rattle.dav_engine.specs.Plan.{Plan, Done, Ask, Look, Keep, Locks, Ran, Cut}
 use Rattle.dav_engine.specs.Put.{IsPut}
 use Rattle.dav_engine.specs.Response.{Response}
 use Rattle.dav_engine.specs.SparingPlans.{IsStranger}
+use Rattle.dav_engine.specs.Unlock.{IsUnlock}
 use Rattle.dav_engine.specs.WorldLaws.{IsReading}
 
 -- Each list that a plan sets has the lock, as long as each list that it reads has it. A lock that is refreshed stays the
@@ -60,3 +62,9 @@ abbrev pub MkcolKeepsLocks : Type 0
 MkcolKeepsLocks =
     (h : Lock) (headers : Headers) (p : PathText) (who : Client) (plan : MethodPlan Response)
     → IsMkcol headers p who plan → KeepsLock h plan
+
+-- and an UNLOCK, unless its Lock-Token says the lock's token
+abbrev pub UnlockKeepsLocks : Type 0
+UnlockKeepsLocks =
+    (h : Lock) (headers : Headers) (p : PathText) (who : Client) (plan : MethodPlan Response)
+    → ¬ SaysLockToken headers h.token → IsUnlock headers p who plan → KeepsLock h plan

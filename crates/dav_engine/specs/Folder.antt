@@ -1,6 +1,11 @@
 -- Paths of folders and of what is in them (RFC 4918, section 5.2).
-use Rattle.std.specs.Prelude.{ℕ, ◌-◌, ◌^◌, ◌++◌, Bool, List, length, if◌then◌else◌}
-use Rattle.dav_core.specs.Path.{PathText, with_bytes, with_slash, names}
+use Rattle.std.specs.Prelude.{ℕ, ◌-◌, ◌^◌, ◌++◌, ◌&&◌, Bool, false, not, List, [], ◌∷◌, length, codes, if◌then◌else◌, Option, Some, None}
+use Rattle.http_header.specs.FieldValue.{FieldValue, plain_value}
+use Rattle.http_header.specs.HeaderMap.{Entries, insert}
+use Rattle.dav_core.specs.declared.fs.DavMetaData.{DavMetaData}
+use Rattle.dav_core.specs.Path.{PathText, with_bytes, with_slash, names, full_bytes, is_collection}
+use Rattle.dav_core.specs.UrlText.{path_text}
+use Rattle.dav_engine.specs.Response.{Header, content_location}
 
 -- the path with a slash at its end, where that is wanted
 abbrev pub closed : Bool → PathText → PathText
@@ -13,3 +18,21 @@ child_of p name dir = closed dir (with_bytes p (with_slash p.bytes ++ name))
 -- how many names a path may still get: one has fewer than 2^64 bytes, and so fewer names; no walk goes deeper than that
 unfoldable pub room_at : PathText → ℕ
 room_at p = 2 ^ 64 - length (names p)
+
+-- whether what was found is a folder
+abbrev pub is_folder_found : Option DavMetaData → Bool
+is_folder_found None = false
+is_folder_found (Some m) = m.dir
+
+-- the path of what was found: that of a folder ends in a slash
+abbrev pub path_found : Option DavMetaData → PathText → PathText
+path_found found p = closed (is_folder_found found) p
+
+-- where it is, if a slash was added to its path (RFC 9110, section 8.7)
+abbrev pub location_found : Option DavMetaData → PathText → List Header
+location_found found p = if is_folder_found found && not (is_collection p.bytes) then content_location (path_found found p) ∷ [] else []
+
+-- a map of headers after it was set
+abbrev pub with_location : Entries FieldValue → Option DavMetaData → PathText → Entries FieldValue
+with_location headers found p =
+    if is_folder_found found && not (is_collection p.bytes) then insert headers (codes "content-location") (plain_value (path_text (full_bytes (path_found found p)))) else headers

@@ -8,7 +8,13 @@ pub mod Delete
 pub mod Folder
 pub mod Follows
 pub mod Headers
+pub mod LockHeaders
+pub mod LockInfo
+pub mod LockTree
+pub mod LockView
 pub mod Method
+pub mod LockToken
+pub mod LockTokenCode
 pub mod Mkcol
 pub mod Multistatus
 pub mod OnePlan
@@ -19,6 +25,8 @@ pub mod PutView
 pub mod Removal
 pub mod RemovalLaws
 pub mod Response
+pub mod Unlock
+pub mod UnlockLaws
 pub mod WorldLaws
 pub mod StateCode
 pub mod CallerView

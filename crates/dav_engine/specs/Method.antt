@@ -83,6 +83,11 @@ require_locks e = do
   locks ← look
   require (has_locks locks) e
 
+-- what has to be there; else this error
+abbrev pub required : {A : Type 0} → Option A → DavError → Result A DavError
+required None e = Err e
+required (Some a) e = Ok a
+
 -- sets the list of locks to `f` of it; without a lock system it changes nothing
 abbrev pub set_by : (List Lock → List Lock) → Locks → MethodPlan (Unit {0})
 set_by f None = Done (Ok tt)

@@ -1,5 +1,5 @@
 -- MKCOL (RFC 4918, section 9.3).
-use Rattle.std.specs.Prelude.{false, [], ◌∷◌, codes, if◌then◌else◌}
+use Rattle.std.specs.Prelude.{false, [], ◌∷◌, if◌then◌else◌}
 use Rattle.std.specs.Result.{result_ok}
 use Rattle.dav_core.specs.declared.errors.FsError.{FsError}
 use Rattle.dav_core.specs.declared.errors.FsError.TheVariants as fs
@@ -7,18 +7,13 @@ use Rattle.dav_core.specs.declared.errors.DavError.{DavError}
 use Rattle.dav_core.specs.declared.errors.DavError.TheVariants as dav
 use Rattle.dav_core.specs.declared.method.DavMethod.TheVariants.{MkCol}
 use Rattle.dav_core.specs.Asking.{Metadata, CreateDir}
-use Rattle.dav_core.specs.Path.{PathText, names, full_bytes, is_collection}
-use Rattle.dav_core.specs.UrlText.{path_text}
+use Rattle.dav_core.specs.Path.{PathText, names, is_collection}
 use Rattle.dav_engine.specs.declared.reply.ReplyBody.TheVariants as reply
 use Rattle.dav_engine.specs.Client.{Client, requester}
 use Rattle.dav_engine.specs.Conditions.{Conditions, AreConditions, guarded}
 use Rattle.dav_engine.specs.Headers.{Headers}
 use Rattle.dav_engine.specs.Method.{MethodPlan, ◌>>=◌, require_free, answer_of, ask_or, gives}
-use Rattle.dav_engine.specs.Response.{Response, Header}
-
--- Content-Location: the text of a folder's path in a URL, with its prefix (RFC 9110, section 8.7)
-abbrev pub content_location : PathText → Header
-content_location p = (codes "content-location", path_text (full_bytes p))
+use Rattle.dav_engine.specs.Response.{Response, content_location}
 
 -- the reply to a folder that was made: 201, with its location where its path ends in a slash
 abbrev pub made : PathText → Response

@@ -11,6 +11,7 @@ use Rattle.dav_engine.specs.Method.{MethodPlan}
 use Rattle.dav_engine.specs.Mkcol.{IsMkcol}
 use Rattle.dav_engine.specs.Put.{PutHeaders, ArePutHeaders, IsPut}
 use Rattle.dav_engine.specs.Response.{Response}
+use Rattle.dav_engine.specs.Unlock.{IsUnlock}
 
 -- the headers of a request say one thing of a path, as conditions
 abbrev pub OneReadingOfConditions : Type 0
@@ -34,8 +35,14 @@ OneMkcolPlan =
     (headers : Headers) (p : PathText) (who : Client) (one other : MethodPlan Response)
     → IsMkcol headers p who one → IsMkcol headers p who other → one ≡ other
 
--- and so has a DELETE
+-- so has a DELETE
 abbrev pub OneDeletePlan : Type 0
 OneDeletePlan =
     (headers : Headers) (p : PathText) (who : Client) (one other : MethodPlan Response)
     → IsDelete headers p who one → IsDelete headers p who other → one ≡ other
+
+-- and an UNLOCK
+abbrev pub OneUnlockPlan : Type 0
+OneUnlockPlan =
+    (headers : Headers) (p : PathText) (who : Client) (one other : MethodPlan Response)
+    → IsUnlock headers p who one → IsUnlock headers p who other → one ≡ other

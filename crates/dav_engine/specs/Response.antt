@@ -6,7 +6,9 @@ use Rattle.http_header.specs.FieldValue.{FieldValue, plain_value}
 use Rattle.dav_core.specs.declared.errors.DavError.{DavError}
 use Rattle.dav_core.specs.declared.fs.DavMetaData.{DavMetaData}
 use Rattle.dav_core.specs.Metadata.{tag_of}
+use Rattle.dav_core.specs.Path.{PathText, full_bytes}
 use Rattle.dav_core.specs.Status.{dav_status, must_close}
+use Rattle.dav_core.specs.UrlText.{path_text}
 use Rattle.dav_engine.specs.declared.reply.ReplyBody.{ReplyBody}
 use Rattle.dav_engine.specs.declared.reply.ReplyBody.TheVariants.{Nothing}
 use Rattle.dav_engine.specs.Date.{date_text_of}
@@ -32,6 +34,10 @@ headers_in headers = header_pairs (pairs headers)
 -- how many bytes the body has (RFC 9110, section 8.6)
 abbrev pub content_length : ℕ → Header
 content_length n = (codes "content-length", decimal n)
+
+-- Content-Location: where a folder is, as the text of its path in a URL, with its prefix (RFC 9110, section 8.7)
+abbrev pub content_location : PathText → Header
+content_location p = (codes "content-location", path_text (full_bytes p))
 
 -- ETag: the entity tag of a file or folder whose last change took this number (RFC 9110, section 8.8.3)
 abbrev pub etag : ℕ → Header

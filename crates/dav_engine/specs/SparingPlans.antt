@@ -13,6 +13,7 @@ use Rattle.dav_engine.specs.Mkcol.{IsMkcol}
 use Rattle.dav_engine.specs.Put.{IsPut}
 use Rattle.dav_engine.specs.Response.{Response}
 use Rattle.dav_engine.specs.Sparing.{SparesLock, SparesGuard}
+use Rattle.dav_engine.specs.Unlock.{IsUnlock}
 use Rattle.dav_engine.specs.WorldLaws.{IsReading}
 
 -- A request with these headers, to a path, doesn't hold a lock: its If doesn't submit the lock's token, or its client isn't
@@ -45,3 +46,7 @@ abbrev pub DeleteSpares : Type 0
 DeleteSpares =
     (h : Lock) (headers : Headers) (p : PathText) (who : Client) (plan : MethodPlan Response)
     → h.shared ≡ false → p.bytes ≢ star → IsStranger headers p who h → IsDelete headers p who plan → SparesBoth h plan
+
+-- An UNLOCK spares all, whoever asks for it: with it the lock itself may end.
+abbrev pub UnlockSpares : Type 0
+UnlockSpares = (h : Lock) (headers : Headers) (p : PathText) (who : Client) (plan : MethodPlan Response) → IsUnlock headers p who plan → SparesBoth h plan

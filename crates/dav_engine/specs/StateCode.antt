@@ -1,13 +1,16 @@
--- Codes of states and replies, which a Model wants of its Value.
+-- Codes of states, replies and what a LOCK asks for, which a Model wants of its Value.
 use Rattle.std.specs.Prelude.{ℕ, Bool, List, Option, refl}
 use Rattle.std.specs.Coded.{Coded, code_by, coded_ℕ, coded_bool, coded_list, coded_option, coded×}
 use Rattle.dav_core.specs.declared.errors.FsError.{FsError}
 use Rattle.dav_core.specs.Asking.{StoreState}
+use Rattle.dav_core.specs.Element.{ElementTree}
+use Rattle.dav_core.specs.ElementCode.{coded_tree}
 use Rattle.dav_core.specs.Locks.{Lock}
 use Rattle.dav_core.specs.LockCode.{lock_code}
 use Rattle.dav_core.specs.World.{World}
 use Rattle.dav_core.specs.WorldCode.{coded_world}
 use Rattle.dav_engine.specs.declared.reply.ReplyBody.{ReplyBody}
+use Rattle.dav_engine.specs.LockInfo.{LockInfo}
 use Rattle.dav_engine.specs.Plan.{ServerState}
 use Rattle.dav_engine.specs.Response.{Header, Response}
 
@@ -28,3 +31,9 @@ abbrev pub coded_response : Coded ReplyBody → Coded Response
 coded_response body =
     code_by (ℕ × (List Header × ReplyBody)) (coded× coded_ℕ (coded× (coded_list (coded× (coded_list coded_ℕ) (coded_list coded_ℕ))) body))
     (λ r. (r.status, (r.headers, r.body))) (λ p. record { status = p.0; headers = p.1.0; body = p.1.1 }) (λ _. refl)
+
+-- what the body of a LOCK asks for
+abbrev pub coded_lock_info : Coded LockInfo
+coded_lock_info =
+    code_by (Bool × Option ElementTree) (coded× coded_bool (coded_option coded_tree))
+    (λ i. (i.shared, i.owner)) (λ p. record { shared = p.0; owner = p.1 }) (λ _. refl)

@@ -20,6 +20,7 @@ use Rattle.dav_engine.specs.Mkcol.{mkcol, mkcol_allowed, IsMkcol}
 use Rattle.dav_engine.specs.Plan.{Plan, Done, Ask, Look, Keep, Locks, Ran}
 use Rattle.dav_engine.specs.Put.{PutHeaders, put, put_allowed, IsPut}
 use Rattle.dav_engine.specs.Response.{Response}
+use Rattle.dav_engine.specs.Unlock.{IsUnlock}
 
 -- a call that leaves the world as it is, whatever its answer
 abbrev pub OnlyReads : Call → Type 0
@@ -81,6 +82,10 @@ abbrev pub DeleteIsProper : Type 0
 DeleteIsProper =
     (headers : Headers) (p : PathText) (who : Client) (plan : MethodPlan Response)
     → who.moment ≤ last_moment → IsDelete headers p who plan → IsProperPlan plan
+
+-- and that of UNLOCK
+abbrev pub UnlockIsProper : Type 0
+UnlockIsProper = (headers : Headers) (p : PathText) (who : Client) (plan : MethodPlan Response) → IsUnlock headers p who plan → IsProperPlan plan
 
 -- An error of the checks before the file is opened is the outcome, and leaves the world and the list of locks as they are.
 abbrev pub RefusedPutLeavesAll : Type 0

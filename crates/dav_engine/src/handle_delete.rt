@@ -10,7 +10,6 @@ ghost use Rattle.dav_engine.specs.AtWork.{KeepsLent, StaysLent, ServesFrom, Dele
 ghost use Rattle.dav_engine.specs.ConditionView.{locks_in};
 ghost use Rattle.dav_engine.specs.Delete.{delete_allowed, delete_found, deleting};
 ghost use Rattle.dav_engine.specs.Delete as spec;
-ghost use Rattle.dav_engine.specs.Folder.{closed};
 ghost use Rattle.dav_engine.specs.Follows.{as_is, Follows, Heeds};
 ghost use Rattle.dav_engine.specs.Headers.{Decodes};
 ghost use Rattle.dav_engine.specs.Removal.{removal};
@@ -19,6 +18,7 @@ ghost use Rattle.dav_engine.specs.Walked.{Removes, goes_below};
 use crate::check::is_open;
 use crate::conditional::Conditions;
 use crate::davinner::{Caller, DavInner};
+use crate::folder::closed;
 use crate::headers::{absent_if_invalid, values_of};
 use crate::multierror::{MultiError, multi_error, status_reply};
 use crate::removal::removal;
@@ -35,15 +35,15 @@ use http_header::HeaderMap;
 use std::alloc::Global;
 
 // What the header Depth says.
-fn depth_in(alloc: Global, headers: &HeaderMap) -> Result<Option<Depth>, NoMemory>
+pub(crate) fn depth_in(alloc: Global, headers: &HeaderMap) -> Result<Option<Depth>, NoMemory>
     ensures { IfOk result (λ depth. Decodes IsDepth (get_all headers.now (codes "depth")) depth) }
 {
     let values = values_of(alloc, headers, names::DEPTH())?;
     absent_if_invalid(Depth::decode(alloc, &values))
 }
 
-// Whether everything below is removed too.
-fn whole_depth(depth: Option<Depth>) -> DavResult<bool>
+// Whether everything below goes too: it is removed, or locked.
+pub(crate) fn whole_depth(depth: Option<Depth>) -> DavResult<bool>
     ensures { result ≡ spec.whole_depth depth }
 {
     match depth {
@@ -89,15 +89,6 @@ fn allowed<F: DavFileSystem, L: DavLockSystem>(
     } else {
         Err(DavError::Status(StatusCode::LOCKED))
     }
-}
-
-// The path with a slash at its end, where that is wanted.
-fn closed(path: &DavPath, wanted: bool) -> Result<DavPath, NoMemory>
-    ensures { IfOk result (λ p. p ≡ closed wanted path.now) }
-{
-    let mut path = path.clone()?;
-    path.add_slash_if(wanted)?;
-    Ok(path)
 }
 
 // Ends the locks at a path and below it, where there is a lock system.

@@ -79,7 +79,7 @@ impl MultiError {
 }
 
 // Where a path is.
-fn href(alloc: Global, path: &DavPath) -> Result<Element, NoMemory>
+pub(crate) fn href(alloc: Global, path: &DavPath) -> Result<Element, NoMemory>
     ensures { IfOk result (λ e. e ≡ href path.now) }
 {
     let mut element = Element::new2(alloc, "D:href")?;

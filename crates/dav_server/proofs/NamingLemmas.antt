@@ -1,22 +1,22 @@
 -- Naming is decided: what the code of naming finds, and nothing else, is said.
-use Rattle.std.proofs.Common.{◌≡◌, ◌≢◌, ◌↔◌, ◌++◌, ◌||◌, ◌+◌, ◌<◌, ◌≤◌, ℕ, Bool, true, false, IsTrue, List, [], ◌∷◌, length, map, drop, get_or, All, Contains, codes, bytes_eq, Some, None, Result, Ok, Err, IfOk, OnErr, refl, sym, ap, subst, ◌∙◌}
+use Rattle.std.proofs.Common.{◌≡◌, ◌↔◌, ◌||◌, ◌+◌, ◌<◌, ◌≤◌, ℕ, Bool, true, false, IsTrue, List, length, map, drop, get_or, Contains, codes, bytes_eq, Result, Ok, Err, IfOk, OnErr, refl, sym, ap, subst, ◌∙◌}
 use Rattle.std.specs.Cmp.{decided}
 use Rattle.std.specs.List.{list_any, flat_map}
-use Rattle.std.proofs.lemmas.List.{drop_all, append_assoc}
-use Rattle.std.proofs.lemmas.List.Elements.{All-nil, All-head, All-tail, All-cons}
+use Rattle.std.proofs.lemmas.List.{drop_all}
 use Rattle.std.proofs.lemmas.List.Folds.{list_any-append}
 use Rattle.std.proofs.lemmas.Map.Views.{Contains-from_any, list_any-from_Contains}
 use Rattle.std.proofs.lemmas.Slice.Eq.{bytes_eq-Decides}
-use Rattle.http_header.specs.HeaderMap.{get, get_all}
+use Rattle.http_header.specs.HeaderMap.{get_all}
 use Rattle.http_header.specs.FieldValue.{FieldValue}
 use Rattle.dav_headers.specs.If.{ConditionList, IsIf, IsIfHeader, tokens_of}
 use Rattle.dav_headers.proofs.Theorems.{drop_turn, says_one}
-use Rattle.dav_engine.specs.Headers.{Headers, text_in}
+use Rattle.dav_engine.specs.Headers.{Headers}
 use Rattle.dav_server.specs.Head.{Request, IsHead}
 use Rattle.dav_server.specs.Headers.{headers_of}
 use Rattle.dav_server.specs.Machine.{Asked}
-use Rattle.dav_server.specs.Naming.{IsAngle, BeginsBare, EndsBare, IsBetweenAngles, SaysIfToken, SaysLockToken, NamesToken, by_if, by_lock_token}
-use Rattle.dav_server.specs.NamingCode.{IsAfterAngles, IsBeforeAngles}
+use Rattle.dav_engine.specs.LockToken.{SaysLockToken}
+use Rattle.dav_engine.proofs.Theorems.{one_lock_token}
+use Rattle.dav_server.specs.Naming.{SaysIfToken, NamesToken, by_if, by_lock_token}
 use Rattle.dav_server.proofs.HeadLemmas.{one_head}
 
 -- ---- loops that look for one of the things that elements give
@@ -39,112 +39,20 @@ module _ {X Y Z : Type 0} (p : Z → Bool) (g : Y → List Z) (v : X → Y) wher
   pub any_end : (xs : List X) (i : ℕ) (whole : Bool) → length xs ≤ i → list_any p (flat_map g (map v (drop i xs))) ≡ whole → false ≡ whole
   any_end xs i whole le before = ap (λ rest. list_any p (flat_map g (map v rest))) (sym (drop_all i xs le)) ∙ before
 
--- ---- text between angle brackets
-
-pub begins_bare : (text rest : List ℕ) (b : ℕ) → text ≡ b ∷ rest → ¬ IsAngle b → BeginsBare text
-begins_bare text rest b is other c more same angle = let e : c ∷ more ≡ b ∷ rest = sym same ∙ is in other (subst IsAngle (ap (λ x. get_or x 0 0) e) angle)
-
-pub nothing_begins : (text : List ℕ) → text ≡ [] → BeginsBare text
-nothing_begins text is c more same angle = let e : ◌≡◌ {A = List ℕ} [] (c ∷ more) = sym is ∙ same in cc
-
-no_push : (xs : List ℕ) (c : ℕ) → ◌≢◌ {A = List ℕ} [] (xs ++ c ∷ [])
-no_push [] c e = cc
-no_push (x ∷ xs) c e = cc
-
-pub last_is : (front more : List ℕ) (b c : ℕ) → front ++ b ∷ [] ≡ more ++ c ∷ [] → b ≡ c
-last_is [] [] b c e = ap (λ x. get_or x 0 0) e
-last_is [] (m ∷ more) b c e = absurd (no_push more c (ap (drop 1) e))
-last_is (f ∷ front) [] b c e = absurd (no_push front b (sym (ap (drop 1) e)))
-last_is (f ∷ front) (m ∷ more) b c e = last_is front more b c (ap (drop 1) e)
-
-pub ends_bare : (text front : List ℕ) (b : ℕ) → text ≡ front ++ b ∷ [] → ¬ IsAngle b → EndsBare text
-ends_bare text front b is other more c same angle = other (subst IsAngle (last_is more front c b (sym same ∙ is)) angle)
-
-pub nothing_ends : (text : List ℕ) → text ≡ [] → EndsBare text
-nothing_ends text is more c same angle = absurd (no_push more c (sym is ∙ same))
-
-pub between : (text middle token : List ℕ) → IsAfterAngles text middle → IsBeforeAngles middle token → IsBetweenAngles text token
-between text middle token a b = record {
-  front = a.front;
-  back = b.back;
-  opening = a.opening;
-  closing = b.closing;
-  whole = a.whole ∙ ap (λ x. a.front ++ x) b.whole;
-  begins = λ c rest is. a.bare c (rest ++ b.back) (b.whole ∙ ap (λ x. x ++ b.back) is);
-  ends = b.bare;
-}
-
--- all bytes of what doesn't end with an angle bracket are angle brackets only where there are none
-none_left : (token : List ℕ) → EndsBare token → All IsAngle token → token ≡ []
-none_left [] ends all = refl
-none_left (b ∷ []) ends all = absurd (ends [] b refl (All-head IsAngle b [] all))
-none_left (b ∷ c ∷ token) ends all =
-    let e = none_left (c ∷ token) (λ front d is. ends (b ∷ front) d (ap (λ x. b ∷ x) is)) (All-tail IsAngle b (c ∷ token) all) in
-    let f : ◌≡◌ {A = List ℕ} (c ∷ token) [] = e in cc
-
-all_left : (xs ys : List ℕ) → All IsAngle (xs ++ ys) → All IsAngle xs
-all_left [] ys all = All-nil IsAngle
-all_left (x ∷ xs) ys all = All-cons IsAngle x xs (All-head IsAngle x (xs ++ ys) all) (all_left xs ys (All-tail IsAngle x (xs ++ ys) all))
-
-same_ends : (t u back rest : List ℕ) → EndsBare t → EndsBare u → All IsAngle back → All IsAngle rest → t ++ back ≡ u ++ rest → t ≡ u
-same_ends [] u back rest ends also all others e = sym (none_left u also (all_left u rest (subst (All IsAngle) e all)))
-same_ends (b ∷ t) [] back rest ends also all others e = none_left (b ∷ t) ends (all_left (b ∷ t) back (subst (All IsAngle) (sym e) others))
-same_ends (b ∷ t) (c ∷ u) back rest ends also all others e =
-    let first : b ≡ c = ap (λ x. get_or x 0 0) e in
-    let more = same_ends t u back rest (λ front d is. ends (b ∷ front) d (ap (λ x. b ∷ x) is)) (λ front d is. also (c ∷ front) d (ap (λ x. c ∷ x) is)) all others (ap (drop 1) e) in
-    cc (first, more)
-
-all_right : (xs ys : List ℕ) → All IsAngle (xs ++ ys) → All IsAngle ys
-all_right [] ys all = all
-all_right (x ∷ xs) ys all = all_right xs ys (All-tail IsAngle x (xs ++ ys) all)
-
-begins_later : (f : ℕ) (front t back u rest : List ℕ) → IsAngle f → BeginsBare u → All IsAngle rest → EndsBare t → f ∷ (front ++ (t ++ back)) ≡ u ++ rest → All IsAngle (f ∷ front) → All IsAngle back → t ≡ u
-begins_later f front t back [] rest angle bare others ends e all closing =
-    let angles : All IsAngle (f ∷ (front ++ (t ++ back))) = subst (All IsAngle) (sym e) others in
-    none_left t ends (all_left t back (all_right (f ∷ front) (t ++ back) angles))
-begins_later f front t back (c ∷ u) rest angle bare others ends e all closing = absurd (bare c u refl (subst IsAngle (ap (λ x. get_or x 0 0) e) angle))
-
-module _ (t u : List ℕ) (begins : BeginsBare t) (ends : EndsBare t) (starts : BeginsBare u) (stops : EndsBare u) where
-  same_between : (front more back rest : List ℕ) → All IsAngle front → All IsAngle more → All IsAngle back → All IsAngle rest
-      → front ++ (t ++ back) ≡ more ++ (u ++ rest) → t ≡ u
-  same_between [] [] back rest opening other closing last e = same_ends t u back rest ends stops closing last e
-  same_between (f ∷ front) [] back rest opening other closing last e =
-      begins_later f front t back u rest (All-head IsAngle f front opening) starts last ends e opening closing
-  same_between [] (m ∷ more) back rest opening other closing last e =
-      sym (begins_later m more u rest t back (All-head IsAngle m more other) begins closing stops (sym e) other last)
-  same_between (f ∷ front) (m ∷ more) back rest opening other closing last e =
-      same_between front more back rest (All-tail IsAngle f front opening) (All-tail IsAngle m more other) closing last (ap (drop 1) e)
-
--- a text has one token between angle brackets
-pub one_between : (text t u : List ℕ) → IsBetweenAngles text t → IsBetweenAngles text u → t ≡ u
-one_between text t u a b = same_between t u a.begins a.ends b.begins b.ends a.front b.front a.back b.back a.opening b.opening a.closing b.closing (sym a.whole ∙ b.whole)
-
--- what the code finds between them is the token, and nothing else is
-pub decided_between : (text raw middle found token own : List ℕ) (r : Bool) → raw ≡ text → own ≡ token → IsAfterAngles raw middle → IsBeforeAngles middle found → r ≡ bytes_eq found own
-    → IsTrue r ↔ IsBetweenAngles text token
-decided_between text raw middle found token own r e f a b is =
-    let here : IsBetweenAngles text found = subst (λ x. IsBetweenAngles x found) e (between raw middle found a b) in (
-      (λ yes. subst (IsBetweenAngles text) ((bytes_eq-Decides found own).0 (sym is ∙ yes) ∙ f) here),
-      (λ other. is ∙ (bytes_eq-Decides found own).1 (one_between text found token here other ∙ sym f)),
-    )
-
-pub pushed : (text front rest more : List ℕ) (b : ℕ) → text ≡ front ++ rest → rest ≡ b ∷ more → text ≡ (front ++ b ∷ []) ++ more
-pushed text front rest more b is cut = is ∙ ap (λ x. front ++ x) cut ∙ sym (append_assoc front (b ∷ []) more)
-
 -- ---- what the headers say
 
 pub if_ok_at : {T E : Type 0} (P : T → Type 0) (r : Result T E) (x : T) → r ≡ Ok x → IfOk r P → P x
 if_ok_at P r x is holds = subst (λ q. IfOk q P) is holds
 
 module _ (headers : Headers) (token : List ℕ) where
-  pub lock_token_of : (text : List ℕ) (r : Bool) → text_in (get headers (codes "lock-token")) ≡ Some text → IsTrue r ↔ IsBetweenAngles text token → IsTrue r ↔ SaysLockToken headers token
-  lock_token_of text r is decides = (
-    (λ yes. (text, is, decides.0 yes)),
-    (λ (other, also, between). decides.1 (subst (λ t. IsBetweenAngles t token) (let e : Some other ≡ Some text = sym also ∙ is in cc) between)),
+  pub lock_token_of : (said : List ℕ) (r : Bool) → SaysLockToken headers said → r ≡ bytes_eq said token → IsTrue r ↔ SaysLockToken headers token
+  lock_token_of said r says is = (
+    (λ yes. subst (SaysLockToken headers) ((bytes_eq-Decides said token).0 (sym is ∙ yes)) says),
+    (λ also. is ∙ (bytes_eq-Decides said token).1 (one_lock_token headers said token says also)),
   )
 
-  pub no_lock_token : text_in (get headers (codes "lock-token")) ≡ None → IsTrue false ↔ SaysLockToken headers token
-  no_lock_token none = ((λ yes. cc), (λ (other, also, between). let e : None ≡ Some other = sym none ∙ also in cc))
+  pub no_lock_token : ((said : List ℕ) → ¬ SaysLockToken headers said) → IsTrue false ↔ SaysLockToken headers token
+  no_lock_token none = ((λ yes. cc), (λ says. absurd (none token says)))
 
   one_if : (values : List FieldValue) (ls ms : List ConditionList) → IsIfHeader values ls → IsIfHeader values ms → ls ≡ ms
   one_if values ls ms (v, e, is) (w, f, also) =

@@ -15,7 +15,7 @@ use Rattle.dav_server.specs.Head.{Request, IsHead}
 use Rattle.dav_server.specs.Headers.{headers_of}
 use Rattle.dav_server.specs.Machine.{Asked, Settings, body_for, taken_by}
 use Rattle.dav_server.specs.Method.{GivesServed}
-use Rattle.dav_server.specs.Naming.{SaysLockToken}
+use Rattle.dav_engine.specs.LockToken.{SaysLockToken}
 use Rattle.dav_server.specs.Target.{TargetNames}
 
 -- the path that Destination names, below the prefix (RFC 4918, section 10.3)

@@ -19,7 +19,6 @@ pub mod ServerCode
 pub mod ExchangeView
 pub mod GivenBody
 pub mod Naming
-pub mod NamingCode
 pub mod Holder
 pub mod Passing
 pub mod Ending

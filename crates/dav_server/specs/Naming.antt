@@ -1,38 +1,13 @@
 -- Which requests name a token, and which name a lock as its principal (RFC 4918, sections 6.4, 10.4 and 10.5).
-use Rattle.std.specs.Prelude.{◌≡◌, ℕ, ◌++◌, ◌⊎◌, List, [], ◌∷◌, All, Contains, codes, Some}
-use Rattle.http_header.specs.HeaderMap.{get, get_all}
+use Rattle.std.specs.Prelude.{◌≡◌, ℕ, List, Contains, codes}
+use Rattle.http_header.specs.HeaderMap.{get_all}
 use Rattle.dav_core.specs.Locks.{Lock}
 use Rattle.dav_headers.specs.If.{ConditionList, IsIfHeader, tokens_of}
-use Rattle.dav_engine.specs.Headers.{Headers, text_in}
+use Rattle.dav_engine.specs.Headers.{Headers}
+use Rattle.dav_engine.specs.LockToken.{SaysLockToken}
 use Rattle.dav_server.specs.Head.{Request, IsHead}
 use Rattle.dav_server.specs.Headers.{headers_of}
 use Rattle.dav_server.specs.Machine.{Asked}
-
--- `<` or `>`
-abbrev pub IsAngle : ℕ → Type 0
-IsAngle b = (b ≡ 60) ⊎ (b ≡ 62)
-
--- it doesn't begin with `<` or `>`
-abbrev pub BeginsBare : List ℕ → Type 0
-BeginsBare text = (b : ℕ) (rest : List ℕ) → text ≡ b ∷ rest → ¬ IsAngle b
-
--- it doesn't end with `<` or `>`
-abbrev pub EndsBare : List ℕ → Type 0
-EndsBare text = (front : List ℕ) (b : ℕ) → text ≡ front ++ b ∷ [] → ¬ IsAngle b
-
--- the text without all `<` and `>` at its ends
-pub record IsBetweenAngles (text token : List ℕ) : Type 0 where
-  pub front : List ℕ
-  pub back : List ℕ
-  pub opening : All IsAngle front
-  pub closing : All IsAngle back
-  pub whole : text ≡ front ++ (token ++ back)
-  pub begins : BeginsBare token
-  pub ends : EndsBare token
-
--- the token that Lock-Token says: its first value, where that is text, without the angle brackets (RFC 4918, section 10.5)
-abbrev pub SaysLockToken : Headers → List ℕ → Type 0
-SaysLockToken headers token = (text : List ℕ) × (text_in (get headers (codes "lock-token")) ≡ Some text) × IsBetweenAngles text token
 
 -- a state token of the If, under `Not` too (RFC 4918, section 10.4)
 abbrev pub SaysIfToken : Headers → List ℕ → Type 0

@@ -4,11 +4,12 @@ ghost use Rattle.std.specs.List.{list_any};
 ghost use Rattle.std.specs.Prelude.{bytes_eq};
 ghost use Rattle.dav_headers.specs.If.{tokens_in, tokens_among, tokens_of};
 ghost use Rattle.dav_headers.specs.IfView.{item_value, condition_value, list_value};
-ghost use Rattle.dav_server.specs.Naming.{IsAngle, IsBetweenAngles, SaysIfToken, SaysLockToken};
-ghost use Rattle.dav_server.specs.NamingCode.{IsAfterAngles, IsBeforeAngles};
+ghost use Rattle.dav_engine.specs.LockToken.{SaysLockToken};
+ghost use Rattle.dav_server.specs.Naming.{SaysIfToken};
 
 use dav_core::errors::NoMemory;
-use dav_engine::headers::{absent_if_invalid, text_of, values_of};
+use dav_engine::headers::{absent_if_invalid, values_of};
+use dav_engine::lock_token::lock_token;
 use dav_headers::{If, IfCondition, IfItem, IfList, names};
 use http_header::HeaderMap;
 use std::alloc::Global;
@@ -70,55 +71,8 @@ fn is_same(a: &[u8], b: &[u8]) -> bool
 pub fn is_lock_token(headers: &HeaderMap, token: &str) -> bool
     ensures { IsTrue result ↔ SaysLockToken headers.now token.now }
 {
-    let Some(value) = headers.get(names::LOCK_TOKEN()) else {
-        return false;
-    };
-    match text_of(value) {
-        Some(text) => is_between_angles(text, token),
+    match lock_token(headers) {
+        Some(said) => is_same(said.as_bytes(), token.as_bytes()),
         None => false,
     }
-}
-
-// Whether a token is what a text has between angle brackets.
-fn is_between_angles(text: &str, token: &str) -> bool
-    ensures { IsTrue result ↔ IsBetweenAngles text.now token.now }
-{
-    is_same(
-        before_angles(after_angles(text.as_bytes())),
-        token.as_bytes(),
-    )
-}
-
-// The rest of a text, after all `<` and `>` at its start.
-fn after_angles(text: &[u8]) -> &[u8]
-    ensures { IsAfterAngles text.now result.now }
-{
-    let mut rest = text;
-    while let Some((first, more)) = rest.split_first() {
-        if !is_angle(*first) {
-            return rest;
-        }
-        rest = more;
-    }
-    rest
-}
-
-// The rest of a text, before all `<` and `>` at its end.
-fn before_angles(text: &[u8]) -> &[u8]
-    ensures { IsBeforeAngles text.now result.now }
-{
-    let mut rest = text;
-    while let Some((last, more)) = rest.split_last() {
-        if !is_angle(*last) {
-            return rest;
-        }
-        rest = more;
-    }
-    rest
-}
-
-fn is_angle(byte: u8) -> bool
-    ensures { IsTrue result ↔ IsAngle byte }
-{
-    byte == b'<' || byte == b'>'
 }

@@ -1,12 +1,12 @@
 //! Laws of locked folders. Each function does nothing: its contract is a theorem on the definitions.
 ghost use Rattle.dav_engine.specs.Alongside.{AlongsideAgree, SpareNumbersSuffice};
-ghost use Rattle.dav_engine.specs.AlongsidePlans.{PutGoesAlong, MkcolGoesAlong, DeleteGoesAlong};
-ghost use Rattle.dav_engine.specs.Ending.{KeptLocksStand, KeptLocksStandCut, ReadingKeepsLocks, PutKeepsLocks, MkcolKeepsLocks, DeleteKeepsLocks};
+ghost use Rattle.dav_engine.specs.AlongsidePlans.{PutGoesAlong, MkcolGoesAlong, DeleteGoesAlong, UnlockGoesAlong};
+ghost use Rattle.dav_engine.specs.Ending.{KeptLocksStand, KeptLocksStandCut, ReadingKeepsLocks, PutKeepsLocks, MkcolKeepsLocks, DeleteKeepsLocks, UnlockKeepsLocks};
 ghost use Rattle.dav_engine.specs.Guard.{FreeIsHeld, FreeIsApart, FreeIsUncovered, GrantedGuards, SharedGuards};
 ghost use Rattle.dav_engine.specs.Inside.{FoldersAreAbove};
 ghost use Rattle.dav_engine.specs.ListChanges.{ListsAreChanged, ListsAreChangedCut, ChangesKeepShared, ChangesBringTokens, ReadingChangesList, PutChangesList, MkcolChangesList, DeleteChangesList};
 ghost use Rattle.dav_engine.specs.Sparing.{SparingLeavesCovered, SparingLeavesCoveredCut, SparingLeavesInside};
-ghost use Rattle.dav_engine.specs.SparingPlans.{ReadingSpares, PutSpares, MkcolSpares, DeleteSpares};
+ghost use Rattle.dav_engine.specs.SparingPlans.{ReadingSpares, PutSpares, MkcolSpares, DeleteSpares, UnlockSpares};
 
 /// At a folder that a lock guards (exclusive, of infinite depth) and below it, a path is free exactly for the requester that
 /// holds the lock. What is free with everything below, for any other requester, is apart from the folder. And what is free
@@ -27,23 +27,25 @@ pub fn sparing_plans_leave_locked_content()
     ensures inside { SparingLeavesInside }
 {}
 
-/// PUT, PATCH, MKCOL and DELETE of a client that doesn't hold an exclusive lock spare what it covers, and plans that only read
-/// spare all (RFC 4918, section 7).
+/// PUT, PATCH, MKCOL and DELETE of a client that doesn't hold an exclusive lock spare what it covers. Plans that only read spare
+/// all, and so does an UNLOCK, whoever asks for it (RFC 4918, sections 7 and 9.11).
 pub fn strangers_spare_what_is_locked()
     ensures reading { ReadingSpares }
     ensures put { PutSpares }
     ensures mkcol { MkcolSpares }
     ensures delete { DeleteSpares }
+    ensures unlock { UnlockSpares }
 {}
 
 /// A plan that goes along with itself has the same outcome in two worlds that have the same content in a guarded folder, but
 /// for change numbers and times, and leaves the same content there. PUT, PATCH, MKCOL and DELETE at the folder or below it,
-/// with the guard's token as their only condition, have such plans.
+/// with the guard's token as their only condition, have such plans, and so has an UNLOCK with the guard's token.
 pub fn plans_agree_in_alike_worlds()
     ensures agree { AlongsideAgree }
     ensures put { PutGoesAlong }
     ensures mkcol { MkcolGoesAlong }
     ensures delete { DeleteGoesAlong }
+    ensures unlock { UnlockGoesAlong }
 {}
 
 /// A plan that ends with a change number to spare found each number that it took.
@@ -62,7 +64,8 @@ pub fn granted_locks_guard_their_folders()
 
 /// A lock that a plan leaves in the list stands after it, whatever the store refuses, and also where memory runs out in the
 /// plan. Plans that only read leave every lock, and so do PUT, PATCH and MKCOL, whoever
-/// asks for them, and a DELETE of a client that doesn't hold the lock (RFC 4918, sections 7 and 9.6).
+/// asks for them, a DELETE of a client that doesn't hold the lock, and an UNLOCK of another token (RFC 4918, sections 7, 9.6 and
+/// 9.11).
 pub fn kept_locks_stand()
     ensures stands { KeptLocksStand }
     ensures cut { KeptLocksStandCut }
@@ -70,6 +73,7 @@ pub fn kept_locks_stand()
     ensures put { PutKeepsLocks }
     ensures mkcol { MkcolKeepsLocks }
     ensures delete { DeleteKeepsLocks }
+    ensures unlock { UnlockKeepsLocks }
 {}
 
 /// Each change that a plan makes to the list of locks is a grant of a lock with the client's token where it may be granted, a

@@ -1,5 +1,5 @@
 use super::*;
-use crate::asserting::{is_row, parts, same};
+use crate::asserting::{headers_of, is_row, parts, same};
 use std::process::Abort;
 use std::test::Fail;
 
@@ -61,21 +61,6 @@ checksum |oc-checksum: | -> Some("")
 checksum |oc-checksum: é| -> None
 checksum | -> None
 "##;
-
-// The headers of a row.
-fn headers_of(alloc: Global, texts: &str) -> Result<HeaderMap, Fail> {
-    let mut headers = HeaderMap::new(alloc);
-    if let Some(texts) = texts.strip_suffix('|') {
-        for text in texts.split('|') {
-            let (name, value) = text.split_once(": ").ok_or("a text is no header")?;
-            headers.append(
-                HeaderName::from_bytes(alloc, name.as_bytes())?,
-                HeaderValue::from_str(alloc, value)?,
-            )?;
-        }
-    }
-    Ok(headers)
-}
 
 // Bounds as text.
 fn bounds_text(alloc: Global, bounds: Bounds) -> Result<String, NoMemory> {

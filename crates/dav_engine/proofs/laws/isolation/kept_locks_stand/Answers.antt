@@ -1,5 +1,6 @@
 use Rattle.dav_engine.proofs.EndingDelete.{delete_keeps_locks}
 use Rattle.dav_engine.proofs.EndingLemmas.{kept_locks_stand, kept_locks_stand_cut, reading_keeps_locks, put_keeps_locks, mkcol_keeps_locks}
+use Rattle.dav_engine.proofs.UnlockPlans.{unlock_keeps_locks}
 use Rattle.dav_engine.proofs.laws.isolation.kept_locks_stand.Goals as goal
 
 pub returns-clause-stands : goal.returns-clause-stands
@@ -19,3 +20,6 @@ returns-clause-mkcol c = mkcol_keeps_locks
 
 pub returns-clause-delete : goal.returns-clause-delete
 returns-clause-delete c = delete_keeps_locks
+
+pub returns-clause-unlock : goal.returns-clause-unlock
+returns-clause-unlock c = unlock_keeps_locks

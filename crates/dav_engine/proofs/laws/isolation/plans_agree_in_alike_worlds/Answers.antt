@@ -1,6 +1,7 @@
 use Rattle.dav_engine.proofs.AlongsideDelete.{delete_goes_along}
 use Rattle.dav_engine.proofs.AlongsideLaw.{alongside_agree}
 use Rattle.dav_engine.proofs.AlongsidePlans.{put_goes_along, mkcol_goes_along}
+use Rattle.dav_engine.proofs.UnlockPlans.{unlock_goes_along}
 use Rattle.dav_engine.proofs.laws.isolation.plans_agree_in_alike_worlds.Goals as goal
 
 pub returns-clause-agree : goal.returns-clause-agree
@@ -14,3 +15,6 @@ returns-clause-mkcol c = mkcol_goes_along
 
 pub returns-clause-delete : goal.returns-clause-delete
 returns-clause-delete c = delete_goes_along
+
+pub returns-clause-unlock : goal.returns-clause-unlock
+returns-clause-unlock c = unlock_goes_along

@@ -1,5 +1,6 @@
 use Rattle.dav_engine.proofs.SparingPlans.{reading_spares, put_spares, mkcol_spares}
 use Rattle.dav_engine.proofs.SparingDelete.{delete_spares}
+use Rattle.dav_engine.proofs.UnlockPlans.{unlock_spares}
 use Rattle.dav_engine.proofs.laws.isolation.strangers_spare_what_is_locked.Goals as goal
 
 pub returns-clause-reading : goal.returns-clause-reading
@@ -13,3 +14,6 @@ returns-clause-mkcol c = mkcol_spares
 
 pub returns-clause-delete : goal.returns-clause-delete
 returns-clause-delete c = delete_spares
+
+pub returns-clause-unlock : goal.returns-clause-unlock
+returns-clause-unlock c = unlock_spares

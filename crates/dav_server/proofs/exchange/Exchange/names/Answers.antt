@@ -1,7 +1,7 @@
 use Rattle.std.proofs.Common.{◌∙◌, sym, subst}
 use Rattle.std.proofs.lemmas.Bool.{false≢true}
 use Rattle.dav_server.specs.Head.{IsHead}
-use Rattle.dav_server.specs.Naming.{SaysLockToken}
+use Rattle.dav_engine.specs.LockToken.{SaysLockToken}
 use Rattle.dav_server.proofs.NamingLemmas.{unnamed, lock_named, named_by_if, with_head}
 use Rattle.dav_server.proofs.exchange.Exchange.names.Goals as goal
 

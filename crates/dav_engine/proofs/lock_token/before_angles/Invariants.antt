@@ -1,0 +1,12 @@
+-- What was passed over are angle brackets.
+use Rattle.std.proofs.Common.{◌≡◌, ◌++◌, ℕ, List, All, length}
+use denote.Shadow.{shadow}
+use denote.Text.{Utf8}
+use Rattle.dav_engine.specs.LockToken.{IsAngle}
+use Rattle.dav_engine.proofs.lock_token.before_angles.Given as goal
+
+abbrev pub invariant-loop-more : goal.invariant-loop-more
+invariant-loop-more l = shadow (Utf8 l.rest) × (back : List ℕ) × All IsAngle back × (l.text ≡ l.rest ++ back)
+
+abbrev pub decreases-loop-more : goal.decreases-loop-more
+decreases-loop-more l = length l.rest

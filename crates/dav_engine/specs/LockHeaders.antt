@@ -1,0 +1,51 @@
+-- What the headers of a LOCK say (RFC 4918, section 9.10), and how long the lock is to last.
+use Rattle.std.specs.Prelude.{ℕ, min, Bool, false, List, codes, if◌then◌else◌, Option, Some, None}
+use Rattle.std.specs.List.{slice_get}
+use Rattle.std.specs.Option.{option_map, option_and_then}
+use Rattle.http_header.specs.HeaderMap.{get_all}
+use Rattle.dav_core.specs.Path.{PathText, names}
+use Rattle.dav_headers.specs.Depth.{IsDepth}
+use Rattle.dav_headers.specs.Timeout.{IsTimeout}
+use Rattle.dav_headers.specs.declared.depth.Depth.{Depth}
+use Rattle.dav_headers.specs.declared.timeout.DavTimeout.{DavTimeout}
+use Rattle.dav_headers.specs.declared.timeout.DavTimeout.TheVariants.{Seconds, Infinite}
+use Rattle.dav_engine.specs.Conditions.{Conditions, AreConditions}
+use Rattle.dav_engine.specs.Headers.{Headers, Decodes}
+
+-- What the headers of a LOCK say: its conditions; how deep the lock goes; and how long it is wanted, in order of preference.
+pub record LockHeaders : Type 0 where
+  pub conditions : Conditions
+  pub depth : Option Depth
+  pub timeout : Option (List DavTimeout)
+
+pub record AreLockHeaders (headers : Headers) (p : PathText) (h : LockHeaders) : Type 0 where
+  pub conditions : AreConditions headers p.prefix (names p) h.conditions
+  pub depth : Decodes IsDepth (get_all headers (codes "depth")) h.depth
+  pub timeout : Decodes IsTimeout (get_all headers (codes "timeout")) h.timeout
+
+-- how many seconds a lock lasts at most, by whether it is shared: a day, or ten minutes
+abbrev pub longest : Bool → ℕ
+longest shared = if shared then 86400 else 600
+
+-- the first of the times that are wanted
+abbrev pub preferred : Option (List DavTimeout) → Option DavTimeout
+preferred timeout = option_and_then (λ times. slice_get times 0) timeout
+
+-- for how many seconds a new lock is granted where this time is wanted: at most as long as it may last
+abbrev pub granted_seconds : Bool → DavTimeout → ℕ
+granted_seconds shared (Seconds n) = min n (longest shared)
+granted_seconds shared Infinite = longest shared
+
+-- how many seconds a new lock lasts, by the preferred time; without one it never ends (RFC 4918, section 10.7)
+abbrev pub granted_for : Bool → Option (List DavTimeout) → Option ℕ
+granted_for shared timeout = option_map (granted_seconds shared) (preferred timeout)
+
+-- for how many seconds a lock, shared or not, is refreshed where this time is wanted: at most as long as an exclusive one may
+-- last; where the time is infinite, the lock never ends
+abbrev pub refreshed_seconds : DavTimeout → Option ℕ
+refreshed_seconds (Seconds n) = Some (min n (longest false))
+refreshed_seconds Infinite = None
+
+-- how many seconds a lock lasts that is refreshed; without a preferred time it never ends
+abbrev pub refreshed_for : Option (List DavTimeout) → Option ℕ
+refreshed_for timeout = option_and_then refreshed_seconds (preferred timeout)

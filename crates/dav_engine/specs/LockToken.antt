@@ -1,0 +1,30 @@
+-- Lock-Token (RFC 4918, section 10.5).
+use Rattle.std.specs.Prelude.{◌≡◌, ℕ, ◌++◌, ◌⊎◌, List, [], ◌∷◌, All, codes, Some}
+use Rattle.http_header.specs.HeaderMap.{get}
+use Rattle.dav_engine.specs.Headers.{Headers, text_in}
+
+-- `<` or `>`
+abbrev pub IsAngle : ℕ → Type 0
+IsAngle b = (b ≡ 60) ⊎ (b ≡ 62)
+
+-- it doesn't begin with `<` or `>`
+abbrev pub BeginsBare : List ℕ → Type 0
+BeginsBare text = (b : ℕ) (rest : List ℕ) → text ≡ b ∷ rest → ¬ IsAngle b
+
+-- it doesn't end with `<` or `>`
+abbrev pub EndsBare : List ℕ → Type 0
+EndsBare text = (front : List ℕ) (b : ℕ) → text ≡ front ++ b ∷ [] → ¬ IsAngle b
+
+-- the text without all `<` and `>` at its ends
+pub record IsBetweenAngles (text token : List ℕ) : Type 0 where
+  pub front : List ℕ
+  pub back : List ℕ
+  pub opening : All IsAngle front
+  pub closing : All IsAngle back
+  pub whole : text ≡ front ++ (token ++ back)
+  pub begins : BeginsBare token
+  pub ends : EndsBare token
+
+-- the token that Lock-Token says: its first value, where that is text, without the angle brackets
+abbrev pub SaysLockToken : Headers → List ℕ → Type 0
+SaysLockToken headers token = (text : List ℕ) × (text_in (get headers (codes "lock-token")) ≡ Some text) × IsBetweenAngles text token
