@@ -1,6 +1,7 @@
 -- How plans change the list of locks, part by part; and those of PUT, PATCH, MKCOL and DELETE.
 use Rattle.std.proofs.Common.{◌≡◌, ℕ, ◌==◌, ◌++◌, Bool, true, false, not, List, All, Contains, [], ◌∷◌, length, if◌then◌else◌, Option, Some, None, Result, Ok, Err, ◌⊎◌, inl, inr, refl, sym, subst, arith}
 use Rattle.std.proofs.lemmas.List.Elements.{All-append, All-cons, All-filter, All-head, All-push, All-same, All-tail}
+use Rattle.std.specs.Result.{result_ok}
 use Rattle.dav_core.specs.declared.errors.DavError.{DavError}
 use Rattle.dav_core.specs.declared.errors.DavError.TheVariants as dav
 use Rattle.dav_core.specs.declared.fs.DavMetaData.{DavMetaData}
@@ -14,15 +15,16 @@ use Rattle.dav_core.proofs.Theorems.{granted_are_shared, unlocked_are_shared, re
 use Rattle.dav_engine.specs.Client.{Client}
 use Rattle.dav_engine.specs.Conditions.{Conditions}
 use Rattle.dav_engine.specs.Delete.{whole_depth, drop_if_gone, delete_reply, delete_found, is_delete}
-use Rattle.dav_engine.specs.Folder.{closed}
+use Rattle.dav_engine.specs.Folder.{closed, location_found}
 use Rattle.dav_engine.specs.Guard.{OnList}
-use Rattle.dav_engine.specs.ListChanges.{IsChange, grants, refreshes, unlocks, drops, AreChanges, no_change, a_change, ChangesList, changes_done, changes_ask, changes_look, changes_list, ListsAreChanged, ListsAreChangedCut, ChangesKeepShared, HaveTokens, ChangesBringTokens, ReadingChangesList, PutChangesList, MkcolChangesList, DeleteChangesList}
+use Rattle.dav_engine.specs.ListChanges.{IsChange, grants, refreshes, unlocks, drops, AreChanges, no_change, a_change, ChangesList, changes_done, changes_ask, changes_look, changes_list, ListsAreChanged, ListsAreChangedCut, ChangesKeepShared, HaveTokens, ChangesBringTokens, ReadingChangesList, PutChangesList, MkcolChangesList, DeleteChangesList, UnlockChangesList}
 use Rattle.dav_engine.specs.Method.{MethodPlan, then as followed_by, ◌>>=◌, gives, refused_as, ask_for}
 use Rattle.dav_engine.specs.Mkcol.{mkcol, create_error, is_mkcol}
 use Rattle.dav_engine.specs.Plan.{Plan, Done, CallStep, Locks, Ran, ran_done, ran_ask, ran_look, ran_keep, Refused, refused_done, refused_ask, refused_look, refused_keep, RanUpTo, up_to_here, up_to_ask, up_to_look, up_to_keep}
 use Rattle.dav_engine.specs.Put.{PutHeaders, put_opening, open_error, unsatisfiable, sought, store, put_body, bytes_of_body, is_put}
 use Rattle.dav_engine.specs.Removal.{Fault}
 use Rattle.dav_engine.specs.Response.{Response}
+use Rattle.dav_engine.specs.Unlock.{keep_left, end_lock, unlocked_reply, unlock, is_unlock}
 use Rattle.dav_engine.specs.WorldLaws.{IsReading, reads_done, reads_ask, reads_look}
 use Rattle.dav_engine.proofs.DeleteWorld.{only_delete_allowed, only_removal}
 use Rattle.dav_engine.proofs.PutWorld.{only_put_allowed, only_mkcol_allowed}
@@ -195,6 +197,17 @@ module _ (who : Client) where
       changes_bind _ (changes_only (only_delete_allowed c p who found)) (λ ks allowed.
       changes_bind _ (changes_only (only_removal deep who.moment p found.dir)) (λ js faults. changes_dropped js p faults))
 
+  -- ---- UNLOCK
+
+  changes_left : (ls : List Lock) (token : List ℕ) (p : Path) (reply : Response) (left : Option (List Lock)) → unlocked token p ls ≡ left → ChangesList who ls (keep_left left >>= (λ ended. gives reply))
+  changes_left ls token p reply None is = changes_done
+  changes_left ls token p reply (Some ms) is = changes_list (unlocks token p is) changes_done
+
+  changes_unlock : (ls : List Lock) (token : Option (List ℕ)) (p : PathText) → ChangesList who ls (unlock token p)
+  changes_unlock ls None p = changes_look changes_done
+  changes_unlock ls (Some token) p = changes_look (changes_ask (λ found. changes_look
+      (changes_left ls token (names p) (unlocked_reply (location_found (result_ok found) p)) (unlocked token (names p) ls) refl)))
+
 pub reading_changes_list : ReadingChangesList
 reading_changes_list who ls plan reads = changes_reading reads
 
@@ -209,3 +222,6 @@ delete_changes_list headers p who ls plan (is_delete k are) =
     changes_then (whole_depth k.depth) _ (λ deep.
     changes_ask (λ answer. changes_then (refused_as dav.FsError answer) _ (λ found.
     changes_found who ls deep k.conditions (closed found.dir p) found)))
+
+pub unlock_changes_list : UnlockChangesList
+unlock_changes_list headers p who ls plan (is_unlock token said) = changes_unlock who ls token p

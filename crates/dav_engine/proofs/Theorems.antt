@@ -12,7 +12,7 @@ pub use Rattle.dav_engine.proofs.Following.{follows_done, follows_ask, follows_o
 pub use Rattle.dav_engine.proofs.GrantLemmas.{shared_guards, folders_are_above}
 pub use Rattle.dav_engine.proofs.GuardLemmas.{carried}
 pub use Rattle.dav_engine.proofs.GuardedFolders.{free_for_is}
-pub use Rattle.dav_engine.proofs.ListChangeLemmas.{lists_are_changed, lists_are_changed_cut, changes_keep_shared, changes_bring_tokens, tokens_after_all, changes_join, changes_reading, reading_changes_list, put_changes_list, mkcol_changes_list, delete_changes_list}
+pub use Rattle.dav_engine.proofs.ListChangeLemmas.{lists_are_changed, lists_are_changed_cut, changes_keep_shared, changes_bring_tokens, tokens_after_all, changes_join, changes_reading, reading_changes_list, put_changes_list, mkcol_changes_list, delete_changes_list, unlock_changes_list}
 pub use Rattle.dav_engine.proofs.LockTokenLemmas.{one_lock_token}
 pub use Rattle.dav_engine.proofs.ModelLemmas.{serves_from}
 pub use Rattle.dav_engine.proofs.NumberLemmas.{spare_numbers_suffice}

@@ -17,6 +17,7 @@ use Rattle.dav_engine.specs.Mkcol.{IsMkcol}
 use Rattle.dav_engine.specs.Plan.{Plan, Done, Ask, Look, Keep, Locks, Ran, Cut}
 use Rattle.dav_engine.specs.Put.{IsPut}
 use Rattle.dav_engine.specs.Response.{Response}
+use Rattle.dav_engine.specs.Unlock.{IsUnlock}
 use Rattle.dav_engine.specs.WorldLaws.{IsReading}
 
 -- One change of the list by a request of this client: a lock with the client's token is granted where it may be, and stands at
@@ -86,3 +87,9 @@ abbrev pub DeleteChangesList : Type 0
 DeleteChangesList =
     (headers : Headers) (p : PathText) (who : Client) (ls : List Lock) (plan : MethodPlan Response)
     → IsDelete headers p who plan → ChangesList who ls plan
+
+-- and so does an UNLOCK
+abbrev pub UnlockChangesList : Type 0
+UnlockChangesList =
+    (headers : Headers) (p : PathText) (who : Client) (ls : List Lock) (plan : MethodPlan Response)
+    → IsUnlock headers p who plan → ChangesList who ls plan

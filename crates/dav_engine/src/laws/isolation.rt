@@ -4,7 +4,7 @@ ghost use Rattle.dav_engine.specs.AlongsidePlans.{PutGoesAlong, MkcolGoesAlong, 
 ghost use Rattle.dav_engine.specs.Ending.{KeptLocksStand, KeptLocksStandCut, ReadingKeepsLocks, PutKeepsLocks, MkcolKeepsLocks, DeleteKeepsLocks, UnlockKeepsLocks};
 ghost use Rattle.dav_engine.specs.Guard.{FreeIsHeld, FreeIsApart, FreeIsUncovered, GrantedGuards, SharedGuards};
 ghost use Rattle.dav_engine.specs.Inside.{FoldersAreAbove};
-ghost use Rattle.dav_engine.specs.ListChanges.{ListsAreChanged, ListsAreChangedCut, ChangesKeepShared, ChangesBringTokens, ReadingChangesList, PutChangesList, MkcolChangesList, DeleteChangesList};
+ghost use Rattle.dav_engine.specs.ListChanges.{ListsAreChanged, ListsAreChangedCut, ChangesKeepShared, ChangesBringTokens, ReadingChangesList, PutChangesList, MkcolChangesList, DeleteChangesList, UnlockChangesList};
 ghost use Rattle.dav_engine.specs.Sparing.{SparingLeavesCovered, SparingLeavesCoveredCut, SparingLeavesInside};
 ghost use Rattle.dav_engine.specs.SparingPlans.{ReadingSpares, PutSpares, MkcolSpares, DeleteSpares, UnlockSpares};
 
@@ -86,6 +86,7 @@ pub fn lists_are_changed()
     ensures put { PutChangesList }
     ensures mkcol { MkcolChangesList }
     ensures delete { DeleteChangesList }
+    ensures unlock { UnlockChangesList }
 {}
 
 /// Through such changes locks that cover one path stay shared, and no lock has a token but those that locks had before, and the

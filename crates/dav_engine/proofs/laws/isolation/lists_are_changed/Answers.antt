@@ -1,4 +1,4 @@
-use Rattle.dav_engine.proofs.ListChangeLemmas.{lists_are_changed, lists_are_changed_cut, reading_changes_list, put_changes_list, mkcol_changes_list, delete_changes_list}
+use Rattle.dav_engine.proofs.ListChangeLemmas.{lists_are_changed, lists_are_changed_cut, reading_changes_list, put_changes_list, mkcol_changes_list, delete_changes_list, unlock_changes_list}
 use Rattle.dav_engine.proofs.laws.isolation.lists_are_changed.Goals as goal
 
 pub returns-clause-changed : goal.returns-clause-changed
@@ -18,3 +18,6 @@ returns-clause-mkcol c = mkcol_changes_list
 
 pub returns-clause-delete : goal.returns-clause-delete
 returns-clause-delete c = delete_changes_list
+
+pub returns-clause-unlock : goal.returns-clause-unlock
+returns-clause-unlock c = unlock_changes_list
