@@ -13,7 +13,7 @@ pub use Rattle.dav_engine.proofs.GrantLemmas.{shared_guards, folders_are_above}
 pub use Rattle.dav_engine.proofs.GuardLemmas.{carried}
 pub use Rattle.dav_engine.proofs.GuardedFolders.{free_for_is}
 pub use Rattle.dav_engine.proofs.ListChangeLemmas.{lists_are_changed, lists_are_changed_cut, changes_keep_shared, changes_bring_tokens, tokens_after_all, changes_join, changes_reading, reading_changes_list, put_changes_list, mkcol_changes_list, delete_changes_list, unlock_changes_list}
-pub use Rattle.dav_engine.proofs.LockTokenLemmas.{one_lock_token}
+pub use Rattle.dav_engine.proofs.LockTokenLemmas.{last_is, one_lock_token}
 pub use Rattle.dav_engine.proofs.ModelLemmas.{serves_from}
 pub use Rattle.dav_engine.proofs.NumberLemmas.{spare_numbers_suffice}
 pub use Rattle.dav_engine.proofs.OnePlanLemmas.{one_conditions, one_put_plan, one_mkcol_plan, one_delete_plan, one_unlock_plan}
@@ -24,6 +24,6 @@ pub use Rattle.dav_engine.proofs.SomePlanLemmas.{some_conditions, some_put_plan,
 pub use Rattle.dav_engine.proofs.SparingDelete.{delete_spares}
 pub use Rattle.dav_engine.proofs.SparingLaw.{sparing_leaves_covered, sparing_leaves_covered_cut, sparing_leaves_inside}
 pub use Rattle.dav_engine.proofs.SparingPlans.{reading_spares, put_spares, mkcol_spares}
-pub use Rattle.dav_engine.proofs.UnlockPlans.{unlock_is_proper, unlock_ends_lock, unlock_spares, unlock_keeps_locks, unlock_goes_along}
+pub use Rattle.dav_engine.proofs.UnlockPlans.{unlock_is_proper, unlock_ends_lock, refused_unlock_leaves_all, unlock_spares, unlock_keeps_locks, unlock_goes_along}
 pub use Rattle.dav_engine.proofs.WorldPlans.{only_reads, reading_leaves, ran_split, ran_outcome, Only, only_done, only_ask, only_look, only_then, only_bind, only_require, only_proper, proper_keeps}
 pub use Rattle.dav_engine.proofs.WrongPlans.{put_without_a_look, late_look_spares_nothing, mkcol_by_parent_spares_nothing, lock_above_is_no_reason, numbers_are_not_told}

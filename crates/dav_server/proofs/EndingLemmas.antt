@@ -10,37 +10,39 @@ use Rattle.dav_engine.specs.Client.{Client}
 use Rattle.dav_engine.specs.Ending.{KeepsLock, keeps_done}
 use Rattle.dav_engine.specs.Guard.{Stands}
 use Rattle.dav_engine.specs.Headers.{Headers}
+use Rattle.dav_engine.specs.LockToken.{SaysLockToken}
 use Rattle.dav_engine.specs.Method.{MethodPlan}
 use Rattle.dav_engine.specs.Plan.{Locks}
 use Rattle.dav_engine.specs.Response.{Response}
 use Rattle.dav_engine.specs.SparingPlans.{IsStranger}
-use Rattle.dav_engine.proofs.Theorems.{kept_locks_stand, kept_locks_stand_cut, reading_keeps_locks, put_keeps_locks, mkcol_keeps_locks, delete_keeps_locks}
+use Rattle.dav_engine.proofs.Theorems.{kept_locks_stand, kept_locks_stand_cut, reading_keeps_locks, put_keeps_locks, mkcol_keeps_locks, delete_keeps_locks, unlock_keeps_locks}
 use Rattle.dav_server.specs.Ending.{NoLockEnds, NoLockEndsCut, EndsNoLock}
 use Rattle.dav_server.specs.Get.{get, is_get}
 use Rattle.dav_server.specs.Head.{Request, IsHead}
-use Rattle.dav_server.specs.Machine.{Settings, Asked, PlanOf, gets, heads, puts, patches, makes, deletes, not_yet, MeansOf, not_allowed, no_path, no_body, method, Means, no_head, no_method, known, StepCut, untouched, cut, steps}
-use Rattle.dav_server.specs.Naming.{NamesToken}
+use Rattle.dav_server.specs.Machine.{Settings, Asked, PlanOf, gets, heads, puts, patches, makes, deletes, releases, not_yet, MeansOf, not_allowed, no_path, no_body, method, Means, no_head, no_method, known, StepCut, untouched, cut, steps}
+use Rattle.dav_server.specs.Naming.{NamesToken, by_lock_token}
 use Rattle.dav_server.specs.Run.{Turn, begun}
 use Rattle.dav_server.specs.Server.{Server}
 use Rattle.dav_server.proofs.GetWorld.{get_is_reading}
 use Rattle.dav_server.proofs.StrangerLemmas.{is_stranger}
 
 -- a method that is served leaves each lock that its client doesn't hold
-plan_keeps : (h : Lock) {allowed : ℕ} {headers : Headers} {p : PathText} {body : Body} {who : Client} {m : DavMethod} {plan : MethodPlan Response} → IsStranger headers p who h → PlanOf allowed headers p body who m plan → KeepsLock h plan
-plan_keeps h {p = p} {who = who} stranger (gets (is_get c are)) = reading_keeps_locks h (get Get c (names p) who.moment) (get_is_reading Get c (names p) who.moment)
-plan_keeps h {p = p} {who = who} stranger (heads (is_get c are)) = reading_keeps_locks h (get Head c (names p) who.moment) (get_is_reading Head c (names p) who.moment)
-plan_keeps h {headers = headers} {p} {body} {who} {plan = plan} stranger (puts is) = put_keeps_locks h Put headers p body who plan is
-plan_keeps h {headers = headers} {p} {body} {who} {plan = plan} stranger (patches is) = put_keeps_locks h Patch headers p body who plan is
-plan_keeps h {headers = headers} {p} {who = who} {plan = plan} stranger (makes is) = mkcol_keeps_locks h headers p who plan is
-plan_keeps h {headers = headers} {p} {who = who} {plan = plan} stranger (deletes is) = delete_keeps_locks h headers p who plan stranger is
-plan_keeps h stranger (not_yet out) = keeps_done
+plan_keeps : (h : Lock) {allowed : ℕ} {headers : Headers} {p : PathText} {body : Body} {who : Client} {m : DavMethod} {plan : MethodPlan Response} → IsStranger headers p who h → ¬ SaysLockToken headers h.token → PlanOf allowed headers p body who m plan → KeepsLock h plan
+plan_keeps h {p = p} {who = who} stranger unsaid (gets (is_get c are)) = reading_keeps_locks h (get Get c (names p) who.moment) (get_is_reading Get c (names p) who.moment)
+plan_keeps h {p = p} {who = who} stranger unsaid (heads (is_get c are)) = reading_keeps_locks h (get Head c (names p) who.moment) (get_is_reading Head c (names p) who.moment)
+plan_keeps h {headers = headers} {p} {body} {who} {plan = plan} stranger unsaid (puts is) = put_keeps_locks h Put headers p body who plan is
+plan_keeps h {headers = headers} {p} {body} {who} {plan = plan} stranger unsaid (patches is) = put_keeps_locks h Patch headers p body who plan is
+plan_keeps h {headers = headers} {p} {who = who} {plan = plan} stranger unsaid (makes is) = mkcol_keeps_locks h headers p who plan is
+plan_keeps h {headers = headers} {p} {who = who} {plan = plan} stranger unsaid (deletes is) = delete_keeps_locks h headers p who plan stranger is
+plan_keeps h {headers = headers} {p} {who = who} {plan = plan} stranger unsaid (releases is) = unlock_keeps_locks h headers p who plan unsaid is
+plan_keeps h stranger unsaid (not_yet out) = keeps_done
 
 module _ (h : Lock) (x : Asked) (other : ¬ NamesToken x h.token) where
   of_keeps : {s : Settings} (r : Request) {m : DavMethod} {plan : MethodPlan Response} → IsHead x.head r → MeansOf s x r m plan → KeepsLock h plan
   of_keeps r head (not_allowed out) = keeps_done
   of_keeps r head (no_path e has none) = keeps_done
   of_keeps r head (no_body p e has named bad) = keeps_done
-  of_keeps r head (method p body has named good is) = plan_keeps h (is_stranger h x r head p (λ named. other named.token)) is
+  of_keeps r head (method p body has named good is) = plan_keeps h (is_stranger h x r head p (λ named. other named.token)) (λ says. other (by_lock_token r head says)) is
 
   pub means_keeps : {s : Settings} {plan : MethodPlan Response} → Means s x plan → KeepsLock h plan
   means_keeps (no_head out) = keeps_done

@@ -1,5 +1,5 @@
 -- The plans of a holder's requests go along with themselves.
-use Rattle.std.proofs.Common.{◌≡◌, ◌≢◌, ℕ, Result, Ok, sym, subst}
+use Rattle.std.proofs.Common.{◌≡◌, ◌≢◌, ℕ, Result, Ok, refl, sym, subst, ◌∙◌}
 use Rattle.dav_core.specs.declared.errors.DavError.{DavError}
 use Rattle.dav_core.specs.declared.method.DavMethod.{DavMethod}
 use Rattle.dav_core.specs.declared.method.DavMethod.TheVariants.{Get, Head, Put, Patch, Options, Unlock}
@@ -10,14 +10,16 @@ use Rattle.dav_engine.specs.Alongside.{side_err}
 use Rattle.dav_engine.specs.AlongsidePlans.{SubmitsAlone, GoesAlong}
 use Rattle.dav_engine.specs.Conditions.{Conditions, AreConditions}
 use Rattle.dav_engine.specs.Guard.{IsGuard, IsInReach}
+use Rattle.dav_engine.specs.Headers.{Headers}
+use Rattle.dav_engine.specs.LockToken.{SaysLockToken}
 use Rattle.dav_engine.specs.Method.{MethodPlan}
 use Rattle.dav_engine.specs.Response.{Response}
-use Rattle.dav_engine.proofs.Theorems.{holders, in_reach, only_lists, put_goes_along, mkcol_goes_along, delete_goes_along}
+use Rattle.dav_engine.proofs.Theorems.{holders, in_reach, only_lists, put_goes_along, mkcol_goes_along, delete_goes_along, unlock_goes_along}
 use Rattle.dav_server.specs.Get.{get, is_get}
 use Rattle.dav_server.specs.Head.{Request, IsHead}
 use Rattle.dav_server.specs.Headers.{headers_of}
-use Rattle.dav_server.specs.Holder.{IsHolderRequest, unlocks, acts}
-use Rattle.dav_server.specs.Machine.{Settings, Asked, client, PlanOf, gets, heads, puts, patches, makes, deletes, not_yet, MeansOf, not_allowed, no_path, no_body, method, Means, no_head, no_method, known}
+use Rattle.dav_server.specs.Holder.{MayHold, IsHolderRequest, unlocks, acts}
+use Rattle.dav_server.specs.Machine.{Settings, Asked, client, PlanOf, gets, heads, puts, patches, makes, deletes, releases, not_yet, MeansOf, not_allowed, no_path, no_body, method, Means, no_head, no_method, known}
 use Rattle.dav_server.specs.Method.{GivesServed}
 use Rattle.dav_server.specs.Target.{TargetNames}
 use Rattle.dav_server.proofs.AlongsideGet.{side_get}
@@ -44,6 +46,25 @@ holds s h x r m p (acts r' m' p' principal for reach may alone range) head gives
     let paths : p' ≡ p = one_path p' p (one_outcome s.prefix m r.target (Ok p') (Ok p) target named) in
     subst (Holds h r) paths (subst (λ (q : Request). Holds h q p') heads (record { within = reach; alone = alone }))
 
+-- what is known of a holder's UNLOCK with this head and path
+record HoldsUnlock (h : Lock) (r : Request) (p : PathText) : Type 0 where
+  within : IsInReach h (names p)
+  says : SaysLockToken (headers_of r.fields) h.token
+
+may_unlock : (s : Settings) (h : Lock) (x : Asked) (headers : Headers) (m : DavMethod) → m ≡ Unlock → ¬ MayHold s h x headers m
+may_unlock s h x headers m is may = subst (λ (n : DavMethod). MayHold s h x headers n) is may
+
+holds_unlock : (s : Settings) (h : Lock) (x : Asked) (r : Request) (m : DavMethod) (p : PathText) → IsHolderRequest s h x → IsHead x.head r → GivesServed r.method (Ok m) → TargetNames s.prefix m r.target (Ok p) → Unlock ≡ m → HoldsUnlock h r p
+holds_unlock s h x r m p (unlocks r' p' principal for reach says) head gives named is =
+    let heads : r' ≡ r = one_head x.head r' r for.head head in
+    let target : TargetNames s.prefix m r.target (Ok p') = subst (λ (n : DavMethod). TargetNames s.prefix n r.target (Ok p')) is (subst (λ (q : Request). TargetNames s.prefix Unlock q.target (Ok p')) heads for.target) in
+    let paths : p' ≡ p = one_path p' p (one_outcome s.prefix m r.target (Ok p') (Ok p) target named) in
+    subst (HoldsUnlock h r) paths (subst (λ (q : Request). HoldsUnlock h q p') heads (record { within = reach; says = says }))
+holds_unlock s h x r m p (acts r' m' p' principal for reach may alone range) head gives named is =
+    let heads : r' ≡ r = one_head x.head r' r for.head head in
+    let methods : m' ≡ m = one_method r.method m' m (subst (λ (q : Request). GivesServed q.method (Ok m')) heads for.method) gives in
+    absurd (may_unlock s h x (headers_of r'.fields) m' (methods ∙ sym is) may)
+
 module _ (h : Lock) (guard : IsGuard h) where
   get_goes_along : (m : DavMethod) {r : Request} {p : PathText} (now : ℕ) (c : Conditions) → Holds h r p → AreConditions (headers_of r.fields) p.prefix (names p) c → GoesAlong h (get m c (names p) now)
   get_goes_along m {r} {p} now c k are =
@@ -52,20 +73,21 @@ module _ (h : Lock) (guard : IsGuard h) where
       (subst (λ (q : Path). GoesAlong h (get m (holders k.alone.lists) q now)) (sym at) (side_get h guard rest m now k.alone.only))
 
   plan_goes_along : (x : Asked) (r : Request) {allowed : ℕ} {m : DavMethod} {p : PathText} {body : Body} {plan : MethodPlan Response}
-      → (¬ (Unlock ≡ m) → Holds h r p) → (m ≢ Options → p.bytes ≢ star) → PlanOf allowed (headers_of r.fields) p body (client x) m plan → GoesAlong h plan
-  plan_goes_along x r k below (gets (is_get c are)) = get_goes_along Get (client x).moment c (k (λ e. cc)) are
-  plan_goes_along x r k below (heads (is_get c are)) = get_goes_along Head (client x).moment c (k (λ e. cc)) are
-  plan_goes_along x r {p = p} {body} {plan} k below (puts is) = let known = k (λ e. cc) in put_goes_along h Put (headers_of r.fields) p body (client x) plan guard known.within known.alone is
-  plan_goes_along x r {p = p} {body} {plan} k below (patches is) = let known = k (λ e. cc) in put_goes_along h Patch (headers_of r.fields) p body (client x) plan guard known.within known.alone is
-  plan_goes_along x r {p = p} {plan = plan} k below (makes is) = let known = k (λ e. cc) in mkcol_goes_along h (headers_of r.fields) p (client x) plan guard known.within known.alone is
-  plan_goes_along x r {p = p} {plan = plan} k below (deletes is) = let known = k (λ e. cc) in delete_goes_along h (headers_of r.fields) p (client x) plan guard (below (λ e. cc)) known.within known.alone is
-  plan_goes_along x r k below (not_yet out) = side_err
+      → (¬ (Unlock ≡ m) → Holds h r p) → (Unlock ≡ m → HoldsUnlock h r p) → (m ≢ Options → p.bytes ≢ star) → PlanOf allowed (headers_of r.fields) p body (client x) m plan → GoesAlong h plan
+  plan_goes_along x r k u below (gets (is_get c are)) = get_goes_along Get (client x).moment c (k (λ e. cc)) are
+  plan_goes_along x r k u below (heads (is_get c are)) = get_goes_along Head (client x).moment c (k (λ e. cc)) are
+  plan_goes_along x r {p = p} {body} {plan} k u below (puts is) = let known = k (λ e. cc) in put_goes_along h Put (headers_of r.fields) p body (client x) plan guard known.within known.alone is
+  plan_goes_along x r {p = p} {body} {plan} k u below (patches is) = let known = k (λ e. cc) in put_goes_along h Patch (headers_of r.fields) p body (client x) plan guard known.within known.alone is
+  plan_goes_along x r {p = p} {plan = plan} k u below (makes is) = let known = k (λ e. cc) in mkcol_goes_along h (headers_of r.fields) p (client x) plan guard known.within known.alone is
+  plan_goes_along x r {p = p} {plan = plan} k u below (deletes is) = let known = k (λ e. cc) in delete_goes_along h (headers_of r.fields) p (client x) plan guard (below (λ e. cc)) known.within known.alone is
+  plan_goes_along x r {p = p} {plan = plan} k u below (releases is) = let known = u refl in unlock_goes_along h (headers_of r.fields) p (client x) plan guard known.within known.says is
+  plan_goes_along x r k u below (not_yet out) = side_err
 
   of_goes_along : (s : Settings) (x : Asked) (r : Request) {m : DavMethod} {plan : MethodPlan Response} → IsHolderRequest s h x → IsHead x.head r → GivesServed r.method (Ok m) → MeansOf s x r m plan → GoesAlong h plan
   of_goes_along s x r holder head gives (not_allowed out) = side_err
   of_goes_along s x r holder head gives (no_path e has none) = side_err
   of_goes_along s x r holder head gives (no_body p e has named bad) = side_err
-  of_goes_along s x r {m} holder head gives (method p body has named good plan) = plan_goes_along x r (holds s h x r m p holder head gives named) (target_is_path named) plan
+  of_goes_along s x r {m} holder head gives (method p body has named good plan) = plan_goes_along x r (holds s h x r m p holder head gives named) (holds_unlock s h x r m p holder head gives named) (target_is_path named) plan
 
   -- a holder's plan goes along with itself
   pub means_along : (s : Settings) (x : Asked) {plan : MethodPlan Response} → IsHolderRequest s h x → Means s x plan → GoesAlong h plan

@@ -15,11 +15,11 @@ use Rattle.dav_engine.specs.ListChanges.{AreChanges, no_change, ChangesList, cha
 use Rattle.dav_engine.specs.Method.{MethodPlan}
 use Rattle.dav_engine.specs.Plan.{Locks}
 use Rattle.dav_engine.specs.Response.{Response}
-use Rattle.dav_engine.proofs.Theorems.{lists_are_changed, lists_are_changed_cut, changes_keep_shared, tokens_after_all, reading_changes_list, put_changes_list, mkcol_changes_list, delete_changes_list}
+use Rattle.dav_engine.proofs.Theorems.{lists_are_changed, lists_are_changed_cut, changes_keep_shared, tokens_after_all, reading_changes_list, put_changes_list, mkcol_changes_list, delete_changes_list, unlock_changes_list}
 use Rattle.dav_server.specs.Get.{get, is_get}
 use Rattle.dav_server.specs.Head.{Request}
 use Rattle.dav_server.specs.LockLists.{StepsChangeLists, StepsChangeListsCut, SharesLocks, IsHandedIn, TokensAreHandedIn}
-use Rattle.dav_server.specs.Machine.{Settings, Asked, client, PlanOf, gets, heads, puts, patches, makes, deletes, not_yet, MeansOf, not_allowed, no_path, no_body, method, Means, no_head, no_method, known, Steps, StepCut, untouched, cut, steps}
+use Rattle.dav_server.specs.Machine.{Settings, Asked, client, PlanOf, gets, heads, puts, patches, makes, deletes, releases, not_yet, MeansOf, not_allowed, no_path, no_body, method, Means, no_head, no_method, known, Steps, StepCut, untouched, cut, steps}
 use Rattle.dav_server.specs.Run.{Turn, begun, Runs, no_more, one_more}
 use Rattle.dav_server.specs.Server.{Server}
 use Rattle.dav_server.proofs.GetWorld.{get_is_reading}
@@ -31,6 +31,7 @@ plan_changes {headers = headers} {p} {body} {who} {plan = plan} (puts is) ls = p
 plan_changes {headers = headers} {p} {body} {who} {plan = plan} (patches is) ls = put_changes_list Patch headers p body who ls plan is
 plan_changes {headers = headers} {p} {who = who} {plan = plan} (makes is) ls = mkcol_changes_list headers p who ls plan is
 plan_changes {headers = headers} {p} {who = who} {plan = plan} (deletes is) ls = delete_changes_list headers p who ls plan is
+plan_changes {headers = headers} {p} {who = who} {plan = plan} (releases is) ls = unlock_changes_list headers p who ls plan is
 plan_changes (not_yet out) ls = changes_done
 
 module _ (x : Asked) (ls : List Lock) where

@@ -12,11 +12,11 @@ use Rattle.dav_engine.specs.Headers.{Headers}
 use Rattle.dav_engine.specs.Method.{MethodPlan, fails}
 use Rattle.dav_engine.specs.Plan.{Locks, Ran}
 use Rattle.dav_engine.specs.Response.{Response, reply_to}
-use Rattle.dav_engine.proofs.Theorems.{ran_same, ran_unset, one_conditions, one_put_plan, one_mkcol_plan, one_delete_plan}
+use Rattle.dav_engine.proofs.Theorems.{ran_same, ran_unset, one_conditions, one_put_plan, one_mkcol_plan, one_delete_plan, one_unlock_plan}
 use Rattle.dav_server.specs.Get.{get, IsGet, is_get}
 use Rattle.dav_server.specs.Head.{Request}
 use Rattle.dav_server.specs.Headers.{headers_of}
-use Rattle.dav_server.specs.Machine.{Settings, Asked, client, PlanOf, gets, heads, puts, patches, makes, deletes, not_yet, MeansOf, not_allowed, no_path, no_body, method, Means, no_head, no_method, known, Steps, steps}
+use Rattle.dav_server.specs.Machine.{Settings, Asked, client, PlanOf, gets, heads, puts, patches, makes, deletes, releases, not_yet, MeansOf, not_allowed, no_path, no_body, method, Means, no_head, no_method, known, Steps, steps}
 use Rattle.dav_server.specs.Method.{GivesServed}
 use Rattle.dav_server.specs.Run.{Turn, Runs, no_more, one_more, RunsAreDetermined}
 use Rattle.dav_server.proofs.HeadLemmas.{one_head}
@@ -46,12 +46,15 @@ one_plan {headers} {p} {who = who} {plan = plan} {other = other} (makes one) (ma
 one_plan (makes one) (not_yet out) = never out
 one_plan {headers} {p} {who = who} {plan = plan} {other = other} (deletes one) (deletes two) = one_delete_plan headers p who plan other one two
 one_plan (deletes one) (not_yet out) = never out
+one_plan {headers} {p} {who = who} {plan = plan} {other = other} (releases one) (releases two) = one_unlock_plan headers p who plan other one two
+one_plan (releases one) (not_yet out) = never out
 one_plan (not_yet out) (gets two) = never out
 one_plan (not_yet out) (heads two) = never out
 one_plan (not_yet out) (puts two) = never out
 one_plan (not_yet out) (patches two) = never out
 one_plan (not_yet out) (makes two) = never out
 one_plan (not_yet out) (deletes two) = never out
+one_plan (not_yet out) (releases two) = never out
 one_plan (not_yet out) (not_yet also) = refl
 
 one_error : {A : Type 0} {e f : DavError} → ◌≡◌ {A = Result A DavError} (Err e) (Err f) → e ≡ f

@@ -19,10 +19,10 @@ use Rattle.dav_engine.specs.Method.{MethodPlan}
 use Rattle.dav_engine.specs.Plan.{Locks}
 use Rattle.dav_engine.specs.Response.{Response}
 use Rattle.dav_engine.specs.WorldLaws.{IsReading, reads_done, IsProperPlan, proper_done}
-use Rattle.dav_engine.proofs.Theorems.{Kept, kept_same, kept_on, put_is_proper, mkcol_is_proper, delete_is_proper, reading_leaves, proper_keeps}
+use Rattle.dav_engine.proofs.Theorems.{Kept, kept_same, kept_on, put_is_proper, mkcol_is_proper, delete_is_proper, unlock_is_proper, reading_leaves, proper_keeps}
 use Rattle.dav_server.specs.Get.{IsGet, is_get}
 use Rattle.dav_server.specs.Head.{Request, IsHead}
-use Rattle.dav_server.specs.Machine.{Settings, Asked, PlanOf, gets, heads, puts, patches, makes, deletes, not_yet, MeansOf, not_allowed, no_path, no_body, method, Means, no_head, no_method, known, Steps, steps}
+use Rattle.dav_server.specs.Machine.{Settings, Asked, PlanOf, gets, heads, puts, patches, makes, deletes, releases, not_yet, MeansOf, not_allowed, no_path, no_body, method, Means, no_head, no_method, known, Steps, steps}
 use Rattle.dav_server.specs.Method.{GivesServed}
 use Rattle.dav_server.specs.Run.{Turn, begun, Runs, no_more, one_more}
 use Rattle.dav_server.specs.TagLaws.{HasMethod, AreShowable, ReadingLeaves, RunsKeepWorlds}
@@ -89,6 +89,7 @@ plan_proper {headers} {p} {body} {who} {plan = plan} storable small (puts is) = 
 plan_proper {headers} {p} {body} {who} {plan = plan} storable small (patches is) = put_is_proper Patch headers p body who plan storable small is
 plan_proper {headers} {p} {who = who} {plan = plan} storable small (makes is) = mkcol_is_proper headers p who plan storable small is
 plan_proper {headers} {p} {who = who} {plan = plan} storable small (deletes is) = delete_is_proper headers p who plan small is
+plan_proper {headers} {p} {who = who} {plan = plan} storable small (releases is) = unlock_is_proper headers p who plan is
 plan_proper storable small (not_yet out) = proper_done
 
 of_proper : {s : Settings} {x : Asked} {r : Request} {m : DavMethod} {plan : MethodPlan Response} → x.moment ≤ last_moment → MeansOf s x r m plan → IsProperPlan plan
@@ -149,6 +150,7 @@ plan_reads is (puts out) = absurd (true≢false (sym is))
 plan_reads is (patches out) = absurd (true≢false (sym is))
 plan_reads is (makes out) = absurd (true≢false (sym is))
 plan_reads is (deletes out) = absurd (true≢false (sym is))
+plan_reads is (releases out) = absurd (true≢false (sym is))
 plan_reads is (not_yet out) = reads_done
 
 of_reads : {s : Settings} {x : Asked} {r : Request} {m : DavMethod} {plan : MethodPlan Response} → is_reading m ≡ true → MeansOf s x r m plan → IsReading plan

@@ -20,6 +20,7 @@ use Rattle.dav_engine.specs.Method.{MethodPlan}
 use Rattle.dav_engine.specs.Mkcol.{create_error, made, mkcol, is_mkcol}
 use Rattle.dav_engine.specs.Plan.{Locks, Ran, ran_done, ran_ask, ran_look}
 use Rattle.dav_engine.specs.Response.{Response, reply_to}
+use Rattle.dav_engine.proofs.Theorems.{last_is}
 use Rattle.dav_server.specs.Head.{Request, IsHead}
 use Rattle.dav_server.specs.Holder.{IsHolderRequest, acts}
 use Rattle.dav_server.specs.Isolation.{RunsUnder, under_none, under_more, Alone, alone_none, alone_other, alone_own, AnswerAlike, alike_other, alike_own, AreAlone}
@@ -27,7 +28,6 @@ use Rattle.dav_server.specs.Machine.{Asked, client, Means, known, method, makes,
 use Rattle.dav_server.specs.Naming.{NamesLock, by_if}
 use Rattle.dav_server.specs.Run.{Turn, no_more, one_more}
 use Rattle.dav_server.specs.Target.{TargetNames, path}
-use Rattle.dav_server.proofs.NamingLemmas.{last_is}
 use Rattle.dav_server.proofs.WorkedRun.{a, token, lock, stranger, turn_with, settings, no_conditions, own_conditions, own_list, own_says, before, holding, head_to, request_to, request_head, one_field, if_field, letter_name, own_fields, own_if, holder_fields, holder_says}
 use Rattle.dav_server.proofs.NeededPremises.{apart, refuted, b, at_b, other_b, plan_b, other_b_means, other_b_names, with_b, missing_b, makes_b, number_b}
 

@@ -32,11 +32,12 @@ use Rattle.dav_engine.specs.Mkcol.{is_mkcol}
 use Rattle.dav_engine.specs.Plan.{Locks, Ran, ran_ask}
 use Rattle.dav_engine.specs.Put.{bytes_of_body, is_put}
 use Rattle.dav_engine.specs.Response.{Response, reply_to}
+use Rattle.dav_engine.specs.Unlock.{is_unlock}
 use Rattle.dav_engine.proofs.Theorems.{Did, did, ran_split, ran_outcome}
 use Rattle.dav_server.specs.Get.{not_modified, show_or_tell, judged, get, is_get}
 use Rattle.dav_server.specs.Head.{Request}
 use Rattle.dav_server.specs.Headers.{headers_of}
-use Rattle.dav_server.specs.Machine.{Settings, Asked, Taken, TakesBytes, TakesTree, TakesNone, taken_by, body_for, PlanOf, gets, heads, puts, patches, makes, deletes, not_yet, MeansOf, not_allowed, no_path, no_body, method, Means, no_head, no_method, known, Steps, steps}
+use Rattle.dav_server.specs.Machine.{Settings, Asked, Taken, TakesBytes, TakesTree, TakesNone, taken_by, body_for, PlanOf, gets, heads, puts, patches, makes, deletes, releases, not_yet, MeansOf, not_allowed, no_path, no_body, method, Means, no_head, no_method, known, Steps, steps}
 use Rattle.dav_server.specs.Method.{GivesServed}
 use Rattle.dav_server.specs.Run.{Turn, begun, Runs, no_more, one_more}
 use Rattle.dav_server.specs.TagLaws.{AreShowable, LacksTag, NotModifiedIsTrue}
@@ -44,7 +45,7 @@ use Rattle.dav_server.specs.Target.{TargetNames}
 use Rattle.dav_server.proofs.GetWorld.{Stands, after_found, file_kind, told_of, stands_known, known_bytes}
 use Rattle.dav_server.proofs.HeadLemmas.{one_head}
 use Rattle.dav_server.proofs.MeansWorld.{all_front, all_back, begun_world, turn_keeps, run_keeps, one_method}
-use Rattle.dav_server.proofs.PlanStatuses.{Outcome, Any, IsOther, fs_other, outcome_if, ran_ends, conditions_end, ends_put, ends_mkcol, ends_delete, ends_show_or_tell, other_status}
+use Rattle.dav_server.proofs.PlanStatuses.{Outcome, Any, IsOther, fs_other, outcome_if, ran_ends, conditions_end, ends_put, ends_mkcol, ends_delete, ends_unlock, ends_show_or_tell, other_status}
 use Rattle.dav_server.proofs.TagLemmas.{ShownAmong, shown_among, known_on, known_shown, shown_known, small_first, small_rest}
 use Rattle.dav_server.proofs.TargetLemmas.{one_outcome}
 
@@ -171,6 +172,7 @@ plan_304 {p = p} {given} {who} tag outcome says (puts (is_put h are)) ran is = a
 plan_304 {p = p} {given} {who} tag outcome says (patches (is_put h are)) ran is = absurd (other_status outcome (ran_ends (ends_put Patch h (names p) who (bytes_of_body given) refl) ran) is)
 plan_304 {p = p} {who = who} tag outcome says (makes (is_mkcol c are)) ran is = absurd (other_status outcome (ran_ends (ends_mkcol c p who) ran) is)
 plan_304 {p = p} {who = who} tag outcome says (deletes (is_delete h are)) ran is = absurd (other_status outcome (ran_ends (ends_delete h p who) ran) is)
+plan_304 {p = p} tag outcome says (releases (is_unlock token said)) ran is = absurd (other_status outcome (ran_ends (ends_unlock token p) ran) is)
 plan_304 tag outcome says (not_yet out) ran is = failed_status {e = dav.Status 501} (λ same. absurd (omega (arith, same))) ran is
 
 pub one_value : {A : Type 0} {a b : A} → ◌≡◌ {A = Result A DavError} (Ok a) (Ok b) → a ≡ b

@@ -13,7 +13,7 @@ use Rattle.dav_core.specs.declared.method.DavMethod.{DavMethod}
 use Rattle.dav_core.specs.declared.method.DavMethod.TheVariants.{Head, Patch, MkCol, Delete}
 use Rattle.dav_core.specs.Asking.{Call, Answer, StoreState, Asks, Write}
 use Rattle.dav_core.specs.Handle.{Handle, Opening}
-use Rattle.dav_core.specs.Locks.{Lock, Requester, deleted}
+use Rattle.dav_core.specs.Locks.{Lock, Requester, deleted, unlocked}
 use Rattle.dav_core.specs.Numbers.{max_u64}
 use Rattle.dav_core.specs.Path.{Path, PathText, names, are_equal}
 use Rattle.dav_core.specs.Status.{dav_status, fs_status}
@@ -28,7 +28,7 @@ use Rattle.dav_engine.specs.declared.put_headers.Bounds.TheVariants.{Unread, Who
 use Rattle.dav_engine.specs.declared.put_headers.Writing.{Writing}
 use Rattle.dav_engine.specs.Client.{Client, requester}
 use Rattle.dav_engine.specs.Conditions.{Conditions, Addressed, is_reading, matches_found, item_holds, while_true, while_false, all_hold, some_holds, if_holds, http_conditions, if_match, unless, status_as, guarded}
-use Rattle.dav_engine.specs.Method.{MethodPlan, then as followed_by, ◌>>=◌, gives, require, require_free, refused_as, ask_for, set_by}
+use Rattle.dav_engine.specs.Method.{MethodPlan, then as followed_by, ◌>>=◌, gives, require, require_free, required, has_locks, refused_as, ask_for, set_by}
 use Rattle.dav_engine.specs.Delete.{DeleteHeaders, whole_depth, delete_allowed, drop_if_gone, delete_reply, delete_found, delete}
 use Rattle.dav_engine.specs.Folder.{closed as folder_path}
 use Rattle.dav_engine.specs.Mkcol.{mkcol, create_error}
@@ -37,6 +37,7 @@ use Rattle.dav_engine.specs.Plan.{Done, Ask, Look, Keep, Locks, Ran, ran_done, r
 use Rattle.dav_engine.specs.Put.{PutHeaders, from_end, update_from, update_at, updates, written_by, placed, bounded, bounded_by, writing_of, open_error, put_opening, sought, written, is_announced, unsatisfiable, spans, store, put_allowed, put_body}
 use Rattle.dav_engine.specs.Removal.{Fault, report_of}
 use Rattle.dav_engine.specs.Response.{Response, reply_to}
+use Rattle.dav_engine.specs.Unlock.{keep_left, end_in, end_lock, unlock}
 use Rattle.dav_engine.proofs.Theorems.{Gives, gives_done, gives_ask, gives_look, gives_keep, gives_removal}
 use Rattle.dav_server.specs.Get.{show, show_or_tell}
 
@@ -375,6 +376,24 @@ ends_delete h p who =
     h p who (depth_other h.depth) store_other (λ q found.
     ends_bind _ (ends_guarded dav.Status Delete h.conditions (Some found) (λ status other. other) refl) (λ tokens any.
     ends_free true (requester who tokens) (names q) (dav.Status 423) (λ same. absurd (omega (arith, same)))))
+
+-- ---- UNLOCK
+
+ends_left : (left : Option (List Lock)) → Ends IsOther Any (keep_left left)
+ends_left None = ends_done (λ same. absurd (omega (arith, same)))
+ends_left (Some ls) = ends_keep (ends_done tt)
+
+ends_in : (token : List ℕ) (p : Path) (ls : Locks) → Ends IsOther Any (end_in token p ls)
+ends_in token p None = ends_done (λ same. absurd (omega (arith, same)))
+ends_in token p (Some ls) = ends_left (unlocked token p ls)
+
+ends_said : (token : Option (List ℕ)) (p : PathText) → Ends IsOther AnswersOther (Done (required token (dav.Status 400)) >>= (λ said. end_lock p said))
+ends_said None p = ends_done (λ same. absurd (omega (arith, same)))
+ends_said (Some token) p =
+    ends_ask (λ found. ends_look (λ ls. ends_bind _ (ends_in token (names p) ls) (λ ended any. ends_done (λ same. absurd (omega (arith, same))))))
+
+pub ends_unlock : (token : Option (List ℕ)) (p : PathText) → Ends IsOther AnswersOther (unlock token p)
+ends_unlock token p = ends_look (λ ls. ends_bind _ (ends_require (has_locks ls) (dav.Status 405) (λ same. absurd (omega (arith, same)))) (λ u any. ends_said token p))
 
 -- ---- GET and HEAD, where the conditions hold
 

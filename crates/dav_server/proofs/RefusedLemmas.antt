@@ -9,6 +9,7 @@ use Rattle.dav_core.specs.declared.method.DavMethod.TheVariants.{Get, Head, Put,
 use Rattle.std.specs.Bool.{⊤}
 use Rattle.dav_core.specs.Asking.{Call, Open, CreateDir, Write, meaning, StoreState, Asks as Asking}
 use Rattle.dav_core.specs.Handle.{Handle, Opening}
+use Rattle.dav_core.specs.Locks.{Lock, unlocked}
 use Rattle.dav_core.specs.Path.{Path, PathText, names}
 use Rattle.dav_core.specs.Status.{dav_status, fs_status}
 use Rattle.dav_core.specs.World.{World}
@@ -17,20 +18,21 @@ use Rattle.dav_engine.specs.declared.put_headers.Writing.{Writing}
 use Rattle.dav_engine.specs.Client.{Client}
 use Rattle.dav_engine.specs.Conditions.{Conditions}
 use Rattle.dav_engine.specs.Headers.{Headers}
-use Rattle.dav_engine.specs.Method.{MethodPlan, then as followed_by, ◌>>=◌, gives, ask_for, ask_or, refused_as}
+use Rattle.dav_engine.specs.Method.{MethodPlan, then as followed_by, ◌>>=◌, gives, ask_for, ask_or, refused_as, required, has_locks}
 use Rattle.dav_engine.specs.Delete.{DeleteHeaders, whole_depth, delete, is_delete}
 use Rattle.dav_engine.specs.Mkcol.{mkcol_allowed, create_error, made, is_mkcol}
-use Rattle.dav_engine.specs.Plan.{Locks, Ran, ran_ask}
+use Rattle.dav_engine.specs.Plan.{Locks, Done, Ran, ran_ask}
 use Rattle.dav_engine.specs.Put.{PutHeaders, put_opening, open_error, unsatisfiable, sought, written, store, put_allowed, put_body, bytes_of_body, is_put}
 use Rattle.dav_engine.specs.Response.{Response, reply_to}
+use Rattle.dav_engine.specs.Unlock.{keep_left, end_in, end_lock, unlock, IsUnlock, is_unlock}
 use Rattle.dav_engine.specs.WorldLaws.{reads_done}
-use Rattle.dav_engine.proofs.Theorems.{Did, stays, means, did, look_reads, only_put_allowed, only_mkcol_allowed, only_delete_allowed, Only, only_done, only_ask, only_look, only_reads, reading_leaves, ran_split, refused_delete_leaves_all}
+use Rattle.dav_engine.proofs.Theorems.{Did, stays, means, did, look_reads, only_put_allowed, only_mkcol_allowed, only_delete_allowed, only_require, Only, only_done, only_ask, only_look, only_reads, reading_leaves, ran_split, refused_delete_leaves_all, refused_unlock_leaves_all}
 use Rattle.dav_server.specs.Get.{is_get}
 use Rattle.dav_server.specs.Head.{Request}
-use Rattle.dav_server.specs.Machine.{Settings, Asked, PlanOf, gets, heads, puts, patches, makes, deletes, not_yet, MeansOf, not_allowed, no_path, no_body, method, no_head, no_method, known, steps}
+use Rattle.dav_server.specs.Machine.{Settings, Asked, PlanOf, gets, heads, puts, patches, makes, deletes, releases, not_yet, MeansOf, not_allowed, no_path, no_body, method, no_head, no_method, known, steps}
 use Rattle.dav_server.specs.WriteLaws.{IsRefusedStatus, RefusedLeaves}
 use Rattle.dav_server.proofs.GetWorld.{get_is_reading}
-use Rattle.dav_server.proofs.PlanStatuses.{Outcome, Any, Ends, ends_done, ends_ask, ends_look, ends_then, ends_bind, ends_either, ends_deleting, ran_ends}
+use Rattle.dav_server.proofs.PlanStatuses.{Outcome, Any, Ends, ends_done, ends_ask, ends_look, ends_keep, ends_then, ends_bind, ends_either, ends_deleting, ran_ends}
 
 -- ---- statuses that come after a change
 
@@ -163,6 +165,32 @@ delete_leaves h p who (Ok r) (inl is) ran = absurd ((ran_ends (later_delete h p 
 delete_leaves h p who (Ok r) (inr is) ran = absurd ((ran_ends (later_delete h p who) ran).1 is)
 delete_leaves h p who (Err e) {old} {new} {ls} {ms} refused ran = refused_delete_leaves_all h p who old new ls ms e ran
 
+-- ---- UNLOCK
+
+later_left : (left : Option (List Lock)) → Ends (λ e. ⊤) Any (keep_left left)
+later_left None = ends_done tt
+later_left (Some ls) = ends_keep (ends_done tt)
+
+later_in : (token : List ℕ) (p : Path) (ls : Locks) → Ends (λ e. ⊤) Any (end_in token p ls)
+later_in token p None = ends_done tt
+later_in token p (Some ls) = later_left (unlocked token p ls)
+
+later_said : (token : Option (List ℕ)) (p : PathText) → Ends (λ e. ⊤) LaterReply (Done (required token (dav.Status 400)) >>= (λ said. end_lock p said))
+later_said None p = ends_done tt
+later_said (Some token) p =
+    ends_ask (λ found. ends_look (λ ls. ends_bind _ (later_in token (names p) ls) (λ ended any.
+    ends_done (λ same. absurd (omega (arith, same)), λ same. absurd (omega (arith, same))))))
+
+-- no reply to an UNLOCK has such a status, but one that an error makes
+later_unlock : (token : Option (List ℕ)) (p : PathText) → Ends (λ e. ⊤) LaterReply (unlock token p)
+later_unlock token p = ends_look (λ ls. ends_bind _ (only_ends (only_require {P = λ c. ⊤} (has_locks ls) (dav.Status 405))) (λ u any. later_said token p))
+
+unlock_leaves : (headers : Headers) (p : PathText) (who : Client) (plan : MethodPlan Response) (outcome : Result Response DavError) {old new : StoreState} {ls ms : Locks}
+    → IsRefusedStatus (reply_to outcome).status → IsUnlock headers p who plan → Ran Asking plan old ls outcome new ms → Same old ls new ms
+unlock_leaves headers p who plan (Ok r) (inl is) (is_unlock token said) ran = absurd ((ran_ends (later_unlock token p) ran).0 is)
+unlock_leaves headers p who plan (Ok r) (inr is) (is_unlock token said) ran = absurd ((ran_ends (later_unlock token p) ran).1 is)
+unlock_leaves headers p who plan (Err e) {old} {new} {ls} {ms} refused its ran = refused_unlock_leaves_all headers p who plan old new ls ms e its ran
+
 -- ---- a step
 
 plan_leaves : {allowed : ℕ} {headers : Headers} {p : PathText} {given : Body} {who : Client} {m : DavMethod} {plan : MethodPlan Response} (outcome : Result Response DavError) {old new : StoreState} {ls ms : Locks}
@@ -175,6 +203,7 @@ plan_leaves {p = p} {who = who} outcome refused (makes (is_mkcol c are)) ran =
     let parts = ran_split (mkcol_allowed c p who) _ ran in
     mkcol_leaves c p who parts.outcome outcome refused parts.first parts.rest
 plan_leaves {p = p} {who = who} outcome refused (deletes (is_delete h are)) ran = delete_leaves h p who outcome refused ran
+plan_leaves {headers = headers} {p} {who = who} {plan = plan} outcome refused (releases is) ran = unlock_leaves headers p who plan outcome refused is ran
 plan_leaves outcome refused (not_yet out) ran = reading_leaves reads_done ran
 
 of_leaves : {s : Settings} {x : Asked} {r : Request} {m : DavMethod} {plan : MethodPlan Response} (outcome : Result Response DavError) {old new : StoreState} {ls ms : Locks}

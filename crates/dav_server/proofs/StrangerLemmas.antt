@@ -23,11 +23,11 @@ use Rattle.dav_engine.specs.Plan.{Locks}
 use Rattle.dav_engine.specs.Response.{Response}
 use Rattle.dav_engine.specs.Sparing.{spares_err, Spared}
 use Rattle.dav_engine.specs.SparingPlans.{IsStranger, SparesBoth}
-use Rattle.dav_engine.proofs.Theorems.{sparing_leaves_covered, sparing_leaves_covered_cut, reading_spares, put_spares, mkcol_spares, delete_spares}
+use Rattle.dav_engine.proofs.Theorems.{sparing_leaves_covered, sparing_leaves_covered_cut, reading_spares, put_spares, mkcol_spares, delete_spares, unlock_spares}
 use Rattle.dav_server.specs.Get.{get, is_get}
 use Rattle.dav_server.specs.Head.{Request, IsHead}
 use Rattle.dav_server.specs.Headers.{headers_of}
-use Rattle.dav_server.specs.Machine.{Settings, Asked, client, PlanOf, gets, heads, puts, patches, makes, deletes, not_yet, MeansOf, not_allowed, no_path, no_body, method, Means, no_head, no_method, known, StepCut, untouched, cut, steps}
+use Rattle.dav_server.specs.Machine.{Settings, Asked, client, PlanOf, gets, heads, puts, patches, makes, deletes, releases, not_yet, MeansOf, not_allowed, no_path, no_body, method, Means, no_head, no_method, known, StepCut, untouched, cut, steps}
 use Rattle.dav_server.specs.Naming.{NamesLock, by_if}
 use Rattle.dav_server.specs.Passing.{NoLockIsPassed, NoLockIsPassedCut, PassesNoLock}
 use Rattle.dav_server.specs.Run.{Turn, begun}
@@ -78,6 +78,7 @@ module _ (h : Lock) (exclusive : h.shared ≡ false) (x : Asked) (other : ¬ Nam
   plan_spares r head {p} {body} {plan = plan} below (patches is) = put_spares h Patch (headers_of r.fields) p body (client x) plan exclusive (is_stranger h x r head p other) is
   plan_spares r head {p = p} {plan = plan} below (makes is) = mkcol_spares h (headers_of r.fields) p (client x) plan exclusive (is_stranger h x r head p other) is
   plan_spares r head {p = p} {plan = plan} below (deletes is) = delete_spares h (headers_of r.fields) p (client x) plan exclusive (below (λ e. cc)) (is_stranger h x r head p other) is
+  plan_spares r head {p = p} {plan = plan} below (releases is) = unlock_spares h (headers_of r.fields) p (client x) plan is
   plan_spares r head below (not_yet out) = (spares_err, spares_err)
 
   of_spares : (r : Request) → IsHead x.head r → {s : Settings} {m : DavMethod} {plan : MethodPlan Response} → MeansOf s x r m plan → SparesBoth h plan

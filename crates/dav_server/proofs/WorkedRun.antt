@@ -34,6 +34,7 @@ use Rattle.dav_engine.specs.Method.{MethodPlan}
 use Rattle.dav_engine.specs.Mkcol.{mkcol, made, is_mkcol}
 use Rattle.dav_engine.specs.Plan.{Locks, Ran, ran_done, ran_ask, ran_look}
 use Rattle.dav_engine.specs.Response.{Response, error_reply}
+use Rattle.dav_engine.proofs.Theorems.{last_is}
 use Rattle.dav_server.specs.Head.{Request, IsHead, request_of_head}
 use Rattle.dav_server.specs.Headers.{headers_of}
 use Rattle.dav_server.specs.Holder.{IsHolderRequest, acts}
@@ -45,7 +46,6 @@ use Rattle.dav_server.specs.TagLaws.{AreShowable}
 use Rattle.dav_server.specs.Target.{TargetNames, path}
 use Rattle.dav_server.proofs.HeadLemmas.{one_head}
 use Rattle.dav_server.proofs.IsolationLemmas.{holders_are_alone}
-use Rattle.dav_server.proofs.NamingLemmas.{last_is}
 
 -- ---- the lock, and the two requests
 

@@ -3,7 +3,7 @@ use Rattle.std.specs.Prelude.{◌≡◌, ℕ, Bool, true, false, List, [], ◌�
 use Rattle.dav_core.specs.declared.errors.DavError.{DavError}
 use Rattle.dav_core.specs.declared.errors.DavError.TheVariants as dav
 use Rattle.dav_core.specs.declared.method.DavMethod.{DavMethod}
-use Rattle.dav_core.specs.declared.method.DavMethod.TheVariants.{Get, Head, Put, Patch, MkCol, Delete, PropFind, PropPatch, Lock}
+use Rattle.dav_core.specs.declared.method.DavMethod.TheVariants.{Get, Head, Put, Patch, MkCol, Delete, PropFind, PropPatch, Lock, Unlock}
 use Rattle.dav_core.specs.Asking.{StoreState, Asks}
 use Rattle.dav_core.specs.Element.{ElementTree, depth_of}
 use Rattle.dav_core.specs.Method.{Has}
@@ -18,6 +18,7 @@ use Rattle.dav_engine.specs.Delete.{IsDelete}
 use Rattle.dav_engine.specs.Mkcol.{IsMkcol}
 use Rattle.dav_engine.specs.Put.{IsPut}
 use Rattle.dav_engine.specs.Response.{Response, reply_to}
+use Rattle.dav_engine.specs.Unlock.{IsUnlock}
 use Rattle.dav_server.specs.Get.{IsGet}
 use Rattle.dav_server.specs.Head.{Request, IsHead}
 use Rattle.dav_server.specs.Headers.{headers_of}
@@ -82,6 +83,7 @@ is_done Put = true
 is_done Patch = true
 is_done MkCol = true
 is_done Delete = true
+is_done Unlock = true
 is_done _ = false
 
 -- The plan of a method, with the set of the methods that are allowed, its headers, its path and its body. 501 for a method that isn't served yet.
@@ -92,6 +94,7 @@ pub data PlanOf (allowed : ℕ) (headers : Headers) (p : PathText) (body : Body)
   patches : {plan : MethodPlan Response} → IsPut Patch headers p body who plan → PlanOf allowed headers p body who Patch plan
   makes : {plan : MethodPlan Response} → IsMkcol headers p who plan → PlanOf allowed headers p body who MkCol plan
   deletes : {plan : MethodPlan Response} → IsDelete headers p who plan → PlanOf allowed headers p body who Delete plan
+  releases : {plan : MethodPlan Response} → IsUnlock headers p who plan → PlanOf allowed headers p body who Unlock plan
   not_yet : {m : DavMethod} → is_done m ≡ false → PlanOf allowed headers p body who m (fails (dav.Status 501))
 
 -- The plan that a request results in, given what its head says and its method. It is refused, before anything is asked of

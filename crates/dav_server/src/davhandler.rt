@@ -6,7 +6,7 @@ ghost use Rattle.std.specs.Option.{option_map, option_copied};
 ghost use Rattle.dav_core.specs.declared.errors.DavError.TheVariants.{Memory};
 ghost use Rattle.dav_engine.specs.Follows.{Serves};
 ghost use Rattle.dav_core.specs.World.{last_moment};
-ghost use Rattle.dav_engine.specs.AtWork.{MkcolOf, DeleteOf, PutOf};
+ghost use Rattle.dav_engine.specs.AtWork.{MkcolOf, DeleteOf, PutOf, UnlockOf};
 ghost use Rattle.dav_engine.specs.ConditionView.{locks_in};
 ghost use Rattle.dav_server.specs.Get.{GetOf};
 ghost use Rattle.dav_engine.specs.Response.{error_reply};
@@ -235,6 +235,7 @@ fn serve<F: DavFileSystem, L: DavLockSystem>(
         DavMethod::Patch => inner!(handler, caller).handle_put(alloc, request, body),
         DavMethod::MkCol => inner!(handler, caller).handle_mkcol(alloc, request, body),
         DavMethod::Delete => inner!(handler, caller).handle_delete(alloc, request, body),
+        DavMethod::Unlock => inner!(handler, caller).handle_unlock(alloc, request, body),
         _ => Err(DavError::Status(StatusCode::NOT_IMPLEMENTED)),
     }
 }

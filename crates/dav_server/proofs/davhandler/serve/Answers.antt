@@ -1,8 +1,8 @@
 use Rattle.std.proofs.Common.{ap, subst}
-use Rattle.dav_engine.specs.AtWork.{PutOf, MkcolOf, DeleteOf}
+use Rattle.dav_engine.specs.AtWork.{PutOf, MkcolOf, DeleteOf, UnlockOf}
 use Rattle.dav_engine.specs.Put.{IsPut}
 use Rattle.dav_server.specs.Get.{IsGet, GetOf}
-use Rattle.dav_server.specs.Machine.{client, gets, heads, puts, patches, makes, deletes, not_yet}
+use Rattle.dav_server.specs.Machine.{client, gets, heads, puts, patches, makes, deletes, releases, not_yet}
 use Rattle.dav_server.proofs.MethodLemmas.{is_not_done}
 use Rattle.dav_server.proofs.StepLemmas.{serves_as, serves_asked, serves_by, serves_held, serves_error, plan_at}
 use Rattle.dav_server.proofs.davhandler.serve.Goals as goal
@@ -37,5 +37,10 @@ returns-in-Delete-clause-serves g c =
     serves_as (λ plan is. plan_at c.in-Delete.is (deletes is))
     (serves_held c.handler.view_is (serves_by (ap (DeleteOf c.args.request.now) c.caller_of.ensures.client) c.handle_delete.ensures.serves))
 
+pub returns-in-Unlock-clause-serves : goal.returns-in-Unlock-clause-serves
+returns-in-Unlock-clause-serves g c =
+    serves_as (λ plan is. plan_at c.in-Unlock.is (releases is))
+    (serves_held c.handler.view_is (serves_by (ap (UnlockOf c.args.request.now) c.caller_of.ensures.client) c.handle_unlock.ensures.serves))
+
 pub returns-in_default-clause-serves : goal.returns-in_default-clause-serves
-returns-in_default-clause-serves g c = serves_error _ (not_yet (is_not_done _ c.in_default.not-Get c.in_default.not-Head c.in_default.not-Put c.in_default.not-Patch c.in_default.not-MkCol c.in_default.not-Delete))
+returns-in_default-clause-serves g c = serves_error _ (not_yet (is_not_done _ c.in_default.not-Get c.in_default.not-Head c.in_default.not-Put c.in_default.not-Patch c.in_default.not-MkCol c.in_default.not-Delete c.in_default.not-Unlock))
