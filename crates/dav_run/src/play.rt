@@ -258,6 +258,8 @@ mod publishing;
 #[cfg(test)]
 mod refused_calls;
 #[cfg(test)]
+mod removing;
+#[cfg(test)]
 mod tests;
 #[cfg(test)]
 mod whole_scripts;

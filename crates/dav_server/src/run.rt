@@ -10,6 +10,8 @@ ghost use Rattle.dav_server.specs.Passing.{PassesNoLock};
 ghost use Rattle.dav_server.specs.Server.{AddsReply, AnswersAll, AnswersSome, StopsIn, TagsTell, at_turn, turns};
 
 #[cfg(test)]
+mod removals;
+#[cfg(test)]
 mod tests;
 
 use crate::davhandler::DavHandler;

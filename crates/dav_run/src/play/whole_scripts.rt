@@ -73,7 +73,7 @@ const REFUSED_REQUESTS: &str = r##"
 {"requests":[{"head":"OPTIONS * HTTP/1.1\r\n\r\n"}]}
 {"body":null,"headers":{"content-length":"0"},"status":501}
 # a method that is known and not implemented
-{"requests":[{"head":"DELETE /x HTTP/1.1\r\n\r\n"}]}
+{"requests":[{"head":"PROPFIND /x HTTP/1.1\r\n\r\n"}]}
 {"body":null,"headers":{"content-length":"0"},"status":501}
 # a body of DELETE, which takes none
 {"requests":[{"head":"DELETE /x HTTP/1.1\r\n\r\n","body":{"text":"x"}}]}

@@ -38,6 +38,39 @@ MKCOL /d/x HTTP/1.1\r\n\r\n | by ben -> 423\ncontent-length: 0\n
 MKCOL /d HTTP/1.1\r\n\r\n -> 201\n
 anna locks /d -> granted
 PUT /d/a HTTP/1.1\r\nContent-Length: 1\r\nIf: (<urn:t:1>)\r\n\r\n | bytes x | by anna -> 201\naccept-ranges: bytes\ncontent-length: 0\netag: "3"\nlast-modified: Thu, 01 Jan 1970 00:00:01 GMT\n
+# a locked member keeps its folder, also where the folder's name is escaped; anna's DELETE without the token too
+MKCOL /d HTTP/1.1\r\n\r\n -> 201\n
+MKCOL /d/a HTTP/1.1\r\n\r\n -> 201\n
+anna locks /d/a -> granted
+DELETE /d HTTP/1.1\r\n\r\n | by ben -> 423\ncontent-length: 0\n
+DELETE /%64 HTTP/1.1\r\n\r\n | by ben -> 423\ncontent-length: 0\n
+DELETE /d/a HTTP/1.1\r\n\r\n | by anna -> 423\ncontent-length: 0\n
+DELETE /d HTTP/1.1\r\nIf: <http://h/d/a> (<urn:t:1>)\r\n\r\n | by ben -> 423\ncontent-length: 0\n
+GET /d/a HTTP/1.1\r\n\r\n -> 405\ncontent-length: 0\n
+# a lock below a folder ends with it, and so does one at its path
+MKCOL /d HTTP/1.1\r\n\r\n -> 201\n
+MKCOL /d/a HTTP/1.1\r\n\r\n -> 201\n
+anna locks /d/a -> granted
+DELETE /d HTTP/1.1\r\nIf: <http://h/d/a> (<urn:t:1>)\r\n\r\n | by anna -> 204\n
+MKCOL /d HTTP/1.1\r\n\r\n | by ben -> 201\n
+MKCOL /d/a HTTP/1.1\r\n\r\n | by ben -> 201\n
+anna locks /d -> granted
+DELETE /d HTTP/1.1\r\nIf: (<urn:t:1>)\r\n\r\n | by anna -> 204\n
+MKCOL /d HTTP/1.1\r\n\r\n | by ben -> 201\n
+# a member of a locked folder goes, and the lock stands
+MKCOL /d HTTP/1.1\r\n\r\n -> 201\n
+anna locks /d -> granted
+MKCOL /d/a HTTP/1.1\r\nIf: (<urn:t:1>)\r\n\r\n | by anna -> 201\n
+DELETE /d/a HTTP/1.1\r\nIf: (<urn:t:1>)\r\n\r\n | by anna -> 204\n
+MKCOL /d/a HTTP/1.1\r\n\r\n | by ben -> 423\ncontent-length: 0\n
+# DELETE of the root, by the holder of its lock: what is in it goes, it stays itself, and so does the lock
+MKCOL /d HTTP/1.1\r\n\r\n -> 201\n
+anna locks / -> granted
+DELETE / HTTP/1.1\r\nIf: (<urn:t:1>)\r\n\r\n | by anna -> 403\n
+GET /d HTTP/1.1\r\n\r\n -> 404\ncontent-length: 0\n
+MKCOL /d HTTP/1.1\r\n\r\n | by ben -> 423\ncontent-length: 0\n
+# the target `*` is for OPTIONS alone
+DELETE * HTTP/1.1\r\n\r\n -> 400\ncontent-length: 0\n
 "##;
 
 // Adds a header on a line.
@@ -49,26 +82,50 @@ fn add_header(text: &mut String, name: &HeaderName, value: &HeaderValue) -> Resu
     Ok(())
 }
 
+// Adds the texts of a response on a line.
+fn add_response(alloc: Global, text: &mut String, response: &Element) -> Result<(), Fail> {
+    for part in response.child_elems() {
+        if let Some(value) = part.get_text(alloc)? {
+            text.push(' ')?;
+            text.push_str(&value)?;
+        }
+    }
+    text.push_str("\n")?;
+    Ok(())
+}
+
+// Adds each response of a multistatus.
+fn add_responses(alloc: Global, text: &mut String, tree: &Element) -> Result<(), Fail> {
+    for response in tree.child_elems() {
+        add_response(alloc, text, response)?;
+    }
+    Ok(())
+}
+
 // Adds a body after an empty line.
-fn add_body(text: &mut String, body: &ReplyBody) -> Result<(), Fail> {
+fn add_body(alloc: Global, text: &mut String, body: &ReplyBody) -> Result<(), Fail> {
     match body {
         ReplyBody::Nothing => {}
         ReplyBody::Bytes(bytes) => {
             text.push_str("\n")?;
             text.push_str(str::from_utf8(bytes)?)?;
         }
-        ReplyBody::Tree(_) => text.push_str("\nTree")?,
+        ReplyBody::Tree(tree) => {
+            text.push_str("\n")?;
+            add_responses(alloc, text, tree)?;
+        }
     }
     Ok(())
 }
 
-/// A reply in one text: its status, each header on a line, and the bytes of its body after an empty line.
+/// A reply in one text: its status, each header on a line, and after an empty line the bytes of its body, or the texts of its
+/// responses, each on a line.
 pub(crate) fn shown(alloc: Global, reply: &Reply) -> Result<String, Fail> {
     let mut text = format!(in alloc; "{}\n", reply.status.as_u16())?;
     for (name, value) in reply.headers.iter() {
         add_header(&mut text, name, value)?;
     }
-    add_body(&mut text, &reply.body)?;
+    add_body(alloc, &mut text, &reply.body)?;
     Ok(text)
 }
 

@@ -8,8 +8,11 @@ use dav_core::method::DavMethodSet;
 use dav_engine::Body;
 use std::test::Fail;
 
-// A request one second after 1970 began. An empty body is none.
-fn exchange(head: &'static [u8], body: &'static [u8]) -> Result<Exchange<'static>, BadMoment> {
+/// A request one second after 1970 began. An empty body is none.
+pub(super) fn exchange(
+    head: &'static [u8],
+    body: &'static [u8],
+) -> Result<Exchange<'static>, BadMoment> {
     let body = if body.is_empty() {
         Body::None
     } else {
@@ -18,8 +21,8 @@ fn exchange(head: &'static [u8], body: &'static [u8]) -> Result<Exchange<'static
     Exchange::new(head, body, None, 1, None)
 }
 
-// A server with locks, of a new store that refuses calls by a list.
-fn refusing_server(alloc: Global) -> Result<DavHandler<Refusing<MemFs>, MemLs>, Fail> {
+/// A server with locks, of a new store that refuses calls by a list.
+pub(super) fn refusing_server(alloc: Global) -> Result<DavHandler<Refusing<MemFs>, MemLs>, Fail> {
     let fs = Refusing::new(MemFs::new(alloc)?);
     let ls = MemLs::new(alloc)?;
     Ok(DavHandler::new(alloc, "", DavMethodSet::all(), fs, Some(ls))?)
