@@ -69,6 +69,21 @@ anna locks / -> granted
 DELETE / HTTP/1.1\r\nIf: (<urn:t:1>)\r\n\r\n | by anna -> 403\n
 GET /d HTTP/1.1\r\n\r\n -> 404\ncontent-length: 0\n
 MKCOL /d HTTP/1.1\r\n\r\n | by ben -> 423\ncontent-length: 0\n
+# UNLOCK ends the lock of its token, whoever knows it, also from below the folder; then it is gone
+MKCOL /d HTTP/1.1\r\n\r\n -> 201\n
+anna locks /d -> granted
+UNLOCK /d HTTP/1.1\r\n\r\n | by anna -> 400\ncontent-length: 0\n
+UNLOCK /d HTTP/1.1\r\nLock-Token: <urn:t:2>\r\n\r\n | by anna -> 409\ncontent-length: 0\n
+UNLOCK / HTTP/1.1\r\nLock-Token: <urn:t:1>\r\n\r\n | by anna -> 409\ncontent-length: 0\n
+MKCOL /d/x HTTP/1.1\r\n\r\n | by ben -> 423\ncontent-length: 0\n
+UNLOCK /d/a HTTP/1.1\r\nLock-Token: <urn:t:1>\r\n\r\n | by ben -> 204\n
+MKCOL /d/x HTTP/1.1\r\n\r\n | by ben -> 201\n
+UNLOCK /d/a HTTP/1.1\r\nLock-Token: <urn:t:1>\r\n\r\n | by ben -> 409\ncontent-length: 0\n
+# at a folder without its slash it tells the folder's location; the body isn't taken
+MKCOL /d HTTP/1.1\r\n\r\n -> 201\n
+anna locks /d -> granted
+UNLOCK /d HTTP/1.1\r\nLock-Token: <urn:t:1>\r\n\r\n | bytes x -> 415\ncontent-length: 0\n
+UNLOCK /d HTTP/1.1\r\nLock-Token: <urn:t:1>\r\n\r\n -> 204\ncontent-location: /d/\n
 # the target `*` is for OPTIONS alone
 DELETE * HTTP/1.1\r\n\r\n -> 400\ncontent-length: 0\n
 "##;
