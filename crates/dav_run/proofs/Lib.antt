@@ -5,3 +5,4 @@ pub mod Headers
 pub mod Lines
 pub mod Played
 pub mod TreeLemmas
+pub mod ScriptTrees

@@ -1,8 +1,8 @@
 -- What is written when a script is played.
-use Rattle.std.specs.Prelude.{◌≡◌, ◌⊎◌, ◌++◌, ℕ, max, false, List, [], map, Some, None}
+use Rattle.std.specs.Prelude.{◌≡◌, ◌⊎◌, ◌++◌, ℕ, max, false, List, [], map, if◌then◌else◌, Some, None}
 use Rattle.dav_core.specs.Asking.{StoreState}
 use Rattle.dav_core.specs.World.{empty_from}
-use Rattle.dav_engine.specs.Plan.{ServerState}
+use Rattle.dav_engine.specs.Plan.{Locks, ServerState}
 use Rattle.dav_engine.specs.Response.{Response}
 use Rattle.dav_server.specs.Machine.{Settings}
 use Rattle.dav_server.specs.Run.{Turn}
@@ -13,10 +13,10 @@ use Rattle.dav_run.specs.Print.{lines_of}
 use Rattle.dav_run.specs.declared.play.Fault.{Fault}
 use Rattle.dav_run.specs.declared.play.Fault.TheVariants.{NotScript, Io, Memory}
 
--- a request of a script, with the refusals of the store's calls that it makes; it has no principal
+-- a request of a script, with the refusals of the store's calls that it makes
 abbrev pub turn_for : ScriptRequest → Turn
 turn_for r = record {
-  asked = record { head = r.head; body = r.body; principal = None; moment = r.moment; token = None };
+  asked = record { head = r.head; body = r.body; principal = r.principal; moment = r.moment; token = r.token };
   refusals = Some r.refusals;
 }
 
@@ -28,9 +28,13 @@ settings_for s = record { prefix = s.prefix; allowed = s.methods }
 abbrev pub new_store : ScriptContent → StoreState
 new_store s = record { world = empty_from (max s.next 1); refusals = []; short = false }
 
--- its state: that store, and no locks
+-- its list of locks, which is empty, where it has one
+abbrev pub new_locks : ScriptContent → Locks
+new_locks s = if s.locks then Some [] else None
+
+-- its state: that store, and those locks
 abbrev pub new_state : ScriptContent → ServerState
-new_state s = record { store = new_store s; locks = Some [] }
+new_state s = record { store = new_store s; locks = new_locks s }
 
 -- the server that a script sets up
 abbrev pub new_server : ScriptContent → Server

@@ -1,32 +1,39 @@
 -- Scripts: which JSON texts (RFC 8259) are a server and a list of requests, and which server and requests they are.
-use Rattle.std.specs.Prelude.{◌≡◌, ◌≤◌, ◌<◌, ◌^◌, ◌⊎◌, ⊤, ℕ, List, [], ◌∷◌, length, map, codes, Option, Some, None, Ok, IsUtf8, All, IsSomeAnd, option_and_then, string_bytes}
+use Rattle.std.specs.Prelude.{◌≡◌, ◌≤◌, ◌<◌, ◌^◌, ◌⊎◌, ⊤, ℕ, Bool, true, List, [], ◌∷◌, length, map, codes, Option, Some, None, Ok, IsUtf8, All, IfSome, IsSomeAnd, option_and_then, option_map, string_bytes}
 use Rattle.hex.specs.Hex.{decode_of}
 use Rattle.serde_json.specs.Data.{Data, null, Items, no_items, item, Members, no_members, member}
-use Rattle.serde_json.specs.Find.{get, as_str, as_number, as_array, as_object, as_u64}
+use Rattle.serde_json.specs.Find.{get, as_bool, as_str, as_number, as_array, as_object, as_u64}
 use Rattle.serde_json.specs.Read.{read}
+use Rattle.dav_core.specs.Element.{ElementTree, ElementTrees, is_element}
+use Rattle.dav_core.specs.Element as tree
 use Rattle.dav_core.specs.ErrorNames.{fs_error_name}
 use Rattle.dav_core.specs.Method.{IsNamedSet}
 use Rattle.dav_core.specs.declared.errors.FsError.{FsError}
 use Rattle.dav_engine.specs.declared.request.Body.{Body}
 use Rattle.dav_engine.specs.declared.request.Body.TheVariants as body
+use Rattle.dav_server.specs.GrantToken.{IsGrantToken}
 use Rattle.dav_run.specs.declared.request.Request as request
 use Rattle.dav_run.specs.declared.script.Script as script
 use Rattle.dav_run.specs.declared.script.Form.{Form}
-use Rattle.dav_run.specs.declared.script.Form.TheVariants.{Script, Request, Digits, Bytes}
+use Rattle.dav_run.specs.declared.script.Form.TheVariants.{Script, Request, Digits, Content, Tree}
 
--- A request of a script: the bytes of its head, its body, its moment in seconds since 1970, and the refusals of the
--- store's calls, the first call first: none lets a call through, and an error is its answer.
+-- A request of a script: the bytes of its head, its body, who makes it, its moment in seconds since 1970, the token for a lock
+-- that it creates, and the refusals of the store's calls, the first call first: none lets a call through, and an error is its
+-- answer.
 pub record ScriptRequest : Type 0 where
   pub head : List ℕ
   pub body : Body
+  pub principal : Option (List ℕ)
   pub moment : ℕ
+  pub token : Option (List ℕ)
   pub refusals : List (Option FsError)
 
--- A script: the prefix of the server's paths, the set of the methods that it allows, the change number that comes
--- next in its store, and the requests, in order.
+-- A script: the prefix of the server's paths, the set of the methods that it allows, whether it has locks, the change number
+-- that comes next in its store, and the requests, in order.
 pub record ScriptContent : Type 0 where
   pub prefix : List ℕ
   pub methods : ℕ
+  pub locks : Bool
   pub next : ℕ
   pub requests : List ScriptRequest
 
@@ -38,11 +45,13 @@ member_names (member name value more) = name ∷ member_names more
 -- the names that members of an object of this form may have
 abbrev pub IsMemberOf : Form → List ℕ → Type 0
 IsMemberOf Script name =
-    (name ≡ codes "methods") ⊎ ((name ≡ codes "next") ⊎ ((name ≡ codes "prefix") ⊎ (name ≡ codes "requests")))
+    (name ≡ codes "locks") ⊎ ((name ≡ codes "methods") ⊎ ((name ≡ codes "next") ⊎ ((name ≡ codes "prefix") ⊎ (name ≡ codes "requests"))))
 IsMemberOf Request name =
-    (name ≡ codes "body") ⊎ ((name ≡ codes "head") ⊎ ((name ≡ codes "moment") ⊎ (name ≡ codes "refuse")))
+    (name ≡ codes "body") ⊎ ((name ≡ codes "head") ⊎ ((name ≡ codes "moment") ⊎ ((name ≡ codes "principal") ⊎ ((name ≡ codes "refuse") ⊎ (name ≡ codes "token")))))
 IsMemberOf Digits name = name ≡ codes "hex"
-IsMemberOf Bytes name = (name ≡ codes "hex") ⊎ (name ≡ codes "text")
+IsMemberOf Content name = (name ≡ codes "element") ⊎ ((name ≡ codes "hex") ⊎ (name ≡ codes "text"))
+IsMemberOf Tree name =
+    (name ≡ codes "attributes") ⊎ ((name ≡ codes "children") ⊎ ((name ≡ codes "name") ⊎ ((name ≡ codes "namespace") ⊎ (name ≡ codes "prefix"))))
 
 -- an object whose members are all of this form
 abbrev pub IsObjectOf : Form → Data → Type 0
@@ -77,18 +86,72 @@ IsHeadText d bytes =
     IsText d bytes
     ⊎ (IsObjectOf Digits d × IsSomeAnd (get (codes "hex") d) (λ digits. IsDigits digits bytes))
 
--- a body is an object with one member: `hex`, its digits, or `text`
-abbrev pub IsBodyBytes : Data → List ℕ → Type 0
-IsBodyBytes d bytes =
-    IsObjectOf Bytes d
+-- a text, or none: where it is absent, and where it is null
+abbrev pub IsTextOrNone : Option Data → Option (List ℕ) → Type 0
+IsTextOrNone None text = text ≡ None
+IsTextOrNone (Some d) None = d ≡ null
+IsTextOrNone (Some d) (Some text) = IsText d text
+
+-- an attribute is a list of two texts, its name and its value
+abbrev pub IsAttribute : Data → List ℕ × List ℕ → Type 0
+IsAttribute d a = IsListOf IsText d (a.0 ∷ a.1 ∷ [])
+
+-- attributes are a list; there is none where it is absent
+abbrev pub AreAttributes : Option Data → List (List ℕ × List ℕ) → Type 0
+AreAttributes None attributes = attributes ≡ []
+AreAttributes (Some d) attributes = IsListOf IsAttribute d attributes
+
+-- the items of a list of children; there is none where it is absent
+abbrev pub child_items : Option Data → Option Items
+child_items None = Some no_items
+child_items (Some d) = as_array d
+
+abbrev mutual
+  -- A node of a tree: a text; or an element, which is an object with a name, and may have a prefix, a namespace, attributes and
+  -- children.
+  pub IsNode : Data → ElementTree → Type 0
+  IsNode d (tree.text bytes) = IsText d bytes
+  IsNode d (tree.element name prefix namespace attributes children) =
+      IsObjectOf Tree d
+      × IsSomeAnd (get (codes "name") d) (λ n. IsText n name)
+      × IsTextOrNone (get (codes "prefix") d) prefix
+      × IsTextOrNone (get (codes "namespace") d) namespace
+      × AreAttributes (get (codes "attributes") d) attributes
+      × AreNodes (child_items (get (codes "children") d)) children
+
+  -- children, in order
+  pub AreNodes : Option Items → ElementTrees → Type 0
+  AreNodes None nodes = ⊥
+  AreNodes (Some no_items) tree.no_trees = ⊤
+  AreNodes (Some no_items) (tree.tree_then t ts) = ⊥
+  AreNodes (Some (item d ds)) tree.no_trees = ⊥
+  AreNodes (Some (item d ds)) (tree.tree_then t ts) = IsNode d t × AreNodes (Some ds) ts
+
+-- a node that is an element
+abbrev pub IsElement : Data → ElementTree → Type 0
+IsElement d t = IsNode d t × (is_element t ≡ true)
+
+-- A body: null for none; an object with one member, the digits `hex` or the `text` of its bytes, or the tree `element`; or the word
+-- `malformed`, for bytes that were to be a tree.
+abbrev pub IsBodyValue : Data → Body → Type 0
+IsBodyValue d body.None = d ≡ null
+IsBodyValue d (body.Bytes bytes) =
+    IsObjectOf Content d × (get (codes "element") d ≡ None)
     × (((get (codes "text") d ≡ None) × IsSomeAnd (get (codes "hex") d) (λ digits. IsDigits digits bytes))
     ⊎ ((get (codes "hex") d ≡ None) × IsSomeAnd (get (codes "text") d) (λ text. IsText text bytes)))
+IsBodyValue d (body.Tree t) =
+    IsObjectOf Content d × (get (codes "text") d ≡ None) × (get (codes "hex") d ≡ None)
+    × IsSomeAnd (get (codes "element") d) (λ e. IsElement e t)
+IsBodyValue d body.Malformed = IsText d (codes "malformed")
 
--- a body that is absent or null is none; any other has bytes
+-- a body that is absent is none
 abbrev pub IsBody : Option Data → Body → Type 0
 IsBody None b = b ≡ body.None
-IsBody (Some d) b =
-    ((d ≡ null) × (b ≡ body.None)) ⊎ ((bytes : List ℕ) × (b ≡ body.Bytes bytes) × IsBodyBytes d bytes)
+IsBody (Some d) b = IsBodyValue d b
+
+-- a token that a lock may be granted with, or none
+abbrev pub IsToken : Option Data → Option (List ℕ) → Type 0
+IsToken o token = IsTextOrNone o token × IfSome token IsGrantToken
 
 -- a moment is a whole number, at most the last second of the year 9999; 0 where it is absent
 abbrev pub IsMoment : Option Data → ℕ → Type 0
@@ -105,12 +168,14 @@ abbrev pub AreRefusals : Option Data → List (Option FsError) → Type 0
 AreRefusals None refusals = refusals ≡ []
 AreRefusals (Some d) refusals = IsListOf IsRefusal d refusals
 
--- a request has a head, and may have a body, a moment and refusals
+-- a request has a head, and may have a body, a principal, a moment, a token and refusals
 pub record IsRequest (d : Data) (r : ScriptRequest) : Type 0 where
   pub members : IsObjectOf Request d
   pub head : IsSomeAnd (get (codes "head") d) (λ head. IsHeadText head r.head)
   pub body : IsBody (get (codes "body") d) r.body
+  pub principal : IsTextOrNone (get (codes "principal") d) r.principal
   pub moment : IsMoment (get (codes "moment") d) r.moment
+  pub token : IsToken (get (codes "token") d) r.token
   pub refusals : AreRefusals (get (codes "refuse") d) r.refusals
 
 -- a prefix is a text; empty where it is absent
@@ -128,16 +193,22 @@ abbrev pub IsMethods : Option Data → ℕ → Type 0
 IsMethods None set = set ≡ 65535
 IsMethods (Some d) set = IsSomeAnd (as_array d) (λ ds. AreMethods ds set)
 
+-- whether there are locks is true or false; there are where it is absent
+abbrev pub IsLocks : Option Data → Bool → Type 0
+IsLocks None locks = locks ≡ true
+IsLocks (Some d) locks = as_bool d ≡ Some locks
+
 -- the change number that comes next is a whole number; 1 where it is absent
 abbrev pub IsNext : Option Data → ℕ → Type 0
 IsNext None next = next ≡ 1
 IsNext (Some d) next = IsWholeNumber d next
 
--- a script has a list of requests, and may have a prefix, methods and a next change number
+-- a script has a list of requests, and may have a prefix, methods, locks and a next change number
 pub record IsScriptValue (d : Data) (s : ScriptContent) : Type 0 where
   pub members : IsObjectOf Script d
   pub prefix : IsPrefix (get (codes "prefix") d) s.prefix
   pub methods : IsMethods (get (codes "methods") d) s.methods
+  pub locks : IsLocks (get (codes "locks") d) s.locks
   pub next : IsNext (get (codes "next") d) s.next
   pub requests : IsSomeAnd (get (codes "requests") d) (λ list. IsListOf IsRequest list s.requests)
 
@@ -154,13 +225,21 @@ IsShort text = length text ≤ 16777216
 -- a request as it was read
 abbrev pub script_request : request.Request → ScriptRequest
 script_request r =
-    record { head = r.head.items; body = r.body; moment = r.moment; refusals = r.refusals.items }
+    record {
+      head = r.head.items;
+      body = r.body;
+      principal = option_map string_bytes r.principal;
+      moment = r.moment;
+      token = r.token;
+      refusals = r.refusals.items;
+    }
 
 -- a script as it was read
 abbrev pub script_content : script.Script → ScriptContent
 script_content s = record {
   prefix = string_bytes s.prefix;
   methods = s.methods;
+  locks = s.locks;
   next = s.next;
   requests = map script_request s.requests.items;
 }

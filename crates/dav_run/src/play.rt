@@ -1,5 +1,5 @@
 //! Plays a script: from the bytes of a reader to the lines of a writer.
-ghost use Rattle.std.specs.Prelude.{◌≡◌, ◌≢◌, ◌↔◌, ◌≤◌, map, take, ℕ, List, [], Some, IfSome, IfOk, IfErr, OnOk, IsErrOf};
+ghost use Rattle.std.specs.Prelude.{◌≡◌, ◌≢◌, ◌↔◌, ◌≤◌, map, take, ℕ, List, [], if◌then◌else◌, None, Some, IfSome, IfOk, IfErr, OnOk, IsErrOf};
 ghost use Rattle.std.specs.Io.KnownBytes.{Appends};
 ghost use Rattle.dav_run.specs.Print.{lines_of};
 ghost use Rattle.dav_run.specs.Script.{IsScript, IsShort, script_request, script_content};
@@ -13,7 +13,7 @@ use crate::script::{Script, ScriptError};
 use dav_core::errors::NoMemory;
 use dav_engine::{Body, Reply};
 use dav_server::davhandler::{DavHandler, HandlerError};
-use dav_server::exchange::Exchange;
+use dav_server::exchange::{Exchange, GrantToken};
 use dav_server::refusing::Refusing;
 use dav_server::run::{Step, run_refused};
 use dav_store::memfs::MemFs;
@@ -189,6 +189,17 @@ fn read_bytes<R: Read>(alloc: Global, reader: &mut R) -> Result<Vec<u8>, Fault>
     Err(Fault::NotScript)
 }
 
+// An empty list of locks, where there is to be one.
+fn locks_of(alloc: Global, wanted: bool) -> Result<Option<MemLs>, NoMemory>
+    ensures { IfOk result (λ ls. ls ≡ (if wanted then Some [] else None)) }
+{
+    if wanted {
+        Ok(Some(MemLs::new(alloc)?))
+    } else {
+        Ok(None)
+    }
+}
+
 // The server that a script sets up.
 fn server_of(alloc: Global, script: &Script) -> Result<DavHandler<Refusing<MemFs>, MemLs>, Fault>
     ensures prefix { OnOk result (IsPrefix (script_content script.now).prefix) }
@@ -199,8 +210,8 @@ fn server_of(alloc: Global, script: &Script) -> Result<DavHandler<Refusing<MemFs
     ensures bad { IsErrOf result NotScript → ¬ IsPrefix (script_content script.now).prefix }
 {
     let fs = Refusing::new(MemFs::new_at(alloc, script.next)?);
-    let ls = MemLs::new(alloc)?;
-    Ok(DavHandler::new(alloc, &script.prefix, script.methods, fs, Some(ls))?)
+    let ls = locks_of(alloc, script.locks)?;
+    Ok(DavHandler::new(alloc, &script.prefix, script.methods, fs, ls)?)
 }
 
 // The steps of a script.
@@ -210,19 +221,34 @@ fn steps_of(alloc: Global, script: &Script) -> Result<Vec<Step<'_>>, NoMemory>
 {
     let mut steps = Vec::new(alloc);
     for request in &script.requests {
-        steps.push(step_of(request)?)?;
+        steps.push(step_of(alloc, request)?)?;
     }
     Ok(steps)
 }
 
 // The step of a request. The exchange accepts its moment.
-fn step_of(request: &Request) -> Result<Step<'_>, NoMemory>
+fn step_of(alloc: Global, request: &Request) -> Result<Step<'_>, NoMemory>
     ensures { IfOk result (λ step. step ≡ turn_for (script_request request.now)) }
 {
     let body = body_of(&request.body)?;
     let refusals = request.refusals.clone()?;
-    let exchange = Exchange::new(&request.head, body, None, request.moment, None).unwrap();
+    let principal = request.principal.as_deref();
+    let token = token_of(alloc, &request.token)?;
+    let exchange = Exchange::new(&request.head, body, principal, request.moment, token).unwrap();
     Ok(Step { exchange, refusals })
+}
+
+// The same token.
+fn token_of(alloc: Global, token: &Option<GrantToken>) -> Result<Option<GrantToken>, NoMemory>
+    ensures { IfOk result (λ copy. copy ≡ token.now) }
+{
+    let Some(token) = token else {
+        return Ok(None);
+    };
+    match GrantToken::new(alloc, token.as_str()) {
+        Ok(copy) => Ok(Some(copy)),
+        Err(_) => Err(NoMemory),
+    }
 }
 
 // The same body, which shares its bytes.

@@ -3,6 +3,7 @@ ghost use Rattle.std.specs.Prelude.{◌≤◌};
 
 use dav_core::errors::FsError;
 use dav_engine::Body;
+use dav_server::exchange::GrantToken;
 
 /// A request of a script.
 #[derive(Drop)]
@@ -11,8 +12,12 @@ pub struct Request {
     pub head: Vec<u8>,
     /// What follows the head.
     pub body: Body,
+    /// Who makes the request, where that is known.
+    pub principal: Option<String>,
     /// When the request is made, in seconds since 1970; at most [`dav_server::exchange::LAST_MOMENT`].
     pub moment: u64,
+    /// The token for a lock that the request creates.
+    pub token: Option<GrantToken>,
     /// The refusals of the store's calls, the first call first: `None` lets a call through, and an error is its
     /// answer. Calls after the last one are let through.
     pub refusals: Vec<Option<FsError>>,

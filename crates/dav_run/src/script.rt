@@ -1,10 +1,11 @@
 //! Scripts: a server and the requests that are made to it, written as JSON (RFC 8259).
 //!
 //! A script is an object with a list `requests`. It may have a `prefix` (a text), `methods` (a list of the names of
-//! the allowed methods) and `next` (a whole number). A request is an object with a `head` (a text, or an object with
-//! the one member `hex`). It may have a `body` (null, or an object with one of the members `text` and `hex`), a
-//! `moment` (a whole number of seconds), and `refuse` (a list of null and names of errors).
-ghost use Rattle.std.specs.Prelude.{◌≡◌, ◌≢◌, ◌↔◌, ◌≤◌, ℕ, List, Option, All, map, option_map, string_bytes, IsTrue, OnOk, OnErr, IfOk, IsErrOf, IsOkUnless, MatchOption};
+//! the allowed methods), `locks` (true or false) and `next` (a whole number). A request is an object with a `head` (a
+//! text, or an object with the one member `hex`). It may have a `body` (null, an object with one of the members `text`,
+//! `hex` and `element`, or the word `malformed`), a `principal` (a text), a `moment` (a whole number of seconds), a
+//! `token` (a text that a lock may be granted with), and `refuse` (a list of null and names of errors).
+ghost use Rattle.std.specs.Prelude.{◌≡◌, ◌≢◌, ◌↔◌, ◌≤◌, ℕ, Bool, List, Option, All, map, option_map, string_bytes, IsTrue, OnOk, OnErr, IfOk, IsErrOf, IsOkUnless, MatchOption};
 ghost use Rattle.std.specs.Map.{keys_of};
 ghost use Rattle.serde_json.specs.View.{view, items_view};
 ghost use Rattle.serde_json.specs.Errors.{IsMemory};
@@ -13,7 +14,7 @@ ghost use Rattle.hex.specs.declared.error.FromHexError.TheVariants.{OutOfMemory}
 ghost use Rattle.dav_core.specs.ErrorNames.{fs_error_name};
 ghost use Rattle.dav_core.specs.declared.errors.FsError.{FsError};
 ghost use Rattle.dav_core.specs.Method.{texts_of};
-ghost use Rattle.dav_run.specs.Script.{IsMemberOf, IsObjectOf, AreItems, IsText, IsDigits, IsHeadText, IsBodyBytes, IsBody, IsMoment, IsRefusal, AreRefusals, IsPrefix, AreMethods, IsMethods, IsNext, IsRequest, IsScriptValue, IsScript, ScriptRequest, ScriptContent, script_request, script_content};
+ghost use Rattle.dav_run.specs.Script.{IsMemberOf, IsObjectOf, AreItems, IsText, IsTextOrNone, IsDigits, IsHeadText, IsBodyValue, IsBody, IsMoment, IsToken, IsLocks, IsRefusal, AreRefusals, IsPrefix, AreMethods, IsMethods, IsNext, IsRequest, IsScriptValue, IsScript, ScriptRequest, ScriptContent, script_request, script_content};
 ghost use Rattle.dav_engine.specs.declared.request.Body.{Body};
 ghost use Rattle.dav_run.specs.declared.script.ScriptError.TheVariants.{NotScript, Memory};
 
@@ -22,7 +23,8 @@ use bytes::Bytes;
 use dav_core::errors::FsError;
 use dav_core::method::{DavMethodSet, InvalidMethod};
 use dav_engine::Body;
-use dav_server::exchange::LAST_MOMENT;
+use dav_server::exchange::{GrantToken, LAST_MOMENT, TokenError};
+use elements::read_element;
 use hex::FromHexError;
 use serde_json::{Map, Value};
 use std::alloc::{AllocError, AllocFailed, Global};
@@ -91,6 +93,8 @@ pub struct Script {
     pub prefix: String,
     /// The methods that the server allows.
     pub methods: DavMethodSet,
+    /// Whether the server has locks.
+    pub locks: bool,
     /// The change number that comes next in the server's store, as it is in the script.
     pub next: u64,
     /// The requests, the first one first.
@@ -119,8 +123,10 @@ enum Form {
     Request,
     // Bytes as hexadecimal digits.
     Digits,
-    // Bytes as digits or as a text.
-    Bytes,
+    // The bytes of a body as digits or as a text, or its tree.
+    Content,
+    // An element.
+    Tree,
 }
 
 impl Form {
@@ -129,10 +135,17 @@ impl Form {
         ensures { IsTrue result ↔ IsMemberOf self name.now }
     {
         match self {
-            Form::Script => matches!(name, "methods" | "next" | "prefix" | "requests"),
-            Form::Request => matches!(name, "body" | "head" | "moment" | "refuse"),
+            Form::Script => matches!(name, "locks" | "methods" | "next" | "prefix" | "requests"),
+            Form::Request => matches!(
+                name,
+                "body" | "head" | "moment" | "principal" | "refuse" | "token"
+            ),
             Form::Digits => matches!(name, "hex"),
-            Form::Bytes => matches!(name, "hex" | "text"),
+            Form::Content => matches!(name, "element" | "hex" | "text"),
+            Form::Tree => matches!(
+                name,
+                "attributes" | "children" | "name" | "namespace" | "prefix"
+            ),
         }
     }
 
@@ -158,10 +171,12 @@ fn read_script(alloc: Global, value: &Value) -> Result<Script, ScriptError>
     let requests = read_requests(alloc, list)?;
     let prefix = read_prefix(alloc, value.get("prefix"))?;
     let methods = read_methods(alloc, value.get("methods"))?;
+    let locks = read_locks(value.get("locks"))?;
     let next = read_next(value.get("next"))?;
     Ok(Script {
         prefix,
         methods,
+        locks,
         next,
         requests,
     })
@@ -215,6 +230,19 @@ fn read_names(alloc: Global, list: &[Value]) -> Result<Vec<&str>, ScriptError>
     Ok(names)
 }
 
+// Whether there are locks; there are where the member is absent.
+fn read_locks(value: Option<&Value>) -> Result<bool, ScriptError>
+    ensures ok { IfOk result (IsLocks (option_map (λ v. view v.now) value.entry)) }
+    ensures none { OnErr result ((locks : Bool)
+        → ¬ IsLocks (option_map (λ v. view v.now) value.entry) locks) }
+    ensures err { IsOkUnless result NotScript }
+{
+    let Some(value) = value else {
+        return Ok(true);
+    };
+    value.as_bool().ok_or(ScriptError::NotScript)
+}
+
 // The change number that comes next; 1 where the member is absent.
 fn read_next(value: Option<&Value>) -> Result<u64, ScriptError>
     ensures ok { IfOk result (IsNext (option_map (λ v. view v.now) value.entry)) }
@@ -254,12 +282,16 @@ fn read_request(alloc: Global, value: &Value) -> Result<Request, ScriptError>
     };
     let head = read_head(alloc, head)?;
     let body = read_body(alloc, value.get("body"))?;
+    let principal = read_text_or_none(alloc, value.get("principal"))?;
     let moment = read_moment(value.get("moment"))?;
+    let token = read_token(alloc, value.get("token"))?;
     let refusals = read_refusals(alloc, value.get("refuse"))?;
     Ok(Request {
         head,
         body,
+        principal,
         moment,
+        token,
         refusals,
     })
 }
@@ -277,34 +309,91 @@ fn read_head(alloc: Global, value: &Value) -> Result<Vec<u8>, ScriptError>
     read_hex(alloc, value.get("hex").ok_or(ScriptError::NotScript)?)
 }
 
-// The body of a request; none where the member is absent or null.
+// The body of a request; none where the member is absent.
 fn read_body(alloc: Global, value: Option<&Value>) -> Result<Body, ScriptError>
     ensures ok { IfOk result
         (IsBody (option_map (λ v. view v.now) value.entry)) }
     ensures none { IsErrOf result NotScript
         → (body : Body) → ¬ IsBody (option_map (λ v. view v.now) value.entry) body }
 {
-    let Some(form) = value else {
-        return Ok(Body::None);
-    };
-    if form.is_null() {
+    match value {
+        None => Ok(Body::None),
+        Some(value) => read_body_value(alloc, value),
+    }
+}
+
+// The body that a value is.
+fn read_body_value(alloc: Global, value: &Value) -> Result<Body, ScriptError>
+    ensures ok { IfOk result (IsBodyValue (view value.now)) }
+    ensures none { IsErrOf result NotScript → (body : Body) → ¬ IsBodyValue (view value.now) body }
+{
+    if value.is_null() {
         return Ok(Body::None);
     }
-    let bytes = read_body_bytes(alloc, form)?;
+    if let Some(word) = value.as_str() {
+        return if word == "malformed" {
+            Ok(Body::Malformed)
+        } else {
+            Err(ScriptError::NotScript)
+        };
+    }
+    check_members(value, Form::Content)?;
+    match (value.get("text"), value.get("hex"), value.get("element")) {
+        (Some(text), None, None) => bytes_body(read_text(alloc, text)?),
+        (None, Some(digits), None) => bytes_body(read_hex(alloc, digits)?),
+        (None, None, Some(tree)) => Ok(Body::Tree(read_element(alloc, tree)?)),
+        _ => Err(ScriptError::NotScript),
+    }
+}
+
+// A body of these bytes.
+fn bytes_body(bytes: Vec<u8>) -> Result<Body, ScriptError>
+    ensures ok { IfOk result (λ body. body ≡ Body.Bytes bytes.items) }
+    ensures err { IsOkUnless result Memory }
+{
     Ok(Body::Bytes(Bytes::from_vec(bytes)?))
 }
 
-// The bytes of a body: those of its one member, `text` or `hex`.
-fn read_body_bytes(alloc: Global, form: &Value) -> Result<Vec<u8>, ScriptError>
-    ensures ok { IfOk result (λ bytes. IsBodyBytes (view form.now) bytes.items) }
-    ensures none { IsErrOf result NotScript
-        → (bytes : List ℕ) → ¬ IsBodyBytes (view form.now) bytes }
+// A text; none where the member is absent or null.
+fn read_text_or_none(alloc: Global, value: Option<&Value>) -> Result<Option<String>, ScriptError>
+    ensures ok { IfOk result (λ text. IsTextOrNone
+        (option_map (λ v. view v.now) value.entry) (option_map string_bytes text)) }
+    ensures none { IsErrOf result NotScript → (text : Option (List ℕ))
+        → ¬ IsTextOrNone (option_map (λ v. view v.now) value.entry) text }
 {
-    check_members(form, Form::Bytes)?;
-    match (form.get("text"), form.get("hex")) {
-        (Some(text), None) => read_text(alloc, text),
-        (None, Some(digits)) => read_hex(alloc, digits),
-        _ => Err(ScriptError::NotScript),
+    let Some(value) = value else {
+        return Ok(None);
+    };
+    if value.is_null() {
+        return Ok(None);
+    }
+    Ok(Some(read_string(alloc, value)?))
+}
+
+// A text of its own.
+fn read_string(alloc: Global, value: &Value) -> Result<String, ScriptError>
+    ensures ok { IfOk result (λ text. IsText (view value.now) (string_bytes text)) }
+    ensures none { IsErrOf result NotScript → (bytes : List ℕ) → ¬ IsText (view value.now) bytes }
+{
+    Ok(String::from_str(alloc, text_of(value)?)?)
+}
+
+// The token for a lock; none where the member is absent or null.
+fn read_token(alloc: Global, value: Option<&Value>) -> Result<Option<GrantToken>, ScriptError>
+    ensures ok { IfOk result (IsToken (option_map (λ v. view v.now) value.entry)) }
+    ensures none { IsErrOf result NotScript → (token : Option (List ℕ))
+        → ¬ IsToken (option_map (λ v. view v.now) value.entry) token }
+{
+    let Some(value) = value else {
+        return Ok(None);
+    };
+    if value.is_null() {
+        return Ok(None);
+    }
+    match GrantToken::new(alloc, text_of(value)?) {
+        Ok(token) => Ok(Some(token)),
+        Err(TokenError::Refused) => Err(ScriptError::NotScript),
+        Err(TokenError::Memory) => Err(ScriptError::Memory),
     }
 }
 
@@ -440,5 +529,6 @@ fn check_members(value: &Value, form: Form) -> Result<(), ScriptError>
     }
 }
 
+mod elements;
 #[cfg(test)]
 mod tests;

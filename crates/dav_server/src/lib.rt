@@ -9,6 +9,8 @@ pub mod exchange;
 mod handle_gethead;
 pub mod head;
 pub mod laws;
+#[cfg(test)]
+mod lock_lists;
 pub mod method;
 mod moment;
 mod naming;

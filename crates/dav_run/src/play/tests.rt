@@ -12,6 +12,10 @@ const SCRIPTS: &str = r##"# Scripts.
 {"requests":[{"head":{"hex":"6aFf"},"body":{"hex":"Aa00"}}]} -> 1
 {"requests":[{"head":"","moment":0}]} -> 1
 {"requests":[{"head":"","moment":253402300799}]} -> 1
+{"requests":[{"head":"","body":"malformed"}]} -> 1
+{"requests":[{"head":"","body":{"element":{"name":"a"}}}]} -> 1
+{"requests":[{"head":"","principal":"anna","token":"urn:t:1"}]} -> 1
+{"requests":[],"locks":false} -> 0
 # Of a member that is there twice the last one counts.
 {"requests":null,"requests":[{"head":1,"head":""}]} -> 1
 # Not JSON, or not an object.
@@ -25,15 +29,12 @@ null -> !
 {} -> !
 {"requests":null} -> !
 {"requests":{}} -> !
-{"requests":[],"locks":true} -> !
 {"requests":[],"Requests":[]} -> !
 {"requests":[null]} -> !
 {"requests":[[]]} -> !
 {"requests":[{}]} -> !
 # Members of a request.
 {"requests":[{"body":null,"moment":1}]} -> !
-{"requests":[{"head":"","principal":"anna"}]} -> !
-{"requests":[{"head":"","token":null}]} -> !
 # Heads.
 {"requests":[{"head":null}]} -> !
 {"requests":[{"head":1}]} -> !

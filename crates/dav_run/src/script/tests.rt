@@ -5,26 +5,40 @@ use dav_core::method::DavMethod;
 // Texts, and the script that each is: the server's settings, and then the four parts of each request; `!` where it
 // isn't a script.
 const SCRIPTS: &str = r##"# What is left out.
-{"requests":[{"head":"GET /"}]} -> prefix= methods=all next=1 head=GET / body=none moment=0 refuse=[]
+{"requests":[{"head":"GET /"}]} -> prefix= methods=all locks=true next=1 head=GET / body=none principal=None moment=0 token=None refuse=[]
 # Prefixes. Whether a server takes the prefix isn't checked.
-{"requests":[],"prefix":""} -> prefix= methods=all next=1
-{"requests":[],"prefix":"/dav"} -> prefix=/dav methods=all next=1
-{"requests":[],"prefix":"\/d\u0061v/"} -> prefix=/dav/ methods=all next=1
-{"requests":[],"prefix":"dav"} -> prefix=dav methods=all next=1
+{"requests":[],"prefix":""} -> prefix= methods=all locks=true next=1
+{"requests":[],"prefix":"/dav"} -> prefix=/dav methods=all locks=true next=1
+{"requests":[],"prefix":"\/d\u0061v/"} -> prefix=/dav/ methods=all locks=true next=1
+{"requests":[],"prefix":"dav"} -> prefix=dav methods=all locks=true next=1
 # Methods.
-{"requests":[],"methods":[]} -> prefix= methods=none next=1
-{"requests":[],"methods":["GET","HEAD","OPTIONS"]} -> prefix= methods=HTTP_RO next=1
-{"requests":[],"methods":["Put","options","HEAD","gEt","get"]} -> prefix= methods=HTTP_RW next=1
-{"requests":[],"methods":["HEAD","GET","PUT","PATCH","OPTIONS","PROPFIND","PROPPATCH","MKCOL","COPY","MOVE","DELETE","LOCK","UNLOCK","REPORT","MKCALENDAR","MKADDRESSBOOK"]} -> prefix= methods=all next=1
+{"requests":[],"methods":[]} -> prefix= methods=none locks=true next=1
+{"requests":[],"methods":["GET","HEAD","OPTIONS"]} -> prefix= methods=HTTP_RO locks=true next=1
+{"requests":[],"methods":["Put","options","HEAD","gEt","get"]} -> prefix= methods=HTTP_RW locks=true next=1
+{"requests":[],"methods":["HEAD","GET","PUT","PATCH","OPTIONS","PROPFIND","PROPPATCH","MKCOL","COPY","MOVE","DELETE","LOCK","UNLOCK","REPORT","MKCALENDAR","MKADDRESSBOOK"]} -> prefix= methods=all locks=true next=1
 # Next numbers.
-{"requests":[],"next":0} -> prefix= methods=all next=0
-{"requests":[],"next":1} -> prefix= methods=all next=1
-{"requests":[],"next":18446744073709551615} -> prefix= methods=all next=18446744073709551615
+{"requests":[],"next":0} -> prefix= methods=all locks=true next=0
+{"requests":[],"next":1} -> prefix= methods=all locks=true next=1
+{"requests":[],"next":18446744073709551615} -> prefix= methods=all locks=true next=18446744073709551615
+# Locks.
+{"requests":[],"locks":true} -> prefix= methods=all locks=true next=1
+{"requests":[],"locks":false} -> prefix= methods=all locks=false next=1
+# Principals and tokens.
+{"requests":[{"head":"","principal":"anna","token":"urn:t:1"}]} -> prefix= methods=all locks=true next=1 head= body=none principal=Some("anna") moment=0 token=urn:t:1 refuse=[]
+{"requests":[{"head":"","principal":null,"token":null}]} -> prefix= methods=all locks=true next=1 head= body=none principal=None moment=0 token=None refuse=[]
+{"requests":[{"head":"","principal":""}]} -> prefix= methods=all locks=true next=1 head= body=none principal=Some("") moment=0 token=None refuse=[]
+# Bodies.
+{"requests":[{"head":"","body":null}]} -> prefix= methods=all locks=true next=1 head= body=none principal=None moment=0 token=None refuse=[]
+{"requests":[{"head":"","body":{"text":"abc"}}]} -> prefix= methods=all locks=true next=1 head= body=abc principal=None moment=0 token=None refuse=[]
+{"requests":[{"head":"","body":"malformed"}]} -> prefix= methods=all locks=true next=1 head= body=malformed principal=None moment=0 token=None refuse=[]
+{"requests":[{"head":"","body":{"element":{"name":"a"}}}]} -> prefix= methods=all locks=true next=1 head= body=Element { name: "a", prefix: None, namespace: None, attributes: [], children: [] } principal=None moment=0 token=None refuse=[]
+{"requests":[{"head":"","body":{"element":{"prefix":null,"namespace":null,"name":"","children":[],"attributes":[]}}}]} -> prefix= methods=all locks=true next=1 head= body=Element { name: "", prefix: None, namespace: None, attributes: [], children: [] } principal=None moment=0 token=None refuse=[]
+{"requests":[{"head":"","body":{"element":{"name":"a","prefix":"D","namespace":"DAV:","attributes":[["x","1"],["y","2"]],"children":["t",{"name":"b","children":[{"name":"c"},""]}]}}}]} -> prefix= methods=all locks=true next=1 head= body=Element { name: "a", prefix: Some("D"), namespace: Some("DAV:"), attributes: [("x", "1"), ("y", "2")], children: [Text("t"), Element(Element { name: "b", prefix: None, namespace: None, attributes: [], children: [Element(Element { name: "c", prefix: None, namespace: None, attributes: [], children: [] }), Text("")] })] } principal=None moment=0 token=None refuse=[]
 # Refusals.
-{"requests":[{"head":"","refuse":[]}]} -> prefix= methods=all next=1 head= body=none moment=0 refuse=[]
-{"requests":[{"head":"","refuse":[null,"NotImplemented","GeneralFailure","Exists","NotFound","Forbidden","InsufficientStorage","LoopDetected","PathTooLong","TooLarge","IsRemote",null]}]} -> prefix= methods=all next=1 head= body=none moment=0 refuse=[None, Some(NotImplemented), Some(GeneralFailure), Some(Exists), Some(NotFound), Some(Forbidden), Some(InsufficientStorage), Some(LoopDetected), Some(PathTooLong), Some(TooLarge), Some(IsRemote), None]
+{"requests":[{"head":"","refuse":[]}]} -> prefix= methods=all locks=true next=1 head= body=none principal=None moment=0 token=None refuse=[]
+{"requests":[{"head":"","refuse":[null,"NotImplemented","GeneralFailure","Exists","NotFound","Forbidden","InsufficientStorage","LoopDetected","PathTooLong","TooLarge","IsRemote",null]}]} -> prefix= methods=all locks=true next=1 head= body=none principal=None moment=0 token=None refuse=[None, Some(NotImplemented), Some(GeneralFailure), Some(Exists), Some(NotFound), Some(Forbidden), Some(InsufficientStorage), Some(LoopDetected), Some(PathTooLong), Some(TooLarge), Some(IsRemote), None]
 # Of a member that is there twice the last one counts.
-{"prefix":1,"next":"","methods":null,"methods":["GET"],"next":7,"next":8,"prefix":"/a", "requests":[{"refuse":["Exists"],"head":"a","refuse":[null]}]} -> prefix=/a methods=GET next=8 head=a body=none moment=0 refuse=[None]
+{"prefix":1,"next":"","methods":null,"methods":["GET"],"next":7,"next":8,"prefix":"/a", "requests":[{"refuse":["Exists"],"head":"a","refuse":[null]}]} -> prefix=/a methods=GET locks=true next=8 head=a body=none principal=None moment=0 token=None refuse=[None]
 # Members of a script in other forms.
 {"requests":[],"prefix":null} -> !
 {"requests":[],"prefix":1} -> !
@@ -49,6 +63,42 @@ const SCRIPTS: &str = r##"# What is left out.
 {"requests":[],"next":[1]} -> !
 # Of a member that is there twice the last one counts.
 {"requests":[],"next":1,"next":null} -> !
+# Locks in other forms.
+{"requests":[],"locks":null} -> !
+{"requests":[],"locks":"true"} -> !
+{"requests":[],"locks":1} -> !
+# Principals and tokens in other forms.
+{"requests":[{"head":"","principal":1}]} -> !
+{"requests":[{"head":"","principal":["anna"]}]} -> !
+{"requests":[{"head":"","token":1}]} -> !
+{"requests":[{"head":"","token":""}]} -> !
+{"requests":[{"head":"","token":"a b"}]} -> !
+{"requests":[{"head":"","token":"DAV:x"}]} -> !
+{"requests":[{"head":"","token":"<urn:t:1>"}]} -> !
+# Bodies in other forms.
+{"requests":[{"head":"","body":"Malformed"}]} -> !
+{"requests":[{"head":"","body":["malformed"]}]} -> !
+{"requests":[{"head":"","body":{"malformed":true}}]} -> !
+{"requests":[{"head":"","body":{"element":null}}]} -> !
+{"requests":[{"head":"","body":{"element":"a"}}]} -> !
+{"requests":[{"head":"","body":{"element":{"name":"a"},"text":"a"}}]} -> !
+{"requests":[{"head":"","body":{"element":{"name":"a"},"hex":"61"}}]} -> !
+# Elements in other forms.
+{"requests":[{"head":"","body":{"element":{}}}]} -> !
+{"requests":[{"head":"","body":{"element":{"name":null}}}]} -> !
+{"requests":[{"head":"","body":{"element":{"name":"a","text":"b"}}}]} -> !
+{"requests":[{"head":"","body":{"element":{"name":"a","prefix":1}}}]} -> !
+{"requests":[{"head":"","body":{"element":{"name":"a","namespace":[]}}}]} -> !
+{"requests":[{"head":"","body":{"element":{"name":"a","attributes":null}}}]} -> !
+{"requests":[{"head":"","body":{"element":{"name":"a","attributes":{"x":"1"}}}}]} -> !
+{"requests":[{"head":"","body":{"element":{"name":"a","attributes":[["x"]]}}}]} -> !
+{"requests":[{"head":"","body":{"element":{"name":"a","attributes":[["x","1","2"]]}}}]} -> !
+{"requests":[{"head":"","body":{"element":{"name":"a","attributes":[["x",null]]}}}]} -> !
+{"requests":[{"head":"","body":{"element":{"name":"a","children":null}}}]} -> !
+{"requests":[{"head":"","body":{"element":{"name":"a","children":"t"}}}]} -> !
+{"requests":[{"head":"","body":{"element":{"name":"a","children":[null]}}}]} -> !
+{"requests":[{"head":"","body":{"element":{"name":"a","children":[["t"]]}}}]} -> !
+{"requests":[{"head":"","body":{"element":{"name":"a","children":[{"name":"b","children":[1]}]}}}]} -> !
 # Members that a script does not have.
 {"requests":[],"Prefix":""} -> !
 {"requests":[],"refuse":[]} -> !
@@ -93,22 +143,38 @@ fn set_name(methods: DavMethodSet) -> &'static str {
     }
 }
 
+// A body as its row has it.
+fn spelled_body(alloc: Global, body: &Body) -> Result<String, AllocError> {
+    match body {
+        Body::None => String::from_str(alloc, "none"),
+        Body::Bytes(bytes) => String::from_utf8_lossy(alloc, bytes.as_slice()),
+        Body::Tree(tree) => format!(in alloc; "{tree:?}"),
+        Body::Malformed => String::from_str(alloc, "malformed"),
+    }
+}
+
 // A request as its row has it.
 fn spelled_request(alloc: Global, request: &Request) -> Result<String, AllocError> {
     let head = String::from_utf8_lossy(alloc, &request.head)?;
-    let body = match &request.body {
-        Body::None => "none",
-        _ => "some",
+    let body = spelled_body(alloc, &request.body)?;
+    let (principal, moment) = (&request.principal, request.moment);
+    let token = match &request.token {
+        Some(token) => token.as_str(),
+        None => "None",
     };
-    let moment = request.moment;
     let refusals = &request.refusals;
-    format!(in alloc; " head={head} body={body} moment={moment} refuse={refusals:?}")
+    format!(in alloc;
+        " head={head} body={body} principal={principal:?} moment={moment} token={token} refuse={refusals:?}"
+    )
 }
 
 // A script as its row has it.
 fn spelled(alloc: Global, script: &Script) -> Result<String, AllocError> {
-    let (prefix, methods, next) = (&script.prefix, set_name(script.methods), script.next);
-    let mut text = format!(in alloc; "prefix={prefix} methods={methods} next={next}")?;
+    let (prefix, methods) = (&script.prefix, set_name(script.methods));
+    let (locks, next) = (script.locks, script.next);
+    let mut text = format!(in alloc;
+        "prefix={prefix} methods={methods} locks={locks} next={next}"
+    )?;
     for request in &script.requests {
         let request = spelled_request(alloc, request)?;
         text.push_str(&request)?;
