@@ -192,7 +192,7 @@ fn read_prefix(alloc: Global, value: Option<&Value>) -> Result<String, ScriptErr
     let Some(value) = value else {
         return Ok(String::new(alloc));
     };
-    Ok(String::from_str(alloc, text_of(value)?)?)
+    read_string(alloc, value)
 }
 
 // The methods that a script allows; all where the member is absent.
