@@ -30,6 +30,7 @@ pub mod RemovalLemmas
 pub mod DeleteLemmas
 pub mod DeleteWorld
 pub mod UnlockLemmas
+pub mod LockLemmas
 pub mod RunLemmas
 pub mod FaultLemmas
 pub mod SurvivorLemmas
