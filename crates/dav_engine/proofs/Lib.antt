@@ -31,6 +31,7 @@ pub mod DeleteLemmas
 pub mod DeleteWorld
 pub mod UnlockLemmas
 pub mod LockLemmas
+pub mod GrantFollows
 pub mod RunLemmas
 pub mod FaultLemmas
 pub mod SurvivorLemmas
