@@ -1,7 +1,9 @@
 -- How code follows a LOCK with a body.
 use Rattle.std.proofs.Common.{◌≡◌, ◌++◌, ℕ, List, [], ◌∷◌, Bool, true, false, if◌then◌else◌, Option, Some, None, Result, Ok, Err, refl, sym, ap, subst, ◌∙◌}
-use Rattle.std.specs.Option.{is_some, option_map}
-use Rattle.std.specs.Result.{result_ok}
+use Rattle.std.specs.Prelude.{IfOk, IfErr, OnErr}
+use Rattle.std.specs.Option.{is_some, option_map, option_copied}
+use denote.Ref.{Bor}
+use Rattle.std.specs.Result.{result_ok, result_err}
 use Rattle.dav_core.specs.declared.errors.FsError.{FsError}
 use Rattle.dav_core.specs.declared.errors.DavError.{DavError}
 use Rattle.dav_core.specs.declared.errors.DavError.TheVariants as dav
@@ -10,6 +12,9 @@ use Rattle.dav_core.specs.declared.method.DavMethod.TheVariants as method
 use Rattle.dav_core.specs.Asking.{StoreState, Asks, Metadata, Open}
 use Rattle.dav_core.specs.Handle.{Handle, Opening}
 use Rattle.dav_core.specs.Locks.{Lock, is_grantable}
+use Rattle.dav_core.specs.LockRefusals.{IsRefusedGrant}
+use Rattle.dav_core.specs.declared.ls.LockRefusal.{LockRefusal}
+use Rattle.dav_core.specs.declared.ls.LockRefusal.TheVariants.{Conflict}
 use Rattle.dav_core.specs.Path.{Path, PathText, names}
 use Rattle.dav_engine.specs.declared.request.Body.{Body}
 use Rattle.dav_engine.specs.Client.{Client}
@@ -78,14 +83,14 @@ module _ (h : LockHeaders) (p : PathText) (content : Body) (who : Client) (found
         asked_unread = then_held follows_up_to
 
         pub asked_nothing : lock_info content ≡ None → Asked old ls (Err dav.XmlParseError) new ls
-        asked_nothing no = then_held (follows_fails (required (lock_info content) dav.XmlParseError) dav.XmlParseError (with_info deep) (ap (λ i. required i dav.XmlParseError) no) refl)
+        asked_nothing absent = then_held (follows_fails (required (lock_info content) dav.XmlParseError) dav.XmlParseError (with_info deep) (ap (λ i. required i dav.XmlParseError) absent) refl)
 
         module _ (info : LockInfo) (some : lock_info content ≡ Some info) where
           then_informed : {w : Result Lock DavError} → Follows (as_is {A = Lock}) (with_info deep info) new ls w new ls → Asked old ls w new ls
           then_informed more = then_held (follows_ok (required (lock_info content) dav.XmlParseError) info (with_info deep) (ap (λ i. required i dav.XmlParseError) some) more)
 
           pub asked_untokened : who.token ≡ None → Asked old ls (Err (dav.Status 500)) new ls
-          asked_untokened no = then_informed (follows_fails (required who.token (dav.Status 500)) (dav.Status 500) (λ token. gives (lock_of h p who deep info token)) (ap (λ t. required t (dav.Status 500)) no) refl)
+          asked_untokened absent = then_informed (follows_fails (required who.token (dav.Status 500)) (dav.Status 500) (λ token. gives (lock_of h p who deep info token)) (ap (λ t. required t (dav.Status 500)) absent) refl)
 
           pub asked_uncopied : Asked old ls (Err dav.Memory) new ls
           asked_uncopied = then_informed follows_up_to
@@ -95,6 +100,19 @@ module _ (h : LockHeaders) (p : PathText) (content : Body) (who : Client) (found
               then_informed (follows_ok (required who.token (dav.Status 500)) token (λ token. gives (lock_of h p who deep info token)) (ap (λ t. required t (dav.Status 500)) there) (follows_done (ap Ok same)))
 
 -- ---- the grant
+
+-- what is said of a result, where it is an error, and where it isn't
+pub err_is : {A E X : Type 0} (P : E → Type 0) (r : Result A E) (e : E) → result_err r ≡ Some e → IfErr r P → OnErr r X → P e × X
+err_is P (Ok a) e is said more = absurd (cc)
+err_is P (Err f) e is said more = let same : f ≡ e = cc in (subst P same said, more)
+
+on_err : {A E X : Type 0} (r : Result A E) (e : E) → result_err r ≡ Some e → OnErr r X → X
+on_err (Ok a) e is said = absurd (cc)
+on_err (Err f) e is said = said
+
+pub ok_is : {A E : Type 0} (P : A → Type 0) (r : Result A E) → result_err r ≡ None → IfOk r P → (a : A) × P a
+ok_is P (Ok a) is said = (a, said)
+ok_is P (Err f) is said = absurd (cc)
 
 module _ (new : Lock) where
   abbrev Grants : Locks → Result (Unit {0}) DavError → Locks → Type 0
@@ -113,14 +131,27 @@ module _ (new : Lock) where
       follows_look (subst (λ b. Follows (λ (u : Unit {0}). u) (granted_if b ls) s (Some ls) (Ok tt) s (Some ms)) (sym able)
       (subst (λ ks. Follows (λ (u : Unit {0}). u) (granted_if true ls) s (Some ls) (Ok tt) s (Some ks)) (sym left) (follows_keep (followed ran_done))))
 
-  pub grant_conflicts : (l : Lock) {ls ms : List Lock} → l ≡ new → is_grantable l ls ≡ false → ms ≡ ls → Grants (Some ls) (Err (dav.Status 423)) (Some ms)
-  grant_conflicts l {ls} {ms} same may is s =
+  -- what the answer of a lock system says
+  abbrev Granted : Lock → List Lock → List Lock → Lock → Type 0
+  Granted asked ls ms l = (l ≡ asked) × (is_grantable l ls ≡ true) × (ms ≡ ls ++ l ∷ [])
+
+  pub grant_answered : (asked : Lock) {E : Type 0} (r : Result Lock E) {ls ms : List Lock} → asked ≡ new → result_err r ≡ None → IfOk r (Granted asked ls ms) → Grants (Some ls) (Ok tt) (Some ms)
+  grant_answered asked r {ls} {ms} same is said = let (l, all) = ok_is (Granted asked ls ms) r is said in grant_done l (all.0 ∙ same) all.1 all.2
+
+  pub grant_conflicts : (l : Lock) (e : LockRefusal) {ls ms : List Lock} → l ≡ new → e ≡ Conflict → IsRefusedGrant e (is_grantable l ls) → ms ≡ ls → Grants (Some ls) (Err (dav.Status 423)) (Some ms)
+  grant_conflicts l e {ls} {ms} same conflict why is s =
+      let may : is_grantable l ls ≡ false = subst (λ (w : LockRefusal). IsRefusedGrant w (is_grantable l ls)) conflict why in
       let able : is_grantable new ls ≡ false = ap (λ m. is_grantable m ls) (sym same) ∙ may in
       subst (λ ks. Follows (λ (u : Unit {0}). u) (grant new) s (Some ls) (Err (dav.Status 423)) s (Some ks)) (sym is)
       (follows_look (subst (λ b. Follows (λ (u : Unit {0}). u) (granted_if b ls) s (Some ls) (Err (dav.Status 423)) s (Some ls)) (sym able) (follows_done refl)))
 
-  pub grant_short : {ls ms : List Lock} → ms ≡ ls → Grants (Some ls) (Err dav.Memory) (Some ms)
-  grant_short {ls} same s = subst (λ ks. Follows (λ (u : Unit {0}). u) (grant new) s (Some ls) (Err dav.Memory) s (Some ks)) (sym same) follows_up_to
+  pub grant_refused : (asked : Lock) (r : Result Lock LockRefusal) (e : LockRefusal) {ls ms : List Lock} → asked ≡ new → result_err r ≡ Some e → e ≡ Conflict
+      → IfErr r (λ e. IsRefusedGrant e (is_grantable asked ls)) → OnErr r (ms ≡ ls) → Grants (Some ls) (Err (dav.Status 423)) (Some ms)
+  grant_refused asked r e {ls} {ms} same is conflict said kept =
+      let (why, left) = err_is {X = ms ≡ ls} (λ e. IsRefusedGrant e (is_grantable asked ls)) r e is said kept in grant_conflicts asked e same conflict why left
+
+  pub grant_ran_out : (r : Result Lock LockRefusal) (e : LockRefusal) {ls ms : List Lock} → result_err r ≡ Some e → OnErr r (ms ≡ ls) → Grants (Some ls) (Err dav.Memory) (Some ms)
+  grant_ran_out r e {ls} {ms} is kept = subst (λ ks. Grants (Some ls) (Err dav.Memory) (Some ks)) (sym (on_err r e is kept)) (λ s. follows_up_to)
 
 -- ---- the empty file
 
@@ -194,6 +225,18 @@ module _ (h : LockHeaders) (p : PathText) (location : List Header) (content : Bo
             → Ran Asks (make_empty (empty_opening h.conditions) l.token (names p) who.moment o >>= (λ u. gives (granted_reply (is_some o) location l))) mid ks (Ok reply) new ms
         made_by (Some m) reply none run is = absurd (cc)
         made_by None reply none run is = ran_bind (λ u. gives (granted_reply false location l)) run (ran_at (ap Ok is))
+
+-- the same with equal arguments
+pub opens_as : {how wanted : Opening} {text token : List ℕ} (p : Path) {moment now : ℕ} {r : Result (Unit {0}) DavError} {old new : StoreState} {ls ms : Locks}
+    → how ≡ wanted → text ≡ token → moment ≡ now → Ran Asks (open_empty how text p moment) old ls r new ms → Ran Asks (open_empty wanted token p now) old ls r new ms
+opens_as {how} {wanted} {text} {token} p {moment} {now} {r} {old} {new} {ls} {ms} one two three done =
+    subst (λ n. Ran Asks (open_empty wanted token p n) old ls r new ms) three
+    (subst (λ t. Ran Asks (open_empty wanted t p moment) old ls r new ms) two (subst (λ w. Ran Asks (open_empty w text p moment) old ls r new ms) one done))
+
+-- what is borrowed is there where the borrow is
+pub some_copied : {A : Type 0} (o : Option (Bor A)) → is_some (option_copied o) ≡ is_some o
+some_copied None = refl
+some_copied (Some x) = refl
 
 -- ---- the method
 

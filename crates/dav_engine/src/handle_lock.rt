@@ -1,6 +1,7 @@
 //! LOCK (RFC 4918, sections 6, 7 and 9.10).
 ghost use Rattle.std.specs.Prelude.{◌≡◌, ◌≤◌, ◌+◌, IfOk, IfSome, OnOk, OnErr, option_map, string_bytes, map};
 ghost use Rattle.std.specs.Option.{is_some, option_copied};
+ghost use Rattle.std.specs.Result.{result_err};
 ghost use Rattle.http_header.specs.FieldValue.{plain_value};
 ghost use Rattle.dav_core.specs.Locks.{ends_at};
 ghost use Rattle.dav_core.specs.Metadata.{opening_of};
@@ -142,6 +143,13 @@ fn lock_of(
     })
 }
 
+// Why a lock isn't granted, if it isn't.
+fn refusal(granted: Result<DavLock, LockRefusal>) -> Option<LockRefusal>
+    ensures { result ≡ result_err granted }
+{
+    granted.err()
+}
+
 // Grants a lock.
 fn grant<L: DavLockSystem>(
     ls: &mut Option<L>,
@@ -168,10 +176,10 @@ fn grant<L: DavLockSystem>(
         &lock.token,
         now,
     );
-    match granted {
-        Ok(_) => Ok(()),
-        Err(LockRefusal::Conflict) => Err(DavError::Status(StatusCode::LOCKED)),
-        Err(LockRefusal::Memory) => Err(DavError::Memory),
+    match refusal(granted) {
+        None => Ok(()),
+        Some(LockRefusal::Conflict) => Err(DavError::Status(StatusCode::LOCKED)),
+        Some(LockRefusal::Memory) => Err(DavError::Memory),
     }
 }
 
@@ -253,7 +261,11 @@ fn granted_reply(
     let mut headers = HeaderMap::new(alloc);
     set_location_found(alloc, &mut headers, path, found)?;
     set_xml_type(&mut headers)?;
-    set_header(&mut headers, names::LOCK_TOKEN(), token_value(alloc, &lock.token)?)?;
+    set_header(
+        &mut headers,
+        names::LOCK_TOKEN(),
+        token_value(alloc, &lock.token)?,
+    )?;
     let status = if found.is_some() {
         StatusCode::OK
     } else {
@@ -345,7 +357,9 @@ impl<'a, 'b, 'c, F: DavFileSystem, L: DavLockSystem> DavInner<'a, 'b, 'c, F, L> 
         let backend = &mut *self.backend;
         let fs = &mut backend.fs;
         let ls = backend.ls.as_ref();
-        let verdict = headers.conditions.if_match(alloc, DavMethod::Lock, found, fs, ls)?;
+        let verdict = headers
+            .conditions
+            .if_match(alloc, DavMethod::Lock, found, fs, ls)?;
         if let Some(status) = verdict {
             return Err(DavError::Status(status));
         }
@@ -380,17 +394,18 @@ impl<'a, 'b, 'c, F: DavFileSystem, L: DavLockSystem> DavInner<'a, 'b, 'c, F, L> 
         let caller = self.caller;
         let backend = &mut *self.backend;
         grant(&mut backend.ls, alloc, &lock, caller.moment)?;
-        if found.is_none() {
-            open_empty(
-                &mut backend.fs,
-                &mut backend.ls,
-                alloc,
-                path,
-                &lock.token,
-                &options,
-                caller.moment,
-            )?;
+        if found.is_some() {
+            return Ok(reply);
         }
+        open_empty(
+            &mut backend.fs,
+            &mut backend.ls,
+            alloc,
+            path,
+            &lock.token,
+            &options,
+            caller.moment,
+        )?;
         Ok(reply)
     }
 
