@@ -51,6 +51,7 @@ pub mod AlongsideLaw
 pub mod AlongsidePlans
 pub mod LockListLemmas
 pub mod UnlockPlans
+pub mod LockPlans
 pub mod NumberLemmas
 pub mod WrongPlans
 pub mod GrantLemmas

@@ -1,7 +1,7 @@
 //! Laws of locked folders. Each function does nothing: its contract is a theorem on the definitions.
 ghost use Rattle.dav_engine.specs.Alongside.{AlongsideAgree, SpareNumbersSuffice};
 ghost use Rattle.dav_engine.specs.AlongsidePlans.{PutGoesAlong, MkcolGoesAlong, UnlockGoesAlong};
-ghost use Rattle.dav_engine.specs.Ending.{KeptLocksStand, KeptLocksStandCut, ReadingKeepsLocks, PutKeepsLocks, MkcolKeepsLocks, DeleteKeepsLocks, UnlockKeepsLocks};
+ghost use Rattle.dav_engine.specs.Ending.{KeptLocksStand, KeptLocksStandCut, ReadingKeepsLocks, PutKeepsLocks, MkcolKeepsLocks, DeleteKeepsLocks, UnlockKeepsLocks, LockKeepsLocks};
 ghost use Rattle.dav_engine.specs.Guard.{FreeIsHeld, FreeIsApart, FreeIsUncovered, GrantedGuards};
 ghost use Rattle.dav_engine.specs.Inside.{FoldersAreAbove};
 ghost use Rattle.dav_engine.specs.Sparing.{SparingLeavesCovered, SparingLeavesCoveredCut, SparingLeavesInside};
@@ -61,8 +61,8 @@ pub fn granted_locks_guard_their_folders()
 
 /// A lock that a plan leaves in the list stands after it, whatever the store refuses, and also where memory runs out in the
 /// plan. Plans that only read leave every lock, and so do PUT, PATCH and MKCOL, whoever
-/// asks for them, a DELETE of a client that doesn't hold the lock, and an UNLOCK of another token (RFC 4918, sections 7, 9.6 and
-/// 9.11).
+/// asks for them, a DELETE of a client that doesn't hold the lock, an UNLOCK of another token, and a LOCK with another token for its
+/// own lock (RFC 4918, sections 7, 9.6, 9.10 and 9.11).
 pub fn kept_locks_stand()
     ensures stands { KeptLocksStand }
     ensures cut { KeptLocksStandCut }
@@ -71,4 +71,5 @@ pub fn kept_locks_stand()
     ensures mkcol { MkcolKeepsLocks }
     ensures delete { DeleteKeepsLocks }
     ensures unlock { UnlockKeepsLocks }
+    ensures lock { LockKeepsLocks }
 {}
