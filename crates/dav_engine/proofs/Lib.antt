@@ -52,6 +52,7 @@ pub mod AlongsidePlans
 pub mod LockListLemmas
 pub mod UnlockPlans
 pub mod LockPlans
+pub mod LockSparing
 pub mod NumberLemmas
 pub mod WrongPlans
 pub mod GrantLemmas

@@ -39,7 +39,7 @@ use Rattle.dav_engine.proofs.WorldPlans.{Only, only_done, only_ask, only_look, o
 
 -- ---- what only looks
 
-only_status : (status : Option ℕ) → Only IsLook (unless_status status)
+pub only_status : (status : Option ℕ) → Only IsLook (unless_status status)
 only_status None = only_done
 only_status (Some status) = only_done
 
@@ -53,7 +53,7 @@ only_asked h p content who found = only_then (whole_depth h.depth) _ (λ deep.
 only_said : (lists : Option (List Addressed)) → Only IsLook (dav_if_match lists)
 only_said lists = only_bind (if_holds lists) _ (only_if lists) (λ holds. only_done)
 
-only_token : (h : LockHeaders) (p : Path) (who : Client) → Only IsLook (token_to_refresh h p who)
+pub only_token : (h : LockHeaders) (p : Path) (who : Client) → Only IsLook (token_to_refresh h p who)
 only_token h p who = only_bind (dav_if_match h.conditions.lists) _ (only_said h.conditions.lists) (λ said.
     only_then (one_token said.1) _ (λ token.
     only_bind (require_free false (requester who (token ∷ [])) p (dav.Status 412)) _ (only_free false (requester who (token ∷ [])) p (dav.Status 412)) (λ free. only_done)))
@@ -116,7 +116,7 @@ gives_then : {h : Lock} {A B : Type 0} {Q : B → Type 0} (r : Result A DavError
 gives_then (Ok a) f more = more a refl
 gives_then (Err e) f more = gives_err
 
-required_is : {A : Type 0} (o : Option A) (e : DavError) (a : A) → required o e ≡ Ok a → o ≡ Some a
+pub required_is : {A : Type 0} (o : Option A) (e : DavError) (a : A) → required o e ≡ Ok a → o ≡ Some a
 required_is None e a is = absurd (cc)
 required_is (Some b) e a is = let same : b ≡ a = cc in ap Some same
 
@@ -128,19 +128,19 @@ module _ (h : Lock) where
       gives_then (required (lock_info content) dav.XmlParseError) _ (λ info _.
       gives_then (required who.token (dav.Status 500)) _ (λ token is. gives_ok (required_is who.token (dav.Status 500) token is))))))
 
-  pushed : (new : Lock) (ls : List Lock) → IsListed h ls → IsListed h (ls ++ new ∷ [])
+  pub pushed : (new : Lock) (ls : List Lock) → IsListed h ls → IsListed h (ls ++ new ∷ [])
   pushed new [] there = elim there [ ]
   pushed new (l ∷ ls) (listed_here is) = listed_here is
   pushed new (l ∷ ls) (listed_later there) = listed_later (pushed new ls there)
 
-  abbrev granted_if : Lock → List Lock → Bool → MethodPlan (Unit {0})
+  abbrev pub granted_if : Lock → List Lock → Bool → MethodPlan (Unit {0})
   granted_if new ls b = if b then Keep (ls ++ new ∷ []) (Done (Ok tt)) else Done (Err (dav.Status 423))
 
   keeps_granted : (new : Lock) (ls : List Lock) (b : Bool) → IsListed h ls → KeepsLock h (granted_if new ls b)
   keeps_granted new ls true there = keeps_list (pushed new ls there) keeps_done
   keeps_granted new ls false there = keeps_done
 
-  back_listed : (token : List ℕ) (p : Path) (ls : List Lock) (o : Option (List Lock)) → unlocked token p ls ≡ o → token ≢ h.token → IsListed h ls → IsListed h (unwrap_or o ls)
+  pub back_listed : (token : List ℕ) (p : Path) (ls : List Lock) (o : Option (List Lock)) → unlocked token p ls ≡ o → token ≢ h.token → IsListed h ls → IsListed h (unwrap_or o ls)
   back_listed token p ls None is differ there = there
   back_listed token p ls (Some left) is differ there = unlocked_listed h token p ls left differ there is
 
@@ -167,7 +167,7 @@ module _ (h : Lock) where
   listed_changed test f still (l ∷ ls) (listed_here is) = changed_by test f l ls (test l) (listed_here (still l is)) (listed_here is)
   listed_changed test f still (l ∷ ls) (listed_later there) = changed_by test f l ls (test l) (listed_later there) (listed_later (listed_changed test f still ls there))
 
-  refreshed_listed : (token : List ℕ) (p : Path) (timeout : Option ℕ) (now : ℕ) (ls left : List Lock) → IsListed h ls → refreshed token p timeout now ls ≡ Some left → IsListed h left
+  pub refreshed_listed : (token : List ℕ) (p : Path) (timeout : Option ℕ) (now : ℕ) (ls left : List Lock) → IsListed h ls → refreshed token p timeout now ls ≡ Some left → IsListed h left
   refreshed_listed token p timeout now ls left there is =
       let (q, front, same) = mapped_from (λ q. change_first (has_token_at token q) (refreshed_lock timeout now) ls) (lock_front token p ls) left is in
       subst (IsListed h) same (listed_changed (has_token_at token q) (refreshed_lock timeout now) (λ l is. ap (λ (m : Lock). refreshed_lock timeout now m) is) ls there)

@@ -9,6 +9,7 @@ pub use Rattle.dav_engine.proofs.Following.{follows_done, follows_ask, follows_o
 pub use Rattle.dav_engine.proofs.GuardLemmas.{carried}
 pub use Rattle.dav_engine.proofs.GuardedFolders.{free_for_is}
 pub use Rattle.dav_engine.proofs.LockPlans.{lock_is_proper, lock_keeps_locks}
+pub use Rattle.dav_engine.proofs.LockSparing.{lock_spares}
 pub use Rattle.dav_engine.proofs.LockTokenLemmas.{one_lock_token}
 pub use Rattle.dav_engine.proofs.ModelLemmas.{serves_from}
 pub use Rattle.dav_engine.proofs.NumberLemmas.{spare_numbers_suffice}

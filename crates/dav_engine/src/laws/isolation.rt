@@ -5,7 +5,7 @@ ghost use Rattle.dav_engine.specs.Ending.{KeptLocksStand, KeptLocksStandCut, Rea
 ghost use Rattle.dav_engine.specs.Guard.{FreeIsHeld, FreeIsApart, FreeIsUncovered, GrantedGuards};
 ghost use Rattle.dav_engine.specs.Inside.{FoldersAreAbove};
 ghost use Rattle.dav_engine.specs.Sparing.{SparingLeavesCovered, SparingLeavesCoveredCut, SparingLeavesInside};
-ghost use Rattle.dav_engine.specs.SparingPlans.{ReadingSpares, PutSpares, MkcolSpares, DeleteSpares, UnlockSpares};
+ghost use Rattle.dav_engine.specs.SparingPlans.{ReadingSpares, PutSpares, MkcolSpares, DeleteSpares, UnlockSpares, LockSpares};
 
 /// At a folder that a lock guards (exclusive, of infinite depth) and below it, a path is free exactly for the requester that
 /// holds the lock. What is free with everything below, for any other requester, is apart from the folder. And what is free
@@ -27,13 +27,15 @@ pub fn sparing_plans_leave_locked_content()
 {}
 
 /// PUT, PATCH, MKCOL and DELETE of a client that doesn't hold an exclusive lock spare what it covers. Plans that only read spare
-/// all, and so does an UNLOCK, whoever asks for it (RFC 4918, sections 7 and 9.11).
+/// all, and so does an UNLOCK, whoever asks for it; a LOCK spares what an exclusive lock covers, unless its own token is that
+/// lock's (RFC 4918, sections 7, 9.10 and 9.11).
 pub fn strangers_spare_what_is_locked()
     ensures reading { ReadingSpares }
     ensures put { PutSpares }
     ensures mkcol { MkcolSpares }
     ensures delete { DeleteSpares }
     ensures unlock { UnlockSpares }
+    ensures lock { LockSpares }
 {}
 
 /// A plan that goes along with itself has the same outcome in two worlds that have the same content in a guarded folder, but
