@@ -21,7 +21,7 @@ use Rattle.dav_engine.specs.Client.{Client}
 use Rattle.dav_engine.specs.Conditions.{if_match}
 use Rattle.dav_engine.specs.Delete.{whole_depth}
 use Rattle.dav_engine.specs.Follows.{as_is, Follows, followed, Sets, or_memory}
-use Rattle.dav_engine.specs.Lock.{lock_of, asked_lock, grant_in, grant, taken_back, empty_opening, empty_error, open_empty, make_empty, granted_reply, lock_new, lock_again, lock_found, lock, is_absent}
+use Rattle.dav_engine.specs.Lock.{lock_of, asked_lock, grant, taken_back, empty_opening, empty_error, open_empty, make_empty, granted_reply, lock_new, lock_found, lock}
 use Rattle.dav_engine.specs.LockHeaders.{LockHeaders}
 use Rattle.dav_engine.specs.LockInfo.{LockInfo, lock_info}
 use Rattle.dav_engine.specs.Method.{MethodPlan, ◌>>=◌, required, unless_status, has_locks, gives}

@@ -1,13 +1,10 @@
 -- How code follows a LOCK.
-use Rattle.std.proofs.Common.{◌≡◌, ◌++◌, ℕ, List, [], ◌∷◌, Bool, true, false, map, string_bytes, String, Option, Some, None, Result, Ok, Err, refl, sym, ap, subst, ◌∙◌}
+use Rattle.std.proofs.Common.{◌≡◌, ℕ, List, [], ◌∷◌, Bool, true, false, map, string_bytes, String, Option, Some, None, Result, Ok, Err, refl, sym, ap, subst, ◌∙◌}
 use Rattle.std.specs.Global.{Vec, Global}
-use Rattle.std.specs.Option.{is_some, option_map}
-use Rattle.std.specs.Result.{result_ok}
-use Rattle.dav_core.specs.declared.errors.FsError.{FsError}
+use Rattle.std.specs.Option.{option_map}
 use Rattle.dav_core.specs.declared.errors.DavError.{DavError}
 use Rattle.dav_core.specs.declared.errors.DavError.TheVariants as dav
-use Rattle.dav_core.specs.declared.fs.DavMetaData.{DavMetaData}
-use Rattle.dav_core.specs.Asking.{StoreState, Asks, Metadata}
+use Rattle.dav_core.specs.Asking.{StoreState}
 use Rattle.dav_core.specs.Locks.{Lock, requester_of, named_lock, refreshed, refreshed_lock}
 use Rattle.dav_core.specs.Path.{Path, PathText, names}
 use Rattle.dav_core.specs.declared.ls.RefreshRefusal.{RefreshRefusal}
@@ -16,11 +13,11 @@ use Rattle.dav_core.specs.LockRefusals.{IsRefusedRefresh}
 use Rattle.dav_engine.specs.Client.{Client, requester}
 use Rattle.dav_engine.specs.Conditions.{dav_if_match}
 use Rattle.dav_engine.specs.ConditionView.{texts_of}
-use Rattle.dav_engine.specs.Follows.{as_is, Follows, FollowsFrom, followed, Sets, viewed, or_memory}
+use Rattle.dav_engine.specs.Follows.{as_is, Follows, followed, Sets, or_memory}
 use Rattle.dav_engine.specs.Lock.{one_token, token_to_refresh, keep_refreshed, refresh, refreshed_reply, lock_again}
 use Rattle.dav_engine.specs.LockHeaders.{LockHeaders, refreshed_for}
 use Rattle.dav_engine.specs.Method.{MethodPlan, ◌>>=◌, require_free, is_open, gives}
-use Rattle.dav_engine.specs.Plan.{Locks, Done, Keep, ran_done, refused_done}
+use Rattle.dav_engine.specs.Plan.{Locks, Done, ran_done, refused_done}
 use Rattle.dav_engine.specs.Response.{Response, Header}
 use Rattle.dav_engine.proofs.Following.{ran_at, follows_done, follows_then, follows_err, follows_up_to}
 use Rattle.dav_engine.proofs.GuardLemmas.{follows_look, follows_ok, follows_fails, ends_free, ends_locked}

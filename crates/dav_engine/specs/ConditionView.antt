@@ -15,7 +15,7 @@ use Rattle.dav_engine.specs.declared.conditional.Conditions.TheInside.{Inside}
 use Rattle.dav_engine.specs.declared.request.DavRequest.{DavRequest}
 use Rattle.dav_engine.specs.Conditions.{Addressed, Conditions, AreConditions, SaysLists, http_conditions, dav_if_match, if_match, if_match_get_tokens}
 use Rattle.dav_engine.specs.Headers.{Headers, Decodes}
-use Rattle.dav_engine.specs.Method.{MethodPlan, ◌>>=◌, gives}
+use Rattle.dav_engine.specs.Method.{MethodPlan}
 use Rattle.dav_engine.specs.Plan.{Locks}
 
 abbrev pub list_of : declared_list.Addressed → Addressed

@@ -1,5 +1,3 @@
-use Rattle.std.proofs.Common.{ap}
-use Rattle.std.specs.Option.{option_map}
 use Rattle.dav_core.specs.Metadata.{opening_of}
 use Rattle.dav_core.specs.Path.{names}
 use Rattle.dav_engine.proofs.GrantFollows.{empty_opened, empty_refused}

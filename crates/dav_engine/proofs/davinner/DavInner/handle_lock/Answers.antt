@@ -1,5 +1,4 @@
 use Rattle.std.proofs.Common.{not, ap, sym, ◌∙◌}
-use Rattle.std.specs.Option.{option_copied}
 use Rattle.dav_engine.specs.Follows.{served}
 use Rattle.dav_engine.specs.Lock.{lock, is_lock}
 use Rattle.dav_engine.specs.Method.{has_locks}

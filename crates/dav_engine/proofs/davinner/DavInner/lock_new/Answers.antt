@@ -1,5 +1,5 @@
 use Rattle.std.proofs.Common.{sym, ap, ◌∙◌}
-use Rattle.std.specs.Option.{option_copied, is_some}
+use Rattle.std.specs.Option.{option_copied}
 use Rattle.std.proofs.lemmas.Result.{err_from_is_err_and}
 use Rattle.dav_core.specs.Path.{names}
 use Rattle.dav_core.specs.Locks.{Lock}
