@@ -27,19 +27,19 @@ use Rattle.dav_engine.proofs.WorldPlans.{Only, only_done, only_ask, only_look}
 
 -- ---- plans that set no list, with what holds of what they give
 
-data Gives (h : Lock) {A : Type 0} (Q : A → Type 0) : MethodPlan A → Type 0 where
+pub data Gives (h : Lock) {A : Type 0} (Q : A → Type 0) : MethodPlan A → Type 0 where
   gives_ok : {a : A} → Q a → Gives h Q (Done (Ok a))
   gives_err : {e : DavError} → Gives h Q (Done (Err e))
   gives_ask : {c : Call} {go : Result (Answer c) FsError → MethodPlan A} → ((answer : Result (Answer c) FsError) → Gives h Q (go answer)) → Gives h Q (Ask c go)
   gives_look : {go : Locks → MethodPlan A} → ((ls : List Lock) → IsListed h ls → Gives h Q (go (Some ls))) → Gives h Q (Look go)
 
-gives_bind : {h : Lock} {A B : Type 0} {Q : A → Type 0} {R : B → Type 0} {plan : MethodPlan A} (f : A → MethodPlan B) → Gives h Q plan → ((a : A) → Q a → Gives h R (f a)) → Gives h R (plan >>= f)
+pub gives_bind : {h : Lock} {A B : Type 0} {Q : A → Type 0} {R : B → Type 0} {plan : MethodPlan A} (f : A → MethodPlan B) → Gives h Q plan → ((a : A) → Q a → Gives h R (f a)) → Gives h R (plan >>= f)
 gives_bind f (gives_ok q) more = more _ q
 gives_bind f gives_err more = gives_err
 gives_bind f (gives_ask next) more = gives_ask (λ answer. gives_bind f (next answer) more)
 gives_bind f (gives_look next) more = gives_look (λ ls listed. gives_bind f (next ls listed) more)
 
-keeps_given : {h : Lock} {A B : Type 0} {Q : A → Type 0} {plan : MethodPlan A} (f : A → MethodPlan B) → Gives h Q plan → ((a : A) → Q a → KeepsLock h (f a)) → KeepsLock h (plan >>= f)
+pub keeps_given : {h : Lock} {A B : Type 0} {Q : A → Type 0} {plan : MethodPlan A} (f : A → MethodPlan B) → Gives h Q plan → ((a : A) → Q a → KeepsLock h (f a)) → KeepsLock h (plan >>= f)
 keeps_given f (gives_ok q) more = more _ q
 keeps_given f gives_err more = keeps_done
 keeps_given f (gives_ask next) more = keeps_ask (λ answer. keeps_given f (next answer) more)
@@ -54,7 +54,7 @@ gives_only (only_ask looks more) (spares_call out next) = absurd out
 gives_only (only_look more) (spares_look next) = gives_look (λ ls listed. gives_only (more (Some ls)) (next ls listed))
 
 -- a plan that sets no list keeps every lock
-keeps_only : {h : Lock} {P : Call → Type 0} {A : Type 0} {plan : Plan A} → Only P plan → KeepsLock h plan
+pub keeps_only : {h : Lock} {P : Call → Type 0} {A : Type 0} {plan : Plan A} → Only P plan → KeepsLock h plan
 keeps_only only_done = keeps_done
 keeps_only (only_ask {c = c} is more) = keeps_ask (λ answer. keeps_only (more answer))
 keeps_only (only_look more) = keeps_look (λ ls listed. keeps_only (more (Some ls)))

@@ -30,6 +30,8 @@ pub mod RemovalLemmas
 pub mod DeleteLemmas
 pub mod DeleteWorld
 pub mod UnlockLemmas
+pub mod LockLemmas
+pub mod GrantFollows
 pub mod RunLemmas
 pub mod FaultLemmas
 pub mod SurvivorLemmas
@@ -52,6 +54,9 @@ pub mod AlongsidePlans
 pub mod AlongsideDelete
 pub mod LockListLemmas
 pub mod UnlockPlans
+pub mod LockPlans
+pub mod LockChanges
+pub mod LockSparing
 pub mod NumberLemmas
 pub mod WrongPlans
 pub mod GrantLemmas

@@ -12,7 +12,7 @@ use Rattle.dav_engine.specs.Guard.{folder_of, IsSameLock, IsListed, listed_here,
 use Rattle.dav_engine.proofs.SparingDelete.{not_listed}
 
 -- what a function gives of something that is there
-mapped_from : {A B : Type 0} (f : A → B) (o : Option A) (b : B) → option_map f o ≡ Some b → (a : A) × (o ≡ Some a) × (f a ≡ b)
+pub mapped_from : {A B : Type 0} (f : A → B) (o : Option A) (b : B) → option_map f o ≡ Some b → (a : A) × (o ≡ Some a) × (f a ≡ b)
 mapped_from f None b is = absurd (cc)
 mapped_from f (Some a) b is = (a, refl, let same : f a ≡ b = cc in same)
 

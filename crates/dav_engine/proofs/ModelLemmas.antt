@@ -10,7 +10,7 @@ use Rattle.dav_core.specs.Path.{Path}
 use Rattle.dav_engine.specs.BackendView.{BackendView}
 use Rattle.dav_engine.specs.Client.{Client}
 use Rattle.dav_engine.specs.ConditionView.{locks_in}
-use Rattle.dav_engine.specs.Follows.{as_is, Follows, Carries, Serves}
+use Rattle.dav_engine.specs.Follows.{as_is, Follows, Sets, Carries, Serves}
 use Rattle.dav_engine.specs.Method.{MethodPlan}
 use Rattle.dav_engine.specs.Plan.{Locks}
 use Rattle.dav_engine.specs.Response.{Response}
@@ -45,3 +45,11 @@ follows_at {view = view} {plan} {t = t} {ls} {ms} {r} same done = subst (λ x. F
 
 pub follows_to : {X Y : Type 0} {view : Y → X} {plan : MethodPlan X} {s t : StoreState} {ls ms ks : Locks} {r : Result Y DavError} → ms ≡ ks → Follows view plan s ls r t ms → Follows view plan s ls r t ks
 follows_to {view = view} {plan} {s} {t} {ls} {r = r} same done = subst (λ x. Follows view plan s ls r t x) same done
+
+-- to an equal store
+pub follows_store : {X Y : Type 0} {view : Y → X} {plan : MethodPlan X} {s t u : StoreState} {ls ms : Locks} {r : Result Y DavError} → t ≡ u → Follows view plan s ls r t ms → Follows view plan s ls r u ms
+follows_store {view = view} {plan} {s = s} {ls = ls} {ms} {r} same done = subst (λ x. Follows view plan s ls r x ms) same done
+
+-- from an equal list of locks, where only the list is at hand
+pub sets_for : {X Y : Type 0} {view : Y → X} {plan : MethodPlan X} {ls ks ms : Locks} {r : Result Y DavError} → ls ≡ ks → Sets view plan ls r ms → Sets view plan ks r ms
+sets_for {view = view} {plan} {ms = ms} {r} same done = subst (λ x. Sets view plan x r ms) same done

@@ -13,10 +13,11 @@ use Rattle.dav_headers.specs.Depth.{IsDepth}
 use Rattle.dav_headers.specs.ETagList.{IsTagList}
 use Rattle.dav_headers.specs.If.{ConditionList, IsIf, IsIfHeader}
 use Rattle.dav_headers.specs.Length.{IsContentLength}
+use Rattle.dav_headers.specs.Timeout.{IsTimeout}
 use Rattle.dav_headers.specs.UpdateRange.{IsUpdateRange}
 use Rattle.dav_headers.specs.Value.{IsNumber}
 use Rattle.dav_headers.specs.declared.range.ContentRange.{ContentRange}
-use Rattle.dav_headers.proofs.Theorems.{one_depth, says_one, one_update_range, same_number, one_tag_list, one_content_range, one_content_length}
+use Rattle.dav_headers.proofs.Theorems.{one_depth, one_timeout, says_one, one_update_range, same_number, one_tag_list, one_content_range, one_content_length}
 use Rattle.dav_engine.specs.declared.put_headers.Bounds.{Bounds}
 use Rattle.dav_engine.specs.declared.put_headers.Bounds.TheVariants.{Unread, Whole, Within}
 use Rattle.dav_engine.specs.declared.request.Body.{Body}
@@ -26,8 +27,10 @@ use Rattle.dav_engine.specs.Delete.{DeleteHeaders, AreDeleteHeaders, delete, IsD
 use Rattle.dav_engine.specs.Headers.{Headers, Decodes}
 use Rattle.dav_engine.specs.Method.{MethodPlan}
 use Rattle.dav_engine.specs.Mkcol.{mkcol, IsMkcol, is_mkcol}
+use Rattle.dav_engine.specs.Lock.{lock, IsLock, is_lock}
+use Rattle.dav_engine.specs.LockHeaders.{LockHeaders, AreLockHeaders}
 use Rattle.dav_engine.specs.LockToken.{SaysLockToken}
-use Rattle.dav_engine.specs.OnePlan.{OneReadingOfConditions, OneReadingOfPut, OnePutPlan, OneMkcolPlan, OneDeletePlan, OneUnlockPlan}
+use Rattle.dav_engine.specs.OnePlan.{OneReadingOfConditions, OneReadingOfPut, OnePutPlan, OneMkcolPlan, OneDeletePlan, OneUnlockPlan, OneLockPlan}
 use Rattle.dav_engine.specs.Put.{PutHeaders, IsPut, is_put, put_body, bytes_of_body, IsAnnounced, IsExpectedLength, TellsBounds}
 use Rattle.dav_engine.specs.Response.{Response}
 use Rattle.dav_engine.specs.Unlock.{unlock, IsUnlock, is_unlock}
@@ -165,3 +168,18 @@ same_unlock {headers} {p} (is_unlock a h) (is_unlock b k) = ap (λ (x : Option (
 
 pub one_unlock_plan : OneUnlockPlan
 one_unlock_plan headers p who one other h k = same_unlock h k
+
+-- ---- LOCK
+
+one_lock_headers : (headers : Headers) (p : PathText) (a b : LockHeaders) → AreLockHeaders headers p a → AreLockHeaders headers p b → a ≡ b
+one_lock_headers headers p a b h k =
+    let conditions = one_conditions headers p.prefix (names p) a.conditions b.conditions h.conditions k.conditions in
+    let depth = decoded_one IsDepth (get_all headers (codes "depth")) (one_depth (get_all headers (codes "depth"))) a.depth b.depth h.depth k.depth in
+    let timeout = decoded_one IsTimeout (get_all headers (codes "timeout")) (one_timeout (get_all headers (codes "timeout"))) a.timeout b.timeout h.timeout k.timeout in
+    λ i. record { conditions = conditions i; depth = depth i; timeout = timeout i }
+
+same_lock_plan : {headers : Headers} {p : PathText} {body : Body} {who : Client} {one other : MethodPlan Response} → IsLock headers p body who one → IsLock headers p body who other → one ≡ other
+same_lock_plan {headers} {p} {body} {who} (is_lock a h) (is_lock b k) = ap (λ (x : LockHeaders). lock x p body who) (one_lock_headers headers p a b h k)
+
+pub one_lock_plan : OneLockPlan
+one_lock_plan headers p body who one other h k = same_lock_plan h k

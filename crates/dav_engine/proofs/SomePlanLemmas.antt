@@ -1,4 +1,4 @@
--- No PUT, PATCH, MKCOL, DELETE or UNLOCK is without a plan, since a header decodes or doesn't.
+-- No PUT, PATCH, MKCOL, DELETE, LOCK or UNLOCK is without a plan, since a header decodes or doesn't.
 use Rattle.std.proofs.Common.{ℕ, List, inl, inr, Option, Some, None, refl}
 use Rattle.std.specs.Option.{option_or}
 use Rattle.std.specs.Prelude.{codes}
@@ -10,6 +10,7 @@ use Rattle.dav_headers.specs.ContentRange.{IsContentRange}
 use Rattle.dav_headers.specs.Depth.{IsDepth}
 use Rattle.dav_headers.specs.ETagList.{IsTagList}
 use Rattle.dav_headers.specs.Length.{IsContentLength}
+use Rattle.dav_headers.specs.Timeout.{IsTimeout}
 use Rattle.dav_headers.specs.UpdateRange.{IsUpdateRange}
 use Rattle.dav_engine.specs.declared.put_headers.Bounds.{Bounds}
 use Rattle.dav_engine.specs.declared.put_headers.Bounds.TheVariants.{Unread, Whole, Within}
@@ -22,6 +23,7 @@ use Rattle.dav_engine.specs.Method.{MethodPlan}
 use Rattle.dav_engine.specs.Mkcol.{mkcol, IsMkcol, is_mkcol}
 use Rattle.dav_engine.specs.Put.{PutHeaders, ArePutHeaders, IsPut, is_put, put_body, bytes_of_body, IsAnnounced, IsExpectedLength, TellsBounds, is_partial_update, checksum_in}
 use Rattle.dav_engine.specs.Response.{Response}
+use Rattle.dav_engine.specs.Lock.{lock, IsLock, is_lock}
 use Rattle.dav_engine.specs.LockToken.{SaysLockToken}
 use Rattle.dav_engine.specs.Unlock.{unlock, IsUnlock, is_unlock}
 
@@ -77,3 +79,10 @@ some_delete_plan headers p who without =
 
 pub some_unlock_plan : (headers : Headers) (p : PathText) (who : Client) → ¬ ((plan : MethodPlan Response) → ¬ IsUnlock headers p who plan)
 some_unlock_plan headers p who without = decoded_some SaysLockToken headers (λ token is. without (unlock token p) (is_unlock token is))
+
+pub some_lock_plan : (headers : Headers) (p : PathText) (body : Body) (who : Client) → ¬ ((plan : MethodPlan Response) → ¬ IsLock headers p body who plan)
+some_lock_plan headers p body who without =
+    some_conditions headers p.prefix (names p) (λ c is.
+    decoded_some IsDepth (get_all headers (codes "depth")) (λ depth too.
+    decoded_some IsTimeout (get_all headers (codes "timeout")) (λ timeout also.
+    without (lock (record { conditions = c; depth = depth; timeout = timeout }) p body who) (is_lock (record { conditions = c; depth = depth; timeout = timeout }) (record { conditions = is; depth = too; timeout = also })))))

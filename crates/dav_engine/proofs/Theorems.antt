@@ -13,14 +13,17 @@ pub use Rattle.dav_engine.proofs.GrantLemmas.{shared_guards, folders_are_above}
 pub use Rattle.dav_engine.proofs.GuardLemmas.{carried}
 pub use Rattle.dav_engine.proofs.GuardedFolders.{free_for_is}
 pub use Rattle.dav_engine.proofs.ListChangeLemmas.{lists_are_changed, lists_are_changed_cut, changes_keep_shared, changes_bring_tokens, tokens_after_all, changes_join, changes_reading, reading_changes_list, put_changes_list, mkcol_changes_list, delete_changes_list, unlock_changes_list}
+pub use Rattle.dav_engine.proofs.LockChanges.{lock_changes_list}
+pub use Rattle.dav_engine.proofs.LockPlans.{lock_is_proper, lock_keeps_locks}
+pub use Rattle.dav_engine.proofs.LockSparing.{lock_spares}
 pub use Rattle.dav_engine.proofs.LockTokenLemmas.{last_is, one_lock_token}
 pub use Rattle.dav_engine.proofs.ModelLemmas.{serves_from}
 pub use Rattle.dav_engine.proofs.NumberLemmas.{spare_numbers_suffice}
-pub use Rattle.dav_engine.proofs.OnePlanLemmas.{one_conditions, one_put_plan, one_mkcol_plan, one_delete_plan, one_unlock_plan}
+pub use Rattle.dav_engine.proofs.OnePlanLemmas.{one_conditions, one_put_plan, one_mkcol_plan, one_delete_plan, one_unlock_plan, one_lock_plan}
 pub use Rattle.dav_engine.proofs.PlanLemmas.{ran_same, ran_unset, Comes, comes}
 pub use Rattle.dav_engine.proofs.PutWorld.{look_reads, only_put_allowed, only_mkcol_allowed, IsLook, looks, only_conditions, put_is_proper, mkcol_is_proper, create_only_leaves_all}
 pub use Rattle.dav_engine.proofs.RemovalReports.{Gives, gives_done, gives_ask, gives_look, gives_keep, gives_removal}
-pub use Rattle.dav_engine.proofs.SomePlanLemmas.{some_conditions, some_put_plan, some_mkcol_plan, some_delete_plan, some_unlock_plan}
+pub use Rattle.dav_engine.proofs.SomePlanLemmas.{some_conditions, some_put_plan, some_mkcol_plan, some_delete_plan, some_unlock_plan, some_lock_plan}
 pub use Rattle.dav_engine.proofs.SparingDelete.{delete_spares}
 pub use Rattle.dav_engine.proofs.SparingLaw.{sparing_leaves_covered, sparing_leaves_covered_cut, sparing_leaves_inside}
 pub use Rattle.dav_engine.proofs.SparingPlans.{reading_spares, put_spares, mkcol_spares}

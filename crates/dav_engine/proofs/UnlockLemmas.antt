@@ -1,5 +1,5 @@
 -- How code follows an UNLOCK.
-use Rattle.std.proofs.Common.{◌≡◌, ℕ, List, [], ◌∷◌, Bool, true, false, Option, Some, None, Result, Ok, Err, refl, sym, ap, subst, ◌∙◌}
+use Rattle.std.proofs.Common.{◌≡◌, ℕ, List, Bool, true, false, Option, Some, None, Result, Ok, Err, refl, sym, ap, subst, ◌∙◌}
 use Rattle.std.specs.Option.{is_some, option_map}
 use Rattle.std.specs.Result.{result_ok}
 use Rattle.dav_core.specs.declared.errors.FsError.{FsError}

@@ -71,9 +71,10 @@ stays_by p answer (Some after) (ran_keep ran) = absurd (let e = ran_outcome ran 
 unlock_ends : (headers : Headers) (p : PathText) (token : List ℕ) {old new : StoreState} {ls : List Lock} {ms : Locks} {r : Response}
     → SaysLockToken headers token → Ran Asks (end_lock p token) old (Some ls) (Ok r) new ms → (new.world ≡ old.world) × EndsLock headers p (Some ls) ms
 unlock_ends headers p token {old} {new} {ls} {ms} says (ran_ask {mid = mid} {answer = answer} one (ran_look ran)) =
-    let (after, left, same, is) = left_by p answer (unlocked token (names p) ls) ran in
-    (ap (λ (s : StoreState). s.world) same ∙ did_leave (Metadata (names p)) old.world mid.world answer tt (did one),
-    record { token = token; before = ls; after = after; said = says; was = refl; ended = left; is = is })
+    let (after, left, same, is) = left_by p answer (unlocked token (names p) ls) ran in (
+      ap (λ (s : StoreState). s.world) same ∙ did_leave (Metadata (names p)) old.world mid.world answer tt (did one),
+      record { token = token; before = ls; after = after; said = says; was = refl; ended = left; is = is },
+    )
 
 pub unlock_ends_lock : UnlockEndsLock
 unlock_ends_lock headers p who plan old new None ms r (is_unlock token is) (ran_look ran) = absurd (let e = ran_outcome ran in cc)

@@ -7,6 +7,7 @@ use Rattle.dav_engine.specs.declared.request.DavRequest.{DavRequest}
 use Rattle.dav_engine.specs.Client.{Client}
 use Rattle.dav_engine.specs.Delete.{IsDelete}
 use Rattle.dav_engine.specs.Follows.{Follows, Serves}
+use Rattle.dav_engine.specs.Lock.{IsLock}
 use Rattle.dav_engine.specs.Method.{MethodPlan}
 use Rattle.dav_engine.specs.Mkcol.{IsMkcol}
 use Rattle.dav_engine.specs.Put.{IsPut}
@@ -51,3 +52,7 @@ DeleteOf request who = IsDelete request.headers request.path who
 -- the plans of an UNLOCK, by who makes it
 abbrev pub UnlockOf : DavRequest → Client → MethodPlan Response → Type 0
 UnlockOf request who = IsUnlock request.headers request.path who
+
+-- the plans of a LOCK with this body, by who makes it
+abbrev pub LockOf : DavRequest → Body → Client → MethodPlan Response → Type 0
+LockOf request body who = IsLock request.headers request.path body who

@@ -13,9 +13,9 @@ use Rattle.dav_headers.specs.IfView.{condition_value}
 use Rattle.dav_engine.specs.declared.conditional.Addressed as declared_list
 use Rattle.dav_engine.specs.declared.conditional.Conditions.TheInside.{Inside}
 use Rattle.dav_engine.specs.declared.request.DavRequest.{DavRequest}
-use Rattle.dav_engine.specs.Conditions.{Addressed, Conditions, AreConditions, SaysLists, http_conditions, if_holds, submitted, if_match, if_match_get_tokens}
+use Rattle.dav_engine.specs.Conditions.{Addressed, Conditions, AreConditions, SaysLists, http_conditions, dav_if_match, if_match, if_match_get_tokens}
 use Rattle.dav_engine.specs.Headers.{Headers, Decodes}
-use Rattle.dav_engine.specs.Method.{MethodPlan, ◌>>=◌, gives}
+use Rattle.dav_engine.specs.Method.{MethodPlan}
 use Rattle.dav_engine.specs.Plan.{Locks}
 
 abbrev pub list_of : declared_list.Addressed → Addressed
@@ -47,9 +47,7 @@ IsHttpVerdict m headers found status =
 -- the plan that finds out whether If holds, and gives the tokens that it submits
 pub data IsDavIf (request : DavRequest) (path : PathText) : MethodPlan (Bool × List (List ℕ)) → Type 0 where
   is_dav_if : (lists : Option (List Addressed)) → Decodes (SaysLists request.path.prefix (names path)) (get_all request.headers (codes "if")) lists
-      → IsDavIf request path (do
-        holds ← if_holds lists
-        gives (holds, submitted lists))
+      → IsDavIf request path (dav_if_match lists)
 
 -- the plan that gives the status that all conditions answer, with If evaluated first
 pub data IsIfMatch (request : DavRequest) (path : PathText) (found : Option DavMetaData) : MethodPlan (Option ℕ) → Type 0 where

@@ -170,6 +170,12 @@ submitted (Some ls) = flat_map (λ l. tokens_among l.conditions) ls
 
 -- ---- all conditions
 
+-- whether If holds, and the tokens that it submits
+abbrev pub dav_if_match : Option (List Addressed) → MethodPlan (Bool × List (List ℕ))
+dav_if_match lists = do
+  holds ← if_holds lists
+  gives (holds, submitted lists)
+
 -- The status that all conditions answer, if they do, with If evaluated first: 412 where If doesn't hold.
 abbrev pub if_match : DavMethod → Conditions → Option DavMetaData → MethodPlan (Option ℕ)
 if_match m c found = do

@@ -1,5 +1,5 @@
 -- Plans that leave a lock in the list (RFC 4918, sections 6.1 and 9.11).
-use Rattle.std.specs.Prelude.{List, Some, Result}
+use Rattle.std.specs.Prelude.{◌≢◌, List, Some, Result}
 use Rattle.dav_core.specs.declared.errors.FsError.{FsError}
 use Rattle.dav_core.specs.declared.errors.DavError.{DavError}
 use Rattle.dav_core.specs.declared.method.DavMethod.{DavMethod}
@@ -11,6 +11,7 @@ use Rattle.dav_engine.specs.Client.{Client}
 use Rattle.dav_engine.specs.Delete.{IsDelete}
 use Rattle.dav_engine.specs.Guard.{IsListed, Stands}
 use Rattle.dav_engine.specs.Headers.{Headers}
+use Rattle.dav_engine.specs.Lock.{IsLock}
 use Rattle.dav_engine.specs.LockToken.{SaysLockToken}
 use Rattle.dav_engine.specs.Method.{MethodPlan}
 use Rattle.dav_engine.specs.Mkcol.{IsMkcol}
@@ -68,3 +69,9 @@ abbrev pub UnlockKeepsLocks : Type 0
 UnlockKeepsLocks =
     (h : Lock) (headers : Headers) (p : PathText) (who : Client) (plan : MethodPlan Response)
     → ¬ SaysLockToken headers h.token → IsUnlock headers p who plan → KeepsLock h plan
+
+-- and a LOCK, unless the token for the lock that it creates is the lock's
+abbrev pub LockKeepsLocks : Type 0
+LockKeepsLocks =
+    (h : Lock) (headers : Headers) (p : PathText) (body : Body) (who : Client) (plan : MethodPlan Response)
+    → who.token ≢ Some h.token → IsLock headers p body who plan → KeepsLock h plan

@@ -41,6 +41,10 @@ Heeds locks view plan old result new = Follows view plan old locks result new lo
 abbrev pub Makes : {A X : Type 0} → (X → A) → MethodPlan A → StoreState → Result X DavError → StoreState → Type 0
 Makes view plan old result new = (ls : Locks) → Follows view plan old ls result new ls
 
+-- The same for code that has only the list of locks: whatever the store is, it stays.
+abbrev pub Sets : {A X : Type 0} → (X → A) → MethodPlan A → Locks → Result X DavError → Locks → Type 0
+Sets view plan ls result ms = (s : StoreState) → Follows view plan s ls result s ms
+
 -- The result is that of a plan of this kind; or memory ran out before its plan was known, and nothing was done.
 pub data Carries {A X : Type 0} (view : X → A) (kind : MethodPlan A → Type 0) (old : StoreState) (ls : Locks) (result : Result X DavError) (new : StoreState) (ms : Locks) : Type 0 where
   served : (plan : MethodPlan A) → kind plan → Follows view plan old ls result new ms → Carries view kind old ls result new ms

@@ -13,6 +13,7 @@ pub mod LockInfo
 pub mod LockTree
 pub mod LockView
 pub mod Method
+pub mod Lock
 pub mod LockToken
 pub mod LockTokenCode
 pub mod Mkcol

@@ -12,6 +12,7 @@ use Rattle.dav_engine.specs.Client.{Client}
 use Rattle.dav_engine.specs.Delete.{IsDelete}
 use Rattle.dav_engine.specs.Guard.{OnList}
 use Rattle.dav_engine.specs.Headers.{Headers}
+use Rattle.dav_engine.specs.Lock.{IsLock}
 use Rattle.dav_engine.specs.Method.{MethodPlan}
 use Rattle.dav_engine.specs.Mkcol.{IsMkcol}
 use Rattle.dav_engine.specs.Plan.{Plan, Done, Ask, Look, Keep, Locks, Ran, Cut}
@@ -93,3 +94,9 @@ abbrev pub UnlockChangesList : Type 0
 UnlockChangesList =
     (headers : Headers) (p : PathText) (who : Client) (ls : List Lock) (plan : MethodPlan Response)
     → IsUnlock headers p who plan → ChangesList who ls plan
+
+-- and so does a LOCK
+abbrev pub LockChangesList : Type 0
+LockChangesList =
+    (headers : Headers) (p : PathText) (content : Body) (who : Client) (ls : List Lock) (plan : MethodPlan Response)
+    → IsLock headers p content who plan → ChangesList who ls plan

@@ -7,6 +7,7 @@ use Rattle.dav_engine.specs.Client.{Client}
 use Rattle.dav_engine.specs.Conditions.{Conditions, AreConditions}
 use Rattle.dav_engine.specs.Delete.{IsDelete}
 use Rattle.dav_engine.specs.Headers.{Headers}
+use Rattle.dav_engine.specs.Lock.{IsLock}
 use Rattle.dav_engine.specs.Method.{MethodPlan}
 use Rattle.dav_engine.specs.Mkcol.{IsMkcol}
 use Rattle.dav_engine.specs.Put.{PutHeaders, ArePutHeaders, IsPut}
@@ -41,8 +42,13 @@ OneDeletePlan =
     (headers : Headers) (p : PathText) (who : Client) (one other : MethodPlan Response)
     → IsDelete headers p who one → IsDelete headers p who other → one ≡ other
 
--- and an UNLOCK
+-- and an UNLOCK, and a LOCK
 abbrev pub OneUnlockPlan : Type 0
 OneUnlockPlan =
     (headers : Headers) (p : PathText) (who : Client) (one other : MethodPlan Response)
     → IsUnlock headers p who one → IsUnlock headers p who other → one ≡ other
+
+abbrev pub OneLockPlan : Type 0
+OneLockPlan =
+    (headers : Headers) (p : PathText) (body : Body) (who : Client) (one other : MethodPlan Response)
+    → IsLock headers p body who one → IsLock headers p body who other → one ≡ other

@@ -1,5 +1,5 @@
 -- The plans of requests that don't hold a lock spare what it covers (RFC 4918, section 7).
-use Rattle.std.specs.Prelude.{◌≡◌, ◌≢◌, false}
+use Rattle.std.specs.Prelude.{◌≡◌, ◌≢◌, false, Some}
 use Rattle.dav_core.specs.declared.method.DavMethod.{DavMethod}
 use Rattle.dav_core.specs.Locks.{Lock, is_held}
 use Rattle.dav_core.specs.Path.{PathText, names, star}
@@ -8,6 +8,7 @@ use Rattle.dav_engine.specs.Client.{Client, requester}
 use Rattle.dav_engine.specs.Conditions.{Conditions, AreConditions, submitted}
 use Rattle.dav_engine.specs.Delete.{IsDelete}
 use Rattle.dav_engine.specs.Headers.{Headers}
+use Rattle.dav_engine.specs.Lock.{IsLock}
 use Rattle.dav_engine.specs.Method.{MethodPlan}
 use Rattle.dav_engine.specs.Mkcol.{IsMkcol}
 use Rattle.dav_engine.specs.Put.{IsPut}
@@ -50,3 +51,9 @@ DeleteSpares =
 -- An UNLOCK spares all, whoever asks for it: with it the lock itself may end.
 abbrev pub UnlockSpares : Type 0
 UnlockSpares = (h : Lock) (headers : Headers) (p : PathText) (who : Client) (plan : MethodPlan Response) → IsUnlock headers p who plan → SparesBoth h plan
+
+-- A LOCK spares what an exclusive lock covers, whoever asks for it, unless the token for the lock that it creates is the lock's.
+abbrev pub LockSpares : Type 0
+LockSpares =
+    (h : Lock) (headers : Headers) (p : PathText) (body : Body) (who : Client) (plan : MethodPlan Response)
+    → h.shared ≡ false → who.token ≢ Some h.token → IsLock headers p body who plan → SparesLock h plan

@@ -1,13 +1,13 @@
 -- What methods do to worlds: plans that only read, plans that a caller may carry out, and what an entity tag says about
 -- bytes.
-use Rattle.std.specs.Prelude.{◌≡◌, ℕ, ◌<◌, ◌≤◌, ⊤, false, List, [], ◌∷◌, All, Some, None, Result, Ok, Err}
+use Rattle.std.specs.Prelude.{◌≡◌, ◌≢◌, ℕ, ◌<◌, ◌≤◌, ⊤, false, List, [], ◌∷◌, All, Some, None, Result, Ok, Err}
 use Rattle.dav_core.specs.declared.errors.FsError.{FsError}
 use Rattle.dav_core.specs.declared.errors.DavError.{DavError}
 use Rattle.dav_core.specs.declared.method.DavMethod.{DavMethod}
 use Rattle.dav_core.specs.Asking.{Call, Answer, StoreState, Asks, ReadDir, CreateDir, RemoveDir, RemoveFile, Rename, Copy, PatchProps, Open, Write}
 use Rattle.dav_core.specs.CallLaws.{IsProper, IsStorable}
 use Rattle.dav_core.specs.Locks.{Lock}
-use Rattle.dav_core.specs.Path.{Path, PathText, names}
+use Rattle.dav_core.specs.Path.{Path, PathText, names, star as path_star}
 use Rattle.dav_core.specs.World.{World, Node, File, node_at, last_moment, IsWorld}
 use Rattle.dav_headers.specs.ETagList.{star}
 use Rattle.dav_engine.specs.declared.request.Body.{Body}
@@ -15,6 +15,7 @@ use Rattle.dav_engine.specs.Client.{Client}
 use Rattle.dav_engine.specs.Conditions.{Conditions}
 use Rattle.dav_engine.specs.Delete.{IsDelete}
 use Rattle.dav_engine.specs.Headers.{Headers}
+use Rattle.dav_engine.specs.Lock.{IsLock}
 use Rattle.dav_engine.specs.Method.{MethodPlan}
 use Rattle.dav_engine.specs.Mkcol.{mkcol, mkcol_allowed, IsMkcol}
 use Rattle.dav_engine.specs.Plan.{Plan, Done, Ask, Look, Keep, Locks, Ran}
@@ -86,6 +87,12 @@ DeleteIsProper =
 -- and that of UNLOCK
 abbrev pub UnlockIsProper : Type 0
 UnlockIsProper = (headers : Headers) (p : PathText) (who : Client) (plan : MethodPlan Response) → IsUnlock headers p who plan → IsProperPlan plan
+
+-- and that of LOCK, at a path of names and such a moment
+abbrev pub LockIsProper : Type 0
+LockIsProper =
+    (headers : Headers) (p : PathText) (body : Body) (who : Client) (plan : MethodPlan Response)
+    → IsStorable (names p) → p.bytes ≢ path_star → who.moment ≤ last_moment → IsLock headers p body who plan → IsProperPlan plan
 
 -- An error of the checks before the file is opened is the outcome, and leaves the world and the list of locks as they are.
 abbrev pub RefusedPutLeavesAll : Type 0

@@ -443,6 +443,22 @@ impl Conditions {
         http_status(alloc, method, &self.if_match, &self.if_none_match, found)
     }
 
+    /// Whether If holds (RFC 4918, section 10.4), and the tokens that it submits: those of all its lists, in order, whether or
+    /// not they hold. Without If the answer is yes, with no tokens.
+    pub fn dav_if_match<F: DavFileSystem, L: DavLockSystem>(
+        &self,
+        alloc: Global,
+        fs: &mut F,
+        ls: Option<&L>,
+    ) -> Result<(bool, Vec<String>), NoMemory>
+        ensures { Heeds (locks_in L.locks ls.entry) (λ r. (r.0, texts_of r.1))
+            (spec.dav_if_match self.now.lists)
+            (F.state fs.old) (or_memory result) (F.state fs.new) }
+    {
+        let holds = if_holds(fs, ls, alloc, &self.lists)?;
+        Ok((holds, submitted(alloc, &self.lists)?))
+    }
+
     /// The tokens that If submits, all of them in order; or the status that the conditions answer, as `if_match` does, but
     /// with If evaluated last.
     pub fn if_match_get_tokens<F: DavFileSystem, L: DavLockSystem>(

@@ -180,7 +180,7 @@ fn open_error(options: &OpenOptions, error: FsError) -> DavError
 
 // The status where a file is missing or already there: 412 where a condition asked for that, else 409 (no folder is above
 // the path).
-fn missing_status(options: &OpenOptions) -> StatusCode
+pub(crate) fn missing_status(options: &OpenOptions) -> StatusCode
     ensures { result ≡ spec.missing_status (opening_of options.now) }
 {
     if !options.create || options.create_new {

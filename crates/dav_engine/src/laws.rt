@@ -1,10 +1,10 @@
 //! Laws of methods. Each function does nothing: its contract is a theorem on the definitions.
 ghost use Rattle.dav_engine.specs.Date.{DatesOfMoments};
-ghost use Rattle.dav_engine.specs.OnePlan.{OneReadingOfConditions, OnePutPlan, OneMkcolPlan, OneDeletePlan, OneUnlockPlan};
+ghost use Rattle.dav_engine.specs.OnePlan.{OneReadingOfConditions, OnePutPlan, OneMkcolPlan, OneDeletePlan, OneUnlockPlan, OneLockPlan};
 ghost use Rattle.dav_engine.specs.PlanLaws.{PlansAreDetermined, PlansEnd, WantIsLikeRefusals, CutsAreLikeRefusals};
 ghost use Rattle.dav_engine.specs.RemovalLaws.{RemovalsLeaveSurvivors, ReportedAreThere, DeletesLeaveSurvivors, NoContentMeansGone, RefusedDeleteLeavesAll};
 ghost use Rattle.dav_engine.specs.UnlockLaws.{UnlockEndsLock, RefusedUnlockLeavesAll};
-ghost use Rattle.dav_engine.specs.WorldLaws.{ReadingLeavesAll, ProperPlansKeepWorlds, PutIsProper, MkcolIsProper, DeleteIsProper, UnlockIsProper, RefusedPutLeavesAll, RefusedMkcolLeavesAll, CreatesOnly, CreateOnlyLeavesAll, PlansRemember};
+ghost use Rattle.dav_engine.specs.WorldLaws.{ReadingLeavesAll, ProperPlansKeepWorlds, PutIsProper, MkcolIsProper, DeleteIsProper, UnlockIsProper, LockIsProper, RefusedPutLeavesAll, RefusedMkcolLeavesAll, CreatesOnly, CreateOnlyLeavesAll, PlansRemember};
 
 pub mod isolation;
 
@@ -33,14 +33,16 @@ pub fn cuts_are_like_refusals()
     ensures { CutsAreLikeRefusals }
 {}
 
-/// Headers say one thing as conditions, and a PUT, PATCH, MKCOL, DELETE or UNLOCK has one plan at most: its headers, its path,
-/// its body and its client determine what it does (RFC 9110, section 9.3.4; RFC 4918, sections 9.3, 9.6, 9.11 and 10.4).
+/// Headers say one thing as conditions, and a PUT, PATCH, MKCOL, DELETE, LOCK or UNLOCK has one plan at most: its headers,
+/// its path, its body and its client determine what it does (RFC 9110, section 9.3.4; RFC 4918, sections 9.3, 9.6, 9.10, 9.11 and
+/// 10.4).
 pub fn requests_have_one_plan()
     ensures conditions { OneReadingOfConditions }
     ensures put { OnePutPlan }
     ensures mkcol { OneMkcolPlan }
     ensures delete { OneDeletePlan }
     ensures unlock { OneUnlockPlan }
+    ensures lock { OneLockPlan }
 {}
 
 /// The date that is written for a moment is the one of the calendar with so many seconds since 1970 (RFC 9110, section
@@ -58,15 +60,16 @@ pub fn reading_leaves_all()
 {}
 
 /// A plan of calls that a caller may make keeps what makes a world a world (RFC 4918, section 5.1), and change numbers
-/// never fall. The plans of PUT, PATCH and MKCOL are such plans, for a path of names and a moment until the end of the year
+/// never fall. The plans of PUT, PATCH, MKCOL and LOCK are such plans, for a path of names and a moment until the end of the year
 /// 9999, and so are those of DELETE and UNLOCK, for any path.
-#[tactic(auto, using(crate::proofs::WorldAnswers::proper_plans_keep_worlds, crate::proofs::PutWorld::put_is_proper, crate::proofs::PutWorld::mkcol_is_proper, crate::proofs::DeleteWorld::delete_is_proper, crate::proofs::UnlockPlans::unlock_is_proper))]
+#[tactic(auto, using(crate::proofs::WorldAnswers::proper_plans_keep_worlds, crate::proofs::PutWorld::put_is_proper, crate::proofs::PutWorld::mkcol_is_proper, crate::proofs::DeleteWorld::delete_is_proper, crate::proofs::UnlockPlans::unlock_is_proper, crate::proofs::LockPlans::lock_is_proper))]
 pub fn proper_plans_keep_worlds()
     ensures kept { ProperPlansKeepWorlds }
     ensures put { PutIsProper }
     ensures mkcol { MkcolIsProper }
     ensures delete { DeleteIsProper }
     ensures unlock { UnlockIsProper }
+    ensures lock { LockIsProper }
 {}
 
 /// An error of the checks before PUT, PATCH or MKCOL changes anything is the outcome, and leaves the world and the list of

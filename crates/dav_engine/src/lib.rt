@@ -9,6 +9,7 @@ mod date;
 pub mod davinner;
 mod folder;
 mod handle_delete;
+mod handle_lock;
 mod handle_mkcol;
 mod handle_put;
 mod handle_unlock;

@@ -8,7 +8,7 @@ ghost use Rattle.dav_engine.specs.Multistatus as spec;
 #[cfg(test)]
 mod tests;
 
-use crate::reply::{Reply, ReplyBody, set_header};
+use crate::reply::{Reply, ReplyBody, set_xml_type};
 use dav_core::davpath::DavPath;
 use dav_core::element::Element;
 use dav_core::errors::{DavError, DavResult, NoMemory};
@@ -157,8 +157,7 @@ fn multistatus_reply(alloc: Global, items: &[(DavPath, StatusCode)]) -> Result<R
 {
     let tree = multistatus(alloc, items)?;
     let mut headers = HeaderMap::new(alloc);
-    let xml = HeaderValue::from_static("application/xml; charset=utf-8");
-    set_header(&mut headers, names::CONTENT_TYPE(), xml)?;
+    set_xml_type(&mut headers)?;
     Ok(Reply {
         status: StatusCode::MULTI_STATUS,
         headers,

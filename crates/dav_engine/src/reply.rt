@@ -6,6 +6,7 @@ ghost use Rattle.dav_core.specs.Metadata.{tag_of};
 ghost use Rattle.dav_core.specs.Path.{full_bytes};
 ghost use Rattle.dav_core.specs.UrlText.{path_text};
 ghost use Rattle.dav_core.specs.World.{last_moment};
+ghost use Rattle.dav_engine.specs.Multistatus.{xml_type};
 ghost use Rattle.dav_engine.specs.Response.{error_reply, with_tag, with_validators};
 
 #[cfg(test)]
@@ -127,6 +128,15 @@ pub fn set_location(alloc: Global, headers: &mut HeaderMap, path: &DavPath) -> R
     let text = path.with_prefix().as_url_string(alloc)?;
     let value = HeaderValue::from_string(text).map_err(|_| NoMemory)?;
     set_header(headers, names::CONTENT_LOCATION(), value)
+}
+
+/// Sets `content-type`: an element tree is sent as XML (RFC 4918, section 8.2).
+pub fn set_xml_type(headers: &mut HeaderMap) -> Result<(), NoMemory>
+    ensures { OnOk result (headers.new
+        ≡ insert headers.old (codes "content-type") (plain_value xml_type.1)) }
+{
+    let xml = HeaderValue::from_static("application/xml; charset=utf-8");
+    set_header(headers, names::CONTENT_TYPE(), xml)
 }
 
 impl Reply {

@@ -1,12 +1,12 @@
 //! Laws of locked folders. Each function does nothing: its contract is a theorem on the definitions.
 ghost use Rattle.dav_engine.specs.Alongside.{AlongsideAgree, SpareNumbersSuffice};
 ghost use Rattle.dav_engine.specs.AlongsidePlans.{PutGoesAlong, MkcolGoesAlong, DeleteGoesAlong, UnlockGoesAlong};
-ghost use Rattle.dav_engine.specs.Ending.{KeptLocksStand, KeptLocksStandCut, ReadingKeepsLocks, PutKeepsLocks, MkcolKeepsLocks, DeleteKeepsLocks, UnlockKeepsLocks};
+ghost use Rattle.dav_engine.specs.Ending.{KeptLocksStand, KeptLocksStandCut, ReadingKeepsLocks, PutKeepsLocks, MkcolKeepsLocks, DeleteKeepsLocks, UnlockKeepsLocks, LockKeepsLocks};
 ghost use Rattle.dav_engine.specs.Guard.{FreeIsHeld, FreeIsApart, FreeIsUncovered, GrantedGuards, SharedGuards};
 ghost use Rattle.dav_engine.specs.Inside.{FoldersAreAbove};
-ghost use Rattle.dav_engine.specs.ListChanges.{ListsAreChanged, ListsAreChangedCut, ChangesKeepShared, ChangesBringTokens, ReadingChangesList, PutChangesList, MkcolChangesList, DeleteChangesList, UnlockChangesList};
+ghost use Rattle.dav_engine.specs.ListChanges.{ListsAreChanged, ListsAreChangedCut, ChangesKeepShared, ChangesBringTokens, ReadingChangesList, PutChangesList, MkcolChangesList, DeleteChangesList, UnlockChangesList, LockChangesList};
 ghost use Rattle.dav_engine.specs.Sparing.{SparingLeavesCovered, SparingLeavesCoveredCut, SparingLeavesInside};
-ghost use Rattle.dav_engine.specs.SparingPlans.{ReadingSpares, PutSpares, MkcolSpares, DeleteSpares, UnlockSpares};
+ghost use Rattle.dav_engine.specs.SparingPlans.{ReadingSpares, PutSpares, MkcolSpares, DeleteSpares, UnlockSpares, LockSpares};
 
 /// At a folder that a lock guards (exclusive, of infinite depth) and below it, a path is free exactly for the requester that
 /// holds the lock. What is free with everything below, for any other requester, is apart from the folder. And what is free
@@ -28,13 +28,15 @@ pub fn sparing_plans_leave_locked_content()
 {}
 
 /// PUT, PATCH, MKCOL and DELETE of a client that doesn't hold an exclusive lock spare what it covers. Plans that only read spare
-/// all, and so does an UNLOCK, whoever asks for it (RFC 4918, sections 7 and 9.11).
+/// all, and so does an UNLOCK, whoever asks for it; a LOCK spares what an exclusive lock covers, unless its own token is that
+/// lock's (RFC 4918, sections 7, 9.10 and 9.11).
 pub fn strangers_spare_what_is_locked()
     ensures reading { ReadingSpares }
     ensures put { PutSpares }
     ensures mkcol { MkcolSpares }
     ensures delete { DeleteSpares }
     ensures unlock { UnlockSpares }
+    ensures lock { LockSpares }
 {}
 
 /// A plan that goes along with itself has the same outcome in two worlds that have the same content in a guarded folder, but
@@ -64,8 +66,8 @@ pub fn granted_locks_guard_their_folders()
 
 /// A lock that a plan leaves in the list stands after it, whatever the store refuses, and also where memory runs out in the
 /// plan. Plans that only read leave every lock, and so do PUT, PATCH and MKCOL, whoever
-/// asks for them, a DELETE of a client that doesn't hold the lock, and an UNLOCK of another token (RFC 4918, sections 7, 9.6 and
-/// 9.11).
+/// asks for them, a DELETE of a client that doesn't hold the lock, an UNLOCK of another token, and a LOCK with another token for its
+/// own lock (RFC 4918, sections 7, 9.6, 9.10 and 9.11).
 pub fn kept_locks_stand()
     ensures stands { KeptLocksStand }
     ensures cut { KeptLocksStandCut }
@@ -74,6 +76,7 @@ pub fn kept_locks_stand()
     ensures mkcol { MkcolKeepsLocks }
     ensures delete { DeleteKeepsLocks }
     ensures unlock { UnlockKeepsLocks }
+    ensures lock { LockKeepsLocks }
 {}
 
 /// Each change that a plan makes to the list of locks is a grant of a lock with the client's token where it may be granted, a
@@ -87,6 +90,7 @@ pub fn lists_are_changed()
     ensures mkcol { MkcolChangesList }
     ensures delete { DeleteChangesList }
     ensures unlock { UnlockChangesList }
+    ensures lock { LockChangesList }
 {}
 
 /// Through such changes locks that cover one path stay shared, and no lock has a token but those that locks had before, and the

@@ -1,5 +1,6 @@
 use Rattle.dav_engine.proofs.EndingDelete.{delete_keeps_locks}
 use Rattle.dav_engine.proofs.EndingLemmas.{kept_locks_stand, kept_locks_stand_cut, reading_keeps_locks, put_keeps_locks, mkcol_keeps_locks}
+use Rattle.dav_engine.proofs.LockPlans.{lock_keeps_locks}
 use Rattle.dav_engine.proofs.UnlockPlans.{unlock_keeps_locks}
 use Rattle.dav_engine.proofs.laws.isolation.kept_locks_stand.Goals as goal
 
@@ -23,3 +24,6 @@ returns-clause-delete c = delete_keeps_locks
 
 pub returns-clause-unlock : goal.returns-clause-unlock
 returns-clause-unlock c = unlock_keeps_locks
+
+pub returns-clause-lock : goal.returns-clause-lock
+returns-clause-lock c = lock_keeps_locks

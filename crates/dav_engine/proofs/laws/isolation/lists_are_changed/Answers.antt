@@ -1,4 +1,5 @@
 use Rattle.dav_engine.proofs.ListChangeLemmas.{lists_are_changed, lists_are_changed_cut, reading_changes_list, put_changes_list, mkcol_changes_list, delete_changes_list, unlock_changes_list}
+use Rattle.dav_engine.proofs.LockChanges.{lock_changes_list}
 use Rattle.dav_engine.proofs.laws.isolation.lists_are_changed.Goals as goal
 
 pub returns-clause-changed : goal.returns-clause-changed
@@ -21,3 +22,6 @@ returns-clause-delete c = delete_changes_list
 
 pub returns-clause-unlock : goal.returns-clause-unlock
 returns-clause-unlock c = unlock_changes_list
+
+pub returns-clause-lock : goal.returns-clause-lock
+returns-clause-lock c = lock_changes_list

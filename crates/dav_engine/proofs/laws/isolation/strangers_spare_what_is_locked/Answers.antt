@@ -1,5 +1,6 @@
 use Rattle.dav_engine.proofs.SparingPlans.{reading_spares, put_spares, mkcol_spares}
 use Rattle.dav_engine.proofs.SparingDelete.{delete_spares}
+use Rattle.dav_engine.proofs.LockSparing.{lock_spares}
 use Rattle.dav_engine.proofs.UnlockPlans.{unlock_spares}
 use Rattle.dav_engine.proofs.laws.isolation.strangers_spare_what_is_locked.Goals as goal
 
@@ -17,3 +18,6 @@ returns-clause-delete c = delete_spares
 
 pub returns-clause-unlock : goal.returns-clause-unlock
 returns-clause-unlock c = unlock_spares
+
+pub returns-clause-lock : goal.returns-clause-lock
+returns-clause-lock c = lock_spares

@@ -1,0 +1,468 @@
+//! LOCK (RFC 4918, sections 6, 7 and 9.10).
+ghost use Rattle.std.specs.Prelude.{◌≡◌, ◌≤◌, ◌+◌, IfOk, IfSome, OnOk, OnErr, option_map, string_bytes, map};
+ghost use Rattle.std.specs.Option.{is_some, option_copied};
+ghost use Rattle.std.specs.Result.{result_err};
+ghost use Rattle.http_header.specs.FieldValue.{plain_value};
+ghost use Rattle.dav_core.specs.Locks.{ends_at};
+ghost use Rattle.dav_core.specs.Metadata.{opening_of};
+ghost use Rattle.dav_core.specs.Numbers.{max_u64};
+ghost use Rattle.dav_core.specs.Path.{names};
+ghost use Rattle.dav_core.specs.World.{last_moment};
+ghost use Rattle.dav_engine.specs.AtWork.{KeepsLent, StaysLent, FollowsOn, ServesFrom, LockOf};
+ghost use Rattle.dav_engine.specs.ConditionView.{texts_of};
+ghost use Rattle.dav_engine.specs.Folder.{location_found};
+ghost use Rattle.dav_engine.specs.Follows.{as_is, Sets, viewed};
+ghost use Rattle.dav_engine.specs.Lock as spec;
+ghost use Rattle.dav_engine.specs.LockView.{LastsFrom};
+ghost use Rattle.dav_engine.specs.Multistatus.{xml_type};
+ghost use Rattle.dav_engine.specs.Plan.{Ran};
+ghost use Rattle.dav_core.specs.Asking.{Asks};
+
+use crate::check::is_open;
+use crate::conditional::Conditions;
+use crate::davinner::{Caller, DavInner};
+use crate::folder::{closed, is_folder_found, set_location_found};
+use crate::handle_delete::whole_depth;
+use crate::handle_put::missing_status;
+use crate::lock_headers::LockHeaders;
+use crate::lockinfo::{LockInfo, lock_info};
+use crate::locktree::lock_told;
+use crate::reply::{Reply, ReplyBody, set_header, set_xml_type};
+use crate::request::{Body, DavRequest};
+use dav_core::davpath::DavPath;
+use dav_core::errors::{DavError, DavResult, FsError, NoMemory};
+use dav_core::fs::{DavFileSystem, DavMetaData, OpenOptions};
+use dav_core::ls::{DavLock, DavLockSystem, LockRefusal, RefreshRefusal};
+use dav_core::method::DavMethod;
+use dav_headers::names;
+use http::StatusCode;
+use http_header::{HeaderMap, HeaderValue};
+use std::alloc::Global;
+
+// The only token of several.
+fn one_token(tokens: &[String]) -> DavResult<&String>
+    ensures { viewed (λ t. string_bytes t.now) result
+        ≡ spec.one_token (map string_bytes tokens.now) }
+{
+    match tokens {
+        [token] => Ok(token),
+        _ => Err(DavError::Status(StatusCode::BAD_REQUEST)),
+    }
+}
+
+// The reply to a LOCK that refreshed a lock.
+fn refreshed_reply(
+    alloc: Global,
+    path: &DavPath,
+    found: Option<&DavMetaData>,
+    lock: &DavLock,
+) -> Result<Reply, NoMemory>
+    ensures { IfOk result (λ r. r
+        ≡ spec.refreshed_reply (location_found (option_copied found.entry) path.now) lock.now) }
+{
+    let mut headers = HeaderMap::new(alloc);
+    set_location_found(alloc, &mut headers, path, found)?;
+    set_xml_type(&mut headers)?;
+    Ok(Reply {
+        status: StatusCode::OK,
+        headers,
+        body: ReplyBody::Tree(lock_told(alloc, lock)?),
+    })
+}
+
+// Gives the lock that a token and a path mean a new timeout.
+fn refresh<L: DavLockSystem>(
+    ls: &mut Option<L>,
+    alloc: Global,
+    path: &DavPath,
+    token: &str,
+    timeout: Option<u64>,
+    now: u64,
+) -> DavResult<DavLock>
+    requires { IfSome timeout (λ seconds. now + seconds ≤ max_u64) }
+    ensures sets { Sets as_is (spec.refresh token.now (names path.now) timeout now)
+        (option_map L.locks ls.old) result (option_map L.locks ls.new) }
+    ensures same { OnErr result (option_map L.locks ls.new ≡ option_map L.locks ls.old) }
+{
+    let Some(ls) = ls else {
+        return Err(DavError::Status(StatusCode::METHOD_NOT_ALLOWED));
+    };
+    match ls.refresh(alloc, path, token, timeout, now) {
+        Ok(lock) => Ok(lock),
+        Err(RefreshRefusal::NotThere) => Err(DavError::Status(StatusCode::PRECONDITION_FAILED)),
+        Err(RefreshRefusal::Memory) => Err(DavError::Memory),
+    }
+}
+
+// A copy of a text.
+fn copy_of(alloc: Global, text: Option<&str>) -> Result<Option<String>, NoMemory>
+    ensures { IfOk result (λ copy. option_map string_bytes copy ≡ option_copied text.entry) }
+{
+    match text {
+        Some(text) => Ok(Some(String::from_str(alloc, text)?)),
+        None => Ok(None),
+    }
+}
+
+// When a lock ends that has this timeout.
+fn ends_at(now: u64, timeout: Option<u64>) -> Option<u64>
+    requires { IfSome timeout (λ seconds. now + seconds ≤ max_u64) }
+    ensures { result ≡ ends_at now timeout }
+{
+    match timeout {
+        Some(seconds) => Some(now + seconds),
+        None => None,
+    }
+}
+
+// The lock that a body asks for.
+fn lock_of(
+    alloc: Global,
+    headers: &LockHeaders,
+    path: &DavPath,
+    caller: &Caller<'_>,
+    deep: bool,
+    info: LockInfo,
+    token: &str,
+) -> Result<DavLock, NoMemory>
+    requires { caller.now.moment ≤ last_moment }
+    ensures lock { IfOk result (λ l. l
+        ≡ spec.lock_of headers.now path.now caller.now deep info token.now) }
+    ensures lasts { IfOk result (LastsFrom caller.now.moment) }
+{
+    let timeout = headers.granted_for(info.shared);
+    Ok(DavLock {
+        token: String::from_str(alloc, token)?,
+        path: path.clone()?,
+        principal: copy_of(alloc, caller.principal)?,
+        timeout_at: ends_at(caller.moment, timeout),
+        timeout,
+        shared: info.shared,
+        deep,
+        owner: info.owner,
+    })
+}
+
+// Why a lock isn't granted, if it isn't.
+fn refusal(granted: Result<DavLock, LockRefusal>) -> Option<LockRefusal>
+    ensures { result ≡ result_err granted }
+{
+    granted.err()
+}
+
+// Grants a lock.
+fn grant<L: DavLockSystem>(
+    ls: &mut Option<L>,
+    alloc: Global,
+    lock: &DavLock,
+    now: u64,
+) -> DavResult<()>
+    requires { LastsFrom now lock.now }
+    ensures sets { Sets (λ u. u) (spec.grant lock.now)
+        (option_map L.locks ls.old) result (option_map L.locks ls.new) }
+    ensures same { OnErr result (option_map L.locks ls.new ≡ option_map L.locks ls.old) }
+{
+    let Some(ls) = ls else {
+        return Err(DavError::Status(StatusCode::METHOD_NOT_ALLOWED));
+    };
+    let granted = ls.lock(
+        alloc,
+        &lock.path,
+        lock.principal.as_deref(),
+        lock.owner.as_ref(),
+        lock.timeout,
+        lock.shared,
+        lock.deep,
+        &lock.token,
+        now,
+    );
+    match refusal(granted) {
+        None => Ok(()),
+        Some(LockRefusal::Conflict) => Err(DavError::Status(StatusCode::LOCKED)),
+        Some(LockRefusal::Memory) => Err(DavError::Memory),
+    }
+}
+
+// Ends the lock that a token and a path mean, if one is meant.
+fn take_back<L: DavLockSystem>(ls: &mut Option<L>, path: &DavPath, token: &str)
+    ensures { option_map L.locks ls.new
+        ≡ option_map (spec.taken_back token.now (names path.now)) (option_map L.locks ls.old) }
+{
+    if let Some(ls) = ls {
+        let _ = ls.unlock(path, token);
+    }
+}
+
+// How an empty file is opened.
+fn empty_opening(conditions: &Conditions) -> OpenOptions
+    ensures { opening_of result ≡ spec.empty_opening conditions.now }
+{
+    OpenOptions {
+        write: true,
+        create: !conditions.wants_something(),
+        create_new: conditions.wants_nothing(),
+        ..OpenOptions::default()
+    }
+}
+
+// The error where the store refuses to open an empty file.
+fn empty_error(options: &OpenOptions, error: FsError) -> DavError
+    ensures { result ≡ spec.empty_error (opening_of options.now) error }
+{
+    match error {
+        FsError::NotFound => DavError::Status(missing_status(options)),
+        FsError::Exists => DavError::Status(missing_status(options)),
+        other => DavError::FsError(other),
+    }
+}
+
+// Opens an empty file at a path that was locked with a token; where that is refused, the lock ends.
+fn open_empty<F: DavFileSystem, L: DavLockSystem>(
+    fs: &mut F,
+    ls: &mut Option<L>,
+    alloc: Global,
+    path: &DavPath,
+    token: &str,
+    options: &OpenOptions,
+    now: u64,
+) -> DavResult<()>
+    requires { now ≤ last_moment }
+    ensures { Ran Asks (spec.open_empty (opening_of options.now) token.now (names path.now) now)
+        (F.state fs.old) (option_map L.locks ls.old) result
+        (F.state fs.new) (option_map L.locks ls.new) }
+{
+    match fs.open(alloc, path, options, now) {
+        Ok(_) => Ok(()),
+        Err(e) => {
+            take_back(ls, path, token);
+            Err(empty_error(options, e))
+        }
+    }
+}
+
+// The token of a lock in angle brackets, as a header has it.
+fn token_value(alloc: Global, token: &str) -> Result<HeaderValue, NoMemory>
+    ensures { IfOk result (λ v. v ≡ plain_value (spec.lock_token token.now).1) }
+{
+    let text = format!(in alloc; "<{token}>")?;
+    HeaderValue::from_string(text).map_err(|_| NoMemory)
+}
+
+// The reply to a LOCK that was granted.
+fn granted_reply(
+    alloc: Global,
+    path: &DavPath,
+    found: Option<&DavMetaData>,
+    lock: &DavLock,
+) -> Result<Reply, NoMemory>
+    ensures { IfOk result (λ r. r ≡ spec.granted_reply (is_some (option_copied found.entry))
+        (location_found (option_copied found.entry) path.now) lock.now) }
+{
+    let mut headers = HeaderMap::new(alloc);
+    set_location_found(alloc, &mut headers, path, found)?;
+    set_xml_type(&mut headers)?;
+    set_header(
+        &mut headers,
+        names::LOCK_TOKEN(),
+        token_value(alloc, &lock.token)?,
+    )?;
+    let status = if found.is_some() {
+        StatusCode::OK
+    } else {
+        StatusCode::CREATED
+    };
+    Ok(Reply {
+        status,
+        headers,
+        body: ReplyBody::Tree(lock_told(alloc, lock)?),
+    })
+}
+
+// Whether there is no body.
+fn is_absent(body: &Body) -> bool
+    ensures { result ≡ spec.is_absent body.now }
+{
+    match body {
+        Body::None => true,
+        Body::Bytes(bytes) => bytes.is_empty(),
+        Body::Tree(_) | Body::Malformed => false,
+    }
+}
+
+impl<'a, 'b, 'c, F: DavFileSystem, L: DavLockSystem> DavInner<'a, 'b, 'c, F, L> {
+    // The token of the lock that is to be refreshed.
+    fn token_to_refresh(
+        &mut self,
+        alloc: Global,
+        headers: &LockHeaders,
+        path: &DavPath,
+    ) -> DavResult<String>
+        ensures lent { KeepsLent self.old self.new }
+        ensures plan { FollowsOn string_bytes
+            (λ who. spec.token_to_refresh headers.now (names path.now) who)
+            self.old result self.new }
+    {
+        let caller = self.caller;
+        let backend = &mut *self.backend;
+        let fs = &mut backend.fs;
+        let ls = backend.ls.as_ref();
+        let (_, tokens) = headers.conditions.dav_if_match(alloc, fs, ls)?;
+        let token = one_token(&tokens)?;
+        if !is_open(ls, path, caller.principal, false, &tokens) {
+            return Err(DavError::Status(StatusCode::PRECONDITION_FAILED));
+        }
+        Ok(token.clone()?)
+    }
+
+    // Refreshes a lock.
+    fn lock_again(
+        &mut self,
+        alloc: Global,
+        request: &DavRequest,
+        headers: &LockHeaders,
+        path: &DavPath,
+        found: Option<&DavMetaData>,
+    ) -> DavResult<Reply>
+        requires { self.old.caller.now.moment ≤ last_moment }
+        ensures lent { StaysLent self.old self.new }
+        ensures plan { FollowsOn as_is (λ who. spec.lock_again headers.now path.now
+            (location_found (option_copied found.entry) request.now.path) who)
+            self.old result self.new }
+    {
+        let token = self.token_to_refresh(alloc, headers, path)?;
+        let timeout = headers.refreshed_for();
+        let caller = self.caller;
+        let backend = &mut *self.backend;
+        let lock = refresh(&mut backend.ls, alloc, path, &token, timeout, caller.moment)?;
+        Ok(refreshed_reply(alloc, &request.path, found, &lock)?)
+    }
+
+    // The lock that a body asks for, where the conditions hold.
+    fn asked_lock(
+        &mut self,
+        alloc: Global,
+        headers: &LockHeaders,
+        path: &DavPath,
+        body: &Body,
+        found: Option<&DavMetaData>,
+    ) -> DavResult<DavLock>
+        requires { self.old.caller.now.moment ≤ last_moment }
+        ensures lent { KeepsLent self.old self.new }
+        ensures plan { FollowsOn as_is (λ who. spec.asked_lock headers.now path.now body.now who
+            (option_copied found.entry)) self.old result self.new }
+        ensures lasts { IfOk result (LastsFrom self.old.caller.now.moment) }
+    {
+        let deep = whole_depth(headers.depth)?;
+        let caller = self.caller;
+        let backend = &mut *self.backend;
+        let fs = &mut backend.fs;
+        let ls = backend.ls.as_ref();
+        let verdict = headers
+            .conditions
+            .if_match(alloc, DavMethod::Lock, found, fs, ls)?;
+        if let Some(status) = verdict {
+            return Err(DavError::Status(status));
+        }
+        let Some(info) = lock_info(alloc, body)? else {
+            return Err(DavError::XmlParseError);
+        };
+        let Some(token) = caller.token else {
+            return Err(DavError::Status(StatusCode::INTERNAL_SERVER_ERROR));
+        };
+        Ok(lock_of(alloc, headers, path, caller, deep, info, token)?)
+    }
+
+    // Grants a new lock. All memory for the reply is had before, so that no lock is granted whose token the client doesn't learn.
+    fn lock_new(
+        &mut self,
+        alloc: Global,
+        request: &DavRequest,
+        headers: &LockHeaders,
+        body: &Body,
+        path: &DavPath,
+        found: Option<&DavMetaData>,
+    ) -> DavResult<Reply>
+        requires { self.old.caller.now.moment ≤ last_moment }
+        ensures lent { StaysLent self.old self.new }
+        ensures plan { FollowsOn as_is (λ who. spec.lock_new headers.now path.now
+            (location_found (option_copied found.entry) request.now.path) body.now who
+            (option_copied found.entry)) self.old result self.new }
+    {
+        let lock = self.asked_lock(alloc, headers, path, body, found)?;
+        let reply = granted_reply(alloc, &request.path, found, &lock)?;
+        let options = empty_opening(&headers.conditions);
+        let caller = self.caller;
+        let backend = &mut *self.backend;
+        grant(&mut backend.ls, alloc, &lock, caller.moment)?;
+        if found.is_some() {
+            return Ok(reply);
+        }
+        open_empty(
+            &mut backend.fs,
+            &mut backend.ls,
+            alloc,
+            path,
+            &lock.token,
+            &options,
+            caller.moment,
+        )?;
+        Ok(reply)
+    }
+
+    // Locks what was found at the path of a request, or refreshes a lock there.
+    fn lock_found(
+        &mut self,
+        alloc: Global,
+        request: &DavRequest,
+        headers: &LockHeaders,
+        body: &Body,
+        found: Option<&DavMetaData>,
+    ) -> DavResult<Reply>
+        requires { self.old.caller.now.moment ≤ last_moment }
+        ensures lent { StaysLent self.old self.new }
+        ensures plan { FollowsOn as_is (λ who. spec.lock_found headers.now request.now.path
+            body.now who (option_copied found.entry)) self.old result self.new }
+    {
+        let path = closed(&request.path, is_folder_found(found))?;
+        if is_absent(body) {
+            return self.lock_again(alloc, request, headers, &path, found);
+        }
+        self.lock_new(alloc, request, headers, body, &path, found)
+    }
+
+    /// Locks the path of a request, or, without a body, refreshes a lock there (RFC 4918, section 9.10); a body of no bytes is
+    /// none. The reply holds the lock, and `content-location` where the path is that of a folder and lacks its slash.
+    ///
+    /// A new lock is of infinite depth, unless Depth is 0; it lasts as long as the first time in Timeout says, an exclusive lock
+    /// for ten minutes at most and a shared one for a day. Where nothing is found at the path, an empty file is made there
+    /// (section 7.3): it is created only where If-Match isn't `*`, and with If-None-Match `*` it has to be new; where the store
+    /// refuses it, the lock is taken back. 201 where nothing was found, else 200, with the token in Lock-Token.
+    ///
+    /// The first of these that applies is answered: 405 without a lock system; 400 for Depth 1; 412 where a condition fails; 400
+    /// for a body that asks for no lock; 500 without a token for it; 423 where another lock conflicts; 412 or 409 where the file
+    /// isn't there or is, or no folder is above it. Each other refusal of the store is its own status.
+    ///
+    /// To refresh a lock, If has to submit its token and no other (400), whether or not If holds; 412 where the path is locked
+    /// against the client that has only this token, and where no lock at the path or above it has it. The lock then lasts ten
+    /// minutes at most, or without an end where Timeout doesn't say otherwise.
+    ///
+    /// `Memory` where memory runs out; a new lock then isn't granted.
+    pub fn handle_lock(
+        &mut self,
+        alloc: Global,
+        request: &DavRequest,
+        body: &Body,
+    ) -> DavResult<Reply>
+        requires { self.old.caller.now.moment ≤ last_moment }
+        ensures lent { StaysLent self.old self.new }
+        ensures serves { ServesFrom (LockOf request.now body.now) self.old result self.new }
+    {
+        let headers = LockHeaders::decode(alloc, request)?;
+        let backend = &mut *self.backend;
+        if backend.ls.is_none() {
+            return Err(DavError::Status(StatusCode::METHOD_NOT_ALLOWED));
+        }
+        let found = backend.fs.metadata(&request.path).ok();
+        self.lock_found(alloc, request, &headers, body, found.as_ref())
+    }
+}
