@@ -4,6 +4,7 @@ use super::tests::{lock_for_anna, shown};
 use super::*;
 use crate::rows::{NoRow, Player, play_rows};
 use bytes::Bytes;
+use dav_core::element::Element;
 use dav_core::fs::DavMetaData;
 use dav_engine::conditional::{dav_if_match, http_if_match, if_match, if_match_get_tokens};
 use dav_store::memfs::MemFs;
@@ -20,6 +21,20 @@ handle_put | PATCH /f | content-type: application/x-sabredav-partialupdate | con
 # a folder is made once
 handle_mkcol | MKCOL /f -> 201\n
 handle_mkcol | MKCOL /f -> error 405
+# a lock is granted, on an empty file that is made; it keeps others out, is refreshed by its token, and ends
+handle_lock | LOCK /n | lockinfo exclusive -> 201\ncontent-type: application/xml; charset=utf-8\nlock-token: <urn:t:1>\n\n\n
+handle_lock | LOCK /n | lockinfo exclusive -> error 423
+handle_put | PUT /n | bytes x -> error 423
+handle_lock | LOCK /n -> error 400
+handle_lock | LOCK /n | if: (<urn:t:1>) -> 200\ncontent-type: application/xml; charset=utf-8\n\n\n
+handle_unlock | UNLOCK /n -> error 400
+handle_unlock | UNLOCK /n | lock-token: <urn:t:1> -> 204\n
+handle_unlock | UNLOCK /n | lock-token: <urn:t:1> -> error 409
+handle_put | PUT /n | bytes x -> 204\naccept-ranges: bytes\netag: "3"\nlast-modified: Thu, 01 Jan 1970 00:00:01 GMT\n
+# a lock of another depth than 0 or infinity, or of another kind, isn't granted
+handle_lock | LOCK /n | depth: 1 | lockinfo exclusive -> error 400
+handle_lock | LOCK /n | lockinfo none -> error 400
+handle_lock | LOCK /n | if-match: * | lockinfo shared -> error 412
 # conditions of the file /f with the tag "2", and of nothing; the last ones under a lock
 handle_put | PUT /f | bytes x -> 201\naccept-ranges: bytes\ncontent-length: 0\netag: "2"\nlast-modified: Thu, 01 Jan 1970 00:00:01 GMT\n
 http_if_match | GET /f | if-none-match: "2" -> 304
@@ -44,6 +59,21 @@ struct EngineRequest {
     body: Body,
 }
 
+// An element with one element in it.
+fn around(alloc: Global, outer: &str, inner: &str) -> Result<Element, NoMemory> {
+    let mut element = Element::new(alloc, outer)?;
+    element.push_element(Element::new(alloc, inner)?)?;
+    Ok(element)
+}
+
+// What asks for a lock of this scope, for writing.
+fn lock_info(alloc: Global, scope: &str) -> Result<Element, NoMemory> {
+    let mut info = Element::new(alloc, "lockinfo")?;
+    info.push_element(around(alloc, "lockscope", scope)?)?;
+    info.push_element(around(alloc, "locktype", "write")?)?;
+    Ok(info)
+}
+
 // The request of a row, without the call.
 fn request_of(alloc: Global, text: &'static str) -> Result<EngineRequest, Fail> {
     let mut parts = text.split(" | ");
@@ -57,6 +87,8 @@ fn request_of(alloc: Global, text: &'static str) -> Result<EngineRequest, Fail> 
     for part in parts {
         if let Some(bytes) = part.strip_prefix("bytes ") {
             body = Body::Bytes(Bytes::from_static(bytes.as_bytes()));
+        } else if let Some(scope) = part.strip_prefix("lockinfo ") {
+            body = Body::Tree(lock_info(alloc, scope)?);
         } else {
             let (name, value) = part.split_once(": ").ok_or(NoRow(part))?;
             let name = HeaderName::from_bytes(alloc, name.as_bytes())?;
@@ -91,7 +123,7 @@ impl Engine {
         let caller = Caller {
             principal: None,
             moment: 1,
-            token: None,
+            token: Some("urn:t:1"),
         };
         let mut inner = DavInner {
             backend: &mut self.backend,
@@ -100,6 +132,8 @@ impl Engine {
         };
         match call {
             "handle_put" => inner.handle_put(alloc, &asked.request, &asked.body),
+            "handle_lock" => inner.handle_lock(alloc, &asked.request, &asked.body),
+            "handle_unlock" => inner.handle_unlock(alloc, &asked.request, &asked.body),
             _ => inner.handle_mkcol(alloc, &asked.request, &asked.body),
         }
     }
@@ -162,7 +196,9 @@ impl Engine {
     ) -> Result<String, Fail> {
         let request = &asked.request;
         match call {
-            "handle_put" | "handle_mkcol" => self.handled(alloc, call, asked),
+            "handle_put" | "handle_mkcol" | "handle_lock" | "handle_unlock" => {
+                self.handled(alloc, call, asked)
+            }
             "http_if_match" => {
                 let found = self.found(request);
                 status_text(alloc, http_if_match(alloc, request, found.as_ref())?)
