@@ -54,7 +54,7 @@ is_isolated_from_grants old ts replies small loaded front later back us grant h 
     let still : CoveringAreShared js = changes_keep_shared (client grant.asked) ks js (steps_change_lists old.settings grant.asked (begun grant.refusals asked) granted ks (Some js) reply step) shared in
     let tokens : All (λ l. IsHandedIn front l.token) ks = tokens_are_handed_in old.settings front old.state.store asked ks before from_none in
     let others : All (λ l. l.token ≢ h.token) ks = All-weaker (λ (l : Lock). IsHandedIn front l.token) (λ (l : Lock). l.token ≢ h.token)
-        (other_tokens h grant front grants.token_is (differ_before front (later ++ back) grant (subst TokensDiffer is differ))) ks tokens in
+    (other_tokens h grant front grants.token_is (differ_before front (later ++ back) grant (subst TokensDiffer is differ))) ks tokens in
     let guarded : Guarded h (Some js) = subst (λ (l : List Lock). Guarded h (Some l)) (sym grants.listed) (shared_guards h ks guard others (subst CoveringAreShared grants.listed still)) in
     let (n, there) = some_node granted.world (folder_of h) (node_at granted.world (folder_of h)) refl folder in
     holders_are_alone old.settings h later us granted new (Some js) ms given guard guarded (folders_are_above granted.world (folder_of h) n after_grant.world there) after_grant.world

@@ -21,7 +21,8 @@ const DISCOVERED: &str = r##"
 "##;
 
 // The kinds of locks of a lock system.
-const SUPPORTED: &str = r##"Element { name: "supportedlock", children: [Element(Element { name: "lockentry", children: [Element(Element { name: "lockscope", children: [Element(Element { name: "exclusive", children: [] })] }), Element(Element { name: "locktype", children: [Element(Element { name: "write", children: [] })] })] }), Element(Element { name: "lockentry", children: [Element(Element { name: "lockscope", children: [Element(Element { name: "shared", children: [] })] }), Element(Element { name: "locktype", children: [Element(Element { name: "write", children: [] })] })] })] }"##;
+const SUPPORTED: &str =
+    r##"Element { name: "supportedlock", children: [Element(Element { name: "lockentry", children: [Element(Element { name: "lockscope", children: [Element(Element { name: "exclusive", children: [] })] }), Element(Element { name: "locktype", children: [Element(Element { name: "write", children: [] })] })] }), Element(Element { name: "lockentry", children: [Element(Element { name: "lockscope", children: [Element(Element { name: "shared", children: [] })] }), Element(Element { name: "locktype", children: [Element(Element { name: "write", children: [] })] })] })] }"##;
 
 // A tree without the prefixes `D` that stand alone.
 fn shown(alloc: Global, tree: &Element) -> Result<String, NoMemory> {
@@ -86,7 +87,15 @@ fn tells_of_no_locks_without_a_lock_system(rt: HostRuntime) -> Result<(), Fail> 
     let path = DavPath::new(alloc, "/d")?;
     let found = shown(alloc, &list_lockdiscovery(alloc, none, &path)?)?;
     let supported = shown(alloc, &list_supportedlock(alloc, none)?)?;
-    same(&rt, &found.as_str(), &"Element { name: \"lockdiscovery\", children: [] }");
-    same(&rt, &supported.as_str(), &"Element { name: \"supportedlock\", children: [] }");
+    same(
+        &rt,
+        &found.as_str(),
+        &"Element { name: \"lockdiscovery\", children: [] }",
+    );
+    same(
+        &rt,
+        &supported.as_str(),
+        &"Element { name: \"supportedlock\", children: [] }",
+    );
     Ok(())
 }
