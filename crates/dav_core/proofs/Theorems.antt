@@ -13,9 +13,10 @@ pub use Rattle.dav_core.proofs.LockLemmas.{free_is_no_conflict, granted_can_be_u
 pub use Rattle.dav_core.proofs.MadeLemmas.{change_made, made_stands, stands_made}
 pub use Rattle.dav_core.proofs.MemberLemmas.{lists_what_stands, above, members_rise, members_same, members_stand_below, nothing_below, sorted-members}
 pub use Rattle.dav_core.proofs.NamedLemmas.{named_once}
-pub use Rattle.dav_core.proofs.NodesAfter.{find-prune, adjust_keeps_order, left_true, right_true, sorted-prune, touched_is_modified}
+pub use Rattle.dav_core.proofs.NodesAfter.{find-prune, find-moved, adjust_keeps_order, left_true, right_true, sorted-prune, touched_is_modified}
 pub use Rattle.dav_core.proofs.NodesLemmas.{find-adjust, find-put_node, path-itself, same_path, turned}
 pub use Rattle.dav_core.proofs.OutcomeLemmas.{read_or_refused}
+pub use Rattle.dav_core.proofs.ParentLemmas.{names_parent, one_parent}
 pub use Rattle.dav_core.proofs.SharedLemmas.{granted_are_shared, unlocked_are_shared, refreshed_are_shared, deleted_are_shared, none_are_shared, All-without_first, All-change_first}
 pub use Rattle.dav_core.proofs.StepLemmas.{went_on, found, left, went_if}
 pub use Rattle.dav_core.proofs.TargetLemmas.{Leaves-names, names_kept, Reads-one, Reads-valid, Reads-allowed, refused_once}

@@ -30,7 +30,7 @@ use Rattle.dav_engine.proofs.SparingDelete.{still_guards}
 -- ---- the removal
 
 module _ (h : Lock) where
-  abbrev SidePart : {A : Type 0} → MethodPlan A → MethodPlan A → Type 0
+  abbrev pub SidePart : {A : Type 0} → MethodPlan A → MethodPlan A → Type 0
   SidePart plan plan' = Alongside h false (AtBoth None (λ x y. x ≡ y)) None plan plan'
 
   side_each : {X F : Type 0} (f : X → MethodPlan (List F)) (xs : List X) → ((x : X) → SidePart (f x) (f x)) → SidePart (each f xs) (each f xs)
@@ -46,10 +46,10 @@ module _ (h : Lock) where
   side_refused fault (Ok u) (Err f) same = absurd same
   side_refused fault (Err e) (Ok v) same = absurd same
 
-  abbrev IsIn : PathText → Path → Type 0
+  abbrev pub IsIn : PathText → Path → Type 0
   IsIn p rest = names p ≡ folder_of h ++ rest
 
-  member_in : (p : PathText) (rest : Path) (name : List ℕ) (dir : Bool) → p.bytes ≢ star → IsIn p rest → IsIn (child_of p name dir) (rest ++ names_in name)
+  pub member_in : (p : PathText) (rest : Path) (name : List ℕ) (dir : Bool) → p.bytes ≢ star → IsIn p rest → IsIn (child_of p name dir) (rest ++ names_in name)
   member_in p rest name dir other at = names_member p name dir other ∙ ap (λ ns. ns ++ names_in name) at ∙ append_assoc (folder_of h) rest (names_in name)
 
   abbrev SideWalk : Walk → Type 0
@@ -90,7 +90,7 @@ module _ (h : Lock) where
       side_asks {c = ReadDir (names p)} (rest, at)
       (λ a b same. side_listed (λ q dir. remove room now q dir) now p rest a b (λ q dir left path within. side_remove room now q dir left path within) other at same)
 
-  side_removal : (deep : Bool) (now : ℕ) (p : PathText) (dir : Bool) (rest : Path) → p.bytes ≢ star → IsIn p rest → SidePart (removal deep now p dir) (removal deep now p dir)
+  pub side_removal : (deep : Bool) (now : ℕ) (p : PathText) (dir : Bool) (rest : Path) → p.bytes ≢ star → IsIn p rest → SidePart (removal deep now p dir) (removal deep now p dir)
   side_removal true now p dir rest other at = side_remove (room_at p) now p dir rest other at
   side_removal false now p true rest other at = side_asks {c = RemoveDir (names p) now} (rest, at) (side_refused (λ e. StaysWhole p (fs_status e)))
   side_removal false now p false rest other at = side_asks {c = RemoveFile (names p) now} (rest, at) (side_refused (λ e. Stays p (fs_status e)))
@@ -104,22 +104,22 @@ module _ (h : Lock) (p : Path) where
   gone_by l more false within under none (listed_later there) = none there
   gone_by l more true within under none there = none there
 
-  gone : (ls : List Lock) → is_at_or_under (folder_of h) p ≡ true → ¬ IsListed h (deleted p ls)
+  pub gone : (ls : List Lock) → is_at_or_under (folder_of h) p ≡ true → ¬ IsListed h (deleted p ls)
   gone [] within there = elim there [ ]
   gone (l ∷ ls) within there = gone_by l (deleted p ls) (is_at_or_under (names l.path) p) within refl (gone ls within) there
 
   -- where it is elsewhere, it guards as before
-  guards_still : (ls : List Lock) → is_at_or_under (folder_of h) p ≡ false → Guards h ls → Guards h (deleted p ls)
+  pub guards_still : (ls : List Lock) → is_at_or_under (folder_of h) p ≡ false → Guards h ls → Guards h (deleted p ls)
   guards_still ls outside g = still_guards h p ls g (still_listed h p outside ls (stands_guarded g))
 
 -- ---- the whole
 
 module _ (h : Lock) (guard : IsGuard h) where
-  side_reported : (p : PathText) (f : Fault) (faults : List Fault) → Alongside h true (λ file. SameAnswers) None (Done (delete_reply p (f ∷ faults))) (Done (delete_reply p (f ∷ faults)))
+  pub side_reported : (p : PathText) (f : Fault) (faults : List Fault) → Alongside h true (λ file. SameAnswers) None (Done (delete_reply p (f ∷ faults))) (Done (delete_reply p (f ∷ faults)))
   side_reported p f [] = side_ok refl
   side_reported p f (g ∷ faults) = side_ok refl
 
-  at_folder : (p : PathText) → IsIn h p [] → is_at_or_under (folder_of h) (names p) ≡ true
+  pub at_folder : (p : PathText) → IsIn h p [] → is_at_or_under (folder_of h) (names p) ≡ true
   at_folder p at =
       let same : names p ≡ folder_of h = at ∙ append-nil (folder_of h) in
       at_path (names p) (folder_of h) [] (sym same ∙ sym (append-nil (names p)))

@@ -1,9 +1,10 @@
 -- The law of plans that go side by side.
-use Rattle.std.proofs.Common.{◌≡◌, ℕ, ◌++◌, inl, inr, Bool, true, false, true≢false, List, [], ◌∷◌, append-nil, Option, Some, None, Result, Ok, Err, refl, sym, ap, subst, ◌∙◌}
+use Rattle.std.proofs.Common.{◌≡◌, ℕ, ◌++◌, inl, inr, Bool, true, false, true≢false, List, [], ◌∷◌, append-nil, append_assoc, Option, Some, None, Result, Ok, Err, refl, sym, ap, subst, ◌∙◌}
 use Rattle.std.specs.Bool.{⊤}
+use Rattle.std.specs.Option.{option_map, unwrap_or}
 use Rattle.std.specs.declared.io.traits.SeekFrom.{SeekFrom}
 use Rattle.dav_core.specs.declared.errors.FsError.{FsError}
-use Rattle.dav_core.specs.declared.errors.FsError.TheVariants.{GeneralFailure}
+use Rattle.dav_core.specs.declared.errors.FsError.TheVariants.{GeneralFailure, NotImplemented}
 use Rattle.dav_core.specs.declared.errors.DavError.{DavError}
 use Rattle.dav_core.specs.Asking.{Call, Answer, StoreState, Asks, asked, ran_short, ask, answered, next_refusal, rest_of, meaning, Metadata, ReadDir, EntryMetadata, CreateDir, RemoveDir, RemoveFile, Rename, Copy, HaveProps, PatchProps, GetProps, GetProp, GetQuota, SetAccessed, SetModified, Open, Read, Write, Seek, Flush, FileMetadata}
 use Rattle.dav_core.specs.CallLaws.{IsProper, TakesAway, brought}
@@ -12,7 +13,7 @@ use Rattle.dav_core.specs.Locks.{Lock}
 use Rattle.dav_core.specs.Meaning.{Meaning}
 use Rattle.dav_core.specs.Path.{Path, rest_after, has_names, is_under}
 use Rattle.dav_core.specs.World.{World, node_at, IsWorld}
-use Rattle.dav_core.proofs.Theorems.{nodes_stay, opened_stands, calls_keep_worlds, made_stands, rest_after-append}
+use Rattle.dav_core.proofs.Theorems.{from_rest, nodes_stay, opened_stands, calls_keep_worlds, made_stands, rest_after-append}
 use Rattle.dav_engine.specs.Method.{MethodPlan}
 use Rattle.dav_engine.specs.Plan.{Plan, Locks, Ran, ran_done, ran_ask, ran_look, ran_keep}
 use Rattle.dav_engine.specs.WorldLaws.{IsProperPlan, proper_done, proper_ask, proper_look, proper_keep}
@@ -20,8 +21,8 @@ use Rattle.dav_engine.proofs.CallWorlds.{Did, stays, means, did, asks_keep, asks
 use Rattle.dav_engine.proofs.PlanLemmas.{ran_unset}
 use Rattle.dav_engine.specs.Guard.{folder_of, Guarded}
 use Rattle.dav_engine.specs.Inside.{HasFoldersAbove}
-use Rattle.dav_engine.specs.Alongside.{TakesNumber, FindsNoNumber, AsksWithNumbers, SameResult, SameMetadata, BothOpen, SameHandle, AreOpen, IsCallInside, SameAnswer, Alongside, side_ok, side_err, side_asks, side_opens, side_reads, side_writes, side_seeks, side_flushes, side_tells, side_look, side_keep, side_last, IsFileAt, AreBothThere, AreAlike, Agrees, SameAnswers, AlongsideAgree}
-use Rattle.dav_engine.proofs.BesideLemmas.{Beside, beside_err, beside_ok, used_up, Like, metadata_beside, read_dir_beside, create_beside, remove_dir_beside, remove_file_beside, open_beside, flush_beside, tells_beside, seek_beside, read_beside, write_beside}
+use Rattle.dav_engine.specs.Alongside.{TakesNumber, FindsNoNumber, AsksWithNumbers, SameResult, SameMetadata, BothOpen, SameHandle, AreOpen, IsCallInside, SameAnswer, Alongside, side_ok, side_err, side_asks, side_above, side_opens, side_reads, side_writes, side_seeks, side_flushes, side_tells, side_look, side_keep, side_last, IsFileAt, AreBothThere, AreAlike, Agrees, SameAnswers, AlongsideAgree}
+use Rattle.dav_engine.proofs.BesideLemmas.{Beside, beside_err, beside_ok, used_up, Like, metadata_beside, above_beside, copy_beside, rename_beside, patch_beside, get_props_beside, get_prop_beside, read_dir_beside, create_beside, remove_dir_beside, remove_file_beside, open_beside, flush_beside, tells_beside, seek_beside, read_beside, write_beside}
 use Rattle.dav_engine.proofs.FaultLemmas.{not_above, strictly}
 use Rattle.dav_engine.proofs.SparingCalls.{folder_stays}
 
@@ -69,15 +70,15 @@ module _ (c c' : Call) {R : Answer c → Answer c' → Type 0} {S : World → Wo
 -- a call that takes away neither a folder above this one nor the file that is open, and brings nothing elsewhere
 SparesFile : Path → Option BothOpen → Call → Type 0
 SparesFile folder None c = ⊤
-SparesFile folder (Some file) c = ¬ TakesAway c (folder ++ file.at)
+SparesFile folder (Some file) c = ¬ TakesAway c (folder ++ file.at) × (brought c (folder ++ file.at) ≡ folder ++ file.at)
 
 Calmly : Path → Option BothOpen → Call → Type 0
-Calmly folder file c = ((p : Path) → is_under folder p ≡ true → ¬ TakesAway c p) × ((p : Path) → brought c p ≡ p) × SparesFile folder file c
+Calmly folder file c = ((p : Path) → is_under folder p ≡ true → ¬ TakesAway c p) × ((p : Path) → is_under folder p ≡ true → brought c p ≡ p) × SparesFile folder file c
 
 above_after : (folder : Path) (file : Option BothOpen) (c : Call) (w v : World) (a : Result (Answer c) FsError) → Calmly folder file c → IsProper c → IsWorld w → Did (meaning c w) w a v → HasFoldersAbove folder w → HasFoldersAbove folder v
 unfolding Calmly
 above_after folder file c w v a calm proper world (stays e failed is) above = subst (HasFoldersAbove folder) (sym is) above
-above_after folder file c w v a calm proper world (means r h gave is) above = subst (HasFoldersAbove folder) (sym is) (λ p up. folder_stays c w r p proper world h (calm.0 p up) (calm.1 p) (above p up))
+above_after folder file c w v a calm proper world (means r h gave is) above = subst (HasFoldersAbove folder) (sym is) (λ p up. folder_stays c w r p proper world h (calm.0 p up) (calm.1 p up) (above p up))
 
 file_after : (p : Path) (made : ℕ) (c : Call) (w v : World) (a : Result (Answer c) FsError) → ¬ TakesAway c p → brought c p ≡ p → IsProper c → IsWorld w → Did (meaning c w) w a v → IsFileAt w p made → IsFileAt v p made
 file_after p made c w v a spared still proper world (stays e failed is) there = subst (λ (x : World). IsFileAt x p made) (sym is) there
@@ -90,8 +91,8 @@ there_after : (folder : Path) (file : Option BothOpen) (c c' : Call) (w v w' v' 
 unfolding Calmly SparesFile
 there_after folder None c c' w v w' v' a b calm calm' proper proper' world world' d d' there = tt
 there_after folder (Some file) c c' w v w' v' a b calm calm' proper proper' world world' d d' there = (
-  file_after (folder ++ file.at) file.here c w v a calm.2 (calm.1 (folder ++ file.at)) proper world d there.0,
-  file_after (folder ++ file.at) file.alone c' w' v' b calm'.2 (calm'.1 (folder ++ file.at)) proper' world' d' there.1,
+  file_after (folder ++ file.at) file.here c w v a calm.2.0 calm.2.1 proper world d there.0,
+  file_after (folder ++ file.at) file.alone c' w' v' b calm'.2.0 calm'.2.1 proper' world' d' there.1,
 )
 
 record Stepped {A B : Type 0} (R : A → B → Type 0) (folder : Path) (file : Option BothOpen) (a : Result A FsError) (b : Result B FsError) (mid mid' : StoreState) : Type 0 where
@@ -144,13 +145,25 @@ module _ (folder : Path) {file : Option BothOpen} (w v : World) (alike : AreAlik
   inside_means (RemoveFile p now) (rest, is) =
       subst (λ (q : Path). Beside ⊥ (λ a b. ⊤) (Like folder) (meaning (RemoveFile q now) w) (meaning (RemoveFile q now) v)) (sym is)
       (remove_file_beside folder w v alike.same alike.next alike.above alike.above_alone alike.world rest now)
-  inside_means (Rename from to now) inside = absurd inside
-  inside_means (Copy from to now) inside = absurd inside
-  inside_means (HaveProps p) inside = absurd inside
-  inside_means (PatchProps p patches) inside = absurd inside
-  inside_means (GetProps p content) inside = absurd inside
-  inside_means (GetProp p key) inside = absurd inside
-  inside_means GetQuota inside = absurd inside
+  inside_means (Rename from to now) ((rest, is), (place, at)) =
+      subst (λ (q : Path). Beside ⊥ (λ a b. ⊤) (Like folder) (meaning (Rename from q now) w) (meaning (Rename from q now) v)) (sym at)
+      (subst (λ (p : Path). Beside ⊥ (λ a b. ⊤) (Like folder) (meaning (Rename p (folder ++ place) now) w) (meaning (Rename p (folder ++ place) now) v)) (sym is)
+      (rename_beside folder w v alike.same alike.next alike.above alike.above_alone alike.world alike.world_alone rest place now))
+  inside_means (Copy from to now) ((rest, is), (place, at)) =
+      subst (λ (q : Path). Beside ⊤ (λ a b. ⊤) (Like folder) (meaning (Copy from q now) w) (meaning (Copy from q now) v)) (sym at)
+      (subst (λ (p : Path). Beside ⊤ (λ a b. ⊤) (Like folder) (meaning (Copy p (folder ++ place) now) w) (meaning (Copy p (folder ++ place) now) v)) (sym is)
+      (copy_beside folder w v alike.same alike.next alike.above alike.above_alone alike.world ⊤ tt rest place now))
+  inside_means (HaveProps p) inside = beside_ok refl (alike.same, alike.next)
+  inside_means (PatchProps p patches) (rest, is) =
+      subst (λ (q : Path). Beside ⊥ (λ a b. a ≡ b) (Like folder) (meaning (PatchProps q patches) w) (meaning (PatchProps q patches) v)) (sym is)
+      (patch_beside folder w v alike.same alike.next alike.above alike.above_alone alike.world rest patches)
+  inside_means (GetProps p content) (rest, is) =
+      subst (λ (q : Path). Beside ⊥ (λ a b. a ≡ b) (Like folder) (meaning (GetProps q content) w) (meaning (GetProps q content) v)) (sym is)
+      (get_props_beside folder w v alike.same alike.next alike.above alike.above_alone alike.world rest content)
+  inside_means (GetProp p key) (rest, is) =
+      subst (λ (q : Path). Beside ⊥ (λ a b. a ≡ b) (Like folder) (meaning (GetProp q key) w) (meaning (GetProp q key) v)) (sym is)
+      (get_prop_beside folder w v alike.same alike.next alike.above alike.above_alone alike.world rest key)
+  inside_means GetQuota inside = beside_err NotImplemented
   inside_means (SetAccessed p now) inside = absurd inside
   inside_means (SetModified p now) inside = absurd inside
   inside_means (Open p how now) inside = absurd inside
@@ -159,6 +172,10 @@ module _ (folder : Path) {file : Option BothOpen} (w v : World) (alike : AreAlik
   inside_means (Seek j to) inside = absurd inside
   inside_means (Flush j) inside = absurd inside
   inside_means (FileMetadata j) inside = absurd inside
+
+  above_means : (p : Path) → is_under folder p ≡ true → Beside ⊥ SameMetadata (Like folder) (meaning (Metadata p) w) (meaning (Metadata p) v)
+  unfolding meaning
+  above_means p up = above_beside folder w v alike.same alike.next alike.above alike.above_alone alike.world p up
 
   open_means : (rest : Path) (how : Opening) (now : ℕ) → Beside ⊤ SameHandle (Like folder) (meaning (Open (folder ++ rest) how now) w) (meaning (Open (folder ++ rest) how now) v)
   unfolding meaning
@@ -174,21 +191,28 @@ not_above_itself folder (x ∷ r) up = true≢false (sym (strictly (folder ++ x 
 spares_above : (folder rest p q : Path) → p ≡ folder ++ rest → is_under folder q ≡ true → p ≡ q → ⊥
 spares_above folder rest p q is up same = not_above_itself folder rest (ap (is_under folder) (sym is ∙ same) ∙ up)
 
+-- what is above a folder isn't moved with what is in it
+unmoved : (folder rest from to p : Path) → from ≡ folder ++ rest → is_under folder p ≡ true → (o : Option Path) → rest_after from p ≡ o → unwrap_or (option_map (λ r. to ++ r) o) p ≡ p
+unmoved folder rest from to p is up None none = refl
+unmoved folder rest from to p is up (Some r) some =
+    let whole : p ≡ folder ++ (rest ++ r) = from_rest from p r some ∙ ap (λ (x : Path). x ++ r) is ∙ append_assoc folder rest r in
+    absurd (not_above_itself folder (rest ++ r) (ap (is_under folder) (sym whole) ∙ up))
+
 inside_calm : (folder : Path) (c : Call) → IsCallInside folder c → Calmly folder None c
 unfolding Calmly SparesFile
-inside_calm folder (Metadata p) inside = (λ q up t. t, λ q. refl, tt)
-inside_calm folder (CreateDir p now) inside = (λ q up t. t, λ q. refl, tt)
-inside_calm folder (ReadDir p) inside = (λ q up t. t, λ q. refl, tt)
-inside_calm folder (EntryMetadata p) inside = (λ q up t. t, λ q. refl, tt)
-inside_calm folder (RemoveDir p now) (rest, is) = (λ q up same. spares_above folder rest p q is up same, λ q. refl, tt)
-inside_calm folder (RemoveFile p now) (rest, is) = (λ q up same. spares_above folder rest p q is up same, λ q. refl, tt)
-inside_calm folder (Rename from to now) inside = absurd inside
-inside_calm folder (Copy from to now) inside = absurd inside
-inside_calm folder (HaveProps p) inside = absurd inside
-inside_calm folder (PatchProps p patches) inside = absurd inside
-inside_calm folder (GetProps p content) inside = absurd inside
-inside_calm folder (GetProp p key) inside = absurd inside
-inside_calm folder GetQuota inside = absurd inside
+inside_calm folder (Metadata p) inside = (λ q up t. t, λ q up. refl, tt)
+inside_calm folder (CreateDir p now) inside = (λ q up t. t, λ q up. refl, tt)
+inside_calm folder (ReadDir p) inside = (λ q up t. t, λ q up. refl, tt)
+inside_calm folder (EntryMetadata p) inside = (λ q up t. t, λ q up. refl, tt)
+inside_calm folder (RemoveDir p now) (rest, is) = (λ q up same. spares_above folder rest p q is up same, λ q up. refl, tt)
+inside_calm folder (RemoveFile p now) (rest, is) = (λ q up same. spares_above folder rest p q is up same, λ q up. refl, tt)
+inside_calm folder (Rename from to now) ((rest, is), (place, at)) = (λ q up t. spares_above folder place to q at up t.1, λ q up. unmoved folder rest from to q is up (rest_after from q) refl, tt)
+inside_calm folder (Copy from to now) inside = (λ q up t. t, λ q up. refl, tt)
+inside_calm folder (HaveProps p) inside = (λ q up t. t, λ q up. refl, tt)
+inside_calm folder (PatchProps p patches) inside = (λ q up t. t, λ q up. refl, tt)
+inside_calm folder (GetProps p content) inside = (λ q up t. t, λ q up. refl, tt)
+inside_calm folder (GetProp p key) inside = (λ q up t. t, λ q up. refl, tt)
+inside_calm folder GetQuota inside = (λ q up t. t, λ q up. refl, tt)
 inside_calm folder (SetAccessed p now) inside = absurd inside
 inside_calm folder (SetModified p now) inside = absurd inside
 inside_calm folder (Open p how now) inside = absurd inside
@@ -267,33 +291,36 @@ module _ {A : Type 0} (h : Lock) (whole : Bool) (R : Option BothOpen → A → A
   agree (side_asks {c} inside more) (proper_ask proper next) (proper_ask proper' next') (ran_ask {old} {mid} {answer = x} one rest) (ran_ask {old = old'} {mid = mid'} {answer = y} one' rest') u u' same g g' alike =
       let s = stepped F None c c {R = SameAnswer c} (inside_calm F c inside) (inside_calm F c inside) proper proper' one one' (ran_unset (ran_plain rest) u) (ran_unset rest' u') same alike (inside_means F old.world old'.world alike c inside) in
       agree (more x y s.outcomes) (next x (asks_tell alike.world one.0)) (next' y (asks_tell alike.world_alone one')) rest rest' u u' s.refusals g g' s.alike
+  agree (side_above {p} up more) (proper_ask proper next) (proper_ask proper' next') (ran_ask {old} {mid} {answer = x} one rest) (ran_ask {old = old'} {mid = mid'} {answer = y} one' rest') u u' same g g' alike =
+      let s = stepped F None (Metadata p) (Metadata p) {R = SameMetadata} (λ q up t. t, λ q up. refl, tt) (λ q up t. t, λ q up. refl, tt) proper proper' one one' (ran_unset (ran_plain rest) u) (ran_unset rest' u') same alike (above_means F old.world old'.world alike p up) in
+      agree (more x y s.outcomes) (next x (asks_tell alike.world one.0)) (next' y (asks_tell alike.world_alone one')) rest rest' u u' s.refusals g g' s.alike
   agree (side_reads {file} {j} {k} {count} are more) (proper_ask proper next) (proper_ask proper' next') (ran_ask {old} {mid} {answer = x} one rest) (ran_ask {old = old'} {mid = mid'} {answer = y} one' rest') u u' same g g' alike =
-      let s = stepped F (Some file) (Read j count) (Read k count) (λ q up t. t, λ q. refl, λ t. t) (λ q up t. t, λ q. refl, λ t. t) proper proper' one one' (ran_unset (ran_plain rest) u) (ran_unset rest' u') same alike (read_means F file old.world old'.world alike j k are count) in
+      let s = stepped F (Some file) (Read j count) (Read k count) (λ q up t. t, λ q up. refl, (λ t. t, refl)) (λ q up t. t, λ q up. refl, (λ t. t, refl)) proper proper' one one' (ran_unset (ran_plain rest) u) (ran_unset rest' u') same alike (read_means F file old.world old'.world alike j k are count) in
       agree (more x y s.outcomes) (next x (asks_tell alike.world one.0)) (next' y (asks_tell alike.world_alone one')) rest rest' u u' s.refusals g g' s.alike
   agree (side_writes {file} {j} {k} {bytes} {now} are more) (proper_ask proper next) (proper_ask proper' next') (ran_ask {old} {mid} {answer = x} one rest) (ran_ask {old = old'} {mid = mid'} {answer = y} one' rest') u u' same g g' alike =
-      let s = stepped F (Some file) (Write j bytes now) (Write k bytes now) (λ q up t. t, λ q. refl, λ t. t) (λ q up t. t, λ q. refl, λ t. t) proper proper' one one' (ran_unset (ran_plain rest) u) (ran_unset rest' u') same alike (write_means F file old.world old'.world alike j k are bytes now) in
+      let s = stepped F (Some file) (Write j bytes now) (Write k bytes now) (λ q up t. t, λ q up. refl, (λ t. t, refl)) (λ q up t. t, λ q up. refl, (λ t. t, refl)) proper proper' one one' (ran_unset (ran_plain rest) u) (ran_unset rest' u') same alike (write_means F file old.world old'.world alike j k are bytes now) in
       agree (more x y s.outcomes) (next x (asks_tell alike.world one.0)) (next' y (asks_tell alike.world_alone one')) rest rest' u u' s.refusals g g' s.alike
   agree (side_seeks {file} {j} {k} {to} are more) (proper_ask proper next) (proper_ask proper' next') (ran_ask {old} {mid} {answer = x} one rest) (ran_ask {old = old'} {mid = mid'} {answer = y} one' rest') u u' same g g' alike =
-      let s = stepped F (Some file) (Seek j to) (Seek k to) (λ q up t. t, λ q. refl, λ t. t) (λ q up t. t, λ q. refl, λ t. t) proper proper' one one' (ran_unset (ran_plain rest) u) (ran_unset rest' u') same alike (seek_means F file old.world old'.world alike j k are to) in
+      let s = stepped F (Some file) (Seek j to) (Seek k to) (λ q up t. t, λ q up. refl, (λ t. t, refl)) (λ q up t. t, λ q up. refl, (λ t. t, refl)) proper proper' one one' (ran_unset (ran_plain rest) u) (ran_unset rest' u') same alike (seek_means F file old.world old'.world alike j k are to) in
       agree (more x y s.outcomes) (next x (asks_tell alike.world one.0)) (next' y (asks_tell alike.world_alone one')) rest rest' u u' s.refusals g g' s.alike
   agree (side_flushes {file} {j} {k} are more) (proper_ask proper next) (proper_ask proper' next') (ran_ask {old} {mid} {answer = x} one rest) (ran_ask {old = old'} {mid = mid'} {answer = y} one' rest') u u' same g g' alike =
-      let s = stepped F (Some file) (Flush j) (Flush k) (λ q up t. t, λ q. refl, λ t. t) (λ q up t. t, λ q. refl, λ t. t) proper proper' one one' (ran_unset (ran_plain rest) u) (ran_unset rest' u') same alike (flush_means F file old.world old'.world alike j k are) in
+      let s = stepped F (Some file) (Flush j) (Flush k) (λ q up t. t, λ q up. refl, (λ t. t, refl)) (λ q up t. t, λ q up. refl, (λ t. t, refl)) proper proper' one one' (ran_unset (ran_plain rest) u) (ran_unset rest' u') same alike (flush_means F file old.world old'.world alike j k are) in
       agree (more x y s.outcomes) (next x (asks_tell alike.world one.0)) (next' y (asks_tell alike.world_alone one')) rest rest' u u' s.refusals g g' s.alike
   agree (side_tells {file} {j} {k} are more) (proper_ask proper next) (proper_ask proper' next') (ran_ask {old} {mid} {answer = x} one rest) (ran_ask {old = old'} {mid = mid'} {answer = y} one' rest') u u' same g g' alike =
-      let s = stepped F (Some file) (FileMetadata j) (FileMetadata k) (λ q up t. t, λ q. refl, λ t. t) (λ q up t. t, λ q. refl, λ t. t) proper proper' one one' (ran_unset (ran_plain rest) u) (ran_unset rest' u') same alike (tells_means F file old.world old'.world alike j k are) in
+      let s = stepped F (Some file) (FileMetadata j) (FileMetadata k) (λ q up t. t, λ q up. refl, (λ t. t, refl)) (λ q up t. t, λ q up. refl, (λ t. t, refl)) proper proper' one one' (ran_unset (ran_plain rest) u) (ran_unset rest' u') same alike (tells_means F file old.world old'.world alike j k are) in
       agree (more x y s.outcomes) (next x (asks_tell alike.world one.0)) (next' y (asks_tell alike.world_alone one')) rest rest' u u' s.refusals g g' s.alike
   agree (side_opens {how} {now} {go' = go'} r more failed) (proper_ask proper next) (proper_ask proper' next') (ran_ask {old} {mid} {answer = Ok j} one rest) (ran_ask {old = old'} {mid = mid'} {new = new'} {ls = ls'} {ms = ms'} {answer = Ok k} {a = b} one' rest') u u' same g g' alike =
-      let s = stepped F None (Open (F ++ r) how now) (Open (F ++ r) how now) {R = SameHandle} (λ q up t. t, λ q. refl, tt) (λ q up t. t, λ q. refl, tt) proper proper' one one' (ran_unset (ran_plain rest) u) (ran_unset rest' u') same alike (open_means F old.world old'.world alike r how now) in
+      let s = stepped F None (Open (F ++ r) how now) (Open (F ++ r) how now) {R = SameHandle} (λ q up t. t, λ q up. refl, tt) (λ q up t. t, λ q up. refl, tt) proper proper' one one' (ran_unset (ran_plain rest) u) (ran_unset rest' u') same alike (open_means F old.world old'.world alike r how now) in
       agree (more j k s.outcomes) (next (Ok j) tt) (next' (Ok k) tt) rest rest' u u' s.refusals g g'
       (with_file (record { at = r; here = j.made; alone = k.made }) s.alike (opened_there (F ++ r) how now old.world mid.world j proper alike.world (did one.0)) (opened_there (F ++ r) how now old'.world mid'.world k proper' alike.world_alone (did one')))
   agree (side_opens {how} {now} {go' = go'} r more failed) (proper_ask proper next) (proper_ask proper' next') (ran_ask {old} {mid} {answer = Err e} one rest) (ran_ask {old = old'} {mid = mid'} {new = new'} {ls = ls'} {ms = ms'} {answer = Err f} {a = b} one' rest') u u' same g g' alike =
-      let s = stepped F None (Open (F ++ r) how now) (Open (F ++ r) how now) {R = SameHandle} (λ q up t. t, λ q. refl, tt) (λ q up t. t, λ q. refl, tt) proper proper' one one' (ran_unset (ran_plain rest) u) (ran_unset rest' u') same alike (open_means F old.world old'.world alike r how now) in
+      let s = stepped F None (Open (F ++ r) how now) (Open (F ++ r) how now) {R = SameHandle} (λ q up t. t, λ q up. refl, tt) (λ q up t. t, λ q up. refl, tt) proper proper' one one' (ran_unset (ran_plain rest) u) (ran_unset rest' u') same alike (open_means F old.world old'.world alike r how now) in
       agree (failed e) (next (Err e) tt) (next' (Err e) tt) rest (subst (λ d. Ran Asks (go' (Err d)) mid' ls' b new' ms') (sym s.outcomes) rest') u u' s.refusals g g' s.alike
   agree (side_opens {how} {now} {go' = go'} r more failed) (proper_ask proper next) (proper_ask proper' next') (ran_ask {old} {mid} {answer = Ok j} one rest) (ran_ask {old = old'} {mid = mid'} {new = new'} {ls = ls'} {ms = ms'} {answer = Err f} {a = b} one' rest') u u' same g g' alike =
-      let s = stepped F None (Open (F ++ r) how now) (Open (F ++ r) how now) {R = SameHandle} (λ q up t. t, λ q. refl, tt) (λ q up t. t, λ q. refl, tt) proper proper' one one' (ran_unset (ran_plain rest) u) (ran_unset rest' u') same alike (open_means F old.world old'.world alike r how now) in
+      let s = stepped F None (Open (F ++ r) how now) (Open (F ++ r) how now) {R = SameHandle} (λ q up t. t, λ q up. refl, tt) (λ q up t. t, λ q up. refl, tt) proper proper' one one' (ran_unset (ran_plain rest) u) (ran_unset rest' u') same alike (open_means F old.world old'.world alike r how now) in
       absurd s.outcomes
   agree (side_opens {how} {now} {go' = go'} r more failed) (proper_ask proper next) (proper_ask proper' next') (ran_ask {old} {mid} {answer = Err e} one rest) (ran_ask {old = old'} {mid = mid'} {new = new'} {ls = ls'} {ms = ms'} {answer = Ok k} {a = b} one' rest') u u' same g g' alike =
-      let s = stepped F None (Open (F ++ r) how now) (Open (F ++ r) how now) {R = SameHandle} (λ q up t. t, λ q. refl, tt) (λ q up t. t, λ q. refl, tt) proper proper' one one' (ran_unset (ran_plain rest) u) (ran_unset rest' u') same alike (open_means F old.world old'.world alike r how now) in
+      let s = stepped F None (Open (F ++ r) how now) (Open (F ++ r) how now) {R = SameHandle} (λ q up t. t, λ q up. refl, tt) (λ q up t. t, λ q up. refl, tt) proper proper' one one' (ran_unset (ran_plain rest) u) (ran_unset rest' u') same alike (open_means F old.world old'.world alike r how now) in
       absurd s.outcomes
   agree (side_look more) (proper_look next) (proper_look next') (ran_look {ls = Some ls} rest) (ran_look {ls = Some ks} rest') u u' same g g' alike =
       agree (more ls ks g g') (next (Some ls)) (next' (Some ks)) rest rest' u u' same g g' alike

@@ -33,7 +33,7 @@ use Rattle.dav_engine.specs.Plan.{Done}
 use Rattle.dav_engine.specs.Put.{PutHeaders, from_end, update_from, update_at, updates, written_by, bounded_by, writing_of, put_opening, is_announced, unsatisfiable, sought, stored, store, put_body, bytes_of_body, is_put}
 use Rattle.dav_engine.specs.AnswerParts.{answers_of}
 use Rattle.dav_engine.specs.Guard.{folder_of, IsGuard, Guards, IsInReach, SubmitOnly, no_list, a_list}
-use Rattle.dav_engine.specs.Alongside.{SameResult, SameMetadata, BothOpen, AreOpen, Alongside, side_ok, side_err, side_asks, side_opens, side_reads, side_writes, side_seeks, side_flushes, side_tells, side_look, side_keep, side_last, SameAnswers}
+use Rattle.dav_engine.specs.Alongside.{SameResult, SameMetadata, BothOpen, AreOpen, Alongside, side_ok, side_err, side_asks, side_above, side_opens, side_reads, side_writes, side_seeks, side_flushes, side_tells, side_look, side_keep, side_last, SameAnswers}
 use Rattle.dav_engine.proofs.GuardedFolders.{free_for_is}
 
 -- ---- parts
@@ -48,6 +48,7 @@ pub side_bind : {A B : Type 0} {h : Lock} {whole : Bool} {Q : A → A → Type 0
 side_bind {h = h} {whole} {R = R} f f' (side_ok {a = a} {b = b} (same, q)) more = subst (λ now. Alongside h whole R now (f a) (f' b)) (sym same) (more a b q)
 side_bind f f' side_err more = side_err
 side_bind f f' (side_asks {c = c} inside next) more = side_asks {c = c} inside (λ a b same. side_bind f f' (next a b same) more)
+side_bind f f' (side_above up next) more = side_above up (λ a b same. side_bind f f' (next a b same) more)
 side_bind f f' (side_opens r next failed) more = side_opens r (λ j k same. side_bind f f' (next j k same) more) (λ e. side_bind f f' (failed e) more)
 side_bind f f' (side_reads are next) more = side_reads are (λ a b same. side_bind f f' (next a b same) more)
 side_bind f f' (side_writes are next) more = side_writes are (λ a b same. side_bind f f' (next a b same) more)
@@ -121,18 +122,18 @@ module _ (h : Lock) (guard : IsGuard h) where
 
 -- ---- PUT and PATCH
 
-abbrev AreTold : Option DavMetaData → Option DavMetaData → Type 0
+abbrev pub AreTold : Option DavMetaData → Option DavMetaData → Type 0
 AreTold None None = ⊤
 AreTold (Some m) (Some n) = SameMetadata m n
 AreTold _ _ = ⊥
 
-told_results : (a b : Result DavMetaData FsError) → SameResult SameMetadata a b → AreTold (result_ok a) (result_ok b)
+pub told_results : (a b : Result DavMetaData FsError) → SameResult SameMetadata a b → AreTold (result_ok a) (result_ok b)
 told_results (Ok m) (Ok n) same = same
 told_results (Err e) (Err f) same = tt
 told_results (Ok m) (Err f) same = absurd same
 told_results (Err e) (Ok n) same = absurd same
 
-found_same : (a b : Result DavMetaData FsError) → SameResult SameMetadata a b → is_ok a ≡ is_ok b
+pub found_same : (a b : Result DavMetaData FsError) → SameResult SameMetadata a b → is_ok a ≡ is_ok b
 found_same (Ok m) (Ok n) same = refl
 found_same (Err e) (Err f) same = refl
 found_same (Ok m) (Err f) same = absurd same

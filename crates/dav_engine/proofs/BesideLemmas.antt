@@ -1,21 +1,23 @@
 -- What a call means in two worlds that are alike.
-use Rattle.std.proofs.Common.{◌≡◌, ℕ, ◌+◌, ◌≤◌, ◌==◌, ◌||◌, ◌++◌, nat_lt, Bool, true, false, not, true≢false, cond, if◌then◌else◌, List, [], ◌∷◌, length, take, drop, append-nil, append_assoc, Option, Some, None, Ok, Err, ◌⊎◌, inl, inr, refl, sym, ap, subst, ◌∙◌, arith}
+use Rattle.std.proofs.Common.{◌≡◌, ℕ, ◌+◌, ◌≤◌, ◌==◌, ◌||◌, ◌&&◌, ◌++◌, nat_lt, Bool, true, false, not, true≢false, cond, if◌then◌else◌, List, [], ◌∷◌, map, length, take, drop, append-nil, append_assoc, Option, Some, None, Ok, Err, ◌⊎◌, inl, inr, refl, sym, ap, subst, ◌∙◌, arith}
 use Rattle.std.proofs.lemmas.Bool.{eqb-true, eqb-false}
 use Rattle.std.specs.Bool.{⊤}
-use Rattle.std.specs.Option.{option_map, is_none}
+use Rattle.std.specs.Option.{option_map, option_or, option_and_then, is_none}
+use Rattle.std.specs.FinMap.{find}
 use Rattle.std.specs.declared.io.traits.SeekFrom.{SeekFrom}
 use Rattle.dav_core.specs.declared.errors.FsError.{FsError}
 use Rattle.dav_core.specs.declared.errors.FsError.TheVariants.{GeneralFailure, Exists, NotFound, Forbidden, TooLarge}
-use Rattle.dav_core.specs.Calls.{metadata_of, metadata, read_dir, create_dir, without, remove_dir, remove_file, open_at, emptied, read_bytes, write_bytes, written, seek, sought, flush, file_metadata}
+use Rattle.dav_core.specs.Calls.{metadata_of, metadata, read_dir, create_dir, without, remove_dir, remove_file, open_at, emptied, rename, copy, with_copy, copied_over, repatched, patch_props, get_props, stored_tree, get_prop, read_bytes, write_bytes, written, seek, sought, flush, file_metadata}
 use Rattle.dav_core.specs.Handle.{Handle, Opening, opened, write_place, place_for}
 use Rattle.dav_core.specs.Meaning.{Meaning, refuse_if, at_node}
 use Rattle.dav_core.specs.Path.{Path, is_same_path, is_at_or_under, is_under, is_root, has_names, is_nonempty, rest_after, parent_of}
-use Rattle.dav_core.specs.Property.{Properties}
+use Rattle.dav_core.specs.Element.{ElementTree}
+use Rattle.dav_core.specs.Property.{Properties, PropertyKey, Patch, key_cmp, patched, shown_property}
 use Rattle.dav_core.specs.World.{World, Node, Nodes, Kind, Folder, File, node_at, is_folder, is_folder_kind, is_folder_node, is_file_node, members, with_new, adjust, change_node, is_file_made_with, file_made_with, last_number, bytes_of, max_file_len, splice, IsWorld}
-use Rattle.dav_core.proofs.Theorems.{members_same, parent-append, shape, rest_after-append, stands_made, change_made}
+use Rattle.dav_core.proofs.Theorems.{renamed_world, members_same, parent-append, shape, rest_after-append, stands_made, change_made}
 use Rattle.dav_engine.specs.Inside.{Content, content_of, SameInside, HasFoldersAbove}
 use Rattle.dav_engine.specs.Alongside.{SameMetadata, BothOpen, SameHandle, AreOpen, IsFileAt}
-use Rattle.dav_engine.proofs.InsideLemmas.{content-new, content-adjust, content-removed}
+use Rattle.dav_engine.proofs.InsideLemmas.{content_at, content-new, content-adjust, content-removed, content-renamed}
 
 -- ---- meanings side by side
 
@@ -71,7 +73,10 @@ kind_same : (n m : Node) → content_of n ≡ content_of m → n.kind ≡ m.kind
 kind_same n m same = ap (λ (s : Content). s.0) same
 
 told_same : (n m : Node) → content_of n ≡ content_of m → SameMetadata (metadata_of n) (metadata_of m)
-told_same n m same = record { len = ap (λ (k : Kind). length (bytes_of k)) (kind_same n m same); dir = ap is_folder_kind (kind_same n m same) }
+told_same n m same = record { len = ap (λ (k : Kind). length (bytes_of k)) (kind_same n m same); dir = ap is_folder_kind (kind_same n m same); numbered = refl }
+
+properties_same : (n m : Node) → content_of n ≡ content_of m → n.properties ≡ m.properties
+properties_same n m same = ap (λ (s : Content). s.1) same
 
 missing_same : {o p : Option Node} → Shows o p → is_none o ≡ is_none p
 missing_same nothing = refl
@@ -89,9 +94,32 @@ listed_same : {o p : Option Node} → Shows o p → option_map (λ n. is_folder_
 listed_same nothing = refl
 listed_same (something {n} {m} same) = ap (λ (k : Kind). Some (is_folder_kind k)) (kind_same n m same)
 
-parent_below : (x : List ℕ) (p : Path) → ((x ∷ p ≡ []) ⊎ ((z : List ℕ) × (x ∷ p ≡ parent_of (x ∷ p) ++ z ∷ []))) → is_under (x ∷ p) (parent_of (x ∷ p)) ≡ true
+pub parent_below : (x : List ℕ) (p : Path) → ((x ∷ p ≡ []) ⊎ ((z : List ℕ) × (x ∷ p ≡ parent_of (x ∷ p) ++ z ∷ []))) → is_under (x ∷ p) (parent_of (x ∷ p)) ≡ true
 parent_below x p (inl e) = cc
 parent_below x p (inr (z, e)) = ap (λ (q : Path). has_names (rest_after (parent_of (x ∷ p)) q)) e ∙ ap has_names (rest_after-append (parent_of (x ∷ p)) (z ∷ []))
+
+kind_folder : (k : Kind) → is_folder_kind k ≡ true → k ≡ Folder
+kind_folder Folder is = refl
+kind_folder (File bytes) is = cc
+
+-- two folders
+folders_beside : {S : World → World → Type 0} (w v : World) (o p : Option Node) → is_folder_node o ≡ true → is_folder_node p ≡ true → S w v
+    → Beside ⊥ SameMetadata S (at_node o (λ n. Ok (metadata_of n, w))) (at_node p (λ n. Ok (metadata_of n, v)))
+folders_beside w v None p is also s = cc
+folders_beside w v (Some n) None is also s = cc
+folders_beside w v (Some n) (Some m) is also s =
+    let one : n.kind ≡ m.kind = kind_folder n.kind is ∙ sym (kind_folder m.kind also) in
+    beside_ok (record { len = ap (λ (k : Kind). length (bytes_of k)) one; dir = ap is_folder_kind one; numbered = refl }) s
+
+then_same : {X Y : Type 0} (f g : X → Option Y) (o : Option X) → ((x : X) → f x ≡ g x) → option_and_then f o ≡ option_and_then g o
+then_same f g None same = refl
+then_same f g (Some x) same = same x
+
+both_same : {a b c d : Bool} → a ≡ c → b ≡ d → (a && b) ≡ (c && d)
+both_same p q = λ i. p i && q i
+
+either_same : {X : Type 0} {a b c d : Option X} → a ≡ c → b ≡ d → option_or a b ≡ option_or c d
+either_same p q = λ i. option_or (p i) (q i)
 
 -- what two worlds go on with
 abbrev pub Like : Path → World → World → Type 0
@@ -103,6 +131,10 @@ module _ (folder : Path) (w v : World) (same : SameInside folder w v) (low : v.n
 
   pub metadata_beside : (rest : Path) → Beside ⊥ SameMetadata (Like folder) (metadata w (folder ++ rest)) (metadata v (folder ++ rest))
   metadata_beside rest = node_beside _ _ (at_both rest) (λ n m s. beside_ok (told_same n m s) (same, low))
+
+  -- a look at a folder above
+  pub above_beside : (p : Path) → is_under folder p ≡ true → Beside ⊥ SameMetadata (Like folder) (metadata w p) (metadata v p)
+  above_beside p up = folders_beside w v (node_at w p) (node_at v p) (above p up) (above' p up) (same, low)
 
   root_parent : (f : Path) → f ≡ folder → is_folder w (parent_of f) ≡ is_folder v (parent_of f)
   root_parent [] is = let e : folder ++ [] ≡ [] = append-nil folder ∙ sym is in ap (is_folder w) (sym e) ∙ folder_same (at_both []) ∙ ap (is_folder v) e
@@ -151,9 +183,53 @@ module _ (folder : Path) (w v : World) (same : SameInside folder w v) (low : v.n
       (room_beside w v u low world.next _ _ (beside_ok {a = opened n.made how} {b = opened m.made how} refl (changed_like rest (emptied w.next now) (emptied v.next now) (λ s. (File [], s.1)) (λ x. refl) (λ x. refl))))
       (beside_ok {a = opened n.made how} {b = opened m.made how} refl (same, low))))
 
+  -- ---- what is copied
+
+  copied_by : (rest : Path) (n m : Node) (now : ℕ) → content_of n ≡ content_of m → {o p : Option Node} → Shows o p → Like folder (with_copy w (folder ++ rest) n o now) (with_copy v (folder ++ rest) m p now)
+  copied_by rest n m now s nothing =
+      subst (λ (c : Content). Like folder (with_new w (folder ++ rest) n.kind n.properties now) (with_new v (folder ++ rest) c.0 c.1 now)) s (new_like rest n.kind n.properties now)
+  copied_by rest n m now s (something t) = changed_like rest (copied_over n w.next now) (copied_over m v.next now) (λ c. content_of n) (λ x. refl) (λ x. sym s)
+
+  pub copy_beside : (U : Type 0) → U → (from to : Path) (now : ℕ) → Beside U (λ a b. ⊤) (Like folder) (copy w (folder ++ from) (folder ++ to) now) (copy v (folder ++ from) (folder ++ to) now)
+  copy_beside U u from to now =
+      node_beside _ _ (at_both from) (λ n m s.
+      refuse_beside _ _ Forbidden _ _ (ap is_folder_kind (kind_same n m s)) (λ _.
+      refuse_beside (is_same_path (folder ++ from) (folder ++ to)) (is_same_path (folder ++ from) (folder ++ to)) Forbidden _ _ refl (λ _.
+      refuse_beside _ _ Forbidden _ _ (folder_same (at_both to)) (λ _.
+      refuse_beside _ _ NotFound _ _ (ap not (parent_same to)) (λ _.
+      room_beside w v u low world.next _ _ (beside_ok tt (copied_by to n m now s (at_both to))))))))
+
   pub open_beside : (U : Type 0) → U → (rest : Path) (how : Opening) (now : ℕ)
       → Beside U SameHandle (Like folder) (open_at w (folder ++ rest) how now (node_at w (folder ++ rest))) (open_at v (folder ++ rest) how now (node_at v (folder ++ rest)))
   open_beside U u rest how now = open_beside_at U u rest how now (at_both rest)
+
+  -- ---- dead properties
+
+  patched_like : (rest : Path) (patches : List Patch) → Like folder (record w { nodes = adjust (folder ++ rest) (repatched patches) w.nodes }) (record v { nodes = adjust (folder ++ rest) (repatched patches) v.nodes })
+  patched_like rest patches =
+      let g : Content → Content = λ s. (s.0, patched patches s.1) in (
+        λ q. content-adjust (folder ++ rest) (repatched patches) g (λ n. refl) (folder ++ q) w.nodes
+            ∙ ap (λ o. cond (is_same_path (folder ++ rest) (folder ++ q)) (option_map g o) o) (same q)
+            ∙ sym (content-adjust (folder ++ rest) (repatched patches) g (λ n. refl) (folder ++ q) v.nodes),
+        low,
+      )
+
+  pub patch_beside : (rest : Path) (patches : List Patch) → Beside ⊥ (λ a b. a ≡ b) (Like folder) (patch_props w (folder ++ rest) patches) (patch_props v (folder ++ rest) patches)
+  patch_beside rest patches = node_beside _ _ (at_both rest) (λ n m s. beside_ok refl (patched_like rest patches))
+
+  pub get_props_beside : (rest : Path) (content : Bool) → Beside ⊥ (λ a b. a ≡ b) (Like folder) (get_props w (folder ++ rest) content) (get_props v (folder ++ rest) content)
+  get_props_beside rest content = node_beside _ _ (at_both rest) (λ n m s. beside_ok (ap (λ (ps : Properties). map (shown_property content) ps) (properties_same n m s)) (same, low))
+
+  tree_beside : (o : Option (Option ElementTree)) → Beside ⊥ (λ a b. a ≡ b) (Like folder) (stored_tree o w) (stored_tree o v)
+  tree_beside None = beside_err NotFound
+  tree_beside (Some None) = beside_err NotFound
+  tree_beside (Some (Some tree)) = beside_ok refl (same, low)
+
+  pub get_prop_beside : (rest : Path) (key : PropertyKey) → Beside ⊥ (λ a b. a ≡ b) (Like folder) (get_prop w (folder ++ rest) key) (get_prop v (folder ++ rest) key)
+  get_prop_beside rest key =
+      node_beside _ _ (at_both rest) (λ n m s.
+      subst (λ (ps : Properties). Beside ⊥ (λ a b. a ≡ b) (Like folder) (stored_tree (find key_cmp key n.properties) w) (stored_tree (find key_cmp key ps) v)) (properties_same n m s)
+      (tree_beside (find key_cmp key n.properties)))
 
   -- ---- what is listed and removed
 
@@ -191,6 +267,28 @@ module _ (folder : Path) (w v : World) (same : SameInside folder w v) (low : v.n
         refuse_beside _ _ Forbidden _ _ (file_same (at_both rest)) (λ _.
         refuse_beside _ _ Exists _ _ (ap is_nonempty (members_alike rest)) (λ _.
         beside_ok tt (without_like rest now)))))
+
+    -- ---- what is moved
+
+    moved_like : (from to : Path) (now : ℕ) → Like folder (renamed_world w (folder ++ from) (folder ++ to) now) (renamed_world v (folder ++ from) (folder ++ to) now)
+    moved_like from to now = (
+      λ q. content-renamed w (folder ++ from) (folder ++ to) now (folder ++ q)
+          ∙ either_same
+          (then_same _ _ (rest_after (folder ++ to) (folder ++ q)) (λ rest. ap (λ (p : Path). content_at p w.nodes) (append_assoc folder from rest) ∙ same (from ++ rest) ∙ ap (λ (p : Path). content_at p v.nodes) (sym (append_assoc folder from rest))))
+          (ap (λ o. cond (is_at_or_under (folder ++ q) (folder ++ to)) None (cond (is_at_or_under (folder ++ q) (folder ++ from)) None o)) (same q))
+          ∙ sym (content-renamed v (folder ++ from) (folder ++ to) now (folder ++ q)),
+      low,
+    )
+
+    pub rename_beside : (from to : Path) (now : ℕ) → Beside ⊥ (λ a b. ⊤) (Like folder) (rename w (folder ++ from) (folder ++ to) now) (rename v (folder ++ from) (folder ++ to) now)
+    rename_beside from to now =
+        refuse_beside (is_root (folder ++ from) || is_root (folder ++ to)) (is_root (folder ++ from) || is_root (folder ++ to)) Forbidden _ _ refl (λ _.
+        refuse_beside _ _ NotFound _ _ (missing_same (at_both from)) (λ _.
+        if_beside (is_same_path (folder ++ from) (folder ++ to)) _ _ _ _ (beside_ok tt (same, low))
+        (refuse_beside (is_under (folder ++ to) (folder ++ from)) (is_under (folder ++ to) (folder ++ from)) Forbidden _ _ refl (λ _.
+        refuse_beside _ _ NotFound _ _ (ap not (parent_same to)) (λ _.
+        refuse_beside _ _ Exists _ _ (both_same (folder_same (at_both to)) (ap is_nonempty (members_alike to))) (λ _.
+        beside_ok tt (moved_like from to now)))))))
 
   -- ---- an open file
 

@@ -40,20 +40,20 @@ behind_keep : {A : Type 0} {locks : List Lock} {rest : Plan A} {old new : StoreS
 behind_keep (ran_keep more) = more
 
 -- the locks are dropped where nothing stays, and the store is left
-record Dropped (q : PathText) (faults : List Fault) (old : StoreState) (ls : Locks) (new : StoreState) (ms : Locks) : Type 0 where
-  same : new ≡ old
-  locks : ms ≡ locks_after (names q) faults ls
+pub record Dropped (q : PathText) (faults : List Fault) (old : StoreState) (ls : Locks) (new : StoreState) (ms : Locks) : Type 0 where
+  pub same : new ≡ old
+  pub locks : ms ≡ locks_after (names q) faults ls
 
 drops : (q : PathText) (ls : Locks) {old new : StoreState} {ms : Locks} → Ran Asks (set_by (deleted (names q)) ls) old ls (Ok tt) new ms → Dropped q [] old ls new ms
 drops q None ran = let ends = finish ran in record { same = ends.1; locks = ends.2 }
 drops q (Some l) ran = let ends = finish (behind_keep ran) in record { same = ends.1; locks = ends.2 }
 
-dropped : (q : PathText) (faults : List Fault) {old new : StoreState} {ls ms : Locks} → Ran Asks (drop_if_gone q faults) old ls (Ok tt) new ms → Dropped q faults old ls new ms
+pub dropped : (q : PathText) (faults : List Fault) {old new : StoreState} {ls ms : Locks} → Ran Asks (drop_if_gone q faults) old ls (Ok tt) new ms → Dropped q faults old ls new ms
 dropped q [] {ls = ls} ran = drops q ls (behind_look ran)
 dropped q (f ∷ faults) ran = let ends = finish ran in record { same = ends.1; locks = ends.2 }
 
 -- looking at a path tells whether a folder is there, and leaves the world
-told_dir : {p : Path} {old new : StoreState} {m : DavMetaData} → Asks (Metadata p) old (Ok m) new → (m.dir ≡ is_folder old.world p) × (new.world ≡ old.world)
+pub told_dir : {p : Path} {old new : StoreState} {m : DavMetaData} → Asks (Metadata p) old (Ok m) new → (m.dir ≡ is_folder old.world p) × (new.world ≡ old.world)
 unfolding meaning
 told_dir {p} {old} one =
     let (r, h, is, after) = answered one in
@@ -74,7 +74,7 @@ error_status fs.PathTooLong = omega arith
 error_status fs.TooLarge = omega arith
 error_status fs.IsRemote = omega arith
 
-gives_errors : (deep : Bool) (now : ℕ) (p : PathText) (dir : Bool) → Gives AreErrorReports (removal deep now p dir)
+pub gives_errors : (deep : Bool) (now : ℕ) (p : PathText) (dir : Bool) → Gives AreErrorReports (removal deep now p dir)
 gives_errors deep now p dir = gives_removal (λ status. 400 ≤ status) error_status (omega arith) deep now p dir
 
 -- ---- a DELETE that a reply ends

@@ -46,7 +46,7 @@ keeps_given f (gives_ask next) more = keeps_ask (λ answer. keeps_given f (next 
 keeps_given f (gives_look next) more = keeps_look (λ ls listed. keeps_given f (next ls listed) more)
 
 -- what is known of a plan that only looks
-gives_only : {h : Lock} {A : Type 0} {covered : Path → Bool} {E : List Lock → Type 0} {Q : A → Type 0} {plan : MethodPlan A} → Only IsLook plan → Sparing covered (IsListed h) E false (At None Q) None plan → Gives h Q plan
+pub gives_only : {h : Lock} {A : Type 0} {covered : Path → Bool} {E : List Lock → Type 0} {Q : A → Type 0} {plan : MethodPlan A} → Only IsLook plan → Sparing covered (IsListed h) E false (At None Q) None plan → Gives h Q plan
 gives_only only_done (spares_ok (same, q)) = gives_ok q
 gives_only only_done spares_err = gives_err
 gives_only (only_ask looks more) (spares_reads only next) = gives_ask (λ answer. gives_only (more answer) (next answer))
@@ -78,14 +78,14 @@ module _ (h : Lock) (p : Path) (outside : is_at_or_under (folder_of h) p ≡ fal
 -- ---- the plan
 
 module _ (h : Lock) (who : Client) (c : Conditions) (unheld : is_held (requester who (submitted c.lists)) h ≡ false) where
-  abbrev Elsewhere : Path → Type 0
+  abbrev pub Elsewhere : Path → Type 0
   Elsewhere p = is_at_or_under (folder_of h) p ≡ false
 
   free_by : (p : Path) (ls : List Lock) → IsListed h ls → (b : Bool) → is_open true (requester who (submitted c.lists)) p (Some ls) ≡ b → Gives h (λ u. Elsewhere p) (require b (dav.Status 423))
   free_by p ls listed true free = gives_ok (free_outside_lock h (requester who (submitted c.lists)) unheld p ls listed free)
   free_by p ls listed false free = gives_err
 
-  checked : (p : Path) (tokens : List (List _)) → tokens ≡ submitted c.lists → Gives h (λ u. Elsewhere p) (require_free true (requester who tokens) p (dav.Status 423))
+  pub checked : (p : Path) (tokens : List (List _)) → tokens ≡ submitted c.lists → Gives h (λ u. Elsewhere p) (require_free true (requester who tokens) p (dav.Status 423))
   checked p tokens same =
       subst (λ ts. Gives h (λ u. Elsewhere p) (require_free true (requester who ts) p (dav.Status 423))) (sym same)
       (gives_look (λ ls listed. free_by p ls listed (is_open true (requester who (submitted c.lists)) p (Some ls)) refl))

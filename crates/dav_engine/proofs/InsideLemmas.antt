@@ -1,11 +1,11 @@
 -- What is content_of at a path after a change.
-use Rattle.std.proofs.Common.{◌≡◌, ℕ, Bool, true, false, cond, Option, Some, None, refl, ap, ◌∙◌}
-use Rattle.std.specs.Option.{option_map}
+use Rattle.std.proofs.Common.{◌≡◌, ◌++◌, ℕ, Bool, true, false, cond, Option, Some, None, refl, ap, ◌∙◌}
+use Rattle.std.specs.Option.{option_map, option_or, option_and_then}
 use Rattle.std.specs.FinMap.{find, put}
-use Rattle.dav_core.specs.Path.{Path, path_cmp, is_same_path, is_at_or_under, parent_of}
+use Rattle.dav_core.specs.Path.{Path, path_cmp, is_same_path, is_at_or_under, rest_after, parent_of}
 use Rattle.dav_core.specs.Property.{Properties}
-use Rattle.dav_core.specs.World.{Kind, Node, Nodes, World, fresh, adjust, touched, modified_at, with_new, prune}
-use Rattle.dav_core.proofs.Theorems.{find-adjust, find-put_node, find-prune}
+use Rattle.dav_core.specs.World.{Kind, Node, Nodes, World, fresh, adjust, touched, modified_at, with_new, prune, moved}
+use Rattle.dav_core.proofs.Theorems.{find-adjust, find-put_node, find-prune, find-moved, renamed_world}
 use Rattle.dav_engine.specs.Inside.{Content, content_of}
 
 -- what is content_of at a path
@@ -50,7 +50,29 @@ prune_content : (b : Bool) (o : Option Node) → option_map content_of (cond b N
 prune_content true o = refl
 prune_content false o = refl
 
+or_content : (a b : Option Node) → option_map content_of (option_or a b) ≡ option_or (option_map content_of a) (option_map content_of b)
+or_content None b = refl
+or_content (Some n) b = refl
+
+then_content : (f : Path → Option Node) (o : Option Path) → option_map content_of (option_and_then f o) ≡ option_and_then (λ rest. option_map content_of (f rest)) o
+then_content f None = refl
+then_content f (Some rest) = refl
+
 -- a removal
 pub content-removed : (w : World) (p : Path) (now : ℕ) (q : Path) → content_at q (touched p now (prune p w.nodes)) ≡ cond (is_at_or_under q p) None (content_at q w.nodes)
 content-removed w p now q =
     content-touched p now q (prune p w.nodes) ∙ ap (option_map content_of) (find-prune p q w.nodes) ∙ prune_content (is_at_or_under q p) (find path_cmp q w.nodes)
+
+-- a move: what is at its end came along, what was there or at its beginning is gone, and the rest stays
+abbrev pub content_moved : Path → Path → (Path → Option Content) → Path → Option Content
+content_moved from to f q = option_or (option_and_then (λ rest. f (from ++ rest)) (rest_after to q)) (cond (is_at_or_under q to) None (cond (is_at_or_under q from) None (f q)))
+
+pub content-renamed : (w : World) (from to : Path) (now : ℕ) (q : Path)
+    → content_at q (renamed_world w from to now).nodes ≡ content_moved from to (λ p. content_at p w.nodes) q
+content-renamed w from to now q =
+    content-touched from now q (touched to now (moved from to w.nodes)) ∙ content-touched to now q (moved from to w.nodes)
+    ∙ ap (option_map content_of) (find-moved from to q w.nodes)
+    ∙ or_content (option_and_then (λ rest. find path_cmp (from ++ rest) w.nodes) (rest_after to q)) (cond (is_at_or_under q to) None (cond (is_at_or_under q from) None (find path_cmp q w.nodes)))
+    ∙ ap (λ o. option_or o (option_map content_of (cond (is_at_or_under q to) None (cond (is_at_or_under q from) None (find path_cmp q w.nodes))))) (then_content (λ rest. find path_cmp (from ++ rest) w.nodes) (rest_after to q))
+    ∙ ap (option_or (option_and_then (λ rest. content_at (from ++ rest) w.nodes) (rest_after to q)))
+    (prune_content (is_at_or_under q to) (cond (is_at_or_under q from) None (find path_cmp q w.nodes)) ∙ ap (cond (is_at_or_under q to) None) (prune_content (is_at_or_under q from) (find path_cmp q w.nodes)))

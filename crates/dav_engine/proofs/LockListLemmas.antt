@@ -85,7 +85,7 @@ first_mapped f test [] p h = cc
 first_mapped f test (q ∷ ps) p h = first_mapped_step f test q ps p (test (f q)) (first_mapped f test ps p) h
 
 -- a front of a path passes, the first that does
-abbrev Front : Path → (Path → Bool) → Type 0
+abbrev pub Front : Path → (Path → Bool) → Type 0
 Front p test = (q : Path) × (first test (fronts p) ≡ Some q) × (test q ≡ true)
 
 front_by : (x : List ℕ) (p : Path) (test : Path → Bool) (b : Bool) → test [] ≡ b → Front p (λ q. test (x ∷ q))
@@ -94,16 +94,16 @@ front_by x p test true is more = ([], refl, is)
 front_by x p test false is (q, found, here) = (x ∷ q, first_mapped (λ q. x ∷ q) test (fronts p) q found, here)
 
 -- where a front of a path passes, there is a first front that does
-front_found : (folder rest : Path) (test : Path → Bool) → test folder ≡ true → Front (folder ++ rest) test
+pub front_found : (folder rest : Path) (test : Path → Bool) → test folder ≡ true → Front (folder ++ rest) test
 front_found [] [] test passes = ([], ap (λ b. cond b (Some []) None) passes, passes)
 front_found [] (x ∷ rest) test passes = ([], ap (λ b. cond b (Some []) (first test (map (λ q. x ∷ q) (fronts rest)))) passes, passes)
 front_found (x ∷ folder) rest test passes = front_by x (folder ++ rest) test (test []) refl (front_found folder rest (λ q. test (x ∷ q)) passes)
 
 module _ (h : Lock) where
-  abbrev here : Path → Lock → Bool
+  abbrev pub here : Path → Lock → Bool
   here q = has_token_at h.token q
 
-  none_here : (q : Path) (ls : List Lock) → AllElsewhere h ls → list_any (here q) ls ≡ false
+  pub none_here : (q : Path) (ls : List Lock) → AllElsewhere h ls → list_any (here q) ls ≡ false
   none_here q [] no_others = refl
   none_here q (l ∷ ls) (another off more) = ap (λ b. b || list_any (here q) ls) (other_token h.token q l off.token) ∙ none_here q ls more
 
@@ -111,7 +111,7 @@ module _ (h : Lock) where
   itself l is =
       ap (λ (m : Lock). here (folder_of h) m) is ∙ ap (λ b. b && is_same_path (folder_of h) (folder_of h)) ((bytes_eq-Decides h.token h.token).1 refl) ∙ path-itself (folder_of h)
 
-  any_here : (ls : List Lock) → Guards h ls → list_any (here (folder_of h)) ls ≡ true
+  pub any_here : (ls : List Lock) → Guards h ls → list_any (here (folder_of h)) ls ≡ true
   any_here [] g = elim g [ ]
   any_here (l ∷ ls) (guards_here is off) = ap (λ b. b || list_any (here (folder_of h)) ls) (itself l is)
   any_here (l ∷ ls) (guards_later off more) = ap (λ b. b || list_any (here (folder_of h)) ls) (other_token h.token (folder_of h) l off.token) ∙ any_here ls more

@@ -1,32 +1,32 @@
 -- What a LOCK does to worlds and to lists of locks.
 use Rattle.std.proofs.Common.{◌≡◌, ◌≢◌, ◌++◌, ℕ, ◌≤◌, Bool, true, false, if◌then◌else◌, cond, List, [], ◌∷◌, Option, Some, None, Result, Ok, Err, refl, sym, ap, subst, ◌∙◌}
 use Rattle.std.specs.Bool.{⊤}
-use Rattle.std.specs.Option.{is_some, option_map, unwrap_or}
+use Rattle.std.specs.Option.{option_map, unwrap_or}
 use Rattle.std.specs.Result.{result_ok}
 use Rattle.dav_core.specs.declared.errors.FsError.{FsError}
 use Rattle.dav_core.specs.declared.errors.DavError.{DavError}
 use Rattle.dav_core.specs.declared.errors.DavError.TheVariants as dav
 use Rattle.dav_core.specs.declared.fs.DavMetaData.{DavMetaData}
 use Rattle.dav_core.specs.declared.method.DavMethod.TheVariants as method
-use Rattle.dav_core.specs.Asking.{Call, Metadata, Open}
+use Rattle.dav_core.specs.Asking.{Call}
 use Rattle.dav_core.specs.CallLaws.{IsStorable}
 use Rattle.dav_core.specs.Handle.{Handle, Opening}
 use Rattle.dav_core.specs.Lists.{change_first}
 use Rattle.dav_core.specs.Locks.{Lock, is_grantable, has_token_at, lock_front, named_lock, refreshed, refreshed_lock, unlocked}
-use Rattle.dav_core.specs.Path.{Path, PathText, names, star}
+use Rattle.dav_core.specs.Path.{Path, PathText, names}
 use Rattle.dav_core.specs.World.{last_moment}
 use Rattle.dav_engine.specs.declared.request.Body.{Body}
 use Rattle.dav_engine.specs.Client.{Client, requester}
-use Rattle.dav_engine.specs.Conditions.{Addressed, dav_if_match, if_holds, if_match, submitted}
+use Rattle.dav_engine.specs.Conditions.{Addressed, dav_if_match, if_holds, if_match}
 use Rattle.dav_engine.specs.Delete.{whole_depth}
 use Rattle.dav_engine.specs.Ending.{KeepsLock, keeps_done, keeps_ask, keeps_look, keeps_list, LockKeepsLocks}
 use Rattle.dav_engine.specs.Folder.{is_folder_found, path_found, location_found}
 use Rattle.dav_engine.specs.Guard.{IsSameLock, IsListed, listed_here, listed_later}
-use Rattle.dav_engine.specs.Lock.{one_token, token_to_refresh, keep_refreshed, refresh_in, lock_again, lock_of, asked_lock, grant_in, taken_back, empty_opening, made_or_back, make_empty, lock_new, is_absent, lock_found, lock, is_lock}
+use Rattle.dav_engine.specs.Lock.{one_token, token_to_refresh, keep_refreshed, refresh_in, lock_again, asked_lock, grant_in, taken_back, empty_opening, made_or_back, make_empty, lock_new, is_absent, is_lock}
 use Rattle.dav_engine.specs.LockHeaders.{LockHeaders, refreshed_for}
 use Rattle.dav_engine.specs.LockInfo.{lock_info}
-use Rattle.dav_engine.specs.Method.{MethodPlan, then as followed_by, ◌>>=◌, require, require_free, has_locks, required, unless_status, change_locks}
-use Rattle.dav_engine.specs.Plan.{Plan, Locks, Done, Keep}
+use Rattle.dav_engine.specs.Method.{MethodPlan, then as followed_by, require, require_free, has_locks, required, unless_status, change_locks}
+use Rattle.dav_engine.specs.Plan.{Locks, Done, Keep}
 use Rattle.dav_engine.specs.Response.{Response, Header}
 use Rattle.dav_engine.specs.WorldLaws.{IsProperPlan, proper_done, proper_ask, proper_look, proper_keep, LockIsProper}
 use Rattle.dav_engine.proofs.ChildLemmas.{names_closed}
@@ -35,7 +35,7 @@ use Rattle.dav_engine.proofs.EndingDelete.{Gives, gives_ok, gives_err, gives_ask
 use Rattle.dav_engine.proofs.EndingLemmas.{keeps_bind}
 use Rattle.dav_engine.proofs.LockListLemmas.{mapped_from, unlocked_listed}
 use Rattle.dav_engine.proofs.PutWorld.{IsLook, look_proper, only_if, only_conditions, only_free}
-use Rattle.dav_engine.proofs.WorldPlans.{Only, only_done, only_ask, only_look, only_then, only_bind, only_require, only_proper, proper_then, proper_bind}
+use Rattle.dav_engine.proofs.WorldPlans.{Only, only_done, only_ask, only_look, only_then, only_bind, only_require, only_proper, proper_bind}
 
 -- ---- what only looks
 
@@ -43,7 +43,7 @@ pub only_status : (status : Option ℕ) → Only IsLook (unless_status status)
 only_status None = only_done
 only_status (Some status) = only_done
 
-only_asked : (h : LockHeaders) (p : PathText) (content : Body) (who : Client) (found : Option DavMetaData) → Only IsLook (asked_lock h p content who found)
+pub only_asked : (h : LockHeaders) (p : PathText) (content : Body) (who : Client) (found : Option DavMetaData) → Only IsLook (asked_lock h p content who found)
 only_asked h p content who found = only_then (whole_depth h.depth) _ (λ deep.
     only_bind (if_match method.Lock h.conditions found) _ (only_conditions method.Lock h.conditions found) (λ verdict.
     only_bind (unless_status verdict) _ (only_status verdict) (λ goes.
@@ -106,7 +106,7 @@ lock_is_proper headers p content who plan storable other small (is_lock h are) =
 
 -- ---- locks stay
 
-gives_any : {h : Lock} {P : Call → Type 0} {A : Type 0} {plan : MethodPlan A} → Only P plan → Gives h (λ a. ⊤) plan
+pub gives_any : {h : Lock} {P : Call → Type 0} {A : Type 0} {plan : MethodPlan A} → Only P plan → Gives h (λ a. ⊤) plan
 gives_any (only_done {a = Ok x}) = gives_ok tt
 gives_any (only_done {a = Err e}) = gives_err
 gives_any (only_ask {c = c} is more) = gives_ask (λ answer. gives_any (more answer))

@@ -1,18 +1,20 @@
 -- How trees are built, one child after another.
 use Rattle.std.proofs.Common.{◌≡◌, ℕ, ◌+◌, ◌-◌, ◌<◌, arith, List, [], ◌∷◌, ◌++◌, map, take, length, get_or, suc, codes, Some, None, refl, ap, sym, ◌∙◌}
 use Rattle.dav_core.specs.Locks.{Lock}
-use Rattle.dav_core.specs.Element.{ElementTree, element, tree_list, trees, with_child}
+use Rattle.dav_core.specs.Element.{ElementTree, element, text, tree_list, trees, with_child, with_children}
 use Rattle.std.specs.List.{last_or, slice_get}
 use Rattle.dav_core.specs.declared.errors.DavError.TheVariants.{Status}
 use Rattle.dav_headers.proofs.Theorems.{take_turn}
 use Rattle.dav_engine.specs.LockTree.{active_lock, lock_discovery}
-use Rattle.dav_engine.specs.Multistatus.{PathStatus, error_of, last_error, response_for, multistatus}
+use Rattle.dav_core.specs.Path.{PathText}
+use Rattle.dav_engine.specs.Multistatus.{PathStatus, error_of, last_error, href, response_for, multistatus}
+use Rattle.dav_engine.specs.Properties.{Group, propstat, property_response}
 
 list_of_trees : (ts : List ElementTree) → tree_list (trees ts) ≡ ts
 list_of_trees [] = refl
 list_of_trees (t ∷ ts) = ap (λ us. t ∷ us) (list_of_trees ts)
 
-one_mapped : {X Y : Type 0} (f : X → Y) (xs : List X) (x : X) → map f xs ++ f x ∷ [] ≡ map f (xs ++ x ∷ [])
+pub one_mapped : {X Y : Type 0} (f : X → Y) (xs : List X) (x : X) → map f xs ++ f x ∷ [] ≡ map f (xs ++ x ∷ [])
 one_mapped f [] x = refl
 one_mapped f (y ∷ xs) x = ap (λ ys. f y ∷ ys) (one_mapped f xs x)
 
@@ -50,6 +52,21 @@ pub lock_turn : (ls : List Lock) (i : ℕ) (l : Lock) (old new child : ElementTr
     → old ≡ lock_discovery (take i ls) → child ≡ active_lock l → new ≡ with_child old child → new ≡ lock_discovery (take (i + 1) ls)
 unfolding with_each
 lock_turn ls i l old new child lt is so_far one added = child_turn active_lock (codes "lockdiscovery") [] ls i l old new child lt is so_far one added
+
+-- a child more in an element, whatever its name is
+pub child_more : (e : ElementTree) (ts : List ElementTree) (t : ElementTree) {old new : ElementTree} → old ≡ with_children e ts → new ≡ with_child old t → new ≡ with_children e (ts ++ t ∷ [])
+child_more (element name prefix namespace attributes children) ts t so_far added =
+    added ∙ ap (λ o. with_child o t) so_far ∙ ap (λ us. element name prefix namespace attributes (trees (us ++ t ∷ []))) (list_of_trees ts)
+child_more (text bytes) ts t so_far added = added ∙ ap (λ o. with_child o t) so_far
+
+-- the turn of the loop over the properties under their statuses
+pub group_turn : (p : PathText) (gs : List Group) (g : Group) (old new child : ElementTree) → old ≡ property_response p gs → child ≡ propstat g → new ≡ with_child old child
+    → new ≡ property_response p (gs ++ g ∷ [])
+unfolding with_each
+group_turn p gs g old new child so_far one added =
+    added ∙ ap (λ e. with_child e child) so_far ∙ child_added (codes "response") [] (href p ∷ map propstat gs) child
+    ∙ ap (λ t. with_each (codes "response") [] (href p ∷ map propstat gs ++ t ∷ [])) one
+    ∙ ap (λ ts. with_each (codes "response") [] (href p ∷ ts)) (one_mapped propstat gs g)
 
 -- ---- the last of the items
 

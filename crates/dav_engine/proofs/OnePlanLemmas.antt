@@ -1,15 +1,22 @@
 -- A request has one plan, since each header is read in one way.
-use Rattle.std.proofs.Common.{◌≡◌, inl, inr, ℕ, List, [], ◌∷◌, Option, Some, None, refl, sym, ap, subst, ◌∙◌}
+use Rattle.std.proofs.Common.{◌≡◌, ◌≢◌, Result, Ok, Err, inl, inr, ℕ, List, [], ◌∷◌, Option, Some, None, refl, sym, ap, subst, ◌∙◌}
 use Rattle.std.specs.Option.{option_or}
 use Rattle.std.specs.Prelude.{codes}
 use Rattle.http_header.specs.FieldValue.{FieldValue}
 use Rattle.http_header.specs.HeaderMap.{get_all}
 use Rattle.url.specs.Parts.{Parts}
+use Rattle.dav_core.specs.declared.errors.DavError.{DavError}
+use Rattle.dav_core.specs.declared.errors.ParseError.{ParseError}
+use Rattle.dav_core.specs.declared.errors.ParseError.TheVariants as parse
 use Rattle.dav_core.specs.declared.method.DavMethod.{DavMethod}
 use Rattle.dav_core.specs.Path.{Path, PathText, names, IsCut, without_slash}
-use Rattle.dav_core.proofs.Theorems.{Reads-one, one_cut}
+use Rattle.dav_core.specs.Status.{path_error}
+use Rattle.dav_core.specs.Target.{Reads, IsRefused}
+use Rattle.dav_core.proofs.Theorems.{Reads-one, Reads-valid, Reads-allowed, refused_once, one_cut}
 use Rattle.dav_headers.specs.ContentRange.{IsContentRange}
 use Rattle.dav_headers.specs.Depth.{IsDepth}
+use Rattle.dav_headers.specs.Destination.{IsDestination}
+use Rattle.dav_headers.specs.Overwrite.{IsOverwrite}
 use Rattle.dav_headers.specs.ETagList.{IsTagList}
 use Rattle.dav_headers.specs.If.{ConditionList, IsIf, IsIfHeader}
 use Rattle.dav_headers.specs.Length.{IsContentLength}
@@ -17,12 +24,13 @@ use Rattle.dav_headers.specs.Timeout.{IsTimeout}
 use Rattle.dav_headers.specs.UpdateRange.{IsUpdateRange}
 use Rattle.dav_headers.specs.Value.{IsNumber}
 use Rattle.dav_headers.specs.declared.range.ContentRange.{ContentRange}
-use Rattle.dav_headers.proofs.Theorems.{one_depth, one_timeout, says_one, one_update_range, same_number, one_tag_list, one_content_range, one_content_length}
+use Rattle.dav_headers.proofs.Theorems.{one_destination, one_overwrite, one_depth, one_timeout, says_one, one_update_range, same_number, one_tag_list, one_content_range, one_content_length}
 use Rattle.dav_engine.specs.declared.put_headers.Bounds.{Bounds}
 use Rattle.dav_engine.specs.declared.put_headers.Bounds.TheVariants.{Unread, Whole, Within}
 use Rattle.dav_engine.specs.declared.request.Body.{Body}
 use Rattle.dav_engine.specs.Client.{Client}
 use Rattle.dav_engine.specs.Conditions.{Addressed, Conditions, SaysLists, AreAddressed, SpeaksOf, TagNames}
+use Rattle.dav_engine.specs.CopyMove.{CopyHeaders, AreCopyHeaders, DestinationNames, absent, unreadable, outside, inside, copy_or_move, IsCopyMove, is_copy_move}
 use Rattle.dav_engine.specs.Delete.{DeleteHeaders, AreDeleteHeaders, delete, IsDelete, is_delete}
 use Rattle.dav_engine.specs.Headers.{Headers, Decodes}
 use Rattle.dav_engine.specs.Method.{MethodPlan}
@@ -30,14 +38,16 @@ use Rattle.dav_engine.specs.Mkcol.{mkcol, IsMkcol, is_mkcol}
 use Rattle.dav_engine.specs.Lock.{lock, IsLock, is_lock}
 use Rattle.dav_engine.specs.LockHeaders.{LockHeaders, AreLockHeaders}
 use Rattle.dav_engine.specs.LockToken.{SaysLockToken}
-use Rattle.dav_engine.specs.OnePlan.{OneReadingOfConditions, OneReadingOfPut, OnePutPlan, OneMkcolPlan, OneDeletePlan, OneUnlockPlan, OneLockPlan}
+use Rattle.dav_engine.specs.OnePlan.{OneReadingOfConditions, OneReadingOfPut, OnePutPlan, OneMkcolPlan, OneDeletePlan, OneUnlockPlan, OneLockPlan, OneCopyMovePlan, OnePropfindPlan, OneProppatchPlan}
+use Rattle.dav_engine.specs.Propfind.{FindHeaders, AreFindHeaders, propfind, IsPropfind, is_propfind}
+use Rattle.dav_engine.specs.Proppatch.{proppatch, IsProppatch, is_proppatch}
 use Rattle.dav_engine.specs.Put.{PutHeaders, IsPut, is_put, put_body, bytes_of_body, IsAnnounced, IsExpectedLength, TellsBounds}
 use Rattle.dav_engine.specs.Response.{Response}
 use Rattle.dav_engine.specs.Unlock.{unlock, IsUnlock, is_unlock}
 use Rattle.dav_engine.proofs.LockTokenLemmas.{one_lock_token}
 
 -- what a grammar reads in one way is decoded in one way
-decoded_one : {V A : Type 0} (grammar : V → A → Type 0) (values : V) → ((a b : A) → grammar values a → grammar values b → a ≡ b)
+pub decoded_one : {V A : Type 0} (grammar : V → A → Type 0) (values : V) → ((a b : A) → grammar values a → grammar values b → a ≡ b)
     → (a b : Option A) → Decodes grammar values a → Decodes grammar values b → a ≡ b
 decoded_one grammar values one None None p q = refl
 decoded_one grammar values one None (Some b) p q = absurd (p b q)
@@ -183,3 +193,90 @@ same_lock_plan {headers} {p} {body} {who} (is_lock a h) (is_lock b k) = ap (λ (
 
 pub one_lock_plan : OneLockPlan
 one_lock_plan headers p body who one other h k = same_lock_plan h k
+
+-- ---- COPY and MOVE
+
+-- a text is refused for one reason
+refused_for : (text : List ℕ) (e f : ParseError) → IsRefused text e → IsRefused text f → e ≢ parse.Memory → f ≢ parse.Memory → e ≡ f
+refused_for text parse.InvalidPath parse.InvalidPath one two other also = refl
+refused_for text parse.InvalidPath parse.ForbiddenPath one two other also = absurd (refused_once text one two)
+refused_for text parse.ForbiddenPath parse.InvalidPath one two other also = absurd (refused_once text two one)
+refused_for text parse.ForbiddenPath parse.ForbiddenPath one two other also = refl
+refused_for text parse.PrefixMismatch f one two other also = absurd one
+refused_for text parse.Memory f one two other also = absurd (other refl)
+refused_for text parse.InvalidPath parse.PrefixMismatch one two other also = absurd two
+refused_for text parse.ForbiddenPath parse.PrefixMismatch one two other also = absurd two
+refused_for text parse.InvalidPath parse.Memory one two other also = absurd (also refl)
+refused_for text parse.ForbiddenPath parse.Memory one two other also = absurd (also refl)
+
+-- one that is read isn't refused
+unrefused : (text bytes : List ℕ) (e : ParseError) → Reads text bytes → IsRefused text e → e ≢ parse.Memory → ⊥
+unrefused text bytes parse.InvalidPath reads refused other = Reads-valid text bytes reads refused
+unrefused text bytes parse.ForbiddenPath reads refused other = Reads-allowed text bytes reads refused
+unrefused text bytes parse.PrefixMismatch reads refused other = refused
+unrefused text bytes parse.Memory reads refused other = other refl
+
+module _ (prefix : List ℕ) (values : List FieldValue) where
+  text_one : (a b : List ℕ) → IsDestination values a → IsDestination values b → a ≡ b
+  text_one a b h k = one_destination values a b h k
+
+  bytes_one : (a b p q : List ℕ) → IsDestination values a → IsDestination values b → Reads a p → Reads b q → p ≡ q
+  bytes_one a b p q h k one two = Reads-one b p q (subst (λ (x : List ℕ). Reads x p) (text_one a b h k) one) two
+
+  names_same : {r s : Result PathText DavError} → DestinationNames prefix values r → DestinationNames prefix values s → r ≡ s
+  names_same (absent none) (absent also) = refl
+  names_same (absent none) (unreadable b k f y) = absurd (none b k)
+  names_same (absent none) (outside b q k two cut) = absurd (none b k)
+  names_same (absent none) (inside b q k two cut) = absurd (none b k)
+  names_same (unreadable a h e x) (absent none) = absurd (none a h)
+  names_same (unreadable a {e} h one x) (unreadable b {e = f} k two y) =
+      ap (λ (z : ParseError). Err (path_error z)) (refused_for b e f (subst (λ (t : List ℕ). IsRefused t e) (text_one a b h k) one) two x y)
+  names_same (unreadable a {e} h one x) (outside b q k two cut) = absurd (unrefused b q e two (subst (λ (t : List ℕ). IsRefused t e) (text_one a b h k) one) x)
+  names_same (unreadable a {e} h one x) (inside b q k two cut) = absurd (unrefused b q e two (subst (λ (t : List ℕ). IsRefused t e) (text_one a b h k) one) x)
+  names_same (outside a p h one cut) (absent none) = absurd (none a h)
+  names_same (outside a p h one cut) (unreadable b {e = f} k two y) = absurd (unrefused a p f one (subst (λ (t : List ℕ). IsRefused t f) (text_one b a k h) two) y)
+  names_same (outside a p h one cut) (outside b q k two also) = refl
+  names_same (outside a p h one cut) (inside b q {d} k two also) = absurd (cut d (subst (λ (x : List ℕ). IsCut (without_slash prefix) x d) (bytes_one b a q p k h two one) also))
+  names_same (inside a p h one cut) (absent none) = absurd (none a h)
+  names_same (inside a p h one cut) (unreadable b {e = f} k two y) = absurd (unrefused a p f one (subst (λ (t : List ℕ). IsRefused t f) (text_one b a k h) two) y)
+  names_same (inside a p {d} h one cut) (outside b q k two also) = absurd (also d (subst (λ (x : List ℕ). IsCut (without_slash prefix) x d) (bytes_one a b p q h k one two) cut))
+  names_same (inside a p {d} h one cut) (inside b q {d = c} k two also) =
+      ap Ok (one_cut (without_slash prefix) q d c (subst (λ (x : List ℕ). IsCut (without_slash prefix) x d) (bytes_one a b p q h k one two) cut) also)
+
+-- what Destination names is one path, or one error
+pub one_place : (prefix : List ℕ) (values : List FieldValue) {r s : Result PathText DavError} → DestinationNames prefix values r → DestinationNames prefix values s → r ≡ s
+one_place prefix values one other = names_same prefix values one other
+
+one_copy_headers : (headers : Headers) (p : PathText) (a b : CopyHeaders) → AreCopyHeaders headers p a → AreCopyHeaders headers p b → a ≡ b
+one_copy_headers headers p a b h k =
+    let conditions = one_conditions headers p.prefix (names p) a.conditions b.conditions h.conditions k.conditions in
+    let depth = decoded_one IsDepth (get_all headers (codes "depth")) (one_depth (get_all headers (codes "depth"))) a.depth b.depth h.depth k.depth in
+    let overwrite = decoded_one IsOverwrite (get_all headers (codes "overwrite")) (one_overwrite (get_all headers (codes "overwrite"))) a.overwrite b.overwrite h.overwrite k.overwrite in
+    let destination = names_same p.prefix (get_all headers (codes "destination")) h.destination k.destination in
+    λ i. record { conditions = conditions i; depth = depth i; overwrite = overwrite i; destination = destination i }
+
+same_copy : {m : DavMethod} {headers : Headers} {p : PathText} {who : Client} {one other : MethodPlan Response} → IsCopyMove m headers p who one → IsCopyMove m headers p who other → one ≡ other
+same_copy {m} {headers} {p} {who} (is_copy_move a h) (is_copy_move b k) = ap (λ (x : CopyHeaders). copy_or_move m x p who) (one_copy_headers headers p a b h k)
+
+pub one_copymove_plan : OneCopyMovePlan
+one_copymove_plan m headers p who one other h k = same_copy h k
+
+-- ---- PROPFIND and PROPPATCH
+
+one_find_headers : (headers : Headers) (a b : FindHeaders) → AreFindHeaders headers a → AreFindHeaders headers b → a ≡ b
+one_find_headers headers a b h k =
+    let depth = decoded_one IsDepth (get_all headers (codes "depth")) (one_depth (get_all headers (codes "depth"))) a.depth b.depth h.depth k.depth in
+    let test : a.is_test ≡ b.is_test = h.is_test ∙ sym k.is_test in
+    λ i. record { depth = depth i; is_test = test i }
+
+same_propfind : {headers : Headers} {p : PathText} {content : Body} {who : Client} {one other : MethodPlan Response} → IsPropfind headers p content who one → IsPropfind headers p content who other → one ≡ other
+same_propfind {headers} {p} {content} {who} (is_propfind a h) (is_propfind b k) = ap (λ (x : FindHeaders). propfind x headers p content who) (one_find_headers headers a b h k)
+
+pub one_propfind_plan : OnePropfindPlan
+one_propfind_plan headers p content who one other h k = same_propfind h k
+
+same_proppatch : {headers : Headers} {p : PathText} {content : Body} {who : Client} {one other : MethodPlan Response} → IsProppatch headers p content who one → IsProppatch headers p content who other → one ≡ other
+same_proppatch {headers} {p} {content} {who} (is_proppatch a h) (is_proppatch b k) = ap (λ (x : Conditions). proppatch x p content who) (one_conditions headers p.prefix (names p) a b h k)
+
+pub one_proppatch_plan : OneProppatchPlan
+one_proppatch_plan headers p content who one other h k = same_proppatch h k

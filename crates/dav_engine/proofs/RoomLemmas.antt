@@ -10,7 +10,7 @@ pub room_step : (p : PathText) → length p.bytes < 2 ^ 64 → room_at p ≡ suc
 unfolding room_at
 room_step p small = let few = few_names p.bytes in omega (arith, few, small)
 
-length_more : (xs : List (List ℕ)) (x : List ℕ) → length (xs ++ x ∷ []) ≡ suc (length xs)
+pub length_more : (xs : List (List ℕ)) (x : List ℕ) → length (xs ++ x ∷ []) ≡ suc (length xs)
 length_more [] x = refl
 length_more (y ∷ ys) x = ap suc (length_more ys x)
 

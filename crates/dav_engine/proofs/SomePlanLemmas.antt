@@ -1,26 +1,35 @@
--- No PUT, PATCH, MKCOL, DELETE, LOCK or UNLOCK is without a plan, since a header decodes or doesn't.
-use Rattle.std.proofs.Common.{ℕ, List, inl, inr, Option, Some, None, refl}
-use Rattle.std.specs.Option.{option_or}
+-- No PUT, PATCH, MKCOL, DELETE, COPY, MOVE, LOCK, UNLOCK, PROPFIND or PROPPATCH is without a plan, since a header decodes or doesn't.
+use Rattle.std.proofs.Common.{◌≡◌, ℕ, List, inl, inr, Option, Some, None, Result, Ok, Err, refl}
+use Rattle.std.specs.Option.{is_some, option_or}
 use Rattle.std.specs.Prelude.{codes}
 use Rattle.http_header.specs.FieldValue.{FieldValue}
 use Rattle.http_header.specs.HeaderMap.{get_all}
+use Rattle.dav_core.specs.declared.errors.DavError.{DavError}
+use Rattle.dav_core.specs.declared.errors.ParseError.TheVariants as parse
 use Rattle.dav_core.specs.declared.method.DavMethod.{DavMethod}
 use Rattle.dav_core.specs.Path.{Path, PathText, names}
+use Rattle.dav_core.proofs.Theorems.{read_or_refused}
 use Rattle.dav_headers.specs.ContentRange.{IsContentRange}
 use Rattle.dav_headers.specs.Depth.{IsDepth}
+use Rattle.dav_headers.specs.Destination.{IsDestination}
+use Rattle.dav_headers.specs.Overwrite.{IsOverwrite}
 use Rattle.dav_headers.specs.ETagList.{IsTagList}
 use Rattle.dav_headers.specs.Length.{IsContentLength}
 use Rattle.dav_headers.specs.Timeout.{IsTimeout}
 use Rattle.dav_headers.specs.UpdateRange.{IsUpdateRange}
+use Rattle.dav_headers.specs.Value.{only_text}
 use Rattle.dav_engine.specs.declared.put_headers.Bounds.{Bounds}
 use Rattle.dav_engine.specs.declared.put_headers.Bounds.TheVariants.{Unread, Whole, Within}
 use Rattle.dav_engine.specs.declared.request.Body.{Body}
 use Rattle.dav_engine.specs.Client.{Client}
 use Rattle.dav_engine.specs.Conditions.{Conditions, AreConditions, SaysLists}
+use Rattle.dav_engine.specs.CopyMove.{DestinationNames, absent, unreadable, outside, inside, copy_or_move, IsCopyMove, is_copy_move}
 use Rattle.dav_engine.specs.Delete.{delete, IsDelete, is_delete}
 use Rattle.dav_engine.specs.Headers.{Headers, Decodes}
 use Rattle.dav_engine.specs.Method.{MethodPlan}
 use Rattle.dav_engine.specs.Mkcol.{mkcol, IsMkcol, is_mkcol}
+use Rattle.dav_engine.specs.Propfind.{propfind, IsPropfind, is_propfind}
+use Rattle.dav_engine.specs.Proppatch.{proppatch, IsProppatch, is_proppatch}
 use Rattle.dav_engine.specs.Put.{PutHeaders, ArePutHeaders, IsPut, is_put, put_body, bytes_of_body, IsAnnounced, IsExpectedLength, TellsBounds, is_partial_update, checksum_in}
 use Rattle.dav_engine.specs.Response.{Response}
 use Rattle.dav_engine.specs.Lock.{lock, IsLock, is_lock}
@@ -28,7 +37,7 @@ use Rattle.dav_engine.specs.LockToken.{SaysLockToken}
 use Rattle.dav_engine.specs.Unlock.{unlock, IsUnlock, is_unlock}
 
 -- what is read decodes to something, or to nothing
-decoded_some : {A B : Type 0} (grammar : A → B → Type 0) (input : A) → ¬ ((r : Option B) → ¬ Decodes grammar input r)
+pub decoded_some : {A B : Type 0} (grammar : A → B → Type 0) (input : A) → ¬ ((r : Option B) → ¬ Decodes grammar input r)
 decoded_some grammar input unread = unread None (λ x is. unread (Some x) is)
 
 pub some_conditions : (headers : Headers) (prefix : List ℕ) (own : Path) → ¬ ((c : Conditions) → ¬ AreConditions headers prefix own c)
@@ -86,3 +95,32 @@ some_lock_plan headers p body who without =
     decoded_some IsDepth (get_all headers (codes "depth")) (λ depth too.
     decoded_some IsTimeout (get_all headers (codes "timeout")) (λ timeout also.
     without (lock (record { conditions = c; depth = depth; timeout = timeout }) p body who) (is_lock (record { conditions = c; depth = depth; timeout = timeout }) (record { conditions = is; depth = too; timeout = also })))))
+
+destination_by : (prefix : List ℕ) (values : List FieldValue) (text : Option (List ℕ)) → Decodes IsDestination values text → ¬ ((r : Result PathText DavError) → ¬ DestinationNames prefix values r)
+destination_by prefix values None none unsaid = unsaid _ (absent none)
+destination_by prefix values (Some text) is unsaid =
+    read_or_refused text (λ bytes reads. unsaid _ (outside text bytes is reads (λ d cut. unsaid (Ok d) (inside text bytes is reads cut))))
+    (λ refused. unsaid _ (unreadable text {e = parse.InvalidPath} is refused (λ e. cc)))
+    (λ refused. unsaid _ (unreadable text {e = parse.ForbiddenPath} is refused (λ e. cc)))
+
+some_destination : (prefix : List ℕ) (values : List FieldValue) → ¬ ((r : Result PathText DavError) → ¬ DestinationNames prefix values r)
+some_destination prefix values unsaid = decoded_some IsDestination values (λ text is. destination_by prefix values text is unsaid)
+
+pub some_copymove_plan : (m : DavMethod) (headers : Headers) (p : PathText) (who : Client) → ¬ ((plan : MethodPlan Response) → ¬ IsCopyMove m headers p who plan)
+some_copymove_plan m headers p who without =
+    some_conditions headers p.prefix (names p) (λ c is.
+    decoded_some IsDepth (get_all headers (codes "depth")) (λ depth too.
+    decoded_some IsOverwrite (get_all headers (codes "overwrite")) (λ overwrite also.
+    some_destination p.prefix (get_all headers (codes "destination")) (λ d named.
+    without (copy_or_move m (record { conditions = c; depth = depth; overwrite = overwrite; destination = d }) p who)
+    (is_copy_move (record { conditions = c; depth = depth; overwrite = overwrite; destination = d }) (record { conditions = is; depth = too; overwrite = also; destination = named }))))))
+
+pub some_propfind_plan : (headers : Headers) (p : PathText) (content : Body) (who : Client) → ¬ ((plan : MethodPlan Response) → ¬ IsPropfind headers p content who plan)
+some_propfind_plan headers p content who without =
+    decoded_some IsDepth (get_all headers (codes "depth")) (λ depth is.
+    let test = is_some (only_text (get_all headers (codes "x-litmus"))) in
+    without (propfind (record { depth = depth; is_test = test }) headers p content who) (is_propfind (record { depth = depth; is_test = test }) (record { depth = is; is_test = refl })))
+
+pub some_proppatch_plan : (headers : Headers) (p : PathText) (content : Body) (who : Client) → ¬ ((plan : MethodPlan Response) → ¬ IsProppatch headers p content who plan)
+some_proppatch_plan headers p content who without =
+    some_conditions headers p.prefix (names p) (λ c is. without (proppatch c p content who) (is_proppatch c is))

@@ -1,14 +1,15 @@
 -- Two runs of a plan, side by side, in worlds that have the same content in a guarded folder.
 use Rattle.std.specs.Prelude.{◌≡◌, ◌++◌, ◌⊎◌, ℕ, ◌<◌, ◌≤◌, ⊤, Bool, true, false, List, Option, Some, None, Result, Ok, Err}
+use Rattle.std.specs.Option.{is_some}
 use Rattle.std.specs.declared.io.traits.SeekFrom.{SeekFrom}
 use Rattle.dav_core.specs.declared.errors.FsError.{FsError}
 use Rattle.dav_core.specs.declared.errors.FsError.TheVariants.{GeneralFailure}
 use Rattle.dav_core.specs.declared.errors.DavError.{DavError}
 use Rattle.dav_core.specs.declared.fs.DavMetaData.{DavMetaData}
-use Rattle.dav_core.specs.Asking.{Call, Answer, meaning, next_refusal, StoreState, Asks, Metadata, ReadDir, EntryMetadata, CreateDir, RemoveDir, RemoveFile, Copy, Open, Read, Write, Seek, Flush, FileMetadata}
+use Rattle.dav_core.specs.Asking.{Call, Answer, meaning, next_refusal, StoreState, Asks, Metadata, ReadDir, EntryMetadata, CreateDir, RemoveDir, RemoveFile, Rename, Copy, HaveProps, PatchProps, GetProps, GetProp, GetQuota, Open, Read, Write, Seek, Flush, FileMetadata}
 use Rattle.dav_core.specs.Handle.{Handle, Opening}
 use Rattle.dav_core.specs.Locks.{Lock}
-use Rattle.dav_core.specs.Path.{Path}
+use Rattle.dav_core.specs.Path.{Path, is_under}
 use Rattle.dav_core.specs.World.{World, Node, node_at, is_folder_kind, last_number, IsWorld}
 use Rattle.dav_engine.specs.AnswerParts.{answers_of}
 use Rattle.dav_engine.specs.Guard.{folder_of, IsGuard, Guards, IsListed, Guarded, Stands}
@@ -44,10 +45,11 @@ SameResult R (Ok a) (Ok b) = R a b
 SameResult R (Err e) (Err f) = e ≡ f
 SameResult R _ _ = ⊥
 
--- metadata that agree in the length, and in what is a folder
+-- metadata that agree in the length, in what is a folder, and in what has a change number
 pub record SameMetadata (m n : DavMetaData) : Type 0 where
   pub len : m.len ≡ n.len
   pub dir : m.dir ≡ n.dir
+  pub numbered : is_some m.number ≡ is_some n.number
 
 -- The file that is open in both runs: its path from the folder, and the change numbers under which it was created in the run
 -- of all and in the run alone.
@@ -69,7 +71,8 @@ pub record AreOpen (file : BothOpen) (j k : Handle) : Type 0 where
 abbrev pub opened_at : Path → Handle → Handle → Option BothOpen
 opened_at rest j k = Some (record { at = rest; here = j.made; alone = k.made })
 
--- A call at a folder or below it that needs no open file. (The calls of a method are added here with the method.)
+-- A call at a folder or below it that needs no open file, or one that asks for the quota, which no path has. (The calls of a
+-- method are added here with the method.)
 abbrev pub IsCallInside : Path → Call → Type 0
 IsCallInside folder (Metadata p) = (rest : Path) × (p ≡ folder ++ rest)
 IsCallInside folder (ReadDir p) = (rest : Path) × (p ≡ folder ++ rest)
@@ -77,6 +80,13 @@ IsCallInside folder (EntryMetadata p) = (rest : Path) × (p ≡ folder ++ rest)
 IsCallInside folder (CreateDir p now) = (rest : Path) × (p ≡ folder ++ rest)
 IsCallInside folder (RemoveDir p now) = (rest : Path) × (p ≡ folder ++ rest)
 IsCallInside folder (RemoveFile p now) = (rest : Path) × (p ≡ folder ++ rest)
+IsCallInside folder (Rename from to now) = ((rest : Path) × (from ≡ folder ++ rest)) × ((rest : Path) × (to ≡ folder ++ rest))
+IsCallInside folder (Copy from to now) = ((rest : Path) × (from ≡ folder ++ rest)) × ((rest : Path) × (to ≡ folder ++ rest))
+IsCallInside folder (HaveProps p) = (rest : Path) × (p ≡ folder ++ rest)
+IsCallInside folder (PatchProps p patches) = (rest : Path) × (p ≡ folder ++ rest)
+IsCallInside folder (GetProps p content) = (rest : Path) × (p ≡ folder ++ rest)
+IsCallInside folder (GetProp p key) = (rest : Path) × (p ≡ folder ++ rest)
+IsCallInside folder GetQuota = ⊤
 IsCallInside folder _ = ⊥
 
 -- answers that are the same but for numbers and times
@@ -84,11 +94,16 @@ abbrev pub SameAnswer : (c : Call) → Answer c → Answer c → Type 0
 SameAnswer (Metadata p) m n = SameMetadata m n
 SameAnswer (ReadDir p) a b = a ≡ b
 SameAnswer (EntryMetadata p) m n = SameMetadata m n
+SameAnswer (HaveProps p) a b = a ≡ b
+SameAnswer (PatchProps p patches) a b = a ≡ b
+SameAnswer (GetProps p content) a b = a ≡ b
+SameAnswer (GetProp p key) a b = a ≡ b
+SameAnswer GetQuota a b = a ≡ b
 SameAnswer _ a b = ⊤
 
 -- ---- plans side by side
 
--- Two plans make the same calls at a guarded folder or below it, or on the same file there, one file at a time; where the
+-- Two plans make the same calls at a guarded folder or below it, or on the same file there, one file at a time, or look at a folder above; where the
 -- answers are the same but for numbers and times, they go on so. R holds of the file that is open at the end, and of what both
 -- give. At the end of whole plans the lock may end, in both.
 pub data Alongside {A : Type 0} (h : Lock) (whole : Bool) (R : Option BothOpen → A → A → Type 0) : Option BothOpen → MethodPlan A → MethodPlan A → Type 0 where
@@ -97,6 +112,9 @@ pub data Alongside {A : Type 0} (h : Lock) (whole : Bool) (R : Option BothOpen �
   side_asks : {c : Call} {go go' : Result (Answer c) FsError → MethodPlan A}
       → IsCallInside (folder_of h) c → ((a b : Result (Answer c) FsError) → SameResult (SameAnswer c) a b → Alongside h whole R None (go a) (go' b))
       → Alongside h whole R None (Ask c go) (Ask c go')
+  side_above : {p : Path} {go go' : Result DavMetaData FsError → MethodPlan A}
+      → is_under (folder_of h) p ≡ true → ((a b : Result DavMetaData FsError) → SameResult SameMetadata a b → Alongside h whole R None (go a) (go' b))
+      → Alongside h whole R None (Ask (Metadata p) go) (Ask (Metadata p) go')
   side_opens : {how : Opening} {now : ℕ} {go go' : Result Handle FsError → MethodPlan A} (rest : Path)
       → ((j k : Handle) → SameHandle j k → Alongside h whole R (opened_at rest j k) (go (Ok j)) (go' (Ok k))) → ((e : FsError) → Alongside h whole R None (go (Err e)) (go' (Err e)))
       → Alongside h whole R None (Ask (Open (folder_of h ++ rest) how now) go) (Ask (Open (folder_of h ++ rest) how now) go')

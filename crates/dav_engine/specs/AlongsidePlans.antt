@@ -1,5 +1,5 @@
 -- The plans of a lock's holder go along with themselves (RFC 4918, section 7).
-use Rattle.std.specs.Prelude.{◌≡◌, ◌≢◌, [], true, List, codes, None}
+use Rattle.std.specs.Prelude.{◌≡◌, ◌≢◌, ℕ, [], true, List, codes, None, Ok}
 use Rattle.http_header.specs.HeaderMap.{get_all}
 use Rattle.dav_core.specs.declared.method.DavMethod.{DavMethod}
 use Rattle.dav_core.specs.Locks.{Lock}
@@ -8,12 +8,17 @@ use Rattle.dav_engine.specs.declared.request.Body.{Body}
 use Rattle.dav_engine.specs.Alongside.{Alongside, SameAnswers}
 use Rattle.dav_engine.specs.Client.{Client}
 use Rattle.dav_engine.specs.Conditions.{Addressed, SaysLists}
+use Rattle.dav_engine.specs.CopyMove.{DestinationNames, IsCopyMove}
 use Rattle.dav_engine.specs.Delete.{IsDelete}
 use Rattle.dav_engine.specs.Guard.{IsGuard, IsInReach, SubmitOnly}
 use Rattle.dav_engine.specs.Headers.{Headers}
+use Rattle.dav_engine.specs.Lock.{IsLock}
 use Rattle.dav_engine.specs.LockToken.{SaysLockToken}
 use Rattle.dav_engine.specs.Method.{MethodPlan}
 use Rattle.dav_engine.specs.Mkcol.{IsMkcol}
+use Rattle.dav_engine.specs.Options.{options}
+use Rattle.dav_engine.specs.Propfind.{IsPropfind}
+use Rattle.dav_engine.specs.Proppatch.{IsProppatch}
 use Rattle.dav_engine.specs.Put.{IsPut}
 use Rattle.dav_engine.specs.Response.{Response}
 use Rattle.dav_engine.specs.Unlock.{IsUnlock}
@@ -48,8 +53,38 @@ DeleteGoesAlong =
     (h : Lock) (headers : Headers) (p : PathText) (who : Client) (plan : MethodPlan Response)
     → IsGuard h → p.bytes ≢ star → IsInReach h (names p) → SubmitsAlone headers p h → IsDelete headers p who plan → GoesAlong h plan
 
+-- and an OPTIONS there, whoever asks for it
+abbrev pub OptionsGoesAlong : Type 0
+OptionsGoesAlong = (h : Lock) (allowed : ℕ) (p : PathText) → IsInReach h (names p) → GoesAlong h (options allowed p)
+
+-- and a PROPFIND there, whoever asks for it: the same paths, statuses and names of properties are told
+abbrev pub PropfindGoesAlong : Type 0
+PropfindGoesAlong =
+    (h : Lock) (headers : Headers) (p : PathText) (content : Body) (who : Client) (plan : MethodPlan Response)
+    → IsInReach h (names p) → IsPropfind headers p content who plan → GoesAlong h plan
+
+-- and a PROPPATCH there, with the guard's token alone
+abbrev pub ProppatchGoesAlong : Type 0
+ProppatchGoesAlong =
+    (h : Lock) (headers : Headers) (p : PathText) (content : Body) (who : Client) (plan : MethodPlan Response)
+    → IsGuard h → IsInReach h (names p) → SubmitsAlone headers p h → IsProppatch headers p content who plan → GoesAlong h plan
+
+-- and a COPY or MOVE from there to there, which ends the guard where it moves the folder itself
+abbrev pub CopyMoveGoesAlong : Type 0
+CopyMoveGoesAlong =
+    (h : Lock) (m : DavMethod) (headers : Headers) (p : PathText) (who : Client) (plan : MethodPlan Response)
+    → IsGuard h → p.bytes ≢ star → IsInReach h (names p)
+    → ((d : PathText) → DestinationNames p.prefix (get_all headers (codes "destination")) (Ok d) → IsInReach h (names d))
+    → SubmitsAlone headers p h → IsCopyMove m headers p who plan → GoesAlong h plan
+
 -- and an UNLOCK at a guarded folder or below it, with the guard's token: the lock ends in both
 abbrev pub UnlockGoesAlong : Type 0
 UnlockGoesAlong =
     (h : Lock) (headers : Headers) (p : PathText) (who : Client) (plan : MethodPlan Response)
     → IsGuard h → IsInReach h (names p) → SaysLockToken headers h.token → IsUnlock headers p who plan → GoesAlong h plan
+
+-- And a LOCK there, with the guard's token alone: a new lock is granted in neither, and the guard is refreshed in both.
+abbrev pub LockGoesAlong : Type 0
+LockGoesAlong =
+    (h : Lock) (headers : Headers) (p : PathText) (body : Body) (who : Client) (plan : MethodPlan Response)
+    → IsGuard h → IsInReach h (names p) → SubmitsAlone headers p h → IsLock headers p body who plan → GoesAlong h plan

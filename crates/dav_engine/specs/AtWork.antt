@@ -1,15 +1,18 @@
 -- What contracts see of a request while it is answered.
-use Rattle.std.specs.Prelude.{◌≡◌, Result}
+use Rattle.std.specs.Prelude.{◌≡◌, ℕ, Result}
 use Rattle.dav_core.specs.declared.errors.DavError.{DavError}
 use Rattle.dav_engine.specs.declared.davinner.DavInner.{DavInner}
 use Rattle.dav_engine.specs.declared.request.Body.{Body}
 use Rattle.dav_engine.specs.declared.request.DavRequest.{DavRequest}
 use Rattle.dav_engine.specs.Client.{Client}
+use Rattle.dav_engine.specs.CopyMove.{IsCopyMove}
 use Rattle.dav_engine.specs.Delete.{IsDelete}
 use Rattle.dav_engine.specs.Follows.{Follows, Serves}
 use Rattle.dav_engine.specs.Lock.{IsLock}
 use Rattle.dav_engine.specs.Method.{MethodPlan}
 use Rattle.dav_engine.specs.Mkcol.{IsMkcol}
+use Rattle.dav_engine.specs.Options.{options}
+use Rattle.dav_engine.specs.Proppatch.{IsProppatch}
 use Rattle.dav_engine.specs.Put.{IsPut}
 use Rattle.dav_engine.specs.Response.{Response}
 use Rattle.dav_engine.specs.Unlock.{IsUnlock}
@@ -49,6 +52,10 @@ PutOf request body who = IsPut request.method request.headers request.path body 
 abbrev pub DeleteOf : DavRequest → Client → MethodPlan Response → Type 0
 DeleteOf request who = IsDelete request.headers request.path who
 
+-- the plan of an OPTIONS where these methods are allowed, whoever makes it
+abbrev pub OptionsOf : ℕ → DavRequest → Client → MethodPlan Response → Type 0
+OptionsOf allowed request who plan = plan ≡ options allowed request.path
+
 -- the plans of an UNLOCK, by who makes it
 abbrev pub UnlockOf : DavRequest → Client → MethodPlan Response → Type 0
 UnlockOf request who = IsUnlock request.headers request.path who
@@ -56,3 +63,11 @@ UnlockOf request who = IsUnlock request.headers request.path who
 -- the plans of a LOCK with this body, by who makes it
 abbrev pub LockOf : DavRequest → Body → Client → MethodPlan Response → Type 0
 LockOf request body who = IsLock request.headers request.path body who
+
+-- the plans of a COPY or MOVE, by who makes it
+abbrev pub CopyMoveOf : DavRequest → Client → MethodPlan Response → Type 0
+CopyMoveOf request who = IsCopyMove request.method request.headers request.path who
+
+-- the plans of a PROPPATCH with this body, by who makes it
+abbrev pub ProppatchOf : DavRequest → Body → Client → MethodPlan Response → Type 0
+ProppatchOf request body who = IsProppatch request.headers request.path body who

@@ -8,6 +8,7 @@ use Rattle.dav_core.specs.Locks.{Lock}
 use Rattle.dav_core.specs.Path.{PathText}
 use Rattle.dav_engine.specs.declared.request.Body.{Body}
 use Rattle.dav_engine.specs.Client.{Client}
+use Rattle.dav_engine.specs.CopyMove.{IsCopyMove}
 use Rattle.dav_engine.specs.Delete.{IsDelete}
 use Rattle.dav_engine.specs.Guard.{IsListed, Stands}
 use Rattle.dav_engine.specs.Headers.{Headers}
@@ -16,6 +17,7 @@ use Rattle.dav_engine.specs.LockToken.{SaysLockToken}
 use Rattle.dav_engine.specs.Method.{MethodPlan}
 use Rattle.dav_engine.specs.Mkcol.{IsMkcol}
 use Rattle.dav_engine.specs.Plan.{Plan, Done, Ask, Look, Keep, Locks, Ran, Cut}
+use Rattle.dav_engine.specs.Proppatch.{IsProppatch}
 use Rattle.dav_engine.specs.Put.{IsPut}
 use Rattle.dav_engine.specs.Response.{Response}
 use Rattle.dav_engine.specs.SparingPlans.{IsStranger}
@@ -58,11 +60,23 @@ DeleteKeepsLocks =
     (h : Lock) (headers : Headers) (p : PathText) (who : Client) (plan : MethodPlan Response)
     → IsStranger headers p who h → IsDelete headers p who plan → KeepsLock h plan
 
+-- and a COPY or MOVE, of such a client
+abbrev pub CopyMoveKeepsLocks : Type 0
+CopyMoveKeepsLocks =
+    (h : Lock) (m : DavMethod) (headers : Headers) (p : PathText) (who : Client) (plan : MethodPlan Response)
+    → IsStranger headers p who h → IsCopyMove m headers p who plan → KeepsLock h plan
+
 -- and a MKCOL
 abbrev pub MkcolKeepsLocks : Type 0
 MkcolKeepsLocks =
     (h : Lock) (headers : Headers) (p : PathText) (who : Client) (plan : MethodPlan Response)
     → IsMkcol headers p who plan → KeepsLock h plan
+
+-- and a PROPPATCH
+abbrev pub ProppatchKeepsLocks : Type 0
+ProppatchKeepsLocks =
+    (h : Lock) (headers : Headers) (p : PathText) (content : Body) (who : Client) (plan : MethodPlan Response)
+    → IsProppatch headers p content who plan → KeepsLock h plan
 
 -- and an UNLOCK, unless its Lock-Token says the lock's token
 abbrev pub UnlockKeepsLocks : Type 0

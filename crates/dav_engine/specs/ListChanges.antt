@@ -9,6 +9,7 @@ use Rattle.dav_core.specs.Locks.{Lock, is_grantable, unlocked, refreshed, delete
 use Rattle.dav_core.specs.Path.{Path, PathText}
 use Rattle.dav_engine.specs.declared.request.Body.{Body}
 use Rattle.dav_engine.specs.Client.{Client}
+use Rattle.dav_engine.specs.CopyMove.{IsCopyMove}
 use Rattle.dav_engine.specs.Delete.{IsDelete}
 use Rattle.dav_engine.specs.Guard.{OnList}
 use Rattle.dav_engine.specs.Headers.{Headers}
@@ -16,6 +17,7 @@ use Rattle.dav_engine.specs.Lock.{IsLock}
 use Rattle.dav_engine.specs.Method.{MethodPlan}
 use Rattle.dav_engine.specs.Mkcol.{IsMkcol}
 use Rattle.dav_engine.specs.Plan.{Plan, Done, Ask, Look, Keep, Locks, Ran, Cut}
+use Rattle.dav_engine.specs.Proppatch.{IsProppatch}
 use Rattle.dav_engine.specs.Put.{IsPut}
 use Rattle.dav_engine.specs.Response.{Response}
 use Rattle.dav_engine.specs.Unlock.{IsUnlock}
@@ -83,11 +85,23 @@ MkcolChangesList =
     (headers : Headers) (p : PathText) (who : Client) (ls : List Lock) (plan : MethodPlan Response)
     → IsMkcol headers p who plan → ChangesList who ls plan
 
+-- nor a PROPPATCH
+abbrev pub ProppatchChangesList : Type 0
+ProppatchChangesList =
+    (headers : Headers) (p : PathText) (content : Body) (who : Client) (ls : List Lock) (plan : MethodPlan Response)
+    → IsProppatch headers p content who plan → ChangesList who ls plan
+
 -- a DELETE changes it so
 abbrev pub DeleteChangesList : Type 0
 DeleteChangesList =
     (headers : Headers) (p : PathText) (who : Client) (ls : List Lock) (plan : MethodPlan Response)
     → IsDelete headers p who plan → ChangesList who ls plan
+
+-- and so does a COPY or MOVE
+abbrev pub CopyMoveChangesList : Type 0
+CopyMoveChangesList =
+    (m : DavMethod) (headers : Headers) (p : PathText) (who : Client) (ls : List Lock) (plan : MethodPlan Response)
+    → IsCopyMove m headers p who plan → ChangesList who ls plan
 
 -- and so does an UNLOCK
 abbrev pub UnlockChangesList : Type 0

@@ -5,11 +5,14 @@ use Rattle.dav_core.specs.Path.{Path, PathText}
 use Rattle.dav_engine.specs.declared.request.Body.{Body}
 use Rattle.dav_engine.specs.Client.{Client}
 use Rattle.dav_engine.specs.Conditions.{Conditions, AreConditions}
+use Rattle.dav_engine.specs.CopyMove.{IsCopyMove}
 use Rattle.dav_engine.specs.Delete.{IsDelete}
 use Rattle.dav_engine.specs.Headers.{Headers}
 use Rattle.dav_engine.specs.Lock.{IsLock}
 use Rattle.dav_engine.specs.Method.{MethodPlan}
 use Rattle.dav_engine.specs.Mkcol.{IsMkcol}
+use Rattle.dav_engine.specs.Propfind.{IsPropfind}
+use Rattle.dav_engine.specs.Proppatch.{IsProppatch}
 use Rattle.dav_engine.specs.Put.{PutHeaders, ArePutHeaders, IsPut}
 use Rattle.dav_engine.specs.Response.{Response}
 use Rattle.dav_engine.specs.Unlock.{IsUnlock}
@@ -52,3 +55,20 @@ abbrev pub OneLockPlan : Type 0
 OneLockPlan =
     (headers : Headers) (p : PathText) (body : Body) (who : Client) (one other : MethodPlan Response)
     → IsLock headers p body who one → IsLock headers p body who other → one ≡ other
+
+-- and a COPY or MOVE
+abbrev pub OneCopyMovePlan : Type 0
+OneCopyMovePlan =
+    (m : DavMethod) (headers : Headers) (p : PathText) (who : Client) (one other : MethodPlan Response)
+    → IsCopyMove m headers p who one → IsCopyMove m headers p who other → one ≡ other
+
+-- and a PROPFIND, and a PROPPATCH
+abbrev pub OnePropfindPlan : Type 0
+OnePropfindPlan =
+    (headers : Headers) (p : PathText) (content : Body) (who : Client) (one other : MethodPlan Response)
+    → IsPropfind headers p content who one → IsPropfind headers p content who other → one ≡ other
+
+abbrev pub OneProppatchPlan : Type 0
+OneProppatchPlan =
+    (headers : Headers) (p : PathText) (content : Body) (who : Client) (one other : MethodPlan Response)
+    → IsProppatch headers p content who one → IsProppatch headers p content who other → one ≡ other

@@ -6,11 +6,14 @@ use Rattle.dav_core.specs.Path.{PathText, names, star}
 use Rattle.dav_engine.specs.declared.request.Body.{Body}
 use Rattle.dav_engine.specs.Client.{Client, requester}
 use Rattle.dav_engine.specs.Conditions.{Conditions, AreConditions, submitted}
+use Rattle.dav_engine.specs.CopyMove.{IsCopyMove}
 use Rattle.dav_engine.specs.Delete.{IsDelete}
+use Rattle.dav_engine.specs.Guard.{IsGuard}
 use Rattle.dav_engine.specs.Headers.{Headers}
 use Rattle.dav_engine.specs.Lock.{IsLock}
 use Rattle.dav_engine.specs.Method.{MethodPlan}
 use Rattle.dav_engine.specs.Mkcol.{IsMkcol}
+use Rattle.dav_engine.specs.Proppatch.{IsProppatch}
 use Rattle.dav_engine.specs.Put.{IsPut}
 use Rattle.dav_engine.specs.Response.{Response}
 use Rattle.dav_engine.specs.Sparing.{SparesLock, SparesGuard}
@@ -48,12 +51,25 @@ DeleteSpares =
     (h : Lock) (headers : Headers) (p : PathText) (who : Client) (plan : MethodPlan Response)
     → h.shared ≡ false → p.bytes ≢ star → IsStranger headers p who h → IsDelete headers p who plan → SparesBoth h plan
 
+-- and a COPY or MOVE
+abbrev pub CopyMoveSpares : Type 0
+CopyMoveSpares =
+    (h : Lock) (m : DavMethod) (headers : Headers) (p : PathText) (who : Client) (plan : MethodPlan Response)
+    → h.shared ≡ false → p.bytes ≢ star → IsStranger headers p who h → IsCopyMove m headers p who plan → SparesBoth h plan
+
+-- and a PROPPATCH
+abbrev pub ProppatchSpares : Type 0
+ProppatchSpares =
+    (h : Lock) (headers : Headers) (p : PathText) (content : Body) (who : Client) (plan : MethodPlan Response)
+    → h.shared ≡ false → IsStranger headers p who h → IsProppatch headers p content who plan → SparesBoth h plan
+
 -- An UNLOCK spares all, whoever asks for it: with it the lock itself may end.
 abbrev pub UnlockSpares : Type 0
 UnlockSpares = (h : Lock) (headers : Headers) (p : PathText) (who : Client) (plan : MethodPlan Response) → IsUnlock headers p who plan → SparesBoth h plan
 
--- A LOCK spares what an exclusive lock covers, whoever asks for it, unless the token for the lock that it creates is the lock's.
+-- A LOCK spares what an exclusive lock covers, whoever asks for it, unless the token for the lock that it creates is the lock's;
+-- and so it does where the lock is a guard, known to guard its folder.
 abbrev pub LockSpares : Type 0
 LockSpares =
     (h : Lock) (headers : Headers) (p : PathText) (body : Body) (who : Client) (plan : MethodPlan Response)
-    → h.shared ≡ false → who.token ≢ Some h.token → IsLock headers p body who plan → SparesLock h plan
+    → h.shared ≡ false → who.token ≢ Some h.token → IsLock headers p body who plan → SparesLock h plan × (IsGuard h → SparesGuard h plan)

@@ -13,12 +13,16 @@ use Rattle.dav_headers.specs.ETagList.{star}
 use Rattle.dav_engine.specs.declared.request.Body.{Body}
 use Rattle.dav_engine.specs.Client.{Client}
 use Rattle.dav_engine.specs.Conditions.{Conditions}
+use Rattle.dav_engine.specs.CopyMove.{IsCopyMove}
 use Rattle.dav_engine.specs.Delete.{IsDelete}
 use Rattle.dav_engine.specs.Headers.{Headers}
 use Rattle.dav_engine.specs.Lock.{IsLock}
 use Rattle.dav_engine.specs.Method.{MethodPlan}
 use Rattle.dav_engine.specs.Mkcol.{mkcol, mkcol_allowed, IsMkcol}
+use Rattle.dav_engine.specs.Options.{options}
 use Rattle.dav_engine.specs.Plan.{Plan, Done, Ask, Look, Keep, Locks, Ran}
+use Rattle.dav_engine.specs.Propfind.{IsPropfind}
+use Rattle.dav_engine.specs.Proppatch.{IsProppatch}
 use Rattle.dav_engine.specs.Put.{PutHeaders, put, put_allowed, IsPut}
 use Rattle.dav_engine.specs.Response.{Response}
 use Rattle.dav_engine.specs.Unlock.{IsUnlock}
@@ -59,6 +63,16 @@ ReadingLeavesAll =
     (plan : MethodPlan Response) (old new : StoreState) (ls ms : Locks) (a : Result Response DavError)
     → IsReading plan → Ran Asks plan old ls a new ms → (new.world ≡ old.world) × (ms ≡ ls)
 
+-- The plan of an OPTIONS only reads.
+abbrev pub OptionsOnlyReads : Type 0
+OptionsOnlyReads = (allowed : ℕ) (p : PathText) → IsReading (options allowed p)
+
+-- So does the plan of a PROPFIND.
+abbrev pub PropfindOnlyReads : Type 0
+PropfindOnlyReads =
+    (headers : Headers) (p : PathText) (content : Body) (who : Client) (plan : MethodPlan Response)
+    → IsPropfind headers p content who plan → IsReading plan
+
 -- A plan of calls that a caller may make keeps what makes a world a world (RFC 4918, section 5.1), and the next change
 -- number never falls.
 abbrev pub ProperPlansKeepWorlds : Type 0
@@ -93,6 +107,23 @@ abbrev pub LockIsProper : Type 0
 LockIsProper =
     (headers : Headers) (p : PathText) (body : Body) (who : Client) (plan : MethodPlan Response)
     → IsStorable (names p) → p.bytes ≢ path_star → who.moment ≤ last_moment → IsLock headers p body who plan → IsProperPlan plan
+
+-- and that of COPY or MOVE, whatever its path is: what Destination names is a path of names
+abbrev pub CopyMoveIsProper : Type 0
+CopyMoveIsProper =
+    (m : DavMethod) (headers : Headers) (p : PathText) (who : Client) (plan : MethodPlan Response)
+    → who.moment ≤ last_moment → IsCopyMove m headers p who plan → IsProperPlan plan
+
+-- and those of PROPFIND and PROPPATCH, whatever their path and their moment are
+abbrev pub PropfindIsProper : Type 0
+PropfindIsProper =
+    (headers : Headers) (p : PathText) (content : Body) (who : Client) (plan : MethodPlan Response)
+    → IsPropfind headers p content who plan → IsProperPlan plan
+
+abbrev pub ProppatchIsProper : Type 0
+ProppatchIsProper =
+    (headers : Headers) (p : PathText) (content : Body) (who : Client) (plan : MethodPlan Response)
+    → IsProppatch headers p content who plan → IsProperPlan plan
 
 -- An error of the checks before the file is opened is the outcome, and leaves the world and the list of locks as they are.
 abbrev pub RefusedPutLeavesAll : Type 0

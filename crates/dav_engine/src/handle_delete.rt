@@ -56,7 +56,7 @@ pub(crate) fn whole_depth(depth: Option<Depth>) -> DavResult<bool>
 }
 
 // Whether the removal goes below a folder.
-fn goes_below(depth: Depth) -> bool
+pub(crate) fn goes_below(depth: Depth) -> bool
     ensures { result ≡ goes_below depth }
 {
     match depth {
@@ -92,7 +92,7 @@ fn allowed<F: DavFileSystem, L: DavLockSystem>(
 }
 
 // Ends the locks at a path and below it, where there is a lock system.
-fn drop_locks<L: DavLockSystem>(ls: &mut Option<L>, path: &DavPath)
+pub(crate) fn drop_locks<L: DavLockSystem>(ls: &mut Option<L>, path: &DavPath)
     ensures { option_map L.locks ls.new
         ≡ option_map (deleted (names path.now)) (option_map L.locks ls.old) }
 {

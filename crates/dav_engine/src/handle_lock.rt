@@ -95,7 +95,7 @@ fn refresh<L: DavLockSystem>(
 }
 
 // A copy of a text.
-fn copy_of(alloc: Global, text: Option<&str>) -> Result<Option<String>, NoMemory>
+pub(crate) fn copy_of(alloc: Global, text: Option<&str>) -> Result<Option<String>, NoMemory>
     ensures { IfOk result (λ copy. option_map string_bytes copy ≡ option_copied text.entry) }
 {
     match text {

@@ -1,5 +1,7 @@
 //! What a method did at several paths, and the reply that reports it (RFC 4918, section 13).
 ghost use Rattle.std.specs.Prelude.{◌≡◌, ◌⊎◌, ◌++◌, ◌∷◌, [], map, string_bytes, IfOk, IfErr, OnOk, OnErr, Ok, Err};
+ghost use Rattle.std.specs.Option.{unwrap_or};
+ghost use Rattle.http.specs.StatusCode.{reason_phrase};
 ghost use Rattle.dav_core.specs.declared.errors.DavError.{DavError as Error};
 ghost use Rattle.dav_core.specs.Status.{dav_status};
 ghost use Rattle.dav_engine.specs.Multistatus.{href, status_element, status_line, response_for, last_error, multistatus, multi_reply};
@@ -88,16 +90,26 @@ pub(crate) fn href(alloc: Global, path: &DavPath) -> Result<Element, NoMemory>
     Ok(element)
 }
 
+// The reason phrase of a status; empty where it has none.
+fn phrase_of(status: u16) -> &'static str
+    ensures { result.now ≡ unwrap_or (reason_phrase status) [] }
+{
+    match StatusCode::from_u16(status) {
+        Ok(status) => status.canonical_reason().unwrap_or(""),
+        Err(_) => "",
+    }
+}
+
 // A status as a line of text.
-fn status_line(alloc: Global, status: StatusCode) -> Result<String, NoMemory>
+fn status_line(alloc: Global, status: u16) -> Result<String, NoMemory>
     ensures { IfOk result (λ line. string_bytes line ≡ status_line status) }
 {
-    let phrase = status.canonical_reason().unwrap_or("");
-    format!(in alloc; "HTTP/1.1 {} {phrase}", status.as_u16())
+    let phrase = phrase_of(status);
+    format!(in alloc; "HTTP/1.1 {status} {phrase}")
 }
 
 // A status in an element.
-fn status_element(alloc: Global, status: StatusCode) -> Result<Element, NoMemory>
+pub(crate) fn status_element(alloc: Global, status: u16) -> Result<Element, NoMemory>
     ensures { IfOk result (λ e. e ≡ status_element status) }
 {
     let mut element = Element::new2(alloc, "D:status")?;
@@ -123,7 +135,7 @@ fn response_for(alloc: Global, path: &DavPath, status: StatusCode) -> Result<Ele
 {
     let mut response = Element::new2(alloc, "D:response")?;
     response.push_element(href(alloc, path)?)?;
-    response.push_element(status_element(alloc, listed_status(status))?)?;
+    response.push_element(status_element(alloc, listed_status(status).as_u16())?)?;
     Ok(response)
 }
 

@@ -16,14 +16,18 @@ use http::StatusCode;
 use std::alloc::Global;
 
 // Adds a path with its status to the collector.
-fn report(path: &DavPath, status: StatusCode, errors: &mut MultiError) -> Result<(), NoMemory>
+pub(crate) fn report(
+    path: &DavPath,
+    status: StatusCode,
+    errors: &mut MultiError,
+) -> Result<(), NoMemory>
     ensures { OnOk result (errors.new ≡ errors.old ++ (path.now, status) ∷ []) }
 {
     errors.add_status(path, status)
 }
 
 // The path of a member, which ends in a slash where it is a folder.
-fn child(path: &DavPath, name: &[u8], dir: bool) -> Result<DavPath, NoMemory>
+pub(crate) fn child(path: &DavPath, name: &[u8], dir: bool) -> Result<DavPath, NoMemory>
     ensures { IfOk result (λ p. p ≡ child_of path.now name.now dir) }
 {
     let mut child = path.clone()?;
@@ -33,7 +37,7 @@ fn child(path: &DavPath, name: &[u8], dir: bool) -> Result<DavPath, NoMemory>
 }
 
 // The status of an error of the store.
-fn status_of(error: FsError) -> StatusCode
+pub(crate) fn status_of(error: FsError) -> StatusCode
     ensures { result ≡ fs_status error }
 {
     error.into()

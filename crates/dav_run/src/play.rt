@@ -280,6 +280,14 @@ fn write_replies<W: Write>(alloc: Global, replies: &[Reply], writer: &mut W) -> 
 }
 
 #[cfg(test)]
+mod copying;
+#[cfg(test)]
+mod locking;
+#[cfg(test)]
+mod options;
+#[cfg(test)]
+mod properties;
+#[cfg(test)]
 mod publishing;
 #[cfg(test)]
 mod refused_calls;

@@ -1,7 +1,7 @@
 -- Requests end no lock whose token they don't name.
-use Rattle.std.proofs.Common.{ℕ, List}
+use Rattle.std.proofs.Common.{◌≢◌, ℕ, List, Some}
 use Rattle.dav_core.specs.declared.method.DavMethod.{DavMethod}
-use Rattle.dav_core.specs.declared.method.DavMethod.TheVariants.{Get, Head, Put, Patch}
+use Rattle.dav_core.specs.declared.method.DavMethod.TheVariants.{Get, Head, Put, Patch, Copy, Move}
 use Rattle.dav_core.specs.Asking.{StoreState}
 use Rattle.dav_core.specs.Locks.{Lock}
 use Rattle.dav_core.specs.Path.{PathText, names}
@@ -12,14 +12,15 @@ use Rattle.dav_engine.specs.Guard.{Stands}
 use Rattle.dav_engine.specs.Headers.{Headers}
 use Rattle.dav_engine.specs.LockToken.{SaysLockToken}
 use Rattle.dav_engine.specs.Method.{MethodPlan}
+use Rattle.dav_engine.specs.Options.{options}
 use Rattle.dav_engine.specs.Plan.{Locks}
 use Rattle.dav_engine.specs.Response.{Response}
 use Rattle.dav_engine.specs.SparingPlans.{IsStranger}
-use Rattle.dav_engine.proofs.Theorems.{kept_locks_stand, kept_locks_stand_cut, reading_keeps_locks, put_keeps_locks, mkcol_keeps_locks, delete_keeps_locks, unlock_keeps_locks}
+use Rattle.dav_engine.proofs.Theorems.{kept_locks_stand, kept_locks_stand_cut, options_only_reads, reading_keeps_locks, put_keeps_locks, mkcol_keeps_locks, copymove_keeps_locks, delete_keeps_locks, lock_keeps_locks, unlock_keeps_locks, propfind_only_reads, proppatch_keeps_locks}
 use Rattle.dav_server.specs.Ending.{NoLockEnds, NoLockEndsCut, EndsNoLock}
 use Rattle.dav_server.specs.Get.{get, is_get}
 use Rattle.dav_server.specs.Head.{Request, IsHead}
-use Rattle.dav_server.specs.Machine.{Settings, Asked, PlanOf, gets, heads, puts, patches, makes, deletes, releases, not_yet, MeansOf, not_allowed, no_path, no_body, method, Means, no_head, no_method, known, StepCut, untouched, cut, steps}
+use Rattle.dav_server.specs.Machine.{Settings, Asked, PlanOf, gets, heads, puts, patches, makes, deletes, copies, moves, offers, sets_properties, locks, releases, not_yet, MeansOf, not_allowed, no_path, no_body, method, Means, no_head, no_method, known, StepCut, untouched, cut, steps}
 use Rattle.dav_server.specs.Naming.{NamesToken, by_lock_token}
 use Rattle.dav_server.specs.Run.{Turn, begun}
 use Rattle.dav_server.specs.Server.{Server}
@@ -27,22 +28,27 @@ use Rattle.dav_server.proofs.GetWorld.{get_is_reading}
 use Rattle.dav_server.proofs.StrangerLemmas.{is_stranger}
 
 -- a method that is served leaves each lock that its client doesn't hold
-plan_keeps : (h : Lock) {allowed : ℕ} {headers : Headers} {p : PathText} {body : Body} {who : Client} {m : DavMethod} {plan : MethodPlan Response} → IsStranger headers p who h → ¬ SaysLockToken headers h.token → PlanOf allowed headers p body who m plan → KeepsLock h plan
-plan_keeps h {p = p} {who = who} stranger unsaid (gets (is_get c are)) = reading_keeps_locks h (get Get c (names p) who.moment) (get_is_reading Get c (names p) who.moment)
-plan_keeps h {p = p} {who = who} stranger unsaid (heads (is_get c are)) = reading_keeps_locks h (get Head c (names p) who.moment) (get_is_reading Head c (names p) who.moment)
-plan_keeps h {headers = headers} {p} {body} {who} {plan = plan} stranger unsaid (puts is) = put_keeps_locks h Put headers p body who plan is
-plan_keeps h {headers = headers} {p} {body} {who} {plan = plan} stranger unsaid (patches is) = put_keeps_locks h Patch headers p body who plan is
-plan_keeps h {headers = headers} {p} {who = who} {plan = plan} stranger unsaid (makes is) = mkcol_keeps_locks h headers p who plan is
-plan_keeps h {headers = headers} {p} {who = who} {plan = plan} stranger unsaid (deletes is) = delete_keeps_locks h headers p who plan stranger is
-plan_keeps h {headers = headers} {p} {who = who} {plan = plan} stranger unsaid (releases is) = unlock_keeps_locks h headers p who plan unsaid is
-plan_keeps h stranger unsaid (not_yet out) = keeps_done
+plan_keeps : (h : Lock) {allowed : ℕ} {headers : Headers} {p : PathText} {body : Body} {who : Client} {m : DavMethod} {plan : MethodPlan Response} → IsStranger headers p who h → who.token ≢ Some h.token → ¬ SaysLockToken headers h.token → PlanOf allowed headers p body who m plan → KeepsLock h plan
+plan_keeps h {p = p} {who = who} stranger own unsaid (gets (is_get c are)) = reading_keeps_locks h (get Get c (names p) who.moment) (get_is_reading Get c (names p) who.moment)
+plan_keeps h {p = p} {who = who} stranger own unsaid (heads (is_get c are)) = reading_keeps_locks h (get Head c (names p) who.moment) (get_is_reading Head c (names p) who.moment)
+plan_keeps h {headers = headers} {p} {body} {who} {plan = plan} stranger own unsaid (puts is) = put_keeps_locks h Put headers p body who plan is
+plan_keeps h {headers = headers} {p} {body} {who} {plan = plan} stranger own unsaid (patches is) = put_keeps_locks h Patch headers p body who plan is
+plan_keeps h {headers = headers} {p} {who = who} {plan = plan} stranger own unsaid (makes is) = mkcol_keeps_locks h headers p who plan is
+plan_keeps h {headers = headers} {p} {who = who} {plan = plan} stranger own unsaid (deletes is) = delete_keeps_locks h headers p who plan stranger is
+plan_keeps h {headers = headers} {p} {who = who} {plan = plan} stranger own unsaid (copies is) = copymove_keeps_locks h Copy headers p who plan stranger is
+plan_keeps h {headers = headers} {p} {who = who} {plan = plan} stranger own unsaid (moves is) = copymove_keeps_locks h Move headers p who plan stranger is
+plan_keeps h {allowed} {p = p} stranger own unsaid offers = reading_keeps_locks h (options allowed p) (options_only_reads allowed p)
+plan_keeps h {headers = headers} {p} {body} {who} {plan = plan} stranger own unsaid (sets_properties is) = proppatch_keeps_locks h headers p body who plan is
+plan_keeps h {headers = headers} {p} {body} {who} {plan = plan} stranger own unsaid (locks is) = lock_keeps_locks h headers p body who plan own is
+plan_keeps h {headers = headers} {p} {who = who} {plan = plan} stranger own unsaid (releases is) = unlock_keeps_locks h headers p who plan unsaid is
+plan_keeps h stranger own unsaid (not_yet out) = keeps_done
 
-module _ (h : Lock) (x : Asked) (other : ¬ NamesToken x h.token) where
+module _ (h : Lock) (x : Asked) (other : ¬ NamesToken x h.token) (own : x.token ≢ Some h.token) where
   of_keeps : {s : Settings} (r : Request) {m : DavMethod} {plan : MethodPlan Response} → IsHead x.head r → MeansOf s x r m plan → KeepsLock h plan
   of_keeps r head (not_allowed out) = keeps_done
   of_keeps r head (no_path e has none) = keeps_done
   of_keeps r head (no_body p e has named bad) = keeps_done
-  of_keeps r head (method p body has named good is) = plan_keeps h (is_stranger h x r head p (λ named. other named.token)) (λ says. other (by_lock_token r head says)) is
+  of_keeps r head (method p body has named good is) = plan_keeps h (is_stranger h x r head p (λ named. other named.token)) own (λ says. other (by_lock_token r head says)) is
 
   pub means_keeps : {s : Settings} {plan : MethodPlan Response} → Means s x plan → KeepsLock h plan
   means_keeps (no_head out) = keeps_done
@@ -52,16 +58,16 @@ module _ (h : Lock) (x : Asked) (other : ¬ NamesToken x h.token) where
 -- ---- the laws
 
 pub no_lock_ends : NoLockEnds
-no_lock_ends s x old new ls ms reply h stands other (steps plan outcome means ran) = kept_locks_stand h plan old new ls ms outcome (means_keeps h x other means) ran stands
+no_lock_ends s x old new ls ms reply h stands other own (steps plan outcome means ran) = kept_locks_stand h plan old new ls ms outcome (means_keeps h x other own means) ran stands
 
-cut_keeps : (s : Settings) (x : Asked) (h : Lock) {old new : StoreState} {ls ms : Locks} → Stands h ls → ¬ NamesToken x h.token → StepCut s x old ls new ms → Stands h ms
-cut_keeps s x h stands other untouched = stands
-cut_keeps s x h {old} {ls = ls} stands other (cut plan {new} {ms} means some) = kept_locks_stand_cut h plan old new ls ms (means_keeps h x other means) some stands
+cut_keeps : (s : Settings) (x : Asked) (h : Lock) {old new : StoreState} {ls ms : Locks} → Stands h ls → ¬ NamesToken x h.token → x.token ≢ Some h.token → StepCut s x old ls new ms → Stands h ms
+cut_keeps s x h stands other own untouched = stands
+cut_keeps s x h {old} {ls = ls} stands other own (cut plan {new} {ms} means some) = kept_locks_stand_cut h plan old new ls ms (means_keeps h x other own means) some stands
 
 pub no_lock_ends_cut : NoLockEndsCut
-no_lock_ends_cut s x old new ls ms h stands other stops = cut_keeps s x h stands other stops
+no_lock_ends_cut s x old new ls ms h stands other own stops = cut_keeps s x h stands other own stops
 
 -- of a run, between any two requests
 pub ends_no_lock : (old : Server) (ts : List Turn) (replies : List Response) → EndsNoLock old ts replies
-ends_no_lock old ts replies front back t before after reply mid new ks ms h is given ran step stands other =
-    no_lock_ends old.settings t.asked (begun t.refusals mid) new ks ms reply h stands other step
+ends_no_lock old ts replies front back t before after reply mid new ks ms h is given ran step stands other own =
+    no_lock_ends old.settings t.asked (begun t.refusals mid) new ks ms reply h stands other own step

@@ -11,7 +11,7 @@ use Rattle.dav_engine.specs.Guard.{folder_of, Guarded}
 use Rattle.dav_engine.specs.Plan.{Locks}
 use Rattle.dav_engine.specs.Response.{Response}
 use Rattle.dav_engine.proofs.Theorems.{changes_keep_shared, shared_guards, folders_are_above}
-use Rattle.dav_server.specs.Isolation.{AreLoaded, TokensDiffer, Grants, IsIsolatedFromGrants}
+use Rattle.dav_server.specs.Isolation.{AreLoaded, NoneHandsIn, TokensDiffer, Grants, IsIsolatedFromGrants}
 use Rattle.dav_server.specs.LockLists.{IsHandedIn}
 use Rattle.dav_server.specs.Machine.{client}
 use Rattle.dav_server.specs.Run.{Turn, begun, Runs}
@@ -22,11 +22,11 @@ use Rattle.dav_server.proofs.ListLemmas.{shares_locks, steps_change_lists, token
 use Rattle.dav_server.proofs.MeansWorld.{turn_keeps, run_keeps, all_front, all_back}
 
 -- two turns that hand in different tokens
-abbrev Differ : Turn → Turn → Type 0
+abbrev pub Differ : Turn → Turn → Type 0
 Differ t u = (token : List ℕ) → t.asked.token ≡ Some token → u.asked.token ≢ Some token
 
 -- the tokens of those before a turn differ from its own
-differ_before : (front rest : List Turn) (u : Turn) → AllPairs Differ (front ++ u ∷ rest) → All (λ t. Differ t u) front
+pub differ_before : (front rest : List Turn) (u : Turn) → AllPairs Differ (front ++ u ∷ rest) → All (λ t. Differ t u) front
 differ_before [] rest u all = λ k d small. absurd (omega (arith, small))
 differ_before (t ∷ front) rest u all =
     let here : Differ t u = All-contains (Differ t) (front ++ u ∷ rest) u (λ k d small. all 0 (suc k) d (omega arith) (omega (arith, small))) (Contains-append_right front (u ∷ rest) u (0, omega arith, refl)) in
@@ -34,6 +34,12 @@ differ_before (t ∷ front) rest u all =
 
 other_tokens : (h : Lock) (grant : Turn) (front : List Turn) → grant.asked.token ≡ Some h.token → All (λ t. Differ t grant) front → (l : Lock) → IsHandedIn front l.token → l.token ≢ h.token
 other_tokens h grant front own differ l (t, there, is) same = All-contains (λ u. Differ u grant) front t differ there h.token (is ∙ ap Some same) own
+
+-- the tokens of those after a turn differ from its own
+none_after : (h : Lock) (grant : Turn) (front later back : List Turn) → grant.asked.token ≡ Some h.token → AllPairs Differ (front ++ grant ∷ (later ++ back)) → NoneHandsIn h later
+none_after h grant [] later back own all =
+    all_front (λ u. u.asked.token ≢ Some h.token) later back (λ k d small same. all 0 (suc k) d (omega arith) (omega (arith, small)) h.token own same)
+none_after h grant (t ∷ front) later back own all = none_after h grant front later back own (λ i j d less small. all (suc i) (suc j) d (omega (arith, less)) (omega (arith, small)))
 
 some_node : (w : World) (p : List (List ℕ)) (o : Option Node) → node_at w p ≡ o → is_folder_node o ≡ true → (n : Node) × (node_at w p ≡ Some n)
 some_node w p None is h = cc
@@ -58,4 +64,5 @@ is_isolated_from_grants old ts replies small loaded front later back us grant h 
     let guarded : Guarded h (Some js) = subst (λ (l : List Lock). Guarded h (Some l)) (sym grants.listed) (shared_guards h ks guard others (subst CoveringAreShared grants.listed still)) in
     let (n, there) = some_node granted.world (folder_of h) (node_at granted.world (folder_of h)) refl folder in
     holders_are_alone old.settings h later us granted new (Some js) ms given guard guarded (folders_are_above granted.world (folder_of h) n after_grant.world there) after_grant.world
-    (all_front P later back (All-tail P grant (later ++ back) rest_small)) (all_front Q later back (All-tail Q grant (later ++ back) rest_loaded)) under u alone
+    (all_front P later back (All-tail P grant (later ++ back) rest_small)) (all_front Q later back (All-tail Q grant (later ++ back) rest_loaded))
+    (none_after h grant front later back grants.token_is (subst TokensDiffer is differ)) under u alone

@@ -1,25 +1,27 @@
 -- The plans of a holder's requests go along with themselves.
-use Rattle.std.proofs.Common.{◌≡◌, ◌≢◌, ℕ, Result, Ok, refl, sym, subst, ◌∙◌}
+use Rattle.std.proofs.Common.{◌≡◌, ◌≢◌, ℕ, codes, Result, Ok, refl, sym, subst, ◌∙◌}
+use Rattle.http_header.specs.HeaderMap.{get_all}
 use Rattle.dav_core.specs.declared.errors.DavError.{DavError}
 use Rattle.dav_core.specs.declared.method.DavMethod.{DavMethod}
-use Rattle.dav_core.specs.declared.method.DavMethod.TheVariants.{Get, Head, Put, Patch, Options, Unlock}
+use Rattle.dav_core.specs.declared.method.DavMethod.TheVariants.{Get, Head, Put, Patch, Options, Copy, Move, Unlock}
 use Rattle.dav_core.specs.Locks.{Lock}
 use Rattle.dav_core.specs.Path.{Path, PathText, names, star}
 use Rattle.dav_engine.specs.declared.request.Body.{Body}
 use Rattle.dav_engine.specs.Alongside.{side_err}
 use Rattle.dav_engine.specs.AlongsidePlans.{SubmitsAlone, GoesAlong}
 use Rattle.dav_engine.specs.Conditions.{Conditions, AreConditions}
+use Rattle.dav_engine.specs.CopyMove.{DestinationNames}
 use Rattle.dav_engine.specs.Guard.{IsGuard, IsInReach}
 use Rattle.dav_engine.specs.Headers.{Headers}
 use Rattle.dav_engine.specs.LockToken.{SaysLockToken}
 use Rattle.dav_engine.specs.Method.{MethodPlan}
 use Rattle.dav_engine.specs.Response.{Response}
-use Rattle.dav_engine.proofs.Theorems.{holders, in_reach, only_lists, put_goes_along, mkcol_goes_along, delete_goes_along, unlock_goes_along}
+use Rattle.dav_engine.proofs.Theorems.{holders, in_reach, only_lists, put_goes_along, mkcol_goes_along, copymove_goes_along, one_place, delete_goes_along, options_goes_along, lock_goes_along, unlock_goes_along, propfind_goes_along, proppatch_goes_along}
 use Rattle.dav_server.specs.Get.{get, is_get}
 use Rattle.dav_server.specs.Head.{Request, IsHead}
 use Rattle.dav_server.specs.Headers.{headers_of}
-use Rattle.dav_server.specs.Holder.{MayHold, IsHolderRequest, unlocks, acts}
-use Rattle.dav_server.specs.Machine.{Settings, Asked, client, PlanOf, gets, heads, puts, patches, makes, deletes, releases, not_yet, MeansOf, not_allowed, no_path, no_body, method, Means, no_head, no_method, known}
+use Rattle.dav_server.specs.Holder.{HasNearDestination, MayHold, IsHolderRequest, unlocks, acts}
+use Rattle.dav_server.specs.Machine.{Settings, Asked, client, PlanOf, gets, heads, puts, patches, makes, deletes, copies, moves, offers, sets_properties, locks, releases, not_yet, MeansOf, not_allowed, no_path, no_body, method, Means, no_head, no_method, known}
 use Rattle.dav_server.specs.Method.{GivesServed}
 use Rattle.dav_server.specs.Target.{TargetNames}
 use Rattle.dav_server.proofs.AlongsideGet.{side_get}
@@ -28,14 +30,15 @@ use Rattle.dav_server.proofs.MeansWorld.{one_method}
 use Rattle.dav_server.proofs.TargetLemmas.{one_outcome, target_is_path}
 
 -- what is known of a holder's request with this head and path
-record Holds (h : Lock) (r : Request) (p : PathText) : Type 0 where
+record Holds (h : Lock) (x : Asked) (r : Request) (m : DavMethod) (p : PathText) : Type 0 where
   within : IsInReach h (names p)
   alone : SubmitsAlone (headers_of r.fields) p h
+  may : MayHold h x (headers_of r.fields) p m
 
 one_path : (a b : PathText) → ◌≡◌ {A = Result PathText DavError} (Ok a) (Ok b) → a ≡ b
 one_path a b same = cc
 
-holds : (s : Settings) (h : Lock) (x : Asked) (r : Request) (m : DavMethod) (p : PathText) → IsHolderRequest s h x → IsHead x.head r → GivesServed r.method (Ok m) → TargetNames s.prefix m r.target (Ok p) → ¬ (Unlock ≡ m) → Holds h r p
+holds : (s : Settings) (h : Lock) (x : Asked) (r : Request) (m : DavMethod) (p : PathText) → IsHolderRequest s h x → IsHead x.head r → GivesServed r.method (Ok m) → TargetNames s.prefix m r.target (Ok p) → ¬ (Unlock ≡ m) → Holds h x r m p
 holds s h x r m p (unlocks r' p' principal for reach says) head gives named other =
     let heads : r' ≡ r = one_head x.head r' r for.head head in
     absurd (other (one_method r.method Unlock m (subst (λ (q : Request). GivesServed q.method (Ok Unlock)) heads for.method) gives))
@@ -44,15 +47,16 @@ holds s h x r m p (acts r' m' p' principal for reach may alone range) head gives
     let methods : m' ≡ m = one_method r.method m' m (subst (λ (q : Request). GivesServed q.method (Ok m')) heads for.method) gives in
     let target : TargetNames s.prefix m r.target (Ok p') = subst (λ (n : DavMethod). TargetNames s.prefix n r.target (Ok p')) methods (subst (λ (q : Request). TargetNames s.prefix m' q.target (Ok p')) heads for.target) in
     let paths : p' ≡ p = one_path p' p (one_outcome s.prefix m r.target (Ok p') (Ok p) target named) in
-    subst (Holds h r) paths (subst (λ (q : Request). Holds h q p') heads (record { within = reach; alone = alone }))
+    let held : MayHold h x (headers_of r'.fields) p' m = subst (λ (n : DavMethod). MayHold h x (headers_of r'.fields) p' n) methods may in
+    subst (Holds h x r m) paths (subst (λ (q : Request). Holds h x q m p') heads (record { within = reach; alone = alone; may = held }))
 
 -- what is known of a holder's UNLOCK with this head and path
 record HoldsUnlock (h : Lock) (r : Request) (p : PathText) : Type 0 where
   within : IsInReach h (names p)
   says : SaysLockToken (headers_of r.fields) h.token
 
-may_unlock : (s : Settings) (h : Lock) (x : Asked) (headers : Headers) (m : DavMethod) → m ≡ Unlock → ¬ MayHold s h x headers m
-may_unlock s h x headers m is may = subst (λ (n : DavMethod). MayHold s h x headers n) is may
+may_unlock : (h : Lock) (x : Asked) (headers : Headers) (p : PathText) (m : DavMethod) → m ≡ Unlock → ¬ MayHold h x headers p m
+may_unlock h x headers p m is may = subst (λ (n : DavMethod). MayHold h x headers p n) is may
 
 holds_unlock : (s : Settings) (h : Lock) (x : Asked) (r : Request) (m : DavMethod) (p : PathText) → IsHolderRequest s h x → IsHead x.head r → GivesServed r.method (Ok m) → TargetNames s.prefix m r.target (Ok p) → Unlock ≡ m → HoldsUnlock h r p
 holds_unlock s h x r m p (unlocks r' p' principal for reach says) head gives named is =
@@ -63,23 +67,38 @@ holds_unlock s h x r m p (unlocks r' p' principal for reach says) head gives nam
 holds_unlock s h x r m p (acts r' m' p' principal for reach may alone range) head gives named is =
     let heads : r' ≡ r = one_head x.head r' r for.head head in
     let methods : m' ≡ m = one_method r.method m' m (subst (λ (q : Request). GivesServed q.method (Ok m')) heads for.method) gives in
-    absurd (may_unlock s h x (headers_of r'.fields) m' (methods ∙ sym is) may)
+    absurd (may_unlock h x (headers_of r'.fields) p' m' (methods ∙ sym is) may)
+
+-- a destination is near, however it is read: it has one reading
+near_for : (h : Lock) (headers : Headers) (p : PathText) → HasNearDestination h headers p
+    → (d : PathText) → DestinationNames p.prefix (get_all headers (codes "destination")) (Ok d) → IsInReach h (names d)
+near_for h headers p (d, named, reach) e also =
+    subst (λ (q : PathText). IsInReach h (names q)) (one_path d e (one_place p.prefix (get_all headers (codes "destination")) named also)) reach
 
 module _ (h : Lock) (guard : IsGuard h) where
-  get_goes_along : (m : DavMethod) {r : Request} {p : PathText} (now : ℕ) (c : Conditions) → Holds h r p → AreConditions (headers_of r.fields) p.prefix (names p) c → GoesAlong h (get m c (names p) now)
-  get_goes_along m {r} {p} now c k are =
-      let (rest, at) = in_reach h (names p) k.within in
-      subst (λ (d : Conditions). GoesAlong h (get m d (names p) now)) (sym (only_lists k.alone c are))
-      (subst (λ (q : Path). GoesAlong h (get m (holders k.alone.lists) q now)) (sym at) (side_get h guard rest m now k.alone.only))
+  get_goes_along : (m : DavMethod) (r : Request) {p : PathText} (now : ℕ) (c : Conditions) → IsInReach h (names p) → SubmitsAlone (headers_of r.fields) p h → AreConditions (headers_of r.fields) p.prefix (names p) c → GoesAlong h (get m c (names p) now)
+  get_goes_along m r {p} now c within alone are =
+      let (rest, at) = in_reach h (names p) within in
+      subst (λ (d : Conditions). GoesAlong h (get m d (names p) now)) (sym (only_lists alone c are))
+      (subst (λ (q : Path). GoesAlong h (get m (holders alone.lists) q now)) (sym at) (side_get h guard rest m now alone.only))
 
   plan_goes_along : (x : Asked) (r : Request) {allowed : ℕ} {m : DavMethod} {p : PathText} {body : Body} {plan : MethodPlan Response}
-      → (¬ (Unlock ≡ m) → Holds h r p) → (Unlock ≡ m → HoldsUnlock h r p) → (m ≢ Options → p.bytes ≢ star) → PlanOf allowed (headers_of r.fields) p body (client x) m plan → GoesAlong h plan
-  plan_goes_along x r k u below (gets (is_get c are)) = get_goes_along Get (client x).moment c (k (λ e. cc)) are
-  plan_goes_along x r k u below (heads (is_get c are)) = get_goes_along Head (client x).moment c (k (λ e. cc)) are
+      → (¬ (Unlock ≡ m) → Holds h x r m p) → (Unlock ≡ m → HoldsUnlock h r p) → (m ≢ Options → p.bytes ≢ star) → PlanOf allowed (headers_of r.fields) p body (client x) m plan → GoesAlong h plan
+  plan_goes_along x r k u below (gets (is_get c are)) = let known = k (λ e. cc) in get_goes_along Get r (client x).moment c known.within known.alone are
+  plan_goes_along x r k u below (heads (is_get c are)) = let known = k (λ e. cc) in get_goes_along Head r (client x).moment c known.within known.alone are
   plan_goes_along x r {p = p} {body} {plan} k u below (puts is) = let known = k (λ e. cc) in put_goes_along h Put (headers_of r.fields) p body (client x) plan guard known.within known.alone is
   plan_goes_along x r {p = p} {body} {plan} k u below (patches is) = let known = k (λ e. cc) in put_goes_along h Patch (headers_of r.fields) p body (client x) plan guard known.within known.alone is
   plan_goes_along x r {p = p} {plan = plan} k u below (makes is) = let known = k (λ e. cc) in mkcol_goes_along h (headers_of r.fields) p (client x) plan guard known.within known.alone is
   plan_goes_along x r {p = p} {plan = plan} k u below (deletes is) = let known = k (λ e. cc) in delete_goes_along h (headers_of r.fields) p (client x) plan guard (below (λ e. cc)) known.within known.alone is
+  plan_goes_along x r {p = p} {plan = plan} k u below (copies is) =
+      let known = k (λ e. cc) in
+      copymove_goes_along h Copy (headers_of r.fields) p (client x) plan guard (below (λ e. cc)) known.within (near_for h (headers_of r.fields) p known.may) known.alone is
+  plan_goes_along x r {p = p} {plan = plan} k u below (moves is) =
+      let known = k (λ e. cc) in
+      copymove_goes_along h Move (headers_of r.fields) p (client x) plan guard (below (λ e. cc)) known.within (near_for h (headers_of r.fields) p known.may) known.alone is
+  plan_goes_along x r {allowed} {p = p} k u below offers = let known = k (λ e. cc) in options_goes_along h allowed p known.within
+  plan_goes_along x r {p = p} {body} {plan} k u below (sets_properties is) = let known = k (λ e. cc) in proppatch_goes_along h (headers_of r.fields) p body (client x) plan guard known.within known.alone is
+  plan_goes_along x r {p = p} {body} {plan} k u below (locks is) = let known = k (λ e. cc) in lock_goes_along h (headers_of r.fields) p body (client x) plan guard known.within known.alone is
   plan_goes_along x r {p = p} {plan = plan} k u below (releases is) = let known = u refl in unlock_goes_along h (headers_of r.fields) p (client x) plan guard known.within known.says is
   plan_goes_along x r k u below (not_yet out) = side_err
 

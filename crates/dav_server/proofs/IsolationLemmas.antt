@@ -1,5 +1,5 @@
 -- Isolation, by recursion on the run.
-use Rattle.std.proofs.Common.{◌≡◌, ◌++◌, ℕ, ◌≤◌, true, false, List, [], ◌∷◌, Option, Some, None, Result, Ok, Err, ◌⊎◌, inl, inr, refl, sym, ap, subst, ◌∙◌, arith}
+use Rattle.std.proofs.Common.{◌≡◌, ◌≢◌, ◌++◌, ℕ, ◌≤◌, true, false, List, [], ◌∷◌, Option, Some, None, Result, Ok, Err, ◌⊎◌, inl, inr, refl, sym, ap, subst, ◌∙◌, arith}
 use Rattle.std.proofs.lemmas.List.Elements.{All-nil, All-push, All-head, All-tail}
 use Rattle.std.specs.Option.{is_some}
 use Rattle.dav_core.specs.declared.errors.FsError.{FsError}
@@ -22,7 +22,7 @@ use Rattle.dav_engine.specs.Inside.{HasFoldersAbove}
 use Rattle.dav_engine.specs.Sparing.{LeftAlone}
 use Rattle.dav_server.proofs.HolderLemmas.{means_along}
 use Rattle.dav_server.proofs.StrangerLemmas.{means_spares}
-use Rattle.dav_server.specs.Isolation.{AreLoaded, RunsUnder, under_none, under_more, Alone, alone_none, alone_other, alone_own, alike_none, alike_other, alike_own, AreAlone, HoldersAreAlone, IsIsolated}
+use Rattle.dav_server.specs.Isolation.{AreLoaded, NoneHandsIn, RunsUnder, under_none, under_more, Alone, alone_none, alone_other, alone_own, alike_none, alike_other, alike_own, AreAlone, HoldersAreAlone, IsIsolated}
 
 begun_same : (refusals : Option (List (Option FsError))) (s t : StoreState) → is_some refusals ≡ true → (begun refusals s).refusals ≡ (begun refusals t).refusals
 begun_same None s t some = cc
@@ -48,25 +48,25 @@ either h ms ks (inr gone) stands = absurd (gone.0 stands)
 
 module _ (s : Settings) (h : Lock) (guard : IsGuard h) where
   isolated : {ts us : List Turn} {old new old' : StoreState} {ls ms ls' : Locks} {replies : List Response}
-      → RunsUnder AsksWithNumbers s h ts old ls replies new ms → AreShowable ts → AreLoaded ts → new.short ≡ false → Alone h ts us
+      → RunsUnder AsksWithNumbers s h ts old ls replies new ms → AreShowable ts → AreLoaded ts → NoneHandsIn h ts → new.short ≡ false → Alone h ts us
       → AreAlike (folder_of h) None old.world old'.world → old'.short ≡ false → (Stands h ls → Guarded h ls × Guarded h ls')
       → AreAlone s h ts us old' ls' replies new
-  isolated {old' = old'} {ls' = ls'} under_none small loaded u alone_none alike u' g =
+  isolated {old' = old'} {ls' = ls'} under_none small loaded none u alone_none alike u' g =
       record { alone = []; end = old'; locks = ls'; runs = no_more; ample = u'; answers = alike_none; inside = alike.same }
-  isolated {old' = old'} {ls' = ls'} (under_more {t} {ts} {old} {mid} {new} {ls} {ks} stands holds (steps plan outcome means ran) more) small loaded u (alone_other stranger rest) alike u' g =
+  isolated {old' = old'} {ls' = ls'} (under_more {t} {ts} {old} {mid} {new} {ls} {ks} stands holds (steps plan outcome means ran) more) small loaded none u (alone_other stranger rest) alike u' g =
       let moment : t.asked.moment ≤ last_moment = All-head (λ t. t.asked.moment ≤ last_moment) t ts small in
       let both = g stands in
       let same : (begun t.refusals old).world ≡ old.world = begun_world t.refusals old in
       let left : LeftAlone h old.world mid.world ks = subst (λ (w : World). LeftAlone h w mid.world ks) same
-      (sparing_leaves_inside h plan (begun t.refusals old) mid ls ks outcome guard (means_spares h guard.exclusive t.asked stranger means).1 (means_proper moment means) (ran_plain ran) both.0
+      (sparing_leaves_inside h plan (begun t.refusals old) mid ls ks outcome guard ((means_spares h guard.exclusive t.asked stranger (All-head (λ t. t.asked.token ≢ Some h.token) t ts none) means).1 guard) (means_proper moment means) (ran_plain ran) both.0
       (subst (HasFoldersAbove (folder_of h)) (sym same) alike.above) (subst IsWorld (sym same) alike.world)) in
       let low = alike.next in
       let high = left.next in
-      let go = isolated {old' = old'} {ls' = ls'} more (All-tail (λ t. t.asked.moment ≤ last_moment) t ts small) (All-tail (λ t. is_some t.refusals ≡ true) t ts loaded) u rest
+      let go = isolated {old' = old'} {ls' = ls'} more (All-tail (λ t. t.asked.moment ≤ last_moment) t ts small) (All-tail (λ t. is_some t.refusals ≡ true) t ts loaded) (All-tail (λ t. t.asked.token ≢ Some h.token) t ts none) u rest
       (record { same = λ r. sym (left.same r) ∙ alike.same r; next = omega (arith, low, high); above = left.above; above_alone = alike.above_alone; world = left.world; world_alone = alike.world_alone; there = tt })
       u' (λ still. (left.guarded still, both.1)) in
       record { alone = go.alone; end = go.end; locks = go.locks; runs = go.runs; ample = go.ample; answers = alike_other stranger go.answers; inside = go.inside }
-  isolated {old' = old'} {ls' = ls'} (under_more {t} {ts} {old} {mid} {new} {ls} {ks} stands holds (steps plan outcome means ran) more) small loaded u (alone_own named rest) alike u' g =
+  isolated {old' = old'} {ls' = ls'} (under_more {t} {ts} {old} {mid} {new} {ls} {ks} stands holds (steps plan outcome means ran) more) small loaded none u (alone_own named rest) alike u' g =
       let moment : t.asked.moment ≤ last_moment = All-head (λ t. t.asked.moment ≤ last_moment) t ts small in
       let both = g stands in
       let c = comes plan (begun t.refusals old') ls' in
@@ -74,7 +74,7 @@ module _ (s : Settings) (h : Lock) (guard : IsGuard h) where
       let ends = alongside_agree h plan (begun t.refusals old) mid (begun t.refusals old') c.new ls ks ls' c.locks outcome c.outcome guard
       (means_along h guard s t.asked (holds named) means) (means_proper moment means) ran c.ran (under_unset more u) short
       (begun_same t.refusals old old' (All-head (λ t. is_some t.refusals ≡ true) t ts loaded)) both.0 both.1 (at_begin t.refusals t.refusals old old' alike) in
-      let go = isolated {old' = c.new} {ls' = c.locks} more (All-tail (λ t. t.asked.moment ≤ last_moment) t ts small) (All-tail (λ t. is_some t.refusals ≡ true) t ts loaded) u rest
+      let go = isolated {old' = c.new} {ls' = c.locks} more (All-tail (λ t. t.asked.moment ≤ last_moment) t ts small) (All-tail (λ t. is_some t.refusals ≡ true) t ts loaded) (All-tail (λ t. t.asked.token ≢ Some h.token) t ts none) u rest
       ends.alike short (either h ks c.locks ends.locks) in
       record {
         alone = reply_to c.outcome ∷ go.alone;
@@ -87,20 +87,20 @@ module _ (s : Settings) (h : Lock) (guard : IsGuard h) where
       }
 
 pub holders_are_alone : HoldersAreAlone
-holders_are_alone s h ts us old new ls ms replies guard guarded above world small loaded under u alone =
-    isolated s h guard under small loaded u alone
+holders_are_alone s h ts us old new ls ms replies guard guarded above world small loaded none under u alone =
+    isolated s h guard under small loaded none u alone
     (record { same = λ r. refl; next = omega arith; above = above; above_alone = above; world = world; world_alone = world; there = tt }) (under_unset under u) (λ _. (guarded, guarded))
 
 -- of a run, from any moment on
 pub is_isolated : (old : Server) (ts : List Turn) (replies : List Response) → AreShowable ts → AreLoaded ts → IsIsolated old ts replies
-is_isolated old ts replies small loaded front later back us h mid new ks ms before given after is replied world ran guard guarded above under u alone =
+is_isolated old ts replies small loaded front later back us h mid new ks ms before given after is replied world ran guard guarded above none under u alone =
     let P = λ (t : Turn). t.asked.moment ≤ last_moment in
     let Q = λ (t : Turn). is_some t.refusals ≡ true in
     let all_small : AreShowable (front ++ (later ++ back)) = subst AreShowable is small in
     let all_loaded : AreLoaded (front ++ (later ++ back)) = subst AreLoaded is loaded in
     let kept = run_keeps world (all_front P front (later ++ back) all_small) ran in
     holders_are_alone old.settings h later us mid new ks ms given guard guarded above kept.world
-    (all_front P later back (all_back P front (later ++ back) all_small)) (all_front Q later back (all_back Q front (later ++ back) all_loaded)) under u alone
+    (all_front P later back (all_back P front (later ++ back) all_small)) (all_front Q later back (all_back Q front (later ++ back) all_loaded)) none under u alone
 
 -- ---- turns that have refusals of their own
 

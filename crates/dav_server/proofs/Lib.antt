@@ -15,6 +15,7 @@ pub mod GetWorld
 pub mod MeansWorld
 pub mod TagLemmas
 pub mod PlanStatuses
+pub mod PropertyStatuses
 pub mod NotModified
 pub mod WriteLemmas
 pub mod RefusedLemmas
@@ -26,8 +27,11 @@ pub mod AlongsideGet
 pub mod HolderLemmas
 pub mod IsolationLemmas
 pub mod GrantedRuns
+pub mod FromNoneLemmas
 pub mod AloneLemmas
 pub mod SpareLemmas
 pub mod WorkedRun
+pub mod WorkedGrant
 pub mod NeededPremises
 pub mod NeededFolders
+pub mod NeededTokens

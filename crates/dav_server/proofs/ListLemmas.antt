@@ -2,7 +2,7 @@
 use Rattle.std.proofs.Common.{◌≡◌, ◌++◌, ℕ, List, [], ◌∷◌, All, Contains, Option, Some, None, refl, sym, subst}
 use Rattle.std.proofs.lemmas.List.Elements.{All-nil, All-head, All-tail, All-contains_itself}
 use Rattle.dav_core.specs.declared.method.DavMethod.{DavMethod}
-use Rattle.dav_core.specs.declared.method.DavMethod.TheVariants.{Get, Head, Put, Patch}
+use Rattle.dav_core.specs.declared.method.DavMethod.TheVariants.{Get, Head, Put, Patch, Copy, Move}
 use Rattle.dav_core.specs.Asking.{StoreState}
 use Rattle.dav_core.specs.Locks.{Lock}
 use Rattle.dav_core.specs.LockLaws.{CoveringAreShared}
@@ -13,13 +13,14 @@ use Rattle.dav_engine.specs.Guard.{OnList}
 use Rattle.dav_engine.specs.Headers.{Headers}
 use Rattle.dav_engine.specs.ListChanges.{AreChanges, no_change, ChangesList, changes_done}
 use Rattle.dav_engine.specs.Method.{MethodPlan}
+use Rattle.dav_engine.specs.Options.{options}
 use Rattle.dav_engine.specs.Plan.{Locks}
 use Rattle.dav_engine.specs.Response.{Response}
-use Rattle.dav_engine.proofs.Theorems.{lists_are_changed, lists_are_changed_cut, changes_keep_shared, tokens_after_all, reading_changes_list, put_changes_list, mkcol_changes_list, delete_changes_list, unlock_changes_list}
+use Rattle.dav_engine.proofs.Theorems.{lists_are_changed, lists_are_changed_cut, changes_keep_shared, tokens_after_all, options_only_reads, reading_changes_list, put_changes_list, mkcol_changes_list, copymove_changes_list, delete_changes_list, lock_changes_list, unlock_changes_list, propfind_only_reads, proppatch_changes_list}
 use Rattle.dav_server.specs.Get.{get, is_get}
 use Rattle.dav_server.specs.Head.{Request}
 use Rattle.dav_server.specs.LockLists.{StepsChangeLists, StepsChangeListsCut, SharesLocks, IsHandedIn, TokensAreHandedIn}
-use Rattle.dav_server.specs.Machine.{Settings, Asked, client, PlanOf, gets, heads, puts, patches, makes, deletes, releases, not_yet, MeansOf, not_allowed, no_path, no_body, method, Means, no_head, no_method, known, Steps, StepCut, untouched, cut, steps}
+use Rattle.dav_server.specs.Machine.{Settings, Asked, client, PlanOf, gets, heads, puts, patches, makes, deletes, copies, moves, offers, sets_properties, locks, releases, not_yet, MeansOf, not_allowed, no_path, no_body, method, Means, no_head, no_method, known, Steps, StepCut, untouched, cut, steps}
 use Rattle.dav_server.specs.Run.{Turn, begun, Runs, no_more, one_more}
 use Rattle.dav_server.specs.Server.{Server}
 use Rattle.dav_server.proofs.GetWorld.{get_is_reading}
@@ -31,6 +32,11 @@ plan_changes {headers = headers} {p} {body} {who} {plan = plan} (puts is) ls = p
 plan_changes {headers = headers} {p} {body} {who} {plan = plan} (patches is) ls = put_changes_list Patch headers p body who ls plan is
 plan_changes {headers = headers} {p} {who = who} {plan = plan} (makes is) ls = mkcol_changes_list headers p who ls plan is
 plan_changes {headers = headers} {p} {who = who} {plan = plan} (deletes is) ls = delete_changes_list headers p who ls plan is
+plan_changes {headers = headers} {p} {who = who} {plan = plan} (copies is) ls = copymove_changes_list Copy headers p who ls plan is
+plan_changes {headers = headers} {p} {who = who} {plan = plan} (moves is) ls = copymove_changes_list Move headers p who ls plan is
+plan_changes {allowed} {p = p} {who = who} offers ls = reading_changes_list who ls (options allowed p) (options_only_reads allowed p)
+plan_changes {headers = headers} {p} {body} {who} {plan = plan} (sets_properties is) ls = proppatch_changes_list headers p body who ls plan is
+plan_changes {headers = headers} {p} {body} {who} {plan = plan} (locks is) ls = lock_changes_list headers p body who ls plan is
 plan_changes {headers = headers} {p} {who = who} {plan = plan} (releases is) ls = unlock_changes_list headers p who ls plan is
 plan_changes (not_yet out) ls = changes_done
 

@@ -2,7 +2,7 @@
 use Rattle.std.proofs.Common.{◌≡◌, ℕ, Bool, true, false, true≢false, List, ◌∷◌, Result, Ok, Err, refl, sym, ap, subst, ◌∙◌}
 use Rattle.dav_core.specs.declared.errors.DavError.{DavError}
 use Rattle.dav_core.specs.declared.method.DavMethod.{DavMethod}
-use Rattle.dav_core.specs.declared.method.DavMethod.TheVariants.{Put, Patch}
+use Rattle.dav_core.specs.declared.method.DavMethod.TheVariants.{Put, Patch, Copy, Move}
 use Rattle.dav_core.specs.Asking.{StoreState, Asks}
 use Rattle.dav_core.specs.Path.{PathText, names}
 use Rattle.dav_engine.specs.declared.request.Body.{Body}
@@ -12,11 +12,11 @@ use Rattle.dav_engine.specs.Headers.{Headers}
 use Rattle.dav_engine.specs.Method.{MethodPlan, fails}
 use Rattle.dav_engine.specs.Plan.{Locks, Ran}
 use Rattle.dav_engine.specs.Response.{Response, reply_to}
-use Rattle.dav_engine.proofs.Theorems.{ran_same, ran_unset, one_conditions, one_put_plan, one_mkcol_plan, one_delete_plan, one_unlock_plan}
+use Rattle.dav_engine.proofs.Theorems.{ran_same, ran_unset, one_conditions, one_put_plan, one_mkcol_plan, one_copymove_plan, one_delete_plan, one_lock_plan, one_unlock_plan, one_propfind_plan, one_proppatch_plan}
 use Rattle.dav_server.specs.Get.{get, IsGet, is_get}
 use Rattle.dav_server.specs.Head.{Request}
 use Rattle.dav_server.specs.Headers.{headers_of}
-use Rattle.dav_server.specs.Machine.{Settings, Asked, client, PlanOf, gets, heads, puts, patches, makes, deletes, releases, not_yet, MeansOf, not_allowed, no_path, no_body, method, Means, no_head, no_method, known, Steps, steps}
+use Rattle.dav_server.specs.Machine.{Settings, Asked, client, PlanOf, gets, heads, puts, patches, makes, deletes, copies, moves, offers, sets_properties, locks, releases, not_yet, MeansOf, not_allowed, no_path, no_body, method, Means, no_head, no_method, known, Steps, steps}
 use Rattle.dav_server.specs.Method.{GivesServed}
 use Rattle.dav_server.specs.Run.{Turn, Runs, no_more, one_more, RunsAreDetermined}
 use Rattle.dav_server.proofs.HeadLemmas.{one_head}
@@ -46,6 +46,16 @@ one_plan {headers} {p} {who = who} {plan = plan} {other = other} (makes one) (ma
 one_plan (makes one) (not_yet out) = never out
 one_plan {headers} {p} {who = who} {plan = plan} {other = other} (deletes one) (deletes two) = one_delete_plan headers p who plan other one two
 one_plan (deletes one) (not_yet out) = never out
+one_plan {headers} {p} {who = who} {plan = plan} {other = other} (copies one) (copies two) = one_copymove_plan Copy headers p who plan other one two
+one_plan (copies one) (not_yet out) = never out
+one_plan {headers} {p} {who = who} {plan = plan} {other = other} (moves one) (moves two) = one_copymove_plan Move headers p who plan other one two
+one_plan (moves one) (not_yet out) = never out
+one_plan offers offers = refl
+one_plan offers (not_yet out) = never out
+one_plan {headers} {p} {body} {who} {plan = plan} {other = other} (sets_properties one) (sets_properties two) = one_proppatch_plan headers p body who plan other one two
+one_plan (sets_properties one) (not_yet out) = never out
+one_plan {headers} {p} {body} {who} {plan = plan} {other = other} (locks one) (locks two) = one_lock_plan headers p body who plan other one two
+one_plan (locks one) (not_yet out) = never out
 one_plan {headers} {p} {who = who} {plan = plan} {other = other} (releases one) (releases two) = one_unlock_plan headers p who plan other one two
 one_plan (releases one) (not_yet out) = never out
 one_plan (not_yet out) (gets two) = never out
@@ -54,6 +64,11 @@ one_plan (not_yet out) (puts two) = never out
 one_plan (not_yet out) (patches two) = never out
 one_plan (not_yet out) (makes two) = never out
 one_plan (not_yet out) (deletes two) = never out
+one_plan (not_yet out) (copies two) = never out
+one_plan (not_yet out) (moves two) = never out
+one_plan (not_yet out) offers = never out
+one_plan (not_yet out) (sets_properties two) = never out
+one_plan (not_yet out) (locks two) = never out
 one_plan (not_yet out) (releases two) = never out
 one_plan (not_yet out) (not_yet also) = refl
 

@@ -4,7 +4,7 @@ use Rattle.std.proofs.lemmas.List.Elements.{All-nil, All-cons, All-head, All-tai
 use Rattle.std.specs.Char.{to_ascii_lowercase}
 use Rattle.dav_core.specs.declared.errors.FsError.{FsError}
 use Rattle.dav_core.specs.declared.method.DavMethod.{DavMethod}
-use Rattle.dav_core.specs.declared.method.DavMethod.TheVariants.{Get, Head, Put, Patch}
+use Rattle.dav_core.specs.declared.method.DavMethod.TheVariants.{Get, Head, Put, Patch, Options, Copy, Move}
 use Rattle.dav_core.specs.Asking.{StoreState}
 use Rattle.dav_core.specs.CallLaws.{IsStorable}
 use Rattle.dav_core.specs.Path.{Path, PathText, IsName, names, names_of, path_bytes, IsCut, at_start, at_slash, at_end, without_slash, star}
@@ -19,16 +19,17 @@ use Rattle.dav_engine.specs.Method.{MethodPlan}
 use Rattle.dav_engine.specs.Plan.{Locks}
 use Rattle.dav_engine.specs.Response.{Response}
 use Rattle.dav_engine.specs.WorldLaws.{IsReading, reads_done, IsProperPlan, proper_done}
-use Rattle.dav_engine.proofs.Theorems.{Kept, kept_same, kept_on, put_is_proper, mkcol_is_proper, delete_is_proper, unlock_is_proper, reading_leaves, proper_keeps}
+use Rattle.dav_engine.proofs.Theorems.{Kept, kept_same, kept_on, put_is_proper, mkcol_is_proper, copymove_is_proper, delete_is_proper, lock_is_proper, options_is_proper, options_only_reads, unlock_is_proper, reading_leaves, proper_keeps, propfind_is_proper, proppatch_is_proper}
 use Rattle.dav_server.specs.Get.{IsGet, is_get}
 use Rattle.dav_server.specs.Head.{Request, IsHead}
-use Rattle.dav_server.specs.Machine.{Settings, Asked, PlanOf, gets, heads, puts, patches, makes, deletes, releases, not_yet, MeansOf, not_allowed, no_path, no_body, method, Means, no_head, no_method, known, Steps, steps}
+use Rattle.dav_server.specs.Machine.{Settings, Asked, PlanOf, gets, heads, puts, patches, makes, deletes, copies, moves, offers, sets_properties, locks, releases, not_yet, MeansOf, not_allowed, no_path, no_body, method, Means, no_head, no_method, known, Steps, steps}
 use Rattle.dav_server.specs.Method.{GivesServed}
 use Rattle.dav_server.specs.Run.{Turn, begun, Runs, no_more, one_more}
 use Rattle.dav_server.specs.TagLaws.{HasMethod, AreShowable, ReadingLeaves, RunsKeepWorlds}
 use Rattle.dav_server.specs.Target.{TargetNames, server, path}
 use Rattle.dav_server.proofs.GetWorld.{get_is_reading, get_is_proper}
 use Rattle.dav_server.proofs.HeadLemmas.{one_head}
+use Rattle.dav_server.proofs.TargetLemmas.{target_is_path}
 
 -- ---- the paths that targets name
 
@@ -82,21 +83,26 @@ target_storable {prefix} (path {text} {bytes} {p} has reads cut) = read_cut text
 proper_get : {m : DavMethod} {headers : Headers} {p : PathText} {now : ℕ} {plan : MethodPlan Response} → IsStorable (names p) → now ≤ last_moment → IsGet m headers p now plan → IsProperPlan plan
 proper_get {m} {p = p} {now} storable small (is_get c are) = get_is_proper m c (names p) now storable small
 
-plan_proper : {allowed : ℕ} {headers : Headers} {p : PathText} {body : Body} {who : Client} {m : DavMethod} {plan : MethodPlan Response} → IsStorable (names p) → who.moment ≤ last_moment → PlanOf allowed headers p body who m plan → IsProperPlan plan
-plan_proper storable small (gets is) = proper_get storable small is
-plan_proper storable small (heads is) = proper_get storable small is
-plan_proper {headers} {p} {body} {who} {plan = plan} storable small (puts is) = put_is_proper Put headers p body who plan storable small is
-plan_proper {headers} {p} {body} {who} {plan = plan} storable small (patches is) = put_is_proper Patch headers p body who plan storable small is
-plan_proper {headers} {p} {who = who} {plan = plan} storable small (makes is) = mkcol_is_proper headers p who plan storable small is
-plan_proper {headers} {p} {who = who} {plan = plan} storable small (deletes is) = delete_is_proper headers p who plan small is
-plan_proper {headers} {p} {who = who} {plan = plan} storable small (releases is) = unlock_is_proper headers p who plan is
-plan_proper storable small (not_yet out) = proper_done
+plan_proper : {allowed : ℕ} {headers : Headers} {p : PathText} {body : Body} {who : Client} {m : DavMethod} {plan : MethodPlan Response} → IsStorable (names p) → (m ≢ Options → p.bytes ≢ star) → who.moment ≤ last_moment → PlanOf allowed headers p body who m plan → IsProperPlan plan
+plan_proper storable below small (gets is) = proper_get storable small is
+plan_proper storable below small (heads is) = proper_get storable small is
+plan_proper {headers} {p} {body} {who} {plan = plan} storable below small (puts is) = put_is_proper Put headers p body who plan storable small is
+plan_proper {headers} {p} {body} {who} {plan = plan} storable below small (patches is) = put_is_proper Patch headers p body who plan storable small is
+plan_proper {headers} {p} {who = who} {plan = plan} storable below small (makes is) = mkcol_is_proper headers p who plan storable small is
+plan_proper {headers} {p} {who = who} {plan = plan} storable below small (deletes is) = delete_is_proper headers p who plan small is
+plan_proper {headers} {p} {who = who} {plan = plan} storable below small (copies is) = copymove_is_proper Copy headers p who plan small is
+plan_proper {headers} {p} {who = who} {plan = plan} storable below small (moves is) = copymove_is_proper Move headers p who plan small is
+plan_proper {allowed} {p = p} storable below small offers = options_is_proper allowed p
+plan_proper {headers} {p} {body} {who} {plan = plan} storable below small (sets_properties is) = proppatch_is_proper headers p body who plan is
+plan_proper {headers} {p} {body} {who} {plan = plan} storable below small (locks is) = lock_is_proper headers p body who plan storable (below (λ e. cc)) small is
+plan_proper {headers} {p} {who = who} {plan = plan} storable below small (releases is) = unlock_is_proper headers p who plan is
+plan_proper storable below small (not_yet out) = proper_done
 
 of_proper : {s : Settings} {x : Asked} {r : Request} {m : DavMethod} {plan : MethodPlan Response} → x.moment ≤ last_moment → MeansOf s x r m plan → IsProperPlan plan
 of_proper small (not_allowed out) = proper_done
 of_proper small (no_path e has none) = proper_done
 of_proper small (no_body p e has named bad) = proper_done
-of_proper small (method p body has named good is) = plan_proper (target_storable named) small is
+of_proper small (method p body has named good is) = plan_proper (target_storable named) (target_is_path named) small is
 
 pub means_proper : {s : Settings} {x : Asked} {plan : MethodPlan Response} → x.moment ≤ last_moment → Means s x plan → IsProperPlan plan
 means_proper small (no_head out) = proper_done
@@ -150,6 +156,11 @@ plan_reads is (puts out) = absurd (true≢false (sym is))
 plan_reads is (patches out) = absurd (true≢false (sym is))
 plan_reads is (makes out) = absurd (true≢false (sym is))
 plan_reads is (deletes out) = absurd (true≢false (sym is))
+plan_reads is (copies out) = absurd (true≢false (sym is))
+plan_reads is (moves out) = absurd (true≢false (sym is))
+plan_reads {allowed} {p = p} is offers = options_only_reads allowed p
+plan_reads is (sets_properties out) = absurd (true≢false (sym is))
+plan_reads is (locks out) = absurd (true≢false (sym is))
 plan_reads is (releases out) = absurd (true≢false (sym is))
 plan_reads is (not_yet out) = reads_done
 

@@ -6,25 +6,32 @@ use Rattle.dav_core.specs.Method.{place_of}
 use Rattle.dav_server.specs.Method.{IsServed}
 use Rattle.dav_core.specs.declared.method.DavMethod.{DavMethod}
 use Rattle.dav_core.specs.declared.method.DavMethod.TheVariants.{Head, Get, Put, Patch, Options, PropFind, PropPatch, MkCol, Copy, Move, Delete, Lock, Unlock, Report, MkCalendar, MkAddressbook}
-use Rattle.dav_server.specs.Machine.{is_done}
+use Rattle.dav_core.specs.Path.{PathText}
+use Rattle.dav_engine.specs.declared.request.Body.{Body}
+use Rattle.dav_engine.specs.Client.{Client}
+use Rattle.dav_engine.specs.Headers.{Headers}
+use Rattle.dav_engine.specs.Method.{MethodPlan}
+use Rattle.dav_engine.specs.Options.{options}
+use Rattle.dav_engine.specs.Response.{Response}
+use Rattle.dav_server.specs.Machine.{is_done, PlanOf, offers}
 
-pub is_not_done : (m : DavMethod) → m ≢ Get → m ≢ Head → m ≢ Put → m ≢ Patch → m ≢ MkCol → m ≢ Delete → m ≢ Unlock → is_done m ≡ false
-is_not_done Head g h p q k d u = absurd (h refl)
-is_not_done Get g h p q k d u = absurd (g refl)
-is_not_done Put g h p q k d u = absurd (p refl)
-is_not_done Patch g h p q k d u = absurd (q refl)
-is_not_done Options g h p q k d u = refl
-is_not_done PropFind g h p q k d u = refl
-is_not_done PropPatch g h p q k d u = refl
-is_not_done MkCol g h p q k d u = absurd (k refl)
-is_not_done Copy g h p q k d u = refl
-is_not_done Move g h p q k d u = refl
-is_not_done Delete g h p q k d u = absurd (d refl)
-is_not_done Lock g h p q k d u = refl
-is_not_done Unlock g h p q k d u = absurd (u refl)
-is_not_done Report g h p q k d u = refl
-is_not_done MkCalendar g h p q k d u = refl
-is_not_done MkAddressbook g h p q k d u = refl
+pub is_not_done : (m : DavMethod) → m ≢ Get → m ≢ Head → m ≢ Put → m ≢ Patch → m ≢ Options → m ≢ PropPatch → m ≢ MkCol → m ≢ Copy → m ≢ Move → m ≢ Delete → m ≢ Lock → m ≢ Unlock → is_done m ≡ false
+is_not_done Head g h p q o t k c v d l u = absurd (h refl)
+is_not_done Get g h p q o t k c v d l u = absurd (g refl)
+is_not_done Put g h p q o t k c v d l u = absurd (p refl)
+is_not_done Patch g h p q o t k c v d l u = absurd (q refl)
+is_not_done Options g h p q o t k c v d l u = absurd (o refl)
+is_not_done PropFind g h p q o t k c v d l u = refl
+is_not_done PropPatch g h p q o t k c v d l u = absurd (t refl)
+is_not_done MkCol g h p q o t k c v d l u = absurd (k refl)
+is_not_done Copy g h p q o t k c v d l u = absurd (c refl)
+is_not_done Move g h p q o t k c v d l u = absurd (v refl)
+is_not_done Delete g h p q o t k c v d l u = absurd (d refl)
+is_not_done Lock g h p q o t k c v d l u = absurd (l refl)
+is_not_done Unlock g h p q o t k c v d l u = absurd (u refl)
+is_not_done Report g h p q o t k c v d l u = refl
+is_not_done MkCalendar g h p q o t k c v d l u = refl
+is_not_done MkAddressbook g h p q o t k c v d l u = refl
 
 -- a method that is served is among the first thirteen
 pub served_within : (m : DavMethod) → IsServed m → place_of m < 13
@@ -78,3 +85,7 @@ one_more P i d few before here m within =
       | inl e ↦ subst P (ap (λ k. get_or served k d) (sym e) ∙ at_place m d (omega (arith, e, few))) here
       | inr apart ↦ before m (omega (arith, within, apart))
     ]
+
+-- the plan of an OPTIONS
+pub offered_plan : {allowed : ℕ} {headers : Headers} {p : PathText} {body : Body} {who : Client} {plan : MethodPlan Response} → plan ≡ options allowed p → PlanOf allowed headers p body who Options plan
+offered_plan {allowed} {headers} {p} {body} {who} same = subst (λ plan. PlanOf allowed headers p body who Options plan) (sym same) offers

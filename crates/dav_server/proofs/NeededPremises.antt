@@ -204,7 +204,7 @@ text_b = (slash_b, (refl, refl))
 
 target_b : TargetNames [] MkCol slash_b (Ok at_b)
 unfolding percent_decode
-target_b = letter_target 98 (omega arith) (omega arith) refl refl
+target_b = letter_target 98 (omega arith) (omega arith) refl refl MkCol
 
 short_b : length other_b.head ≤ 65536
 unfolding print_request

@@ -12,7 +12,7 @@ use Rattle.dav_core.specs.declared.errors.DavError.{DavError}
 use Rattle.dav_core.specs.declared.errors.DavError.TheVariants as dav
 use Rattle.dav_core.specs.declared.fs.DavMetaData.{DavMetaData}
 use Rattle.dav_core.specs.declared.method.DavMethod.{DavMethod}
-use Rattle.dav_core.specs.declared.method.DavMethod.TheVariants.{Get, Head, Put, Patch}
+use Rattle.dav_core.specs.declared.method.DavMethod.TheVariants.{Get, Head, Put, Patch, Copy, Move}
 use Rattle.dav_core.specs.Asking.{Metadata, meaning, StoreState, Asks as Asking}
 use Rattle.dav_core.specs.Calls.{metadata_of}
 use Rattle.dav_core.specs.Metadata.{tag_of}
@@ -27,17 +27,21 @@ use Rattle.dav_engine.specs.Client.{Client}
 use Rattle.dav_engine.specs.Conditions.{Conditions, is_reading, matches, http_conditions, if_match}
 use Rattle.dav_engine.specs.Headers.{Headers, Decodes}
 use Rattle.dav_engine.specs.Method.{MethodPlan, then as followed_by, ◌>>=◌, gives, fails, require, refused_as}
+use Rattle.dav_engine.specs.CopyMove.{is_copy_move}
 use Rattle.dav_engine.specs.Delete.{is_delete}
 use Rattle.dav_engine.specs.Mkcol.{is_mkcol}
 use Rattle.dav_engine.specs.Plan.{Locks, Ran, ran_ask}
 use Rattle.dav_engine.specs.Put.{bytes_of_body, is_put}
 use Rattle.dav_engine.specs.Response.{Response, reply_to}
+use Rattle.dav_engine.specs.Lock.{is_lock}
 use Rattle.dav_engine.specs.Unlock.{is_unlock}
+use Rattle.dav_engine.specs.Proppatch.{is_proppatch}
+use Rattle.dav_server.proofs.PropertyStatuses.{ends_proppatch}
 use Rattle.dav_engine.proofs.Theorems.{Did, did, ran_split, ran_outcome}
 use Rattle.dav_server.specs.Get.{not_modified, show_or_tell, judged, get, is_get}
 use Rattle.dav_server.specs.Head.{Request}
 use Rattle.dav_server.specs.Headers.{headers_of}
-use Rattle.dav_server.specs.Machine.{Settings, Asked, Taken, TakesBytes, TakesTree, TakesNone, taken_by, body_for, PlanOf, gets, heads, puts, patches, makes, deletes, releases, not_yet, MeansOf, not_allowed, no_path, no_body, method, Means, no_head, no_method, known, Steps, steps}
+use Rattle.dav_server.specs.Machine.{Settings, Asked, Taken, TakesBytes, TakesTree, TakesNone, taken_by, body_for, PlanOf, gets, heads, puts, patches, makes, deletes, copies, moves, offers, sets_properties, locks, releases, not_yet, MeansOf, not_allowed, no_path, no_body, method, Means, no_head, no_method, known, Steps, steps}
 use Rattle.dav_server.specs.Method.{GivesServed}
 use Rattle.dav_server.specs.Run.{Turn, begun, Runs, no_more, one_more}
 use Rattle.dav_server.specs.TagLaws.{AreShowable, LacksTag, NotModifiedIsTrue}
@@ -45,7 +49,7 @@ use Rattle.dav_server.specs.Target.{TargetNames}
 use Rattle.dav_server.proofs.GetWorld.{Stands, after_found, file_kind, told_of, stands_known, known_bytes}
 use Rattle.dav_server.proofs.HeadLemmas.{one_head}
 use Rattle.dav_server.proofs.MeansWorld.{all_front, all_back, begun_world, turn_keeps, run_keeps, one_method}
-use Rattle.dav_server.proofs.PlanStatuses.{Outcome, Any, IsOther, fs_other, outcome_if, ran_ends, conditions_end, ends_put, ends_mkcol, ends_delete, ends_unlock, ends_show_or_tell, other_status}
+use Rattle.dav_server.proofs.PlanStatuses.{Outcome, Any, IsOther, fs_other, outcome_if, ran_ends, conditions_end, ends_put, ends_mkcol, ends_copymove, ends_delete, ends_options, ends_lock, ends_unlock, ends_show_or_tell, other_status}
 use Rattle.dav_server.proofs.TagLemmas.{ShownAmong, shown_among, known_on, known_shown, shown_known, small_first, small_rest}
 use Rattle.dav_server.proofs.TargetLemmas.{one_outcome}
 
@@ -172,6 +176,11 @@ plan_304 {p = p} {given} {who} tag outcome says (puts (is_put h are)) ran is = a
 plan_304 {p = p} {given} {who} tag outcome says (patches (is_put h are)) ran is = absurd (other_status outcome (ran_ends (ends_put Patch h (names p) who (bytes_of_body given) refl) ran) is)
 plan_304 {p = p} {who = who} tag outcome says (makes (is_mkcol c are)) ran is = absurd (other_status outcome (ran_ends (ends_mkcol c p who) ran) is)
 plan_304 {p = p} {who = who} tag outcome says (deletes (is_delete h are)) ran is = absurd (other_status outcome (ran_ends (ends_delete h p who) ran) is)
+plan_304 {headers = headers} {p} {who = who} tag outcome says (copies (is_copy_move h are)) ran is = absurd (other_status outcome (ran_ends (ends_copymove Copy headers h p who refl are) ran) is)
+plan_304 {headers = headers} {p} {who = who} tag outcome says (moves (is_copy_move h are)) ran is = absurd (other_status outcome (ran_ends (ends_copymove Move headers h p who refl are) ran) is)
+plan_304 {allowed} {p = p} tag outcome says offers ran is = absurd (other_status outcome (ran_ends (ends_options allowed p) ran) is)
+plan_304 {p = p} {given} {who} tag outcome says (sets_properties (is_proppatch c are)) ran is = absurd (other_status outcome (ran_ends (ends_proppatch c p given who) ran) is)
+plan_304 {p = p} {given} {who} tag outcome says (locks (is_lock h are)) ran is = absurd (other_status outcome (ran_ends (ends_lock h p given who) ran) is)
 plan_304 {p = p} tag outcome says (releases (is_unlock token said)) ran is = absurd (other_status outcome (ran_ends (ends_unlock token p) ran) is)
 plan_304 tag outcome says (not_yet out) ran is = failed_status {e = dav.Status 501} (λ same. absurd (omega (arith, same))) ran is
 

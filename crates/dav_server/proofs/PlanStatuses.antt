@@ -1,22 +1,25 @@
 -- Which statuses plans result in: 304 is that of the conditions of GET and HEAD alone.
-use Rattle.std.proofs.Common.{◌≡◌, ◌≢◌, ◌⊎◌, inl, inr, ℕ, ◌==◌, ◌||◌, Bool, true, false, true≢false, not, if◌then◌else◌, nat_lt, length, List, [], ◌∷◌, All, Option, Some, None, Result, Ok, Err, refl, arith, ◌-◌, ◌+◌}
-use Rattle.std.proofs.lemmas.List.Elements.{All-head}
+use Rattle.std.proofs.Common.{◌≡◌, ◌≢◌, ◌⊎◌, inl, inr, ℕ, zero, suc, map, ◌==◌, ◌||◌, Bool, true, false, true≢false, not, if◌then◌else◌, nat_lt, length, List, [], ◌∷◌, All, Option, Some, None, Result, Ok, Err, refl, sym, subst, arith, ◌-◌, ◌+◌}
+use Rattle.std.proofs.lemmas.List.Elements.{All-nil, All-head}
 use Rattle.std.specs.Bool.{⊤}
-use Rattle.std.specs.Option.{unwrap_or}
-use Rattle.std.specs.Result.{result_ok}
+use Rattle.std.specs.Option.{unwrap_or, is_some}
+use Rattle.std.specs.Result.{is_ok, result_ok}
+use Rattle.http_header.specs.FieldValue.{FieldValue}
+use Rattle.dav_core.specs.declared.errors.ParseError.{ParseError}
+use Rattle.dav_core.specs.declared.errors.ParseError.TheVariants as parse
 use Rattle.dav_core.specs.declared.errors.FsError.{FsError}
 use Rattle.dav_core.specs.declared.errors.FsError.TheVariants as fs
 use Rattle.dav_core.specs.declared.errors.DavError.{DavError}
 use Rattle.dav_core.specs.declared.errors.DavError.TheVariants as dav
 use Rattle.dav_core.specs.declared.fs.DavMetaData.{DavMetaData}
 use Rattle.dav_core.specs.declared.method.DavMethod.{DavMethod}
-use Rattle.dav_core.specs.declared.method.DavMethod.TheVariants.{Head, Patch, MkCol, Delete}
+use Rattle.dav_core.specs.declared.method.DavMethod.TheVariants.{Head, Patch, MkCol, Delete, Lock as LockMethod}
 use Rattle.dav_core.specs.Asking.{Call, Answer, StoreState, Asks, Write}
 use Rattle.dav_core.specs.Handle.{Handle, Opening}
 use Rattle.dav_core.specs.Locks.{Lock, Requester, deleted, unlocked}
 use Rattle.dav_core.specs.Numbers.{max_u64}
-use Rattle.dav_core.specs.Path.{Path, PathText, names, are_equal}
-use Rattle.dav_core.specs.Status.{dav_status, fs_status}
+use Rattle.dav_core.specs.Path.{Path, PathText, names, are_equal, is_at_or_under}
+use Rattle.dav_core.specs.Status.{dav_status, fs_status, path_error}
 use Rattle.dav_headers.specs.declared.depth.Depth.{Depth}
 use Rattle.dav_headers.specs.declared.depth.Depth.TheVariants.{Default, Zero, One, Infinity}
 use Rattle.dav_headers.specs.ETagList.{TagList}
@@ -26,17 +29,25 @@ use Rattle.dav_headers.specs.declared.range.XUpdateRange.TheVariants.{FromTo, Al
 use Rattle.dav_engine.specs.declared.put_headers.Bounds.{Bounds}
 use Rattle.dav_engine.specs.declared.put_headers.Bounds.TheVariants.{Unread, Whole, Within}
 use Rattle.dav_engine.specs.declared.put_headers.Writing.{Writing}
+use Rattle.dav_engine.specs.declared.request.Body.{Body}
 use Rattle.dav_engine.specs.Client.{Client, requester}
-use Rattle.dav_engine.specs.Conditions.{Conditions, Addressed, is_reading, matches_found, item_holds, while_true, while_false, all_hold, some_holds, if_holds, http_conditions, if_match, unless, status_as, guarded}
-use Rattle.dav_engine.specs.Method.{MethodPlan, then as followed_by, ◌>>=◌, gives, require, require_free, required, has_locks, refused_as, ask_for, set_by}
+use Rattle.dav_engine.specs.Conditions.{Conditions, Addressed, is_reading, matches_found, item_holds, while_true, while_false, all_hold, some_holds, if_holds, http_conditions, if_match, unless, status_as, guarded, dav_if_match}
+use Rattle.dav_engine.specs.Lock.{one_token, token_to_refresh, keep_refreshed, refresh_in, lock_again, asked_lock, grant_in, taken_back, empty_opening, empty_error, made_or_back, make_empty, lock_new, is_absent, lock_found, lock}
+use Rattle.dav_engine.specs.Headers.{Headers}
+use Rattle.dav_engine.specs.LockHeaders.{LockHeaders, refreshed_for}
+use Rattle.dav_engine.specs.LockInfo.{lock_info}
+use Rattle.dav_engine.specs.Method.{MethodPlan, then as followed_by, ◌>>=◌, gives, require, require_free, required, has_locks, refused_as, ask_for, set_by, unless_status}
+use Rattle.dav_engine.specs.Copying.{CopyFault, CopyWalk, copy_report, copy_seen, copy_members, copy_listed, copy_inside, copy_kind, copy_looked, copy as copy_walk}
+use Rattle.dav_engine.specs.CopyMove.{CopyHeaders, AreCopyHeaders, DestinationNames, absent, unreadable, outside, inside, is_move, copy_depth, destination_found, source_free, copy_allowed, is_replaced, clearing, drop_if, drop_if_moved, brought, copied_status, copy_reply, bring_if_clear, copy_or_move}
 use Rattle.dav_engine.specs.Delete.{DeleteHeaders, whole_depth, delete_allowed, drop_if_gone, delete_reply, delete_found, delete}
-use Rattle.dav_engine.specs.Folder.{closed as folder_path}
+use Rattle.dav_engine.specs.Folder.{closed as folder_path, child_of, room_at, is_folder_found, path_found, location_found}
 use Rattle.dav_engine.specs.Mkcol.{mkcol, create_error}
-use Rattle.dav_engine.specs.Multistatus.{PathStatus, status_reply, multistatus_reply}
+use Rattle.dav_engine.specs.Multistatus.{PathStatus, status_reply, multistatus_reply, multi_reply}
+use Rattle.dav_engine.specs.Options.{options}
 use Rattle.dav_engine.specs.Plan.{Done, Ask, Look, Keep, Locks, Ran, ran_done, ran_ask, ran_look, ran_keep}
 use Rattle.dav_engine.specs.Put.{PutHeaders, from_end, update_from, update_at, updates, written_by, placed, bounded, bounded_by, writing_of, open_error, put_opening, sought, written, is_announced, unsatisfiable, spans, store, put_allowed, put_body}
 use Rattle.dav_engine.specs.Removal.{Fault, report_of}
-use Rattle.dav_engine.specs.Response.{Response, reply_to}
+use Rattle.dav_engine.specs.Response.{Response, Header, reply_to}
 use Rattle.dav_engine.specs.Unlock.{keep_left, end_in, end_lock, unlock}
 use Rattle.dav_engine.proofs.Theorems.{Gives, gives_done, gives_ask, gives_look, gives_keep, gives_removal}
 use Rattle.dav_server.specs.Get.{show, show_or_tell}
@@ -111,7 +122,7 @@ asked_other g other (Ok a) = tt
 asked_other g other (Err e) = other e
 
 -- the store's own errors
-store_other : {A : Type 0} (answer : Result A FsError) → Outcome IsOther Any (refused_as dav.FsError answer)
+pub store_other : {A : Type 0} (answer : Result A FsError) → Outcome IsOther Any (refused_as dav.FsError answer)
 store_other answer = asked_other dav.FsError fs_other answer
 
 closed : (status : ℕ) → status ≢ 304 → IsOther (dav.StatusClose status)
@@ -196,13 +207,13 @@ status_other : {A : Type 0} (f : ℕ → DavError) → ((status : ℕ) → statu
 status_other f other (Ok a) is = tt
 status_other f other (Err status) is = other status is
 
-ends_guarded : (f : ℕ → DavError) (m : DavMethod) (c : Conditions) (found : Option DavMetaData) → ((status : ℕ) → status ≢ 304 → IsOther (f status)) → is_reading m ≡ false → Ends IsOther Any (guarded f m c found)
+pub ends_guarded : (f : ℕ → DavError) (m : DavMethod) (c : Conditions) (found : Option DavMetaData) → ((status : ℕ) → status ≢ 304 → IsOther (f status)) → is_reading m ≡ false → Ends IsOther Any (guarded f m c found)
 ends_guarded f m c found other writes =
     ends_bind _ (ends_unless (http_conditions m c.if_match c.if_none_match found) _ (apart m c.if_match c.if_none_match found writes)
     (ends_bind _ (ends_if c.lists) (λ holds any. ends_done (judges_if holds _))))
     (λ verdict is. ends_done (status_other f other verdict is))
 
-ends_free : (deep : Bool) (who : Requester) (p : Path) (e : DavError) → IsOther e → Ends IsOther Any (require_free deep who p e)
+pub ends_free : (deep : Bool) (who : Requester) (p : Path) (e : DavError) → IsOther e → Ends IsOther Any (require_free deep who p e)
 ends_free deep who p e other = ends_look (λ ls. ends_require _ e other)
 
 -- ---- PUT and PATCH
@@ -328,6 +339,11 @@ gives_ends (gives_ask more) = ends_ask (λ answer. gives_ends (more answer))
 gives_ends (gives_look more) = ends_look (λ ls. gives_ends (more ls))
 gives_ends (gives_keep more) = ends_keep (gives_ends more)
 
+-- what ends the locks at a path never fails
+ends_deleted : {E : DavError → Type 0} (p : Path) (ls : Locks) → Ends E Any (set_by (deleted p) ls)
+ends_deleted p None = ends_done tt
+ends_deleted p (Some ls) = ends_keep (ends_done tt)
+
 -- the reply to a DELETE has one of these statuses, where those of refusals and of its own are such
 module _ (E : DavError → Type 0) (P : ℕ → Type 0) (refusal : (e : FsError) → P (fs_status e)) (conflict : P 409) (gone : P 204) (several : P 207) where
   abbrev AnswersBy : Response → Type 0
@@ -342,12 +358,8 @@ module _ (E : DavError → Type 0) (P : ℕ → Type 0) (refusal : (e : FsError)
   reported_status p (f ∷ []) are = one_status (are_equal (report_of f).0 p) (report_of f) (All-head (λ f. P (report_of f).1) f [] are)
   reported_status p (f ∷ g ∷ faults) are = several
 
-  ends_set : (p : PathText) (ls : Locks) → Ends E Any (set_by (deleted (names p)) ls)
-  ends_set p None = ends_done tt
-  ends_set p (Some ls) = ends_keep (ends_done tt)
-
   ends_dropped : (p : PathText) (faults : List Fault) → Ends E Any (drop_if_gone p faults)
-  ends_dropped p [] = ends_look (λ ls. ends_set p ls)
+  ends_dropped p [] = ends_look (λ ls. ends_deleted (names p) ls)
   ends_dropped p (f ∷ faults) = ends_done tt
 
   ends_delete_found : (deep : Bool) (c : Conditions) (p : PathText) (who : Client) (found : DavMetaData) → Ends E Any (delete_allowed c p who found) → Ends E AnswersBy (delete_found deep c p who found)
@@ -376,6 +388,247 @@ ends_delete h p who =
     h p who (depth_other h.depth) store_other (λ q found.
     ends_bind _ (ends_guarded dav.Status Delete h.conditions (Some found) (λ status other. other) refl) (λ tokens any.
     ends_free true (requester who tokens) (names q) (dav.Status 423) (λ same. absurd (omega (arith, same)))))
+
+-- ---- COPY and MOVE
+
+-- no error ends a copy
+module _ (E : DavError → Type 0) where
+  ends_copy_seen : (walk : CopyWalk) (s d : PathText) (name : List ℕ) (rest : MethodPlan (List CopyFault)) (seen : Result DavMetaData FsError) → ((a b : PathText) → Ends E Any (walk a b)) → Ends E Any rest
+      → Ends E Any (copy_seen walk s d name rest seen)
+  ends_copy_seen walk s d name rest (Err e) walks more = ends_done tt
+  ends_copy_seen walk s d name rest (Ok m) walks more = ends_bind _ (walks (child_of s name m.dir) (child_of d name m.dir)) (λ faults any. ends_bind _ more (λ others any. ends_done tt))
+
+  ends_copy_members : (walk : CopyWalk) (s d : PathText) (entries : List (List ℕ × Bool)) → ((a b : PathText) → Ends E Any (walk a b)) → Ends E Any (copy_members walk s d entries)
+  ends_copy_members walk s d [] walks = ends_done tt
+  ends_copy_members walk s d (entry ∷ entries) walks = ends_ask (λ seen. ends_copy_seen walk s d entry.0 (copy_members walk s d entries) seen walks (ends_copy_members walk s d entries walks))
+
+  ends_copy_listed : (walk : CopyWalk) (s d : PathText) (listed : Result (List (List ℕ × Bool)) FsError) → ((a b : PathText) → Ends E Any (walk a b)) → Ends E Any (copy_listed walk s d listed)
+  ends_copy_listed walk s d (Err e) walks = ends_done tt
+  ends_copy_listed walk s d (Ok entries) walks = ends_copy_members walk s d entries walks
+
+  ends_copy_inside : (walk : CopyWalk) (s d : PathText) (made : Result (Unit {0}) FsError) → ((a b : PathText) → Ends E Any (walk a b)) → Ends E Any (copy_inside walk s d made)
+  ends_copy_inside walk s d (Err e) walks = ends_done tt
+  ends_copy_inside walk s d (Ok made) walks = ends_ask (λ listed. ends_copy_listed walk s d listed walks)
+
+  ends_copy_kind : (deep dir : Bool) (walk : CopyWalk) (now : ℕ) (s d : PathText) → ((a b : PathText) → Ends E Any (walk a b)) → Ends E Any (copy_kind deep dir walk now s d)
+  ends_copy_kind true true walk now s d walks = ends_ask (λ made. ends_copy_inside walk s d made walks)
+  ends_copy_kind false true walk now s d walks = ends_ask (λ made. ends_done tt)
+  ends_copy_kind deep false walk now s d walks = ends_ask (λ copied. ends_done tt)
+
+  ends_copy_looked : (deep : Bool) (walk : CopyWalk) (now : ℕ) (s d : PathText) (found : Result DavMetaData FsError) → ((a b : PathText) → Ends E Any (walk a b)) → Ends E Any (copy_looked deep walk now s d found)
+  ends_copy_looked deep walk now s d (Err e) walks = ends_done tt
+  ends_copy_looked deep walk now s d (Ok m) walks = ends_copy_kind deep m.dir walk now s d walks
+
+  ends_copy : (room : ℕ) (deep : Bool) (now : ℕ) (top s d : PathText) → Ends E Any (copy_walk room deep now top s d)
+  ends_copy zero deep now top s d = ends_done tt
+  ends_copy (suc room) deep now top s d = ends_either (are_equal s top) _ _ (ends_done tt) (ends_ask (λ found. ends_copy_looked deep _ now s d found (λ a b. ends_copy room deep now top a b)))
+
+  ends_moved : (p : PathText) (faults : List CopyFault) → Ends E Any (drop_if_moved p faults)
+  ends_moved p [] = ends_look (λ ls. ends_deleted (names p) ls)
+  ends_moved p (f ∷ faults) = ends_done tt
+
+  ends_brought : (moves deep : Bool) (now : ℕ) (p d : PathText) → Ends E Any (brought moves deep now p d)
+  ends_brought true deep now p d = ends_ask (λ moved. ends_bind _ (ends_moved p _) (λ u any. ends_done tt))
+  ends_brought false deep now p d = ends_copy (room_at p) deep now d p d
+
+  ends_drop_if : (b : Bool) (p : PathText) → Ends E Any (drop_if b p)
+  ends_drop_if true p = ends_look (λ ls. ends_deleted (names p) ls)
+  ends_drop_if false p = ends_done tt
+
+-- the reply to a COPY or MOVE has one of these statuses, where those of refusals and of its own are such
+module _ (E : DavError → Type 0) (P : ℕ → Type 0) (refusal : (e : FsError) → P (fs_status e)) (conflict : P 409) (gone : P 204) (made : P 201) (several : P 207) where
+  abbrev Brings : Response → Type 0
+  Brings r = P r.status
+
+  one_told : (b : Bool) (item : PathStatus) → P item.1 → P (if b then status_reply item.1 else multistatus_reply (item ∷ [])).status
+  one_told true item is = is
+  one_told false item is = several
+
+  cleared_told : (p : PathText) (f : Fault) (faults : List Fault) → P (report_of f).1 → Outcome E Brings (multi_reply p (map report_of (f ∷ faults)))
+  cleared_told p f [] is = one_told (are_equal (report_of f).0 p) (report_of f) is
+  cleared_told p f (g ∷ faults) is = several
+
+  copied_told : (p : PathText) (status : ℕ) → P status → (faults : List CopyFault) → Outcome E Brings (copy_reply p status faults)
+  copied_told p status is [] = is
+  copied_told p status is (f ∷ []) = one_told (are_equal f.0 p) (copy_report f) (refusal f.1)
+  copied_told p status is (f ∷ g ∷ faults) = several
+
+  brought_status : (b : Bool) → P (if b then 204 else 201)
+  brought_status true = gone
+  brought_status false = made
+
+  ends_clearing : (deep : Bool) (now : ℕ) (d : PathText) (there : Option DavMetaData) → Ends E (All (λ (f : Fault). P (report_of f).1)) (clearing deep now d there)
+  ends_clearing deep now d there =
+      ends_either (is_replaced deep there) _ _ (gives_ends (gives_removal P refusal conflict true now d (is_folder_found there))) (ends_done (All-nil (λ (f : Fault). P (report_of f).1)))
+
+  ends_bring : (moves deep : Bool) (now : ℕ) (p d : PathText) (there : Option DavMetaData) (faults : List Fault) → All (λ (f : Fault). P (report_of f).1) faults → Ends E Brings (bring_if_clear moves deep now p d there faults)
+  ends_bring moves deep now p d there (f ∷ faults) are = ends_done (cleared_told p f faults (All-head (λ (f : Fault). P (report_of f).1) f faults are))
+  ends_bring moves deep now p d there [] are =
+      ends_bind _ (ends_drop_if E (is_replaced deep there) d) (λ u any.
+      ends_bind _ (ends_brought E moves deep now p d) (λ faults any. ends_done (copied_told p (copied_status there) (brought_status (is_some there)) faults)))
+
+  ends_after : (moves deep : Bool) (now : ℕ) (p d : PathText) (there : Option DavMetaData) → Ends E Brings (clearing deep now d there >>= (λ faults. bring_if_clear moves deep now p d there faults))
+  ends_after moves deep now p d there = ends_bind _ (ends_clearing deep now d there) (λ faults are. ends_bring moves deep now p d there faults are)
+
+  pub ends_copying : (m : DavMethod) (h : CopyHeaders) (p : PathText) (who : Client) → Outcome E Any (copy_depth (is_move m) h.depth) → Outcome E Any h.destination → ((answer : Result DavMetaData FsError) → Outcome E Any (refused_as dav.FsError answer))
+      → ((q d : PathText) (found : DavMetaData) → Ends E Any (copy_allowed m h q d who found)) → Ends E Brings (copy_or_move m h p who)
+  ends_copying m h p who depth destination store allowed =
+      ends_then (copy_depth (is_move m) h.depth) _ depth (λ deep any.
+      ends_then h.destination _ destination (λ d any.
+      ends_ask (λ answer. ends_then (refused_as dav.FsError answer) _ (store answer) (λ found any.
+      ends_bind _ (allowed (folder_path found.dir p) d found) (λ there any. ends_after (is_move m) deep who.moment (folder_path found.dir p) d there)))))
+
+copy_depth_other : (moves : Bool) (depth : Option Depth) → Outcome IsOther Any (copy_depth moves depth)
+copy_depth_other true None = tt
+copy_depth_other true (Some Default) = tt
+copy_depth_other true (Some Zero) = λ same. absurd (omega (arith, same))
+copy_depth_other true (Some One) = λ same. absurd (omega (arith, same))
+copy_depth_other true (Some Infinity) = tt
+copy_depth_other false depth = depth_other depth
+
+path_other : (e : ParseError) → e ≢ parse.Memory → IsOther (path_error e)
+path_other parse.InvalidPath known same = absurd (omega (arith, same))
+path_other parse.PrefixMismatch known same = absurd (omega (arith, same))
+path_other parse.ForbiddenPath known same = absurd (omega (arith, same))
+path_other parse.Memory known same = absurd (known refl)
+
+place_other : {prefix : List ℕ} {values : List FieldValue} {r : Result PathText DavError} → DestinationNames prefix values r → Outcome IsOther Any r
+place_other (absent none) = λ same. absurd (omega (arith, same))
+place_other (unreadable text {e} is refused known) = path_other e known
+place_other (outside text bytes is reads none) = λ same. absurd (omega (arith, same))
+place_other (inside text bytes is reads cut) = tt
+
+ends_source : (b : Bool) (who : Client) (tokens : List (List ℕ)) (p : PathText) → Ends IsOther Any (source_free b who tokens p)
+ends_source true who tokens p = ends_free true (requester who tokens) (names p) (dav.Status 423) (λ same. absurd (omega (arith, same)))
+ends_source false who tokens p = ends_done tt
+
+ends_place : (overwrite : Option Bool) (d : PathText) → Ends IsOther Any (destination_found overwrite d)
+ends_place overwrite d = ends_ask (λ above.
+    ends_bind _ (ends_require (is_folder_found (result_ok above)) (dav.Status 409) (λ same. absurd (omega (arith, same)))) (λ u any.
+    ends_ask (λ there. ends_bind _ (ends_require (unwrap_or overwrite true || not (is_ok there)) (dav.Status 412) (λ same. absurd (omega (arith, same)))) (λ u any. ends_done tt))))
+
+ends_copy_allowed : (m : DavMethod) (h : CopyHeaders) (p d : PathText) (who : Client) (found : DavMetaData) → is_reading m ≡ false → Ends IsOther Any (copy_allowed m h p d who found)
+ends_copy_allowed m h p d who found writes =
+    ends_bind _ (ends_place h.overwrite d) (λ there any.
+    ends_bind _ (ends_require (not (is_at_or_under (names p) (names d))) (dav.Status 403) (λ same. absurd (omega (arith, same)))) (λ u any.
+    ends_bind _ (ends_bind _ (ends_guarded dav.Status m h.conditions (Some found) (λ status other. other) writes) (λ tokens any.
+    ends_bind _ (ends_source (is_move m) who tokens p) (λ u any. ends_free true (requester who tokens) (names d) (dav.Status 423) (λ same. absurd (omega (arith, same)))))) (λ u any. ends_done tt)))
+
+pub ends_copymove : (m : DavMethod) (headers : Headers) (h : CopyHeaders) (p : PathText) (who : Client) → is_reading m ≡ false → AreCopyHeaders headers p h → Ends IsOther AnswersOther (copy_or_move m h p who)
+ends_copymove m headers h p who writes are =
+    ends_copying IsOther IsOtherStatus fs_other (λ same. absurd (omega (arith, same))) (λ same. absurd (omega (arith, same))) (λ same. absurd (omega (arith, same))) (λ same. absurd (omega (arith, same)))
+    m h p who (copy_depth_other (is_move m) h.depth) (place_other are.destination) store_other (λ q d found. ends_copy_allowed m h q d who found writes)
+
+-- ---- LOCK
+
+-- the reply to a LOCK has one of these statuses, where its errors are such
+module _ (E : DavError → Type 0) (P : ℕ → Type 0) (found_there : P 200) (created : P 201) (absent : E (dav.Status 405)) (conflict : E (dav.Status 423)) (unmeant : E (dav.Status 412))
+    (empty : (how : Opening) (e : FsError) → E (empty_error how e)) where
+  abbrev Locked : Response → Type 0
+  Locked r = P r.status
+
+  ends_grant : (new : Lock) (ls : Locks) → Ends E Any (grant_in new ls)
+  ends_grant new None = ends_done absent
+  ends_grant new (Some ls) = ends_either _ _ _ (ends_keep (ends_done tt)) (ends_done conflict)
+
+  ends_back : (token : List ℕ) (p : Path) (ls : Locks) → Ends E Any (set_by (taken_back token p) ls)
+  ends_back token p None = ends_done tt
+  ends_back token p (Some ls) = ends_keep (ends_done tt)
+
+  ends_opened : (how : Opening) (token : List ℕ) (p : Path) (opened : Result Handle FsError) → Ends E Any (made_or_back how token p opened)
+  ends_opened how token p (Ok file) = ends_done tt
+  ends_opened how token p (Err e) = ends_look (λ ls. ends_bind _ (ends_back token p ls) (λ u any. ends_done (empty how e)))
+
+  ends_empty : (how : Opening) (token : List ℕ) (p : Path) (now : ℕ) (found : Option DavMetaData) → Ends E Any (make_empty how token p now found)
+  ends_empty how token p now (Some found) = ends_done tt
+  ends_empty how token p now None = ends_ask (λ opened. ends_opened how token p opened)
+
+  granted_status : (b : Bool) → P (if b then 200 else 201)
+  granted_status true = found_there
+  granted_status false = created
+
+  ends_new : (h : LockHeaders) (p : PathText) (location : List Header) (content : Body) (who : Client) (found : Option DavMetaData) → Ends E Any (asked_lock h p content who found) → Ends E Locked (lock_new h p location content who found)
+  ends_new h p location content who found asked =
+      ends_bind _ asked (λ new any. ends_look (λ ls. ends_bind _ (ends_grant new ls) (λ u any.
+      ends_bind _ (ends_empty (empty_opening h.conditions) new.token (names p) who.moment found) (λ u any. ends_done (granted_status (is_some found))))))
+
+  ends_refreshed : (l : Option Lock) (left : Option (List Lock)) → Ends E Any (keep_refreshed l left)
+  ends_refreshed None left = ends_done unmeant
+  ends_refreshed (Some l) None = ends_done unmeant
+  ends_refreshed (Some l) (Some ls) = ends_keep (ends_done tt)
+
+  ends_refresh : (token : List ℕ) (p : Path) (timeout : Option ℕ) (now : ℕ) (ls : Locks) → Ends E Any (refresh_in token p timeout now ls)
+  ends_refresh token p timeout now None = ends_done absent
+  ends_refresh token p timeout now (Some ls) = ends_refreshed _ _
+
+  ends_again : (h : LockHeaders) (p : PathText) (location : List Header) (who : Client) → Ends E Any (token_to_refresh h (names p) who) → Ends E Locked (lock_again h p location who)
+  ends_again h p location who meant =
+      ends_bind _ meant (λ token any. ends_look (λ ls. ends_bind _ (ends_refresh token (names p) (refreshed_for h.timeout) who.moment ls) (λ l any. ends_done found_there)))
+
+  ends_locked : (h : LockHeaders) (p : PathText) (content : Body) (who : Client) (found : Option DavMetaData)
+      → ((q : PathText) → Ends E Any (asked_lock h q content who found)) → ((q : PathText) → Ends E Any (token_to_refresh h (names q) who)) → Ends E Locked (lock_found h p content who found)
+  ends_locked h p content who found asked meant =
+      ends_either (is_absent content) _ _ (ends_again h (path_found found p) (location_found found p) who (meant (path_found found p)))
+      (ends_new h (path_found found p) (location_found found p) content who found (asked (path_found found p)))
+
+  pub ends_locking : (h : LockHeaders) (p : PathText) (content : Body) (who : Client)
+      → ((q : PathText) (found : Option DavMetaData) → Ends E Any (asked_lock h q content who found)) → ((q : PathText) → Ends E Any (token_to_refresh h (names q) who)) → Ends E Locked (lock h p content who)
+  ends_locking h p content who asked meant =
+      ends_look (λ ls. ends_bind _ (ends_require (has_locks ls) (dav.Status 405) absent) (λ u any.
+      ends_ask (λ answer. ends_locked h p content who (result_ok answer) (λ q. asked q (result_ok answer)) meant)))
+
+ends_status : (status : Option ℕ) → Apart status → Ends IsOther Any (unless_status status)
+ends_status None other = ends_done tt
+ends_status (Some status) other = ends_done other
+
+required_other : {A : Type 0} (o : Option A) (e : DavError) → IsOther e → Outcome IsOther Any (required o e)
+required_other None e other = other
+required_other (Some a) e other = tt
+
+verdict_apart : (c : Conditions) (found : Option DavMetaData) (verdict : Option ℕ) → (verdict ≡ http_conditions LockMethod c.if_match c.if_none_match found) ⊎ (verdict ≡ Some 412) → Apart verdict
+verdict_apart c found verdict (inl is) = subst Apart (sym is) (apart LockMethod c.if_match c.if_none_match found refl)
+verdict_apart c found verdict (inr is) = subst Apart (sym is) precondition
+
+ends_asked : (h : LockHeaders) (p : PathText) (content : Body) (who : Client) (found : Option DavMetaData) → Ends IsOther Any (asked_lock h p content who found)
+ends_asked h p content who found =
+    ends_then (whole_depth h.depth) _ (depth_other h.depth) (λ deep any.
+    ends_bind _ (conditions_end LockMethod h.conditions found) (λ verdict is.
+    ends_bind _ (ends_status verdict (verdict_apart h.conditions found verdict is)) (λ u any.
+    ends_then (required (lock_info content) dav.XmlParseError) _ (required_other (lock_info content) dav.XmlParseError (λ same. absurd (omega (arith, same)))) (λ info any.
+    ends_then (required who.token (dav.Status 500)) _ (required_other who.token (dav.Status 500) (λ same. absurd (omega (arith, same)))) (λ token any. ends_done tt)))))
+
+one_other : (tokens : List (List ℕ)) → Outcome IsOther Any (one_token tokens)
+one_other [] = λ same. absurd (omega (arith, same))
+one_other (token ∷ []) = tt
+one_other (token ∷ other ∷ tokens) = λ same. absurd (omega (arith, same))
+
+ends_meant : (h : LockHeaders) (p : Path) (who : Client) → Ends IsOther Any (token_to_refresh h p who)
+ends_meant h p who =
+    ends_bind {P = λ said. ⊤} _ (ends_bind _ (ends_if h.conditions.lists) (λ holds any. ends_done tt)) (λ said any.
+    ends_then (one_token said.1) _ (one_other said.1) (λ token any.
+    ends_bind _ (ends_free false (requester who (token ∷ [])) p (dav.Status 412) (λ same. absurd (omega (arith, same)))) (λ u any. ends_done tt)))
+
+empty_other : (how : Opening) (e : FsError) → IsOther (empty_error how e)
+empty_other how fs.NotFound = missing_other (not how.create || how.create_new)
+empty_other how fs.Exists = missing_other (not how.create || how.create_new)
+empty_other how fs.NotImplemented = fs_other fs.NotImplemented
+empty_other how fs.GeneralFailure = fs_other fs.GeneralFailure
+empty_other how fs.Forbidden = fs_other fs.Forbidden
+empty_other how fs.InsufficientStorage = fs_other fs.InsufficientStorage
+empty_other how fs.LoopDetected = fs_other fs.LoopDetected
+empty_other how fs.PathTooLong = fs_other fs.PathTooLong
+empty_other how fs.TooLarge = fs_other fs.TooLarge
+empty_other how fs.IsRemote = fs_other fs.IsRemote
+
+pub ends_lock : (h : LockHeaders) (p : PathText) (content : Body) (who : Client) → Ends IsOther AnswersOther (lock h p content who)
+ends_lock h p content who =
+    ends_locking IsOther IsOtherStatus (λ same. absurd (omega (arith, same))) (λ same. absurd (omega (arith, same))) (λ same. absurd (omega (arith, same))) (λ same. absurd (omega (arith, same)))
+    (λ same. absurd (omega (arith, same))) empty_other h p content who (λ q found. ends_asked h q content who found) (λ q. ends_meant h (names q) who)
+
+-- ---- OPTIONS
+
+pub ends_options : (allowed : ℕ) (p : PathText) → Ends IsOther AnswersOther (options allowed p)
+ends_options allowed p = ends_ask (λ answer. ends_look (λ ls. ends_done (λ same. absurd (omega (arith, same)))))
 
 -- ---- UNLOCK
 

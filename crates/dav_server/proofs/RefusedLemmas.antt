@@ -1,13 +1,14 @@
 -- A request that is answered 412 or 423 leaves everything: after the file was opened, or the folder made, no such status comes.
-use Rattle.std.proofs.Common.{◌≡◌, ◌≢◌, inl, inr, ℕ, ◌==◌, Bool, true, false, if◌then◌else◌, length, List, Option, Some, None, Result, Ok, Err, ◌∙◌, arith}
+use Rattle.std.proofs.Common.{◌≡◌, ◌≢◌, inl, inr, ℕ, ◌==◌, Bool, true, false, if◌then◌else◌, length, List, Option, Some, None, Result, Ok, Err, refl, subst, ◌∙◌, arith}
 use Rattle.dav_core.specs.declared.errors.FsError.{FsError}
 use Rattle.dav_core.specs.declared.errors.FsError.TheVariants as fs
 use Rattle.dav_core.specs.declared.errors.DavError.{DavError}
 use Rattle.dav_core.specs.declared.errors.DavError.TheVariants as dav
 use Rattle.dav_core.specs.declared.method.DavMethod.{DavMethod}
-use Rattle.dav_core.specs.declared.method.DavMethod.TheVariants.{Get, Head, Put, Patch}
+use Rattle.dav_core.specs.declared.method.DavMethod.TheVariants.{Get, Head, Put, Patch, Copy, Move, PropPatch, Lock as LockMethod}
 use Rattle.std.specs.Bool.{⊤}
 use Rattle.dav_core.specs.Asking.{Call, Open, CreateDir, Write, meaning, StoreState, Asks as Asking}
+use Rattle.dav_core.specs.declared.fs.DavMetaData.{DavMetaData}
 use Rattle.dav_core.specs.Handle.{Handle, Opening}
 use Rattle.dav_core.specs.Locks.{Lock, unlocked}
 use Rattle.dav_core.specs.Path.{Path, PathText, names}
@@ -15,10 +16,14 @@ use Rattle.dav_core.specs.Status.{dav_status, fs_status}
 use Rattle.dav_core.specs.World.{World}
 use Rattle.dav_engine.specs.declared.request.Body.{Body}
 use Rattle.dav_engine.specs.declared.put_headers.Writing.{Writing}
-use Rattle.dav_engine.specs.Client.{Client}
+use Rattle.dav_engine.specs.Client.{Client, requester}
 use Rattle.dav_engine.specs.Conditions.{Conditions}
 use Rattle.dav_engine.specs.Headers.{Headers}
+use Rattle.dav_engine.specs.Lock.{lock, IsLock, is_lock}
+use Rattle.dav_engine.specs.LockHeaders.{LockHeaders}
+use Rattle.dav_engine.specs.LockLaws.{IsUnused}
 use Rattle.dav_engine.specs.Method.{MethodPlan, then as followed_by, ◌>>=◌, gives, ask_for, ask_or, refused_as, required, has_locks}
+use Rattle.dav_engine.specs.CopyMove.{CopyHeaders, is_move, copy_depth, copy_or_move, is_copy_move}
 use Rattle.dav_engine.specs.Delete.{DeleteHeaders, whole_depth, delete, is_delete}
 use Rattle.dav_engine.specs.Mkcol.{mkcol_allowed, create_error, made, is_mkcol}
 use Rattle.dav_engine.specs.Plan.{Locks, Done, Ran, ran_ask}
@@ -26,13 +31,16 @@ use Rattle.dav_engine.specs.Put.{PutHeaders, put_opening, open_error, unsatisfia
 use Rattle.dav_engine.specs.Response.{Response, reply_to}
 use Rattle.dav_engine.specs.Unlock.{keep_left, end_in, end_lock, unlock, IsUnlock, is_unlock}
 use Rattle.dav_engine.specs.WorldLaws.{reads_done}
-use Rattle.dav_engine.proofs.Theorems.{Did, stays, means, did, look_reads, only_put_allowed, only_mkcol_allowed, only_delete_allowed, only_require, Only, only_done, only_ask, only_look, only_reads, reading_leaves, ran_split, refused_delete_leaves_all, refused_unlock_leaves_all}
+use Rattle.dav_engine.specs.Proppatch.{proppatch, IsProppatch, is_proppatch}
+use Rattle.dav_server.proofs.PropertyStatuses.{ends_patching}
+use Rattle.dav_engine.proofs.Theorems.{Did, stays, means, did, only_guarded, only_free, only_copy_allowed, refused_copymove_leaves_all, look_reads, only_put_allowed, only_mkcol_allowed, only_delete_allowed, only_require, Only, only_done, only_ask, only_look, only_reads, reading_leaves, ran_split, only_asked, only_token, options_only_reads, refused_delete_leaves_all, refused_lock_leaves_all, refused_unlock_leaves_all, propfind_only_reads, refused_proppatch_leaves_all}
 use Rattle.dav_server.specs.Get.{is_get}
 use Rattle.dav_server.specs.Head.{Request}
-use Rattle.dav_server.specs.Machine.{Settings, Asked, PlanOf, gets, heads, puts, patches, makes, deletes, releases, not_yet, MeansOf, not_allowed, no_path, no_body, method, no_head, no_method, known, steps}
+use Rattle.dav_server.specs.Machine.{Settings, Asked, client, PlanOf, gets, heads, puts, patches, makes, deletes, copies, moves, offers, sets_properties, locks, releases, not_yet, MeansOf, not_allowed, no_path, no_body, method, no_head, no_method, known, steps}
+use Rattle.dav_server.specs.Method.{GivesServed}
 use Rattle.dav_server.specs.WriteLaws.{IsRefusedStatus, RefusedLeaves}
 use Rattle.dav_server.proofs.GetWorld.{get_is_reading}
-use Rattle.dav_server.proofs.PlanStatuses.{Outcome, Any, Ends, ends_done, ends_ask, ends_look, ends_keep, ends_then, ends_bind, ends_either, ends_deleting, ran_ends}
+use Rattle.dav_server.proofs.PlanStatuses.{Outcome, Any, Ends, ends_done, ends_ask, ends_look, ends_keep, ends_then, ends_bind, ends_either, ends_deleting, ends_copying, ends_locking, ran_ends}
 
 -- ---- statuses that come after a change
 
@@ -93,8 +101,8 @@ first_change : {A : Type 0} (w : World) (m : Result (A × World) FsError) (g : F
     → Ran Asking (followed_by (refused_as g answer) f) mid ls outcome new ms → (new.world ≡ w) × (ms ≡ ls)
 first_change w m g (Ok a) f mid outcome later done refused ran = absurd (not_later outcome (ran_ends (later a) ran) refused)
 first_change w m g (Err e) f mid outcome later (stays d is same) refused ran =
-    let (world, locks) = reading_leaves reads_done ran in
-    (world ∙ same, locks)
+    let (world, stay) = reading_leaves reads_done ran in
+    (world ∙ same, stay)
 first_change w m g (Err e) f mid outcome later (means r h is same) refused ran = absurd (cc)
 
 -- ---- PUT and PATCH
@@ -111,13 +119,13 @@ put_leaves : (m : DavMethod) (h : PutHeaders) (p : Path) (who : Client) (bytes :
     → IsRefusedStatus (reply_to outcome).status → Ran Asking (put_allowed m h p who bytes) old ls checked mid ks
     → Ran Asking (followed_by checked (λ allowed. store (put_opening h allowed.0) allowed.0.from p bytes who.moment allowed.1)) mid ks outcome new ms → Same old ls new ms
 put_leaves m h p who bytes (Err e) outcome refused first rest =
-    let (world, locks) = reading_leaves (only_reads look_reads (only_put_allowed m h p who bytes)) first in
+    let (world, stay) = reading_leaves (only_reads look_reads (only_put_allowed m h p who bytes)) first in
     let (same, kept) = reading_leaves reads_done rest in
-    (same ∙ world, kept ∙ locks)
+    (same ∙ world, kept ∙ stay)
 put_leaves m h p who bytes (Ok allowed) outcome refused first rest =
-    let (world, locks) = reading_leaves (only_reads look_reads (only_put_allowed m h p who bytes)) first in
+    let (world, stay) = reading_leaves (only_reads look_reads (only_put_allowed m h p who bytes)) first in
     let (same, kept) = store_leaves (put_opening h allowed.0) allowed.0.from p bytes who.moment allowed.1 outcome refused rest in
-    (same ∙ world, kept ∙ locks)
+    (same ∙ world, kept ∙ stay)
 
 body_leaves : (m : DavMethod) (h : PutHeaders) (p : Path) (who : Client) (bytes : Option (List ℕ)) (outcome : Result Response DavError) {old new : StoreState} {ls ms : Locks}
     → IsRefusedStatus (reply_to outcome).status → Ran Asking (put_body m h p who bytes) old ls outcome new ms → Same old ls new ms
@@ -132,14 +140,14 @@ mkcol_leaves : (c : Conditions) (p : PathText) (who : Client) (checked : Result 
     → IsRefusedStatus (reply_to outcome).status → Ran Asking (mkcol_allowed c p who) old ls checked mid ks
     → Ran Asking (followed_by checked (λ _. ask_or create_error (CreateDir (names p) who.moment) >>= (λ _. gives (made p)))) mid ks outcome new ms → Same old ls new ms
 mkcol_leaves c p who (Err e) outcome refused first rest =
-    let (world, locks) = reading_leaves (only_reads look_reads (only_mkcol_allowed c p who)) first in
+    let (world, stay) = reading_leaves (only_reads look_reads (only_mkcol_allowed c p who)) first in
     let (same, kept) = reading_leaves reads_done rest in
-    (same ∙ world, kept ∙ locks)
+    (same ∙ world, kept ∙ stay)
 mkcol_leaves c p who (Ok allowed) outcome refused first (ran_ask {old = old} {mid = mid} {answer = answer} one rest) =
-    let (world, locks) = reading_leaves (only_reads look_reads (only_mkcol_allowed c p who)) first in
+    let (world, stay) = reading_leaves (only_reads look_reads (only_mkcol_allowed c p who)) first in
     let (same, kept) = first_change old.world (meaning (CreateDir (names p) who.moment) old.world) create_error answer (λ _. gives (made p)) mid outcome
     (λ done. ends_done (λ same. absurd (omega (arith, same)), λ same. absurd (omega (arith, same)))) (did one) refused rest in
-    (same ∙ world, kept ∙ locks)
+    (same ∙ world, kept ∙ stay)
 
 -- ---- DELETE
 
@@ -191,29 +199,81 @@ unlock_leaves headers p who plan (Ok r) (inl is) (is_unlock token said) ran = ab
 unlock_leaves headers p who plan (Ok r) (inr is) (is_unlock token said) ran = absurd ((ran_ends (later_unlock token p) ran).1 is)
 unlock_leaves headers p who plan (Err e) {old} {new} {ls} {ms} refused its ran = refused_unlock_leaves_all headers p who plan old new ls ms e its ran
 
+-- ---- COPY and MOVE
+
+-- no reply to a COPY or MOVE has such a status, but one that an error makes
+later_copymove : (m : DavMethod) (h : CopyHeaders) (p : PathText) (who : Client) → Ends (λ e. ⊤) LaterReply (copy_or_move m h p who)
+later_copymove m h p who =
+    ends_copying (λ e. ⊤) Later later_fs (λ same. absurd (omega (arith, same)), λ same. absurd (omega (arith, same))) (λ same. absurd (omega (arith, same)), λ same. absurd (omega (arith, same)))
+    (λ same. absurd (omega (arith, same)), λ same. absurd (omega (arith, same))) (λ same. absurd (omega (arith, same)), λ same. absurd (omega (arith, same)))
+    m h p who (any_outcome (copy_depth (is_move m) h.depth)) (any_outcome h.destination) (λ answer. any_outcome (refused_as dav.FsError answer)) (λ q d found. only_ends (only_copy_allowed m h q d who found))
+
+copymove_leaves : (m : DavMethod) (h : CopyHeaders) (p : PathText) (who : Client) (outcome : Result Response DavError) {old new : StoreState} {ls ms : Locks}
+    → IsRefusedStatus (reply_to outcome).status → Ran Asking (copy_or_move m h p who) old ls outcome new ms → Same old ls new ms
+copymove_leaves m h p who (Ok r) (inl is) ran = absurd ((ran_ends (later_copymove m h p who) ran).0 is)
+copymove_leaves m h p who (Ok r) (inr is) ran = absurd ((ran_ends (later_copymove m h p who) ran).1 is)
+copymove_leaves m h p who (Err e) {old} {new} {ls} {ms} refused ran = refused_copymove_leaves_all m h p who old new ls ms e ran
+
+-- ---- PROPPATCH
+
+-- no reply to a PROPPATCH has such a status, but one that an error makes
+later_proppatch : (c : Conditions) (p : PathText) (content : Body) (who : Client) → Ends (λ e. ⊤) LaterReply (proppatch c p content who)
+later_proppatch c p content who =
+    ends_patching (λ e. ⊤) Later (λ same. absurd (omega (arith, same)), λ same. absurd (omega (arith, same))) (λ A answer. any_outcome (refused_as dav.FsError answer)) tt c p content who
+    (λ found. only_ends (only_guarded dav.Status PropPatch c (Some found))) (λ tokens q. only_ends (only_free false (requester who tokens) (names q) (dav.Status 423)))
+
+proppatch_leaves : (headers : Headers) (p : PathText) (content : Body) (who : Client) (plan : MethodPlan Response) (outcome : Result Response DavError) {old new : StoreState} {ls ms : Locks}
+    → IsRefusedStatus (reply_to outcome).status → IsProppatch headers p content who plan → Ran Asking plan old ls outcome new ms → Same old ls new ms
+proppatch_leaves headers p content who plan (Ok r) (inl is) (is_proppatch c are) ran = absurd ((ran_ends (later_proppatch c p content who) ran).0 is)
+proppatch_leaves headers p content who plan (Ok r) (inr is) (is_proppatch c are) ran = absurd ((ran_ends (later_proppatch c p content who) ran).1 is)
+proppatch_leaves headers p content who plan (Err e) {old} {new} {ls} {ms} refused its ran = refused_proppatch_leaves_all headers p content who plan old new ls ms e its ran
+
+-- ---- LOCK
+
+-- no reply to a LOCK has such a status, but one that an error makes
+later_lock : (h : LockHeaders) (p : PathText) (content : Body) (who : Client) → Ends (λ e. ⊤) LaterReply (lock h p content who)
+later_lock h p content who =
+    ends_locking (λ e. ⊤) Later (λ same. absurd (omega (arith, same)), λ same. absurd (omega (arith, same))) (λ same. absurd (omega (arith, same)), λ same. absurd (omega (arith, same)))
+    tt tt tt (λ how e. tt) h p content who (λ q found. only_ends (only_asked h q content who found)) (λ q. only_ends (only_token h (names q) who))
+
+abbrev IsNewToken : Client → Locks → Type 0
+IsNewToken who ls = (token : List ℕ) → who.token ≡ Some token → IsUnused token ls
+
+lock_leaves : (headers : Headers) (p : PathText) (content : Body) (who : Client) (plan : MethodPlan Response) (outcome : Result Response DavError) {old new : StoreState} {ls ms : Locks}
+    → IsNewToken who ls → IsRefusedStatus (reply_to outcome).status → IsLock headers p content who plan → Ran Asking plan old ls outcome new ms → Same old ls new ms
+lock_leaves headers p content who plan (Ok r) fresh (inl is) (is_lock h are) ran = absurd ((ran_ends (later_lock h p content who) ran).0 is)
+lock_leaves headers p content who plan (Ok r) fresh (inr is) (is_lock h are) ran = absurd ((ran_ends (later_lock h p content who) ran).1 is)
+lock_leaves headers p content who plan (Err e) {old} {new} {ls} {ms} fresh refused its ran = refused_lock_leaves_all headers p content who plan old new ls ms e fresh its ran
+
 -- ---- a step
 
 plan_leaves : {allowed : ℕ} {headers : Headers} {p : PathText} {given : Body} {who : Client} {m : DavMethod} {plan : MethodPlan Response} (outcome : Result Response DavError) {old new : StoreState} {ls ms : Locks}
-    → IsRefusedStatus (reply_to outcome).status → PlanOf allowed headers p given who m plan → Ran Asking plan old ls outcome new ms → Same old ls new ms
-plan_leaves {p = p} {who = who} outcome refused (gets (is_get c are)) ran = reading_leaves (get_is_reading Get c (names p) who.moment) ran
-plan_leaves {p = p} {who = who} outcome refused (heads (is_get c are)) ran = reading_leaves (get_is_reading Head c (names p) who.moment) ran
-plan_leaves {p = p} {given} {who} outcome refused (puts (is_put h are)) ran = body_leaves Put h (names p) who (bytes_of_body given) outcome refused ran
-plan_leaves {p = p} {given} {who} outcome refused (patches (is_put h are)) ran = body_leaves Patch h (names p) who (bytes_of_body given) outcome refused ran
-plan_leaves {p = p} {who = who} outcome refused (makes (is_mkcol c are)) ran =
+    → (m ≡ LockMethod → IsNewToken who ls) → IsRefusedStatus (reply_to outcome).status → PlanOf allowed headers p given who m plan → Ran Asking plan old ls outcome new ms → Same old ls new ms
+plan_leaves {p = p} {who = who} outcome fresh refused (gets (is_get c are)) ran = reading_leaves (get_is_reading Get c (names p) who.moment) ran
+plan_leaves {p = p} {who = who} outcome fresh refused (heads (is_get c are)) ran = reading_leaves (get_is_reading Head c (names p) who.moment) ran
+plan_leaves {p = p} {given} {who} outcome fresh refused (puts (is_put h are)) ran = body_leaves Put h (names p) who (bytes_of_body given) outcome refused ran
+plan_leaves {p = p} {given} {who} outcome fresh refused (patches (is_put h are)) ran = body_leaves Patch h (names p) who (bytes_of_body given) outcome refused ran
+plan_leaves {p = p} {who = who} outcome fresh refused (makes (is_mkcol c are)) ran =
     let parts = ran_split (mkcol_allowed c p who) _ ran in
     mkcol_leaves c p who parts.outcome outcome refused parts.first parts.rest
-plan_leaves {p = p} {who = who} outcome refused (deletes (is_delete h are)) ran = delete_leaves h p who outcome refused ran
-plan_leaves {headers = headers} {p} {who = who} {plan = plan} outcome refused (releases is) ran = unlock_leaves headers p who plan outcome refused is ran
-plan_leaves outcome refused (not_yet out) ran = reading_leaves reads_done ran
+plan_leaves {p = p} {who = who} outcome fresh refused (deletes (is_delete h are)) ran = delete_leaves h p who outcome refused ran
+plan_leaves {p = p} {who = who} outcome fresh refused (copies (is_copy_move h are)) ran = copymove_leaves Copy h p who outcome refused ran
+plan_leaves {p = p} {who = who} outcome fresh refused (moves (is_copy_move h are)) ran = copymove_leaves Move h p who outcome refused ran
+plan_leaves {allowed} {p = p} outcome fresh refused offers ran = reading_leaves (options_only_reads allowed p) ran
+plan_leaves {headers = headers} {p} {given} {who} {plan = plan} outcome fresh refused (sets_properties is) ran = proppatch_leaves headers p given who plan outcome refused is ran
+plan_leaves {headers = headers} {p} {given} {who} {plan = plan} outcome fresh refused (locks is) ran = lock_leaves headers p given who plan outcome (fresh refl) refused is ran
+plan_leaves {headers = headers} {p} {who = who} {plan = plan} outcome fresh refused (releases is) ran = unlock_leaves headers p who plan outcome refused is ran
+plan_leaves outcome fresh refused (not_yet out) ran = reading_leaves reads_done ran
 
 of_leaves : {s : Settings} {x : Asked} {r : Request} {m : DavMethod} {plan : MethodPlan Response} (outcome : Result Response DavError) {old new : StoreState} {ls ms : Locks}
-    → IsRefusedStatus (reply_to outcome).status → MeansOf s x r m plan → Ran Asking plan old ls outcome new ms → Same old ls new ms
-of_leaves outcome refused (not_allowed out) ran = reading_leaves reads_done ran
-of_leaves outcome refused (no_path e has none) ran = reading_leaves reads_done ran
-of_leaves outcome refused (no_body p e has named bad) ran = reading_leaves reads_done ran
-of_leaves outcome refused (method p given has named good plan) ran = plan_leaves outcome refused plan ran
+    → (m ≡ LockMethod → IsNewToken (client x) ls) → IsRefusedStatus (reply_to outcome).status → MeansOf s x r m plan → Ran Asking plan old ls outcome new ms → Same old ls new ms
+of_leaves outcome fresh refused (not_allowed out) ran = reading_leaves reads_done ran
+of_leaves outcome fresh refused (no_path e has none) ran = reading_leaves reads_done ran
+of_leaves outcome fresh refused (no_body p e has named bad) ran = reading_leaves reads_done ran
+of_leaves outcome fresh refused (method p given has named good plan) ran = plan_leaves outcome fresh refused plan ran
 
 pub refused_leaves : RefusedLeaves
-refused_leaves s x old new ls ms reply refused (steps plan outcome (no_head out) ran) = reading_leaves reads_done ran
-refused_leaves s x old new ls ms reply refused (steps plan outcome (no_method r e head known_by) ran) = reading_leaves reads_done ran
-refused_leaves s x old new ls ms reply refused (steps plan outcome (known r m head known_by its) ran) = of_leaves outcome refused its ran
+refused_leaves s x old new ls ms reply fresh refused (steps plan outcome (no_head out) ran) = reading_leaves reads_done ran
+refused_leaves s x old new ls ms reply fresh refused (steps plan outcome (no_method r e head known_by) ran) = reading_leaves reads_done ran
+refused_leaves s x old new ls ms reply fresh refused (steps plan outcome (known r m head known_by its) ran) =
+    of_leaves outcome (λ is. fresh (r, head, subst (λ (k : DavMethod). GivesServed r.method (Ok k)) is known_by)) refused its ran

@@ -3,7 +3,7 @@ use Rattle.std.proofs.Common.{◌≡◌, ◌≢◌, ℕ, List, Result, Ok, Err, 
 use Rattle.dav_core.specs.declared.errors.DavError.{DavError}
 use Rattle.dav_core.specs.declared.errors.DavError.TheVariants as dav
 use Rattle.dav_core.specs.declared.method.DavMethod.{DavMethod}
-use Rattle.dav_core.specs.declared.method.DavMethod.TheVariants.{Get, Head, Put, Patch, MkCol, Delete, Unlock}
+use Rattle.dav_core.specs.declared.method.DavMethod.TheVariants.{Get, Head, Put, Patch, Options, MkCol, Copy, Move, Delete, PropFind, PropPatch, Lock, Unlock}
 use Rattle.dav_core.specs.Method.{method_name, Has}
 use Rattle.dav_core.specs.Path.{PathText, names, HasNoCut, star, without_slash}
 use Rattle.dav_core.specs.Target.{Reads}
@@ -12,12 +12,13 @@ use Rattle.dav_engine.specs.declared.request.Body.{Body}
 use Rattle.dav_engine.specs.Client.{Client}
 use Rattle.dav_engine.specs.Headers.{Headers}
 use Rattle.dav_engine.specs.Method.{MethodPlan, fails}
+use Rattle.dav_engine.specs.Options.{options}
 use Rattle.dav_engine.specs.Response.{Response}
-use Rattle.dav_engine.proofs.Theorems.{some_conditions, some_put_plan, some_mkcol_plan, some_delete_plan, some_unlock_plan}
+use Rattle.dav_engine.proofs.Theorems.{some_conditions, some_put_plan, some_mkcol_plan, some_copymove_plan, some_delete_plan, some_lock_plan, some_unlock_plan, some_propfind_plan, some_proppatch_plan}
 use Rattle.dav_server.specs.Get.{get, IsGet, is_get}
 use Rattle.dav_server.specs.Head.{Request, IsHead}
 use Rattle.dav_server.specs.Headers.{headers_of}
-use Rattle.dav_server.specs.Machine.{Settings, Asked, client, taken_by, body_for, PlanOf, gets, heads, puts, patches, makes, deletes, releases, not_yet, MeansOf, not_allowed, no_path, no_body, method, no_head, no_method, known}
+use Rattle.dav_server.specs.Machine.{Settings, Asked, client, taken_by, body_for, PlanOf, gets, heads, puts, patches, makes, deletes, copies, moves, offers, sets_properties, locks, releases, not_yet, MeansOf, not_allowed, no_path, no_body, method, no_head, no_method, known}
 use Rattle.dav_server.specs.Method.{IsServed}
 use Rattle.dav_server.specs.Run.{RequestsHavePlans}
 use Rattle.dav_server.specs.Target.{HasPathText, formless, invalid, climbing, TargetNames, server, reserved, unreadable, outside, path}
@@ -47,6 +48,11 @@ some_plan_of allowed headers p body who Put without = some_put_plan Put headers 
 some_plan_of allowed headers p body who Patch without = some_put_plan Patch headers p body who (λ plan is. without plan (patches is))
 some_plan_of allowed headers p body who MkCol without = some_mkcol_plan headers p who (λ plan is. without plan (makes is))
 some_plan_of allowed headers p body who Delete without = some_delete_plan headers p who (λ plan is. without plan (deletes is))
+some_plan_of allowed headers p body who Copy without = some_copymove_plan Copy headers p who (λ plan is. without plan (copies is))
+some_plan_of allowed headers p body who Move without = some_copymove_plan Move headers p who (λ plan is. without plan (moves is))
+some_plan_of allowed headers p body who Options without = without (options allowed p) offers
+some_plan_of allowed headers p body who PropPatch without = some_proppatch_plan headers p body who (λ plan is. without plan (sets_properties is))
+some_plan_of allowed headers p body who Lock without = some_lock_plan headers p body who (λ plan is. without plan (locks is))
 some_plan_of allowed headers p body who Unlock without = some_unlock_plan headers p who (λ plan is. without plan (releases is))
 some_plan_of allowed headers p body who _ without = without (fails (dav.Status 501)) (not_yet refl)
 

@@ -92,6 +92,11 @@ pub serves_held : {K : MethodPlan Response → Type 0} {F L : Type 0} {one other
     → one ≡ other → Serves K one.server.state r new → Serves K other.server.state r new
 serves_held {K} {new = new} {r} same done = subst (λ h. Serves K h.server.state r new) same done
 
+-- the same, where the plans depend on the settings
+pub serves_set : (K : Settings → MethodPlan Response → Type 0) {F L : Type 0} {one other : HandlerView F L} {new : ServerState} {r : Result Response DavError}
+    → one ≡ other → Serves (K one.server.settings) one.server.state r new → Serves (K other.server.settings) other.server.state r new
+serves_set K {new = new} {r} same done = subst (λ h. Serves (K h.server.settings) h.server.state r new) same done
+
 -- the same, by equal requests
 pub serves_asked : (K : Asked → MethodPlan Response → Type 0) {one other : Asked} {old new : ServerState} {r : Result Response DavError}
     → one ≡ other → Serves (K one) old r new → Serves (K other) old r new

@@ -11,6 +11,7 @@ use Rattle.percent_encoding.specs.Percent.{percent_decode}
 use Rattle.httparse.specs.Grammar.{Field, IsField, RequestHead, IsRequestHead, crlf, is_token_byte, is_uri_byte, is_value_byte, print_request, trim_ows}
 use Rattle.dav_core.specs.declared.errors.FsError.TheVariants.{NotFound, GeneralFailure}
 use Rattle.dav_core.specs.declared.errors.DavError.TheVariants as dav
+use Rattle.dav_core.specs.declared.method.DavMethod.{DavMethod}
 use Rattle.dav_core.specs.declared.method.DavMethod.TheVariants.{MkCol}
 use Rattle.dav_core.specs.Asking.{meaning, StoreState, Answered, asked, Metadata, CreateDir}
 use Rattle.dav_core.specs.Locks.{Lock}
@@ -38,7 +39,7 @@ use Rattle.dav_engine.proofs.Theorems.{last_is}
 use Rattle.dav_server.specs.Head.{Request, IsHead, request_of_head}
 use Rattle.dav_server.specs.Headers.{headers_of}
 use Rattle.dav_server.specs.Holder.{IsHolderRequest, acts}
-use Rattle.dav_server.specs.Isolation.{AreLoaded, RunsUnder, under_none, under_more, Alone, alone_none, alone_other, alone_own, AreAlone}
+use Rattle.dav_server.specs.Isolation.{AreLoaded, NoneHandsIn, RunsUnder, under_none, under_more, Alone, alone_none, alone_other, alone_own, AreAlone}
 use Rattle.dav_server.specs.Machine.{Settings, Asked, client, Means, known, method, makes, steps}
 use Rattle.dav_server.specs.Naming.{NamesToken, by_if, by_lock_token, NamesLock}
 use Rattle.dav_server.specs.Run.{Turn}
@@ -66,9 +67,13 @@ at_a = record { prefix = []; bytes = slash_a }
 abbrev pub lock : Lock
 lock = record { token = token; path = at_a; principal = None; owner = None; timeout_at = None; timeout = None; shared = false; deep = true }
 
--- a MKCOL with these fields
+-- a request of this method with these fields
+abbrev pub head_of : List ℕ → List ℕ → List Field → RequestHead
+head_of name target fields = record { blank = []; method = name; target = target; minor = 1; line_end = crlf; fields = fields; last = crlf }
+
+-- a MKCOL
 abbrev pub head_to : List ℕ → List Field → RequestHead
-head_to target fields = record { blank = []; method = codes "MKCOL"; target = target; minor = 1; line_end = crlf; fields = fields; last = crlf }
+head_to target fields = head_of (codes "MKCOL") target fields
 
 abbrev pub head_with : List Field → RequestHead
 head_with fields = head_to slash_a fields
@@ -98,17 +103,21 @@ settings = record { prefix = []; allowed = 65535 }
 
 -- ---- the heads
 
-pub request_head : (target : List ℕ) (fields : List Field) → 0 < length target → list_all is_uri_byte target ≡ true → IsUtf8 target → All IsField fields → IsRequestHead (head_to target fields)
-unfolding is_token_byte
-request_head target fields some bytes text are = record {
-  method = (omega arith, AllPass-from_list_all is_token_byte (codes "MKCOL") refl);
+pub head_with_method : (name target : List ℕ) (fields : List Field) → 0 < length name → list_all is_token_byte name ≡ true → 0 < length target → list_all is_uri_byte target ≡ true → IsUtf8 target → All IsField fields
+    → IsRequestHead (head_of name target fields)
+head_with_method name target fields named token_bytes some bytes text are = record {
+  method = (named, AllPass-from_list_all is_token_byte name token_bytes);
   target = (some, AllPass-from_list_all is_uri_byte target bytes);
   target_text = text;
   minor = omega arith;
   fields = are;
 }
 
-text_a : IsUtf8 slash_a
+pub request_head : (target : List ℕ) (fields : List Field) → 0 < length target → list_all is_uri_byte target ≡ true → IsUtf8 target → All IsField fields → IsRequestHead (head_to target fields)
+unfolding is_token_byte
+request_head target fields some bytes text are = head_with_method (codes "MKCOL") target fields (omega arith) refl some bytes text are
+
+pub text_a : IsUtf8 slash_a
 unfolding lib.Utf8.encode
 text_a = (slash_a, (refl, refl))
 
@@ -165,19 +174,22 @@ module _ (n : ℕ) (low : 97 ≤ n) (high : n ≤ 122) (cut : pieces_of (47 ∷ 
     closed_if = not_closed;
   }
 
-  pub letter_target : TargetNames [] MkCol (47 ∷ n ∷ []) (Ok (record { prefix = []; bytes = 47 ∷ n ∷ [] }))
-  letter_target = path (inl ((n ∷ [], refl), refl)) (inr ((n ∷ []) ∷ [], false, letter_path, refl)) (at_start refl refl)
+  pub letter_target : (m : DavMethod) → TargetNames [] m (47 ∷ n ∷ []) (Ok (record { prefix = []; bytes = 47 ∷ n ∷ [] }))
+  letter_target m = path (inl ((n ∷ [], refl), refl)) (inr ((n ∷ []) ∷ [], false, letter_path, refl)) (at_start refl refl)
 
-target_a : TargetNames [] MkCol slash_a (Ok at_a)
+pub target_at_a : (m : DavMethod) → TargetNames [] m slash_a (Ok at_a)
 unfolding percent_decode
-target_a = letter_target 97 (omega arith) (omega arith) refl refl
+target_at_a m = letter_target 97 (omega arith) (omega arith) refl refl m
+
+pub target_a : TargetNames [] MkCol slash_a (Ok at_a)
+target_a = target_at_a MkCol
 
 -- ---- what the headers say
 
-no_tags : (l : TagList) → ¬ IsTagList [] l
+pub no_tags : (l : TagList) → ¬ IsTagList [] l
 no_tags l (some, reads) = omega (arith, some)
 
-no_if : (own : Path) (ls : List Addressed) → ¬ SaysLists [] own [] ls
+pub no_if : (own : Path) (ls : List Addressed) → ¬ SaysLists [] own [] ls
 no_if own ls (l, (v, e, is), are) = cc
 
 abbrev pub no_conditions : Conditions
@@ -311,25 +323,32 @@ past_a [] true under = cc
 past_a (x ∷ p) true under = cc
 past_a p false under = cc
 
-root_above : HasFoldersAbove (a ∷ []) before
+pub root_above : HasFoldersAbove (a ∷ []) before
 root_above [] under = refl
 root_above (x ∷ p) under = absurd (past_a p (is_eq (name_cmp x a)) under)
 
-abbrev Showable : Turn → Type 0
+abbrev pub Showable : Turn → Type 0
 Showable t = t.asked.moment ≤ last_moment
 
-abbrev Loaded : Turn → Type 0
+abbrev pub Loaded : Turn → Type 0
 Loaded t = is_some t.refusals ≡ true
 
 both_showable : AreShowable both
 both_showable = All-cons Showable (turn_with stranger) (turn_with holder ∷ []) (omega arith) (All-cons Showable (turn_with holder) [] (omega arith) (All-nil Showable))
 
+abbrev Other : Turn → Type 0
+Other t = t.asked.token ≢ Some lock.token
+
 both_loaded : AreLoaded both
 both_loaded = All-cons Loaded (turn_with stranger) (turn_with holder ∷ []) refl (All-cons Loaded (turn_with holder) [] refl (All-nil Loaded))
+
+-- neither hands in a token
+none_hands_in : NoneHandsIn lock both
+none_hands_in = All-cons Other (turn_with stranger) (turn_with holder ∷ []) (λ e. cc) (All-cons Other (turn_with holder) [] (λ e. cc) (All-nil Other))
 
 -- So the holder's request alone makes the folder too, and leaves the same in it.
 pub two_clients : AreAlone settings lock both (turn_with holder ∷ []) (holding before) one_lock replies (holding after)
 two_clients =
     holders_are_alone settings lock both (turn_with holder ∷ []) (holding before) (holding after) one_lock one_lock replies
     (record { exclusive = refl; deep = refl }) (guards_here refl no_others) root_above (empty_is_world 1 (omega arith) (omega arith))
-    both_showable both_loaded run refl among
+    both_showable both_loaded none_hands_in run refl among

@@ -3,7 +3,7 @@ use Rattle.std.proofs.Common.{◌≡◌, ◌⊎◌, inl, inr, ℕ, List, codes, 
 use Rattle.http_header.specs.HeaderMap.{get_all}
 use Rattle.dav_core.specs.declared.errors.DavError.{DavError}
 use Rattle.dav_core.specs.declared.method.DavMethod.{DavMethod}
-use Rattle.dav_core.specs.declared.method.DavMethod.TheVariants.{Get, Head, Put, Patch, MkCol, Delete, Unlock}
+use Rattle.dav_core.specs.declared.method.DavMethod.TheVariants.{Get, Head, Put, Patch, Options, MkCol, Copy, Move, Delete, PropFind, PropPatch, Lock, Unlock}
 use Rattle.dav_core.specs.Asking.{StoreState, Asks as Asking}
 use Rattle.dav_core.specs.Path.{Path, PathText, names}
 use Rattle.dav_core.specs.World.{Node, node_at}
@@ -19,7 +19,7 @@ use Rattle.dav_engine.specs.WorldLaws.{reads_done}
 use Rattle.dav_engine.proofs.Theorems.{create_only_leaves_all, reading_leaves}
 use Rattle.dav_server.specs.Head.{Request}
 use Rattle.dav_server.specs.Headers.{headers_of}
-use Rattle.dav_server.specs.Machine.{Settings, Asked, PlanOf, gets, heads, puts, patches, makes, deletes, releases, not_yet, MeansOf, not_allowed, no_path, no_body, method, no_head, no_method, known, steps}
+use Rattle.dav_server.specs.Machine.{Settings, Asked, PlanOf, gets, heads, puts, patches, makes, deletes, copies, moves, offers, sets_properties, locks, releases, not_yet, MeansOf, not_allowed, no_path, no_body, method, no_head, no_method, known, steps}
 use Rattle.dav_server.specs.Method.{GivesServed}
 use Rattle.dav_server.specs.Target.{TargetNames}
 use Rattle.dav_server.specs.WriteLaws.{CreateOnlyKeeps}
@@ -55,6 +55,11 @@ plan_keeps {p = p} {given} {who} n old new ls ms outcome writes says there (patc
     body_keeps Patch h (names p) who (bytes_of_body given) n old new ls ms outcome (says_tags _ h.conditions.if_none_match _ are.conditions.none_match says) there ran
 plan_keeps n old new ls ms outcome writes says there (makes is) ran = no_write MkCol writes (λ e. absurd (cc)) (λ e. absurd (cc))
 plan_keeps n old new ls ms outcome writes says there (deletes is) ran = no_write Delete writes (λ e. absurd (cc)) (λ e. absurd (cc))
+plan_keeps n old new ls ms outcome writes says there (copies is) ran = no_write Copy writes (λ e. absurd (cc)) (λ e. absurd (cc))
+plan_keeps n old new ls ms outcome writes says there (moves is) ran = no_write Move writes (λ e. absurd (cc)) (λ e. absurd (cc))
+plan_keeps n old new ls ms outcome writes says there offers ran = no_write Options writes (λ e. absurd (cc)) (λ e. absurd (cc))
+plan_keeps n old new ls ms outcome writes says there (sets_properties is) ran = no_write PropPatch writes (λ e. absurd (cc)) (λ e. absurd (cc))
+plan_keeps n old new ls ms outcome writes says there (locks is) ran = no_write Lock writes (λ e. absurd (cc)) (λ e. absurd (cc))
 plan_keeps n old new ls ms outcome writes says there (releases is) ran = no_write Unlock writes (λ e. absurd (cc)) (λ e. absurd (cc))
 plan_keeps n old new ls ms outcome writes says there (not_yet out) ran = reading_leaves reads_done ran
 

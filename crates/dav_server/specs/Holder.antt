@@ -4,11 +4,10 @@ use Rattle.http_header.specs.HeaderMap.{get_all}
 use Rattle.dav_core.specs.declared.method.DavMethod.{DavMethod}
 use Rattle.dav_core.specs.declared.method.DavMethod.TheVariants.{Head, Get, Put, Patch, Options, PropFind, PropPatch, MkCol, Copy, Move, Delete, Lock as LockMethod, Unlock}
 use Rattle.dav_core.specs.Locks.{Lock}
-use Rattle.dav_core.specs.Path.{Path, PathText, names, IsCut, without_slash}
-use Rattle.dav_core.specs.Target.{Reads}
-use Rattle.dav_headers.specs.Destination.{IsDestination}
+use Rattle.dav_core.specs.Path.{PathText, names}
 use Rattle.dav_engine.specs.declared.request.Body.TheVariants as body
 use Rattle.dav_engine.specs.AlongsidePlans.{SubmitsAlone}
+use Rattle.dav_engine.specs.CopyMove.{DestinationNames}
 use Rattle.dav_engine.specs.Guard.{IsInReach}
 use Rattle.dav_engine.specs.Headers.{Headers}
 use Rattle.dav_server.specs.Head.{Request, IsHead}
@@ -18,32 +17,26 @@ use Rattle.dav_server.specs.Method.{GivesServed}
 use Rattle.dav_engine.specs.LockToken.{SaysLockToken}
 use Rattle.dav_server.specs.Target.{TargetNames}
 
--- the path that Destination names, below the prefix (RFC 4918, section 10.3)
-abbrev pub DestinationNames : Settings → Headers → Path → Type 0
-DestinationNames s headers q =
-    (text : List ℕ) × (bytes : List ℕ) × (p : PathText)
-    × IsDestination (get_all headers (codes "destination")) text × Reads text bytes × IsCut (without_slash s.prefix) bytes p × (q ≡ names p)
-
--- the destination is at the lock's folder or below it
-abbrev pub HasNearDestination : Settings → Lock → Headers → Type 0
-HasNearDestination s h headers = (q : Path) × DestinationNames s headers q × IsInReach h q
+-- the destination, as the method reads it (RFC 4918, section 10.3), is at the lock's folder or below it
+abbrev pub HasNearDestination : Lock → Headers → PathText → Type 0
+HasNearDestination h headers p = (d : PathText) × DestinationNames p.prefix (get_all headers (codes "destination")) (Ok d) × IsInReach h (names d)
 
 -- What is asked of a method besides: the destination of a COPY or MOVE is in the folder too, and a LOCK has no body, so it
 -- refreshes. UNLOCK has a rule of its own.
-abbrev pub MayHold : Settings → Lock → Asked → Headers → DavMethod → Type 0
-MayHold s h x headers Copy = HasNearDestination s h headers
-MayHold s h x headers Move = HasNearDestination s h headers
-MayHold s h x headers LockMethod = body_for (taken_by LockMethod) x.body ≡ Ok body.None
-MayHold s h x headers Get = ⊤
-MayHold s h x headers Head = ⊤
-MayHold s h x headers PropFind = ⊤
-MayHold s h x headers Options = ⊤
-MayHold s h x headers Put = ⊤
-MayHold s h x headers Patch = ⊤
-MayHold s h x headers MkCol = ⊤
-MayHold s h x headers Delete = ⊤
-MayHold s h x headers PropPatch = ⊤
-MayHold s h x headers _ = ⊥
+abbrev pub MayHold : Lock → Asked → Headers → PathText → DavMethod → Type 0
+MayHold h x headers p Copy = HasNearDestination h headers p
+MayHold h x headers p Move = HasNearDestination h headers p
+MayHold h x headers p LockMethod = body_for (taken_by LockMethod) x.body ≡ Ok body.None
+MayHold h x headers p Get = ⊤
+MayHold h x headers p Head = ⊤
+MayHold h x headers p PropFind = ⊤
+MayHold h x headers p Options = ⊤
+MayHold h x headers p Put = ⊤
+MayHold h x headers p Patch = ⊤
+MayHold h x headers p MkCol = ⊤
+MayHold h x headers p Delete = ⊤
+MayHold h x headers p PropPatch = ⊤
+MayHold h x headers p _ = ⊥
 
 -- the request has this head, with this method, and its target names this path
 pub record IsFor (s : Settings) (x : Asked) (r : Request) (m : DavMethod) (p : PathText) : Type 0 where
@@ -55,5 +48,5 @@ pub record IsFor (s : Settings) (x : Asked) (r : Request) (m : DavMethod) (p : P
 -- or any other request but a LOCK with a body, whose If submits the lock's token alone, and which sets no other condition.
 pub data IsHolderRequest (s : Settings) (h : Lock) (x : Asked) : Type 0 where
   unlocks : (r : Request) (p : PathText) → x.principal ≡ h.principal → IsFor s x r Unlock p → IsInReach h (names p) → SaysLockToken (headers_of r.fields) h.token → IsHolderRequest s h x
-  acts : (r : Request) (m : DavMethod) (p : PathText) → x.principal ≡ h.principal → IsFor s x r m p → IsInReach h (names p) → MayHold s h x (headers_of r.fields) m
+  acts : (r : Request) (m : DavMethod) (p : PathText) → x.principal ≡ h.principal → IsFor s x r m p → IsInReach h (names p) → MayHold h x (headers_of r.fields) p m
       → SubmitsAlone (headers_of r.fields) p h → get_all (headers_of r.fields) (codes "if-range") ≡ [] → IsHolderRequest s h x

@@ -22,6 +22,10 @@ use Rattle.dav_server.specs.TagLaws.{AreShowable}
 abbrev pub AreLoaded : List Turn → Type 0
 AreLoaded ts = All (λ t. is_some t.refusals ≡ true) ts
 
+-- no request hands in the lock's token, for a lock of its own
+abbrev pub NoneHandsIn : Lock → List Turn → Type 0
+NoneHandsIn h ts = All (λ t. t.asked.token ≢ Some h.token) ts
+
 -- A run while a lock stands: the lock is in the list when each request begins, and each request that names it as its principal
 -- is a holder's. The last request may be the one that ends it.
 pub data RunsUnder (step : CallStep) (s : Settings) (h : Lock) : List Turn → StoreState → Locks → List Response → StoreState → Locks → Type 0 where
@@ -73,11 +77,12 @@ pub record AreAlone (s : Settings) (h : Lock) (ts us : List Turn) (old : StoreSt
   pub answers : AnswerAlike h ts replies alone
   pub inside : SameInside (folder_of h) new.world end.world
 
--- While a folder is guarded, it and the answers to its holder are those of the holder's requests alone.
+-- While a folder is guarded, and no request hands in the guard's token, it and the answers to its holder are those of the
+-- holder's requests alone.
 abbrev pub HoldersAreAlone : Type 0
 HoldersAreAlone =
     (s : Settings) (h : Lock) (ts us : List Turn) (old new : StoreState) (ls ms : Locks) (replies : List Response)
-    → IsGuard h → Guarded h ls → HasFoldersAbove (folder_of h) old.world → IsWorld old.world → AreShowable ts → AreLoaded ts
+    → IsGuard h → Guarded h ls → HasFoldersAbove (folder_of h) old.world → IsWorld old.world → AreShowable ts → AreLoaded ts → NoneHandsIn h ts
     → RunsUnder AsksWithNumbers s h ts old ls replies new ms → new.short ≡ false → Alone h ts us → AreAlone s h ts us old ls replies new
 
 -- ---- numbers
@@ -99,15 +104,15 @@ RunsFindNumbers =
 -- ---- what a run promises
 
 -- In a run of these turns with these replies, from a world on: from any moment at which a lock guards a folder, as long as the
--- lock stands and all who name it as its principal are its holder, the folder and the replies to the holder are as if the
--- holder's requests were alone. No call may have found the change numbers used up, and the store may not have run out of
+-- lock stands, all who name it as its principal are its holder, and no request hands in its token, the folder and the replies
+-- to the holder are as if the holder's requests were alone. No call may have found the change numbers used up, and the store may not have run out of
 -- memory.
 abbrev pub IsIsolated : Server → List Turn → List Response → Type 0
 IsIsolated old ts replies =
     (front later back us : List Turn) (h : Lock) (mid new : StoreState) (ks ms : Locks) (before given after : List Response)
     → ts ≡ front ++ (later ++ back) → replies ≡ before ++ (given ++ after) → IsWorld old.state.store.world
     → Runs old.settings front old.state.store old.state.locks before mid ks
-    → IsGuard h → Guarded h ks → HasFoldersAbove (folder_of h) mid.world
+    → IsGuard h → Guarded h ks → HasFoldersAbove (folder_of h) mid.world → NoneHandsIn h later
     → RunsUnder AsksWithNumbers old.settings h later mid ks given new ms → new.short ≡ false
     → Alone h later us → AreAlone old.settings h later us mid ks given new
 

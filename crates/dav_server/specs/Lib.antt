@@ -24,3 +24,4 @@ pub mod Passing
 pub mod Ending
 pub mod LockLists
 pub mod Isolation
+pub mod FromNone

@@ -3,7 +3,7 @@ use Rattle.std.specs.Prelude.{◌≡◌, ℕ, Bool, true, false, List, [], ◌�
 use Rattle.dav_core.specs.declared.errors.DavError.{DavError}
 use Rattle.dav_core.specs.declared.errors.DavError.TheVariants as dav
 use Rattle.dav_core.specs.declared.method.DavMethod.{DavMethod}
-use Rattle.dav_core.specs.declared.method.DavMethod.TheVariants.{Get, Head, Put, Patch, MkCol, Delete, PropFind, PropPatch, Lock, Unlock}
+use Rattle.dav_core.specs.declared.method.DavMethod.TheVariants.{Get, Head, Put, Patch, Options, MkCol, Copy, Move, Delete, PropFind, PropPatch, Lock, Unlock}
 use Rattle.dav_core.specs.Asking.{StoreState, Asks}
 use Rattle.dav_core.specs.Element.{ElementTree, depth_of}
 use Rattle.dav_core.specs.Method.{Has}
@@ -14,8 +14,13 @@ use Rattle.dav_engine.specs.Headers.{Headers}
 use Rattle.dav_engine.specs.Method.{MethodPlan, fails}
 use Rattle.dav_engine.specs.Plan.{Locks, CallStep, Ran, Cut}
 use Rattle.dav_engine.specs.Client.{Client}
+use Rattle.dav_engine.specs.CopyMove.{IsCopyMove}
 use Rattle.dav_engine.specs.Delete.{IsDelete}
+use Rattle.dav_engine.specs.Lock.{IsLock}
 use Rattle.dav_engine.specs.Mkcol.{IsMkcol}
+use Rattle.dav_engine.specs.Options.{options}
+use Rattle.dav_engine.specs.Propfind.{IsPropfind}
+use Rattle.dav_engine.specs.Proppatch.{IsProppatch}
 use Rattle.dav_engine.specs.Put.{IsPut}
 use Rattle.dav_engine.specs.Response.{Response, reply_to}
 use Rattle.dav_engine.specs.Unlock.{IsUnlock}
@@ -82,7 +87,12 @@ is_done Head = true
 is_done Put = true
 is_done Patch = true
 is_done MkCol = true
+is_done Options = true
+is_done PropPatch = true
+is_done Copy = true
+is_done Move = true
 is_done Delete = true
+is_done Lock = true
 is_done Unlock = true
 is_done _ = false
 
@@ -94,6 +104,11 @@ pub data PlanOf (allowed : ℕ) (headers : Headers) (p : PathText) (body : Body)
   patches : {plan : MethodPlan Response} → IsPut Patch headers p body who plan → PlanOf allowed headers p body who Patch plan
   makes : {plan : MethodPlan Response} → IsMkcol headers p who plan → PlanOf allowed headers p body who MkCol plan
   deletes : {plan : MethodPlan Response} → IsDelete headers p who plan → PlanOf allowed headers p body who Delete plan
+  copies : {plan : MethodPlan Response} → IsCopyMove Copy headers p who plan → PlanOf allowed headers p body who Copy plan
+  moves : {plan : MethodPlan Response} → IsCopyMove Move headers p who plan → PlanOf allowed headers p body who Move plan
+  offers : PlanOf allowed headers p body who Options (options allowed p)
+  sets_properties : {plan : MethodPlan Response} → IsProppatch headers p body who plan → PlanOf allowed headers p body who PropPatch plan
+  locks : {plan : MethodPlan Response} → IsLock headers p body who plan → PlanOf allowed headers p body who Lock plan
   releases : {plan : MethodPlan Response} → IsUnlock headers p who plan → PlanOf allowed headers p body who Unlock plan
   not_yet : {m : DavMethod} → is_done m ≡ false → PlanOf allowed headers p body who m (fails (dav.Status 501))
 

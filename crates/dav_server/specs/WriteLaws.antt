@@ -1,12 +1,13 @@
 -- What holds of the requests that write, from the bytes of their heads on.
-use Rattle.std.specs.Prelude.{◌≡◌, ◌⊎◌, ℕ, codes, Some, Ok}
+use Rattle.std.specs.Prelude.{◌≡◌, ◌⊎◌, ℕ, List, codes, Some, Ok}
 use Rattle.http_header.specs.HeaderMap.{get_all}
 use Rattle.dav_core.specs.declared.method.DavMethod.{DavMethod}
-use Rattle.dav_core.specs.declared.method.DavMethod.TheVariants.{Put, Patch}
+use Rattle.dav_core.specs.declared.method.DavMethod.TheVariants.{Put, Patch, Lock as LockMethod}
 use Rattle.dav_core.specs.Asking.{StoreState}
 use Rattle.dav_core.specs.Path.{PathText, names}
 use Rattle.dav_core.specs.World.{Node, node_at}
 use Rattle.dav_headers.specs.ETagList.{star, IsTagList}
+use Rattle.dav_engine.specs.LockLaws.{IsUnused}
 use Rattle.dav_engine.specs.Plan.{Locks}
 use Rattle.dav_engine.specs.Response.{Response}
 use Rattle.dav_server.specs.Head.{Request, IsHead}
@@ -34,8 +35,17 @@ CreateOnlyKeeps =
 abbrev pub IsRefusedStatus : ℕ → Type 0
 IsRefusedStatus status = (status ≡ 412) ⊎ (status ≡ 423)
 
--- A request that is answered so leaves the world and the list of locks, whatever its method is.
+-- the request is a LOCK
+abbrev pub IsLockRequest : Asked → Type 0
+IsLockRequest x = (r : Request) × IsHead x.head r × GivesServed r.method (Ok LockMethod)
+
+-- no lock of the list has the token that the request hands in
+abbrev pub HandsInUnused : Asked → Locks → Type 0
+HandsInUnused x ls = (token : List ℕ) → x.token ≡ Some token → IsUnused token ls
+
+-- A request that is answered so leaves the world and the list of locks, whatever its method is; a LOCK, where no lock has the
+-- token that it hands in.
 abbrev pub RefusedLeaves : Type 0
 RefusedLeaves =
     (s : Settings) (x : Asked) (old new : StoreState) (ls ms : Locks) (reply : Response)
-    → IsRefusedStatus reply.status → Steps s x old ls reply new ms → (new.world ≡ old.world) × (ms ≡ ls)
+    → (IsLockRequest x → HandsInUnused x ls) → IsRefusedStatus reply.status → Steps s x old ls reply new ms → (new.world ≡ old.world) × (ms ≡ ls)

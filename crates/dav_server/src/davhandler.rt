@@ -6,7 +6,7 @@ ghost use Rattle.std.specs.Option.{option_map, option_copied};
 ghost use Rattle.dav_core.specs.declared.errors.DavError.TheVariants.{Memory};
 ghost use Rattle.dav_engine.specs.Follows.{Serves};
 ghost use Rattle.dav_core.specs.World.{last_moment};
-ghost use Rattle.dav_engine.specs.AtWork.{MkcolOf, DeleteOf, PutOf, UnlockOf};
+ghost use Rattle.dav_engine.specs.AtWork.{MkcolOf, DeleteOf, PutOf, CopyMoveOf, OptionsOf, LockOf, UnlockOf};
 ghost use Rattle.dav_engine.specs.ConditionView.{locks_in};
 ghost use Rattle.dav_server.specs.Get.{GetOf};
 ghost use Rattle.dav_engine.specs.Response.{error_reply};
@@ -18,6 +18,8 @@ ghost use Rattle.dav_server.specs.Setup.{IsPrefix};
 ghost use Rattle.dav_server.specs.Target.{BeginsWithSlash};
 ghost use Rattle.std.specs.Result.{IsErrOf};
 
+#[cfg(test)]
+mod copy_calls;
 #[cfg(test)]
 mod engine_calls;
 #[cfg(test)]
@@ -235,6 +237,11 @@ fn serve<F: DavFileSystem, L: DavLockSystem>(
         DavMethod::Patch => inner!(handler, caller).handle_put(alloc, request, body),
         DavMethod::MkCol => inner!(handler, caller).handle_mkcol(alloc, request, body),
         DavMethod::Delete => inner!(handler, caller).handle_delete(alloc, request, body),
+        DavMethod::Copy => inner!(handler, caller).handle_copymove(alloc, request, body),
+        DavMethod::Move => inner!(handler, caller).handle_copymove(alloc, request, body),
+        DavMethod::Options => inner!(handler, caller).handle_options(alloc, request, body),
+        DavMethod::PropPatch => inner!(handler, caller).handle_proppatch(alloc, request, body),
+        DavMethod::Lock => inner!(handler, caller).handle_lock(alloc, request, body),
         DavMethod::Unlock => inner!(handler, caller).handle_unlock(alloc, request, body),
         _ => Err(DavError::Status(StatusCode::NOT_IMPLEMENTED)),
     }

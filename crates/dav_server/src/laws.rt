@@ -88,7 +88,7 @@ pub fn creating_only_keeps_what_is_there()
 {}
 
 /// A request that is answered 412 or 423 leaves the world and the list of locks: a condition that fails, or a lock that
-/// conflicts, changes nothing (RFC 9110, section 13.2.1; RFC 4918, section 7).
+/// conflicts, changes nothing; a LOCK, where no lock has the token that it hands in (RFC 9110, section 13.2.1; RFC 4918, section 7).
 #[tactic(auto, using(crate::proofs::RefusedLemmas::refused_leaves))]
 pub fn refused_requests_leave_all()
     ensures { RefusedLeaves }

@@ -8,6 +8,7 @@ mod tests;
 
 use dav_core::errors::{DavError, DavResult};
 use dav_core::method::DavMethod;
+use dav_engine::handle_options::name_of;
 
 // The methods that are served.
 const SERVED: [DavMethod; 13] = [
@@ -25,30 +26,6 @@ const SERVED: [DavMethod; 13] = [
     DavMethod::Lock,
     DavMethod::Unlock,
 ];
-
-// The name of a method.
-fn name_of(method: DavMethod) -> &'static str
-    ensures { result.now ≡ method_name method }
-{
-    match method {
-        DavMethod::Head => "HEAD",
-        DavMethod::Get => "GET",
-        DavMethod::Put => "PUT",
-        DavMethod::Patch => "PATCH",
-        DavMethod::Options => "OPTIONS",
-        DavMethod::PropFind => "PROPFIND",
-        DavMethod::PropPatch => "PROPPATCH",
-        DavMethod::MkCol => "MKCOL",
-        DavMethod::Copy => "COPY",
-        DavMethod::Move => "MOVE",
-        DavMethod::Delete => "DELETE",
-        DavMethod::Lock => "LOCK",
-        DavMethod::Unlock => "UNLOCK",
-        DavMethod::Report => "REPORT",
-        DavMethod::MkCalendar => "MKCALENDAR",
-        DavMethod::MkAddressbook => "MKADDRESSBOOK",
-    }
-}
 
 // Whether a method has this name.
 fn is_named(name: &[u8], method: DavMethod) -> bool

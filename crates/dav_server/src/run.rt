@@ -4,13 +4,16 @@ ghost use Rattle.std.specs.Prelude.{◌≡◌, ◌<◌, ◌≤◌, ◌++◌, ◌
 ghost use Rattle.std.specs.Vec.{vec_capacity};
 ghost use Rattle.dav_core.specs.World.{last_moment};
 ghost use Rattle.dav_server.specs.Ending.{EndsNoLock};
+ghost use Rattle.dav_server.specs.FromNone.{EndsNoLockFromNone, PassesNoLockFromNone};
 ghost use Rattle.dav_server.specs.Isolation.{IsIsolated, IsIsolatedFromGrants};
 ghost use Rattle.dav_server.specs.LockLists.{SharesLocks};
 ghost use Rattle.dav_server.specs.Passing.{PassesNoLock};
 ghost use Rattle.dav_server.specs.Server.{AddsReply, AnswersAll, AnswersSome, StopsIn, TagsTell, at_turn, turns};
 
 #[cfg(test)]
-mod removals;
+mod copies;
+#[cfg(test)]
+pub(crate) mod removals;
 #[cfg(test)]
 mod tests;
 
@@ -90,8 +93,8 @@ fn answer_next<F: DavFileSystem, L: DavLockSystem>(
 impl<F: DavFileSystem, L: DavLockSystem> DavHandler<F, L> {
     /// Answers requests, one after another: the replies, the store and the locks are those of a run of the machine. From a
     /// world, equal entity tags show equal bytes, and no request changes what an exclusive lock covers unless it names the
-    /// lock's token as the lock's principal. No request ends a lock whose token it doesn't name. Locks that cover one path stay
-    /// shared.
+    /// lock's token as the lock's principal, nor ends a lock whose token it doesn't name; a request that hands in the lock's
+    /// token for a lock of its own aside. Locks that cover one path stay shared.
     ///
     /// `RunFault` where memory ran out outside the store, with the replies that were given before; they are those of a run
     /// of the machine, and of the next request at most the first calls of the store were made, each of them whole.
@@ -147,9 +150,11 @@ fn answer_step(
 /// store and the locks are those of a run of the machine, and where the store's `was_short` is false, no other run leaves
 /// it so. From a world, equal entity tags show equal bytes, whatever is refused, and no request changes what an exclusive
 /// lock covers unless it names the lock's token as the lock's principal; nor does any request end a lock whose token it
-/// doesn't name, and locks that cover one path stay shared. While an exclusive lock of infinite depth stands on a folder, and only
-/// its holder names it, the folder and the answers to the holder are as if the holder's requests were alone; from no locks on,
-/// it is enough that the lock was granted and that the tokens which are handed in differ.
+/// doesn't name, a request that hands in the lock's token for a lock of its own aside. Locks that cover one path stay shared.
+/// While an exclusive lock of infinite depth stands on a folder, only its holder names it and no request hands in its token,
+/// the folder and the answers to the holder are as if the holder's requests were alone; from no locks on, it is enough that
+/// the lock was granted and that the tokens which are handed in differ. And then nothing that an exclusive lock covers changes,
+/// and no lock ends, unless the request names its token.
 ///
 /// `RunFault` where memory ran out outside the store, with the replies that were given before; they are those of a run of
 /// the machine, and of the next request at most the first calls of the store were made, each of them whole.
@@ -173,6 +178,10 @@ pub fn run_refused(
         IsIsolated handler.old.server steps.entry.items replies.items) }
     ensures granted { IfOk result (λ replies.
         IsIsolatedFromGrants handler.old.server steps.entry.items replies.items) }
+    ensures spared { IfOk result (λ replies.
+        PassesNoLockFromNone handler.old.server steps.entry.items replies.items) }
+    ensures standing { IfOk result (λ replies.
+        EndsNoLockFromNone handler.old.server steps.entry.items replies.items) }
     ensures fault { IfErr result (λ fault.
         AnswersSome handler.old.server steps.entry.items fault.replies.items handler.new.server) }
 {

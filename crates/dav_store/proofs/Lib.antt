@@ -12,3 +12,6 @@ pub mod TreeLists
 pub mod TreeSteps
 pub mod TreeNumbers
 pub mod TreeClimbs
+pub mod SearchLemmas
+pub mod KeptLemmas
+pub mod RunLemmas

@@ -31,7 +31,7 @@ suc_less k i h = omega arith
 none_below : {A : Type 0} (i : ℕ) → i < 0 → A
 none_below i h = absurd (omega arith)
 
-first_at : {E : Type 0} (test : E → Bool) (xs : List E) (i : ℕ) (d : E) → i < length xs → test (get_or xs i d) ≡ true
+pub first_at : {E : Type 0} (test : E → Bool) (xs : List E) (i : ℕ) (d : E) → i < length xs → test (get_or xs i d) ≡ true
     → ((k : ℕ) → k < i → test (get_or xs k d) ≡ false) → IsFirst test xs i (get_or xs i d)
 first_at test [] i d within here before = none_below i within
 first_at test (x ∷ xs) zero d within here before = (here, refl)

@@ -7,3 +7,4 @@ pub mod LockCalls
 pub mod Tree
 pub mod TreeLaws
 pub mod TreeLends
+pub mod Entries

@@ -1,287 +1,215 @@
-//! Paths and their nodes, as a list in order of the paths.
-ghost use Rattle.std.specs.Prelude.{◌≡◌, ◌∷◌, ◌++◌, ◌+◌, ◌<◌, ◌≤◌, [], ℕ, List, Some, ◌≢◌, ◌==◌, ◌&&◌, not, IfOk, OnOk, OnErr, Option, option_map, option_copied, position, map, vec_len, length, reverse};
-ghost use Rattle.std.specs.Vec.{vec_capacity};
-ghost use Rattle.std.specs.List.{insert};
+//! Paths and their nodes, as a store in memory keeps them: a list in order of the paths.
+ghost use Rattle.std.specs.Prelude.{◌≡◌, ◌∷◌, ◌++◌, ◌+◌, ◌<◌, ◌≤◌, [], ℕ, List, Some, ◌≢◌, IfOk, OnOk, OnErr, IfSome, Option, option_copied, filter, length};
 ghost use Rattle.std.specs.FinMap.{find, put};
-ghost use Rattle.std.specs.Ordering.{is_le};
-ghost use Rattle.dav_core.specs.Path.{names, path_cmp, is_same_path, is_at_or_under, parent_of};
-ghost use Rattle.dav_core.specs.World.{adjust, touched, prune, graft, union, moved, modified_at, is_folder_node, is_file_node, last_moment, max_file_len, change_node, is_file_made_with, file_made_with, is_folder_kind};
+ghost use Rattle.dav_core.specs.Path.{names, path_cmp, is_at_or_under, parent_of};
+ghost use Rattle.dav_core.specs.World.{adjust, touched, prune, moved, is_folder_node, is_file_node, last_moment, max_file_len, change_node, is_file_made_with, file_made_with};
 ghost use Rattle.dav_core.specs.World.{Node as Seen, fresh};
 ghost use Rattle.dav_core.specs.Calls.{emptied, written, copied_over, repatched};
 ghost use Rattle.dav_core.specs.Property.{Patch, patched};
+ghost use Rattle.dav_store.specs.Entries.{DifferInMaking};
 
+use crate::listed;
 use crate::names::{Name, Names};
 use crate::node::Node;
 use crate::properties::Properties;
 use dav_core::davpath::DavPath;
 use dav_core::errors::NoMemory;
 use std::alloc::Global;
+use std::marker::Model;
 
-// The place of a path in the list.
-fn place(entries: &[(Names, Node)], path: &DavPath) -> Option<usize>
-    ensures { result ≡ position (λ e. is_same_path (names path.now) e.0) entries.now }
-{
-    entries.iter().position(|e| e.0.are_of(path))
+/// Paths and their nodes. `last` is a change number above which no node was created, where each is known to have been
+/// created under a number of its own.
+#[derive(Drop)]
+pub struct Entries {
+    list: Vec<(Names, Node)>,
+    last: Option<u64>,
 }
 
-// The place of a path's folder in the list.
-fn folder_place(entries: &[(Names, Node)], path: &DavPath) -> Option<usize>
-    ensures { result ≡ position (λ e. is_same_path (parent_of (names path.now)) e.0) entries.now }
-{
-    entries.iter().position(|e| e.0.are_of_folder_of(path))
+impl Model for Entries {
+    ghost use Rattle.dav_core.specs.World.{Nodes};
+    ghost use Rattle.dav_store.specs.Entries.{coded_nodes, IsKept};
+
+    ghost Value = { Nodes };
+
+    ghost coded = { coded_nodes };
+
+    ghost view = { λ s. s.list.items };
+
+    ghost invariant = { λ s. IsKept s.last s.list.items };
 }
 
-// The place of the first path that doesn't come before this one.
-fn place_from(entries: &[(Names, Node)], path: &Names) -> Option<usize>
-    ensures { result ≡ position (λ e. is_le (path_cmp path.now e.0)) entries.now }
+impl Clone for Entries {
+    ghost use Rattle.std.specs.Prelude.{◌≡◌};
+
+    ghost is_clone = { λ a b. a ≡ b };
+
+    fn clone(&self) -> Result<Entries, NoMemory> {
+        Ok(Entries {
+            list: self.list.clone()?,
+            last: self.last,
+        })
+    }
+}
+
+/// The root alone.
+pub fn of_root(alloc: Global, root: Node) -> Result<Entries, NoMemory>
+    ensures { IfOk result (λ es. es ≡ ([], root) ∷ []) }
 {
-    entries.iter().position(|e| path.compare(&e.0).is_le())
+    let last = root.creation_number();
+    let mut list = Vec::new(alloc);
+    list.push((Names::root(alloc), root))?;
+    Ok(Entries {
+        list,
+        last: Some(last),
+    })
 }
 
 /// The node at a path.
-pub fn node_at<'a>(entries: &'a [(Names, Node)], path: &DavPath) -> Option<&'a Node>
+pub fn node_at<'a>(entries: &'a Entries, path: &DavPath) -> Option<&'a Node>
     ensures { option_copied result ≡ find path_cmp (names path.now) entries.now }
 {
-    match place(entries, path) {
-        None => None,
-        Some(i) => Some(&entries[i].1),
-    }
-}
-
-/// The node at the folder of a path.
-pub fn folder_of<'a>(entries: &'a [(Names, Node)], path: &DavPath) -> Option<&'a Node>
-    ensures { option_copied result ≡ find path_cmp (parent_of (names path.now)) entries.now }
-{
-    match folder_place(entries, path) {
-        None => None,
-        Some(i) => Some(&entries[i].1),
-    }
+    listed::node_at(&entries.list, path)
 }
 
 /// Whether there is a folder at a path.
-pub fn is_folder(entries: &[(Names, Node)], path: &DavPath) -> bool
+pub fn is_folder(entries: &Entries, path: &DavPath) -> bool
     ensures { result ≡ is_folder_node (find path_cmp (names path.now) entries.now) }
 {
-    match node_at(entries, path) {
-        Some(node) => node.is_folder(),
-        None => false,
-    }
+    listed::is_folder(&entries.list, path)
 }
 
 /// Whether there is a file at a path.
-pub fn is_file(entries: &[(Names, Node)], path: &DavPath) -> bool
+pub fn is_file(entries: &Entries, path: &DavPath) -> bool
     ensures { result ≡ is_file_node (find path_cmp (names path.now) entries.now) }
 {
-    match node_at(entries, path) {
-        Some(node) => !node.is_folder(),
-        None => false,
-    }
+    listed::is_file(&entries.list, path)
 }
 
 /// Whether there is a folder above a path.
-pub fn has_folder(entries: &[(Names, Node)], path: &DavPath) -> bool
+pub fn has_folder(entries: &Entries, path: &DavPath) -> bool
     ensures { result ≡ is_folder_node (find path_cmp (parent_of (names path.now)) entries.now) }
 {
-    match folder_of(entries, path) {
-        Some(node) => node.is_folder(),
-        None => false,
-    }
+    listed::has_folder(&entries.list, path)
+}
+
+/// The node at a name in a folder.
+pub fn member_at<'a>(entries: &'a Entries, folder: &Names, name: &Name) -> Option<&'a Node>
+    ensures { option_copied result ≡ find path_cmp (folder.now ++ name.now ∷ []) entries.now }
+{
+    listed::member_at(&entries.list, folder, name)
+}
+
+/// What is at a path and below it, in order.
+pub fn at_or_below<'a>(entries: &'a Entries, path: &DavPath) -> &'a [(Names, Node)]
+    ensures { result.now ≡ filter (λ e. is_at_or_under e.0 (names path.now)) entries.now }
+{
+    listed::at_or_below(&entries.list, path)
 }
 
 /// Sets the moment at which the folder of a path was last changed.
-pub fn touch_folder(entries: &mut [(Names, Node)], path: &DavPath, now: u64)
+pub fn touch_folder(entries: &mut Entries, path: &DavPath, now: u64)
     requires { now ≤ last_moment }
     ensures { entries.new ≡ touched (names path.now) now entries.old }
 {
-    if let Some(i) = folder_place(entries, path) {
-        entries[i].1.touch(now);
-    }
+    listed::touch_folder(&mut entries.list, path, now);
 }
 
 /// Empties the file at a path, which takes this number.
-pub fn empty_at(entries: &mut [(Names, Node)], path: &DavPath, number: u64, now: u64)
+pub fn empty_at(entries: &mut Entries, path: &DavPath, number: u64, now: u64)
     requires { now ≤ last_moment }
     ensures { entries.new ≡ adjust (names path.now) (emptied number now) entries.old }
 {
-    if let Some(i) = place(entries, path) {
-        entries[i].1.empty(number, now);
-    }
+    listed::empty_at(&mut entries.list, path, number, now);
 }
 
 /// Removes what is at a path and below it.
-pub fn prune(entries: &mut Vec<(Names, Node)>, path: &DavPath)
-    ensures { entries.new.items ≡ prune (names path.now) entries.old.items }
+pub fn prune(entries: &mut Entries, path: &DavPath)
+    ensures { entries.new ≡ prune (names path.now) entries.old }
 {
-    entries.retain(|e| !e.0.are_at_or_below(path));
-}
-
-// Adds a node at the end, where there is room.
-fn push_within(entries: &mut Vec<(Names, Node)>, path: Names, node: Node)
-    requires { vec_len entries.old < vec_capacity entries.old }
-    ensures items { entries.new.items ≡ entries.old.items ++ (path, node) ∷ [] }
-    ensures len { vec_len entries.new ≡ vec_len entries.old + 1 }
-    ensures capacity { vec_capacity entries.old ≤ vec_capacity entries.new }
-{
-    let _ = entries.push((path, node));
-}
-
-// Inserts a node, where there is room.
-fn insert_within(entries: &mut Vec<(Names, Node)>, index: usize, path: Names, node: Node)
-    requires room { vec_len entries.old < vec_capacity entries.old }
-    requires within { index ≤ vec_len entries.old }
-    ensures items { entries.new.items ≡ insert entries.old.items index (path, node) }
-    ensures len { vec_len entries.new ≡ vec_len entries.old + 1 }
-    ensures capacity { vec_capacity entries.old ≤ vec_capacity entries.new }
-{
-    let _ = entries.insert(index, (path, node));
-}
-
-/// Puts a node at a path, in place of what is there; there must be room for it.
-pub fn put_node(entries: &mut Vec<(Names, Node)>, path: Names, node: Node)
-    requires { vec_len entries.old < vec_capacity entries.old }
-    ensures items { entries.new.items ≡ put path_cmp path node entries.old.items }
-    ensures len { vec_len entries.new ≤ vec_len entries.old + 1 }
-    ensures capacity { vec_capacity entries.old ≤ vec_capacity entries.new }
-{
-    match place_from(entries, &path) {
-        Some(i) => {
-            if path.compare(&entries[i].0).is_eq() {
-                entries[i].1 = node;
-            } else {
-                insert_within(entries, i, path, node);
-            }
-        }
-        None => push_within(entries, path, node),
-    }
-}
-
-/// Puts each of these nodes at its path, in place of what is there; there must be room for them.
-fn put_all(entries: &mut Vec<(Names, Node)>, mut nodes: Vec<(Names, Node)>)
-    requires { vec_len entries.old + vec_len nodes ≤ vec_capacity entries.old }
-    ensures { entries.new.items ≡ union nodes.items entries.old.items }
-{
-    while let Some((path, node)) = nodes.pop() {
-        put_node(entries, path, node);
-    }
-}
-
-// The new paths of what is at `from` and below it, once it is at `to`.
-fn grafted_keys(
-    alloc: Global,
-    entries: &[(Names, Node)],
-    from: &DavPath,
-    to: &DavPath,
-) -> Result<Vec<Names>, NoMemory>
-    ensures { IfOk result (λ keys. keys.items
-        ≡ map (λ e. e.0) (graft (names from.now) (names to.now) entries.now)) }
-{
-    let mut keys = Vec::new(alloc);
-    for e in entries {
-        if let Some(key) = e.0.graft(alloc, from, to)? {
-            keys.push(key)?;
-        }
-    }
-    Ok(keys)
-}
-
-// Splits the nodes, the last of which comes first, into those that move, under their new paths, and those that stay
-// and aren't replaced.
-fn part(
-    old: &mut Vec<(Names, Node)>,
-    keys: &mut Vec<Names>,
-    from: &DavPath,
-    to: &DavPath,
-    kept: &mut Vec<(Names, Node)>,
-    moving: &mut Vec<(Names, Node)>,
-)
-    requires keys { reverse keys.old.items
-        ≡ map (λ e. e.0) (graft (names from.now) (names to.now) (reverse old.old.items)) }
-    requires kept_room { vec_len kept.old + vec_len old.old ≤ vec_capacity kept.old }
-    requires moving_room { vec_len moving.old + vec_len keys.old ≤ vec_capacity moving.old }
-    ensures kept { kept.new.items ≡ kept.old.items ++ prune (names to.now)
-        (prune (names from.now) (reverse old.old.items)) }
-    ensures moving { moving.new.items ≡ moving.old.items ++ graft (names from.now) (names to.now)
-        (reverse old.old.items) }
-    ensures kept_capacity { vec_capacity kept.old ≤ vec_capacity kept.new }
-    ensures count { vec_len kept.new + vec_len moving.new
-        ≤ vec_len kept.old + vec_len moving.old + vec_len old.old }
-{
-    while let Some((path, node)) = old.pop() {
-        if path.are_at_or_below(from) {
-            if let Some(key) = keys.pop() {
-                push_within(moving, key, node);
-            }
-        } else if !path.are_at_or_below(to) {
-            push_within(kept, path, node);
-        }
-    }
+    listed::prune(&mut entries.list, path);
 }
 
 /// Moves what is at `from` and below it to `to`, in place of what is there. Where memory runs out, nothing changes.
 pub fn move_nodes(
     alloc: Global,
-    entries: &mut Vec<(Names, Node)>,
+    entries: &mut Entries,
     from: &DavPath,
     to: &DavPath,
 ) -> Result<(), NoMemory>
-    ensures ok { OnOk result (entries.new.items
-        ≡ moved (names from.now) (names to.now) entries.old.items) }
-    ensures err { OnErr result (entries.new.items ≡ entries.old.items) }
+    ensures ok { OnOk result (entries.new
+        ≡ moved (names from.now) (names to.now) entries.old) }
+    ensures err { OnErr result (entries.new ≡ entries.old) }
 {
-    let mut keys = grafted_keys(alloc, entries, from, to)?;
-    let mut moving = Vec::with_capacity(alloc, keys.len())?;
-    let mut kept = Vec::with_capacity(alloc, entries.len())?;
-    entries.reverse();
-    keys.reverse();
-    part(entries, &mut keys, from, to, &mut kept, &mut moving);
-    put_all(&mut kept, moving);
-    *entries = kept;
+    listed::move_nodes(alloc, &mut entries.list, from, to)
+}
+
+// The number above which no node was created, once one more is created under this number.
+fn last_with(last: Option<u64>, made: u64) -> Option<u64>
+    ensures { IfSome result (λ m. (m ≡ made) × ((n : ℕ) × (last ≡ Some n) × (n < made))) }
+{
+    if last? < made { Some(made) } else { None }
+}
+
+// Puts a node at a path, in place of what is there. Where memory runs out, nothing changes.
+fn put_at(alloc: Global, entries: &mut Entries, path: &DavPath, node: Node) -> Result<(), NoMemory>
+    ensures ok { OnOk result (entries.new ≡ put path_cmp (names path.now) node entries.old) }
+    ensures err { OnErr result (entries.new ≡ entries.old) }
+{
+    let last = last_with(entries.last, node.creation_number());
+    listed::put_at(alloc, &mut entries.list, path, node)?;
+    entries.last = last;
     Ok(())
 }
 
 /// Adds a new node at a path, and changes its folder at this moment. Where memory runs out, nothing changes.
 pub fn add_node(
     alloc: Global,
-    entries: &mut Vec<(Names, Node)>,
+    entries: &mut Entries,
     path: &DavPath,
     node: Node,
     now: u64,
 ) -> Result<(), NoMemory>
     requires { now ≤ last_moment }
-    ensures ok { OnOk result (entries.new.items
-        ≡ touched (names path.now) now (put path_cmp (names path.now) node entries.old.items)) }
-    ensures err { OnErr result (entries.new.items ≡ entries.old.items) }
+    ensures ok { OnOk result (entries.new
+        ≡ touched (names path.now) now (put path_cmp (names path.now) node entries.old)) }
+    ensures err { OnErr result (entries.new ≡ entries.old) }
 {
-    let key = Names::of(alloc, path)?;
-    entries.reserve(1)?;
-    put_node(entries, key, node);
+    put_at(alloc, entries, path, node)?;
     touch_folder(entries, path, now);
     Ok(())
 }
 
-// The place of the file that was created under this change number.
-fn made_place(entries: &[(Names, Node)], made: u64) -> Option<usize>
-    ensures { result ≡ position
-        (λ e. (e.1.made == made) && not (is_folder_kind e.1.kind)) entries.now }
-{
-    entries.iter().position(|e| e.1.is_file_made_with(made))
+/// The place of what is at a path, by which it can be found again as long as nothing comes or goes before it.
+pub fn hint_of(entries: &Entries, path: &DavPath) -> usize {
+    match listed::place(&entries.list, path) {
+        Some(i) => i,
+        None => 0,
+    }
 }
 
-/// The file that was created under this change number.
-pub fn file_made_with(entries: &[(Names, Node)], made: u64) -> Option<&Node>
+// The hint, where what is found by it is the only one.
+fn sure_hint(entries: &Entries, hint: usize) -> Option<usize>
+    ensures { IfSome result (λ _. DifferInMaking entries.now) }
+{
+    match entries.last {
+        Some(_) => Some(hint),
+        None => None,
+    }
+}
+
+/// The file that was created under this change number. It is looked for at the hint first.
+pub fn file_made_with(entries: &Entries, made: u64, hint: usize) -> Option<&Node>
     ensures { option_copied result ≡ file_made_with made entries.now }
 {
-    match made_place(entries, made) {
-        None => None,
-        Some(i) => Some(&entries[i].1),
-    }
+    listed::file_made_with(&entries.list, made, sure_hint(entries, hint))
 }
 
 /// Writes bytes to the file that was created under this change number. Where memory runs out, nothing changes.
 pub fn write_file_made_with(
     alloc: Global,
-    entries: &mut [(Names, Node)],
+    entries: &mut Entries,
     made: u64,
+    hint: usize,
     place: usize,
     chunk: &[u8],
     number: u64,
@@ -294,47 +222,33 @@ pub fn write_file_made_with(
         ≡ change_node (is_file_made_with made) (written place chunk.now number now) entries.old) }
     ensures err { OnErr result (entries.new ≡ entries.old) }
 {
-    if let Some(i) = made_place(entries, made) {
-        entries[i].1.write(alloc, place, chunk, number, now)?;
-    }
-    Ok(())
+    let hint = sure_hint(entries, hint);
+    listed::write_file_made_with(
+        alloc,
+        &mut entries.list,
+        made,
+        hint,
+        place,
+        chunk,
+        number,
+        now,
+    )
 }
 
 /// Gives the file at a path all that a copy has; it stays the node that it was.
-pub fn copy_over(entries: &mut [(Names, Node)], path: &DavPath, copy: Node)
+pub fn copy_over(entries: &mut Entries, path: &DavPath, copy: Node)
     ensures { (source : Seen) (number now : ℕ) → copy
         ≡ record (fresh number source.kind now) { properties = source.properties } → entries.new
         ≡ adjust (names path.now) (copied_over source number now) entries.old }
 {
-    if let Some(i) = place(entries, path) {
-        entries[i].1.become_like(copy);
-    }
+    listed::copy_over(&mut entries.list, path, copy);
 }
 
 /// Replaces the properties of the node at a path, by its own after some changes.
-pub fn set_properties_at(entries: &mut [(Names, Node)], path: &DavPath, properties: Properties)
+pub fn set_properties_at(entries: &mut Entries, path: &DavPath, properties: Properties)
     ensures { (n : Seen) (patches : List Patch) → find path_cmp (names path.now) entries.old
         ≡ Some n → properties ≡ patched patches n.properties → entries.new
         ≡ adjust (names path.now) (repatched patches) entries.old }
 {
-    if let Some(i) = place(entries, path) {
-        entries[i].1.set_properties(properties);
-    }
-}
-
-// The place of the path that is a folder's names and one more.
-fn member_place(entries: &[(Names, Node)], folder: &Names, name: &Name) -> Option<usize>
-    ensures { result ≡ position (λ e. is_same_path (folder.now ++ name.now ∷ []) e.0) entries.now }
-{
-    entries.iter().position(|e| e.0.are_of_member(folder, name))
-}
-
-/// The node at a name in a folder.
-pub fn member_at<'a>(entries: &'a [(Names, Node)], folder: &Names, name: &Name) -> Option<&'a Node>
-    ensures { option_copied result ≡ find path_cmp (folder.now ++ name.now ∷ []) entries.now }
-{
-    match member_place(entries, folder, name) {
-        None => None,
-        Some(i) => Some(&entries[i].1),
-    }
+    listed::set_properties_at(&mut entries.list, path, properties);
 }

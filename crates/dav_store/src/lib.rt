@@ -5,6 +5,7 @@
 mod asserting;
 mod entries;
 pub mod laws;
+mod listed;
 pub mod memfs;
 pub mod memls;
 mod names;

@@ -12,6 +12,7 @@ mod filesystem;
 mod tests;
 
 use crate::entries;
+use crate::entries::Entries;
 use crate::names::{Name, Names};
 use crate::node::Node;
 use crate::properties::Properties;
@@ -32,7 +33,7 @@ pub const MAX_FILE_LEN: u64 = 2_147_483_647;
 /// then, and `was_short` is true from then on.
 #[derive(Drop)]
 pub struct MemFs {
-    entries: Vec<(Names, Node)>,
+    entries: Entries,
     next: u64,
     short: bool,
 }
@@ -45,7 +46,7 @@ impl Model for MemFs {
 
     ghost coded = { coded_store };
 
-    ghost view = { λ s. record { world = record { nodes = s.entries.items; next = s.next }; short = s.short } };
+    ghost view = { λ s. record { world = record { nodes = s.entries; next = s.next }; short = s.short } };
 }
 
 /// An independent copy: a change to one doesn't change the other.
@@ -71,6 +72,7 @@ pub struct MemFile {
     reads: bool,
     writes: bool,
     appends: bool,
+    hint: usize,
 }
 
 impl Model for MemFile {
@@ -87,7 +89,7 @@ impl MemFile {
     ghost use Rattle.dav_core.specs.Metadata.{opening_of};
 
     // A file that was just opened.
-    fn open(made: u64, options: &OpenOptions) -> MemFile
+    fn open(made: u64, options: &OpenOptions, hint: usize) -> MemFile
         ensures { result ≡ opened made (opening_of options.now) }
     {
         MemFile {
@@ -96,6 +98,7 @@ impl MemFile {
             reads: options.read,
             writes: options.write || options.append,
             appends: options.append,
+            hint,
         }
     }
 
@@ -130,8 +133,12 @@ pub struct MemEntry {
     dir: bool,
 }
 
-// The entries of a folder, in order.
-fn list(alloc: Global, entries: &[(Names, Node)], path: &DavPath) -> Result<Vec<MemEntry>, NoMemory>
+// The entries of a folder that are in a list, in order.
+fn list_among(
+    alloc: Global,
+    entries: &[(Names, Node)],
+    path: &DavPath,
+) -> Result<Vec<MemEntry>, NoMemory>
     ensures members { IfOk result (λ list. map (λ e. (e.name, e.dir)) list.items
         ≡ members (names path.now) entries.now) }
     ensures folder { IfOk result
@@ -150,7 +157,17 @@ fn list(alloc: Global, entries: &[(Names, Node)], path: &DavPath) -> Result<Vec<
     Ok(list)
 }
 
-// Whether something is directly below a path.
+// The entries of a folder, in order.
+fn list(alloc: Global, entries: &Entries, path: &DavPath) -> Result<Vec<MemEntry>, NoMemory>
+    ensures members { IfOk result (λ list. map (λ e. (e.name, e.dir)) list.items
+        ≡ members (names path.now) entries.now) }
+    ensures folder { IfOk result
+        (λ list. map (λ e. e.folder) list.items ≡ map (λ _. names path.now) list.items) }
+{
+    list_among(alloc, entries::at_or_below(entries, path), path)
+}
+
+// Whether something in a list is directly below a path.
 fn any_below(entries: &[(Names, Node)], path: &DavPath) -> bool
     ensures { result ≡ list_any
         (λ e. is_some (only_name (rest_after (names path.now) e.0))) entries.now }
@@ -159,10 +176,10 @@ fn any_below(entries: &[(Names, Node)], path: &DavPath) -> bool
 }
 
 // Whether a folder has members.
-fn has_members(entries: &[(Names, Node)], path: &DavPath) -> bool
+fn has_members(entries: &Entries, path: &DavPath) -> bool
     ensures { result ≡ is_nonempty (members (names path.now) entries.now) }
 {
-    any_below(entries, path)
+    any_below(entries::at_or_below(entries, path), path)
 }
 
 // The properties after these changes, in their order, and the answers to them.
@@ -200,10 +217,8 @@ impl MemFs {
     pub fn new_at(alloc: Global, next: u64) -> Result<MemFs, NoMemory>
         ensures { IfOk result (λ s. s ≡ record { world = empty_from (max next 1); short = false }) }
     {
-        let mut entries = Vec::new(alloc);
-        entries.push((Names::root(alloc), Node::new_folder(alloc, 0, 0)))?;
         Ok(MemFs {
-            entries,
+            entries: entries::of_root(alloc, Node::new_folder(alloc, 0, 0))?,
             next: next.max(1),
             short: false,
         })
@@ -256,7 +271,8 @@ impl MemFs {
         if options.create_new {
             return Err(FsError::Exists);
         }
-        let file = MemFile::open(node.creation_number(), options);
+        let hint = entries::hint_of(&self.entries, path);
+        let file = MemFile::open(node.creation_number(), options, hint);
         if !options.truncate {
             return Ok(file);
         }
@@ -290,13 +306,14 @@ impl MemFs {
             return Err(FsError::GeneralFailure);
         }
         let node = Node::new_file(alloc, self.next, now);
-        let file = MemFile::open(self.next, options);
+        let made = self.next;
         if let Err(_) = entries::add_node(alloc, &mut self.entries, path, node, now) {
             self.short = true;
             return Err(FsError::InsufficientStorage);
         }
         self.next += 1;
-        Ok(file)
+        let hint = entries::hint_of(&self.entries, path);
+        Ok(MemFile::open(made, options, hint))
     }
 
     // Writes these bytes, as `write_bytes` does.
@@ -312,7 +329,7 @@ impl MemFs {
             (seen (λ _. file.new) result) self.old self.new }
         ensures err { OnErr result (file.new ≡ file.old) }
     {
-        let Some(node) = entries::file_made_with(&self.entries, file.made) else {
+        let Some(node) = entries::file_made_with(&self.entries, file.made, file.hint) else {
             return Err(FsError::NotFound);
         };
         let place = file.write_place(node.bytes().len());
@@ -333,6 +350,7 @@ impl MemFs {
             alloc,
             &mut self.entries,
             made,
+            file.hint,
             place as usize,
             chunk,
             number,
@@ -351,7 +369,7 @@ impl MemFs {
         ensures { (bytes : List ℕ) (now : ℕ) → length bytes ≡ len → result
             ≡ refusal_in (write_bytes self.now.world file.now bytes now) }
     {
-        let Some(node) = entries::file_made_with(&self.entries, file.made) else {
+        let Some(node) = entries::file_made_with(&self.entries, file.made, file.hint) else {
             return Some(FsError::NotFound);
         };
         let place = file.write_place(node.bytes().len());

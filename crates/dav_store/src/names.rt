@@ -134,6 +134,44 @@ fn compare_segments(mut segments: Segments<'_>, names: &[Name]) -> Ordering
     }
 }
 
+// Compares the folder of these segments, the first of which comes by itself, with a list of names.
+fn compare_folder(first: &[u8], mut others: Segments<'_>, names: &[Name]) -> Ordering
+    ensures { result ≡ path_cmp (parent_of (first.now ∷ names_left others.entry)) names.now }
+{
+    let Some(second) = others.next() else {
+        return compare_names(&[], names);
+    };
+    match names {
+        [] => Ordering::Greater,
+        [y, ys @ ..] => match first.cmp(&y.as_slice()) {
+            Ordering::Equal => compare_folder(second, others, ys),
+            other => other,
+        },
+    }
+}
+
+// Compares a folder's names and one name more with a list of names.
+fn compare_member(folder: &[Name], name: &Name, names: &[Name]) -> Ordering
+    ensures { result ≡ path_cmp (folder.now ++ name.now ∷ []) names.now }
+{
+    match folder {
+        [] => match names {
+            [] => Ordering::Greater,
+            [y, ys @ ..] => match name.compare(y) {
+                Ordering::Equal => compare_names(&[], ys),
+                other => other,
+            },
+        },
+        [x, xs @ ..] => match names {
+            [] => Ordering::Greater,
+            [y, ys @ ..] => match x.compare(y) {
+                Ordering::Equal => compare_member(xs, name, ys),
+                other => other,
+            },
+        },
+    }
+}
+
 // The names that follow the segments; `None` where the names don't begin with the segments.
 fn rest_after<'a>(mut segments: Segments<'_>, names: &'a [Name]) -> Option<&'a [Name]>
     ensures { option_copied result ≡ rest_after (names_left segments.entry) names.now }
@@ -150,48 +188,6 @@ fn rest_after<'a>(mut segments: Segments<'_>, names: &'a [Name]) -> Option<&'a [
                 None
             }
         }
-    }
-}
-
-// Whether the names are all but the last of these segments, the first of which comes by itself.
-fn are_all_but_last(first: &[u8], mut others: Segments<'_>, names: &[Name]) -> bool
-    ensures { result ≡ is_same_path (parent_of (first.now ∷ names_left others.entry)) names.now }
-{
-    let Some(second) = others.next() else {
-        return names.is_empty();
-    };
-    match names {
-        [] => false,
-        [y, ys @ ..] => {
-            if y.is(first) {
-                are_all_but_last(second, others, ys)
-            } else {
-                false
-            }
-        }
-    }
-}
-
-// Whether the names are those of a folder, and then this one name.
-fn are_of_member(folder: &[Name], name: &Name, names: &[Name]) -> bool
-    ensures { result ≡ is_same_path (folder.now ++ name.now ∷ []) names.now }
-{
-    match folder {
-        [] => match names {
-            [] => false,
-            [y] => name.compare(y).is_eq(),
-            [_, _, ..] => false,
-        },
-        [x, xs @ ..] => match names {
-            [] => false,
-            [y, ys @ ..] => {
-                if x.compare(y).is_eq() {
-                    are_of_member(xs, name, ys)
-                } else {
-                    false
-                }
-            }
-        },
     }
 }
 
@@ -226,22 +222,29 @@ impl Names {
         compare_names(&self.names, &other.names)
     }
 
-    /// Whether these are the names of the path.
-    pub fn are_of(&self, path: &DavPath) -> bool
-        ensures { result ≡ is_same_path (names path.now) self.now }
+    /// How a path compares with these names.
+    pub fn follow(&self, path: &DavPath) -> Ordering
+        ensures { result ≡ path_cmp (names path.now) self.now }
     {
-        compare_segments(path.segments(), &self.names).is_eq()
+        compare_segments(path.segments(), &self.names)
     }
 
-    /// Whether these are the names of the path's folder.
-    pub fn are_of_folder_of(&self, path: &DavPath) -> bool
-        ensures { result ≡ is_same_path (parent_of (names path.now)) self.now }
+    /// How the folder of a path compares with these names.
+    pub fn follow_folder_of(&self, path: &DavPath) -> Ordering
+        ensures { result ≡ path_cmp (parent_of (names path.now)) self.now }
     {
         let mut segments = path.segments();
         match segments.next() {
-            None => self.names.is_empty(),
-            Some(first) => are_all_but_last(first, segments, &self.names),
+            None => compare_names(&[], &self.names),
+            Some(first) => compare_folder(first, segments, &self.names),
         }
+    }
+
+    /// How a folder's names and one name more compare with these names.
+    pub fn follow_member(&self, folder: &Names, name: &Name) -> Ordering
+        ensures { result ≡ path_cmp (folder.now ++ name.now ∷ []) self.now }
+    {
+        compare_member(&folder.names, name, &self.names)
     }
 
     /// Whether these names are at the path or below it.
@@ -249,13 +252,6 @@ impl Names {
         ensures { result ≡ is_at_or_under self.now (names path.now) }
     {
         rest_after(path.segments(), &self.names).is_some()
-    }
-
-    /// Whether these are the names of the folder, and then this one name.
-    pub fn are_of_member(&self, folder: &Names, name: &Name) -> bool
-        ensures { result ≡ is_same_path (folder.now ++ name.now ∷ []) self.now }
-    {
-        are_of_member(&folder.names, name, &self.names)
     }
 
     /// The one name that follows those of the path; `None` where there isn't exactly one.

@@ -1,12 +1,12 @@
 //! Laws of locked folders. Each function does nothing: its contract is a theorem on the definitions.
 ghost use Rattle.dav_engine.specs.Alongside.{AlongsideAgree, SpareNumbersSuffice};
-ghost use Rattle.dav_engine.specs.AlongsidePlans.{PutGoesAlong, MkcolGoesAlong, DeleteGoesAlong, UnlockGoesAlong};
-ghost use Rattle.dav_engine.specs.Ending.{KeptLocksStand, KeptLocksStandCut, ReadingKeepsLocks, PutKeepsLocks, MkcolKeepsLocks, DeleteKeepsLocks, UnlockKeepsLocks, LockKeepsLocks};
+ghost use Rattle.dav_engine.specs.AlongsidePlans.{PutGoesAlong, MkcolGoesAlong, DeleteGoesAlong, OptionsGoesAlong, UnlockGoesAlong, LockGoesAlong, CopyMoveGoesAlong, PropfindGoesAlong, ProppatchGoesAlong};
+ghost use Rattle.dav_engine.specs.Ending.{KeptLocksStand, KeptLocksStandCut, ReadingKeepsLocks, PutKeepsLocks, MkcolKeepsLocks, DeleteKeepsLocks, UnlockKeepsLocks, LockKeepsLocks, CopyMoveKeepsLocks, ProppatchKeepsLocks};
 ghost use Rattle.dav_engine.specs.Guard.{FreeIsHeld, FreeIsApart, FreeIsUncovered, GrantedGuards, SharedGuards};
 ghost use Rattle.dav_engine.specs.Inside.{FoldersAreAbove};
-ghost use Rattle.dav_engine.specs.ListChanges.{ListsAreChanged, ListsAreChangedCut, ChangesKeepShared, ChangesBringTokens, ReadingChangesList, PutChangesList, MkcolChangesList, DeleteChangesList, UnlockChangesList, LockChangesList};
+ghost use Rattle.dav_engine.specs.ListChanges.{ListsAreChanged, ListsAreChangedCut, ChangesKeepShared, ChangesBringTokens, ReadingChangesList, PutChangesList, MkcolChangesList, DeleteChangesList, CopyMoveChangesList, UnlockChangesList, LockChangesList, ProppatchChangesList};
 ghost use Rattle.dav_engine.specs.Sparing.{SparingLeavesCovered, SparingLeavesCoveredCut, SparingLeavesInside};
-ghost use Rattle.dav_engine.specs.SparingPlans.{ReadingSpares, PutSpares, MkcolSpares, DeleteSpares, UnlockSpares, LockSpares};
+ghost use Rattle.dav_engine.specs.SparingPlans.{ReadingSpares, PutSpares, MkcolSpares, DeleteSpares, CopyMoveSpares, UnlockSpares, LockSpares, ProppatchSpares};
 
 /// At a folder that a lock guards (exclusive, of infinite depth) and below it, a path is free exactly for the requester that
 /// holds the lock. What is free with everything below, for any other requester, is apart from the folder. And what is free
@@ -27,27 +27,35 @@ pub fn sparing_plans_leave_locked_content()
     ensures inside { SparingLeavesInside }
 {}
 
-/// PUT, PATCH, MKCOL and DELETE of a client that doesn't hold an exclusive lock spare what it covers. Plans that only read spare
-/// all, and so does an UNLOCK, whoever asks for it; a LOCK spares what an exclusive lock covers, unless its own token is that
-/// lock's (RFC 4918, sections 7, 9.10 and 9.11).
+/// PUT, PATCH, MKCOL, DELETE, COPY, MOVE and PROPPATCH of a client that doesn't hold an exclusive lock spare what it covers. Plans that only read spare
+/// all, and so does an UNLOCK, whoever asks for it. A LOCK whose own token isn't that lock's spares what an exclusive lock covers,
+/// whoever asks for it, and leaves a lock that guards its folder guarding it (RFC 4918, sections 7, 9.10 and 9.11).
 pub fn strangers_spare_what_is_locked()
     ensures reading { ReadingSpares }
     ensures put { PutSpares }
     ensures mkcol { MkcolSpares }
     ensures delete { DeleteSpares }
+    ensures copy_move { CopyMoveSpares }
     ensures unlock { UnlockSpares }
     ensures lock { LockSpares }
+    ensures proppatch { ProppatchSpares }
 {}
 
 /// A plan that goes along with itself has the same outcome in two worlds that have the same content in a guarded folder, but
-/// for change numbers and times, and leaves the same content there. PUT, PATCH, MKCOL and DELETE at the folder or below it,
-/// with the guard's token as their only condition, have such plans, and so has an UNLOCK with the guard's token.
+/// for change numbers and times, and leaves the same content there. PUT, PATCH, MKCOL, DELETE and PROPPATCH at the folder or below
+/// it, and COPY and MOVE from there to there, with the guard's token as their only condition, have such plans; so have a LOCK,
+/// which refreshes the guard or is refused, an UNLOCK with the guard's token, and any OPTIONS or PROPFIND there.
 pub fn plans_agree_in_alike_worlds()
     ensures agree { AlongsideAgree }
     ensures put { PutGoesAlong }
     ensures mkcol { MkcolGoesAlong }
     ensures delete { DeleteGoesAlong }
+    ensures copy_move { CopyMoveGoesAlong }
+    ensures options { OptionsGoesAlong }
     ensures unlock { UnlockGoesAlong }
+    ensures lock { LockGoesAlong }
+    ensures propfind { PropfindGoesAlong }
+    ensures proppatch { ProppatchGoesAlong }
 {}
 
 /// A plan that ends with a change number to spare found each number that it took.
@@ -65,8 +73,8 @@ pub fn granted_locks_guard_their_folders()
 {}
 
 /// A lock that a plan leaves in the list stands after it, whatever the store refuses, and also where memory runs out in the
-/// plan. Plans that only read leave every lock, and so do PUT, PATCH and MKCOL, whoever
-/// asks for them, a DELETE of a client that doesn't hold the lock, an UNLOCK of another token, and a LOCK with another token for its
+/// plan. Plans that only read leave every lock, and so do PUT, PATCH, MKCOL and PROPPATCH, whoever
+/// asks for them, a DELETE, COPY or MOVE of a client that doesn't hold the lock, an UNLOCK of another token, and a LOCK with another token for its
 /// own lock (RFC 4918, sections 7, 9.6, 9.10 and 9.11).
 pub fn kept_locks_stand()
     ensures stands { KeptLocksStand }
@@ -75,13 +83,15 @@ pub fn kept_locks_stand()
     ensures put { PutKeepsLocks }
     ensures mkcol { MkcolKeepsLocks }
     ensures delete { DeleteKeepsLocks }
+    ensures copy_move { CopyMoveKeepsLocks }
     ensures unlock { UnlockKeepsLocks }
     ensures lock { LockKeepsLocks }
+    ensures proppatch { ProppatchKeepsLocks }
 {}
 
 /// Each change that a plan makes to the list of locks is a grant of a lock with the client's token where it may be granted, a
 /// refresh, an unlock, or the end of the locks at a path and below it; also where memory runs out in the plan, and whatever the
-/// store refuses. Plans that only read change no list, nor do PUT, PATCH and MKCOL (RFC 4918, sections 6.1, 7 and 9.11).
+/// store refuses. Plans that only read change no list, nor do PUT, PATCH, MKCOL and PROPPATCH (RFC 4918, sections 6.1, 7 and 9.11).
 pub fn lists_are_changed()
     ensures changed { ListsAreChanged }
     ensures cut { ListsAreChangedCut }
@@ -89,8 +99,10 @@ pub fn lists_are_changed()
     ensures put { PutChangesList }
     ensures mkcol { MkcolChangesList }
     ensures delete { DeleteChangesList }
+    ensures copy_move { CopyMoveChangesList }
     ensures unlock { UnlockChangesList }
     ensures lock { LockChangesList }
+    ensures proppatch { ProppatchChangesList }
 {}
 
 /// Through such changes locks that cover one path stay shared, and no lock has a token but those that locks had before, and the

@@ -69,9 +69,6 @@ const REFUSED_REQUESTS: &str = r##"
 # a method that is not known
 {"requests":[{"head":"FOO / HTTP/1.1\r\n\r\n"}]}
 {"body":null,"headers":{"content-length":"0"},"status":501}
-# OPTIONS of the whole server
-{"requests":[{"head":"OPTIONS * HTTP/1.1\r\n\r\n"}]}
-{"body":null,"headers":{"content-length":"0"},"status":501}
 # a method that is known and not implemented
 {"requests":[{"head":"PROPFIND /x HTTP/1.1\r\n\r\n"}]}
 {"body":null,"headers":{"content-length":"0"},"status":501}

@@ -54,9 +54,9 @@ dav_if_match | PUT /f | if: (<urn:t:2>) -> false, 1 tokens
 
 // A request of the engine, and its body.
 #[derive(Drop)]
-struct EngineRequest {
-    request: DavRequest,
-    body: Body,
+pub(super) struct EngineRequest {
+    pub(super) request: DavRequest,
+    pub(super) body: Body,
 }
 
 // An element with one element in it.
@@ -75,13 +75,14 @@ fn lock_info(alloc: Global, scope: &str) -> Result<Element, NoMemory> {
 }
 
 // The request of a row, without the call.
-fn request_of(alloc: Global, text: &'static str) -> Result<EngineRequest, Fail> {
+pub(super) fn request_of(alloc: Global, text: &'static str) -> Result<EngineRequest, Fail> {
     let mut parts = text.split(" | ");
     let (name, path) = parts
         .next()
         .unwrap_or("")
         .split_once(' ')
         .ok_or(NoRow(text))?;
+    let mut path = DavPath::new(alloc, path)?;
     let mut headers = HeaderMap::new(alloc);
     let mut body = Body::None;
     for part in parts {
@@ -89,6 +90,8 @@ fn request_of(alloc: Global, text: &'static str) -> Result<EngineRequest, Fail> 
             body = Body::Bytes(Bytes::from_static(bytes.as_bytes()));
         } else if let Some(scope) = part.strip_prefix("lockinfo ") {
             body = Body::Tree(lock_info(alloc, scope)?);
+        } else if let Some(prefix) = part.strip_prefix("prefix ") {
+            path.set_prefix(prefix)?;
         } else {
             let (name, value) = part.split_once(": ").ok_or(NoRow(part))?;
             let name = HeaderName::from_bytes(alloc, name.as_bytes())?;
@@ -97,7 +100,7 @@ fn request_of(alloc: Global, text: &'static str) -> Result<EngineRequest, Fail> 
     }
     let request = DavRequest {
         method: method_of(name.as_bytes())?,
-        path: DavPath::new(alloc, path)?,
+        path,
         headers,
     };
     Ok(EngineRequest { request, body })

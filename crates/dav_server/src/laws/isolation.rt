@@ -5,7 +5,7 @@ ghost use Rattle.dav_server.specs.LockLists.{StepsChangeLists, StepsChangeListsC
 ghost use Rattle.dav_server.specs.Passing.{NoLockIsPassed, NoLockIsPassedCut};
 
 /// What an exclusive lock covers when a request begins keeps its content, unless the request names the lock's token as the
-/// lock's principal, whatever else is in the list of locks, whatever the store refuses, and where memory runs out in the
+/// lock's principal or hands that token in for a lock of its own, whatever else is in the list of locks, whatever the store refuses, and where memory runs out in the
 /// step (RFC 4918, section 7).
 pub fn no_lock_is_passed()
     ensures step { NoLockIsPassed }
@@ -13,13 +13,13 @@ pub fn no_lock_is_passed()
 {}
 
 /// A lock that is in the list when a request begins is in the list after it, perhaps refreshed, unless the request names the
-/// lock's token; whatever the store refuses, and where memory runs out in the step (RFC 4918, sections 7 and 9.11).
+/// lock's token or hands it in for a lock of its own; whatever the store refuses, and where memory runs out in the step (RFC 4918, sections 7 and 9.11).
 pub fn no_lock_ends()
     ensures step { NoLockEnds }
     ensures cut { NoLockEndsCut }
 {}
 
-/// While a folder is guarded by a lock, the folder and the answers to its holder are those of the holder's requests alone
+/// While a folder is guarded by a lock and no request hands in the lock's token for a lock of its own, the folder and the answers to its holder are those of the holder's requests alone
 /// (RFC 4918, section 7).
 pub fn holders_are_alone()
     ensures { HoldersAreAlone }

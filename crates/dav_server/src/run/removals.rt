@@ -9,7 +9,7 @@ use http::StatusCode;
 use std::test::Fail;
 
 // The requests that build a tree of three levels.
-const BUILDING: [&[u8]; 4] = [
+pub(crate) const BUILDING: [&[u8]; 4] = [
     b"MKCOL /d HTTP/1.1\r\n\r\n",
     b"PUT /d/f HTTP/1.1\r\n\r\n",
     b"MKCOL /d/s HTTP/1.1\r\n\r\n",
@@ -82,7 +82,7 @@ const REFUSED: &str = r##"# the metadata of the folder: nothing is done
 "##;
 
 // The error of this name.
-fn error_of(name: &'static str) -> Result<FsError, NoRow> {
+pub(crate) fn error_of(name: &'static str) -> Result<FsError, NoRow> {
     match name {
         "Forbidden" => Ok(FsError::Forbidden),
         "Exists" => Ok(FsError::Exists),
@@ -93,7 +93,7 @@ fn error_of(name: &'static str) -> Result<FsError, NoRow> {
 }
 
 // The list that refuses the call of a row.
-fn refusals_of(alloc: Global, row: &'static str) -> Result<Vec<Option<FsError>>, Fail> {
+pub(crate) fn refusals_of(alloc: Global, row: &'static str) -> Result<Vec<Option<FsError>>, Fail> {
     let (call, name) = row.split_once(' ').ok_or(NoRow(row))?;
     let call: usize = call.parse()?;
     let mut refusals = Vec::new(alloc);
@@ -105,7 +105,7 @@ fn refusals_of(alloc: Global, row: &'static str) -> Result<Vec<Option<FsError>>,
 }
 
 // A step of which no call is refused. A PUT stores one byte.
-fn step(alloc: Global, head: &'static [u8]) -> Result<Step<'static>, BadMoment> {
+pub(crate) fn step(alloc: Global, head: &'static [u8]) -> Result<Step<'static>, BadMoment> {
     let body: &[u8] = if head.starts_with(b"PUT") { b"x" } else { b"" };
     Ok(Step {
         exchange: exchange(head, body)?,
@@ -128,9 +128,13 @@ fn steps(alloc: Global, refusals: Vec<Option<FsError>>) -> Result<Vec<Step<'stat
 }
 
 // Adds the paths that are left, by the replies to those who ask for them.
-fn add_left(text: &mut String, replies: &[Reply]) -> Result<(), Fail> {
+pub(crate) fn add_left(
+    text: &mut String,
+    asking: &[(&'static str, &'static [u8])],
+    replies: &[Reply],
+) -> Result<(), Fail> {
     text.push_str("left:")?;
-    for ((path, _), reply) in ASKING.iter().zip(replies) {
+    for ((path, _), reply) in asking.iter().zip(replies) {
         if reply.status != StatusCode::NOT_FOUND {
             text.push(' ')?;
             text.push_str(path)?;
@@ -156,7 +160,7 @@ impl Player for Removals {
             return Err(NoRow(question))?;
         };
         let mut text = shown(alloc, reply)?;
-        add_left(&mut text, rest)?;
+        add_left(&mut text, &ASKING, rest)?;
         Ok(text.into_bytes())
     }
 }

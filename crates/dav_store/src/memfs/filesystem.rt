@@ -260,7 +260,7 @@ impl DavFileSystem for MemFs {
     }
 
     fn read_bytes(&mut self, _alloc: Global, file: &mut MemFile, count: usize) -> FsResult<Bytes> {
-        let Some(node) = entries::file_made_with(&self.entries, file.made) else {
+        let Some(node) = entries::file_made_with(&self.entries, file.made, file.hint) else {
             return Err(FsError::NotFound);
         };
         if !file.reads {
@@ -303,7 +303,7 @@ impl DavFileSystem for MemFs {
     }
 
     fn seek(&mut self, file: &mut MemFile, to: SeekFrom) -> FsResult<u64> {
-        let Some(node) = entries::file_made_with(&self.entries, file.made) else {
+        let Some(node) = entries::file_made_with(&self.entries, file.made, file.hint) else {
             return Err(FsError::NotFound);
         };
         match place_for(to, file.position, node.bytes().len() as u64) {
@@ -316,14 +316,14 @@ impl DavFileSystem for MemFs {
     }
 
     fn flush(&mut self, file: &mut MemFile) -> FsResult<()> {
-        match entries::file_made_with(&self.entries, file.made) {
+        match entries::file_made_with(&self.entries, file.made, file.hint) {
             Some(_) => Ok(()),
             None => Err(FsError::NotFound),
         }
     }
 
     fn file_metadata(&mut self, file: &MemFile) -> FsResult<DavMetaData> {
-        match entries::file_made_with(&self.entries, file.made) {
+        match entries::file_made_with(&self.entries, file.made, file.hint) {
             Some(node) => Ok(node.metadata()),
             None => Err(FsError::NotFound),
         }

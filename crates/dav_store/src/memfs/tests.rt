@@ -34,6 +34,16 @@ flush -> NotFound
 short -> no
 other -> ok
 metadata /g -> len 3, number 3, created 1, modified 3
+# an open file is found where others come and go before it
+open /m read,create,write 1 -> ok
+write a 2 -> ok
+mkdir /a 3 -> ok
+write b 4 -> ok
+bytes /m -> ab
+rmdir /a 5 -> ok
+write c 6 -> ok
+bytes /m -> abc
+metadata /m -> len 3, number 5, created 1, modified 6
 # folders
 mkdir /d/e 1 -> NotFound
 mkdir /d 1 -> ok

@@ -1,10 +1,11 @@
 use Rattle.std.proofs.Common.{ap, subst}
-use Rattle.dav_engine.specs.AtWork.{PutOf, MkcolOf, DeleteOf, UnlockOf}
+use Rattle.dav_engine.specs.AtWork.{PutOf, MkcolOf, DeleteOf, CopyMoveOf, OptionsOf, ProppatchOf, LockOf, UnlockOf}
+use Rattle.dav_engine.specs.CopyMove.{IsCopyMove}
 use Rattle.dav_engine.specs.Put.{IsPut}
 use Rattle.dav_server.specs.Get.{IsGet, GetOf}
-use Rattle.dav_server.specs.Machine.{client, gets, heads, puts, patches, makes, deletes, releases, not_yet}
-use Rattle.dav_server.proofs.MethodLemmas.{is_not_done}
-use Rattle.dav_server.proofs.StepLemmas.{serves_as, serves_asked, serves_by, serves_held, serves_error, plan_at}
+use Rattle.dav_server.specs.Machine.{client, gets, heads, puts, patches, makes, deletes, copies, moves, offers, sets_properties, locks, releases, not_yet}
+use Rattle.dav_server.proofs.MethodLemmas.{is_not_done, offered_plan}
+use Rattle.dav_server.proofs.StepLemmas.{serves_as, serves_asked, serves_by, serves_held, serves_set, serves_error, plan_at}
 use Rattle.dav_server.proofs.davhandler.serve.Goals as goal
 
 pub returns-in-Get-clause-serves : goal.returns-in-Get-clause-serves
@@ -37,10 +38,35 @@ returns-in-Delete-clause-serves g c =
     serves_as (λ plan is. plan_at c.in-Delete.is (deletes is))
     (serves_held c.handler.view_is (serves_by (ap (DeleteOf c.args.request.now) c.caller_of.ensures.client) c.handle_delete.ensures.serves))
 
+pub returns-in-Copy-clause-serves : goal.returns-in-Copy-clause-serves
+returns-in-Copy-clause-serves g c =
+    serves_as (λ plan is. plan_at c.in-Copy.is (copies (subst (λ m. IsCopyMove m c.args.request.now.headers c.args.request.now.path (client c.args.exchange.now) plan) c.in-Copy.is is)))
+    (serves_held c.handler.view_is (serves_by (ap (CopyMoveOf c.args.request.now) c.caller_of.ensures.client) c.handle_copymove.ensures.serves))
+
+pub returns-in-Move-clause-serves : goal.returns-in-Move-clause-serves
+returns-in-Move-clause-serves g c =
+    serves_as (λ plan is. plan_at c.in-Move.is (moves (subst (λ m. IsCopyMove m c.args.request.now.headers c.args.request.now.path (client c.args.exchange.now) plan) c.in-Move.is is)))
+    (serves_held c.handler.view_is (serves_by (ap (CopyMoveOf c.args.request.now) c.caller_of.ensures.client) c.handle_copymove-in-Move.ensures.serves))
+
+pub returns-in-Options-clause-serves : goal.returns-in-Options-clause-serves
+returns-in-Options-clause-serves g c =
+    serves_as (λ plan is. plan_at c.in-Options.is (offered_plan is))
+    (serves_set (λ s. OptionsOf s.allowed c.args.request.now (client c.args.exchange.now)) c.handler.view_is c.handle_options.ensures.serves)
+
+pub returns-in-PropPatch-clause-serves : goal.returns-in-PropPatch-clause-serves
+returns-in-PropPatch-clause-serves g c =
+    serves_as (λ plan is. plan_at c.in-PropPatch.is (sets_properties is))
+    (serves_held c.handler.view_is (serves_by (ap (ProppatchOf c.args.request.now c.args.body.now) c.caller_of.ensures.client) c.handle_proppatch.ensures.serves))
+
+pub returns-in-Lock-clause-serves : goal.returns-in-Lock-clause-serves
+returns-in-Lock-clause-serves g c =
+    serves_as (λ plan is. plan_at c.in-Lock.is (locks is))
+    (serves_held c.handler.view_is (serves_by (ap (LockOf c.args.request.now c.args.body.now) c.caller_of.ensures.client) c.handle_lock.ensures.serves))
+
 pub returns-in-Unlock-clause-serves : goal.returns-in-Unlock-clause-serves
 returns-in-Unlock-clause-serves g c =
     serves_as (λ plan is. plan_at c.in-Unlock.is (releases is))
     (serves_held c.handler.view_is (serves_by (ap (UnlockOf c.args.request.now) c.caller_of.ensures.client) c.handle_unlock.ensures.serves))
 
 pub returns-in_default-clause-serves : goal.returns-in_default-clause-serves
-returns-in_default-clause-serves g c = serves_error _ (not_yet (is_not_done _ c.in_default.not-Get c.in_default.not-Head c.in_default.not-Put c.in_default.not-Patch c.in_default.not-MkCol c.in_default.not-Delete c.in_default.not-Unlock))
+returns-in_default-clause-serves g c = serves_error _ (not_yet (is_not_done _ c.in_default.not-Get c.in_default.not-Head c.in_default.not-Put c.in_default.not-Patch c.in_default.not-Options c.in_default.not-PropPatch c.in_default.not-MkCol c.in_default.not-Copy c.in_default.not-Move c.in_default.not-Delete c.in_default.not-Lock c.in_default.not-Unlock))

@@ -3,6 +3,7 @@ use Rattle.dav_server.specs.Run.{no_more}
 use Rattle.dav_server.proofs.RunLemmas.{run_added, steps_at, cut_at, ran_to, ran_for, rest_after_one, turns_of}
 use Rattle.dav_server.proofs.IsolationLemmas.{is_isolated, none_loaded, loaded_more, loaded_for}
 use Rattle.dav_server.proofs.EndingLemmas.{ends_no_lock}
+use Rattle.dav_server.proofs.FromNoneLemmas.{passes_no_lock_from_none, ends_no_lock_from_none}
 use Rattle.dav_server.proofs.GrantedRuns.{is_isolated_from_grants}
 use Rattle.dav_server.proofs.ListLemmas.{shares_locks}
 use Rattle.dav_server.proofs.StrangerLemmas.{passes_no_lock}
@@ -63,3 +64,12 @@ returns-clause-granted c =
     let rest = c.loop-step.step-iterator.rest in
     let whole = all_yielded c.args.steps.items c.loop-step.yielded rest.items rest.len c.loop-step.invariant.3 rest.ok.0 c.in-None.ensures.steps.0 in
     is_isolated_from_grants _ c.args.steps.items _ (showable_for whole c.loop-step.invariant.2) (loaded_for whole c.loop-step.invariant.4)
+
+pub returns-clause-spared : goal.returns-clause-spared
+returns-clause-spared c =
+    let rest = c.loop-step.step-iterator.rest in
+    let whole = all_yielded c.args.steps.items c.loop-step.yielded rest.items rest.len c.loop-step.invariant.3 rest.ok.0 c.in-None.ensures.steps.0 in
+    passes_no_lock_from_none _ c.args.steps.items _ (showable_for whole c.loop-step.invariant.2)
+
+pub returns-clause-standing : goal.returns-clause-standing
+returns-clause-standing c = ends_no_lock_from_none _ c.args.steps.items _

@@ -1,6 +1,8 @@
-use Rattle.std.proofs.Common.{rules}
-use Rattle.std.proofs.lemmas.Fn.{filter_same}
+use Rattle.std.proofs.Common.{arith}
+use Rattle.std.proofs.lemmas.Grind.{common_steps}
+use Rattle.dav_core.specs.Path.{names}
+use Rattle.dav_store.proofs.KeptLemmas.{kept_prune}
 use Rattle.dav_store.proofs.entries.prune.Goals as goal
 
-pub returns : goal.returns
-returns c = filter_same _ _ _ (λ x b f' k. search rules) _ _ c.retain.ensures.filtered
+pub invariant_of-entries : goal.invariant_of-entries
+invariant_of-entries c = kept_prune c.entries.inside.last (names c.args.path.now) c.entries.inside.list.items _ (grind (arith, common_steps)) c.entries.invariant

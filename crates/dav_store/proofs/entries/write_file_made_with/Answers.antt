@@ -1,16 +1,12 @@
-use Rattle.std.proofs.Common.{sym, ◌∙◌}
-use Rattle.dav_core.specs.World.{is_file_made_with}
+use Rattle.std.proofs.Common.{refl, arith}
+use Rattle.std.proofs.lemmas.Grind.{common_steps}
+use Rattle.dav_core.specs.World.{change_node, is_file_made_with}
 use Rattle.dav_core.specs.Calls.{written}
-use Rattle.dav_store.proofs.Place.{is_first, none_passes, changed_at, changed_none}
+use Rattle.dav_store.proofs.KeptLemmas.{kept_either, kept_change}
 use Rattle.dav_store.proofs.entries.write_file_made_with.Goals as goal
 
-pub returns-in_ok-write-clause-ok : goal.returns-in_ok-write-clause-ok
-returns-in_ok-write-clause-ok c =
-    changed_at (is_file_made_with c.args.made) (written c.args.place c.args.chunk.now c.args.number c.args.now) c.args.entries.now c.in-Some.i _ c.write.new.self
-    (is_first (is_file_made_with c.args.made) c.args.entries.now c.in-Some.i c.index-entries-i.result (sym c.made_place.ensures ∙ c.in-Some.is))
-    c.in_ok-write.ensures.ok
-
-pub returns-in_default-clause-ok : goal.returns-in_default-clause-ok
-returns-in_default-clause-ok c =
-    changed_none (is_file_made_with c.args.made) (written c.args.place c.args.chunk.now c.args.number c.args.now) c.args.entries.now
-    (none_passes (is_file_made_with c.args.made) c.args.entries.now (sym c.made_place.ensures ∙ c.in_default.is))
+pub invariant_of-entries : goal.invariant_of-entries
+invariant_of-entries c =
+    kept_either c.entries.inside.last c.write_file_made_with.result c.entries.inside.list.items _ (change_node (is_file_made_with c.args.made) (written c.args.place c.args.chunk.now c.args.number c.args.now) c.entries.inside.list.items)
+    (grind (arith, common_steps)) (grind (arith, common_steps))
+    (kept_change c.entries.inside.last (is_file_made_with c.args.made) (written c.args.place c.args.chunk.now c.args.number c.args.now) c.entries.inside.list.items _ (λ _. refl) refl) c.entries.invariant

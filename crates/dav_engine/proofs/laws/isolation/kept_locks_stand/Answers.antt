@@ -1,6 +1,8 @@
+use Rattle.dav_engine.proofs.EndingCopy.{copymove_keeps_locks}
 use Rattle.dav_engine.proofs.EndingDelete.{delete_keeps_locks}
 use Rattle.dav_engine.proofs.EndingLemmas.{kept_locks_stand, kept_locks_stand_cut, reading_keeps_locks, put_keeps_locks, mkcol_keeps_locks}
 use Rattle.dav_engine.proofs.LockPlans.{lock_keeps_locks}
+use Rattle.dav_engine.proofs.PropertyPlans.{proppatch_keeps_locks}
 use Rattle.dav_engine.proofs.UnlockPlans.{unlock_keeps_locks}
 use Rattle.dav_engine.proofs.laws.isolation.kept_locks_stand.Goals as goal
 
@@ -27,3 +29,9 @@ returns-clause-unlock c = unlock_keeps_locks
 
 pub returns-clause-lock : goal.returns-clause-lock
 returns-clause-lock c = lock_keeps_locks
+
+pub returns-clause-copy_move : goal.returns-clause-copy_move
+returns-clause-copy_move c = copymove_keeps_locks
+
+pub returns-clause-proppatch : goal.returns-clause-proppatch
+returns-clause-proppatch c = proppatch_keeps_locks

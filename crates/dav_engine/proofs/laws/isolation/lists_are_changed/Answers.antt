@@ -1,5 +1,7 @@
+use Rattle.dav_engine.proofs.CopyChanges.{copymove_changes_list}
 use Rattle.dav_engine.proofs.ListChangeLemmas.{lists_are_changed, lists_are_changed_cut, reading_changes_list, put_changes_list, mkcol_changes_list, delete_changes_list, unlock_changes_list}
 use Rattle.dav_engine.proofs.LockChanges.{lock_changes_list}
+use Rattle.dav_engine.proofs.PropertyPlans.{proppatch_changes_list}
 use Rattle.dav_engine.proofs.laws.isolation.lists_are_changed.Goals as goal
 
 pub returns-clause-changed : goal.returns-clause-changed
@@ -25,3 +27,9 @@ returns-clause-unlock c = unlock_changes_list
 
 pub returns-clause-lock : goal.returns-clause-lock
 returns-clause-lock c = lock_changes_list
+
+pub returns-clause-copy_move : goal.returns-clause-copy_move
+returns-clause-copy_move c = copymove_changes_list
+
+pub returns-clause-proppatch : goal.returns-clause-proppatch
+returns-clause-proppatch c = proppatch_changes_list

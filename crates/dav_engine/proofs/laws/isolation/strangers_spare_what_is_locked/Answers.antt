@@ -1,5 +1,7 @@
+use Rattle.dav_engine.proofs.SparingCopy.{copymove_spares}
 use Rattle.dav_engine.proofs.SparingPlans.{reading_spares, put_spares, mkcol_spares}
 use Rattle.dav_engine.proofs.SparingDelete.{delete_spares}
+use Rattle.dav_engine.proofs.SparingProperties.{proppatch_spares}
 use Rattle.dav_engine.proofs.LockSparing.{lock_spares}
 use Rattle.dav_engine.proofs.UnlockPlans.{unlock_spares}
 use Rattle.dav_engine.proofs.laws.isolation.strangers_spare_what_is_locked.Goals as goal
@@ -21,3 +23,9 @@ returns-clause-unlock c = unlock_spares
 
 pub returns-clause-lock : goal.returns-clause-lock
 returns-clause-lock c = lock_spares
+
+pub returns-clause-copy_move : goal.returns-clause-copy_move
+returns-clause-copy_move c = copymove_spares
+
+pub returns-clause-proppatch : goal.returns-clause-proppatch
+returns-clause-proppatch c = proppatch_spares

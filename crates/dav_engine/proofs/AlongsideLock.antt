@@ -1,0 +1,196 @@
+-- A holder's LOCK goes side by side with itself.
+use Rattle.std.proofs.Common.{◌≡◌, ℕ, ◌++◌, bytes_eq, Bool, true, false, true≢false, if◌then◌else◌, List, [], ◌∷◌, Option, Some, None, Result, Ok, Err, refl, sym, ap, subst, ◌∙◌}
+use Rattle.std.specs.Option.{option_map}
+use Rattle.std.specs.Result.{result_ok}
+use Rattle.std.proofs.lemmas.Slice.Eq.{bytes_eq-Decides}
+use Rattle.dav_core.specs.declared.errors.FsError.{FsError}
+use Rattle.dav_core.specs.declared.errors.DavError.TheVariants as dav
+use Rattle.dav_core.specs.declared.fs.DavMetaData.{DavMetaData}
+use Rattle.dav_core.specs.declared.method.DavMethod.TheVariants as method
+use Rattle.dav_core.specs.Asking.{Metadata}
+use Rattle.dav_core.specs.Locks.{Lock, covers, is_grantable, named_lock, refreshed, refreshed_lock}
+use Rattle.dav_core.specs.Path.{Path, PathText, names, names_in, star}
+use Rattle.dav_engine.specs.declared.request.Body.{Body}
+use Rattle.dav_engine.specs.Alongside.{SameResult, SameMetadata, Alongside, side_ok, side_err, side_asks, side_look, side_keep, SameAnswers}
+use Rattle.dav_engine.specs.AlongsidePlans.{LockGoesAlong}
+use Rattle.dav_engine.specs.AnswerParts.{answers_of}
+use Rattle.dav_engine.specs.Client.{Client, requester}
+use Rattle.dav_engine.specs.Conditions.{Conditions, Addressed, submitted, if_match}
+use Rattle.dav_engine.specs.Delete.{whole_depth}
+use Rattle.dav_engine.specs.Folder.{closed, location_found}
+use Rattle.dav_engine.specs.Guard.{folder_of, IsGuard, IsInReach, Guards, SubmitOnly, no_list, a_list}
+use Rattle.dav_engine.specs.Lock.{one_token, token_to_refresh, keep_refreshed, lock_again, asked_lock, lock_new, is_absent, lock_found, lock, is_lock}
+use Rattle.dav_engine.specs.LockHeaders.{LockHeaders, refreshed_for}
+use Rattle.dav_engine.specs.LockInfo.{lock_info}
+use Rattle.dav_engine.specs.Method.{MethodPlan, then as followed_by, ◌>>=◌, require_free, required, unless_status, gives, fails}
+use Rattle.dav_engine.specs.Plan.{Keep}
+use Rattle.dav_engine.specs.Response.{Header, Response}
+use Rattle.dav_engine.proofs.AlongsidePlans.{AtBoth, holders, in_reach, only_lists, side_bind, side_then, side_lists, side_free}
+use Rattle.dav_engine.proofs.ChildLemmas.{names_closed}
+use Rattle.dav_engine.proofs.GuardChanges.{granted_off, guard_refreshed}
+use Rattle.dav_engine.proofs.GuardedFolders.{covers_by, stands_guarded}
+
+-- ---- a path that gets a slash stays in the folder
+
+empty_front : (a b : Path) → a ++ b ≡ [] → a ≡ []
+empty_front [] b is = refl
+empty_front (x ∷ a) b is = cc
+
+module _ (h : Lock) (p : PathText) (within : IsInReach h (names p)) where
+  closed_by : (dir b : Bool) → bytes_eq p.bytes star ≡ b → (rest : Path) × (names (closed dir p) ≡ folder_of h ++ rest)
+  closed_by dir true is =
+      let (rest, at) = in_reach h (names p) within in
+      let none : names p ≡ [] = ap (λ b. if b then [] else names_in p.bytes) is in
+      (names (closed dir p), ap (λ (front : Path). front ++ names (closed dir p)) (sym (empty_front (folder_of h) rest (sym at ∙ none))))
+  closed_by dir false is =
+      let (rest, at) = in_reach h (names p) within in
+      (rest, names_closed dir p (λ same. true≢false (sym ((bytes_eq-Decides p.bytes star).1 same) ∙ is)) ∙ at)
+
+  pub closed_in : (dir : Bool) → (rest : Path) × (names (closed dir p) ≡ folder_of h ++ rest)
+  closed_in dir = closed_by dir (bytes_eq p.bytes star) refl
+
+module _ (h : Lock) (guard : IsGuard h) where
+  abbrev SidePart : {A : Type 0} → (A → A → Type 0) → MethodPlan A → MethodPlan A → Type 0
+  SidePart Q plan plan' = Alongside h false (AtBoth None Q) None plan plan'
+
+  abbrev SideWhole : MethodPlan Response → MethodPlan Response → Type 0
+  SideWhole plan plan' = Alongside h true (λ file. SameAnswers) None plan plan'
+
+  -- ---- a new lock is refused
+
+  one_verdict : (verdict : Option ℕ) → SidePart (λ x y. x ≡ y) (unless_status verdict) (unless_status verdict)
+  one_verdict None = side_ok (refl, refl)
+  one_verdict (Some status) = side_err
+
+  side_unless : (v w : Option ℕ) → v ≡ w → SidePart (λ x y. x ≡ y) (unless_status v) (unless_status w)
+  side_unless v w same = subst (λ (x : Option ℕ). SidePart (λ x y. x ≡ y) (unless_status v) (unless_status x)) same (one_verdict v)
+
+  not_granted : (new : Lock) (rest : Path) → names new.path ≡ folder_of h ++ rest → (ls : List Lock) → Guards h ls → (b : Bool) → is_grantable new ls ≡ b → b ≡ false
+  not_granted new rest at ls g false may = refl
+  not_granted new rest at ls g true may =
+      absurd (true≢false (sym (ap (covers h) at ∙ covers_by h rest guard.deep) ∙ granted_off h guard.exclusive new ls (stands_guarded g) may))
+
+  side_refused : (new new' : Lock) (ls ks : List Lock) (b c : Bool) (f f' : Unit {0} → MethodPlan Response) → b ≡ false → c ≡ false
+      → SideWhole ((if b then Keep (ls ++ new ∷ []) (gives tt) else fails (dav.Status 423)) >>= f) ((if c then Keep (ks ++ new' ∷ []) (gives tt) else fails (dav.Status 423)) >>= f')
+  side_refused new new' ls ks false false f f' is also = side_err
+  side_refused new new' ls ks true c f f' is also = cc
+  side_refused new new' ls ks false true f f' is also = cc
+
+  -- ---- the guard is refreshed
+
+  side_kept : (a b : Option Lock) (c d : Option (List Lock)) (l : Lock) (left right : List Lock) (reply : Lock → Response) → a ≡ Some l → b ≡ Some l → c ≡ Some left → d ≡ Some right → Guards h left → Guards h right
+      → SideWhole (keep_refreshed a c >>= (λ m. gives (reply m))) (keep_refreshed b d >>= (λ m. gives (reply m)))
+  side_kept (Some x) (Some y) (Some ls) (Some ks) l left right reply one two three four g g' =
+      let first : x ≡ l = cc in
+      let second : y ≡ l = cc in
+      let third : ls ≡ left = cc in
+      let fourth : ks ≡ right = cc in
+      side_keep (subst (Guards h) (sym third) g) (subst (Guards h) (sym fourth) g') (side_ok (ap (λ (m : Lock). answers_of (reply m)) (first ∙ sym second)))
+  side_kept None b c d l left right reply one two three four g g' = cc
+  side_kept (Some x) None c d l left right reply one two three four g g' = cc
+  side_kept (Some x) (Some y) None d l left right reply one two three four g g' = cc
+  side_kept (Some x) (Some y) (Some ls) None l left right reply one two three four g g' = cc
+
+  module _ (token : List ℕ) (q : Path) (rest : Path) (timeout : Option ℕ) (now : ℕ) (own : token ≡ h.token) (at : q ≡ folder_of h ++ rest) where
+    found_as : (ls : List Lock) → option_map (refreshed_lock timeout now) (named_lock h.token (folder_of h ++ rest) ls) ≡ Some (refreshed_lock timeout now h)
+        → option_map (refreshed_lock timeout now) (named_lock token q ls) ≡ Some (refreshed_lock timeout now h)
+    found_as ls is = ap (λ t. option_map (refreshed_lock timeout now) (named_lock t q ls)) own ∙ ap (λ x. option_map (refreshed_lock timeout now) (named_lock h.token x ls)) at ∙ is
+
+    left_as : (ls left : List Lock) → refreshed h.token (folder_of h ++ rest) timeout now ls ≡ Some left → refreshed token q timeout now ls ≡ Some left
+    left_as ls left is = ap (λ t. refreshed t q timeout now ls) own ∙ ap (λ x. refreshed h.token x timeout now ls) at ∙ is
+
+  side_renewed : (t u : List ℕ) (q : Path) (rest : Path) (timeout : Option ℕ) (now : ℕ) (reply : Lock → Response) (ls ks : List Lock) → t ≡ h.token → u ≡ h.token → q ≡ folder_of h ++ rest → Guards h ls → Guards h ks
+      → SideWhole (keep_refreshed (option_map (refreshed_lock timeout now) (named_lock t q ls)) (refreshed t q timeout now ls) >>= (λ m. gives (reply m)))
+      (keep_refreshed (option_map (refreshed_lock timeout now) (named_lock u q ks)) (refreshed u q timeout now ks) >>= (λ m. gives (reply m)))
+  side_renewed t u q rest timeout now reply ls ks own also at g g' =
+      let (left, named, is, guards) = guard_refreshed h timeout now rest ls g in
+      let (right, named', is', guards') = guard_refreshed h timeout now rest ks g' in
+      side_kept (option_map (refreshed_lock timeout now) (named_lock t q ls)) (option_map (refreshed_lock timeout now) (named_lock u q ks)) (refreshed t q timeout now ls) (refreshed u q timeout now ks)
+      (refreshed_lock timeout now h) left right reply (found_as t q rest timeout now own at ls named) (found_as u q rest timeout now also at ks named')
+      (left_as t q rest timeout now own at ls left is) (left_as u q rest timeout now also at ks right is') guards guards'
+
+  side_if : (b : Bool) (one one' other other' : MethodPlan Response) → SideWhole one one' → SideWhole other other' → SideWhole (if b then one else other) (if b then one' else other')
+  side_if true one one' other other' is also = is
+  side_if false one one' other other' is also = also
+
+  module _ (k : LockHeaders) {lists : List Addressed} (conditions : k.conditions ≡ holders lists) (only : SubmitOnly h lists) (content : Body) (who : Client) where
+    side_verdict : (found found' : Option DavMetaData) → SidePart (λ x y. x ≡ y) (if_match method.Lock (holders lists) found) (if_match method.Lock (holders lists) found')
+    side_verdict found found' = side_bind _ _ (side_lists h guard only) (λ a b same. side_ok (refl, ap (λ (x : Bool). if x then None else Some 412) same))
+
+    side_asked : (q q' : PathText) (found found' : Option DavMetaData) → SidePart (λ (x y : Lock). (x.path ≡ q) × (y.path ≡ q')) (asked_lock k q content who found) (asked_lock k q' content who found')
+    side_asked q q' found found' =
+        side_then (whole_depth k.depth) (whole_depth k.depth) _ _ refl (λ deep.
+        side_bind _ _
+        (subst (λ (c : Conditions). SidePart (λ x y. x ≡ y) (if_match method.Lock c found) (if_match method.Lock c found')) (sym conditions) (side_verdict found found')) (λ v w same.
+        side_bind _ _ (side_unless v w same) (λ a b _.
+        side_then (required (lock_info content) dav.XmlParseError) (required (lock_info content) dav.XmlParseError) _ _ refl (λ info.
+        side_then (required who.token (dav.Status 500)) (required who.token (dav.Status 500)) _ _ refl (λ token. side_ok (refl, (refl, refl)))))))
+
+    side_new : (q q' : PathText) (location location' : List Header) (found found' : Option DavMetaData) (rest rest' : Path) → names q ≡ folder_of h ++ rest → names q' ≡ folder_of h ++ rest'
+        → SideWhole (lock_new k q location content who found) (lock_new k q' location' content who found')
+    side_new q q' location location' found found' rest rest' at at' =
+        side_bind _ _ (side_asked q q' found found') (λ new new' has. side_look (λ ls ks g g'.
+        side_refused new new' ls ks (is_grantable new ls) (is_grantable new' ks) _ _
+        (not_granted new rest (ap (λ (x : PathText). names x) has.0 ∙ at) ls g (is_grantable new ls) refl)
+        (not_granted new' rest' (ap (λ (x : PathText). names x) has.1 ∙ at') ks g' (is_grantable new' ks) refl)))
+
+    -- what follows the tokens that are submitted
+    abbrev with_token : Path → List ℕ → MethodPlan (List ℕ)
+    with_token q token = do
+      _ ← require_free false (requester who (token ∷ [])) q (dav.Status 412)
+      gives token
+
+    abbrev AreOwn : List ℕ → List ℕ → Type 0
+    AreOwn t u = (t ≡ h.token) × (u ≡ h.token)
+
+    side_one : {ls : List Addressed} (q rest : Path) → q ≡ folder_of h ++ rest → SubmitOnly h ls
+        → SidePart AreOwn (followed_by (one_token (submitted (Some ls))) (with_token q)) (followed_by (one_token (submitted (Some ls))) (with_token q))
+    side_one q rest at no_list = side_err
+    side_one q rest at (a_list r no_list) =
+        side_bind _ _
+        (subst (λ (x : Path). SidePart (λ x y. x ≡ y) (require_free false (requester who (h.token ∷ [])) x (dav.Status 412)) (require_free false (requester who (h.token ∷ [])) x (dav.Status 412))) (sym at)
+        (side_free h guard false who rest (dav.Status 412) (h.token ∷ []) (h.token ∷ []) refl))
+        (λ u v _. side_ok (refl, (refl, refl)))
+    side_one q rest at (a_list r (a_list s more)) = side_err
+
+    side_said : (q rest : Path) → q ≡ folder_of h ++ rest → (ts us : List (List ℕ)) → ts ≡ submitted (Some lists) → us ≡ submitted (Some lists)
+        → SidePart AreOwn (followed_by (one_token ts) (with_token q)) (followed_by (one_token us) (with_token q))
+    side_said q rest at ts us same also =
+        subst (λ (x : List (List ℕ)). SidePart AreOwn (followed_by (one_token x) (with_token q)) (followed_by (one_token us) (with_token q))) (sym same)
+        (subst (λ (x : List (List ℕ)). SidePart AreOwn (followed_by (one_token (submitted (Some lists))) (with_token q)) (followed_by (one_token x) (with_token q))) (sym also) (side_one q rest at only))
+
+    abbrev headers : Conditions → LockHeaders
+    headers c = record k { conditions = c }
+
+    side_token : (q rest : Path) → q ≡ folder_of h ++ rest → SidePart AreOwn (token_to_refresh (headers (holders lists)) q who) (token_to_refresh (headers (holders lists)) q who)
+    side_token q rest at =
+        side_bind {Q = λ (x y : Bool × List (List ℕ)). (x.1 ≡ submitted (Some lists)) × (y.1 ≡ submitted (Some lists))} _ _
+        (side_bind _ _ (side_lists h guard only) (λ a b same. side_ok (refl, (refl, refl)))) (λ x y said. side_said q rest at x.1 y.1 said.0 said.1)
+
+    side_again : (q : PathText) (rest : Path) (location : List Header) → names q ≡ folder_of h ++ rest → SideWhole (lock_again k q location who) (lock_again k q location who)
+    side_again q rest location at =
+        subst (λ (c : Conditions). SideWhole (lock_again (headers c) q location who) (lock_again (headers c) q location who)) (sym conditions)
+        (side_bind _ _ (side_token (names q) rest at) (λ t u own. side_look (λ ls ks g g'.
+        side_renewed t u (names q) rest (refreshed_for k.timeout) who.moment _ ls ks own.0 own.1 at g g')))
+
+    -- ---- the whole
+
+    side_found : (p : PathText) → IsInReach h (names p) → (a b : Result DavMetaData FsError) → SameResult SameMetadata a b → SideWhole (lock_found k p content who (result_ok a)) (lock_found k p content who (result_ok b))
+    side_found p within (Ok m) (Ok n) same =
+        let (rest, at) = closed_in h p within m.dir in
+        let (rest', at') = closed_in h p within n.dir in
+        side_if (is_absent content) _ _ _ _
+        (subst (λ (d : Bool). SideWhole (lock_again k (closed m.dir p) (location_found (Some m) p) who) (lock_again k (closed d p) (location_found (Some (record m { dir = d })) p) who)) same.dir
+        (side_again (closed m.dir p) rest (location_found (Some m) p) at))
+        (side_new (closed m.dir p) (closed n.dir p) (location_found (Some m) p) (location_found (Some n) p) (Some m) (Some n) rest rest' at at')
+    side_found p within (Err e) (Err f) same =
+        let (rest, at) = in_reach h (names p) within in
+        side_if (is_absent content) _ _ _ _ (side_again p rest [] at) (side_new p p [] [] None None rest rest at at)
+    side_found p within (Ok m) (Err f) same = absurd same
+    side_found p within (Err e) (Ok n) same = absurd same
+
+    side_lock : (p : PathText) → IsInReach h (names p) → SideWhole (lock k p content who) (lock k p content who)
+    side_lock p within = side_look (λ ls ks g g'. side_asks {c = Metadata (names p)} (in_reach h (names p) within) (λ a b told. side_found p within a b told))
+
+pub lock_goes_along : LockGoesAlong
+lock_goes_along h headers p body who plan guard within alone (is_lock k are) = side_lock h guard k (only_lists alone k.conditions are.conditions) alone.only body who p within

@@ -1,0 +1,174 @@
+-- COPY and MOVE (RFC 4918, sections 9.8 and 9.9).
+use Rattle.std.specs.Prelude.{◌≢◌, ℕ, ◌||◌, Bool, true, false, not, List, [], ◌∷◌, map, codes, if◌then◌else◌, Option, Some, None, Result, Ok, Err}
+use Rattle.std.specs.Option.{is_some, unwrap_or}
+use Rattle.std.specs.Result.{is_ok, result_ok}
+use Rattle.http_header.specs.FieldValue.{FieldValue}
+use Rattle.http_header.specs.HeaderMap.{get_all}
+use Rattle.dav_core.specs.declared.errors.ParseError.{ParseError}
+use Rattle.dav_core.specs.declared.errors.ParseError.TheVariants as parse
+use Rattle.dav_core.specs.declared.errors.DavError.{DavError}
+use Rattle.dav_core.specs.declared.errors.DavError.TheVariants as dav
+use Rattle.dav_core.specs.declared.fs.DavMetaData.{DavMetaData}
+use Rattle.dav_core.specs.declared.method.DavMethod.{DavMethod}
+use Rattle.dav_core.specs.declared.method.DavMethod.TheVariants.{Move}
+use Rattle.dav_core.specs.Asking.{Metadata}
+use Rattle.dav_core.specs.Path.{PathText, names, parent_of, is_at_or_under, IsCut, HasNoCut, without_slash}
+use Rattle.dav_core.specs.Status.{path_error}
+use Rattle.dav_core.specs.Target.{Reads, IsRefused}
+use Rattle.dav_headers.specs.Depth.{IsDepth}
+use Rattle.dav_headers.specs.Destination.{IsDestination}
+use Rattle.dav_headers.specs.Overwrite.{IsOverwrite}
+use Rattle.dav_headers.specs.declared.depth.Depth.{Depth}
+use Rattle.dav_headers.specs.declared.depth.Depth.TheVariants.{Zero}
+use Rattle.dav_engine.specs.Client.{Client, requester}
+use Rattle.dav_engine.specs.Conditions.{Conditions, AreConditions, guarded}
+use Rattle.dav_engine.specs.Copying.{CopyFault, copy_report, copying, renaming}
+use Rattle.dav_engine.specs.Delete.{whole_depth}
+use Rattle.dav_engine.specs.Folder.{closed, is_folder_found}
+use Rattle.dav_engine.specs.Headers.{Headers, Decodes}
+use Rattle.dav_engine.specs.Method.{MethodPlan, ◌>>=◌, require, require_free, drop_locks, answer_of, ask_for, gives}
+use Rattle.dav_engine.specs.Multistatus.{status_reply, multi_reply}
+use Rattle.dav_engine.specs.Plan.{Done}
+use Rattle.dav_engine.specs.Removal.{Fault, report_of, removal}
+use Rattle.dav_engine.specs.Response.{Response}
+
+-- ---- what the headers say
+
+-- What the headers of a COPY or MOVE say: its conditions and its depth; whether it may overwrite; and its destination, or the
+-- error that answers the request.
+pub record CopyHeaders : Type 0 where
+  pub conditions : Conditions
+  pub depth : Option Depth
+  pub overwrite : Option Bool
+  pub destination : Result PathText DavError
+
+-- What Destination names, below the prefix of the request (RFC 4918, section 10.3), read as a target is read: a path; or 400
+-- where there is none; or why no path is read in it; or that it isn't at or below the prefix.
+pub data DestinationNames (prefix : List ℕ) (values : List FieldValue) : Result PathText DavError → Type 0 where
+  absent : ((text : List ℕ) → ¬ IsDestination values text) → DestinationNames prefix values (Err (dav.Status 400))
+  unreadable : (text : List ℕ) {e : ParseError} → IsDestination values text → IsRefused text e → e ≢ parse.Memory → DestinationNames prefix values (Err (path_error e))
+  outside : (text bytes : List ℕ) → IsDestination values text → Reads text bytes → HasNoCut (without_slash prefix) bytes → DestinationNames prefix values (Err dav.IllegalPath)
+  inside : (text bytes : List ℕ) {d : PathText} → IsDestination values text → Reads text bytes → IsCut (without_slash prefix) bytes d → DestinationNames prefix values (Ok d)
+
+pub record AreCopyHeaders (headers : Headers) (p : PathText) (h : CopyHeaders) : Type 0 where
+  pub conditions : AreConditions headers p.prefix (names p) h.conditions
+  pub depth : Decodes IsDepth (get_all headers (codes "depth")) h.depth
+  pub overwrite : Decodes IsOverwrite (get_all headers (codes "overwrite")) h.overwrite
+  pub destination : DestinationNames p.prefix (get_all headers (codes "destination")) h.destination
+
+-- ---- the checks before anything changes
+
+-- whether the method is MOVE
+abbrev pub is_move : DavMethod → Bool
+is_move Move = true
+is_move _ = false
+
+-- Whether everything below goes along: without Depth it does. 400 for Depth 1, and for a MOVE at Depth 0 (RFC 4918, sections
+-- 9.8.3 and 9.9.2).
+abbrev pub copy_depth : Bool → Option Depth → Result Bool DavError
+copy_depth true (Some Zero) = Err (dav.Status 400)
+copy_depth moves depth = whole_depth depth
+
+-- What is found at the destination; what the store doesn't report counts as missing. 409 where no folder is above it; 412 where
+-- something is there and Overwrite is `F` (RFC 4918, sections 9.8.4 and 9.8.5).
+abbrev pub destination_found : Option Bool → PathText → MethodPlan (Option DavMetaData)
+destination_found overwrite d = do
+  above ← answer_of (Metadata (parent_of (names d)))
+  _ ← require (is_folder_found (result_ok above)) (dav.Status 409)
+  there ← answer_of (Metadata (names d))
+  _ ← require (unwrap_or overwrite true || not (is_ok there)) (dav.Status 412)
+  gives (result_ok there)
+
+-- a MOVE takes away what is at its source and below it, so no lock may conflict there
+abbrev pub source_free : Bool → Client → List (List ℕ) → PathText → MethodPlan (Unit {0})
+source_free true who tokens p = require_free true (requester who tokens) (names p) (dav.Status 423)
+source_free false who tokens p = gives tt
+
+-- Whether conditions and locks let the request go on: 412 where a condition on the source fails; 423 where a lock conflicts, for
+-- a MOVE at the source or below it, and for both at the destination or below it (RFC 4918, section 7.5).
+abbrev pub copy_free : DavMethod → Conditions → PathText → PathText → Client → DavMetaData → MethodPlan (Unit {0})
+copy_free m c p d who found = do
+  tokens ← guarded dav.Status m c (Some found)
+  _ ← source_free (is_move m) who tokens p
+  require_free true (requester who tokens) (names d) (dav.Status 423)
+
+-- The checks before anything changes, and what is found at the destination. 403 where that is the source itself, or above it: to
+-- overwrite it would destroy the source (RFC 4918, sections 9.8.5 and 9.9.4).
+abbrev pub copy_allowed : DavMethod → CopyHeaders → PathText → PathText → Client → DavMetaData → MethodPlan (Option DavMetaData)
+copy_allowed m h p d who found = do
+  there ← destination_found h.overwrite d
+  _ ← require (not (is_at_or_under (names p) (names d))) (dav.Status 403)
+  _ ← copy_free m h.conditions p d who found
+  gives there
+
+-- ---- what is at the destination is removed
+
+-- whether what was found at the destination is removed: at Depth 0 a folder stays
+abbrev pub is_replaced : Bool → Option DavMetaData → Bool
+is_replaced deep None = false
+is_replaced deep (Some m) = deep || not m.dir
+
+-- removes it, with everything below it, as a DELETE does (RFC 4918, section 9.8.4)
+abbrev pub clearing : Bool → ℕ → PathText → Option DavMetaData → MethodPlan (List Fault)
+clearing deep now d there = if is_replaced deep there then removal true now d (is_folder_found there) else gives []
+
+-- ends the locks there, where it was removed
+abbrev pub drop_if : Bool → PathText → MethodPlan (Unit {0})
+drop_if true p = drop_locks (names p)
+drop_if false p = gives tt
+
+-- ---- the copy or the move
+
+-- ends the locks at the source, where all of it was moved: locks don't move (RFC 4918, section 7.7)
+abbrev pub drop_if_moved : PathText → List CopyFault → MethodPlan (Unit {0})
+drop_if_moved p [] = drop_locks (names p)
+drop_if_moved p (f ∷ faults) = gives tt
+
+-- moves, or copies
+abbrev pub brought : Bool → Bool → ℕ → PathText → PathText → MethodPlan (List CopyFault)
+brought true deep now p d = do
+  faults ← renaming now p d
+  _ ← drop_if_moved p faults
+  gives faults
+brought false deep now p d = copying deep now d p d
+
+-- 204 where something was at the destination, else 201 (RFC 4918, sections 9.8.5 and 9.9.4)
+abbrev pub copied_status : Option DavMetaData → ℕ
+copied_status there = if is_some there then 204 else 201
+
+-- the reply: this status where all was done, else what wasn't is reported
+abbrev pub copy_reply : PathText → ℕ → List CopyFault → Result Response DavError
+copy_reply p status [] = Ok (status_reply status)
+copy_reply p status (f ∷ faults) = multi_reply p (map copy_report (f ∷ faults))
+
+-- moves or copies, and replies
+abbrev pub bringing : Bool → Bool → ℕ → PathText → PathText → ℕ → MethodPlan Response
+bringing moves deep now p d status = do
+  faults ← brought moves deep now p d
+  Done (copy_reply p status faults)
+
+-- Goes on where the destination was cleared. Where something stays there, that is reported, and the source stays as it is.
+abbrev pub bring_if_clear : Bool → Bool → ℕ → PathText → PathText → Option DavMetaData → List Fault → MethodPlan Response
+bring_if_clear moves deep now p d there (f ∷ faults) = Done (multi_reply p (map report_of (f ∷ faults)))
+bring_if_clear moves deep now p d there [] = do
+  _ ← drop_if (is_replaced deep there) d
+  bringing moves deep now p d (copied_status there)
+
+-- a COPY or MOVE of what was found at a path
+abbrev pub copy_found : DavMethod → Bool → CopyHeaders → PathText → PathText → Client → DavMetaData → MethodPlan Response
+copy_found m deep h p d who found = do
+  there ← copy_allowed m h p d who found
+  faults ← clearing deep who.moment d there
+  bring_if_clear (is_move m) deep who.moment p d there faults
+
+-- COPY, or MOVE, with what its headers say: the path of a folder is taken with a slash at its end
+abbrev pub copy_or_move : DavMethod → CopyHeaders → PathText → Client → MethodPlan Response
+copy_or_move m h p who = do
+  deep ← Done (copy_depth (is_move m) h.depth)
+  d ← Done h.destination
+  found ← ask_for (Metadata (names p))
+  copy_found m deep h (closed found.dir p) d who found
+
+-- the plan is that of a COPY, or of a MOVE, with these headers, of this path, by this client
+pub data IsCopyMove (m : DavMethod) (headers : Headers) (p : PathText) (who : Client) : MethodPlan Response → Type 0 where
+  is_copy_move : (h : CopyHeaders) → AreCopyHeaders headers p h → IsCopyMove m headers p who (copy_or_move m h p who)

@@ -1,0 +1,79 @@
+-- Laws of LOCK (RFC 4918, sections 7 and 9.10).
+use Rattle.std.specs.Prelude.{◌≡◌, ◌≢◌, ⊤, ℕ, ◌++◌, Bool, true, false, List, [], ◌∷◌, All, if◌then◌else◌, Some, None, Ok, Err}
+use Rattle.dav_core.specs.declared.errors.DavError.{DavError}
+use Rattle.dav_core.specs.Asking.{StoreState, Asks}
+use Rattle.dav_core.specs.Locks.{Lock, is_grantable, refreshed}
+use Rattle.dav_core.specs.Path.{Path, PathText, names, star}
+use Rattle.dav_core.specs.World.{World, File, is_folder, is_missing, with_new}
+use Rattle.dav_engine.specs.declared.request.Body.{Body}
+use Rattle.dav_engine.specs.Client.{Client}
+use Rattle.dav_engine.specs.Conditions.{submitted}
+use Rattle.dav_engine.specs.Delete.{whole_depth}
+use Rattle.dav_engine.specs.Folder.{closed}
+use Rattle.dav_engine.specs.Headers.{Headers}
+use Rattle.dav_engine.specs.Lock.{lock_of, is_absent, IsLock}
+use Rattle.dav_engine.specs.LockHeaders.{LockHeaders, AreLockHeaders, refreshed_for}
+use Rattle.dav_engine.specs.LockInfo.{LockInfo, lock_info}
+use Rattle.dav_engine.specs.Method.{MethodPlan}
+use Rattle.dav_engine.specs.Plan.{Locks, Ran}
+use Rattle.dav_engine.specs.Response.{Response}
+
+-- A list of locks before and after: at its end is one lock more, that may be granted. It has the client's token, the path, with a
+-- slash at its end where it is that of a folder, the client's principal, and the depth, the scope, the owner and the timeout that
+-- are asked for.
+pub record GrantsLock (headers : Headers) (p : PathText) (content : Body) (who : Client) (w : World) (ls ms : Locks) : Type 0 where
+  pub asked : LockHeaders
+  pub deep : Bool
+  pub info : LockInfo
+  pub token : List ℕ
+  pub before : List Lock
+  pub said : AreLockHeaders headers p asked
+  pub depth : whole_depth asked.depth ≡ Ok deep
+  pub body : lock_info content ≡ Some info
+  pub own : who.token ≡ Some token
+  pub was : ls ≡ Some before
+  pub free : is_grantable (lock_of asked (closed (is_folder w (names p)) p) who deep info token) before ≡ true
+  pub is : ms ≡ Some (before ++ lock_of asked (closed (is_folder w (names p)) p) who deep info token ∷ [])
+
+-- the world, and where nothing is at a path a new empty file there (section 7.3), by which the folder above it was modified
+abbrev pub with_empty : Path → ℕ → World → World
+with_empty p now w = if is_missing w p then with_new w p (File []) [] now else w
+
+-- A LOCK with a body that succeeds grants such a lock; the world is as it was, but where nothing was at the path an empty file was
+-- made there, whatever the store refuses.
+abbrev pub LockGrants : Type 0
+LockGrants =
+    (headers : Headers) (p : PathText) (body : Body) (who : Client) (plan : MethodPlan Response) (old new : StoreState) (ls ms : Locks) (r : Response)
+    → is_absent body ≡ false → IsLock headers p body who plan → Ran Asks plan old ls (Ok r) new ms
+    → (new.world ≡ with_empty (names p) who.moment old.world) × GrantsLock headers p body who old.world ls ms
+
+-- a list of locks before and after: the lock that the only token submitted and the path mean has a new timeout
+pub record RefreshesLock (headers : Headers) (p : PathText) (who : Client) (ls ms : Locks) : Type 0 where
+  pub asked : LockHeaders
+  pub token : List ℕ
+  pub before : List Lock
+  pub after : List Lock
+  pub said : AreLockHeaders headers p asked
+  pub only : submitted asked.conditions.lists ≡ token ∷ []
+  pub was : ls ≡ Some before
+  pub renewed : refreshed token (names p) (refreshed_for asked.timeout) who.moment before ≡ Some after
+  pub is : ms ≡ Some after
+
+-- A LOCK without a body that succeeds refreshes that lock, and leaves the world (section 9.10.2).
+abbrev pub LockRefreshes : Type 0
+LockRefreshes =
+    (headers : Headers) (p : PathText) (body : Body) (who : Client) (plan : MethodPlan Response) (old new : StoreState) (ls ms : Locks) (r : Response)
+    → p.bytes ≢ star → is_absent body ≡ true → IsLock headers p body who plan → Ran Asks plan old ls (Ok r) new ms
+    → (new.world ≡ old.world) × RefreshesLock headers p who ls ms
+
+-- no lock of the list has this token
+abbrev pub IsUnused : List ℕ → Locks → Type 0
+IsUnused token None = ⊤
+IsUnused token (Some ls) = All (λ l. l.token ≢ token) ls
+
+-- A LOCK that ends in an error leaves the world and the list of locks, where no lock has the client's token.
+abbrev pub RefusedLockLeavesAll : Type 0
+RefusedLockLeavesAll =
+    (headers : Headers) (p : PathText) (body : Body) (who : Client) (plan : MethodPlan Response) (old new : StoreState) (ls ms : Locks) (e : DavError)
+    → ((token : List ℕ) → who.token ≡ Some token → IsUnused token ls)
+    → IsLock headers p body who plan → Ran Asks plan old ls (Err e) new ms → (new.world ≡ old.world) × (ms ≡ ls)

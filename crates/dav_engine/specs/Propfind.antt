@@ -1,0 +1,191 @@
+-- PROPFIND (RFC 4918, section 9.1).
+use Rattle.std.specs.Prelude.{ℕ, suc, zero, ◌++◌, ◌&&◌, ◌≡◌, bytes_eq, Bool, true, false, not, List, [], ◌∷◌, codes, if◌then◌else◌, Option, Some, None, Result, Ok, Err}
+use Rattle.std.specs.List.{find}
+use Rattle.std.specs.Option.{is_some, option_or}
+use Rattle.http_header.specs.HeaderMap.{get_all}
+use Rattle.dav_core.specs.declared.errors.FsError.{FsError}
+use Rattle.dav_core.specs.declared.errors.DavError.TheVariants as dav
+use Rattle.dav_core.specs.declared.fs.DavMetaData.{DavMetaData}
+use Rattle.dav_core.specs.Asking.{Metadata, ReadDir, EntryMetadata}
+use Rattle.dav_core.specs.Element.{ElementTree, name_of, is_named, child_elements}
+use Rattle.dav_core.specs.Path.{PathText, names}
+use Rattle.dav_headers.specs.Depth.{IsDepth}
+use Rattle.dav_headers.specs.Value.{only_text}
+use Rattle.dav_headers.specs.declared.depth.Depth.{Depth}
+use Rattle.dav_headers.specs.declared.depth.Depth.TheVariants.{Zero, Infinity}
+use Rattle.dav_engine.specs.declared.reply.ReplyBody.TheVariants as reply
+use Rattle.dav_engine.specs.declared.request.Body.{Body}
+use Rattle.dav_engine.specs.declared.request.Body.TheVariants as body
+use Rattle.dav_engine.specs.Client.{Client}
+use Rattle.dav_engine.specs.Folder.{closed, location_found, child_of, room_at}
+use Rattle.dav_engine.specs.Headers.{Headers, Decodes}
+use Rattle.dav_engine.specs.Lock.{is_absent}
+use Rattle.dav_engine.specs.Method.{MethodPlan, ◌>>=◌, answer_of, ask_for, gives, required}
+use Rattle.dav_engine.specs.Multistatus.{dav_element, declares_dav, xml_type}
+use Rattle.dav_engine.specs.Plan.{Done}
+use Rattle.dav_engine.specs.Properties.{Telling, Requested, AllProperties, NamesAlone, Writer, writer, QuotaKnown, WithQuota, properties_of, told_by, dav_space, is_in}
+use Rattle.dav_engine.specs.Response.{Response, Header}
+
+-- ---- what is asked for
+
+-- what a body asks for, and of which properties
+abbrev pub Query : Type 0
+Query = Telling × List ElementTree
+
+abbrev pub children_of_found : Option ElementTree → List ElementTree
+children_of_found None = []
+children_of_found (Some e) = child_elements e
+
+-- what one element asks for; with all properties come those that are included
+abbrev pub query_by : List ElementTree → ElementTree → Option Query
+query_by included e =
+    if bytes_eq (name_of e) (codes "propname") then Some (NamesAlone, [])
+    else if bytes_eq (name_of e) (codes "prop") then Some (Requested, child_elements e)
+    else if bytes_eq (name_of e) (codes "allprop") then Some (AllProperties, included)
+    else None
+
+-- what the first element that asks for something asks for
+abbrev pub query_among : List ElementTree → List ElementTree → Option Query
+query_among included [] = None
+query_among included (e ∷ es) = option_or (query_by included e) (query_among included es)
+
+-- the elements that a `propfind` includes, beside all properties. They stand in `includes`, where the standard has `include`
+-- (RFC 4918, section 14.8).
+abbrev pub included_in : ElementTree → List ElementTree
+included_in tree = children_of_found (find (is_named (codes "includes")) (child_elements tree))
+
+-- what a `propfind` asks for; none of another element (RFC 4918, section 14.20)
+abbrev pub query_of : ElementTree → Option Query
+query_of tree = if bytes_eq (name_of tree) (codes "propfind") && is_in dav_space tree then query_among (included_in tree) (child_elements tree) else None
+
+abbrev pub tree_query : Body → Option Query
+tree_query (body.Tree tree) = query_of tree
+tree_query content = None
+
+-- what a body asks for: without one all properties (RFC 4918, section 9.1); none where it isn't that of a PROPFIND
+abbrev pub query_in : Body → Option Query
+query_in content = if is_absent content then Some (AllProperties, []) else tree_query content
+
+-- ---- the walk
+
+-- responses, with what is known of the quota from then on
+abbrev pub Responses : Type 0
+Responses = WithQuota (List ElementTree)
+
+-- how what is below a path is told, where that is wanted
+abbrev pub Below : Type 0
+Below = PathText → Bool → QuotaKnown → MethodPlan Responses
+
+-- the response for a member, and those for what is below it
+abbrev pub tell_member : Below → Writer → PathText → DavMetaData → QuotaKnown → MethodPlan Responses
+tell_member below w p m known = do
+  one ← properties_of w p m known
+  more ← below p m.dir one.1
+  gives (one.0 ∷ more.0, more.1)
+
+-- a member at which the store refuses to look is passed over
+abbrev pub tell_found : Below → Writer → PathText → List ℕ → QuotaKnown → Result DavMetaData FsError → MethodPlan Responses
+tell_found below w p name known (Err e) = gives ([], known)
+tell_found below w p name known (Ok m) = tell_member below w (child_of p name m.dir) m known
+
+-- the members of a folder, in order
+abbrev pub tell_members : Below → Writer → PathText → QuotaKnown → List (List ℕ × Bool) → MethodPlan Responses
+tell_members below w p known [] = gives ([], known)
+tell_members below w p known (entry ∷ entries) = do
+  found ← answer_of (EntryMetadata (names p ++ entry.0 ∷ []))
+  one ← tell_found below w p entry.0 known found
+  more ← tell_members below w p one.1 entries
+  gives (one.0 ++ more.0, more.1)
+
+-- a folder that the store refuses to list is passed over
+abbrev pub tell_listed : Below → Writer → PathText → QuotaKnown → Result (List (List ℕ × Bool)) FsError → MethodPlan Responses
+tell_listed below w p known (Err e) = gives ([], known)
+tell_listed below w p known (Ok entries) = tell_members below w p known entries
+
+-- What is below a path, where that is wanted: the members of the folder, and where `deep` holds what is below each of them behind
+-- it, so many names deep at most (RFC 4918, section 9.1).
+abbrev pub tell_below : (deep : Bool) → ℕ → Writer → PathText → Bool → QuotaKnown → MethodPlan Responses
+tell_below deep room w p false known = gives ([], known)
+tell_below deep zero w p true known = gives ([], known)
+tell_below deep (suc room) w p true known = do
+  listed ← answer_of (ReadDir (names p))
+  tell_listed (λ q dir then_known. tell_below deep room w q (dir && deep) then_known) w p known listed
+
+-- ---- the method
+
+-- What the headers of a PROPFIND say: its depth, and whether it tests servers, for which alone there is no limit (sections 9.1
+-- and 10.2).
+pub record FindHeaders : Type 0 where
+  pub depth : Option Depth
+  pub is_test : Bool
+
+pub record AreFindHeaders (headers : Headers) (h : FindHeaders) : Type 0 where
+  pub depth : Decodes IsDepth (get_all headers (codes "depth")) h.depth
+  pub is_test : h.is_test ≡ is_some (only_text (get_all headers (codes "x-litmus")))
+
+-- the reply isn't to be stored (RFC 9111, section 5.2)
+abbrev pub uncached : List Header → List Header
+uncached headers = (codes "cache-control", codes "no-cache") ∷ (codes "pragma", codes "no-cache") ∷ headers
+
+-- 501, with the condition that the depth be finite (RFC 4918, sections 9.1.1 and 16)
+abbrev pub finite_depth : Response
+finite_depth = record {
+  status = 501;
+  headers = uncached (xml_type ∷ []);
+  body = reply.Tree (declares_dav (dav_element (codes "error") (dav_element (codes "propfind-finite-depth") [] ∷ [])));
+}
+
+abbrev pub is_infinite : Option Depth → Bool
+is_infinite (Some Infinity) = true
+is_infinite depth = false
+
+-- whether the resource itself is told of: without a depth only its members are
+abbrev pub tells_itself : Option Depth → Bool
+tells_itself depth = is_some depth
+
+-- whether its members are told of
+abbrev pub tells_members : Option Depth → Bool
+tells_members (Some Zero) = false
+tells_members depth = true
+
+-- the response for the resource itself, where it is told of
+abbrev pub tell_itself : Bool → Writer → PathText → DavMetaData → MethodPlan Responses
+tell_itself false w p m = gives ([], None)
+tell_itself true w p m = do
+  one ← properties_of w p m None
+  gives (one.0 ∷ [], one.1)
+
+-- 207 with all responses (RFC 4918, section 13)
+abbrev pub propfind_reply : List Header → Writer → List ElementTree → Response
+propfind_reply location w responses = record {
+  status = 207;
+  headers = uncached (location ++ xml_type ∷ []);
+  body = reply.Tree (told_by w responses);
+}
+
+-- a PROPFIND of what was found: 400 where the body asks for nothing
+abbrev pub propfind_found : FindHeaders → Headers → PathText → List Header → Body → Client → DavMetaData → MethodPlan Response
+propfind_found h headers p location content who m = do
+  query ← Done (required (query_in content) dav.XmlParseError)
+  let w = writer query.0 headers who.principal query.1
+  itself ← tell_itself (tells_itself h.depth) w p m
+  below ← tell_below (is_infinite h.depth) (room_at p) w p (m.dir && tells_members h.depth) itself.1
+  gives (propfind_reply location w (itself.0 ++ below.0))
+
+-- whether the depth has a limit, or needs none
+abbrev pub is_served_depth : FindHeaders → Bool
+is_served_depth h = not (is_infinite h.depth && not h.is_test)
+
+abbrev pub propfind_if : Bool → FindHeaders → Headers → PathText → Body → Client → MethodPlan Response
+propfind_if false h headers p content who = gives finite_depth
+propfind_if true h headers p content who = do
+  found ← ask_for (Metadata (names p))
+  propfind_found h headers (closed found.dir p) (location_found (Some found) p) content who found
+
+-- PROPFIND. No condition and no lock is checked.
+abbrev pub propfind : FindHeaders → Headers → PathText → Body → Client → MethodPlan Response
+propfind h headers p content who = propfind_if (is_served_depth h) h headers p content who
+
+-- the plan is that of a PROPFIND with these headers and this body, of this path, by this client
+pub data IsPropfind (headers : Headers) (p : PathText) (content : Body) (who : Client) : MethodPlan Response → Type 0 where
+  is_propfind : (h : FindHeaders) → AreFindHeaders headers h → IsPropfind headers p content who (propfind h headers p content who)

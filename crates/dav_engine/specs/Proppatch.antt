@@ -1,0 +1,264 @@
+-- PROPPATCH (RFC 4918, section 9.2).
+use Rattle.std.specs.Prelude.{ℕ, ◌++◌, ◌==◌, ◌&&◌, ◌||◌, bytes_eq, nat_lt, Bool, true, false, not, List, [], ◌∷◌, map, codes, if◌then◌else◌, Option, Some, None}
+use Rattle.std.specs.Char.{is_ascii_alphanumeric}
+use Rattle.std.specs.List.{filter, flat_map, list_any, list_all}
+use Rattle.std.specs.Option.{is_none, is_some, unwrap_or}
+use Rattle.http_header.specs.FieldValue.{is_visible_text}
+use Rattle.dav_core.specs.declared.errors.DavError.TheVariants as dav
+use Rattle.dav_core.specs.declared.fs.DavMetaData.{DavMetaData}
+use Rattle.dav_core.specs.declared.method.DavMethod.TheVariants as method
+use Rattle.dav_core.specs.Asking.{Metadata, PatchProps}
+use Rattle.dav_core.specs.Element.{ElementTree, element, no_trees, name_of, prefix_of, namespace_of, child_elements, text_of, is_named, xmlns_name}
+use Rattle.dav_core.specs.Path.{PathText, names, is_nonempty}
+use Rattle.dav_core.specs.Property.{Property, Patch, patch_of}
+use Rattle.dav_headers.specs.Elements.{elements_of}
+use Rattle.dav_engine.specs.declared.reply.ReplyBody.TheVariants as reply
+use Rattle.dav_engine.specs.declared.request.Body.{Body}
+use Rattle.dav_engine.specs.declared.request.Body.TheVariants as body
+use Rattle.dav_engine.specs.Client.{Client, requester}
+use Rattle.dav_engine.specs.Conditions.{Conditions, AreConditions, guarded}
+use Rattle.dav_engine.specs.Folder.{closed, location_found}
+use Rattle.dav_engine.specs.Headers.{Headers}
+use Rattle.dav_engine.specs.Method.{MethodPlan, ◌>>=◌, require_free, ask_for, gives, required}
+use Rattle.dav_engine.specs.Multistatus.{multistatus, xml_type}
+use Rattle.dav_engine.specs.Plan.{Done}
+use Rattle.dav_engine.specs.Properties.{dav_space, apache_space, microsoft_space, windows_names, is_in, has_properties, Group, property_response}
+use Rattle.dav_engine.specs.Response.{Response, Header}
+
+-- ---- what is to change
+
+-- A change: a property by its element, and whether it is set or removed.
+pub record Change : Type 0 where
+  pub is_set : Bool
+  pub property : ElementTree
+
+-- properties that are all set, or all removed
+abbrev pub each_changed : Bool → List ElementTree → List Change
+each_changed is_set es = map (λ e. record { is_set = is_set; property = e }) es
+
+-- the changes of a `set` or `remove`: the elements in each `prop` (RFC 4918, section 14.18)
+abbrev pub changes_to : Bool → ElementTree → List Change
+changes_to is_set part = each_changed is_set (flat_map child_elements (filter (is_named (codes "prop")) (child_elements part)))
+
+-- the changes of a part of a body: a `set` or a `remove` (RFC 4918, sections 14.26 and 14.23); of another element none
+abbrev pub changes_by : ElementTree → List Change
+changes_by part =
+    if bytes_eq (name_of part) (codes "set") then changes_to true part
+    else if bytes_eq (name_of part) (codes "remove") then changes_to false part
+    else []
+
+-- all changes of a body, in order (RFC 4918, section 14.19); none where it isn't that of a PROPPATCH. Names count, and namespaces
+-- don't.
+abbrev pub changes_in : Body → Option (List Change)
+changes_in (body.Tree tree) = if bytes_eq (name_of tree) (codes "propertyupdate") then Some (flat_map changes_by (child_elements tree)) else None
+changes_in content = None
+
+-- ---- what becomes of each
+
+-- an element that has a text, and no element in it
+abbrev pub has_text_alone : ElementTree → Bool
+has_text_alone e = is_some (text_of e) && not (is_nonempty (child_elements e))
+
+-- a language tag: letters, digits and hyphens (RFC 9110, section 8.5.1)
+abbrev pub is_language : List ℕ → Bool
+is_language tag = is_nonempty tag && list_all (λ b. is_ascii_alphanumeric b || (b == 45)) tag
+
+-- a text that the header Content-Language may have (RFC 9110, section 8.5)
+abbrev pub are_languages : List ℕ → Bool
+are_languages value = is_visible_text value && list_all is_language (elements_of value)
+
+-- 409 for a value that isn't a text
+abbrev pub with_text : ElementTree → Option ℕ → Option ℕ
+with_text e verdict = if has_text_alone e then verdict else Some 409
+
+-- the same for a value that has to be a list of languages
+abbrev pub with_languages : ElementTree → Option ℕ → Option ℕ
+with_languages e verdict = with_text e (if are_languages (unwrap_or (text_of e) []) then verdict else Some 409)
+
+-- to be stored, where the store keeps properties; else 403
+abbrev pub storable_if : Bool → Option ℕ
+storable_if has = if has then None else Some 403
+
+-- a property of the namespace `DAV:` that is to be set (RFC 4918, section 15)
+abbrev pub set_dav_status : Bool → ElementTree → Option ℕ
+set_dav_status has e =
+    if bytes_eq (name_of e) (codes "displayname") then with_text e (storable_if has)
+    else if bytes_eq (name_of e) (codes "getcontentlanguage") then with_languages e (storable_if has)
+    else if bytes_eq (name_of e) (codes "getlastmodified") then with_text e (Some 403)
+    else Some 403
+
+-- a property of Apache's that is to be set
+abbrev pub set_apache_status : ElementTree → Option ℕ
+set_apache_status e = if bytes_eq (name_of e) (codes "executable") then with_text e (Some 403) else Some 403
+
+-- a property of Microsoft's that is to be set: what Windows sets is accepted, and not stored
+abbrev pub set_windows_status : ElementTree → Option ℕ
+set_windows_status e = if list_any (bytes_eq (name_of e)) windows_names then with_text e (Some 200) else Some 403
+
+-- The status that answers at once to a property that is to be set, by whether the store keeps properties; none where it is to be
+-- stored. A client can't set what the server computes (RFC 4918, section 15).
+abbrev pub set_status : Bool → ElementTree → Option ℕ
+set_status has e =
+    if is_in dav_space e then set_dav_status has e
+    else if is_in apache_space e then set_apache_status e
+    else if is_in microsoft_space e then set_windows_status e
+    else None
+
+-- a property of the namespace `DAV:` that is to be removed
+abbrev pub remove_dav_status : Bool → ElementTree → Option ℕ
+remove_dav_status has e =
+    if bytes_eq (name_of e) (codes "displayname") || bytes_eq (name_of e) (codes "getcontentlanguage") then (if has then Some 200 else Some 403)
+    else Some 403
+
+-- the same for a property that is to be removed
+abbrev pub remove_status : Bool → ElementTree → Option ℕ
+remove_status has e =
+    if is_in dav_space e then remove_dav_status has e
+    else if is_in apache_space e || is_in microsoft_space e then Some 403
+    else None
+
+abbrev pub change_status : Bool → Change → Option ℕ
+change_status has c = if c.is_set then set_status has c.property else remove_status has c.property
+
+-- ---- what is told
+
+-- a namespace as the attribute of an element declares it (Namespaces in XML 1.0, section 3)
+abbrev pub declares : Option (List ℕ) → Option (List ℕ) → List (List ℕ × List ℕ)
+declares prefix None = []
+declares prefix (Some space) = (xmlns_name (unwrap_or prefix []), space) ∷ []
+
+-- a property by its name, with its namespace declared, and without its value
+abbrev pub by_name : List ℕ → Option (List ℕ) → Option (List ℕ) → ElementTree
+by_name name prefix space = element name prefix space (declares prefix space) no_trees
+
+abbrev pub element_by_name : ElementTree → ElementTree
+element_by_name e = by_name (name_of e) (prefix_of e) (namespace_of e)
+
+abbrev pub property_by_name : Property → ElementTree
+property_by_name p = by_name p.name p.prefix p.namespace
+
+-- a property, with the status that tells what became of it
+abbrev pub Told : Type 0
+Told = ℕ × ElementTree
+
+-- a property more under a status; the statuses rise
+abbrev pub told_under : ℕ → ElementTree → List Group → List Group
+told_under status e [] = (status, e ∷ []) ∷ []
+told_under status e (g ∷ gs) =
+    if status == g.0 then (g.0, g.1 ++ e ∷ []) ∷ gs
+    else if nat_lt status g.0 then (status, e ∷ []) ∷ g ∷ gs
+    else g ∷ told_under status e gs
+
+-- properties under their statuses, in rising order
+abbrev pub grouped_onto : List Group → List Told → List Group
+grouped_onto gs [] = gs
+grouped_onto gs (told ∷ more) = grouped_onto (told_under told.0 told.1 gs) more
+
+abbrev pub grouped : List Told → List Group
+grouped told = grouped_onto [] told
+
+-- the changes that are answered at once, each with its status
+abbrev pub answered_by : Change → Option ℕ → List (ℕ × Change)
+answered_by c None = []
+answered_by c (Some status) = (status, c) ∷ []
+
+abbrev pub answered_at_once : Bool → List Change → List (ℕ × Change)
+answered_at_once has cs = flat_map (λ c. answered_by c (change_status has c)) cs
+
+-- the changes that are to be stored
+abbrev pub to_store : Bool → List Change → List Change
+to_store has cs = filter (λ c. is_none (change_status has c)) cs
+
+-- whether one is refused
+abbrev pub has_refused : List (ℕ × Change) → Bool
+has_refused answers = list_any (λ r. not (r.0 == 200)) answers
+
+-- where one is refused, the others fail with it (RFC 4918, section 11.4)
+abbrev pub failed_status : ℕ → ℕ
+failed_status status = if status == 200 then 424 else status
+
+-- a change that would have been stored: what was to be set is shown whole
+abbrev pub failed_element : Change → ElementTree
+failed_element c = if c.is_set then c.property else element_by_name c.property
+
+abbrev pub all_failed : List (ℕ × Change) → List Change → List Told
+all_failed answers stored =
+    map (λ r. (failed_status r.0, element_by_name r.1.property)) answers ++ map (λ c. (424, failed_element c)) stored
+
+-- what became of all changes, those of the store by its answers
+abbrev pub all_done : List (ℕ × Change) → List (ℕ × Property) → List Told
+all_done answers stored =
+    map (λ r. (r.0, element_by_name r.1.property)) answers ++ map (λ a. (a.0, property_by_name a.1)) stored
+
+-- a change as the store takes it
+abbrev pub as_patch : Change → Patch
+as_patch c = patch_of (
+  c.is_set,
+  record {
+    name = name_of c.property;
+    prefix = prefix_of c.property;
+    namespace = namespace_of c.property;
+    xml = if c.is_set then Some c.property else None;
+  },
+)
+
+-- ---- the method
+
+-- stores changes, if there are any
+abbrev pub store_changes : PathText → List Change → MethodPlan (List (ℕ × Property))
+store_changes p [] = gives []
+store_changes p (c ∷ cs) = ask_for (PatchProps (names p) (map as_patch (c ∷ cs)))
+
+-- Where one change is refused, nothing is stored: all changes are made or none (RFC 4918, section 9.2).
+abbrev pub change_all : PathText → (refused : Bool) → List (ℕ × Change) → List Change → MethodPlan (List Told)
+change_all p true answers stored = gives (all_failed answers stored)
+change_all p false answers stored = do
+  done ← store_changes p stored
+  gives (all_done answers done)
+
+-- 207 with one response (RFC 4918, sections 9.2.1 and 13)
+abbrev pub proppatch_reply : List Header → PathText → List Told → Response
+proppatch_reply location p told = record {
+  status = 207;
+  headers = location ++ xml_type ∷ [];
+  body = reply.Tree (multistatus (property_response p (grouped told) ∷ []));
+}
+
+-- makes all changes, or none, and tells what became of each
+abbrev pub change_properties : PathText → List Change → MethodPlan (List Told)
+change_properties p changes = do
+  has ← has_properties p
+  change_all p (has_refused (answered_at_once has changes)) (answered_at_once has changes) (to_store has changes)
+
+-- the same, with the reply
+abbrev pub patch_properties : PathText → List Header → List Change → MethodPlan Response
+patch_properties p location changes = do
+  told ← change_properties p changes
+  gives (proppatch_reply location p told)
+
+-- the changes of a body; 400 where it tells none
+abbrev pub patch_body : PathText → List Header → Body → MethodPlan Response
+patch_body p location content = do
+  changes ← Done (required (changes_in content) dav.XmlParseError)
+  patch_properties p location changes
+
+-- a PROPPATCH of what was found: 412 where a condition fails, 423 where a lock is another's
+abbrev pub proppatch_found : Conditions → PathText → List Header → Body → Client → DavMetaData → MethodPlan Response
+proppatch_found c p location content who found = do
+  tokens ← guarded dav.Status method.PropPatch c (Some found)
+  _ ← require_free false (requester who tokens) (names p) (dav.Status 423)
+  patch_body p location content
+
+-- the same of what was found at a path, which may lack its slash
+abbrev pub proppatch_at : Conditions → PathText → Body → Client → DavMetaData → MethodPlan Response
+proppatch_at c p content who found = proppatch_found c (closed found.dir p) (location_found (Some found) p) content who found
+
+-- PROPPATCH
+abbrev pub proppatch : Conditions → PathText → Body → Client → MethodPlan Response
+proppatch c p content who = do
+  found ← ask_for (Metadata (names p))
+  proppatch_at c p content who found
+
+-- the plan is that of a PROPPATCH with these headers and this body, of this path, by this client
+pub data IsProppatch (headers : Headers) (p : PathText) (content : Body) (who : Client) : MethodPlan Response → Type 0 where
+  is_proppatch : (c : Conditions) → AreConditions headers p.prefix (names p) c → IsProppatch headers p content who (proppatch c p content who)

@@ -1,0 +1,26 @@
+-- What tells properties, step by step.
+use Rattle.std.specs.Prelude.{◌≡◌, List, [], codes, None}
+use Rattle.http_header.specs.FieldValue.{FieldValue, plain_value}
+use Rattle.http_header.specs.HeaderMap.{Entries, insert}
+use Rattle.dav_core.specs.Element.{ElementTree}
+use Rattle.dav_engine.specs.Multistatus.{xml_type}
+use Rattle.dav_engine.specs.Properties.{Writer, QuotaKnown}
+use Rattle.dav_engine.specs.Response.{Response, headers_in}
+
+-- How properties are told, what is known of the quota, and the responses that were written: those that were sent, and those that
+-- weren't yet.
+pub record Writing : Type 0 where
+  pub writer : Writer
+  pub quota : QuotaKnown
+  pub finished : List ElementTree
+  pub waiting : List ElementTree
+
+-- nothing is written yet
+abbrev pub started : Writer → Writing
+started w = record { writer = w; quota = None; finished = []; waiting = [] }
+
+-- the reply gets the status 207 (RFC 4918, section 11.1), and is sent as XML
+pub record BeginsReply (old new : Response) : Type 0 where
+  pub entries : Entries FieldValue
+  pub before : old.headers ≡ headers_in entries
+  pub after : new ≡ record { status = 207; headers = headers_in (insert entries (codes "content-type") (plain_value xml_type.1)); body = old.body }

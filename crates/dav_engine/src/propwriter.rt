@@ -1,0 +1,244 @@
+//! Properties of resources, as the reply to a request tells them (RFC 4918, sections 9.1, 14 and 15).
+ghost use Rattle.std.specs.Prelude.{◌≡◌, ◌++◌, ◌∷◌, [], IfOk, OnOk, OnErr};
+ghost use Rattle.std.specs.List.{list_any};
+ghost use Rattle.std.specs.Option.{option_copied};
+ghost use Rattle.dav_core.specs.Element.{named_by, with_children};
+ghost use Rattle.dav_engine.specs.Properties.{propstat, property_response, is_in, told_by, writer, telling_of};
+ghost use Rattle.dav_engine.specs.Properties as spec;
+ghost use Rattle.dav_engine.specs.PropertyView.{groups_in};
+ghost use Rattle.dav_engine.specs.Writing.{started, BeginsReply};
+ghost use Rattle.dav_engine.specs.Declaring.{declared, declares, opened};
+ghost use Rattle.dav_engine.specs.Multistatus.{multistatus};
+
+use crate::live::{Quota, is_in};
+use crate::multierror::{Sender, href, status_element};
+use crate::reply::{Reply, set_xml_type};
+use crate::request::DavRequest;
+use crate::telling::Telling;
+use crate::writer::Writer;
+use dav_core::davpath::DavPath;
+use dav_core::element::Element;
+use dav_core::errors::{DavResult, NoMemory};
+use http::StatusCode;
+use std::alloc::Global;
+use std::collections::BTreeMap;
+use std::marker::Model;
+
+// An element with elements in it.
+fn holding_all(alloc: Global, name: &str, children: Vec<Element>) -> Result<Element, NoMemory>
+    ensures { IfOk result (λ e. e ≡ with_children (named_by name.now) children.items) }
+{
+    let mut element = Element::new2(alloc, name)?;
+    for child in children {
+        element.push_element(child)?;
+    }
+    Ok(element)
+}
+
+// The properties that have this status.
+fn propstat(alloc: Global, status: u16, properties: Vec<Element>) -> Result<Element, NoMemory>
+    ensures { IfOk result (λ e. e ≡ propstat (status, properties.items)) }
+{
+    let mut element = Element::new2(alloc, "D:propstat")?;
+    element.push_element(holding_all(alloc, "D:prop", properties)?)?;
+    element.push_element(status_element(alloc, status)?)?;
+    Ok(element)
+}
+
+// The response for one resource: its properties under their statuses, in rising order.
+pub(crate) fn property_response(
+    alloc: Global,
+    path: &DavPath,
+    groups: BTreeMap<u16, Vec<Element>>,
+) -> Result<Element, NoMemory>
+    ensures { IfOk result (λ e. e ≡ property_response path.now (groups_in groups)) }
+{
+    let mut response = Element::new2(alloc, "D:response")?;
+    response.push_element(href(alloc, path)?)?;
+    for (status, properties) in groups {
+        response.push_element(propstat(alloc, status, properties)?)?;
+    }
+    Ok(response)
+}
+
+// Whether one of the properties is of this namespace.
+fn has_in(space: &str, properties: &[Element]) -> bool
+    ensures { result ≡ list_any (is_in space.now) properties.now }
+{
+    properties.iter().any(|property| is_in(space, property))
+}
+
+// Declares a namespace, where a property has it (Namespaces in XML 1.0, section 3).
+fn declare(
+    element: &mut Element,
+    prefix: &str,
+    space: &str,
+    properties: &[Element],
+) -> Result<(), NoMemory>
+    ensures { OnOk result (element.new
+        ≡ declared prefix.now space.now properties.now element.old) }
+{
+    if !has_in(space, properties) {
+        return Ok(());
+    }
+    element.ns(prefix, space)?;
+    Ok(())
+}
+
+// Whether the namespaces of properties are declared: not where outcomes are told.
+fn declares(telling: Telling) -> bool
+    ensures { result ≡ declares telling }
+{
+    !matches!(telling, Telling::Outcomes)
+}
+
+// The element for responses, without any.
+fn multistatus(alloc: Global) -> Result<Element, NoMemory>
+    ensures { IfOk result (λ e. e ≡ multistatus []) }
+{
+    let mut element = Element::new2(alloc, "D:multistatus")?;
+    element.ns("D", "DAV:")?;
+    Ok(element)
+}
+
+// The element for all responses, without any.
+fn opened(alloc: Global, telling: Telling, properties: &[Element]) -> Result<Element, NoMemory>
+    ensures { IfOk result (λ e. e ≡ opened telling properties.now) }
+{
+    let mut element = multistatus(alloc)?;
+    if !declares(telling) {
+        return Ok(element);
+    }
+    declare(
+        &mut element,
+        "A",
+        "http://apache.org/dav/props/",
+        properties,
+    )?;
+    declare(&mut element, "Z", "urn:schemas-microsoft-com:", properties)?;
+    declare(&mut element, "nc", "http://nextcloud.org/ns", properties)?;
+    declare(&mut element, "oc", "http://owncloud.org/ns", properties)?;
+    Ok(element)
+}
+
+// The element for all responses.
+fn told_by(alloc: Global, writer: &Writer, responses: Vec<Element>) -> Result<Element, NoMemory>
+    ensures { IfOk result (λ e. e ≡ told_by writer.now responses.items) }
+{
+    let mut element = opened(alloc, writer.telling, &writer.properties)?;
+    for response in responses {
+        element.push_element(response)?;
+    }
+    Ok(element)
+}
+
+/// What tells properties of resources: each has a response, and all responses are an element tree.
+#[derive(Drop)]
+pub struct PropWriter {
+    // How they are told.
+    writer: Writer,
+    // What is known of the quota.
+    quota: Option<Quota>,
+    // The responses that were sent.
+    finished: Sender<Element>,
+    // The responses that weren't sent yet.
+    waiting: Vec<Element>,
+}
+
+impl Model for PropWriter {
+    ghost use Rattle.dav_engine.specs.Writing.{Writing};
+    ghost use Rattle.dav_engine.specs.WriterCode.{coded_writing};
+    ghost use Rattle.dav_engine.specs.contracts.telling.Telling as kind;
+
+    ghost Value = { Writing };
+
+    ghost coded = { coded_writing kind.the_row.coded };
+
+    ghost use Rattle.dav_engine.specs.WritingView.{writing_of};
+
+    ghost view = { writing_of };
+}
+
+impl PropWriter {
+    /// Begins the reply to a request that tells properties: its status is 207, and it has `content-type`. `name` is that of the
+    /// element that asks for them (RFC 4918, sections 14.2, 14.18, 14.19 and 14.20): `prop` for the given properties;
+    /// `allprop` for them and then all that every resource has; `propname` for names alone; `propertyupdate` for what became
+    /// of changes. Under another name the given ones are followed by those that are told under `propname`.
+    pub fn new(
+        alloc: Global,
+        request: &DavRequest,
+        reply: &mut Reply,
+        name: &str,
+        props: Vec<Element>,
+        principal: Option<&str>,
+    ) -> DavResult<PropWriter>
+        ensures writer { IfOk result (λ w. w ≡ started (writer (telling_of name.now)
+            request.now.headers (option_copied principal.entry) props.items)) }
+        ensures reply { OnOk result (BeginsReply reply.old reply.new) }
+    {
+        let telling = Telling::by_name(name);
+        let writer = Writer::new(alloc, telling, &request.headers, principal, props)?;
+        set_xml_type(&mut reply.headers)?;
+        reply.status = StatusCode::MULTI_STATUS;
+        Ok(PropWriter {
+            writer,
+            quota: None,
+            finished: Vec::new(alloc),
+            waiting: Vec::new(alloc),
+        })
+    }
+
+    /// Sends the responses to a list, which is empty; it is called once, before any is sent.
+    pub fn set_tx(&mut self, tx: Sender<Element>)
+        requires empty { tx.items ≡ [] }
+        requires first { self.old.finished ≡ [] }
+        ensures { self.new ≡ self.old }
+    {
+        self.finished = tx;
+    }
+
+    /// Adds the response for one path: properties under their statuses, in rising order; a status without properties is
+    /// told too.
+    pub fn write_propresponse(
+        &mut self,
+        alloc: Global,
+        path: &DavPath,
+        props: BTreeMap<u16, Vec<Element>>,
+    ) -> DavResult<()>
+        ensures ok { OnOk result (self.new ≡ record self.old {
+          waiting = self.old.waiting ++ property_response path.now (groups_in props) ∷ [];
+        }) }
+        ensures err { OnErr result (self.new ≡ self.old) }
+    {
+        let response = property_response(alloc, path, props)?;
+        self.waiting.push(response)?;
+        Ok(())
+    }
+
+    /// Sends the responses that wait. Where memory runs out, they wait on.
+    pub fn flush(&mut self) -> DavResult<()>
+        ensures ok { OnOk result (self.new ≡ record self.old {
+          finished = self.old.finished ++ self.old.waiting;
+          waiting = [];
+        }) }
+        ensures err { OnErr result (self.new ≡ self.old) }
+    {
+        self.finished.append(&mut self.waiting)?;
+        Ok(())
+    }
+
+    /// The element with all responses that were written, in order (RFC 4918, section 14.16). It declares the namespaces of the
+    /// properties that are told, of those that the server knows, and none where outcomes are told.
+    pub fn close(mut self, alloc: Global) -> DavResult<Element>
+        ensures { IfOk result (λ e. e
+            ≡ spec.told_by self.writer (self.finished ++ self.waiting)) }
+    {
+        self.flush()?;
+        let PropWriter {
+            writer,
+            finished,
+            ..
+        } = self;
+        Ok(told_by(alloc, &writer, finished)?)
+    }
+}

@@ -1,0 +1,474 @@
+//! Lists of paths and their nodes, in order of the paths. A path is found by halving the list.
+ghost use Rattle.std.specs.Prelude.{◌≡◌, ◌∷◌, ◌++◌, ◌+◌, ◌<◌, ◌≤◌, [], ℕ, List, Some, ◌≢◌, ◌==◌, ◌&&◌, not, T, IfOk, OnOk, OnErr, IfSome, Option, option_map, option_copied, position, filter, map, vec_len, length, reverse};
+ghost use Rattle.std.specs.Vec.{vec_capacity};
+ghost use Rattle.std.specs.List.{insert};
+ghost use Rattle.std.specs.FinMap.{find, put, is_sorted};
+ghost use Rattle.std.specs.Ordering.{is_le, is_gt};
+ghost use Rattle.dav_core.specs.Path.{names, path_cmp, is_same_path, is_at_or_under, parent_of};
+ghost use Rattle.dav_core.specs.World.{adjust, touched, prune, graft, union, moved, modified_at, is_folder_node, is_file_node, last_moment, max_file_len, change_node, is_file_made_with, file_made_with, is_folder_kind};
+ghost use Rattle.dav_core.specs.World.{Node as Seen};
+ghost use Rattle.dav_core.specs.Calls.{emptied, written, repatched};
+ghost use Rattle.dav_core.specs.Property.{Patch, patched};
+ghost use Rattle.dav_store.specs.Entries.{DifferInMaking, IsRun};
+
+use crate::names::{Name, Names};
+use crate::node::Node;
+use crate::properties::Properties;
+use dav_core::davpath::DavPath;
+use dav_core::errors::NoMemory;
+use std::alloc::Global;
+
+// The place of the first path that doesn't come before this one.
+fn place_from(list: &[(Names, Node)], path: &DavPath) -> Option<usize>
+    requires { T (is_sorted path_cmp list.now) }
+    ensures { result ≡ position (λ e. is_le (path_cmp (names path.now) e.0)) list.now }
+{
+    let i = list.partition_point(
+        |e: &(Names, Node)| -> bool
+            ensures { result ≡ is_gt (path_cmp (names path.entry.now) e.now.0) }
+        { e.0.follow(path).is_gt() },
+    );
+    if i < list.len() { Some(i) } else { None }
+}
+
+// The place of the first path that doesn't come before the folder of this one.
+fn folder_place_from(list: &[(Names, Node)], path: &DavPath) -> Option<usize>
+    requires { T (is_sorted path_cmp list.now) }
+    ensures { result ≡ position (λ e. is_le (path_cmp (parent_of (names path.now)) e.0)) list.now }
+{
+    let i = list.partition_point(
+        |e: &(Names, Node)| -> bool
+            ensures { result ≡ is_gt (path_cmp (parent_of (names path.entry.now)) e.now.0) }
+        { e.0.follow_folder_of(path).is_gt() },
+    );
+    if i < list.len() { Some(i) } else { None }
+}
+
+// The place of the first path that doesn't come before that of a folder's names and one more.
+fn member_place_from(list: &[(Names, Node)], folder: &Names, name: &Name) -> Option<usize>
+    requires { T (is_sorted path_cmp list.now) }
+    ensures { result ≡ position (λ e. is_le (path_cmp (folder.now ++ name.now ∷ []) e.0)) list.now }
+{
+    let i = list.partition_point(
+        |e: &(Names, Node)| -> bool
+            ensures { result ≡ is_gt (path_cmp (folder.entry.now ++ name.entry.now ∷ []) e.now.0) }
+        { e.0.follow_member(folder, name).is_gt() },
+    );
+    if i < list.len() { Some(i) } else { None }
+}
+
+// The place of the first path that doesn't come before these names.
+fn names_place_from(list: &[(Names, Node)], path: &Names) -> Option<usize>
+    requires { T (is_sorted path_cmp list.now) }
+    ensures { result ≡ position (λ e. is_le (path_cmp path.now e.0)) list.now }
+{
+    let i = list.partition_point(
+        |e: &(Names, Node)| -> bool
+            ensures { result ≡ is_gt (path_cmp path.entry.now e.now.0) }
+        { path.compare(&e.0).is_gt() },
+    );
+    if i < list.len() { Some(i) } else { None }
+}
+
+/// The place of a path in the list.
+pub fn place(list: &[(Names, Node)], path: &DavPath) -> Option<usize>
+    requires { T (is_sorted path_cmp list.now) }
+    ensures { result ≡ position (λ e. is_same_path (names path.now) e.0) list.now }
+{
+    match place_from(list, path) {
+        None => None,
+        Some(i) => if list[i].0.follow(path).is_eq() {
+            Some(i)
+        } else {
+            None
+        },
+    }
+}
+
+// The place of a path's folder in the list.
+fn folder_place(list: &[(Names, Node)], path: &DavPath) -> Option<usize>
+    requires { T (is_sorted path_cmp list.now) }
+    ensures { result ≡ position (λ e. is_same_path (parent_of (names path.now)) e.0) list.now }
+{
+    match folder_place_from(list, path) {
+        None => None,
+        Some(i) => if list[i].0.follow_folder_of(path).is_eq() {
+            Some(i)
+        } else {
+            None
+        },
+    }
+}
+
+// The place of the path that is a folder's names and one more.
+fn member_place(list: &[(Names, Node)], folder: &Names, name: &Name) -> Option<usize>
+    requires { T (is_sorted path_cmp list.now) }
+    ensures { result ≡ position (λ e. is_same_path (folder.now ++ name.now ∷ []) e.0) list.now }
+{
+    match member_place_from(list, folder, name) {
+        None => None,
+        Some(i) => if list[i].0.follow_member(folder, name).is_eq() {
+            Some(i)
+        } else {
+            None
+        },
+    }
+}
+
+/// The node at a path.
+pub fn node_at<'a>(entries: &'a [(Names, Node)], path: &DavPath) -> Option<&'a Node>
+    requires { T (is_sorted path_cmp entries.now) }
+    ensures { option_copied result ≡ find path_cmp (names path.now) entries.now }
+{
+    match place(entries, path) {
+        None => None,
+        Some(i) => Some(&entries[i].1),
+    }
+}
+
+/// The node at the folder of a path.
+pub fn folder_of<'a>(entries: &'a [(Names, Node)], path: &DavPath) -> Option<&'a Node>
+    requires { T (is_sorted path_cmp entries.now) }
+    ensures { option_copied result ≡ find path_cmp (parent_of (names path.now)) entries.now }
+{
+    match folder_place(entries, path) {
+        None => None,
+        Some(i) => Some(&entries[i].1),
+    }
+}
+
+/// Whether there is a folder at a path.
+pub fn is_folder(entries: &[(Names, Node)], path: &DavPath) -> bool
+    requires { T (is_sorted path_cmp entries.now) }
+    ensures { result ≡ is_folder_node (find path_cmp (names path.now) entries.now) }
+{
+    match node_at(entries, path) {
+        Some(node) => node.is_folder(),
+        None => false,
+    }
+}
+
+/// Whether there is a file at a path.
+pub fn is_file(entries: &[(Names, Node)], path: &DavPath) -> bool
+    requires { T (is_sorted path_cmp entries.now) }
+    ensures { result ≡ is_file_node (find path_cmp (names path.now) entries.now) }
+{
+    match node_at(entries, path) {
+        Some(node) => !node.is_folder(),
+        None => false,
+    }
+}
+
+/// Whether there is a folder above a path.
+pub fn has_folder(entries: &[(Names, Node)], path: &DavPath) -> bool
+    requires { T (is_sorted path_cmp entries.now) }
+    ensures { result ≡ is_folder_node (find path_cmp (parent_of (names path.now)) entries.now) }
+{
+    match folder_of(entries, path) {
+        Some(node) => node.is_folder(),
+        None => false,
+    }
+}
+
+/// Sets the moment at which the folder of a path was last changed.
+pub fn touch_folder(entries: &mut [(Names, Node)], path: &DavPath, now: u64)
+    requires sorted { T (is_sorted path_cmp entries.old) }
+    requires now { now ≤ last_moment }
+    ensures { entries.new ≡ touched (names path.now) now entries.old }
+{
+    if let Some(i) = folder_place(entries, path) {
+        entries[i].1.touch(now);
+    }
+}
+
+/// Empties the file at a path, which takes this number.
+pub fn empty_at(entries: &mut [(Names, Node)], path: &DavPath, number: u64, now: u64)
+    requires sorted { T (is_sorted path_cmp entries.old) }
+    requires now { now ≤ last_moment }
+    ensures { entries.new ≡ adjust (names path.now) (emptied number now) entries.old }
+{
+    if let Some(i) = place(entries, path) {
+        entries[i].1.empty(number, now);
+    }
+}
+
+// The place from which on paths are no longer at a path or below it.
+fn run_end(list: &[(Names, Node)], path: &DavPath, from: usize) -> usize
+    requires sorted { T (is_sorted path_cmp list.now) }
+    requires from { position (λ e. is_le (path_cmp (names path.now) e.0)) list.now ≡ Some from }
+    ensures { IsRun (names path.now) list.now from result }
+{
+    let count = list[from..].partition_point(
+        |e: &(Names, Node)| -> bool
+            ensures { result ≡ is_at_or_under e.now.0 (names path.entry.now) }
+        { e.0.are_at_or_below(path) },
+    );
+    from + count
+}
+
+/// What is at a path and below it, in order.
+pub fn at_or_below<'a>(list: &'a [(Names, Node)], path: &DavPath) -> &'a [(Names, Node)]
+    requires { T (is_sorted path_cmp list.now) }
+    ensures { result.now ≡ filter (λ e. is_at_or_under e.0 (names path.now)) list.now }
+{
+    match place_from(list, path) {
+        None => &[],
+        Some(from) => {
+            let to = run_end(list, path, from);
+            &list[from..to]
+        }
+    }
+}
+
+// Removes what is at a path and below it, by a look at all.
+fn prune_all(entries: &mut Vec<(Names, Node)>, path: &DavPath)
+    ensures { entries.new.items ≡ prune (names path.now) entries.old.items }
+{
+    entries.retain(|e| !e.0.are_at_or_below(path));
+}
+
+/// Removes what is at a path and below it.
+pub fn prune(entries: &mut Vec<(Names, Node)>, path: &DavPath)
+    requires { T (is_sorted path_cmp entries.old.items) }
+    ensures { entries.new.items ≡ prune (names path.now) entries.old.items }
+{
+    if let Some(from) = place_from(entries, path) {
+        let to = run_end(entries, path, from);
+        if to == from + 1 {
+            let _ = entries.remove(from);
+        } else {
+            prune_all(entries, path);
+        }
+    }
+}
+
+// Adds a node at the end, where there is room.
+fn push_within(entries: &mut Vec<(Names, Node)>, path: Names, node: Node)
+    requires { vec_len entries.old < vec_capacity entries.old }
+    ensures items { entries.new.items ≡ entries.old.items ++ (path, node) ∷ [] }
+    ensures len { vec_len entries.new ≡ vec_len entries.old + 1 }
+    ensures capacity { vec_capacity entries.old ≤ vec_capacity entries.new }
+{
+    let _ = entries.push((path, node));
+}
+
+// Inserts a node, where there is room.
+fn insert_within(entries: &mut Vec<(Names, Node)>, index: usize, path: Names, node: Node)
+    requires room { vec_len entries.old < vec_capacity entries.old }
+    requires within { index ≤ vec_len entries.old }
+    ensures items { entries.new.items ≡ insert entries.old.items index (path, node) }
+    ensures len { vec_len entries.new ≡ vec_len entries.old + 1 }
+    ensures capacity { vec_capacity entries.old ≤ vec_capacity entries.new }
+{
+    let _ = entries.insert(index, (path, node));
+}
+
+/// Puts a node at a path, in place of what is there; there must be room for it.
+pub fn put_node(entries: &mut Vec<(Names, Node)>, path: Names, node: Node)
+    requires sorted { T (is_sorted path_cmp entries.old.items) }
+    requires room { vec_len entries.old < vec_capacity entries.old }
+    ensures items { entries.new.items ≡ put path_cmp path node entries.old.items }
+    ensures len { vec_len entries.new ≤ vec_len entries.old + 1 }
+    ensures capacity { vec_capacity entries.old ≤ vec_capacity entries.new }
+{
+    match names_place_from(entries, &path) {
+        Some(i) => {
+            if path.compare(&entries[i].0).is_eq() {
+                entries[i].1 = node;
+            } else {
+                insert_within(entries, i, path, node);
+            }
+        }
+        None => push_within(entries, path, node),
+    }
+}
+
+/// Puts each of these nodes at its path, in place of what is there; there must be room for them.
+fn put_all(entries: &mut Vec<(Names, Node)>, mut nodes: Vec<(Names, Node)>)
+    requires sorted { T (is_sorted path_cmp entries.old.items) }
+    requires room { vec_len entries.old + vec_len nodes ≤ vec_capacity entries.old }
+    ensures { entries.new.items ≡ union nodes.items entries.old.items }
+{
+    while let Some((path, node)) = nodes.pop() {
+        put_node(entries, path, node);
+    }
+}
+
+// The new paths of what is at `from` and below it, once it is at `to`.
+fn grafted_keys(
+    alloc: Global,
+    entries: &[(Names, Node)],
+    from: &DavPath,
+    to: &DavPath,
+) -> Result<Vec<Names>, NoMemory>
+    ensures { IfOk result (λ keys. keys.items
+        ≡ map (λ e. e.0) (graft (names from.now) (names to.now) entries.now)) }
+{
+    let mut keys = Vec::new(alloc);
+    for e in entries {
+        if let Some(key) = e.0.graft(alloc, from, to)? {
+            keys.push(key)?;
+        }
+    }
+    Ok(keys)
+}
+
+// Splits the nodes, the last of which comes first, into those that move, under their new paths, and those that stay
+// and aren't replaced.
+fn part(
+    old: &mut Vec<(Names, Node)>,
+    keys: &mut Vec<Names>,
+    from: &DavPath,
+    to: &DavPath,
+    kept: &mut Vec<(Names, Node)>,
+    moving: &mut Vec<(Names, Node)>,
+)
+    requires keys { reverse keys.old.items
+        ≡ map (λ e. e.0) (graft (names from.now) (names to.now) (reverse old.old.items)) }
+    requires kept_room { vec_len kept.old + vec_len old.old ≤ vec_capacity kept.old }
+    requires moving_room { vec_len moving.old + vec_len keys.old ≤ vec_capacity moving.old }
+    ensures kept { kept.new.items ≡ kept.old.items ++ prune (names to.now)
+        (prune (names from.now) (reverse old.old.items)) }
+    ensures moving { moving.new.items ≡ moving.old.items ++ graft (names from.now) (names to.now)
+        (reverse old.old.items) }
+    ensures kept_capacity { vec_capacity kept.old ≤ vec_capacity kept.new }
+    ensures count { vec_len kept.new + vec_len moving.new
+        ≤ vec_len kept.old + vec_len moving.old + vec_len old.old }
+{
+    while let Some((path, node)) = old.pop() {
+        if path.are_at_or_below(from) {
+            if let Some(key) = keys.pop() {
+                push_within(moving, key, node);
+            }
+        } else if !path.are_at_or_below(to) {
+            push_within(kept, path, node);
+        }
+    }
+}
+
+/// Moves what is at `from` and below it to `to`, in place of what is there. Where memory runs out, nothing changes.
+pub fn move_nodes(
+    alloc: Global,
+    entries: &mut Vec<(Names, Node)>,
+    from: &DavPath,
+    to: &DavPath,
+) -> Result<(), NoMemory>
+    requires { T (is_sorted path_cmp entries.old.items) }
+    ensures ok { OnOk result (entries.new.items
+        ≡ moved (names from.now) (names to.now) entries.old.items) }
+    ensures err { OnErr result (entries.new.items ≡ entries.old.items) }
+{
+    let mut keys = grafted_keys(alloc, entries, from, to)?;
+    let mut moving = Vec::with_capacity(alloc, keys.len())?;
+    let mut kept = Vec::with_capacity(alloc, entries.len())?;
+    entries.reverse();
+    keys.reverse();
+    part(entries, &mut keys, from, to, &mut kept, &mut moving);
+    put_all(&mut kept, moving);
+    *entries = kept;
+    Ok(())
+}
+
+/// Puts a node at a path, in place of what is there. Where memory runs out, nothing changes.
+pub fn put_at(
+    alloc: Global,
+    entries: &mut Vec<(Names, Node)>,
+    path: &DavPath,
+    node: Node,
+) -> Result<(), NoMemory>
+    requires { T (is_sorted path_cmp entries.old.items) }
+    ensures ok { OnOk result (entries.new.items
+        ≡ put path_cmp (names path.now) node entries.old.items) }
+    ensures err { OnErr result (entries.new.items ≡ entries.old.items) }
+{
+    let key = Names::of(alloc, path)?;
+    entries.reserve(1)?;
+    put_node(entries, key, node);
+    Ok(())
+}
+
+// The place of the file that was created under this change number. It is looked for at the hint first.
+fn made_place(entries: &[(Names, Node)], made: u64, hint: Option<usize>) -> Option<usize>
+    requires { IfSome hint (λ _. DifferInMaking entries.now) }
+    ensures { result ≡ position
+        (λ e. (e.1.made == made) && not (is_folder_kind e.1.kind)) entries.now }
+{
+    if let Some(i) = hint {
+        if i < entries.len() && entries[i].1.is_file_made_with(made) {
+            return Some(i);
+        }
+    }
+    entries.iter().position(|e| e.1.is_file_made_with(made))
+}
+
+/// The file that was created under this change number. It is looked for at the hint first.
+pub fn file_made_with(entries: &[(Names, Node)], made: u64, hint: Option<usize>) -> Option<&Node>
+    requires { IfSome hint (λ _. DifferInMaking entries.now) }
+    ensures { option_copied result ≡ file_made_with made entries.now }
+{
+    match made_place(entries, made, hint) {
+        None => None,
+        Some(i) => Some(&entries[i].1),
+    }
+}
+
+/// Writes bytes to the file that was created under this change number. Where memory runs out, nothing changes.
+pub fn write_file_made_with(
+    alloc: Global,
+    entries: &mut [(Names, Node)],
+    made: u64,
+    hint: Option<usize>,
+    place: usize,
+    chunk: &[u8],
+    number: u64,
+    now: u64,
+) -> Result<(), NoMemory>
+    requires differ { IfSome hint (λ _. DifferInMaking entries.old) }
+    requires some { chunk.now ≢ [] }
+    requires fits { place + length chunk.now ≤ max_file_len }
+    requires now { now ≤ last_moment }
+    ensures ok { OnOk result (entries.new
+        ≡ change_node (is_file_made_with made) (written place chunk.now number now) entries.old) }
+    ensures err { OnErr result (entries.new ≡ entries.old) }
+{
+    if let Some(i) = made_place(entries, made, hint) {
+        entries[i].1.write(alloc, place, chunk, number, now)?;
+    }
+    Ok(())
+}
+
+/// Gives the file at a path all that a copy has; it stays the node that it was.
+pub fn copy_over(entries: &mut [(Names, Node)], path: &DavPath, copy: Node)
+    requires { T (is_sorted path_cmp entries.old) }
+    ensures { entries.new
+        ≡ adjust (names path.now) (λ n. record copy { made = n.made }) entries.old }
+{
+    if let Some(i) = place(entries, path) {
+        entries[i].1.become_like(copy);
+    }
+}
+
+/// Replaces the properties of the node at a path, by its own after some changes.
+pub fn set_properties_at(entries: &mut [(Names, Node)], path: &DavPath, properties: Properties)
+    requires { T (is_sorted path_cmp entries.old) }
+    ensures exact { entries.new
+        ≡ adjust (names path.now) (λ n. record n { properties = properties }) entries.old }
+    ensures patched { (n : Seen) (patches : List Patch) → find path_cmp (names path.now) entries.old
+        ≡ Some n → properties ≡ patched patches n.properties → entries.new
+        ≡ adjust (names path.now) (repatched patches) entries.old }
+{
+    if let Some(i) = place(entries, path) {
+        entries[i].1.set_properties(properties);
+    }
+}
+
+/// The node at a name in a folder.
+pub fn member_at<'a>(entries: &'a [(Names, Node)], folder: &Names, name: &Name) -> Option<&'a Node>
+    requires { T (is_sorted path_cmp entries.now) }
+    ensures { option_copied result ≡ find path_cmp (folder.now ++ name.now ∷ []) entries.now }
+{
+    match member_place(entries, folder, name) {
+        None => None,
+        Some(i) => Some(&entries[i].1),
+    }
+}
