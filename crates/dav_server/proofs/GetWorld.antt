@@ -321,7 +321,7 @@ stands_known w p tag bytes world stands = record {
 untagged : (m n : ℕ) → tag_of m ≡ tag_of n → digits 16 false m ≡ digits 16 false n
 untagged m n same = append_cancel_right (digits 16 false m) (digits 16 false n) (34 ∷ []) (ap (drop 1) same)
 
-one_number : (m n : ℕ) → m < last_number → n < last_number → tag_of m ≡ tag_of n → m ≡ n
+pub one_number : (m n : ℕ) → m < last_number → n < last_number → tag_of m ≡ tag_of n → m ≡ n
 one_number m n low high same =
     sym (digits_is_IsNumeral 16 false (omega arith) (omega arith) m (omega (arith, low))).1
     ∙ ap (digits_value 16) (untagged m n same)

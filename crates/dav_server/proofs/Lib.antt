@@ -17,6 +17,9 @@ pub mod TagLemmas
 pub mod PlanStatuses
 pub mod PropertyStatuses
 pub mod NotModified
+pub mod HeldConditions
+pub mod StoredBytes
+pub mod NoLostUpdate
 pub mod WriteLemmas
 pub mod RefusedLemmas
 pub mod TurnLemmas

@@ -49,7 +49,7 @@ use Rattle.dav_server.specs.Target.{TargetNames}
 use Rattle.dav_server.proofs.GetWorld.{Stands, after_found, file_kind, told_of, stands_known, known_bytes}
 use Rattle.dav_server.proofs.HeadLemmas.{one_head}
 use Rattle.dav_server.proofs.MeansWorld.{all_front, all_back, begun_world, turn_keeps, run_keeps, one_method}
-use Rattle.dav_server.proofs.PlanStatuses.{Outcome, Any, IsOther, fs_other, outcome_if, ran_ends, conditions_end, ends_put, ends_mkcol, ends_copymove, ends_delete, ends_options, ends_lock, ends_unlock, ends_show_or_tell, other_status}
+use Rattle.dav_server.proofs.PlanStatuses.{Outcome, Any, IsOther, IsFailure, failure_other, fs_other, outcome_if, ran_ends, conditions_end, ends_put, ends_mkcol, ends_copymove, ends_delete, ends_options, ends_lock, ends_unlock, ends_show_or_tell, other_status}
 use Rattle.dav_server.proofs.TagLemmas.{ShownAmong, shown_among, known_on, known_shown, shown_known, small_first, small_rest}
 use Rattle.dav_server.proofs.TargetLemmas.{one_outcome}
 
@@ -64,7 +64,7 @@ strong true b h = cc
 strong false b h = (refl, h)
 
 -- a tag that matches is that of the number
-matched : (tag : EntityTag) (number : ℕ) → matches (tags (tag ∷ [])) true (Some (record { weak = false; tag = digits 16 false number })) ≡ true → tag_text tag.weak tag.tag ≡ tag_of number
+pub matched : (tag : EntityTag) (number : ℕ) → matches (tags (tag ∷ [])) true (Some (record { weak = false; tag = digits 16 false number })) ≡ true → tag_text tag.weak tag.tag ≡ tag_of number
 matched tag number h =
     let (weak, same) = strong tag.weak (bytes_eq tag.tag (digits 16 false number)) (or_false _ h) in
     ap (λ (w : Bool). tag_text w tag.tag) weak ∙ ap (λ (l : List ℕ). 34 ∷ (l ++ 34 ∷ [])) ((bytes_eq-Decides tag.tag (digits 16 false number)).0 same)
@@ -151,16 +151,17 @@ pub says_tags : (values : List FieldValue) (o : Option TagList) (l : TagList) �
 says_tags values None l none is = absurd (none l is)
 says_tags values (Some k) l decoded is = ap Some (one_tag_list values k l decoded is)
 
-not_415 : IsOther (dav.Status 415)
-not_415 same = absurd (omega (arith, same))
+not_415 : IsFailure (dav.Status 415)
+not_415 = omega arith
 
-body_status : (taken : Taken) (given : Body) → Outcome IsOther Any (body_for taken given)
+-- an error of a body reports one
+pub body_status : (taken : Taken) (given : Body) → Outcome IsFailure Any (body_for taken given)
 body_status taken body.None = tt
 body_status taken (body.Bytes []) = tt
 body_status TakesBytes (body.Bytes (b ∷ bytes)) = tt
 body_status TakesTree (body.Bytes (b ∷ bytes)) = tt
 body_status TakesNone (body.Bytes (b ∷ bytes)) = not_415
-body_status TakesTree (body.Tree tree) = outcome_if _ (Err (dav.Status 400)) (Ok (body.Tree tree)) (λ same. absurd (omega (arith, same))) tt
+body_status TakesTree (body.Tree tree) = outcome_if _ (Err (dav.Status 400)) (Ok (body.Tree tree)) (omega arith) tt
 body_status TakesBytes (body.Tree tree) = not_415
 body_status TakesNone (body.Tree tree) = not_415
 body_status TakesTree body.Malformed = tt
@@ -187,7 +188,7 @@ plan_304 tag outcome says (not_yet out) ran is = failed_status {e = dav.Status 5
 pub one_value : {A : Type 0} {a b : A} → ◌≡◌ {A = Result A DavError} (Ok a) (Ok b) → a ≡ b
 one_value same = cc
 
-no_error : {A B : Type 0} {a : A} {e : DavError} → ◌≡◌ {A = Result A DavError} (Ok a) (Err e) → B
+pub no_error : {A B : Type 0} {a : A} {e : DavError} → ◌≡◌ {A = Result A DavError} (Ok a) (Err e) → B
 no_error same = absurd (cc)
 
 of_304 : {s : Settings} {x : Asked} {r : Request} {m : DavMethod} {plan : MethodPlan Response} (p : PathText) (tag : EntityTag) (outcome : Result Response DavError) {old new : StoreState} {ls ms : Locks}
@@ -195,7 +196,7 @@ of_304 : {s : Settings} {x : Asked} {r : Request} {m : DavMethod} {plan : Method
     → MeansOf s x r m plan → Ran Asking plan old ls outcome new ms → (reply_to outcome).status ≡ 304 → SomeStands old.world (names p) (tag_text tag.weak tag.tag)
 of_304 p tag outcome names_p says (not_allowed out) ran is = failed_status {e = dav.StatusClose 405} (λ same. absurd (omega (arith, same))) ran is
 of_304 {s} {r = r} {m} p tag outcome names_p says (no_path e has none) ran is = no_error (one_outcome s.prefix m r.target _ _ names_p none)
-of_304 {x = x} {m = m} p tag outcome names_p says (no_body q e has named bad) ran is = failed_status {e = e} (subst (Outcome IsOther Any) bad (body_status (taken_by m) x.body)) ran is
+of_304 {x = x} {m = m} p tag outcome names_p says (no_body q e has named bad) ran is = failed_status {e = e} (failure_other e (subst (Outcome IsFailure Any) bad (body_status (taken_by m) x.body))) ran is
 of_304 {s} {r = r} {m} p tag outcome {old} names_p says (method q given has named good plan) ran is =
     let same : q ≡ p = one_value (one_outcome s.prefix m r.target _ _ named names_p) in
     subst (λ (t : PathText). SomeStands old.world (names t) (tag_text tag.weak tag.tag)) same (plan_304 tag outcome says plan ran is)

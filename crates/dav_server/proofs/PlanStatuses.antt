@@ -1,5 +1,5 @@
--- Which statuses plans result in: 304 is that of the conditions of GET and HEAD alone.
-use Rattle.std.proofs.Common.{◌≡◌, ◌≢◌, ◌⊎◌, inl, inr, ℕ, zero, suc, map, ◌==◌, ◌||◌, Bool, true, false, true≢false, not, if◌then◌else◌, nat_lt, length, List, [], ◌∷◌, All, Option, Some, None, Result, Ok, Err, refl, sym, subst, arith, ◌-◌, ◌+◌}
+-- Which statuses plans result in: 304 is that of the conditions of GET and HEAD alone; and an error of a PUT reports one.
+use Rattle.std.proofs.Common.{◌≡◌, ◌≢◌, ◌⊎◌, inl, inr, ℕ, zero, suc, ◌≤◌, map, ◌==◌, ◌||◌, Bool, true, false, true≢false, not, if◌then◌else◌, nat_lt, length, List, [], ◌∷◌, All, Option, Some, None, Result, Ok, Err, refl, sym, subst, arith, ◌-◌, ◌+◌}
 use Rattle.std.proofs.lemmas.List.Elements.{All-nil, All-head}
 use Rattle.std.specs.Bool.{⊤}
 use Rattle.std.specs.Option.{unwrap_or, is_some}
@@ -83,11 +83,21 @@ ends_bind f (ends_ask rest) more = ends_ask (λ answer. ends_bind f (rest answer
 ends_bind f (ends_look rest) more = ends_look (λ ls. ends_bind f (rest ls) more)
 ends_bind f (ends_keep rest) more = ends_keep (ends_bind f rest more)
 
+outcome_weaker : {E F : DavError → Type 0} {A : Type 0} {P Q : A → Type 0} (r : Result A DavError) → ((e : DavError) → E e → F e) → ((a : A) → P a → Q a) → Outcome E P r → Outcome F Q r
+outcome_weaker (Ok a) errors values is = values a is
+outcome_weaker (Err e) errors values is = errors e is
+
+pub ends_weaker : {E F : DavError → Type 0} {A : Type 0} {P Q : A → Type 0} {plan : MethodPlan A} → ((e : DavError) → E e → F e) → ((a : A) → P a → Q a) → Ends E P plan → Ends F Q plan
+ends_weaker errors values (ends_done {r = r} is) = ends_done (outcome_weaker r errors values is)
+ends_weaker errors values (ends_ask more) = ends_ask (λ answer. ends_weaker errors values (more answer))
+ends_weaker errors values (ends_look more) = ends_look (λ ls. ends_weaker errors values (more ls))
+ends_weaker errors values (ends_keep more) = ends_keep (ends_weaker errors values more)
+
 -- any value
 abbrev pub Any : {A : Type 0} → A → Type 0
 Any a = ⊤
 
-ends_require : {E : DavError → Type 0} (b : Bool) (e : DavError) → E e → Ends E Any (require b e)
+pub ends_require : {E : DavError → Type 0} (b : Bool) (e : DavError) → E e → Ends E Any (require b e)
 ends_require true e is = ends_done tt
 ends_require false e is = ends_done is
 
@@ -101,34 +111,56 @@ IsOtherStatus status = status ≢ 304
 abbrev pub IsOther : DavError → Type 0
 IsOther e = IsOtherStatus (dav_status e)
 
+-- a status that reports an error (RFC 9110, sections 15.5 and 15.6)
+abbrev pub IsErrorStatus : ℕ → Type 0
+IsErrorStatus status = 400 ≤ status
+
+-- an error of such a status
+abbrev pub IsFailure : DavError → Type 0
+IsFailure e = IsErrorStatus (dav_status e)
+
+pub failure_other : (e : DavError) → IsFailure e → IsOther e
+failure_other e above same = absurd (omega (arith, above, same))
+
+-- what ends with such errors ends with others than 304
+pub ends_other : {A : Type 0} {P : A → Type 0} {plan : MethodPlan A} → Ends IsFailure P plan → Ends IsOther P plan
+ends_other ends = ends_weaker failure_other (λ a is. is) ends
+
 -- a response of another status than 304
 abbrev pub AnswersOther : Response → Type 0
 AnswersOther r = IsOtherStatus r.status
 
+pub fs_failure : (e : FsError) → IsErrorStatus (fs_status e)
+fs_failure fs.NotImplemented = omega arith
+fs_failure fs.GeneralFailure = omega arith
+fs_failure fs.Exists = omega arith
+fs_failure fs.NotFound = omega arith
+fs_failure fs.Forbidden = omega arith
+fs_failure fs.InsufficientStorage = omega arith
+fs_failure fs.LoopDetected = omega arith
+fs_failure fs.PathTooLong = omega arith
+fs_failure fs.TooLarge = omega arith
+fs_failure fs.IsRemote = omega arith
+
 pub fs_other : (e : FsError) → fs_status e ≢ 304
-fs_other fs.NotImplemented same = absurd (omega (arith, same))
-fs_other fs.GeneralFailure same = absurd (omega (arith, same))
-fs_other fs.Exists same = absurd (omega (arith, same))
-fs_other fs.NotFound same = absurd (omega (arith, same))
-fs_other fs.Forbidden same = absurd (omega (arith, same))
-fs_other fs.InsufficientStorage same = absurd (omega (arith, same))
-fs_other fs.LoopDetected same = absurd (omega (arith, same))
-fs_other fs.PathTooLong same = absurd (omega (arith, same))
-fs_other fs.TooLarge same = absurd (omega (arith, same))
-fs_other fs.IsRemote same = absurd (omega (arith, same))
+fs_other e = failure_other (dav.FsError e) (fs_failure e)
+
+-- a call whose refusals become such errors
+asked_as : {E : DavError → Type 0} {A : Type 0} (g : FsError → DavError) → ((e : FsError) → E (g e)) → (answer : Result A FsError) → Outcome E Any (refused_as g answer)
+asked_as g are (Ok a) = tt
+asked_as g are (Err e) = are e
 
 asked_other : {A : Type 0} (g : FsError → DavError) → ((e : FsError) → IsOther (g e)) → (answer : Result A FsError) → Outcome IsOther Any (refused_as g answer)
-asked_other g other (Ok a) = tt
-asked_other g other (Err e) = other e
+asked_other g other answer = asked_as g other answer
 
 -- the store's own errors
 pub store_other : {A : Type 0} (answer : Result A FsError) → Outcome IsOther Any (refused_as dav.FsError answer)
-store_other answer = asked_other dav.FsError fs_other answer
+store_other answer = asked_as dav.FsError fs_other answer
 
-closed : (status : ℕ) → status ≢ 304 → IsOther (dav.StatusClose status)
-closed status other = other
+pub store_fails : {A : Type 0} (answer : Result A FsError) → Outcome IsFailure Any (refused_as dav.FsError answer)
+store_fails answer = asked_as dav.FsError fs_failure answer
 
-pub outcome_if : {A : Type 0} (b : Bool) (one other : Result A DavError) → Outcome IsOther Any one → Outcome IsOther Any other → Outcome IsOther Any (if b then one else other)
+pub outcome_if : {E : DavError → Type 0} {A : Type 0} (b : Bool) (one other : Result A DavError) → Outcome E Any one → Outcome E Any other → Outcome E Any (if b then one else other)
 outcome_if true one other is is' = is
 outcome_if false one other is is' = is'
 
@@ -168,146 +200,154 @@ pub conditions_end : {E : DavError → Type 0} (m : DavMethod) (c : Conditions) 
     → Ends E (λ verdict. (verdict ≡ http_conditions m c.if_match c.if_none_match found) ⊎ (verdict ≡ Some 412)) (if_match m c found)
 conditions_end m c found = ends_bind _ (ends_if c.lists) (λ holds any. ends_done (verdict_if holds (http_conditions m c.if_match c.if_none_match found)))
 
--- no status, or another than 304
-abbrev pub Apart : Option ℕ → Type 0
-Apart None = ⊤
-Apart (Some status) = status ≢ 304
+-- no status, or one that reports an error
+abbrev pub Fails : Option ℕ → Type 0
+Fails None = ⊤
+Fails (Some status) = IsErrorStatus status
 
-apart_if : (b : Bool) (one other : Option ℕ) → Apart one → Apart other → Apart (if b then one else other)
-apart_if true one other is is' = is
-apart_if false one other is is' = is'
+fails_if : (b : Bool) (one other : Option ℕ) → Fails one → Fails other → Fails (if b then one else other)
+fails_if true one other is is' = is
+fails_if false one other is is' = is'
 
-precondition : IsOtherStatus 412
-precondition same = absurd (omega (arith, same))
+precondition : IsErrorStatus 412
+precondition = omega arith
 
-writes_412 : (b : Bool) → b ≡ false → Apart (Some (if b then 304 else 412))
+writes_412 : (b : Bool) → b ≡ false → Fails (Some (if b then 304 else 412))
 writes_412 true is = absurd (true≢false is)
 writes_412 false is = precondition
 
--- a method that writes is never answered 304 by them
-apart : (m : DavMethod) (match none_match : Option TagList) (found : Option DavMetaData) → is_reading m ≡ false → Apart (http_conditions m match none_match found)
-apart m match none_match found writes =
-    apart_if (not (unwrap_or (matches_found match found) true)) (Some 412) _ precondition
-    (apart_if (unwrap_or (matches_found none_match found) false) (Some (if is_reading m then 304 else 412)) None (writes_412 (is_reading m) writes) tt)
+-- a method that writes is answered an error by them, if anything
+writes_fail : (m : DavMethod) (match none_match : Option TagList) (found : Option DavMetaData) → is_reading m ≡ false → Fails (http_conditions m match none_match found)
+writes_fail m match none_match found writes =
+    fails_if (not (unwrap_or (matches_found match found) true)) (Some 412) _ precondition
+    (fails_if (unwrap_or (matches_found none_match found) false) (Some (if is_reading m then 304 else 412)) None (writes_412 (is_reading m) writes) tt)
 
--- tokens, or a status other than 304
+-- tokens, or a status that reports an error
 abbrev pub Judges : {A : Type 0} → Result A ℕ → Type 0
 Judges (Ok a) = ⊤
-Judges (Err status) = status ≢ 304
+Judges (Err status) = IsErrorStatus status
 
 judges_if : {A : Type 0} (b : Bool) (a : A) → Judges (if b then Ok a else Err 412)
 judges_if true a = tt
 judges_if false a = precondition
 
-ends_unless : {A : Type 0} (status : Option ℕ) (next : MethodPlan (Result A ℕ)) → Apart status → Ends IsOther Judges next → Ends IsOther Judges (unless status next)
-ends_unless (Some status) next other is = ends_done other
-ends_unless None next other is = is
+ends_unless : {E : DavError → Type 0} {A : Type 0} (status : Option ℕ) (next : MethodPlan (Result A ℕ)) → Fails status → Ends E Judges next → Ends E Judges (unless status next)
+ends_unless (Some status) next above is = ends_done above
+ends_unless None next above is = is
 
-status_other : {A : Type 0} (f : ℕ → DavError) → ((status : ℕ) → status ≢ 304 → IsOther (f status)) → (verdict : Result A ℕ) → Judges verdict → Outcome IsOther Any (status_as f verdict)
-status_other f other (Ok a) is = tt
-status_other f other (Err status) is = other status is
+status_fails : {E : DavError → Type 0} {A : Type 0} (f : ℕ → DavError) → ((status : ℕ) → IsErrorStatus status → E (f status)) → (verdict : Result A ℕ) → Judges verdict → Outcome E Any (status_as f verdict)
+status_fails f fails (Ok a) is = tt
+status_fails f fails (Err status) is = fails status is
+
+-- the conditions of a method that writes fail with errors alone
+pub guarded_ends : {E : DavError → Type 0} (f : ℕ → DavError) (m : DavMethod) (c : Conditions) (found : Option DavMetaData) → ((status : ℕ) → IsErrorStatus status → E (f status)) → is_reading m ≡ false → Ends E Any (guarded f m c found)
+guarded_ends f m c found fails writes =
+    ends_bind _ (ends_unless (http_conditions m c.if_match c.if_none_match found) _ (writes_fail m c.if_match c.if_none_match found writes)
+    (ends_bind _ (ends_if c.lists) (λ holds any. ends_done (judges_if holds _))))
+    (λ verdict is. ends_done (status_fails f fails verdict is))
 
 pub ends_guarded : (f : ℕ → DavError) (m : DavMethod) (c : Conditions) (found : Option DavMetaData) → ((status : ℕ) → status ≢ 304 → IsOther (f status)) → is_reading m ≡ false → Ends IsOther Any (guarded f m c found)
-ends_guarded f m c found other writes =
-    ends_bind _ (ends_unless (http_conditions m c.if_match c.if_none_match found) _ (apart m c.if_match c.if_none_match found writes)
-    (ends_bind _ (ends_if c.lists) (λ holds any. ends_done (judges_if holds _))))
-    (λ verdict is. ends_done (status_other f other verdict is))
+ends_guarded f m c found other writes = guarded_ends f m c found (λ status above. other status (λ same. absurd (omega (arith, above, same)))) writes
 
-pub ends_free : (deep : Bool) (who : Requester) (p : Path) (e : DavError) → IsOther e → Ends IsOther Any (require_free deep who p e)
-ends_free deep who p e other = ends_look (λ ls. ends_require _ e other)
+pub ends_free : {E : DavError → Type 0} (deep : Bool) (who : Requester) (p : Path) (e : DavError) → E e → Ends E Any (require_free deep who p e)
+ends_free deep who p e is = ends_look (λ ls. ends_require _ e is)
 
 -- ---- PUT and PATCH
 
-from_end_other : (n : ℕ) (found : Option DavMetaData) → Outcome IsOther Any (from_end n found)
-from_end_other n None = tt
-from_end_other n (Some m) = outcome_if (nat_lt m.len n) (Err unsatisfiable) (Ok (m.len - n)) (λ same. absurd (omega (arith, same))) tt
+from_end_fails : (n : ℕ) (found : Option DavMetaData) → Outcome IsFailure Any (from_end n found)
+from_end_fails n None = tt
+from_end_fails n (Some m) = outcome_if (nat_lt m.len n) (Err unsatisfiable) (Ok (m.len - n)) (omega arith) tt
 
-update_from_other : (range : XUpdateRange) (n : ℕ) (found : Option DavMetaData) → Outcome IsOther Any (update_from range n found)
-update_from_other (FromTo first last) n found = outcome_if (spans first last n) (Ok first) (Err unsatisfiable) tt (λ same. absurd (omega (arith, same)))
-update_from_other (AllFrom first) n found = tt
-update_from_other (Last k) n found = from_end_other k found
-update_from_other Append n found = tt
+update_from_fails : (range : XUpdateRange) (n : ℕ) (found : Option DavMetaData) → Outcome IsFailure Any (update_from range n found)
+update_from_fails (FromTo first last) n found = outcome_if (spans first last n) (Ok first) (Err unsatisfiable) tt (omega arith)
+update_from_fails (AllFrom first) n found = tt
+update_from_fails (Last k) n found = from_end_fails k found
+update_from_fails Append n found = tt
 
-update_at_other : (range : XUpdateRange) (n : ℕ) (from : Result ℕ DavError) → Outcome IsOther Any from → Outcome IsOther Any (update_at range n from)
-update_at_other range n (Ok first) is = tt
-update_at_other range n (Err e) is = is
+update_at_fails : (range : XUpdateRange) (n : ℕ) (from : Result ℕ DavError) → Outcome IsFailure Any from → Outcome IsFailure Any (update_at range n from)
+update_at_fails range n (Ok first) is = tt
+update_at_fails range n (Err e) is = is
 
-updates_other : (announced : Option ℕ) (range : Option XUpdateRange) (found : Option DavMetaData) → Outcome IsOther Any (updates announced range found)
-updates_other None range found = λ same. absurd (omega (arith, same))
-updates_other (Some n) None found = λ same. absurd (omega (arith, same))
-updates_other (Some n) (Some range) found = update_at_other range n (update_from range n found) (update_from_other range n found)
+updates_fails : (announced : Option ℕ) (range : Option XUpdateRange) (found : Option DavMetaData) → Outcome IsFailure Any (updates announced range found)
+updates_fails None range found = omega arith
+updates_fails (Some n) None found = omega arith
+updates_fails (Some n) (Some range) found = update_at_fails range n (update_from range n found) (update_from_fails range n found)
 
-written_by_other : (m : DavMethod) (h : PutHeaders) (found : Option DavMetaData) → Outcome IsOther Any (written_by m h found)
-written_by_other Patch h found = outcome_if h.is_partial (updates h.announced h.update found) (Err (dav.StatusClose 415)) (updates_other h.announced h.update found) (λ same. absurd (omega (arith, same)))
-written_by_other _ h found = tt
+written_by_fails : (m : DavMethod) (h : PutHeaders) (found : Option DavMetaData) → Outcome IsFailure Any (written_by m h found)
+written_by_fails Patch h found = outcome_if h.is_partial (updates h.announced h.update found) (Err (dav.StatusClose 415)) (updates_fails h.announced h.update found) (omega arith)
+written_by_fails _ h found = tt
 
-placed_other : (first n : ℕ) (w : Writing) (announced : Option ℕ) → Outcome IsOther Any (placed first n w announced)
-placed_other first n w None = outcome_if (nat_lt max_u64 n) (Err unsatisfiable) _ (λ same. absurd (omega (arith, same))) tt
-placed_other first n w (Some k) = outcome_if (n == k) _ (Err unsatisfiable) tt (λ same. absurd (omega (arith, same)))
+placed_fails : (first n : ℕ) (w : Writing) (announced : Option ℕ) → Outcome IsFailure Any (placed first n w announced)
+placed_fails first n w None = outcome_if (nat_lt max_u64 n) (Err unsatisfiable) _ (omega arith) tt
+placed_fails first n w (Some k) = outcome_if (n == k) _ (Err unsatisfiable) tt (omega arith)
 
-bounded_other : (range : Bounds) (w : Writing) → Outcome IsOther Any (bounded range w)
-bounded_other Unread w = λ same. absurd (omega (arith, same))
-bounded_other Whole w = tt
-bounded_other (Within first last) w = outcome_if (nat_lt last first) (Err unsatisfiable) _ (λ same. absurd (omega (arith, same))) (placed_other first (last - first + 1) w w.announced)
+bounded_fails : (range : Bounds) (w : Writing) → Outcome IsFailure Any (bounded range w)
+bounded_fails Unread w = omega arith
+bounded_fails Whole w = tt
+bounded_fails (Within first last) w = outcome_if (nat_lt last first) (Err unsatisfiable) _ (omega arith) (placed_fails first (last - first + 1) w w.announced)
 
-bounded_by_other : (range : Bounds) (written : Result Writing DavError) → Outcome IsOther Any written → Outcome IsOther Any (bounded_by range written)
-bounded_by_other range (Ok w) is = bounded_other range w
-bounded_by_other range (Err e) is = is
+bounded_by_fails : (range : Bounds) (written : Result Writing DavError) → Outcome IsFailure Any written → Outcome IsFailure Any (bounded_by range written)
+bounded_by_fails range (Ok w) is = bounded_fails range w
+bounded_by_fails range (Err e) is = is
 
-writing_other : (m : DavMethod) (h : PutHeaders) (found : Option DavMetaData) → Outcome IsOther Any (writing_of m h found)
-writing_other m h found = bounded_by_other h.range (written_by m h found) (written_by_other m h found)
+writing_fails : (m : DavMethod) (h : PutHeaders) (found : Option DavMetaData) → Outcome IsFailure Any (writing_of m h found)
+writing_fails m h found = bounded_by_fails h.range (written_by m h found) (written_by_fails m h found)
 
-ends_put_allowed : (m : DavMethod) (h : PutHeaders) (p : Path) (who : Client) (bytes : List ℕ) → is_reading m ≡ false → Ends IsOther Any (put_allowed m h p who bytes)
+ends_put_allowed : (m : DavMethod) (h : PutHeaders) (p : Path) (who : Client) (bytes : List ℕ) → is_reading m ≡ false → Ends IsFailure Any (put_allowed m h p who bytes)
 ends_put_allowed m h p who bytes writes = ends_ask (λ answer.
-    ends_then (writing_of m h (result_ok answer)) _ (writing_other m h (result_ok answer)) (λ w any.
-    ends_bind _ (ends_guarded dav.StatusClose m h.conditions (result_ok answer) closed writes) (λ tokens any.
-    ends_bind _ (ends_free false (requester who tokens) p (dav.StatusClose 423) (λ same. absurd (omega (arith, same)))) (λ free any.
-    ends_bind _ (ends_require (is_announced w.announced bytes) (dav.StatusClose 400) (λ same. absurd (omega (arith, same)))) (λ long any.
+    ends_then (writing_of m h (result_ok answer)) _ (writing_fails m h (result_ok answer)) (λ w any.
+    ends_bind _ (guarded_ends dav.StatusClose m h.conditions (result_ok answer) (λ status above. above) writes) (λ tokens any.
+    ends_bind _ (ends_free false (requester who tokens) p (dav.StatusClose 423) (omega arith)) (λ free any.
+    ends_bind _ (ends_require (is_announced w.announced bytes) (dav.StatusClose 400) (omega arith)) (λ long any.
     ends_done tt)))))
 
-missing_other : (b : Bool) → IsOtherStatus (if b then 412 else 409)
-missing_other true same = absurd (omega (arith, same))
-missing_other false same = absurd (omega (arith, same))
+missing_fails : (b : Bool) → IsErrorStatus (if b then 412 else 409)
+missing_fails true = omega arith
+missing_fails false = omega arith
 
-open_other : (how : Opening) (e : FsError) → IsOther (open_error how e)
-open_other how fs.NotFound = missing_other (not how.create || how.create_new)
-open_other how fs.Exists = missing_other (not how.create || how.create_new)
-open_other how fs.NotImplemented = fs_other fs.NotImplemented
-open_other how fs.GeneralFailure = fs_other fs.GeneralFailure
-open_other how fs.Forbidden = fs_other fs.Forbidden
-open_other how fs.InsufficientStorage = fs_other fs.InsufficientStorage
-open_other how fs.LoopDetected = fs_other fs.LoopDetected
-open_other how fs.PathTooLong = fs_other fs.PathTooLong
-open_other how fs.TooLarge = fs_other fs.TooLarge
-open_other how fs.IsRemote = fs_other fs.IsRemote
+open_fails : (how : Opening) (e : FsError) → IsFailure (open_error how e)
+open_fails how fs.NotFound = missing_fails (not how.create || how.create_new)
+open_fails how fs.Exists = missing_fails (not how.create || how.create_new)
+open_fails how fs.NotImplemented = fs_failure fs.NotImplemented
+open_fails how fs.GeneralFailure = fs_failure fs.GeneralFailure
+open_fails how fs.Forbidden = fs_failure fs.Forbidden
+open_fails how fs.InsufficientStorage = fs_failure fs.InsufficientStorage
+open_fails how fs.LoopDetected = fs_failure fs.LoopDetected
+open_fails how fs.PathTooLong = fs_failure fs.PathTooLong
+open_fails how fs.TooLarge = fs_failure fs.TooLarge
+open_fails how fs.IsRemote = fs_failure fs.IsRemote
 
-ends_sought : (place : Option ℕ) (file : Handle) → Ends IsOther Any (sought place file)
+ends_sought : (place : Option ℕ) (file : Handle) → Ends IsFailure Any (sought place file)
 ends_sought None file = ends_done tt
 ends_sought (Some k) file = ends_ask (λ answer.
-    ends_then (refused_as (λ e. unsatisfiable) answer) _ (asked_other (λ e. unsatisfiable) (λ e same. absurd (omega (arith, same))) answer) (λ moved any. ends_done tt))
+    ends_then (refused_as (λ e. unsatisfiable) answer) _ (asked_as (λ e. unsatisfiable) (λ e. omega arith) answer) (λ moved any. ends_done tt))
 
 pub ends_either : {E : DavError → Type 0} {A : Type 0} {P : A → Type 0} (b : Bool) (one other : MethodPlan A) → Ends E P one → Ends E P other → Ends E P (if b then one else other)
 ends_either true one other is is' = is
 ends_either false one other is is' = is'
 
-ends_written : (file : Handle) (bytes : List ℕ) (now : ℕ) → Ends IsOther Any (written file bytes now)
-ends_written file bytes now = ends_either (length bytes == 0) (gives file) (ask_for (Write file bytes now)) (ends_done tt) (ends_ask (λ answer. ends_done (store_other answer)))
+ends_written : (file : Handle) (bytes : List ℕ) (now : ℕ) → Ends IsFailure Any (written file bytes now)
+ends_written file bytes now = ends_either (length bytes == 0) (gives file) (ask_for (Write file bytes now)) (ends_done tt) (ends_ask (λ answer. ends_done (store_fails answer)))
 
 stored_status : (b : Bool) → IsOtherStatus (if b then 204 else 201)
 stored_status true same = absurd (omega (arith, same))
 stored_status false same = absurd (omega (arith, same))
 
-ends_store : (how : Opening) (place : Option ℕ) (p : Path) (bytes : List ℕ) (now : ℕ) (found : Bool) → Ends IsOther AnswersOther (store how place p bytes now found)
+ends_store : (how : Opening) (place : Option ℕ) (p : Path) (bytes : List ℕ) (now : ℕ) (found : Bool) → Ends IsFailure AnswersOther (store how place p bytes now found)
 ends_store how place p bytes now found = ends_ask (λ answer.
-    ends_then (refused_as (open_error how) answer) _ (asked_other (open_error how) (open_other how) answer) (λ file any.
+    ends_then (refused_as (open_error how) answer) _ (asked_as (open_error how) (open_fails how) answer) (λ file any.
     ends_bind _ (ends_sought place file) (λ file any.
     ends_bind _ (ends_written file bytes now) (λ file any.
-    ends_ask (λ answer. ends_then (refused_as dav.FsError answer) _ (store_other answer) (λ done any. ends_ask (λ answer. ends_done (stored_status found))))))))
+    ends_ask (λ answer. ends_then (refused_as dav.FsError answer) _ (store_fails answer) (λ done any. ends_ask (λ answer. ends_done (stored_status found))))))))
+
+-- an error of a PUT or PATCH reports one
+pub put_ends : (m : DavMethod) (h : PutHeaders) (p : Path) (who : Client) (bytes : Option (List ℕ)) → is_reading m ≡ false → Ends IsFailure AnswersOther (put_body m h p who bytes)
+put_ends m h p who None writes = ends_done (omega arith)
+put_ends m h p who (Some bytes) writes =
+    ends_bind _ (ends_put_allowed m h p who bytes writes) (λ allowed any. ends_store (put_opening h allowed.0) allowed.0.from p bytes who.moment allowed.1)
 
 pub ends_put : (m : DavMethod) (h : PutHeaders) (p : Path) (who : Client) (bytes : Option (List ℕ)) → is_reading m ≡ false → Ends IsOther AnswersOther (put_body m h p who bytes)
-ends_put m h p who None writes = ends_done (λ same. absurd (omega (arith, same)))
-ends_put m h p who (Some bytes) writes =
-    ends_bind _ (ends_put_allowed m h p who bytes writes) (λ allowed any. ends_store (put_opening h allowed.0) allowed.0.from p bytes who.moment allowed.1)
+ends_put m h p who bytes writes = ends_other (put_ends m h p who bytes writes)
 
 -- ---- MKCOL
 
@@ -375,19 +415,26 @@ module _ (E : DavError → Type 0) (P : ℕ → Type 0) (refusal : (e : FsError)
       ends_ask (λ answer. ends_then (refused_as dav.FsError answer) _ (store answer) (λ found any.
       ends_delete_found deep h.conditions (folder_path found.dir p) who found (allowed (folder_path found.dir p) found))))
 
+depth_fails : (depth : Option Depth) → Outcome IsFailure Any (whole_depth depth)
+depth_fails None = tt
+depth_fails (Some Default) = tt
+depth_fails (Some Zero) = tt
+depth_fails (Some One) = omega arith
+depth_fails (Some Infinity) = tt
+
 depth_other : (depth : Option Depth) → Outcome IsOther Any (whole_depth depth)
-depth_other None = tt
-depth_other (Some Default) = tt
-depth_other (Some Zero) = tt
-depth_other (Some One) = λ same. absurd (omega (arith, same))
-depth_other (Some Infinity) = tt
+depth_other depth = outcome_weaker (whole_depth depth) failure_other (λ a any. any) (depth_fails depth)
+
+-- an error of a DELETE reports one
+pub delete_ends : (h : DeleteHeaders) (p : PathText) (who : Client) → Ends IsFailure AnswersOther (delete h p who)
+delete_ends h p who =
+    ends_deleting IsFailure IsOtherStatus fs_other (λ same. absurd (omega (arith, same))) (λ same. absurd (omega (arith, same))) (λ same. absurd (omega (arith, same)))
+    h p who (depth_fails h.depth) store_fails (λ q found.
+    ends_bind _ (guarded_ends dav.Status Delete h.conditions (Some found) (λ status above. above) refl) (λ tokens any.
+    ends_free true (requester who tokens) (names q) (dav.Status 423) (omega arith)))
 
 pub ends_delete : (h : DeleteHeaders) (p : PathText) (who : Client) → Ends IsOther AnswersOther (delete h p who)
-ends_delete h p who =
-    ends_deleting IsOther IsOtherStatus fs_other (λ same. absurd (omega (arith, same))) (λ same. absurd (omega (arith, same))) (λ same. absurd (omega (arith, same)))
-    h p who (depth_other h.depth) store_other (λ q found.
-    ends_bind _ (ends_guarded dav.Status Delete h.conditions (Some found) (λ status other. other) refl) (λ tokens any.
-    ends_free true (requester who tokens) (names q) (dav.Status 423) (λ same. absurd (omega (arith, same)))))
+ends_delete h p who = ends_other (delete_ends h p who)
 
 -- ---- COPY and MOVE
 
@@ -478,46 +525,50 @@ module _ (E : DavError → Type 0) (P : ℕ → Type 0) (refusal : (e : FsError)
       ends_ask (λ answer. ends_then (refused_as dav.FsError answer) _ (store answer) (λ found any.
       ends_bind _ (allowed (folder_path found.dir p) d found) (λ there any. ends_after (is_move m) deep who.moment (folder_path found.dir p) d there)))))
 
-copy_depth_other : (moves : Bool) (depth : Option Depth) → Outcome IsOther Any (copy_depth moves depth)
-copy_depth_other true None = tt
-copy_depth_other true (Some Default) = tt
-copy_depth_other true (Some Zero) = λ same. absurd (omega (arith, same))
-copy_depth_other true (Some One) = λ same. absurd (omega (arith, same))
-copy_depth_other true (Some Infinity) = tt
-copy_depth_other false depth = depth_other depth
+copy_depth_fails : (moves : Bool) (depth : Option Depth) → Outcome IsFailure Any (copy_depth moves depth)
+copy_depth_fails true None = tt
+copy_depth_fails true (Some Default) = tt
+copy_depth_fails true (Some Zero) = omega arith
+copy_depth_fails true (Some One) = omega arith
+copy_depth_fails true (Some Infinity) = tt
+copy_depth_fails false depth = depth_fails depth
 
-path_other : (e : ParseError) → e ≢ parse.Memory → IsOther (path_error e)
-path_other parse.InvalidPath known same = absurd (omega (arith, same))
-path_other parse.PrefixMismatch known same = absurd (omega (arith, same))
-path_other parse.ForbiddenPath known same = absurd (omega (arith, same))
-path_other parse.Memory known same = absurd (known refl)
+path_fails : (e : ParseError) → e ≢ parse.Memory → IsFailure (path_error e)
+path_fails parse.InvalidPath known = omega arith
+path_fails parse.PrefixMismatch known = omega arith
+path_fails parse.ForbiddenPath known = omega arith
+path_fails parse.Memory known = absurd (known refl)
 
-place_other : {prefix : List ℕ} {values : List FieldValue} {r : Result PathText DavError} → DestinationNames prefix values r → Outcome IsOther Any r
-place_other (absent none) = λ same. absurd (omega (arith, same))
-place_other (unreadable text {e} is refused known) = path_other e known
-place_other (outside text bytes is reads none) = λ same. absurd (omega (arith, same))
-place_other (inside text bytes is reads cut) = tt
+place_fails : {prefix : List ℕ} {values : List FieldValue} {r : Result PathText DavError} → DestinationNames prefix values r → Outcome IsFailure Any r
+place_fails (absent none) = omega arith
+place_fails (unreadable text {e} is refused known) = path_fails e known
+place_fails (outside text bytes is reads none) = omega arith
+place_fails (inside text bytes is reads cut) = tt
 
-ends_source : (b : Bool) (who : Client) (tokens : List (List ℕ)) (p : PathText) → Ends IsOther Any (source_free b who tokens p)
-ends_source true who tokens p = ends_free true (requester who tokens) (names p) (dav.Status 423) (λ same. absurd (omega (arith, same)))
+ends_source : (b : Bool) (who : Client) (tokens : List (List ℕ)) (p : PathText) → Ends IsFailure Any (source_free b who tokens p)
+ends_source true who tokens p = ends_free true (requester who tokens) (names p) (dav.Status 423) (omega arith)
 ends_source false who tokens p = ends_done tt
 
-ends_place : (overwrite : Option Bool) (d : PathText) → Ends IsOther Any (destination_found overwrite d)
+ends_place : (overwrite : Option Bool) (d : PathText) → Ends IsFailure Any (destination_found overwrite d)
 ends_place overwrite d = ends_ask (λ above.
-    ends_bind _ (ends_require (is_folder_found (result_ok above)) (dav.Status 409) (λ same. absurd (omega (arith, same)))) (λ u any.
-    ends_ask (λ there. ends_bind _ (ends_require (unwrap_or overwrite true || not (is_ok there)) (dav.Status 412) (λ same. absurd (omega (arith, same)))) (λ u any. ends_done tt))))
+    ends_bind _ (ends_require (is_folder_found (result_ok above)) (dav.Status 409) (omega arith)) (λ u any.
+    ends_ask (λ there. ends_bind _ (ends_require (unwrap_or overwrite true || not (is_ok there)) (dav.Status 412) (omega arith)) (λ u any. ends_done tt))))
 
-ends_copy_allowed : (m : DavMethod) (h : CopyHeaders) (p d : PathText) (who : Client) (found : DavMetaData) → is_reading m ≡ false → Ends IsOther Any (copy_allowed m h p d who found)
+ends_copy_allowed : (m : DavMethod) (h : CopyHeaders) (p d : PathText) (who : Client) (found : DavMetaData) → is_reading m ≡ false → Ends IsFailure Any (copy_allowed m h p d who found)
 ends_copy_allowed m h p d who found writes =
     ends_bind _ (ends_place h.overwrite d) (λ there any.
-    ends_bind _ (ends_require (not (is_at_or_under (names p) (names d))) (dav.Status 403) (λ same. absurd (omega (arith, same)))) (λ u any.
-    ends_bind _ (ends_bind _ (ends_guarded dav.Status m h.conditions (Some found) (λ status other. other) writes) (λ tokens any.
-    ends_bind _ (ends_source (is_move m) who tokens p) (λ u any. ends_free true (requester who tokens) (names d) (dav.Status 423) (λ same. absurd (omega (arith, same)))))) (λ u any. ends_done tt)))
+    ends_bind _ (ends_require (not (is_at_or_under (names p) (names d))) (dav.Status 403) (omega arith)) (λ u any.
+    ends_bind _ (ends_bind _ (guarded_ends dav.Status m h.conditions (Some found) (λ status above. above) writes) (λ tokens any.
+    ends_bind _ (ends_source (is_move m) who tokens p) (λ u any. ends_free true (requester who tokens) (names d) (dav.Status 423) (omega arith)))) (λ u any. ends_done tt)))
+
+-- an error of a COPY or MOVE reports one
+pub copymove_ends : (m : DavMethod) (headers : Headers) (h : CopyHeaders) (p : PathText) (who : Client) → is_reading m ≡ false → AreCopyHeaders headers p h → Ends IsFailure AnswersOther (copy_or_move m h p who)
+copymove_ends m headers h p who writes are =
+    ends_copying IsFailure IsOtherStatus fs_other (λ same. absurd (omega (arith, same))) (λ same. absurd (omega (arith, same))) (λ same. absurd (omega (arith, same))) (λ same. absurd (omega (arith, same)))
+    m h p who (copy_depth_fails (is_move m) h.depth) (place_fails are.destination) store_fails (λ q d found. ends_copy_allowed m h q d who found writes)
 
 pub ends_copymove : (m : DavMethod) (headers : Headers) (h : CopyHeaders) (p : PathText) (who : Client) → is_reading m ≡ false → AreCopyHeaders headers p h → Ends IsOther AnswersOther (copy_or_move m h p who)
-ends_copymove m headers h p who writes are =
-    ends_copying IsOther IsOtherStatus fs_other (λ same. absurd (omega (arith, same))) (λ same. absurd (omega (arith, same))) (λ same. absurd (omega (arith, same))) (λ same. absurd (omega (arith, same)))
-    m h p who (copy_depth_other (is_move m) h.depth) (place_other are.destination) store_other (λ q d found. ends_copy_allowed m h q d who found writes)
+ends_copymove m headers h p who writes are = ends_other (copymove_ends m headers h p who writes are)
 
 -- ---- LOCK
 
@@ -577,23 +628,23 @@ module _ (E : DavError → Type 0) (P : ℕ → Type 0) (found_there : P 200) (c
       ends_look (λ ls. ends_bind _ (ends_require (has_locks ls) (dav.Status 405) absent) (λ u any.
       ends_ask (λ answer. ends_locked h p content who (result_ok answer) (λ q. asked q (result_ok answer)) meant)))
 
-ends_status : (status : Option ℕ) → Apart status → Ends IsOther Any (unless_status status)
-ends_status None other = ends_done tt
-ends_status (Some status) other = ends_done other
+ends_status : (status : Option ℕ) → Fails status → Ends IsOther Any (unless_status status)
+ends_status None fails = ends_done tt
+ends_status (Some status) fails = ends_done (failure_other (dav.Status status) fails)
 
 required_other : {A : Type 0} (o : Option A) (e : DavError) → IsOther e → Outcome IsOther Any (required o e)
 required_other None e other = other
 required_other (Some a) e other = tt
 
-verdict_apart : (c : Conditions) (found : Option DavMetaData) (verdict : Option ℕ) → (verdict ≡ http_conditions LockMethod c.if_match c.if_none_match found) ⊎ (verdict ≡ Some 412) → Apart verdict
-verdict_apart c found verdict (inl is) = subst Apart (sym is) (apart LockMethod c.if_match c.if_none_match found refl)
-verdict_apart c found verdict (inr is) = subst Apart (sym is) precondition
+verdict_fails : (c : Conditions) (found : Option DavMetaData) (verdict : Option ℕ) → (verdict ≡ http_conditions LockMethod c.if_match c.if_none_match found) ⊎ (verdict ≡ Some 412) → Fails verdict
+verdict_fails c found verdict (inl is) = subst Fails (sym is) (writes_fail LockMethod c.if_match c.if_none_match found refl)
+verdict_fails c found verdict (inr is) = subst Fails (sym is) precondition
 
 ends_asked : (h : LockHeaders) (p : PathText) (content : Body) (who : Client) (found : Option DavMetaData) → Ends IsOther Any (asked_lock h p content who found)
 ends_asked h p content who found =
     ends_then (whole_depth h.depth) _ (depth_other h.depth) (λ deep any.
     ends_bind _ (conditions_end LockMethod h.conditions found) (λ verdict is.
-    ends_bind _ (ends_status verdict (verdict_apart h.conditions found verdict is)) (λ u any.
+    ends_bind _ (ends_status verdict (verdict_fails h.conditions found verdict is)) (λ u any.
     ends_then (required (lock_info content) dav.XmlParseError) _ (required_other (lock_info content) dav.XmlParseError (λ same. absurd (omega (arith, same)))) (λ info any.
     ends_then (required who.token (dav.Status 500)) _ (required_other who.token (dav.Status 500) (λ same. absurd (omega (arith, same)))) (λ token any. ends_done tt)))))
 
@@ -609,8 +660,8 @@ ends_meant h p who =
     ends_bind _ (ends_free false (requester who (token ∷ [])) p (dav.Status 412) (λ same. absurd (omega (arith, same)))) (λ u any. ends_done tt)))
 
 empty_other : (how : Opening) (e : FsError) → IsOther (empty_error how e)
-empty_other how fs.NotFound = missing_other (not how.create || how.create_new)
-empty_other how fs.Exists = missing_other (not how.create || how.create_new)
+empty_other how fs.NotFound = failure_other (dav.Status _) (missing_fails (not how.create || how.create_new))
+empty_other how fs.Exists = failure_other (dav.Status _) (missing_fails (not how.create || how.create_new))
 empty_other how fs.NotImplemented = fs_other fs.NotImplemented
 empty_other how fs.GeneralFailure = fs_other fs.GeneralFailure
 empty_other how fs.Forbidden = fs_other fs.Forbidden

@@ -13,6 +13,7 @@ pub mod Machine
 pub mod Run
 pub mod Setup
 pub mod TagLaws
+pub mod UpdateLaws
 pub mod WriteLaws
 pub mod Server
 pub mod ServerCode

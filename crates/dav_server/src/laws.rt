@@ -4,6 +4,7 @@ ghost use Rattle.dav_server.specs.Headers.{KeepsValues};
 ghost use Rattle.dav_server.specs.Run.{RunsAreDetermined, RunsSplit, RunsJoin, RunsEnd, RequestsHavePlans, RequestsHaveRuns};
 ghost use Rattle.dav_server.specs.TagLaws.{TagsTellBytes, NotModifiedIsTrue, ReadingLeaves, RunsKeepWorlds};
 ghost use Rattle.dav_server.specs.Target.{OneOutcome};
+ghost use Rattle.dav_server.specs.UpdateLaws.{NoLostUpdate};
 ghost use Rattle.dav_server.specs.WriteLaws.{CreateOnlyKeeps, RefusedLeaves};
 
 pub mod isolation;
@@ -66,6 +67,15 @@ pub fn tags_tell_bytes()
 /// before or after it (RFC 9110, section 15.4.5).
 pub fn not_modified_is_true()
     ensures { NotModifiedIsTrue }
+{}
+
+/// No update is lost: where a GET, or a PUT of a whole file, was answered with an entity tag, and a later PUT, PATCH, DELETE,
+/// COPY, MOVE or PROPPATCH asks for that tag by If-Match, or by a list of If, and is answered with success, the file at its
+/// path has right before it the bytes that the client was told, whatever came in between and whatever the store refused
+/// (RFC 9110, section 13.1.1; RFC 4918, section 10.4).
+#[tactic(auto, using(crate::proofs::NoLostUpdate::no_lost_update))]
+pub fn no_update_is_lost()
+    ensures { NoLostUpdate }
 {}
 
 /// GET and HEAD leave the world and the list of locks, whatever the store refuses (RFC 9110, section 9.2.1).
