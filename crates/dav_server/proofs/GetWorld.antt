@@ -100,7 +100,7 @@ pub answered_by : {A B : Type 0} (g : FsError → DavError) (answer : Result A F
 answered_by g (Ok a) f ran = (a, refl, ran)
 answered_by g (Err e) f ran = let clash = ran_outcome ran in cc
 
-gone_on : {A B : Type 0} (outcome : Result A DavError) (f : A → MethodPlan B) {old new : StoreState} {ls ms : Locks} {b : B}
+pub gone_on : {A B : Type 0} (outcome : Result A DavError) (f : A → MethodPlan B) {old new : StoreState} {ls ms : Locks} {b : B}
     → Ran Asks (followed_by outcome f) old ls (Ok b) new ms → (a : A) × (outcome ≡ Ok a) × Ran Asks (f a) old ls (Ok b) new ms
 gone_on (Ok a) f ran = (a, refl, ran)
 gone_on (Err e) f ran = let clash = ran_outcome ran in cc

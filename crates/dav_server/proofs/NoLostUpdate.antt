@@ -1,8 +1,8 @@
 -- No update is lost: what an update on condition of a tag finds are the bytes that were told to have it.
-use Rattle.std.proofs.Common.{◌≡◌, ◌⊎◌, inl, inr, ℕ, zero, suc, ◌<◌, ◌≤◌, Bool, true, false, true≢false, not, List, [], ◌∷◌, ◌++◌, length, slice_index_or, Contains, codes, Option, Some, None, Result, Ok, Err, refl, sym, ap, subst, ◌∙◌, arith}
+use Rattle.std.proofs.Common.{◌≡◌, ◌⊎◌, inl, inr, ℕ, zero, suc, ◌<◌, ◌≤◌, ◌||◌, Bool, true, false, true≢false, not, List, [], ◌∷◌, ◌++◌, length, slice_index_or, Contains, codes, Option, Some, None, Result, Ok, Err, refl, sym, ap, subst, ◌∙◌, arith}
 use Rattle.std.specs.Bool.{⊤}
 use Rattle.std.specs.List.{zip}
-use Rattle.std.specs.Option.{unwrap_or}
+use Rattle.std.specs.Option.{unwrap_or, is_some}
 use Rattle.std.specs.Result.{is_ok, result_ok}
 use Rattle.http_header.specs.FieldValue.{FieldValue}
 use Rattle.http_header.specs.HeaderMap.{get_all}
@@ -52,7 +52,7 @@ use Rattle.dav_server.proofs.HeadLemmas.{one_head}
 use Rattle.dav_server.proofs.HeldConditions.{HasTag, text_of, matched_there, went, own_list, AskForTag, guard_held}
 use Rattle.dav_server.proofs.MeansWorld.{target_storable, begun_world, turn_keeps, run_keeps, one_method, asks_one}
 use Rattle.dav_server.proofs.NotModified.{says_tags, one_value, no_error, body_status}
-use Rattle.dav_server.proofs.PlanStatuses.{Outcome, Any, IsFailure, ran_ends, put_ends, delete_ends, copymove_ends}
+use Rattle.dav_server.proofs.PlanStatuses.{Outcome, Any, IsFailure, AnswersOther, ran_ends, put_ends, delete_ends, copymove_ends}
 use Rattle.dav_server.proofs.PropertyStatuses.{proppatch_ends}
 use Rattle.dav_server.proofs.StoredBytes.{StandsAnywhere, put_stands}
 use Rattle.dav_server.proofs.TagLemmas.{shown_among, shown_known, known_on, small_first, small_rest}
@@ -69,7 +69,7 @@ checked_put : (m : DavMethod) (h : PutHeaders) (p : Path) (who : Client) (bytes 
 checked_put m h p who bytes tag asks (ran_ask {old = old} {mid = mid} {answer = answer} one ran) =
     let (w, is, more) = gone_on (writing_of m h (result_ok answer)) _ ran in
     let guard = went (guarded dav.StatusClose m h.conditions (result_ok answer)) _ more in
-    guard_held m h.conditions (result_ok answer) old.world p tag asks (matched_there old.world mid.world p tag _ answer (did one))
+    guard_held m h.conditions (result_ok answer) old.world p tag asks (matched_there old.world mid.world p tag (is_some (result_ok answer)) answer (did one))
     dav.StatusClose guard.value (looked_left p old.world mid.world answer (did one)) guard.first
 
 put_held : (m : DavMethod) (h : PutHeaders) (p : Path) (who : Client) (bytes : Option (List ℕ)) (tag : EntityTag) {old new : StoreState} {ls ms : Locks} {r : Response}
@@ -139,20 +139,20 @@ asked_for headers p c tag are (inl says) = inl (says_tags _ c.if_match _ are.mat
 asked_for headers p c tag are (inr (cs, says, among)) =
     let lists = own_list (names p) cs in
     let same : c ≡ record c { lists = Some lists } = one_conditions headers p.prefix (names p) c (record c { lists = Some lists }) are
-    (record { match = are.match; none_match = are.none_match; lists = (record { resource = None; conditions = cs } ∷ [], says, Some (names p), [], refl, refl, refl) }) in
+    (record { match = are.match; none_match = are.none_match; lists = (record { resource = None; conditions = cs } ∷ [], says, (Some (names p), [], refl, refl, refl)) }) in
     inr (cs, ap (λ (x : Conditions). x.lists) same, among)
 
 -- an outcome whose reply tells success is no error
-succeeded : {P : Response → Type 0} (outcome : Result Response DavError) → Outcome IsFailure P outcome → IsSuccess (reply_to outcome).status → (r : Response) × (outcome ≡ Ok r)
-succeeded (Ok r) ends good = (r, refl)
-succeeded (Err e) ends good =
+succeeded : (P : Response → Type 0) (outcome : Result Response DavError) → Outcome IsFailure P outcome → IsSuccess (reply_to outcome).status → (r : Response) × (outcome ≡ Ok r)
+succeeded P (Ok r) ends good = (r, refl)
+succeeded P (Err e) ends good =
     let (from, below) = good in
     absurd (omega (arith, ends, below))
 
 -- a plan that fails tells no success
 failed_held : {A : Type 0} {e : DavError} (outcome : Result Response DavError) {old new : StoreState} {ls ms : Locks} → IsFailure e → Ran Asking (fails e) old ls outcome new ms → IsSuccess (reply_to outcome).status → A
 failed_held outcome above ran good =
-    let (r, is) = succeeded {P = λ r. ⊤} outcome (subst (Outcome IsFailure (λ r. ⊤)) (sym (ran_outcome ran)) above) good in
+    let (r, is) = succeeded (λ r. ⊤) outcome (subst (Outcome IsFailure (λ r. ⊤)) (sym (ran_outcome ran)) above) good in
     let clash = sym is ∙ ran_outcome ran in cc
 
 plan_held : {allowed : ℕ} {headers : Headers} {p : PathText} {given : Body} {who : Client} {m : DavMethod} {plan : MethodPlan Response} (tag : EntityTag) (outcome : Result Response DavError) {old new : StoreState} {ls ms : Locks}
@@ -160,28 +160,28 @@ plan_held : {allowed : ℕ} {headers : Headers} {p : PathText} {given : Body} {w
 plan_held tag outcome updates asks (gets is) ran good = absurd (true≢false (sym updates))
 plan_held tag outcome updates asks (heads is) ran good = absurd (true≢false (sym updates))
 plan_held {headers = headers} {p} {given} {who} {plan = plan} tag outcome {old} {new} {ls} {ms} updates asks (puts (is_put h are)) ran good =
-    let (r, is) = succeeded outcome (ran_ends (put_ends Put h (names p) who (bytes_of_body given) refl) ran) good in
+    let (r, is) = succeeded AnswersOther outcome (ran_ends (put_ends Put h (names p) who (bytes_of_body given) refl) ran) good in
     put_held Put h (names p) who (bytes_of_body given) tag (asked_for headers p h.conditions tag are.conditions asks) (subst (λ (o : Result Response DavError). Ran Asking plan old ls o new ms) is ran)
 plan_held {headers = headers} {p} {given} {who} {plan = plan} tag outcome {old} {new} {ls} {ms} updates asks (patches (is_put h are)) ran good =
-    let (r, is) = succeeded outcome (ran_ends (put_ends Patch h (names p) who (bytes_of_body given) refl) ran) good in
+    let (r, is) = succeeded AnswersOther outcome (ran_ends (put_ends Patch h (names p) who (bytes_of_body given) refl) ran) good in
     put_held Patch h (names p) who (bytes_of_body given) tag (asked_for headers p h.conditions tag are.conditions asks) (subst (λ (o : Result Response DavError). Ran Asking plan old ls o new ms) is ran)
 plan_held tag outcome updates asks (makes is) ran good = absurd (true≢false (sym updates))
 plan_held {headers = headers} {p} {who = who} {plan = plan} tag outcome {old} {new} {ls} {ms} updates asks (deletes (is_delete h are)) ran good =
-    let (r, is) = succeeded outcome (ran_ends (delete_ends h p who) ran) good in
+    let (r, is) = succeeded AnswersOther outcome (ran_ends (delete_ends h p who) ran) good in
     delete_held h p who tag (asked_for headers p h.conditions tag are.conditions asks) (subst (λ (o : Result Response DavError). Ran Asking plan old ls o new ms) is ran)
 plan_held {headers = headers} {p} {who = who} {plan = plan} tag outcome {old} {new} {ls} {ms} updates asks (copies (is_copy_move h are)) ran good =
-    let (r, is) = succeeded outcome (ran_ends (copymove_ends Copy headers h p who refl are) ran) good in
+    let (r, is) = succeeded AnswersOther outcome (ran_ends (copymove_ends Copy headers h p who refl are) ran) good in
     copymove_held Copy h p who tag (asked_for headers p h.conditions tag are.conditions asks) (subst (λ (o : Result Response DavError). Ran Asking plan old ls o new ms) is ran)
 plan_held {headers = headers} {p} {who = who} {plan = plan} tag outcome {old} {new} {ls} {ms} updates asks (moves (is_copy_move h are)) ran good =
-    let (r, is) = succeeded outcome (ran_ends (copymove_ends Move headers h p who refl are) ran) good in
+    let (r, is) = succeeded AnswersOther outcome (ran_ends (copymove_ends Move headers h p who refl are) ran) good in
     copymove_held Move h p who tag (asked_for headers p h.conditions tag are.conditions asks) (subst (λ (o : Result Response DavError). Ran Asking plan old ls o new ms) is ran)
 plan_held tag outcome updates asks offers ran good = absurd (true≢false (sym updates))
 plan_held {headers = headers} {p} {given} {who} {plan = plan} tag outcome {old} {new} {ls} {ms} updates asks (sets_properties (is_proppatch c are)) ran good =
-    let (r, is) = succeeded outcome (ran_ends (proppatch_ends c p given who) ran) good in
+    let (r, is) = succeeded AnswersOther outcome (ran_ends (proppatch_ends c p given who) ran) good in
     proppatch_held c p given who tag (asked_for headers p c tag are asks) (subst (λ (o : Result Response DavError). Ran Asking plan old ls o new ms) is ran)
 plan_held tag outcome updates asks (locks is) ran good = absurd (true≢false (sym updates))
 plan_held tag outcome updates asks (releases is) ran good = absurd (true≢false (sym updates))
-plan_held tag outcome updates asks (not_yet out) ran good = failed_held {e = dav.Status 501} (omega arith) ran good
+plan_held tag outcome updates asks (not_yet out) ran good = failed_held {e = dav.Status 501} outcome (omega arith) ran good
 
 of_held : {s : Settings} {x : Asked} {r : Request} {m : DavMethod} {plan : MethodPlan Response} (p : PathText) (tag : EntityTag) (outcome : Result Response DavError) {old new : StoreState} {ls ms : Locks}
     → is_update m ≡ true → TargetNames s.prefix m r.target (Ok p) → AsksForTag (headers_of r.fields) tag
@@ -297,26 +297,26 @@ turn_stored t bytes tag old {new} whole world small step among =
 
 -- what has a tag that is known is a file of the bytes that it is known of
 known_there : (w : World) (p : Path) (tag bytes : List ℕ) → IsWorld w → Known w tag bytes → HasTag w p tag → (n : Node) × (node_at w p ≡ Some n) × (n.kind ≡ File bytes)
-known_there w p tag bytes world known has =
+known_there w p tag bytes world is has =
     let top = world.next in
-    let low = known.remembered.below in
+    let low = is.remembered.below in
     let high = world.numbers.below p has.node has.there in
-    let same : has.node.number ≡ known.number = one_number has.node.number known.number (omega (arith, top, high)) (omega (arith, top, low)) (sym has.tag_is ∙ known.tag_is) in
-    (has.node, has.there, known.remembered.bytes_are p has.node has.there same)
+    let same : has.node.number ≡ is.number = one_number has.node.number is.number (omega (arith, top, high)) (omega (arith, top, low)) (sym has.tag_is ∙ is.tag_is) in
+    (has.node, has.there, is.remembered.bytes_are p has.node has.there same)
 
 -- what a PUT of a run told is known at its end
 stored_known : {s : Settings} {ts : List Turn} {old new : StoreState} {ls ms : Locks} {replies : List Response} (k : ℕ) (t : Turn) (reply : Response) (bytes tag : List ℕ)
     → IsWorld old.world → AreShowable ts → Runs s ts old ls replies new ms → k < length (zip ts replies) → slice_index_or (zip ts replies) k (t, reply) ≡ (t, reply)
     → PutsWhole t.asked bytes → Contains reply.headers (codes "etag", tag) → Known new.world tag bytes
 stored_known k t reply bytes tag world small no_more within is whole among = absurd (omega (arith, within))
-stored_known zero t reply bytes tag world small (one_more {u} {ts} {old} {mid} {new} {reply = first} step rest) within is whole among =
+stored_known zero t reply bytes tag world small (one_more {t = u} {ts} {old} {mid} {new} {reply = first} step rest) within is whole among =
     let turn : u ≡ t = ap (λ (e : Turn × Response). e.0) is in
     let answer : first ≡ reply = ap (λ (e : Turn × Response). e.1) is in
     let puts_it : PutsWhole u.asked bytes = subst (λ (v : Turn). PutsWhole v.asked bytes) (sym turn) whole in
     let told : Contains first.headers (codes "etag", tag) = subst (λ (r : Response). Contains r.headers (codes "etag", tag)) (sym answer) among in
     let after = (turn_keeps u old (small_first u ts small) world step).world in
     known_on mid.world new.world tag bytes (run_keeps after (small_rest u ts small) rest) (turn_stored u bytes tag old puts_it world (small_first u ts small) step told)
-stored_known (suc k) t reply bytes tag world small (one_more {u} {ts} {old} step rest) within is whole among =
+stored_known (suc k) t reply bytes tag world small (one_more {t = u} {ts} {old} step rest) within is whole among =
     stored_known k t reply bytes tag (turn_keeps u old (small_first u ts small) world step).world (small_rest u ts small) rest (omega (arith, within)) is whole among
 
 -- what a run told is known at its end

@@ -145,22 +145,22 @@ fs_failure fs.IsRemote = omega arith
 pub fs_other : (e : FsError) → fs_status e ≢ 304
 fs_other e = failure_other (dav.FsError e) (fs_failure e)
 
--- a call whose refusals become such errors
-asked_as : {E : DavError → Type 0} {A : Type 0} (g : FsError → DavError) → ((e : FsError) → E (g e)) → (answer : Result A FsError) → Outcome E Any (refused_as g answer)
-asked_as g are (Ok a) = tt
-asked_as g are (Err e) = are e
-
 asked_other : {A : Type 0} (g : FsError → DavError) → ((e : FsError) → IsOther (g e)) → (answer : Result A FsError) → Outcome IsOther Any (refused_as g answer)
-asked_other g other answer = asked_as g other answer
+asked_other g other (Ok a) = tt
+asked_other g other (Err e) = other e
+
+asked_fails : {A : Type 0} (g : FsError → DavError) → ((e : FsError) → IsFailure (g e)) → (answer : Result A FsError) → Outcome IsFailure Any (refused_as g answer)
+asked_fails g fails (Ok a) = tt
+asked_fails g fails (Err e) = fails e
 
 -- the store's own errors
 pub store_other : {A : Type 0} (answer : Result A FsError) → Outcome IsOther Any (refused_as dav.FsError answer)
-store_other answer = asked_as dav.FsError fs_other answer
+store_other answer = asked_other dav.FsError fs_other answer
 
 pub store_fails : {A : Type 0} (answer : Result A FsError) → Outcome IsFailure Any (refused_as dav.FsError answer)
-store_fails answer = asked_as dav.FsError fs_failure answer
+store_fails answer = asked_fails dav.FsError fs_failure answer
 
-pub outcome_if : {E : DavError → Type 0} {A : Type 0} (b : Bool) (one other : Result A DavError) → Outcome E Any one → Outcome E Any other → Outcome E Any (if b then one else other)
+pub outcome_if : {A : Type 0} (b : Bool) (one other : Result A DavError) → Outcome IsFailure Any one → Outcome IsFailure Any other → Outcome IsFailure Any (if b then one else other)
 outcome_if true one other is is' = is
 outcome_if false one other is is' = is'
 
@@ -235,16 +235,16 @@ ends_unless : {E : DavError → Type 0} {A : Type 0} (status : Option ℕ) (next
 ends_unless (Some status) next above is = ends_done above
 ends_unless None next above is = is
 
-status_fails : {E : DavError → Type 0} {A : Type 0} (f : ℕ → DavError) → ((status : ℕ) → IsErrorStatus status → E (f status)) → (verdict : Result A ℕ) → Judges verdict → Outcome E Any (status_as f verdict)
-status_fails f fails (Ok a) is = tt
-status_fails f fails (Err status) is = fails status is
+status_fails : (E : DavError → Type 0) {A : Type 0} (f : ℕ → DavError) → ((status : ℕ) → IsErrorStatus status → E (f status)) → (verdict : Result A ℕ) → Judges verdict → Outcome E Any (status_as f verdict)
+status_fails E f fails (Ok a) is = tt
+status_fails E f fails (Err status) is = fails status is
 
 -- the conditions of a method that writes fail with errors alone
 pub guarded_ends : {E : DavError → Type 0} (f : ℕ → DavError) (m : DavMethod) (c : Conditions) (found : Option DavMetaData) → ((status : ℕ) → IsErrorStatus status → E (f status)) → is_reading m ≡ false → Ends E Any (guarded f m c found)
-guarded_ends f m c found fails writes =
+guarded_ends {E} f m c found fails writes =
     ends_bind _ (ends_unless (http_conditions m c.if_match c.if_none_match found) _ (writes_fail m c.if_match c.if_none_match found writes)
     (ends_bind _ (ends_if c.lists) (λ holds any. ends_done (judges_if holds _))))
-    (λ verdict is. ends_done (status_fails f fails verdict is))
+    (λ verdict is. ends_done (status_fails E f fails verdict is))
 
 pub ends_guarded : (f : ℕ → DavError) (m : DavMethod) (c : Conditions) (found : Option DavMetaData) → ((status : ℕ) → status ≢ 304 → IsOther (f status)) → is_reading m ≡ false → Ends IsOther Any (guarded f m c found)
 ends_guarded f m c found other writes = guarded_ends f m c found (λ status above. other status (λ same. absurd (omega (arith, above, same)))) writes
@@ -320,7 +320,7 @@ open_fails how fs.IsRemote = fs_failure fs.IsRemote
 ends_sought : (place : Option ℕ) (file : Handle) → Ends IsFailure Any (sought place file)
 ends_sought None file = ends_done tt
 ends_sought (Some k) file = ends_ask (λ answer.
-    ends_then (refused_as (λ e. unsatisfiable) answer) _ (asked_as (λ e. unsatisfiable) (λ e. omega arith) answer) (λ moved any. ends_done tt))
+    ends_then (refused_as (λ e. unsatisfiable) answer) _ (asked_fails (λ e. unsatisfiable) (λ e. omega arith) answer) (λ moved any. ends_done tt))
 
 pub ends_either : {E : DavError → Type 0} {A : Type 0} {P : A → Type 0} (b : Bool) (one other : MethodPlan A) → Ends E P one → Ends E P other → Ends E P (if b then one else other)
 ends_either true one other is is' = is
@@ -335,7 +335,7 @@ stored_status false same = absurd (omega (arith, same))
 
 ends_store : (how : Opening) (place : Option ℕ) (p : Path) (bytes : List ℕ) (now : ℕ) (found : Bool) → Ends IsFailure AnswersOther (store how place p bytes now found)
 ends_store how place p bytes now found = ends_ask (λ answer.
-    ends_then (refused_as (open_error how) answer) _ (asked_as (open_error how) (open_fails how) answer) (λ file any.
+    ends_then (refused_as (open_error how) answer) _ (asked_fails (open_error how) (open_fails how) answer) (λ file any.
     ends_bind _ (ends_sought place file) (λ file any.
     ends_bind _ (ends_written file bytes now) (λ file any.
     ends_ask (λ answer. ends_then (refused_as dav.FsError answer) _ (store_fails answer) (λ done any. ends_ask (λ answer. ends_done (stored_status found))))))))

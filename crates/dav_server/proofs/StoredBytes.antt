@@ -1,6 +1,7 @@
 -- What the tag in the reply to a PUT says: the file that it stored has these bytes, and that number.
-use Rattle.std.proofs.Common.{◌≡◌, ℕ, zero, suc, ◌<◌, ◌≤◌, ◌==◌, ◌||◌, Bool, true, false, not, cond, if◌then◌else◌, nat_lt, List, [], ◌∷◌, ◌++◌, length, Contains, codes, Option, Some, None, Result, Ok, Err, refl, sym, ap, subst, ◌∙◌, arith}
-use Rattle.std.proofs.lemmas.List.{append-nil}
+use Rattle.std.proofs.Common.{◌≡◌, ℕ, zero, suc, ◌+◌, ◌<◌, ◌≤◌, ◌==◌, ◌||◌, ◌⊎◌, inl, inr, Bool, true, false, true≢false, not, cond, if◌then◌else◌, nat_lt, List, [], ◌∷◌, ◌++◌, length, Contains, codes, Option, Some, None, Result, Ok, Err, refl, sym, ap, subst, ◌∙◌, arith}
+use Rattle.std.proofs.lemmas.Bool.{eqb-true}
+use Rattle.std.proofs.lemmas.List.{append-nil, drop_all}
 use Rattle.std.specs.Option.{option_map, is_none}
 use Rattle.std.specs.Result.{is_ok, result_ok}
 use Rattle.std.specs.FinMap.{find, put}
@@ -14,11 +15,11 @@ use Rattle.dav_core.specs.Asking.{Open, Write, Flush, FileMetadata, meaning, Sto
 use Rattle.dav_core.specs.CallLaws.{IsStorable}
 use Rattle.dav_core.specs.Calls.{metadata_of, emptied, open_at, written as written_at}
 use Rattle.dav_core.specs.Handle.{Handle, Opening, opened, write_place}
-use Rattle.dav_core.specs.Meaning.{Meaning}
+use Rattle.dav_core.specs.Meaning.{Meaning, refuse_if}
 use Rattle.dav_core.specs.Metadata.{tag_of}
 use Rattle.dav_core.specs.Path.{Path, path_cmp, is_same_path, parent_of}
 use Rattle.dav_core.specs.World.{World, Node, Nodes, File, node_at, bytes_of, is_folder, is_folder_kind, file_made_with, is_file_made_with, fresh, modified_at, adjust, change_node, with_new, splice, max_file_len, last_moment, last_number, IsWorld}
-use Rattle.dav_core.proofs.Theorems.{went_on, found, find-adjust, find-put_node, path-itself, change_made, made_stands_there, calls_keep_worlds}
+use Rattle.dav_core.proofs.Theorems.{went_on, went_if, found, find-adjust, find-put_node, path-itself, change_made, made_stands_there, calls_keep_worlds}
 use Rattle.dav_engine.specs.declared.put_headers.Bounds.TheVariants.{Whole}
 use Rattle.dav_engine.specs.declared.put_headers.Writing.{Writing}
 use Rattle.dav_engine.specs.Client.{Client, requester}
@@ -69,6 +70,16 @@ module _ (w : World) (p : Path) (how : Opening) (now : ℕ) where
     handle = refl;
   }
 
+  emptied_by : (n : Node) (r : Handle × World) → node_at w p ≡ Some n
+      → ◌≡◌ {A = Meaning Handle} (Ok (opened n.made how, record { nodes = adjust p (emptied w.next now) w.nodes; next = w.next + 1 })) (Ok r) → Emptied r.1 p how r.0
+  emptied_by n r stood h =
+      subst (λ (x : Handle × World). Emptied x.1 p how x.0) (ok_same h) (record {
+        node = emptied w.next now n;
+        there = find-adjust p (emptied w.next now) p w.nodes ∙ ap (λ b. cond b (option_map (emptied w.next now) (node_at w p)) (node_at w p)) (path-itself p) ∙ ap (option_map (emptied w.next now)) stood;
+        kind = refl;
+        handle = refl;
+      })
+
   opened_by : (o : Option Node) (r : Handle × World) → node_at w p ≡ o → how.truncate ≡ true → open_at w p how now o ≡ Ok r → Emptied r.1 p how r.0
   opened_by None r stood whole h =
       let (makes, h1) = went_on (not (how.create || how.create_new)) NotFound _ r h in
@@ -78,13 +89,10 @@ module _ (w : World) (p : Path) (how : Opening) (now : ℕ) where
   opened_by (Some n) r stood whole h =
       let (file, h1) = went_on (is_folder_kind n.kind) Forbidden _ r h in
       let (there, h2) = went_on how.create_new Exists _ r h1 in
-      let (room, h3) = went_on (w.next == last_number) GeneralFailure _ r (subst (λ (b : Bool). (if b then _ else _) ≡ Ok r) whole h2) in
-      subst (λ (x : Handle × World). Emptied x.1 p how x.0) (ok_same h3) (record {
-        node = emptied w.next now n;
-        there = find-adjust p (emptied w.next now) p w.nodes ∙ ap (λ b. cond b (option_map (emptied w.next now) (node_at w p)) (node_at w p)) (path-itself p) ∙ ap (option_map (emptied w.next now)) stood;
-        kind = refl;
-        handle = refl;
-      })
+      elim (went_if how.truncate _ _ r h2) [
+        | inl (empties, h3) ↦ emptied_by n r stood (went_on (w.next == last_number) GeneralFailure _ r h3).1
+        | inr (keeps, h3) ↦ absurd (true≢false (sym whole ∙ keeps))
+      ]
 
 -- ---- the bytes are written
 
@@ -106,10 +114,34 @@ refers w file bytes holds world = (made_stands_there w file.made holds.node worl
 -- writing over no bytes, from the start on
 all_written : (bytes : List ℕ) → splice [] 0 bytes ≡ bytes
 all_written [] = refl
-all_written (b ∷ bytes) = append-nil (b ∷ bytes)
+all_written (b ∷ bytes) = ap (λ rest. (b ∷ bytes) ++ rest) (drop_all (0 + suc (length bytes)) [] (omega arith)) ∙ append-nil (b ∷ bytes)
 
 start : (how : Opening) (made : ℕ) → how.append ≡ false → write_place (opened made how) [] ≡ 0
 start how made from = ap (λ b. if b then 0 else 0) from
+
+-- the file after bytes were written to it from its start on
+abbrev after_write : World → Opening → Node → Node → List ℕ → ℕ → Handle × World
+after_write w how n k bytes now = (
+  record (opened n.made how) { position = write_place (opened n.made how) (bytes_of k.kind) + length bytes },
+  record { nodes = change_node (is_file_made_with n.made) (written_at (write_place (opened n.made how) (bytes_of k.kind)) bytes w.next now) w.nodes; next = w.next + 1 },
+)
+
+write_ends : (w : World) (how : Opening) (n k : Node) (bytes : List ℕ) (now : ℕ) (r : Handle × World)
+    → IsWorld w → n ≡ k → file_made_with n.made w.nodes ≡ Some n → n.kind ≡ File [] → how.append ≡ false → ◌≡◌ {A = Meaning Handle} (Ok (after_write w how n k bytes now)) (Ok r) → Holds r.1 r.0 bytes
+write_ends w how n k bytes now r world same made empty from h =
+    let place = write_place (opened n.made how) (bytes_of k.kind) in
+    let change = written_at place bytes w.next now in
+    let (q, stood, changed) = change_made n.made change w.nodes world.tree.sorted n made in
+    let bare : bytes_of k.kind ≡ [] = ap (λ (x : Node). bytes_of x.kind) (sym same) ∙ ap bytes_of empty in
+    let kind : splice (bytes_of n.kind) place bytes ≡ bytes =
+        ap (λ x. splice x place bytes) (ap bytes_of empty) ∙ ap (λ x. splice [] x bytes) (ap (write_place (opened n.made how)) bare ∙ start how n.made from) ∙ all_written bytes in
+    subst (λ (x : Handle × World). Holds x.1 x.0 bytes) (ok_same h) (record {
+      path = q;
+      node = change n;
+      there = ap (find path_cmp q) changed ∙ find-adjust q change q w.nodes ∙ ap (λ b. cond b (option_map change (node_at w q)) (node_at w q)) (path-itself q) ∙ ap (option_map change) stood;
+      kind = ap File kind;
+      made = refl;
+    })
 
 -- what was written to an open file without bytes
 write_holds : (w : World) (p : Path) (how : Opening) (file : Handle) (b : ℕ) (rest : List ℕ) (now : ℕ) (r : Handle × World)
@@ -118,25 +150,12 @@ unfolding meaning
 write_holds w p how file b rest now r world empty from h =
     let n = empty.node in
     let f = opened n.made how in
-    let made : file_made_with f.made w.nodes ≡ Some n = (made_stands_there w n.made n world).1 (p, empty.there, refl, plain n [] empty.kind) in
-    let (k, is, h1) = found (file_made_with f.made w.nodes) _ r (subst (λ (x : Handle). meaning (Write x (b ∷ rest) now) w ≡ Ok r) empty.handle h) in
-    let same : n ≡ k = some_same (sym made ∙ is) in
-    let (writes, h2) = went_on _ Forbidden _ r h1 in
-    let (small, h3) = went_on _ TooLarge _ r h2 in
-    let (room, h4) = went_on (w.next == last_number) GeneralFailure _ r h3 in
-    let place = write_place f (bytes_of k.kind) in
-    let change = written_at place (b ∷ rest) now w.next in
-    let (q, stood, changed) = change_made f.made change w.nodes world.tree.sorted n made in
-    let bare : bytes_of k.kind ≡ [] = ap (λ (x : Node). bytes_of x.kind) (sym same) ∙ ap bytes_of empty.kind in
-    let kind : splice (bytes_of n.kind) place (b ∷ rest) ≡ b ∷ rest = 
-        ap (λ x. splice x place (b ∷ rest)) (ap bytes_of empty.kind) ∙ ap (λ x. splice [] x (b ∷ rest)) (ap (write_place f) bare ∙ start how n.made from) ∙ all_written (b ∷ rest) in
-    subst (λ (x : Handle × World). Holds x.1 x.0 (b ∷ rest)) (ok_same h4) (record {
-      path = q;
-      node = change n;
-      there = ap (find path_cmp q) changed ∙ find-adjust q change q w.nodes ∙ ap (λ b. cond b (option_map change (node_at w q)) (node_at w q)) (path-itself q) ∙ ap (option_map change) stood;
-      kind = ap File kind;
-      made = refl;
-    })
+    let made : file_made_with n.made w.nodes ≡ Some n = (made_stands_there w n.made n world).1 (p, empty.there, refl, plain n [] empty.kind) in
+    let (k, is, h1) = found (file_made_with n.made w.nodes) _ r (subst (λ (x : Handle). meaning (Write x (b ∷ rest) now) w ≡ Ok r) empty.handle h) in
+    let (writes, h2) = went_on (not f.writes) Forbidden _ r h1 in
+    let (small, h3) = went_on (nat_lt max_file_len (write_place f (bytes_of k.kind) + length (b ∷ rest))) TooLarge _ r h2 in
+    let numbers : refuse_if (w.next == last_number) GeneralFailure (Ok (after_write w how n k (b ∷ rest) now)) ≡ Ok r = h3 in
+    write_ends w how n k (b ∷ rest) now r world (some_same (sym made ∙ is)) made empty.kind from (went_on (w.next == last_number) GeneralFailure _ r numbers).1
 
 bare_holds : (w : World) (p : Path) (how : Opening) (file : Handle) → Emptied w p how file → Holds w file []
 bare_holds w p how file empty = record { path = p; node = empty.node; there = empty.there; kind = empty.kind; made = sym (ap (λ (f : Handle). f.made) empty.handle) }
@@ -168,16 +187,29 @@ wrote w new p how file after b rest now answer world empty from small (means r h
     (subst IsWorld (sym left) (calls_keep_worlds (Write file (b ∷ rest) now) w r small world h),
     subst (λ (v : World). Holds v after (b ∷ rest)) (sym left) (subst (λ (f : Handle). Holds r.1 f (b ∷ rest)) handle (write_holds w p how file b rest now r world empty from h)))
 
-written_holds : (p : Path) (how : Opening) (file after : Handle) (bytes : List ℕ) (now : ℕ) {old new : StoreState} {ls ms : Locks} → IsWorld old.world → Emptied old.world p how file → how.append ≡ false → now ≤ last_moment
-    → Ran Asking (written file bytes now) old ls (Ok after) new ms → WorldHolds new.world after bytes
-written_holds p how file after [] now {old} {new} world empty from small ran =
+no_bytes : (bytes : List ℕ) → (length bytes == 0) ≡ true → bytes ≡ []
+no_bytes [] is = refl
+no_bytes (b ∷ rest) is = let none = eqb-true (suc (length rest)) 0 is in absurd (omega (arith, none))
+
+-- by whether there are bytes
+written_by_length : (p : Path) (how : Opening) (file after : Handle) (bytes : List ℕ) (now : ℕ) (none : Bool) {old new : StoreState} {ls ms : Locks} → (length bytes == 0) ≡ none
+    → IsWorld old.world → Emptied old.world p how file → how.append ≡ false → now ≤ last_moment
+    → Ran Asking (if none then gives file else ask_for (Write file bytes now)) old ls (Ok after) new ms → WorldHolds new.world after bytes
+written_by_length p how file after bytes now true {old} {new} is world empty from small ran =
     let same : new.world ≡ old.world = (reading_leaves reads_done ran).0 in
     let handle : after ≡ file = ok_same (ran_outcome ran) in
-    (subst IsWorld (sym same) world, subst (λ (v : World). Holds v after []) (sym same) (subst (λ (f : Handle). Holds old.world f []) (sym handle) (bare_holds old.world p how file empty)))
-written_holds p how file after (b ∷ rest) now world empty from small (ran_ask {old = old} {mid = mid} {answer = answer} one more) =
-    let (is, left) = (given dav.FsError answer after (ran_outcome more), (reading_leaves reads_done more).0) in
-    let (kept, holds) = wrote old.world mid.world p how file after b rest now answer world empty from small (did one) is in
+    (subst IsWorld (sym same) world,
+    subst (Holds new.world after) (sym (no_bytes bytes is)) (subst (λ (v : World). Holds v after []) (sym same) (subst (λ (f : Handle). Holds old.world f []) (sym handle) (bare_holds old.world p how file empty))))
+written_by_length p how file after [] now false is world empty from small ran = absurd (true≢false is)
+written_by_length p how file after (b ∷ rest) now false is world empty from small (ran_ask {old = old} {mid = mid} {answer = answer} one more) =
+    let told = given dav.FsError answer after (ran_outcome more) in
+    let left = (reading_leaves reads_done more).0 in
+    let (kept, holds) = wrote old.world mid.world p how file after b rest now answer world empty from small (did one) told in
     (subst IsWorld (sym left) kept, subst (λ (v : World). Holds v after (b ∷ rest)) (sym left) holds)
+
+written_holds : (p : Path) (how : Opening) (file after : Handle) (bytes : List ℕ) (now : ℕ) {old new : StoreState} {ls ms : Locks} → IsWorld old.world → Emptied old.world p how file → how.append ≡ false → now ≤ last_moment
+    → Ran Asking (written file bytes now) old ls (Ok after) new ms → WorldHolds new.world after bytes
+written_holds p how file after bytes now world empty from small ran = written_by_length p how file after bytes now (length bytes == 0) refl world empty from small ran
 
 -- ---- the tag
 

@@ -73,7 +73,6 @@ pub fn not_modified_is_true()
 /// COPY, MOVE or PROPPATCH asks for that tag by If-Match, or by a list of If, and is answered with success, the file at its
 /// path has right before it the bytes that the client was told, whatever came in between and whatever the store refused
 /// (RFC 9110, section 13.1.1; RFC 4918, section 10.4).
-#[tactic(auto, using(crate::proofs::NoLostUpdate::no_lost_update))]
 pub fn no_update_is_lost()
     ensures { NoLostUpdate }
 {}
