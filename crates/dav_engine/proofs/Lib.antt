@@ -1,5 +1,6 @@
 pub mod StatusLemmas
 pub mod KeptLemmas
+pub mod FoundLemmas
 pub mod DeclaringLemmas
 pub mod DateTextLemmas
 pub mod TellingLemmas

@@ -12,6 +12,7 @@ use Rattle.dav_engine.specs.Lock.{IsLock}
 use Rattle.dav_engine.specs.Method.{MethodPlan}
 use Rattle.dav_engine.specs.Mkcol.{IsMkcol}
 use Rattle.dav_engine.specs.Options.{options}
+use Rattle.dav_engine.specs.Propfind.{IsPropfind}
 use Rattle.dav_engine.specs.Proppatch.{IsProppatch}
 use Rattle.dav_engine.specs.Put.{IsPut}
 use Rattle.dav_engine.specs.Response.{Response}
@@ -71,3 +72,7 @@ CopyMoveOf request who = IsCopyMove request.method request.headers request.path 
 -- the plans of a PROPPATCH with this body, by who makes it
 abbrev pub ProppatchOf : DavRequest → Body → Client → MethodPlan Response → Type 0
 ProppatchOf request body who = IsProppatch request.headers request.path body who
+
+-- the plans of a PROPFIND with this body, by who makes it
+abbrev pub PropfindOf : DavRequest → Body → Client → MethodPlan Response → Type 0
+PropfindOf request body who = IsPropfind request.headers request.path body who

@@ -14,6 +14,7 @@ pub mod Date
 pub mod Declaring
 pub mod DateText
 pub mod Delete
+pub mod FindView
 pub mod Folder
 pub mod Giving
 pub mod Follows

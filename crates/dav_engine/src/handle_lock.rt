@@ -279,7 +279,7 @@ fn granted_reply(
 }
 
 // Whether there is no body.
-fn is_absent(body: &Body) -> bool
+pub(crate) fn is_absent(body: &Body) -> bool
     ensures { result ≡ spec.is_absent body.now }
 {
     match body {

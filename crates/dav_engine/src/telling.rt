@@ -187,7 +187,7 @@ fn others(alloc: Global, listed: Vec<Element>, given: &[Element]) -> Result<Vec<
 }
 
 // Properties, and then more of them.
-fn joined(properties: Vec<Element>, more: Vec<Element>) -> Result<Vec<Element>, NoMemory>
+pub(crate) fn joined(properties: Vec<Element>, more: Vec<Element>) -> Result<Vec<Element>, NoMemory>
     ensures { IfOk result (λ all. all.items ≡ properties.items ++ more.items) }
 {
     let mut all = properties;
