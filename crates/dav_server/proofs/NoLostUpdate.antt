@@ -1,5 +1,5 @@
 -- No update is lost: what an update on condition of a tag finds are the bytes that were told to have it.
-use Rattle.std.proofs.Common.{◌≡◌, ◌⊎◌, inl, inr, ℕ, zero, suc, ◌<◌, ◌≤◌, ◌||◌, Bool, true, false, true≢false, not, List, [], ◌∷◌, ◌++◌, length, slice_index_or, Contains, codes, Option, Some, None, Result, Ok, Err, refl, sym, ap, subst, ◌∙◌, arith}
+use Rattle.std.proofs.Common.{◌≡◌, inl, inr, ℕ, zero, suc, ◌<◌, ◌≤◌, ◌||◌, Bool, true, false, true≢false, not, List, [], ◌∷◌, ◌++◌, length, slice_index_or, Contains, codes, Option, Some, None, Result, Ok, Err, refl, sym, ap, subst, ◌∙◌, arith}
 use Rattle.std.specs.Bool.{⊤}
 use Rattle.std.specs.List.{zip}
 use Rattle.std.specs.Option.{unwrap_or, is_some}
@@ -19,15 +19,13 @@ use Rattle.dav_core.specs.Status.{must_close}
 use Rattle.dav_core.specs.World.{World, Node, File, node_at, last_moment, IsWorld}
 use Rattle.dav_headers.specs.ContentRange.{IsContentRange}
 use Rattle.dav_headers.specs.ETag.{EntityTag}
-use Rattle.dav_headers.specs.ETagList.{tags}
-use Rattle.dav_headers.specs.If.{Condition, entity_tag}
 use Rattle.dav_engine.specs.declared.put_headers.Bounds.{Bounds}
 use Rattle.dav_engine.specs.declared.put_headers.Bounds.TheVariants.{Unread, Whole, Within}
 use Rattle.dav_engine.specs.declared.put_headers.Writing.{Writing}
 use Rattle.dav_engine.specs.declared.request.Body.{Body}
 use Rattle.dav_engine.specs.declared.request.Body.TheVariants as body
 use Rattle.dav_engine.specs.Client.{Client}
-use Rattle.dav_engine.specs.Conditions.{Conditions, Addressed, AreConditions, guarded}
+use Rattle.dav_engine.specs.Conditions.{Conditions, AreConditions, guarded}
 use Rattle.dav_engine.specs.CopyMove.{CopyHeaders, is_move, copy_depth, destination_found, copy_free, copy_allowed, copy_found, copy_or_move, is_copy_move}
 use Rattle.dav_engine.specs.Delete.{DeleteHeaders, whole_depth, delete_allowed, delete_found, delete, is_delete}
 use Rattle.dav_engine.specs.Folder.{closed, is_folder_found}

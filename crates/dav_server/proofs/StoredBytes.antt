@@ -1,5 +1,5 @@
 -- What the tag in the reply to a PUT says: the file that it stored has these bytes, and that number.
-use Rattle.std.proofs.Common.{◌≡◌, ℕ, zero, suc, ◌+◌, ◌<◌, ◌≤◌, ◌==◌, ◌||◌, ◌⊎◌, inl, inr, Bool, true, false, true≢false, not, cond, if◌then◌else◌, nat_lt, List, [], ◌∷◌, ◌++◌, length, Contains, codes, Option, Some, None, Result, Ok, Err, refl, sym, ap, subst, ◌∙◌, arith}
+use Rattle.std.proofs.Common.{◌≡◌, ℕ, zero, suc, ◌+◌, ◌≤◌, ◌==◌, ◌||◌, inl, inr, Bool, true, false, true≢false, not, cond, if◌then◌else◌, nat_lt, List, [], ◌∷◌, ◌++◌, length, Contains, codes, Option, Some, None, Result, Ok, Err, refl, sym, ap, subst, ◌∙◌, arith}
 use Rattle.std.proofs.lemmas.Bool.{eqb-true}
 use Rattle.std.proofs.lemmas.List.{append-nil, drop_all}
 use Rattle.std.specs.Option.{option_map, is_none}
@@ -24,9 +24,9 @@ use Rattle.dav_engine.specs.declared.put_headers.Bounds.TheVariants.{Whole}
 use Rattle.dav_engine.specs.declared.put_headers.Writing.{Writing}
 use Rattle.dav_engine.specs.Client.{Client, requester}
 use Rattle.dav_engine.specs.Conditions.{guarded}
-use Rattle.dav_engine.specs.Method.{MethodPlan, then as followed_by, ◌>>=◌, gives, require, require_free, refused_as, answer_of, ask_for}
+use Rattle.dav_engine.specs.Method.{◌>>=◌, gives, require, require_free, refused_as, answer_of, ask_for}
 use Rattle.dav_engine.specs.Plan.{Locks, Ran, ran_ask}
-use Rattle.dav_engine.specs.Put.{PutHeaders, written_by, bounded_by, writing_of, put_opening, open_error, sought, written, is_announced, stored, store, put_allowed, put_body}
+use Rattle.dav_engine.specs.Put.{PutHeaders, written_by, bounded_by, writing_of, put_opening, open_error, written, is_announced, stored, store, put_allowed, put_body}
 use Rattle.dav_engine.specs.Response.{Response, Header, etag, last_modified, content_length}
 use Rattle.dav_engine.specs.WorldLaws.{reads_done}
 use Rattle.dav_engine.proofs.Theorems.{Did, stays, means, did, did_leave, ran_outcome, reading_leaves, only_reads, look_reads, only_put_allowed}
@@ -134,7 +134,7 @@ write_ends w how n k bytes now r world same made empty from h =
     let (q, stood, changed) = change_made n.made change w.nodes world.tree.sorted n made in
     let bare : bytes_of k.kind ≡ [] = ap (λ (x : Node). bytes_of x.kind) (sym same) ∙ ap bytes_of empty in
     let kind : splice (bytes_of n.kind) place bytes ≡ bytes =
-        ap (λ x. splice x place bytes) (ap bytes_of empty) ∙ ap (λ x. splice [] x bytes) (ap (write_place (opened n.made how)) bare ∙ start how n.made from) ∙ all_written bytes in
+    ap (λ x. splice x place bytes) (ap bytes_of empty) ∙ ap (λ x. splice [] x bytes) (ap (write_place (opened n.made how)) bare ∙ start how n.made from) ∙ all_written bytes in
     subst (λ (x : Handle × World). Holds x.1 x.0 bytes) (ok_same h) (record {
       path = q;
       node = change n;
@@ -175,17 +175,19 @@ opened_empty : (w new : World) (p : Path) (how : Opening) (now : ℕ) (answer : 
 unfolding meaning
 opened_empty w new p how now answer file world storable small whole (stays e is same) ok = let clash = sym is ∙ ok in cc
 opened_empty w new p how now answer file world storable small whole (means r h is after) ok =
-    let handle : r.0 ≡ file = ok_same (sym is ∙ ok) in
-    (subst IsWorld (sym after) (calls_keep_worlds (Open p how now) w r (storable, small) world h),
-    subst (λ (v : World). Emptied v p how file) (sym after) (subst (Emptied r.1 p how) handle (opened_by w p how now (node_at w p) r refl whole h)))
+    let handle : r.0 ≡ file = ok_same (sym is ∙ ok) in (
+      subst IsWorld (sym after) (calls_keep_worlds (Open p how now) w r (storable, small) world h),
+      subst (λ (v : World). Emptied v p how file) (sym after) (subst (Emptied r.1 p how) handle (opened_by w p how now (node_at w p) r refl whole h)),
+    )
 
 wrote : (w new : World) (p : Path) (how : Opening) (file after : Handle) (b : ℕ) (rest : List ℕ) (now : ℕ) (answer : Result Handle FsError) → IsWorld w → Emptied w p how file → how.append ≡ false → now ≤ last_moment
     → Did (meaning (Write file (b ∷ rest) now) w) w answer new → answer ≡ Ok after → WorldHolds new after (b ∷ rest)
 wrote w new p how file after b rest now answer world empty from small (stays e is same) ok = let clash = sym is ∙ ok in cc
 wrote w new p how file after b rest now answer world empty from small (means r h is left) ok =
-    let handle : r.0 ≡ after = ok_same (sym is ∙ ok) in
-    (subst IsWorld (sym left) (calls_keep_worlds (Write file (b ∷ rest) now) w r small world h),
-    subst (λ (v : World). Holds v after (b ∷ rest)) (sym left) (subst (λ (f : Handle). Holds r.1 f (b ∷ rest)) handle (write_holds w p how file b rest now r world empty from h)))
+    let handle : r.0 ≡ after = ok_same (sym is ∙ ok) in (
+      subst IsWorld (sym left) (calls_keep_worlds (Write file (b ∷ rest) now) w r small world h),
+      subst (λ (v : World). Holds v after (b ∷ rest)) (sym left) (subst (λ (f : Handle). Holds r.1 f (b ∷ rest)) handle (write_holds w p how file b rest now r world empty from h)),
+    )
 
 no_bytes : (bytes : List ℕ) → (length bytes == 0) ≡ true → bytes ≡ []
 no_bytes [] is = refl
@@ -197,9 +199,10 @@ written_by_length : (p : Path) (how : Opening) (file after : Handle) (bytes : Li
     → Ran Asking (if none then gives file else ask_for (Write file bytes now)) old ls (Ok after) new ms → WorldHolds new.world after bytes
 written_by_length p how file after bytes now true {old} {new} is world empty from small ran =
     let same : new.world ≡ old.world = (reading_leaves reads_done ran).0 in
-    let handle : after ≡ file = ok_same (ran_outcome ran) in
-    (subst IsWorld (sym same) world,
-    subst (Holds new.world after) (sym (no_bytes bytes is)) (subst (λ (v : World). Holds v after []) (sym same) (subst (λ (f : Handle). Holds old.world f []) (sym handle) (bare_holds old.world p how file empty))))
+    let handle : after ≡ file = ok_same (ran_outcome ran) in (
+      subst IsWorld (sym same) world,
+      subst (Holds new.world after) (sym (no_bytes bytes is)) (subst (λ (v : World). Holds v after []) (sym same) (subst (λ (f : Handle). Holds old.world f []) (sym handle) (bare_holds old.world p how file empty))),
+    )
 written_by_length p how file after [] now false is world empty from small ran = absurd (true≢false is)
 written_by_length p how file after (b ∷ rest) now false is world empty from small (ran_ask {old = old} {mid = mid} {answer = answer} one more) =
     let told = given dav.FsError answer after (ran_outcome more) in
@@ -247,13 +250,15 @@ tag_told w new file bytes tag found_before answer (world, holds) (stays e is sam
 tag_told w new file bytes tag found_before answer (world, holds) (means r h is left) among =
     let (k, made, end) = found (file_made_with file.made w.nodes) _ r h in
     let same : k ≡ holds.node = some_same (sym made ∙ refers w file bytes holds world) in
-    let told : answer ≡ Ok (metadata_of holds.node) = is ∙ ap Ok (sym (ap (λ (x : DavMetaData × World). x.0) (ok_same end)) ∙ ap metadata_of same) in
-    (holds.path, record {
-      node = holds.node;
-      there = holds.there;
-      kind = holds.kind;
-      tag_is = tag_stored found_before holds.node.number holds.node.modified tag (subst (λ (a : Result DavMetaData FsError). Contains (stored found_before (result_ok a)).headers (codes "etag", tag)) told among);
-    })
+    let told : answer ≡ Ok (metadata_of holds.node) = is ∙ ap Ok (sym (ap (λ (x : DavMetaData × World). x.0) (ok_same end)) ∙ ap metadata_of same) in (
+      holds.path,
+      record {
+        node = holds.node;
+        there = holds.there;
+        kind = holds.kind;
+        tag_is = tag_stored found_before holds.node.number holds.node.modified tag (subst (λ (a : Result DavMetaData FsError). Contains (stored found_before (result_ok a)).headers (codes "etag", tag)) told among);
+      },
+    )
 
 -- ---- the whole PUT
 

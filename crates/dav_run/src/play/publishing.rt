@@ -30,6 +30,15 @@ const CONDITIONS: &str = r##"
 {"body":null,"headers":{"accept-ranges":"bytes","etag":"\"4\"","last-modified":"Thu, 01 Jan 1970 00:00:01 GMT"},"status":204}
 {"body":null,"headers":{"connection":"close","content-length":"0"},"status":412}
 {"body":{"hex":"79"},"headers":{"content-length":"1","content-type":"application/octet-stream","etag":"\"4\"","last-modified":"Thu, 01 Jan 1970 00:00:01 GMT"},"status":200}
+# two clients: an update with the tag before another's is refused, and one with the current tag, of a reply to PUT, is made
+{"requests":[{"head":"PUT /f HTTP/1.1\r\nContent-Length: 1\r\n\r\n","body":{"text":"x"},"principal":"anna","moment":1},{"head":"GET /f HTTP/1.1\r\n\r\n","principal":"ben","moment":1},{"head":"PUT /f HTTP/1.1\r\nContent-Length: 1\r\nIf-Match: \"2\"\r\n\r\n","body":{"text":"y"},"principal":"anna","moment":1},{"head":"PUT /f HTTP/1.1\r\nContent-Length: 1\r\nIf-Match: \"2\"\r\n\r\n","body":{"text":"z"},"principal":"ben","moment":1},{"head":"PUT /f HTTP/1.1\r\nContent-Length: 1\r\nIf-Match: \"4\"\r\n\r\n","body":{"text":"z"},"principal":"ben","moment":1},{"head":"DELETE /f HTTP/1.1\r\nIf-Match: \"4\"\r\n\r\n","principal":"anna","moment":1},{"head":"DELETE /f HTTP/1.1\r\nIf: ([\"6\"])\r\n\r\n","principal":"anna","moment":1}]}
+{"body":null,"headers":{"accept-ranges":"bytes","content-length":"0","etag":"\"2\"","last-modified":"Thu, 01 Jan 1970 00:00:01 GMT"},"status":201}
+{"body":{"hex":"78"},"headers":{"content-length":"1","content-type":"application/octet-stream","etag":"\"2\"","last-modified":"Thu, 01 Jan 1970 00:00:01 GMT"},"status":200}
+{"body":null,"headers":{"accept-ranges":"bytes","etag":"\"4\"","last-modified":"Thu, 01 Jan 1970 00:00:01 GMT"},"status":204}
+{"body":null,"headers":{"connection":"close","content-length":"0"},"status":412}
+{"body":null,"headers":{"accept-ranges":"bytes","etag":"\"6\"","last-modified":"Thu, 01 Jan 1970 00:00:01 GMT"},"status":204}
+{"body":null,"headers":{"content-length":"0"},"status":412}
+{"body":null,"headers":{},"status":204}
 # If-None-Match: of GET with the strong tag and with a weak one, of PUT with `*`
 {"requests":[{"head":"PUT /f HTTP/1.1\r\nContent-Length: 1\r\n\r\n","body":{"text":"x"},"moment":1},{"head":"GET /f HTTP/1.1\r\nIf-None-Match: \"2\"\r\n\r\n","moment":1},{"head":"GET /f HTTP/1.1\r\nIf-None-Match: W/\"2\"\r\n\r\n","moment":1},{"head":"PUT /f HTTP/1.1\r\nContent-Length: 1\r\nIf-None-Match: *\r\n\r\n","body":{"text":"y"},"moment":1,"refuse":["Forbidden"]},{"head":"GET /f HTTP/1.1\r\n\r\n","moment":1}]}
 {"body":null,"headers":{"accept-ranges":"bytes","content-length":"0","etag":"\"2\"","last-modified":"Thu, 01 Jan 1970 00:00:01 GMT"},"status":201}
