@@ -86,11 +86,12 @@ module _ (w : Writer) (p : PathText) (m : DavMetaData) where
         → Rest all first begin left known old so_far → Rest all first begin es then_known mid now
     rest_found all es left so_far now e first known then_known one {begin} {old} {mid} at is found rest =
         let here : Rest all first begin (e ∷ es) known old so_far = subst (λ l. Rest all first begin l known old so_far) at rest in (
-        (λ more end run.
-        let joined : (so_far ++ with_found one more.0) ≡ now ++ more.0 = one_and_more one so_far more.0 ∙ ap (λ l. l ++ more.0) (sym is) in
-        subst (λ l. GivesWith locks (found_properties w p m first all) begin (l, more.1) end) joined
-        (here.0 (with_found one more.0, more.1) end (ran_bind (follow es) found (ran_bind (others one) run ran_done)))),
-        (λ end stop. here.1 end (cut_bind (follow es) found (cut_in (others one) stop refl))))
+          (λ more end run.
+              let joined : (so_far ++ with_found one more.0) ≡ now ++ more.0 = one_and_more one so_far more.0 ∙ ap (λ l. l ++ more.0) (sym is) in
+              subst (λ l. GivesWith locks (found_properties w p m first all) begin (l, more.1) end) joined
+              (here.0 (with_found one more.0, more.1) end (ran_bind (follow es) found (ran_bind (others one) run ran_done)))),
+          (λ end stop. here.1 end (cut_bind (follow es) found (cut_in (others one) stop refl))),
+        )
 
     -- memory ran out in a property, or behind it
     pub one_stopped : (all es left so_far : List ElementTree) (e : ElementTree) (first known : QuotaKnown) {begin old new : StoreState}
