@@ -24,7 +24,7 @@ use Rattle.dav_engine.specs.declared.put_headers.Bounds.TheVariants.{Unread, Who
 use Rattle.dav_engine.specs.declared.put_headers.Writing.{Writing}
 use Rattle.dav_engine.specs.declared.request.Body.{Body}
 use Rattle.dav_engine.specs.declared.request.Body.TheVariants as body
-use Rattle.dav_engine.specs.Client.{Client}
+use Rattle.dav_engine.specs.Client.{Client, requester}
 use Rattle.dav_engine.specs.Conditions.{Conditions, AreConditions, guarded}
 use Rattle.dav_engine.specs.CopyMove.{CopyHeaders, is_move, copy_depth, destination_found, copy_free, copy_allowed, copy_found, copy_or_move, is_copy_move}
 use Rattle.dav_engine.specs.Delete.{DeleteHeaders, whole_depth, delete_allowed, delete_found, delete, is_delete}
@@ -50,8 +50,8 @@ use Rattle.dav_server.proofs.HeadLemmas.{one_head}
 use Rattle.dav_server.proofs.HeldConditions.{HasTag, text_of, matched_there, went, own_list, AskForTag, guard_held}
 use Rattle.dav_server.proofs.MeansWorld.{target_storable, begun_world, turn_keeps, run_keeps, one_method, asks_one}
 use Rattle.dav_server.proofs.NotModified.{says_tags, one_value, no_error, body_status}
-use Rattle.dav_server.proofs.PlanStatuses.{Outcome, Any, IsFailure, AnswersOther, ran_ends, put_ends, delete_ends, copymove_ends}
-use Rattle.dav_server.proofs.PropertyStatuses.{proppatch_ends}
+use Rattle.dav_server.proofs.PlanStatuses.{Outcome, Any, Ends, IsOtherStatus, IsFailure, AnswersOther, store_fails, guarded_ends, ends_free, ran_ends, put_ends, delete_ends, copymove_ends}
+use Rattle.dav_server.proofs.PropertyStatuses.{ends_patching}
 use Rattle.dav_server.proofs.StoredBytes.{StandsAnywhere, put_stands}
 use Rattle.dav_server.proofs.TagLemmas.{shown_among, shown_known, known_on, small_first, small_rest}
 use Rattle.dav_server.proofs.TargetLemmas.{one_outcome}
@@ -121,6 +121,13 @@ copymove_held m h p who tag asks ran =
     let (deep, depth, rest) = gone_on (copy_depth (is_move m) h.depth) _ ran in
     let (d, place, more) = gone_on h.destination _ rest in
     brought_held m deep h p d who tag asks more
+
+-- an error of a PROPPATCH reports one
+proppatch_ends : (c : Conditions) (p : PathText) (content : Body) (who : Client) → Ends IsFailure AnswersOther (proppatch c p content who)
+proppatch_ends c p content who =
+    ends_patching IsFailure IsOtherStatus (λ same. absurd (omega (arith, same))) (λ A answer. store_fails answer) (omega arith) c p content who
+    (λ found. guarded_ends dav.Status PropPatch c (Some found) (λ status above. above) refl)
+    (λ tokens q. ends_free false (requester who tokens) (names q) (dav.Status 423) (omega arith))
 
 proppatch_held : (c : Conditions) (p : PathText) (content : Body) (who : Client) (tag : EntityTag) {old new : StoreState} {ls ms : Locks} {r : Response}
     → AskForTag c (names p) tag → Ran Asking (proppatch c p content who) old ls (Ok r) new ms → HasTag old.world (names p) (text_of tag)

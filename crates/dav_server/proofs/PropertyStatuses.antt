@@ -1,5 +1,6 @@
 -- What statuses a PROPPATCH results in.
-use Rattle.std.proofs.Common.{◌≢◌, ℕ, Bool, true, false, List, [], ◌∷◌, Option, Some, None, Result, Ok, refl, arith}
+use Rattle.std.proofs.Common.{◌≡◌, ◌≢◌, ℕ, Bool, true, false, List, [], ◌∷◌, Option, Some, None, Result, Ok, Err, refl, arith}
+use Rattle.std.specs.Bool.{⊤}
 use Rattle.dav_core.specs.declared.errors.FsError.{FsError}
 use Rattle.dav_core.specs.declared.errors.DavError.{DavError}
 use Rattle.dav_core.specs.declared.errors.DavError.TheVariants as dav
@@ -10,11 +11,11 @@ use Rattle.dav_engine.specs.declared.request.Body.{Body}
 use Rattle.dav_engine.specs.Client.{Client, requester}
 use Rattle.dav_engine.specs.Conditions.{Conditions, guarded}
 use Rattle.dav_engine.specs.Folder.{closed, location_found}
-use Rattle.dav_engine.specs.Method.{◌>>=◌, require_free, required, refused_as, gives}
+use Rattle.dav_engine.specs.Method.{MethodPlan, ◌>>=◌, require_free, required, refused_as, gives}
 use Rattle.dav_engine.specs.Properties.{has_properties}
-use Rattle.dav_engine.specs.Proppatch.{Change, changes_in, answered_at_once, to_store, has_refused, store_changes, change_all, proppatch_reply, patch_properties, proppatch}
-use Rattle.dav_engine.specs.Response.{Response, Header}
-use Rattle.dav_server.proofs.PlanStatuses.{Outcome, Any, Ends, ends_done, ends_ask, ends_bind, ends_then, IsOther, IsFailure, AnswersOther, store_fails, guarded_ends, ends_free, ends_other}
+use Rattle.dav_engine.specs.Proppatch.{Change, changes_in, answered_at_once, to_store, has_refused, store_changes, change_all, proppatch_reply, patch_properties, proppatch_found, proppatch}
+use Rattle.dav_engine.specs.Response.{Response, Header, reply_to}
+use Rattle.dav_server.proofs.PlanStatuses.{Outcome, Any, Ends, ends_done, ends_ask, ends_look, ends_bind, ends_then, IsOther, AnswersOther, store_other, ends_guarded, ends_free}
 
 -- ---- PROPPATCH
 
@@ -54,12 +55,8 @@ module _ (E : DavError → Type 0) (P : ℕ → Type 0) (several : P 207) (store
 abbrev IsOtherStatus : ℕ → Type 0
 IsOtherStatus status = status ≢ 304
 
--- an error of a PROPPATCH reports one
-pub proppatch_ends : (c : Conditions) (p : PathText) (content : Body) (who : Client) → Ends IsFailure AnswersOther (proppatch c p content who)
-proppatch_ends c p content who =
-    ends_patching IsFailure IsOtherStatus (λ same. absurd (omega (arith, same))) (λ A answer. store_fails answer) (omega arith) c p content who
-    (λ found. guarded_ends dav.Status PropPatch c (Some found) (λ status above. above) refl)
-    (λ tokens q. ends_free false (requester who tokens) (names q) (dav.Status 423) (omega arith))
-
 pub ends_proppatch : (c : Conditions) (p : PathText) (content : Body) (who : Client) → Ends IsOther AnswersOther (proppatch c p content who)
-ends_proppatch c p content who = ends_other (proppatch_ends c p content who)
+ends_proppatch c p content who =
+    ends_patching IsOther IsOtherStatus (λ same. absurd (omega (arith, same))) (λ A answer. store_other answer) (λ same. absurd (omega (arith, same))) c p content who
+    (λ found. ends_guarded dav.Status PropPatch c (Some found) (λ status other. other) refl)
+    (λ tokens q. ends_free false (requester who tokens) (names q) (dav.Status 423) (λ same. absurd (omega (arith, same))))

@@ -69,14 +69,6 @@ pub fn not_modified_is_true()
     ensures { NotModifiedIsTrue }
 {}
 
-/// No update is lost: where a GET, or a PUT of a whole file, was answered with an entity tag, and a later PUT, PATCH, DELETE,
-/// COPY, MOVE or PROPPATCH asks for that tag by If-Match, or by a list of If, and is answered with success, the file at its
-/// path has right before it the bytes that the client was told, whatever came in between and whatever the store refused
-/// (RFC 9110, section 13.1.1; RFC 4918, section 10.4).
-pub fn no_update_is_lost()
-    ensures { NoLostUpdate }
-{}
-
 /// GET and HEAD leave the world and the list of locks, whatever the store refuses (RFC 9110, section 9.2.1).
 #[tactic(auto, using(crate::proofs::MeansWorld::reads_leave_all))]
 pub fn reading_leaves_all()
@@ -94,6 +86,14 @@ pub fn runs_keep_worlds()
 #[tactic(auto, using(crate::proofs::WriteLemmas::create_only_keeps))]
 pub fn creating_only_keeps_what_is_there()
     ensures { CreateOnlyKeeps }
+{}
+
+/// No update is lost: where a GET, or a PUT of a whole file, was answered with an entity tag, and a later PUT, PATCH, DELETE,
+/// COPY, MOVE or PROPPATCH asks for that tag by If-Match, or by a list of If, and is answered with success, the file at its
+/// path has right before it the bytes that the client was told, whatever came in between and whatever the store refused
+/// (RFC 9110, section 13.1.1; RFC 4918, section 10.4).
+pub fn no_update_is_lost()
+    ensures { NoLostUpdate }
 {}
 
 /// A request that is answered 412 or 423 leaves the world and the list of locks: a condition that fails, or a lock that
