@@ -1,6 +1,7 @@
 pub mod StatusLemmas
 pub mod KeptLemmas
 pub mod FoundLemmas
+pub mod TellLemmas
 pub mod DeclaringLemmas
 pub mod DateTextLemmas
 pub mod TellingLemmas

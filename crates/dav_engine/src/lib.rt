@@ -28,6 +28,7 @@ mod lock_headers;
 pub mod lock_token;
 mod lockinfo;
 pub mod locktree;
+mod members;
 pub mod multierror;
 mod propchanges;
 mod propquery;

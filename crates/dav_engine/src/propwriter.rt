@@ -1,15 +1,20 @@
 //! Properties of resources, as the reply to a request tells them (RFC 4918, sections 9.1, 14 and 15).
-ghost use Rattle.std.specs.Prelude.{◌≡◌, ◌++◌, ◌∷◌, [], IfOk, OnOk, OnErr};
+ghost use Rattle.std.specs.Prelude.{◌≡◌, ◌≤◌, ◌++◌, ◌∷◌, [], IfOk, IfErr, OnOk, OnErr};
 ghost use Rattle.std.specs.List.{list_any};
 ghost use Rattle.std.specs.Option.{option_copied};
 ghost use Rattle.dav_core.specs.Element.{named_by, with_children};
-ghost use Rattle.dav_engine.specs.Properties.{propstat, property_response, is_in, told_by, writer, telling_of};
+ghost use Rattle.dav_core.specs.World.{last_moment};
+ghost use Rattle.dav_core.specs.declared.errors.DavError.TheVariants as DavError;
+ghost use Rattle.dav_engine.specs.ConditionView.{locks_in};
+ghost use Rattle.dav_engine.specs.Giving.{StopsWith};
+ghost use Rattle.dav_engine.specs.Properties.{propstat, properties_of, property_response, is_in, told_by, writer, telling_of};
 ghost use Rattle.dav_engine.specs.Properties as spec;
 ghost use Rattle.dav_engine.specs.PropertyView.{groups_in};
-ghost use Rattle.dav_engine.specs.Writing.{started, BeginsReply};
+ghost use Rattle.dav_engine.specs.Writing.{alone, started, BeginsReply, Tells};
 ghost use Rattle.dav_engine.specs.Declaring.{declared, declares, opened};
 ghost use Rattle.dav_engine.specs.Multistatus.{multistatus};
 
+use crate::found::response_of;
 use crate::live::{Quota, is_in};
 use crate::multierror::{Sender, href, status_element};
 use crate::reply::{Reply, set_xml_type};
@@ -19,6 +24,8 @@ use crate::writer::Writer;
 use dav_core::davpath::DavPath;
 use dav_core::element::Element;
 use dav_core::errors::{DavResult, NoMemory};
+use dav_core::fs::{DavFileSystem, DavMetaData};
+use dav_core::ls::DavLockSystem;
 use http::StatusCode;
 use std::alloc::Global;
 use std::collections::BTreeMap;
@@ -180,12 +187,7 @@ impl PropWriter {
         let writer = Writer::new(alloc, telling, &request.headers, principal, props)?;
         set_xml_type(&mut reply.headers)?;
         reply.status = StatusCode::MULTI_STATUS;
-        Ok(PropWriter {
-            writer,
-            quota: None,
-            finished: Vec::new(alloc),
-            waiting: Vec::new(alloc),
-        })
+        Ok(PropWriter::started(alloc, writer))
     }
 
     /// Sends the responses to a list, which is empty; it is called once, before any is sent.
@@ -195,6 +197,70 @@ impl PropWriter {
         ensures { self.new ≡ self.old }
     {
         self.finished = tx;
+    }
+
+    // Nothing is written yet.
+    pub(crate) fn started(alloc: Global, writer: Writer) -> PropWriter
+        ensures { result ≡ started writer }
+    {
+        PropWriter {
+            writer,
+            quota: None,
+            finished: Vec::new(alloc),
+            waiting: Vec::new(alloc),
+        }
+    }
+
+    // Adds the response for what was found at a path.
+    pub(crate) fn tell<F: DavFileSystem, L: DavLockSystem>(
+        &mut self,
+        alloc: Global,
+        fs: &mut F,
+        ls: Option<&L>,
+        path: &DavPath,
+        meta: &DavMetaData,
+    ) -> Result<(), NoMemory>
+        requires created { meta.now.created ≤ last_moment }
+        requires modified { meta.now.modified ≤ last_moment }
+        ensures ok { OnOk result (Tells (locks_in L.locks ls.entry) alone
+            (properties_of self.old.writer path.now meta.now)
+            self.old self.new (F.state fs.old) (F.state fs.new)) }
+        ensures err { OnErr result (StopsWith (locks_in L.locks ls.entry)
+            (properties_of self.old.writer path.now meta.now self.old.quota)
+            (F.state fs.old) (F.state fs.new)) }
+        ensures stays { OnErr result (self.new ≡ record self.old { quota = self.new.quota }) }
+    {
+        let known = &mut self.quota;
+        let response = response_of(fs, ls, alloc, &self.writer, path, meta, known)?;
+        self.waiting.push(response)?;
+        Ok(())
+    }
+
+    /// Adds the response for what was found at a path, of which this is the metadata (RFC 4918, section 9.1): under 200 the
+    /// properties that are told and found, and then all that the store keeps there. What isn't found is left out, and where
+    /// nothing is, there is no status. The quota is asked for once, at the first property that wants it.
+    ///
+    /// `Memory` where memory runs out; the responses then stay as they were.
+    pub fn write_props<F: DavFileSystem, L: DavLockSystem>(
+        &mut self,
+        alloc: Global,
+        fs: &mut F,
+        ls: Option<&L>,
+        path: &DavPath,
+        meta: &DavMetaData,
+    ) -> DavResult<()>
+        requires created { meta.now.created ≤ last_moment }
+        requires modified { meta.now.modified ≤ last_moment }
+        ensures ok { OnOk result (Tells (locks_in L.locks ls.entry) alone
+            (properties_of self.old.writer path.now meta.now)
+            self.old self.new (F.state fs.old) (F.state fs.new)) }
+        ensures err { OnErr result (StopsWith (locks_in L.locks ls.entry)
+            (properties_of self.old.writer path.now meta.now self.old.quota)
+            (F.state fs.old) (F.state fs.new)) }
+        ensures stays { OnErr result (self.new ≡ record self.old { quota = self.new.quota }) }
+        ensures memory { IfErr result (λ e. e ≡ DavError.Memory) }
+    {
+        Ok(self.tell(alloc, fs, ls, path, meta)?)
     }
 
     /// Adds the response for one path: properties under their statuses, in rising order; a status without properties is
@@ -227,18 +293,26 @@ impl PropWriter {
         Ok(())
     }
 
-    /// The element with all responses that were written, in order (RFC 4918, section 14.16). It declares the namespaces of the
-    /// properties that are told, of those that the server knows, and none where outcomes are told.
-    pub fn close(mut self, alloc: Global) -> DavResult<Element>
+    // The element with all responses that were written, in order.
+    pub(crate) fn all_told(mut self, alloc: Global) -> Result<Element, NoMemory>
         ensures { IfOk result (λ e. e
             ≡ spec.told_by self.writer (self.finished ++ self.waiting)) }
     {
-        self.flush()?;
+        self.finished.append(&mut self.waiting)?;
         let PropWriter {
             writer,
             finished,
             ..
         } = self;
-        Ok(told_by(alloc, &writer, finished)?)
+        told_by(alloc, &writer, finished)
+    }
+
+    /// The element with all responses that were written, in order (RFC 4918, section 14.16). It declares the namespaces of the
+    /// properties that are told, of those that the server knows, and none where outcomes are told.
+    pub fn close(self, alloc: Global) -> DavResult<Element>
+        ensures { IfOk result (λ e. e
+            ≡ spec.told_by self.writer (self.finished ++ self.waiting)) }
+    {
+        Ok(self.all_told(alloc)?)
     }
 }
