@@ -298,7 +298,8 @@ impl PropWriter {
         ensures { IfOk result (λ e. e
             ≡ spec.told_by self.writer (self.finished ++ self.waiting)) }
     {
-        self.finished.append(&mut self.waiting)?;
+        let waiting = &mut self.waiting;
+        self.finished.append(waiting)?;
         let PropWriter {
             writer,
             finished,
