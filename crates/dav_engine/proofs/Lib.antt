@@ -1,3 +1,4 @@
+pub mod FindLemmas
 pub mod StatusLemmas
 pub mod KeptLemmas
 pub mod FoundLemmas
@@ -62,6 +63,7 @@ pub mod SparingPlans
 pub mod EndingLemmas
 pub mod EndingDelete
 pub mod EndingCopy
+pub mod EndingPropfind
 pub mod ListChangeLemmas
 pub mod CopyChanges
 pub mod SparingDelete

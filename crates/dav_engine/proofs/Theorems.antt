@@ -16,6 +16,7 @@ pub use Rattle.dav_engine.proofs.DeletedWorlds.{refused_delete_leaves_all}
 pub use Rattle.dav_engine.proofs.DeleteWorld.{only_delete_allowed, only_removal, delete_is_proper}
 pub use Rattle.dav_engine.proofs.EndingCopy.{copymove_keeps_locks}
 pub use Rattle.dav_engine.proofs.EndingDelete.{delete_keeps_locks}
+pub use Rattle.dav_engine.proofs.EndingPropfind.{answered_below, answered_itself}
 pub use Rattle.dav_engine.proofs.EndingLemmas.{kept_locks_stand, kept_locks_stand_cut, reading_keeps_locks, put_keeps_locks, mkcol_keeps_locks}
 pub use Rattle.dav_engine.proofs.Following.{follows_done, follows_ask, follows_on, follows_then, follows_err, follows_up_to, follows_out}
 pub use Rattle.dav_engine.proofs.GrantLemmas.{shared_guards, folders_are_above}

@@ -17,6 +17,7 @@ mod handle_delete;
 mod handle_lock;
 mod handle_mkcol;
 pub mod handle_options;
+mod handle_propfind;
 mod handle_proppatch;
 mod handle_put;
 mod handle_unlock;

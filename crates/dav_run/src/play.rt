@@ -282,6 +282,8 @@ fn write_replies<W: Write>(alloc: Global, replies: &[Reply], writer: &mut W) -> 
 #[cfg(test)]
 mod copying;
 #[cfg(test)]
+mod finding;
+#[cfg(test)]
 mod locking;
 #[cfg(test)]
 mod options;

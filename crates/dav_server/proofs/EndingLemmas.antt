@@ -20,7 +20,7 @@ use Rattle.dav_engine.proofs.Theorems.{kept_locks_stand, kept_locks_stand_cut, o
 use Rattle.dav_server.specs.Ending.{NoLockEnds, NoLockEndsCut, EndsNoLock}
 use Rattle.dav_server.specs.Get.{get, is_get}
 use Rattle.dav_server.specs.Head.{Request, IsHead}
-use Rattle.dav_server.specs.Machine.{Settings, Asked, PlanOf, gets, heads, puts, patches, makes, deletes, copies, moves, offers, sets_properties, locks, releases, not_yet, MeansOf, not_allowed, no_path, no_body, method, Means, no_head, no_method, known, StepCut, untouched, cut, steps}
+use Rattle.dav_server.specs.Machine.{Settings, Asked, PlanOf, gets, heads, puts, patches, makes, deletes, copies, moves, offers, finds_properties, sets_properties, locks, releases, MeansOf, not_allowed, no_path, no_body, method, Means, no_head, no_method, known, StepCut, untouched, cut, steps}
 use Rattle.dav_server.specs.Naming.{NamesToken, by_lock_token}
 use Rattle.dav_server.specs.Run.{Turn, begun}
 use Rattle.dav_server.specs.Server.{Server}
@@ -38,10 +38,10 @@ plan_keeps h {headers = headers} {p} {who = who} {plan = plan} stranger own unsa
 plan_keeps h {headers = headers} {p} {who = who} {plan = plan} stranger own unsaid (copies is) = copymove_keeps_locks h Copy headers p who plan stranger is
 plan_keeps h {headers = headers} {p} {who = who} {plan = plan} stranger own unsaid (moves is) = copymove_keeps_locks h Move headers p who plan stranger is
 plan_keeps h {allowed} {p = p} stranger own unsaid offers = reading_keeps_locks h (options allowed p) (options_only_reads allowed p)
+plan_keeps h {headers = headers} {p} {body} {who} {plan = plan} stranger own unsaid (finds_properties is) = reading_keeps_locks h plan (propfind_only_reads headers p body who plan is)
 plan_keeps h {headers = headers} {p} {body} {who} {plan = plan} stranger own unsaid (sets_properties is) = proppatch_keeps_locks h headers p body who plan is
 plan_keeps h {headers = headers} {p} {body} {who} {plan = plan} stranger own unsaid (locks is) = lock_keeps_locks h headers p body who plan own is
 plan_keeps h {headers = headers} {p} {who = who} {plan = plan} stranger own unsaid (releases is) = unlock_keeps_locks h headers p who plan unsaid is
-plan_keeps h stranger own unsaid (not_yet out) = keeps_done
 
 module _ (h : Lock) (x : Asked) (other : ¬ NamesToken x h.token) (own : x.token ≢ Some h.token) where
   of_keeps : {s : Settings} (r : Request) {m : DavMethod} {plan : MethodPlan Response} → IsHead x.head r → MeansOf s x r m plan → KeepsLock h plan

@@ -21,7 +21,7 @@ use Rattle.dav_server.specs.Get.{get, is_get}
 use Rattle.dav_server.specs.Head.{Request, IsHead}
 use Rattle.dav_server.specs.Headers.{headers_of}
 use Rattle.dav_server.specs.Holder.{HasNearDestination, MayHold, IsHolderRequest, unlocks, acts}
-use Rattle.dav_server.specs.Machine.{Settings, Asked, client, PlanOf, gets, heads, puts, patches, makes, deletes, copies, moves, offers, sets_properties, locks, releases, not_yet, MeansOf, not_allowed, no_path, no_body, method, Means, no_head, no_method, known}
+use Rattle.dav_server.specs.Machine.{Settings, Asked, client, PlanOf, gets, heads, puts, patches, makes, deletes, copies, moves, offers, finds_properties, sets_properties, locks, releases, MeansOf, not_allowed, no_path, no_body, method, Means, no_head, no_method, known}
 use Rattle.dav_server.specs.Method.{GivesServed}
 use Rattle.dav_server.specs.Target.{TargetNames}
 use Rattle.dav_server.proofs.AlongsideGet.{side_get}
@@ -97,10 +97,10 @@ module _ (h : Lock) (guard : IsGuard h) where
       let known = k (λ e. cc) in
       copymove_goes_along h Move (headers_of r.fields) p (client x) plan guard (below (λ e. cc)) known.within (near_for h (headers_of r.fields) p known.may) known.alone is
   plan_goes_along x r {allowed} {p = p} k u below offers = let known = k (λ e. cc) in options_goes_along h allowed p known.within
+  plan_goes_along x r {p = p} {body} {plan} k u below (finds_properties is) = let known = k (λ e. cc) in propfind_goes_along h (headers_of r.fields) p body (client x) plan known.within is
   plan_goes_along x r {p = p} {body} {plan} k u below (sets_properties is) = let known = k (λ e. cc) in proppatch_goes_along h (headers_of r.fields) p body (client x) plan guard known.within known.alone is
   plan_goes_along x r {p = p} {body} {plan} k u below (locks is) = let known = k (λ e. cc) in lock_goes_along h (headers_of r.fields) p body (client x) plan guard known.within known.alone is
   plan_goes_along x r {p = p} {plan = plan} k u below (releases is) = let known = u refl in unlock_goes_along h (headers_of r.fields) p (client x) plan guard known.within known.says is
-  plan_goes_along x r k u below (not_yet out) = side_err
 
   of_goes_along : (s : Settings) (x : Asked) (r : Request) {m : DavMethod} {plan : MethodPlan Response} → IsHolderRequest s h x → IsHead x.head r → GivesServed r.method (Ok m) → MeansOf s x r m plan → GoesAlong h plan
   of_goes_along s x r holder head gives (not_allowed out) = side_err

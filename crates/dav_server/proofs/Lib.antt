@@ -15,6 +15,7 @@ pub mod GetWorld
 pub mod MeansWorld
 pub mod TagLemmas
 pub mod PlanStatuses
+pub mod FindStatuses
 pub mod PropertyStatuses
 pub mod NotModified
 pub mod HeldConditions

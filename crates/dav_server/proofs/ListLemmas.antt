@@ -20,7 +20,7 @@ use Rattle.dav_engine.proofs.Theorems.{lists_are_changed, lists_are_changed_cut,
 use Rattle.dav_server.specs.Get.{get, is_get}
 use Rattle.dav_server.specs.Head.{Request}
 use Rattle.dav_server.specs.LockLists.{StepsChangeLists, StepsChangeListsCut, SharesLocks, IsHandedIn, TokensAreHandedIn}
-use Rattle.dav_server.specs.Machine.{Settings, Asked, client, PlanOf, gets, heads, puts, patches, makes, deletes, copies, moves, offers, sets_properties, locks, releases, not_yet, MeansOf, not_allowed, no_path, no_body, method, Means, no_head, no_method, known, Steps, StepCut, untouched, cut, steps}
+use Rattle.dav_server.specs.Machine.{Settings, Asked, client, PlanOf, gets, heads, puts, patches, makes, deletes, copies, moves, offers, finds_properties, sets_properties, locks, releases, MeansOf, not_allowed, no_path, no_body, method, Means, no_head, no_method, known, Steps, StepCut, untouched, cut, steps}
 use Rattle.dav_server.specs.Run.{Turn, begun, Runs, no_more, one_more}
 use Rattle.dav_server.specs.Server.{Server}
 use Rattle.dav_server.proofs.GetWorld.{get_is_reading}
@@ -35,10 +35,10 @@ plan_changes {headers = headers} {p} {who = who} {plan = plan} (deletes is) ls =
 plan_changes {headers = headers} {p} {who = who} {plan = plan} (copies is) ls = copymove_changes_list Copy headers p who ls plan is
 plan_changes {headers = headers} {p} {who = who} {plan = plan} (moves is) ls = copymove_changes_list Move headers p who ls plan is
 plan_changes {allowed} {p = p} {who = who} offers ls = reading_changes_list who ls (options allowed p) (options_only_reads allowed p)
+plan_changes {headers = headers} {p} {body} {who} {plan = plan} (finds_properties is) ls = reading_changes_list who ls plan (propfind_only_reads headers p body who plan is)
 plan_changes {headers = headers} {p} {body} {who} {plan = plan} (sets_properties is) ls = proppatch_changes_list headers p body who ls plan is
 plan_changes {headers = headers} {p} {body} {who} {plan = plan} (locks is) ls = lock_changes_list headers p body who ls plan is
 plan_changes {headers = headers} {p} {who = who} {plan = plan} (releases is) ls = unlock_changes_list headers p who ls plan is
-plan_changes (not_yet out) ls = changes_done
 
 module _ (x : Asked) (ls : List Lock) where
   of_changes : {s : Settings} {r : Request} {m : DavMethod} {plan : MethodPlan Response} → MeansOf s x r m plan → ChangesList (client x) ls plan

@@ -16,7 +16,7 @@ use Rattle.dav_engine.proofs.Theorems.{ran_same, ran_unset, one_conditions, one_
 use Rattle.dav_server.specs.Get.{get, IsGet, is_get}
 use Rattle.dav_server.specs.Head.{Request}
 use Rattle.dav_server.specs.Headers.{headers_of}
-use Rattle.dav_server.specs.Machine.{Settings, Asked, client, PlanOf, gets, heads, puts, patches, makes, deletes, copies, moves, offers, sets_properties, locks, releases, not_yet, MeansOf, not_allowed, no_path, no_body, method, Means, no_head, no_method, known, Steps, steps}
+use Rattle.dav_server.specs.Machine.{Settings, Asked, client, PlanOf, gets, heads, puts, patches, makes, deletes, copies, moves, offers, finds_properties, sets_properties, locks, releases, MeansOf, not_allowed, no_path, no_body, method, Means, no_head, no_method, known, Steps, steps}
 use Rattle.dav_server.specs.Method.{GivesServed}
 use Rattle.dav_server.specs.Run.{Turn, Runs, no_more, one_more, RunsAreDetermined}
 use Rattle.dav_server.proofs.HeadLemmas.{one_head}
@@ -35,42 +35,18 @@ never same = absurd (true≢false same)
 
 one_plan : {allowed : ℕ} {headers : Headers} {p : PathText} {body : Body} {who : Client} {m : DavMethod} {plan other : MethodPlan Response} → PlanOf allowed headers p body who m plan → PlanOf allowed headers p body who m other → plan ≡ other
 one_plan (gets one) (gets two) = one_get one two
-one_plan (gets one) (not_yet out) = never out
 one_plan (heads one) (heads two) = one_get one two
-one_plan (heads one) (not_yet out) = never out
 one_plan {headers} {p} {body} {who} {plan = plan} {other = other} (puts one) (puts two) = one_put_plan Put headers p body who plan other one two
-one_plan (puts one) (not_yet out) = never out
 one_plan {headers} {p} {body} {who} {plan = plan} {other = other} (patches one) (patches two) = one_put_plan Patch headers p body who plan other one two
-one_plan (patches one) (not_yet out) = never out
 one_plan {headers} {p} {who = who} {plan = plan} {other = other} (makes one) (makes two) = one_mkcol_plan headers p who plan other one two
-one_plan (makes one) (not_yet out) = never out
 one_plan {headers} {p} {who = who} {plan = plan} {other = other} (deletes one) (deletes two) = one_delete_plan headers p who plan other one two
-one_plan (deletes one) (not_yet out) = never out
 one_plan {headers} {p} {who = who} {plan = plan} {other = other} (copies one) (copies two) = one_copymove_plan Copy headers p who plan other one two
-one_plan (copies one) (not_yet out) = never out
 one_plan {headers} {p} {who = who} {plan = plan} {other = other} (moves one) (moves two) = one_copymove_plan Move headers p who plan other one two
-one_plan (moves one) (not_yet out) = never out
 one_plan offers offers = refl
-one_plan offers (not_yet out) = never out
+one_plan {headers} {p} {body} {who} {plan = plan} {other = other} (finds_properties one) (finds_properties two) = one_propfind_plan headers p body who plan other one two
 one_plan {headers} {p} {body} {who} {plan = plan} {other = other} (sets_properties one) (sets_properties two) = one_proppatch_plan headers p body who plan other one two
-one_plan (sets_properties one) (not_yet out) = never out
 one_plan {headers} {p} {body} {who} {plan = plan} {other = other} (locks one) (locks two) = one_lock_plan headers p body who plan other one two
-one_plan (locks one) (not_yet out) = never out
 one_plan {headers} {p} {who = who} {plan = plan} {other = other} (releases one) (releases two) = one_unlock_plan headers p who plan other one two
-one_plan (releases one) (not_yet out) = never out
-one_plan (not_yet out) (gets two) = never out
-one_plan (not_yet out) (heads two) = never out
-one_plan (not_yet out) (puts two) = never out
-one_plan (not_yet out) (patches two) = never out
-one_plan (not_yet out) (makes two) = never out
-one_plan (not_yet out) (deletes two) = never out
-one_plan (not_yet out) (copies two) = never out
-one_plan (not_yet out) (moves two) = never out
-one_plan (not_yet out) offers = never out
-one_plan (not_yet out) (sets_properties two) = never out
-one_plan (not_yet out) (locks two) = never out
-one_plan (not_yet out) (releases two) = never out
-one_plan (not_yet out) (not_yet also) = refl
 
 one_error : {A : Type 0} {e f : DavError} → ◌≡◌ {A = Result A DavError} (Err e) (Err f) → e ≡ f
 one_error same = cc

@@ -13,19 +13,18 @@ use Rattle.dav_core.specs.World.{IsWorld, last_moment}
 use Rattle.dav_core.proofs.Theorems.{Leaves-names, names_kept, cut_keeps_names, named_once, Reads-bytes}
 use Rattle.dav_engine.specs.declared.request.Body.{Body}
 use Rattle.dav_engine.specs.Client.{Client}
-use Rattle.dav_engine.specs.Conditions.{is_reading}
 use Rattle.dav_engine.specs.Headers.{Headers}
 use Rattle.dav_engine.specs.Method.{MethodPlan}
 use Rattle.dav_engine.specs.Plan.{Locks}
 use Rattle.dav_engine.specs.Response.{Response}
 use Rattle.dav_engine.specs.WorldLaws.{IsReading, reads_done, IsProperPlan, proper_done}
-use Rattle.dav_engine.proofs.Theorems.{Kept, kept_same, kept_on, put_is_proper, mkcol_is_proper, copymove_is_proper, delete_is_proper, lock_is_proper, options_is_proper, options_only_reads, unlock_is_proper, reading_leaves, proper_keeps, propfind_is_proper, proppatch_is_proper}
+use Rattle.dav_engine.proofs.Theorems.{Kept, kept_same, kept_on, put_is_proper, mkcol_is_proper, copymove_is_proper, delete_is_proper, lock_is_proper, options_is_proper, options_only_reads, unlock_is_proper, reading_leaves, proper_keeps, propfind_is_proper, propfind_only_reads, proppatch_is_proper}
 use Rattle.dav_server.specs.Get.{IsGet, is_get}
 use Rattle.dav_server.specs.Head.{Request, IsHead}
-use Rattle.dav_server.specs.Machine.{Settings, Asked, PlanOf, gets, heads, puts, patches, makes, deletes, copies, moves, offers, sets_properties, locks, releases, not_yet, MeansOf, not_allowed, no_path, no_body, method, Means, no_head, no_method, known, Steps, steps}
+use Rattle.dav_server.specs.Machine.{Settings, Asked, PlanOf, gets, heads, puts, patches, makes, deletes, copies, moves, offers, finds_properties, sets_properties, locks, releases, MeansOf, not_allowed, no_path, no_body, method, Means, no_head, no_method, known, Steps, steps}
 use Rattle.dav_server.specs.Method.{GivesServed}
 use Rattle.dav_server.specs.Run.{Turn, begun, Runs, no_more, one_more}
-use Rattle.dav_server.specs.TagLaws.{HasMethod, AreShowable, ReadingLeaves, RunsKeepWorlds}
+use Rattle.dav_server.specs.TagLaws.{HasMethod, AreShowable, is_safe, ReadingLeaves, RunsKeepWorlds}
 use Rattle.dav_server.specs.Target.{TargetNames, server, path}
 use Rattle.dav_server.proofs.GetWorld.{get_is_reading, get_is_proper}
 use Rattle.dav_server.proofs.HeadLemmas.{one_head}
@@ -93,10 +92,10 @@ plan_proper {headers} {p} {who = who} {plan = plan} storable below small (delete
 plan_proper {headers} {p} {who = who} {plan = plan} storable below small (copies is) = copymove_is_proper Copy headers p who plan small is
 plan_proper {headers} {p} {who = who} {plan = plan} storable below small (moves is) = copymove_is_proper Move headers p who plan small is
 plan_proper {allowed} {p = p} storable below small offers = options_is_proper allowed p
+plan_proper {headers} {p} {body} {who} {plan = plan} storable below small (finds_properties is) = propfind_is_proper headers p body who plan is
 plan_proper {headers} {p} {body} {who} {plan = plan} storable below small (sets_properties is) = proppatch_is_proper headers p body who plan is
 plan_proper {headers} {p} {body} {who} {plan = plan} storable below small (locks is) = lock_is_proper headers p body who plan storable (below (λ e. cc)) small is
 plan_proper {headers} {p} {who = who} {plan = plan} storable below small (releases is) = unlock_is_proper headers p who plan is
-plan_proper storable below small (not_yet out) = proper_done
 
 of_proper : {s : Settings} {x : Asked} {r : Request} {m : DavMethod} {plan : MethodPlan Response} → x.moment ≤ last_moment → MeansOf s x r m plan → IsProperPlan plan
 of_proper small (not_allowed out) = proper_done
@@ -149,7 +148,7 @@ pub asks_one : (x : Asked) {r : Request} (m : DavMethod) {n : DavMethod} → Has
 asks_one x {r} m {n} (q, head, gives) also too =
     one_method r.method n m too (subst (λ (h : Request). GivesServed h.method (Ok m)) (one_head x.head q r head also) gives)
 
-plan_reads : {allowed : ℕ} {headers : Headers} {p : PathText} {body : Body} {who : Client} {m : DavMethod} {plan : MethodPlan Response} → is_reading m ≡ true → PlanOf allowed headers p body who m plan → IsReading plan
+plan_reads : {allowed : ℕ} {headers : Headers} {p : PathText} {body : Body} {who : Client} {m : DavMethod} {plan : MethodPlan Response} → is_safe m ≡ true → PlanOf allowed headers p body who m plan → IsReading plan
 plan_reads {p = p} {who = who} is (gets (is_get c are)) = get_is_reading Get c (names p) who.moment
 plan_reads {p = p} {who = who} is (heads (is_get c are)) = get_is_reading Head c (names p) who.moment
 plan_reads is (puts out) = absurd (true≢false (sym is))
@@ -159,21 +158,21 @@ plan_reads is (deletes out) = absurd (true≢false (sym is))
 plan_reads is (copies out) = absurd (true≢false (sym is))
 plan_reads is (moves out) = absurd (true≢false (sym is))
 plan_reads {allowed} {p = p} is offers = options_only_reads allowed p
+plan_reads {headers} {p} {body} {who} {plan = plan} is (finds_properties out) = propfind_only_reads headers p body who plan out
 plan_reads is (sets_properties out) = absurd (true≢false (sym is))
 plan_reads is (locks out) = absurd (true≢false (sym is))
 plan_reads is (releases out) = absurd (true≢false (sym is))
-plan_reads is (not_yet out) = reads_done
 
-of_reads : {s : Settings} {x : Asked} {r : Request} {m : DavMethod} {plan : MethodPlan Response} → is_reading m ≡ true → MeansOf s x r m plan → IsReading plan
+of_reads : {s : Settings} {x : Asked} {r : Request} {m : DavMethod} {plan : MethodPlan Response} → is_safe m ≡ true → MeansOf s x r m plan → IsReading plan
 of_reads is (not_allowed out) = reads_done
 of_reads is (no_path e has none) = reads_done
 of_reads is (no_body p e has named bad) = reads_done
 of_reads is (method p body has named good plan) = plan_reads is plan
 
-means_reads : {s : Settings} (x : Asked) (m : DavMethod) {plan : MethodPlan Response} → HasMethod m x → is_reading m ≡ true → Means s x plan → IsReading plan
+means_reads : {s : Settings} (x : Asked) (m : DavMethod) {plan : MethodPlan Response} → HasMethod m x → is_safe m ≡ true → Means s x plan → IsReading plan
 means_reads x m asks is (no_head out) = reads_done
 means_reads x m asks is (no_method r e head gives) = reads_done
-means_reads x m asks is (known r n head gives means) = of_reads (ap is_reading (asks_one x m asks head gives) ∙ is) means
+means_reads x m asks is (known r n head gives means) = of_reads (ap is_safe (asks_one x m asks head gives) ∙ is) means
 
 pub reads_leave_all : ReadingLeaves
 reads_leave_all s x old new ls ms reply m asks is (steps plan outcome means ran) = reading_leaves (means_reads x m asks is means) ran

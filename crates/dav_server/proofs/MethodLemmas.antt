@@ -13,25 +13,26 @@ use Rattle.dav_engine.specs.Headers.{Headers}
 use Rattle.dav_engine.specs.Method.{MethodPlan}
 use Rattle.dav_engine.specs.Options.{options}
 use Rattle.dav_engine.specs.Response.{Response}
-use Rattle.dav_server.specs.Machine.{is_done, PlanOf, offers}
+use Rattle.dav_server.specs.Machine.{PlanOf, offers}
 
-pub is_not_done : (m : DavMethod) → m ≢ Get → m ≢ Head → m ≢ Put → m ≢ Patch → m ≢ Options → m ≢ PropPatch → m ≢ MkCol → m ≢ Copy → m ≢ Move → m ≢ Delete → m ≢ Lock → m ≢ Unlock → is_done m ≡ false
-is_not_done Head g h p q o t k c v d l u = absurd (h refl)
-is_not_done Get g h p q o t k c v d l u = absurd (g refl)
-is_not_done Put g h p q o t k c v d l u = absurd (p refl)
-is_not_done Patch g h p q o t k c v d l u = absurd (q refl)
-is_not_done Options g h p q o t k c v d l u = absurd (o refl)
-is_not_done PropFind g h p q o t k c v d l u = refl
-is_not_done PropPatch g h p q o t k c v d l u = absurd (t refl)
-is_not_done MkCol g h p q o t k c v d l u = absurd (k refl)
-is_not_done Copy g h p q o t k c v d l u = absurd (c refl)
-is_not_done Move g h p q o t k c v d l u = absurd (v refl)
-is_not_done Delete g h p q o t k c v d l u = absurd (d refl)
-is_not_done Lock g h p q o t k c v d l u = absurd (l refl)
-is_not_done Unlock g h p q o t k c v d l u = absurd (u refl)
-is_not_done Report g h p q o t k c v d l u = refl
-is_not_done MkCalendar g h p q o t k c v d l u = refl
-is_not_done MkAddressbook g h p q o t k c v d l u = refl
+-- a method that is served is one of these
+pub is_one : {A : Type 0} (m : DavMethod) → IsServed m → m ≢ Get → m ≢ Head → m ≢ Put → m ≢ Patch → m ≢ Options → m ≢ PropFind → m ≢ PropPatch → m ≢ MkCol → m ≢ Copy → m ≢ Move → m ≢ Delete → m ≢ Lock → m ≢ Unlock → A
+is_one Head is g h p q o f t k c v d l u = absurd (h refl)
+is_one Get is g h p q o f t k c v d l u = absurd (g refl)
+is_one Put is g h p q o f t k c v d l u = absurd (p refl)
+is_one Patch is g h p q o f t k c v d l u = absurd (q refl)
+is_one Options is g h p q o f t k c v d l u = absurd (o refl)
+is_one PropFind is g h p q o f t k c v d l u = absurd (f refl)
+is_one PropPatch is g h p q o f t k c v d l u = absurd (t refl)
+is_one MkCol is g h p q o f t k c v d l u = absurd (k refl)
+is_one Copy is g h p q o f t k c v d l u = absurd (c refl)
+is_one Move is g h p q o f t k c v d l u = absurd (v refl)
+is_one Delete is g h p q o f t k c v d l u = absurd (d refl)
+is_one Lock is g h p q o f t k c v d l u = absurd (l refl)
+is_one Unlock is g h p q o f t k c v d l u = absurd (u refl)
+is_one Report is g h p q o f t k c v d l u = absurd is
+is_one MkCalendar is g h p q o f t k c v d l u = absurd is
+is_one MkAddressbook is g h p q o f t k c v d l u = absurd is
 
 -- a method that is served is among the first thirteen
 pub served_within : (m : DavMethod) → IsServed m → place_of m < 13

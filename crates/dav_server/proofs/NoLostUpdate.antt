@@ -39,7 +39,7 @@ use Rattle.dav_engine.specs.WorldLaws.{IsReading}
 use Rattle.dav_engine.proofs.Theorems.{Did, did, did_leave, ran_outcome, look_reads, looks, only_done, only_ask, only_bind, only_require, only_reads, one_conditions}
 use Rattle.dav_server.specs.Head.{Request}
 use Rattle.dav_server.specs.Headers.{headers_of}
-use Rattle.dav_server.specs.Machine.{Settings, Asked, TakesBytes, taken_by, body_for, PlanOf, gets, heads, puts, patches, makes, deletes, copies, moves, offers, sets_properties, locks, releases, not_yet, MeansOf, not_allowed, no_path, no_body, method, Means, no_head, no_method, known, Steps, steps}
+use Rattle.dav_server.specs.Machine.{Settings, Asked, TakesBytes, taken_by, body_for, PlanOf, gets, heads, puts, patches, makes, deletes, copies, moves, offers, finds_properties, sets_properties, locks, releases, MeansOf, not_allowed, no_path, no_body, method, Means, no_head, no_method, known, Steps, steps}
 use Rattle.dav_server.specs.Method.{GivesServed}
 use Rattle.dav_server.specs.Run.{Turn, begun, Runs, no_more, one_more}
 use Rattle.dav_server.specs.TagLaws.{AreShowable}
@@ -181,12 +181,12 @@ plan_held {headers = headers} {p} {who = who} {plan = plan} tag outcome {old} {n
     let (r, is) = succeeded AnswersOther outcome (ran_ends (copymove_ends Move headers h p who refl are) ran) good in
     copymove_held Move h p who tag (asked_for headers p h.conditions tag are.conditions asks) (subst (λ (o : Result Response DavError). Ran Asking plan old ls o new ms) is ran)
 plan_held tag outcome updates asks offers ran good = absurd (true≢false (sym updates))
+plan_held tag outcome updates asks (finds_properties other) ran good = absurd (true≢false (sym updates))
 plan_held {headers = headers} {p} {given} {who} {plan = plan} tag outcome {old} {new} {ls} {ms} updates asks (sets_properties (is_proppatch c are)) ran good =
     let (r, is) = succeeded AnswersOther outcome (ran_ends (proppatch_ends c p given who) ran) good in
     proppatch_held c p given who tag (asked_for headers p c tag are asks) (subst (λ (o : Result Response DavError). Ran Asking plan old ls o new ms) is ran)
 plan_held tag outcome updates asks (locks is) ran good = absurd (true≢false (sym updates))
 plan_held tag outcome updates asks (releases is) ran good = absurd (true≢false (sym updates))
-plan_held tag outcome updates asks (not_yet out) ran good = failed_held {e = dav.Status 501} outcome (omega arith) ran good
 
 of_held : {s : Settings} {x : Asked} {r : Request} {m : DavMethod} {plan : MethodPlan Response} (p : PathText) (tag : EntityTag) (outcome : Result Response DavError) {old new : StoreState} {ls ms : Locks}
     → is_update m ≡ true → TargetNames s.prefix m r.target (Ok p) → AsksForTag (headers_of r.fields) tag
@@ -264,10 +264,10 @@ plan_stands bytes tag outcome puts_it range is world storable small (deletes oth
 plan_stands bytes tag outcome puts_it range is world storable small (copies other) ran among = absurd (cc)
 plan_stands bytes tag outcome puts_it range is world storable small (moves other) ran among = absurd (cc)
 plan_stands bytes tag outcome puts_it range is world storable small offers ran among = absurd (cc)
+plan_stands bytes tag outcome puts_it range is world storable small (finds_properties other) ran among = absurd (cc)
 plan_stands bytes tag outcome puts_it range is world storable small (sets_properties other) ran among = absurd (cc)
 plan_stands bytes tag outcome puts_it range is world storable small (locks other) ran among = absurd (cc)
 plan_stands bytes tag outcome puts_it range is world storable small (releases other) ran among = absurd (cc)
-plan_stands bytes tag outcome puts_it range is world storable small (not_yet out) ran among = failed_untagged (dav.Status 501) outcome tag ran among
 
 of_stands : {s : Settings} {x : Asked} {r : Request} {m : DavMethod} {plan : MethodPlan Response} (bytes tag : List ℕ) (outcome : Result Response DavError) {old new : StoreState} {ls ms : Locks}
     → m ≡ Put → get_all (headers_of r.fields) (codes "content-range") ≡ [] → bytes_of_body x.body ≡ Some bytes → IsWorld old.world → x.moment ≤ last_moment

@@ -35,13 +35,15 @@ use Rattle.dav_engine.specs.Put.{bytes_of_body, is_put}
 use Rattle.dav_engine.specs.Response.{Response, reply_to}
 use Rattle.dav_engine.specs.Lock.{is_lock}
 use Rattle.dav_engine.specs.Unlock.{is_unlock}
+use Rattle.dav_engine.specs.Propfind.{is_propfind}
 use Rattle.dav_engine.specs.Proppatch.{is_proppatch}
+use Rattle.dav_server.proofs.FindStatuses.{ends_propfind}
 use Rattle.dav_server.proofs.PropertyStatuses.{ends_proppatch}
 use Rattle.dav_engine.proofs.Theorems.{Did, did, ran_split, ran_outcome}
 use Rattle.dav_server.specs.Get.{not_modified, show_or_tell, judged, get, is_get}
 use Rattle.dav_server.specs.Head.{Request}
 use Rattle.dav_server.specs.Headers.{headers_of}
-use Rattle.dav_server.specs.Machine.{Settings, Asked, Taken, TakesBytes, TakesTree, TakesNone, taken_by, body_for, PlanOf, gets, heads, puts, patches, makes, deletes, copies, moves, offers, sets_properties, locks, releases, not_yet, MeansOf, not_allowed, no_path, no_body, method, Means, no_head, no_method, known, Steps, steps}
+use Rattle.dav_server.specs.Machine.{Settings, Asked, Taken, TakesBytes, TakesTree, TakesNone, taken_by, body_for, PlanOf, gets, heads, puts, patches, makes, deletes, copies, moves, offers, finds_properties, sets_properties, locks, releases, MeansOf, not_allowed, no_path, no_body, method, Means, no_head, no_method, known, Steps, steps}
 use Rattle.dav_server.specs.Method.{GivesServed}
 use Rattle.dav_server.specs.Run.{Turn, begun, Runs, no_more, one_more}
 use Rattle.dav_server.specs.TagLaws.{AreShowable, LacksTag, NotModifiedIsTrue}
@@ -180,10 +182,10 @@ plan_304 {p = p} {who = who} tag outcome says (deletes (is_delete h are)) ran is
 plan_304 {headers = headers} {p} {who = who} tag outcome says (copies (is_copy_move h are)) ran is = absurd (other_status outcome (ran_ends (ends_copymove Copy headers h p who refl are) ran) is)
 plan_304 {headers = headers} {p} {who = who} tag outcome says (moves (is_copy_move h are)) ran is = absurd (other_status outcome (ran_ends (ends_copymove Move headers h p who refl are) ran) is)
 plan_304 {allowed} {p = p} tag outcome says offers ran is = absurd (other_status outcome (ran_ends (ends_options allowed p) ran) is)
+plan_304 {headers = headers} {p} {given} {who} tag outcome says (finds_properties (is_propfind h are)) ran is = absurd (other_status outcome (ran_ends (ends_propfind h headers given who p) ran) is)
 plan_304 {p = p} {given} {who} tag outcome says (sets_properties (is_proppatch c are)) ran is = absurd (other_status outcome (ran_ends (ends_proppatch c p given who) ran) is)
 plan_304 {p = p} {given} {who} tag outcome says (locks (is_lock h are)) ran is = absurd (other_status outcome (ran_ends (ends_lock h p given who) ran) is)
 plan_304 {p = p} tag outcome says (releases (is_unlock token said)) ran is = absurd (other_status outcome (ran_ends (ends_unlock token p) ran) is)
-plan_304 tag outcome says (not_yet out) ran is = failed_status {e = dav.Status 501} (λ same. absurd (omega (arith, same))) ran is
 
 pub one_value : {A : Type 0} {a b : A} → ◌≡◌ {A = Result A DavError} (Ok a) (Ok b) → a ≡ b
 one_value same = cc

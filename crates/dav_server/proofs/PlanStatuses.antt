@@ -373,7 +373,7 @@ ends_mkcol c p who =
 -- ---- DELETE
 
 -- a plan that no error ends
-gives_ends : {E : DavError → Type 0} {A : Type 0} {P : A → Type 0} {plan : MethodPlan A} → Gives P plan → Ends E P plan
+pub gives_ends : {E : DavError → Type 0} {A : Type 0} {P : A → Type 0} {plan : MethodPlan A} → Gives P plan → Ends E P plan
 gives_ends (gives_done is) = ends_done is
 gives_ends (gives_ask more) = ends_ask (λ answer. gives_ends (more answer))
 gives_ends (gives_look more) = ends_look (λ ls. gives_ends (more ls))

@@ -36,7 +36,7 @@ use Rattle.dav_server.proofs.PropertyStatuses.{ends_patching}
 use Rattle.dav_engine.proofs.Theorems.{Did, stays, means, did, only_guarded, only_free, only_copy_allowed, refused_copymove_leaves_all, look_reads, only_put_allowed, only_mkcol_allowed, only_delete_allowed, only_require, Only, only_done, only_ask, only_look, only_reads, reading_leaves, ran_split, only_asked, only_token, options_only_reads, refused_delete_leaves_all, refused_lock_leaves_all, refused_unlock_leaves_all, propfind_only_reads, refused_proppatch_leaves_all}
 use Rattle.dav_server.specs.Get.{is_get}
 use Rattle.dav_server.specs.Head.{Request}
-use Rattle.dav_server.specs.Machine.{Settings, Asked, client, PlanOf, gets, heads, puts, patches, makes, deletes, copies, moves, offers, sets_properties, locks, releases, not_yet, MeansOf, not_allowed, no_path, no_body, method, no_head, no_method, known, steps}
+use Rattle.dav_server.specs.Machine.{Settings, Asked, client, PlanOf, gets, heads, puts, patches, makes, deletes, copies, moves, offers, finds_properties, sets_properties, locks, releases, MeansOf, not_allowed, no_path, no_body, method, no_head, no_method, known, steps}
 use Rattle.dav_server.specs.Method.{GivesServed}
 use Rattle.dav_server.specs.WriteLaws.{IsRefusedStatus, RefusedLeaves}
 use Rattle.dav_server.proofs.GetWorld.{get_is_reading}
@@ -260,10 +260,10 @@ plan_leaves {p = p} {who = who} outcome fresh refused (deletes (is_delete h are)
 plan_leaves {p = p} {who = who} outcome fresh refused (copies (is_copy_move h are)) ran = copymove_leaves Copy h p who outcome refused ran
 plan_leaves {p = p} {who = who} outcome fresh refused (moves (is_copy_move h are)) ran = copymove_leaves Move h p who outcome refused ran
 plan_leaves {allowed} {p = p} outcome fresh refused offers ran = reading_leaves (options_only_reads allowed p) ran
+plan_leaves {headers = headers} {p} {given} {who} {plan = plan} outcome fresh refused (finds_properties is) ran = reading_leaves (propfind_only_reads headers p given who plan is) ran
 plan_leaves {headers = headers} {p} {given} {who} {plan = plan} outcome fresh refused (sets_properties is) ran = proppatch_leaves headers p given who plan outcome refused is ran
 plan_leaves {headers = headers} {p} {given} {who} {plan = plan} outcome fresh refused (locks is) ran = lock_leaves headers p given who plan outcome (fresh refl) refused is ran
 plan_leaves {headers = headers} {p} {who = who} {plan = plan} outcome fresh refused (releases is) ran = unlock_leaves headers p who plan outcome refused is ran
-plan_leaves outcome fresh refused (not_yet out) ran = reading_leaves reads_done ran
 
 of_leaves : {s : Settings} {x : Asked} {r : Request} {m : DavMethod} {plan : MethodPlan Response} (outcome : Result Response DavError) {old new : StoreState} {ls ms : Locks}
     → (m ≡ LockMethod → IsNewToken (client x) ls) → IsRefusedStatus (reply_to outcome).status → MeansOf s x r m plan → Ran Asking plan old ls outcome new ms → Same old ls new ms

@@ -18,7 +18,7 @@ use Rattle.dav_engine.proofs.Theorems.{some_conditions, some_put_plan, some_mkco
 use Rattle.dav_server.specs.Get.{get, IsGet, is_get}
 use Rattle.dav_server.specs.Head.{Request, IsHead}
 use Rattle.dav_server.specs.Headers.{headers_of}
-use Rattle.dav_server.specs.Machine.{Settings, Asked, client, taken_by, body_for, PlanOf, gets, heads, puts, patches, makes, deletes, copies, moves, offers, sets_properties, locks, releases, not_yet, MeansOf, not_allowed, no_path, no_body, method, no_head, no_method, known}
+use Rattle.dav_server.specs.Machine.{Settings, Asked, client, taken_by, body_for, PlanOf, gets, heads, puts, patches, makes, deletes, copies, moves, offers, finds_properties, sets_properties, locks, releases, MeansOf, not_allowed, no_path, no_body, method, no_head, no_method, known}
 use Rattle.dav_server.specs.Method.{IsServed}
 use Rattle.dav_server.specs.Run.{RequestsHavePlans}
 use Rattle.dav_server.specs.Target.{HasPathText, formless, invalid, climbing, TargetNames, server, reserved, unreadable, outside, path}
@@ -40,45 +40,48 @@ some_get : (m : DavMethod) (headers : Headers) (p : PathText) (now : ℕ) → ¬
 some_get m headers p now without =
     some_conditions headers p.prefix (names p) (λ c is. without (get m c (names p) now) (is_get c is))
 
--- no method is without a plan
-some_plan_of : (allowed : ℕ) (headers : Headers) (p : PathText) (body : Body) (who : Client) (m : DavMethod) → ¬ ((plan : MethodPlan Response) → ¬ PlanOf allowed headers p body who m plan)
-some_plan_of allowed headers p body who Get without = some_get Get headers p who.moment (λ plan is. without plan (gets is))
-some_plan_of allowed headers p body who Head without = some_get Head headers p who.moment (λ plan is. without plan (heads is))
-some_plan_of allowed headers p body who Put without = some_put_plan Put headers p body who (λ plan is. without plan (puts is))
-some_plan_of allowed headers p body who Patch without = some_put_plan Patch headers p body who (λ plan is. without plan (patches is))
-some_plan_of allowed headers p body who MkCol without = some_mkcol_plan headers p who (λ plan is. without plan (makes is))
-some_plan_of allowed headers p body who Delete without = some_delete_plan headers p who (λ plan is. without plan (deletes is))
-some_plan_of allowed headers p body who Copy without = some_copymove_plan Copy headers p who (λ plan is. without plan (copies is))
-some_plan_of allowed headers p body who Move without = some_copymove_plan Move headers p who (λ plan is. without plan (moves is))
-some_plan_of allowed headers p body who Options without = without (options allowed p) offers
-some_plan_of allowed headers p body who PropPatch without = some_proppatch_plan headers p body who (λ plan is. without plan (sets_properties is))
-some_plan_of allowed headers p body who Lock without = some_lock_plan headers p body who (λ plan is. without plan (locks is))
-some_plan_of allowed headers p body who Unlock without = some_unlock_plan headers p who (λ plan is. without plan (releases is))
-some_plan_of allowed headers p body who _ without = without (fails (dav.Status 501)) (not_yet refl)
+-- no method that is served is without a plan
+some_plan_of : (allowed : ℕ) (headers : Headers) (p : PathText) (body : Body) (who : Client) (m : DavMethod) → IsServed m → ¬ ((plan : MethodPlan Response) → ¬ PlanOf allowed headers p body who m plan)
+some_plan_of allowed headers p body who Get is without = some_get Get headers p who.moment (λ plan is. without plan (gets is))
+some_plan_of allowed headers p body who Head is without = some_get Head headers p who.moment (λ plan is. without plan (heads is))
+some_plan_of allowed headers p body who Put is without = some_put_plan Put headers p body who (λ plan is. without plan (puts is))
+some_plan_of allowed headers p body who Patch is without = some_put_plan Patch headers p body who (λ plan is. without plan (patches is))
+some_plan_of allowed headers p body who MkCol is without = some_mkcol_plan headers p who (λ plan is. without plan (makes is))
+some_plan_of allowed headers p body who Delete is without = some_delete_plan headers p who (λ plan is. without plan (deletes is))
+some_plan_of allowed headers p body who Copy is without = some_copymove_plan Copy headers p who (λ plan is. without plan (copies is))
+some_plan_of allowed headers p body who Move is without = some_copymove_plan Move headers p who (λ plan is. without plan (moves is))
+some_plan_of allowed headers p body who Options is without = without (options allowed p) offers
+some_plan_of allowed headers p body who PropFind is without = some_propfind_plan headers p body who (λ plan is. without plan (finds_properties is))
+some_plan_of allowed headers p body who PropPatch is without = some_proppatch_plan headers p body who (λ plan is. without plan (sets_properties is))
+some_plan_of allowed headers p body who Lock is without = some_lock_plan headers p body who (λ plan is. without plan (locks is))
+some_plan_of allowed headers p body who Unlock is without = some_unlock_plan headers p who (λ plan is. without plan (releases is))
+some_plan_of allowed headers p body who Report is without = is
+some_plan_of allowed headers p body who MkCalendar is without = is
+some_plan_of allowed headers p body who MkAddressbook is without = is
 
 -- nor a request whose head, method and path are known, whatever its body is
-some_with_body : (s : Settings) (x : Asked) (r : Request) (m : DavMethod) (p : PathText) → Has s.allowed m → TargetNames s.prefix m r.target (Ok p)
+some_with_body : (s : Settings) (x : Asked) (r : Request) (m : DavMethod) (p : PathText) → IsServed m → Has s.allowed m → TargetNames s.prefix m r.target (Ok p)
     → (given : Result Body DavError) → body_for (taken_by m) x.body ≡ given → ¬ ((plan : MethodPlan Response) → ¬ MeansOf s x r m plan)
-some_with_body s x r m p has named (Err e) is without = without (fails e) (no_body p e has named is)
-some_with_body s x r m p has named (Ok body) is without =
-    some_plan_of s.allowed (headers_of r.fields) p body (client x) m (λ plan planned. without plan (method p body has named is planned))
+some_with_body s x r m p served has named (Err e) is without = without (fails e) (no_body p e has named is)
+some_with_body s x r m p served has named (Ok body) is without =
+    some_plan_of s.allowed (headers_of r.fields) p body (client x) m served (λ plan planned. without plan (method p body has named is planned))
 
 -- nor one whose head and method are known, whatever its target names
-some_with_target : (s : Settings) (x : Asked) (r : Request) (m : DavMethod) → Has s.allowed m → (outcome : Result PathText DavError) → TargetNames s.prefix m r.target outcome
+some_with_target : (s : Settings) (x : Asked) (r : Request) (m : DavMethod) → IsServed m → Has s.allowed m → (outcome : Result PathText DavError) → TargetNames s.prefix m r.target outcome
     → ¬ ((plan : MethodPlan Response) → ¬ MeansOf s x r m plan)
-some_with_target s x r m has (Err e) named without = without (fails e) (no_path e has named)
-some_with_target s x r m has (Ok p) named without =
-    some_with_body s x r m p has named (body_for (taken_by m) x.body) refl without
+some_with_target s x r m served has (Err e) named without = without (fails e) (no_path e has named)
+some_with_target s x r m served has (Ok p) named without =
+    some_with_body s x r m p served has named (body_for (taken_by m) x.body) refl without
 
-some_means_of : (s : Settings) (x : Asked) (r : Request) (m : DavMethod) → ¬ ((plan : MethodPlan Response) → ¬ MeansOf s x r m plan)
-some_means_of s x r m without =
-    let barred : ¬ Has s.allowed m = λ has. some_outcome s.prefix m r.target (λ outcome named. some_with_target s x r m has outcome named without) in
+some_means_of : (s : Settings) (x : Asked) (r : Request) (m : DavMethod) → IsServed m → ¬ ((plan : MethodPlan Response) → ¬ MeansOf s x r m plan)
+some_means_of s x r m served without =
+    let barred : ¬ Has s.allowed m = λ has. some_outcome s.prefix m r.target (λ outcome named. some_with_target s x r m served has outcome named without) in
     without (fails (dav.StatusClose 405)) (not_allowed barred)
 
 pub requests_have_plans : RequestsHavePlans
 requests_have_plans s x without =
     let headless : (r : Request) → ¬ IsHead x.head r = λ r is.
     let unknown : (m : DavMethod) → IsServed m → r.method ≢ method_name m = λ m served named.
-    some_means_of s x r m (λ plan means. without plan (known r m is (served, named) means)) in
+    some_means_of s x r m served (λ plan means. without plan (known r m is (served, named) means)) in
     without (fails dav.UnknownDavMethod) (no_method r dav.UnknownDavMethod is (refl, unknown)) in
     without (fails (dav.Status 400)) (no_head headless)

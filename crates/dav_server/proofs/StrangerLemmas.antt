@@ -28,7 +28,7 @@ use Rattle.dav_engine.proofs.Theorems.{sparing_leaves_covered, sparing_leaves_co
 use Rattle.dav_server.specs.Get.{get, is_get}
 use Rattle.dav_server.specs.Head.{Request, IsHead}
 use Rattle.dav_server.specs.Headers.{headers_of}
-use Rattle.dav_server.specs.Machine.{Settings, Asked, client, PlanOf, gets, heads, puts, patches, makes, deletes, copies, moves, offers, sets_properties, locks, releases, not_yet, MeansOf, not_allowed, no_path, no_body, method, Means, no_head, no_method, known, StepCut, untouched, cut, steps}
+use Rattle.dav_server.specs.Machine.{Settings, Asked, client, PlanOf, gets, heads, puts, patches, makes, deletes, copies, moves, offers, finds_properties, sets_properties, locks, releases, MeansOf, not_allowed, no_path, no_body, method, Means, no_head, no_method, known, StepCut, untouched, cut, steps}
 use Rattle.dav_server.specs.Naming.{NamesLock, by_if}
 use Rattle.dav_server.specs.Passing.{NoLockIsPassed, NoLockIsPassedCut, PassesNoLock}
 use Rattle.dav_server.specs.Run.{Turn, begun}
@@ -89,10 +89,10 @@ module _ (h : Lock) (exclusive : h.shared ≡ false) (x : Asked) (other : ¬ Nam
   plan_spares r head {p = p} {plan = plan} below (copies is) = both h plan (copymove_spares h Copy (headers_of r.fields) p (client x) plan exclusive (below (λ e. cc)) (is_stranger h x r head p other) is)
   plan_spares r head {p = p} {plan = plan} below (moves is) = both h plan (copymove_spares h Move (headers_of r.fields) p (client x) plan exclusive (below (λ e. cc)) (is_stranger h x r head p other) is)
   plan_spares r head {allowed} {p} below offers = both h (options allowed p) (reading_spares h (options allowed p) (options_only_reads allowed p))
+  plan_spares r head {p = p} {body} {plan = plan} below (finds_properties is) = both h plan (reading_spares h plan (propfind_only_reads (headers_of r.fields) p body (client x) plan is))
   plan_spares r head {p = p} {body} {plan = plan} below (sets_properties is) = both h plan (proppatch_spares h (headers_of r.fields) p body (client x) plan exclusive (is_stranger h x r head p other) is)
   plan_spares r head {p = p} {body} {plan = plan} below (locks is) = lock_spares h (headers_of r.fields) p body (client x) plan exclusive own is
   plan_spares r head {p = p} {plan = plan} below (releases is) = both h plan (unlock_spares h (headers_of r.fields) p (client x) plan is)
-  plan_spares r head below (not_yet out) = (spares_err, λ guard. spares_err)
 
   of_spares : (r : Request) → IsHead x.head r → {s : Settings} {m : DavMethod} {plan : MethodPlan Response} → MeansOf s x r m plan → Spares h plan
   of_spares r head (not_allowed out) = (spares_err, λ guard. spares_err)

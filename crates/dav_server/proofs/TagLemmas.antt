@@ -17,7 +17,7 @@ use Rattle.dav_engine.specs.Response.{Response, reply_to}
 use Rattle.dav_engine.proofs.Theorems.{Kept, ran_outcome}
 use Rattle.dav_server.specs.Get.{is_get}
 use Rattle.dav_server.specs.Head.{Request}
-use Rattle.dav_server.specs.Machine.{Settings, Asked, PlanOf, gets, heads, puts, patches, makes, deletes, copies, moves, offers, sets_properties, locks, releases, not_yet, MeansOf, not_allowed, no_path, no_body, method, Means, no_head, no_method, known, Steps, steps}
+use Rattle.dav_server.specs.Machine.{Settings, Asked, PlanOf, gets, heads, puts, patches, makes, deletes, copies, moves, offers, finds_properties, sets_properties, locks, releases, MeansOf, not_allowed, no_path, no_body, method, Means, no_head, no_method, known, Steps, steps}
 use Rattle.dav_server.specs.Run.{Turn, begun, Runs, no_more, one_more}
 use Rattle.dav_server.specs.TagLaws.{HasMethod, Shows, ShownIn, AreShowable, TagsTellBytes}
 use Rattle.dav_server.proofs.GetWorld.{Stands, Known, get_shows, error_shows_none, stands_known, known_bytes}
@@ -44,10 +44,10 @@ plan_shows outcome tag bytes is world (deletes other) ran shows = absurd (cc)
 plan_shows outcome tag bytes is world (copies other) ran shows = absurd (cc)
 plan_shows outcome tag bytes is world (moves other) ran shows = absurd (cc)
 plan_shows outcome tag bytes is world offers ran shows = absurd (cc)
+plan_shows outcome tag bytes is world (finds_properties other) ran shows = absurd (cc)
 plan_shows outcome tag bytes is world (sets_properties other) ran shows = absurd (cc)
 plan_shows outcome tag bytes is world (locks other) ran shows = absurd (cc)
 plan_shows outcome tag bytes is world (releases other) ran shows = absurd (cc)
-plan_shows outcome tag bytes is world (not_yet out) ran shows = fails_shows_none _ outcome tag bytes ran shows
 
 of_shows : {s : Settings} {x : Asked} {r : Request} {m : DavMethod} {plan : MethodPlan Response} (outcome : Result Response DavError) {old new : StoreState} {ls ms : Locks} (tag bytes : List ℕ) → m ≡ Get → IsWorld old.world
     → MeansOf s x r m plan → Ran Asking plan old ls outcome new ms → Shows tag bytes (reply_to outcome) → StandsSomewhere old.world tag bytes

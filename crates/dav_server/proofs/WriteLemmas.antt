@@ -19,7 +19,7 @@ use Rattle.dav_engine.specs.WorldLaws.{reads_done}
 use Rattle.dav_engine.proofs.Theorems.{create_only_leaves_all, reading_leaves}
 use Rattle.dav_server.specs.Head.{Request}
 use Rattle.dav_server.specs.Headers.{headers_of}
-use Rattle.dav_server.specs.Machine.{Settings, Asked, PlanOf, gets, heads, puts, patches, makes, deletes, copies, moves, offers, sets_properties, locks, releases, not_yet, MeansOf, not_allowed, no_path, no_body, method, no_head, no_method, known, steps}
+use Rattle.dav_server.specs.Machine.{Settings, Asked, PlanOf, gets, heads, puts, patches, makes, deletes, copies, moves, offers, finds_properties, sets_properties, locks, releases, MeansOf, not_allowed, no_path, no_body, method, no_head, no_method, known, steps}
 use Rattle.dav_server.specs.Method.{GivesServed}
 use Rattle.dav_server.specs.Target.{TargetNames}
 use Rattle.dav_server.specs.WriteLaws.{CreateOnlyKeeps}
@@ -58,10 +58,10 @@ plan_keeps n old new ls ms outcome writes says there (deletes is) ran = no_write
 plan_keeps n old new ls ms outcome writes says there (copies is) ran = no_write Copy writes (λ e. absurd (cc)) (λ e. absurd (cc))
 plan_keeps n old new ls ms outcome writes says there (moves is) ran = no_write Move writes (λ e. absurd (cc)) (λ e. absurd (cc))
 plan_keeps n old new ls ms outcome writes says there offers ran = no_write Options writes (λ e. absurd (cc)) (λ e. absurd (cc))
+plan_keeps n old new ls ms outcome writes says there (finds_properties is) ran = no_write PropFind writes (λ e. absurd (cc)) (λ e. absurd (cc))
 plan_keeps n old new ls ms outcome writes says there (sets_properties is) ran = no_write PropPatch writes (λ e. absurd (cc)) (λ e. absurd (cc))
 plan_keeps n old new ls ms outcome writes says there (locks is) ran = no_write Lock writes (λ e. absurd (cc)) (λ e. absurd (cc))
 plan_keeps n old new ls ms outcome writes says there (releases is) ran = no_write Unlock writes (λ e. absurd (cc)) (λ e. absurd (cc))
-plan_keeps n old new ls ms outcome writes says there (not_yet out) ran = reading_leaves reads_done ran
 
 of_keeps : {s : Settings} {x : Asked} {r : Request} {m : DavMethod} {plan : MethodPlan Response} (p : PathText) (n : Node) (old new : StoreState) (ls ms : Locks) (outcome : Result Response DavError)
     → Writes m → TargetNames s.prefix m r.target (Ok p) → IsTagList (get_all (headers_of r.fields) (codes "if-none-match")) star → node_at old.world (names p) ≡ Some n

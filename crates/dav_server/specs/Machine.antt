@@ -1,5 +1,5 @@
 -- The machine: the reply to each request, from the bytes of its head on, and the store and the locks that it leaves.
-use Rattle.std.specs.Prelude.{◌≡◌, ℕ, Bool, true, false, List, [], ◌∷◌, nat_lt, if◌then◌else◌, Option, Result, Ok, Err}
+use Rattle.std.specs.Prelude.{◌≡◌, ℕ, List, [], ◌∷◌, nat_lt, if◌then◌else◌, Option, Result, Ok, Err}
 use Rattle.dav_core.specs.declared.errors.DavError.{DavError}
 use Rattle.dav_core.specs.declared.errors.DavError.TheVariants as dav
 use Rattle.dav_core.specs.declared.method.DavMethod.{DavMethod}
@@ -80,23 +80,7 @@ body_for TakesNone body.Malformed = Err (dav.Status 415)
 abbrev pub client : Asked → Client
 client x = record { principal = x.principal; moment = x.moment; token = x.token }
 
--- whether a method is served yet
-abbrev pub is_done : DavMethod → Bool
-is_done Get = true
-is_done Head = true
-is_done Put = true
-is_done Patch = true
-is_done MkCol = true
-is_done Options = true
-is_done PropPatch = true
-is_done Copy = true
-is_done Move = true
-is_done Delete = true
-is_done Lock = true
-is_done Unlock = true
-is_done _ = false
-
--- The plan of a method, with the set of the methods that are allowed, its headers, its path and its body. 501 for a method that isn't served yet.
+-- The plan of a method, with the set of the methods that are allowed, its headers, its path and its body. Only a method that is served has one.
 pub data PlanOf (allowed : ℕ) (headers : Headers) (p : PathText) (body : Body) (who : Client) : DavMethod → MethodPlan Response → Type 0 where
   gets : {plan : MethodPlan Response} → IsGet Get headers p who.moment plan → PlanOf allowed headers p body who Get plan
   heads : {plan : MethodPlan Response} → IsGet Head headers p who.moment plan → PlanOf allowed headers p body who Head plan
@@ -107,10 +91,10 @@ pub data PlanOf (allowed : ℕ) (headers : Headers) (p : PathText) (body : Body)
   copies : {plan : MethodPlan Response} → IsCopyMove Copy headers p who plan → PlanOf allowed headers p body who Copy plan
   moves : {plan : MethodPlan Response} → IsCopyMove Move headers p who plan → PlanOf allowed headers p body who Move plan
   offers : PlanOf allowed headers p body who Options (options allowed p)
+  finds_properties : {plan : MethodPlan Response} → IsPropfind headers p body who plan → PlanOf allowed headers p body who PropFind plan
   sets_properties : {plan : MethodPlan Response} → IsProppatch headers p body who plan → PlanOf allowed headers p body who PropPatch plan
   locks : {plan : MethodPlan Response} → IsLock headers p body who plan → PlanOf allowed headers p body who Lock plan
   releases : {plan : MethodPlan Response} → IsUnlock headers p who plan → PlanOf allowed headers p body who Unlock plan
-  not_yet : {m : DavMethod} → is_done m ≡ false → PlanOf allowed headers p body who m (fails (dav.Status 501))
 
 -- The plan that a request results in, given what its head says and its method. It is refused, before anything is asked of
 -- the store, for the first of these: 405 for a method that isn't allowed, and the connection closes; then the error of its

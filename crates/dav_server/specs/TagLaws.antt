@@ -1,16 +1,15 @@
--- Entity tags over whole runs (RFC 9110, sections 8.8.1 and 13), and what GET and HEAD leave.
-use Rattle.std.specs.Prelude.{◌≡◌, ℕ, ◌≤◌, ◌++◌, true, List, [], ◌∷◌, All, Contains, codes, Some, Ok}
+-- Entity tags over whole runs (RFC 9110, sections 8.8.1 and 13), and what safe methods leave.
+use Rattle.std.specs.Prelude.{◌≡◌, ℕ, ◌≤◌, ◌++◌, Bool, true, false, List, [], ◌∷◌, All, Contains, codes, Some, Ok}
 use Rattle.std.specs.List.{zip}
 use Rattle.http_header.specs.HeaderMap.{get_all}
 use Rattle.dav_core.specs.declared.method.DavMethod.{DavMethod}
-use Rattle.dav_core.specs.declared.method.DavMethod.TheVariants.{Get}
+use Rattle.dav_core.specs.declared.method.DavMethod.TheVariants.{Get, Head, Options, PropFind}
 use Rattle.dav_core.specs.Asking.{StoreState}
 use Rattle.dav_core.specs.Path.{PathText, names}
 use Rattle.dav_core.specs.World.{Node, File, node_at, last_moment, IsWorld}
 use Rattle.dav_headers.specs.ETag.{EntityTag, tag_text}
 use Rattle.dav_headers.specs.ETagList.{tags, IsTagList}
 use Rattle.dav_engine.specs.declared.reply.ReplyBody.TheVariants as body
-use Rattle.dav_engine.specs.Conditions.{is_reading}
 use Rattle.dav_engine.specs.Plan.{Locks}
 use Rattle.dav_engine.specs.Response.{Response}
 use Rattle.dav_server.specs.Head.{Request, IsHead}
@@ -68,11 +67,19 @@ NotModifiedIsTrue =
     → ShownIn (front ++ t ∷ back) (replies ++ reply ∷ more) (tag_text tag.weak tag.tag) bytes
     → (n : Node) × (node_at mid.world (names p) ≡ Some n) × (n.kind ≡ File bytes)
 
--- GET and HEAD leave the world and the list of locks as they were.
+-- whether a method is one of the safe ones: its requests ask for no change (RFC 9110, section 9.2.1; RFC 4918, section 9.1)
+abbrev pub is_safe : DavMethod → Bool
+is_safe Get = true
+is_safe Head = true
+is_safe Options = true
+is_safe PropFind = true
+is_safe _ = false
+
+-- GET, HEAD, OPTIONS and PROPFIND leave the world and the list of locks as they were.
 abbrev pub ReadingLeaves : Type 0
 ReadingLeaves =
     (s : Settings) (x : Asked) (old new : StoreState) (ls ms : Locks) (reply : Response) (m : DavMethod)
-    → HasMethod m x → is_reading m ≡ true → Steps s x old ls reply new ms → (new.world ≡ old.world) × (ms ≡ ls)
+    → HasMethod m x → is_safe m ≡ true → Steps s x old ls reply new ms → (new.world ≡ old.world) × (ms ≡ ls)
 
 -- A run that begins with a world ends with one (RFC 4918, section 5.1).
 abbrev pub RunsKeepWorlds : Type 0

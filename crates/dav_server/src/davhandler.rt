@@ -11,6 +11,7 @@ ghost use Rattle.dav_engine.specs.ConditionView.{locks_in};
 ghost use Rattle.dav_server.specs.Get.{GetOf};
 ghost use Rattle.dav_engine.specs.Response.{error_reply};
 ghost use Rattle.dav_server.specs.Machine.{client, PlanOf, Means, MeansOf};
+ghost use Rattle.dav_server.specs.Method.{IsServed};
 ghost use Rattle.dav_server.specs.Server.{Answers, StopsIn};
 ghost use Rattle.dav_server.specs.Headers.{headers_of};
 ghost use Rattle.dav_core.specs.Target.{Reads};
@@ -223,6 +224,7 @@ fn serve<F: DavFileSystem, L: DavLockSystem>(
     exchange: &Exchange<'_>,
 ) -> DavResult<Reply>
     requires path { request.now.method ≢ DavMethod.Options → request.now.path.bytes ≢ star }
+    requires served { IsServed request.now.method }
     ensures same { handler.new.server.settings ≡ handler.old.server.settings }
     ensures serves { Serves (PlanOf handler.old.server.settings.allowed request.now.headers
         request.now.path body.now (client exchange.now) request.now.method)
@@ -240,10 +242,11 @@ fn serve<F: DavFileSystem, L: DavLockSystem>(
         DavMethod::Copy => inner!(handler, caller).handle_copymove(alloc, request, body),
         DavMethod::Move => inner!(handler, caller).handle_copymove(alloc, request, body),
         DavMethod::Options => inner!(handler, caller).handle_options(alloc, request, body),
+        DavMethod::PropFind => inner!(handler, caller).handle_propfind(alloc, request, body),
         DavMethod::PropPatch => inner!(handler, caller).handle_proppatch(alloc, request, body),
         DavMethod::Lock => inner!(handler, caller).handle_lock(alloc, request, body),
         DavMethod::Unlock => inner!(handler, caller).handle_unlock(alloc, request, body),
-        _ => Err(DavError::Status(StatusCode::NOT_IMPLEMENTED)),
+        DavMethod::Report | DavMethod::MkCalendar | DavMethod::MkAddressbook => unreachable!(),
     }
 }
 
@@ -255,6 +258,7 @@ fn answer_method<F: DavFileSystem, L: DavLockSystem>(
     method: DavMethod,
     exchange: &Exchange<'_>,
 ) -> DavResult<Reply>
+    requires { IsServed method }
     ensures same { handler.new.server.settings ≡ handler.old.server.settings }
     ensures serves { Serves (MeansOf handler.old.server.settings exchange.now view.now method)
         handler.old.server.state result handler.new.server.state }

@@ -69,7 +69,7 @@ pub fn not_modified_is_true()
     ensures { NotModifiedIsTrue }
 {}
 
-/// GET and HEAD leave the world and the list of locks, whatever the store refuses (RFC 9110, section 9.2.1).
+/// GET, HEAD, OPTIONS and PROPFIND leave the world and the list of locks, whatever the store refuses (RFC 9110, section 9.2.1).
 #[tactic(auto, using(crate::proofs::MeansWorld::reads_leave_all))]
 pub fn reading_leaves_all()
     ensures { ReadingLeaves }

@@ -13,6 +13,8 @@ ghost use Rattle.dav_server.specs.Server.{AddsReply, AnswersAll, AnswersSome, St
 #[cfg(test)]
 mod copies;
 #[cfg(test)]
+mod finding;
+#[cfg(test)]
 pub(crate) mod removals;
 #[cfg(test)]
 mod tests;

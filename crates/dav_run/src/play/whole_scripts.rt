@@ -69,8 +69,8 @@ const REFUSED_REQUESTS: &str = r##"
 # a method that is not known
 {"requests":[{"head":"FOO / HTTP/1.1\r\n\r\n"}]}
 {"body":null,"headers":{"content-length":"0"},"status":501}
-# a method that is known and not implemented
-{"requests":[{"head":"PROPFIND /x HTTP/1.1\r\n\r\n"}]}
+# a method that is known and not served
+{"requests":[{"head":"REPORT /x HTTP/1.1\r\n\r\n"}]}
 {"body":null,"headers":{"content-length":"0"},"status":501}
 # a body of DELETE, which takes none
 {"requests":[{"head":"DELETE /x HTTP/1.1\r\n\r\n","body":{"text":"x"}}]}

@@ -11,7 +11,7 @@ use http_header::{HeaderName, HeaderValue};
 use std::test::Fail;
 
 // A request one second after 1970 began, and its reply. After ` | ` comes a body, as `bytes x`, `tree 64` (that many nested
-// elements) or `malformed`, or who makes the request, as `by anna`.
+// elements), `allprop 64` (such a tree that asks for all properties) or `malformed`, or who makes the request, as `by anna`.
 const REQUESTS: &str = r##"# a file is stored and read
 PUT /a HTTP/1.1\r\nContent-Length: 3\r\n\r\n | bytes one -> 201\naccept-ranges: bytes\ncontent-length: 0\netag: "2"\nlast-modified: Thu, 01 Jan 1970 00:00:01 GMT\n
 GET /a HTTP/1.1\r\n\r\n -> 200\ncontent-length: 3\ncontent-type: application/octet-stream\netag: "2"\nlast-modified: Thu, 01 Jan 1970 00:00:01 GMT\n\none
@@ -20,10 +20,13 @@ PUT /f HTTP/1.1\r\n\r\n | tree 1 -> 415\ncontent-length: 0\n
 PUT /f HTTP/1.1\r\n\r\n | malformed -> 415\ncontent-length: 0\n
 DELETE /x HTTP/1.1\r\n\r\n | bytes x -> 415\ncontent-length: 0\n
 DELETE /%2e%2e HTTP/1.1\r\n\r\n | bytes x -> 403\ncontent-length: 0\n
-# trees, which PROPFIND takes up to 64 elements deep
-PROPFIND / HTTP/1.1\r\n\r\n | tree 64 -> 501\ncontent-length: 0\n
-PROPFIND / HTTP/1.1\r\n\r\n | tree 65 -> 400\ncontent-length: 0\n
-PROPFIND / HTTP/1.1\r\n\r\n | bytes x -> 501\ncontent-length: 0\n
+# trees, which PROPFIND takes up to 64 elements deep; bytes aren't one, and without a body all is asked for
+PROPFIND / HTTP/1.1\r\nDepth: 0\r\n\r\n | allprop 64 -> 207\ncache-control: no-cache\npragma: no-cache\ncontent-type: application/xml; charset=utf-8\n\n /\n
+PROPFIND / HTTP/1.1\r\nDepth: 0\r\n\r\n | allprop 65 -> 400\ncontent-length: 0\n
+PROPFIND / HTTP/1.1\r\nDepth: 0\r\n\r\n | tree 64 -> 400\ncontent-length: 0\n
+PROPFIND / HTTP/1.1\r\nDepth: 0\r\n\r\n | bytes x -> 400\ncontent-length: 0\n
+PROPFIND / HTTP/1.1\r\n\r\n -> 207\ncache-control: no-cache\npragma: no-cache\ncontent-type: application/xml; charset=utf-8\n\n
+PROPFIND / HTTP/1.1\r\nDepth: infinity\r\n\r\n -> 501\ncache-control: no-cache\npragma: no-cache\ncontent-type: application/xml; charset=utf-8\n\n\n
 # what anna holds: nobody passes without the token, and with it nobody but her
 MKCOL /d HTTP/1.1\r\n\r\n -> 201\n
 anna locks /d -> granted
@@ -190,10 +193,20 @@ fn nested(alloc: Global, depth: usize) -> Result<Element, NoMemory> {
     Ok(tree)
 }
 
+// What asks for all properties, in a tree of this many nested elements; 2 at least.
+fn asking_for_all(alloc: Global, depth: usize) -> Result<Element, NoMemory> {
+    let mut tree = Element::new(alloc, "propfind")?;
+    tree.namespace = Some(String::from_str(alloc, "DAV:")?);
+    tree.push_element(Element::new(alloc, "allprop")?)?;
+    tree.push_element(nested(alloc, depth.saturating_sub(1))?)?;
+    Ok(tree)
+}
+
 // A body by its kind.
 fn body_of(alloc: Global, kind: &'static str, text: &'static str) -> Result<Body, Fail> {
     match kind {
         "bytes" => Ok(Body::Bytes(Bytes::from_static(text.as_bytes()))),
+        "allprop" => Ok(Body::Tree(asking_for_all(alloc, text.parse()?)?)),
         "tree" => Ok(Body::Tree(nested(alloc, text.parse()?)?)),
         _ => Err(NoRow(kind))?,
     }

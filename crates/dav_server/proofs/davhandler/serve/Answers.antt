@@ -1,10 +1,10 @@
 use Rattle.std.proofs.Common.{ap, subst}
-use Rattle.dav_engine.specs.AtWork.{PutOf, MkcolOf, DeleteOf, CopyMoveOf, OptionsOf, ProppatchOf, LockOf, UnlockOf}
+use Rattle.dav_engine.specs.AtWork.{PutOf, MkcolOf, DeleteOf, CopyMoveOf, OptionsOf, PropfindOf, ProppatchOf, LockOf, UnlockOf}
 use Rattle.dav_engine.specs.CopyMove.{IsCopyMove}
 use Rattle.dav_engine.specs.Put.{IsPut}
 use Rattle.dav_server.specs.Get.{IsGet, GetOf}
-use Rattle.dav_server.specs.Machine.{client, gets, heads, puts, patches, makes, deletes, copies, moves, offers, sets_properties, locks, releases, not_yet}
-use Rattle.dav_server.proofs.MethodLemmas.{is_not_done, offered_plan}
+use Rattle.dav_server.specs.Machine.{client, gets, heads, puts, patches, makes, deletes, copies, moves, offers, finds_properties, sets_properties, locks, releases}
+use Rattle.dav_server.proofs.MethodLemmas.{offered_plan}
 use Rattle.dav_server.proofs.StepLemmas.{serves_as, serves_asked, serves_by, serves_held, serves_set, serves_error, plan_at}
 use Rattle.dav_server.proofs.davhandler.serve.Goals as goal
 
@@ -53,6 +53,11 @@ returns-in-Options-clause-serves g c =
     serves_as (λ plan is. plan_at c.in-Options.is (offered_plan is))
     (serves_set (λ s. OptionsOf s.allowed c.args.request.now (client c.args.exchange.now)) c.handler.view_is c.handle_options.ensures.serves)
 
+pub returns-in-PropFind-clause-serves : goal.returns-in-PropFind-clause-serves
+returns-in-PropFind-clause-serves g c =
+    serves_as (λ plan is. plan_at c.in-PropFind.is (finds_properties is))
+    (serves_held c.handler.view_is (serves_by (ap (PropfindOf c.args.request.now c.args.body.now) c.caller_of.ensures.client) c.handle_propfind.ensures.serves))
+
 pub returns-in-PropPatch-clause-serves : goal.returns-in-PropPatch-clause-serves
 returns-in-PropPatch-clause-serves g c =
     serves_as (λ plan is. plan_at c.in-PropPatch.is (sets_properties is))
@@ -67,6 +72,3 @@ pub returns-in-Unlock-clause-serves : goal.returns-in-Unlock-clause-serves
 returns-in-Unlock-clause-serves g c =
     serves_as (λ plan is. plan_at c.in-Unlock.is (releases is))
     (serves_held c.handler.view_is (serves_by (ap (UnlockOf c.args.request.now) c.caller_of.ensures.client) c.handle_unlock.ensures.serves))
-
-pub returns-in_default-clause-serves : goal.returns-in_default-clause-serves
-returns-in_default-clause-serves g c = serves_error _ (not_yet (is_not_done _ c.in_default.not-Get c.in_default.not-Head c.in_default.not-Put c.in_default.not-Patch c.in_default.not-Options c.in_default.not-PropPatch c.in_default.not-MkCol c.in_default.not-Copy c.in_default.not-Move c.in_default.not-Delete c.in_default.not-Lock c.in_default.not-Unlock))
