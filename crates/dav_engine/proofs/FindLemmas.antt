@@ -80,7 +80,7 @@ module _ (locks : Locks) (h : FindHeaders) (w : Writer) (p : PathText) (m : DavM
   below_cut deep wanted mid {s} {u} {t} how where_to one stop =
       let here : StopsWith locks (tell_below deep (room_at p) w p wanted mid.quota) u t = subst (λ (o : Writer). StopsWith locks (tell_below deep (room_at p) o p wanted mid.quota) u t) (same_writer one) stop in
       let there : StopsWith locks (tell_below (is_infinite h.depth) (room_at p) w p (m.dir && tells_members h.depth) mid.quota) u t =
-          subst (λ b. StopsWith locks (tell_below (is_infinite h.depth) (room_at p) w p b mid.quota) u t) where_to (subst (λ d. StopsWith locks (tell_below d (room_at p) w p wanted mid.quota) u t) how here) in
+      subst (λ b. StopsWith locks (tell_below (is_infinite h.depth) (room_at p) w p b mid.quota) u t) where_to (subst (λ d. StopsWith locks (tell_below d (room_at p) w p wanted mid.quota) u t) how here) in
       cut_bind and_below one.gives (cut_in (both (one.told, mid.quota)) there refl)
 
   pub both_told : (deep wanted : Bool) (mid new : Writing) {s u t : StoreState} → deep ≡ is_infinite h.depth → wanted ≡ (m.dir && tells_members h.depth)
@@ -88,10 +88,10 @@ module _ (locks : Locks) (h : FindHeaders) (w : Writer) (p : PathText) (m : DavM
       → Tells locks as_is (λ known. told_at h w p m) (started w) new s t
   both_told deep wanted mid new {s} {u} {t} how where_to one two =
       let here : GivesWith locks (tell_below deep (room_at p) w p wanted mid.quota) u (two.told, new.quota) t =
-          subst (λ (o : Writer). GivesWith locks (tell_below deep (room_at p) o p wanted mid.quota) u (two.told, new.quota) t) (same_writer one) two.gives in
+      subst (λ (o : Writer). GivesWith locks (tell_below deep (room_at p) o p wanted mid.quota) u (two.told, new.quota) t) (same_writer one) two.gives in
       let there : GivesWith locks (tell_below (is_infinite h.depth) (room_at p) w p (m.dir && tells_members h.depth) mid.quota) u (two.told, new.quota) t =
-          subst (λ b. GivesWith locks (tell_below (is_infinite h.depth) (room_at p) w p b mid.quota) u (two.told, new.quota) t) where_to
-          (subst (λ d. GivesWith locks (tell_below d (room_at p) w p wanted mid.quota) u (two.told, new.quota) t) how here) in
+      subst (λ b. GivesWith locks (tell_below (is_infinite h.depth) (room_at p) w p b mid.quota) u (two.told, new.quota) t) where_to
+      (subst (λ d. GivesWith locks (tell_below d (room_at p) w p wanted mid.quota) u (two.told, new.quota) t) how here) in
       record {
         told = one.told ++ two.told;
         gives = ran_bind and_below one.gives (ran_bind (both (one.told, mid.quota)) there ran_done);

@@ -125,10 +125,11 @@ module _ (locks : Locks) where
     rest_told all es left entry first old mid {begin} {s} at one rest =
         let here : Rest all first begin (entry ∷ es) old s = subst (λ l. Rest all first begin l old s) at rest in
         let same = here.0 in
-        let turned = by_writer old.writer first.writer entry.0 old mid same one in
-        (same_writer one ∙ same,
-        (λ new t more. here.1 new t (turn_told first.writer entry es old mid new turned more)),
-        (λ t stop. here.2 t (cut_bind (follow first.writer es) turned.gives (cut_in (others (turned.told, mid.quota)) stop refl))))
+        let turned = by_writer old.writer first.writer entry.0 old mid same one in (
+          same_writer one ∙ same,
+          (λ new t more. here.1 new t (turn_told first.writer entry es old mid new turned more)),
+          (λ t stop. here.2 t (cut_bind (follow first.writer es) turned.gives (cut_in (others (turned.told, mid.quota)) stop refl))),
+        )
 
     pub entry_stopped : (all es left : List (List ℕ × Bool)) (entry : List ℕ × Bool) (first old : Writing) {begin s t : StoreState}
         → left ≡ entry ∷ es → StopsWith locks (told_entry deep p old.writer entry.0 old.quota) s t
@@ -188,9 +189,9 @@ module _ (locks : Locks) where
           → Tells locks as_is (tell_below deep (room_at top) mid.writer top wanted) mid new v t → Tells locks as_is (told_entry deep p old.writer name) old new s t
       member_told old mid new child top wanted m {u = u} {v} {t} path here room both one two three =
           let run : GivesWith locks (tell_below deep (room_at top) old.writer top wanted mid.quota) v (three.told, new.quota) t =
-              subst (λ (o : Writer). GivesWith locks (tell_below deep (room_at top) o top wanted mid.quota) v (three.told, new.quota) t) (same_writer two) three.gives in
+          subst (λ (o : Writer). GivesWith locks (tell_below deep (room_at top) o top wanted mid.quota) v (three.told, new.quota) t) (same_writer two) three.gives in
           let itself : GivesWith locks (properties_of old.writer (child_of p name m.dir) m old.quota) u (two.told, mid.quota) v =
-              subst (λ q. GivesWith locks (properties_of old.writer q m old.quota) u (two.told, mid.quota) v) path two.gives in
+          subst (λ q. GivesWith locks (properties_of old.writer q m old.quota) u (two.told, mid.quota) v) path two.gives in
           record {
             told = two.told ∷ three.told;
             gives = ran_ask one (ran_bind (goes_on old.writer m) itself (ran_bind (behind two.told) (below_at old.writer top (room_at top) wanted m mid.quota (three.told, new.quota) here room both run) ran_done));
@@ -202,7 +203,7 @@ module _ (locks : Locks) where
           → StopsWith locks (tell_below deep (room_at top) mid.writer top wanted mid.quota) v t → StopsWith locks (told_entry deep p old.writer name old.quota) s t
       below_stopped old mid child top wanted m {u = u} {v} {t} path here room both one two stop =
           let cut : StopsWith locks (tell_below deep (room_at top) old.writer top wanted mid.quota) v t =
-              subst (λ (o : Writer). StopsWith locks (tell_below deep (room_at top) o top wanted mid.quota) v t) (same_writer two) stop in
+          subst (λ (o : Writer). StopsWith locks (tell_below deep (room_at top) o top wanted mid.quota) v t) (same_writer two) stop in
           let itself : GivesWith locks (properties_of old.writer (child_of p name m.dir) m old.quota) u (two.told, mid.quota) v =
-              subst (λ q. GivesWith locks (properties_of old.writer q m old.quota) u (two.told, mid.quota) v) path two.gives in
+          subst (λ q. GivesWith locks (properties_of old.writer q m old.quota) u (two.told, mid.quota) v) path two.gives in
           cut_ask (Ok m) one (cut_bind (goes_on old.writer m) itself (cut_in (behind two.told) (cut_at old.writer top (room_at top) wanted m mid.quota here room both cut) refl))

@@ -13,9 +13,6 @@ ghost use Rattle.dav_engine.specs.ConditionView.{list_of, locks_in, texts_of, to
 ghost use Rattle.dav_engine.specs.Follows.{Follows, Consults, or_memory, Heeds};
 ghost use Rattle.dav_engine.specs.Headers.{Decodes};
 
-#[cfg(test)]
-mod tests;
-
 use crate::headers::{absent_if_invalid, values_of};
 use crate::request::DavRequest;
 use dav_core::davpath::DavPath;

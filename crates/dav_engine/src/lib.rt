@@ -1,8 +1,6 @@
 //! The methods of a WebDAV server, over any store and any locks (RFC 4918, RFC 9110).
 #![tactic(auto)]
 
-#[cfg(test)]
-mod asserting;
 mod check;
 pub mod conditional;
 mod copy_headers;

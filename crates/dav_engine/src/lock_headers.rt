@@ -6,9 +6,6 @@ ghost use Rattle.dav_headers.specs.Timeout.{IsTimeout};
 ghost use Rattle.dav_engine.specs.Headers.{Decodes};
 ghost use Rattle.dav_engine.specs.LockHeaders as spec;
 
-#[cfg(test)]
-mod tests;
-
 use crate::conditional::Conditions;
 use crate::handle_delete::depth_in;
 use crate::headers::{absent_if_invalid, values_of};

@@ -6,9 +6,6 @@ ghost use Rattle.dav_core.specs.Element.{child_elements};
 ghost use Rattle.dav_engine.specs.LockInfo.{with_dav_prefix};
 ghost use Rattle.dav_engine.specs.LockInfo as spec;
 
-#[cfg(test)]
-mod tests;
-
 use crate::request::Body;
 use dav_core::element::Element;
 use dav_core::errors::NoMemory;

@@ -8,9 +8,6 @@ ghost use Rattle.dav_engine.specs.LockTree.{active_lock, locks_found, locks_supp
 ghost use Rattle.dav_engine.specs.LockTree as spec;
 ghost use Rattle.dav_engine.specs.Multistatus.{dav_element};
 
-#[cfg(test)]
-mod tests;
-
 use crate::multierror::href;
 use dav_core::davpath::DavPath;
 use dav_core::element::Element;

@@ -7,9 +7,6 @@ ghost use Rattle.dav_core.specs.Status.{dav_status};
 ghost use Rattle.dav_engine.specs.Multistatus.{href, status_element, status_line, response_for, last_error, multistatus, multi_reply};
 ghost use Rattle.dav_engine.specs.Multistatus as spec;
 
-#[cfg(test)]
-mod tests;
-
 use crate::reply::{Reply, ReplyBody, set_xml_type};
 use dav_core::davpath::DavPath;
 use dav_core::element::Element;

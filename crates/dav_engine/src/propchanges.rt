@@ -7,9 +7,6 @@ ghost use Rattle.dav_core.specs.Property.{patch_of};
 ghost use Rattle.dav_engine.specs.PropertyView.{groups_in};
 ghost use Rattle.dav_engine.specs.Proppatch as spec;
 
-#[cfg(test)]
-mod tests;
-
 use crate::handle_lock::copy_of;
 use crate::headers::absent_if_invalid;
 use crate::request::Body;

@@ -7,9 +7,6 @@ ghost use Rattle.dav_headers.specs.UpdateRange.{IsUpdateRange};
 ghost use Rattle.dav_engine.specs.Headers.{Decodes};
 ghost use Rattle.dav_engine.specs.Put as spec;
 
-#[cfg(test)]
-mod tests;
-
 use crate::conditional::Conditions;
 use crate::headers::{absent_if_invalid, text_of, values_of};
 use crate::request::DavRequest;

@@ -9,9 +9,6 @@ ghost use Rattle.dav_core.specs.World.{last_moment};
 ghost use Rattle.dav_engine.specs.Multistatus.{xml_type};
 ghost use Rattle.dav_engine.specs.Response.{error_reply, with_tag, with_validators};
 
-#[cfg(test)]
-mod tests;
-
 use crate::date::date_value;
 use bytes::Bytes;
 use dav_core::davpath::DavPath;

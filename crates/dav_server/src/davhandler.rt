@@ -24,6 +24,8 @@ mod copy_calls;
 #[cfg(test)]
 mod engine_calls;
 #[cfg(test)]
+mod engine_words;
+#[cfg(test)]
 pub(crate) mod tests;
 
 use crate::body::body_for;

@@ -11,6 +11,8 @@ ghost use Rattle.dav_server.specs.Passing.{PassesNoLock};
 ghost use Rattle.dav_server.specs.Server.{AddsReply, AnswersAll, AnswersSome, StopsIn, TagsTell, at_turn, turns};
 
 #[cfg(test)]
+mod bodies;
+#[cfg(test)]
 mod copies;
 #[cfg(test)]
 mod finding;
