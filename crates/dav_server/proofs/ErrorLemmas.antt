@@ -145,5 +145,5 @@ write_request x r m head is (inr patch) = inr (r, head, subst (λ (k : DavMethod
 pub errors_leave : ErrorsLeave
 errors_leave s x plan old new ls ms e other fresh (no_head out) ran = reading_leaves reads_done ran
 errors_leave s x plan old new ls ms e other fresh (no_method r d head is) ran = reading_leaves reads_done ran
-errors_leave s x plan old new ls ms e other fresh (known r m head is means) ran =
-    of_leaves e (λ writes. other (write_request x r m head is writes)) (λ lock. fresh (r, head, subst (λ (k : DavMethod). GivesServed r.method (Ok k)) lock is)) means ran
+errors_leave s x plan old new ls ms e other fresh (known r m head is its) ran =
+    of_leaves e (λ writes. other (write_request x r m head is writes)) (λ lock. fresh (r, head, subst (λ (k : DavMethod). GivesServed r.method (Ok k)) lock is)) its ran

@@ -152,6 +152,6 @@ standing_is_needed = (
   guards_here refl no_others,
   alone_own names_lock (alone_other other_names alone_none),
   λ alone.
-  let same = runs_are_determined settings (turn_with unlocker ∷ []) (holding before) alone.end (holding before) one_lock alone.locks (Some []) alone.alone (ended_early ∷ []) alone.runs alone.ample alone_early refl in
-  let e : inside after [] (a ∷ []) ≡ inside before [] (a ∷ []) = alone.inside (a ∷ []) ∙ ap (λ (s : StoreState). inside s.world [] (a ∷ [])) same.1 in cc,
+      let same = runs_are_determined settings (turn_with unlocker ∷ []) (holding before) alone.end (holding before) one_lock alone.locks (Some []) alone.alone (ended_early ∷ []) alone.runs alone.ample alone_early refl in
+      let e : inside after [] (a ∷ []) ≡ inside before [] (a ∷ []) = alone.inside (a ∷ []) ∙ ap (λ (s : StoreState). inside s.world [] (a ∷ [])) same.1 in cc,
 )

@@ -114,7 +114,7 @@ creates_fails : {p : Path} {plan : MethodPlan Response} (n : Node) (old new : St
     → Creates p plan → node_at old.world p ≡ Some n → Ran Asking plan old ls outcome new ms → ¬ IsSuccess (reply_to outcome).status
 creates_fails {p} n old new ls ms (Ok r) (it_creates m h who bytes writes is) there ran = body_fails m h p who bytes n old new ls ms r is there ran
 creates_fails {p} n old new ls ms (Err e) (it_creates m h who bytes writes is) there ran = no_success e (ran_ends (put_ends m h p who bytes writes) ran)
-creates_fails n old new ls ms outcome (it_fails e fails_with) there ran = subst (λ (o : Result Response DavError). ¬ IsSuccess (reply_to o).status) (ran_outcome ran) (no_success e fails_with)
+creates_fails n old new ls ms outcome (it_fails e fails_with) there ran = subst (λ (o : Result Response DavError). ¬ IsSuccess (reply_to o).status) (sym (ran_outcome ran)) (no_success e fails_with)
 
 pub create_only_fails : CreateOnlyFails
 create_only_fails s x p n old new ls ms reply is there (steps plan outcome means ran) = creates_fails n old new ls ms outcome (means_creates p is means) there ran

@@ -46,4 +46,4 @@ returns-clause-serves g c =
 pub serve-requires : goal.serve-requires
 serve-requires g c =
     let named = path_at c.args.method (Ok c.in_ok-path.path) (c.deref.ensures ∙ ap (λ h. h.server.settings.prefix) c.handler.view_is) c.target.ensures c.in_ok-path.ensures in
-    record { path = target_is_path named }
+    record { path = target_is_path named; served = c.requires }
