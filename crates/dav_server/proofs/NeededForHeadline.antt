@@ -1,22 +1,25 @@
 -- Premises of the headline that are needed: runs that break one of them, and of which it isn't true.
 use Rattle.std.proofs.Common.{◌≡◌, ℕ, true, false, List, [], ◌∷◌, Some, None, Ok, Err, refl, sym, ap, ◌∙◌, arith}
 use Rattle.std.proofs.lemmas.List.Elements.{All-nil, All-cons}
+use Rattle.std.specs.Option.{option_map}
 use Rattle.dav_core.specs.declared.errors.FsError.TheVariants.{NotFound}
 use Rattle.dav_core.specs.Asking.{StoreState, asked, Metadata, CreateDir}
-use Rattle.dav_core.specs.Locks.{Lock}
+use Rattle.dav_core.specs.Locks.{Lock, covers}
+use Rattle.dav_core.specs.World.{node_at}
 use Rattle.dav_engine.specs.Alongside.{AsksWithNumbers}
 use Rattle.dav_engine.specs.Folder.{location_found}
-use Rattle.dav_engine.specs.Guard.{Guarded, Stands, IsListed, guards_here, no_others, listed_here}
-use Rattle.dav_engine.specs.Inside.{inside}
+use Rattle.dav_engine.specs.Guard.{folder_of, Guarded, Stands, guards_here, no_others, listed_here, listed_later}
+use Rattle.dav_engine.specs.Inside.{content_of, inside}
 use Rattle.dav_engine.specs.Mkcol.{made}
 use Rattle.dav_engine.specs.Plan.{Locks, ServerState, Ran, ran_done, ran_ask, ran_look, ran_keep}
 use Rattle.dav_engine.specs.Response.{Response}
+use Rattle.dav_engine.specs.Sparing.{Spared}
 use Rattle.dav_engine.specs.Unlock.{unlocked_reply}
 use Rattle.dav_engine.proofs.Theorems.{ran_plain}
 use Rattle.dav_server.specs.EachRequest.{RunStep}
 use Rattle.dav_server.specs.Headline.{empty_server, GrantsFolder, Headline}
 use Rattle.dav_server.specs.Isolation.{AreLoaded, RunsUnder, under_none, under_more, Alone, alone_none, alone_other, alone_own, AreAlone}
-use Rattle.dav_server.specs.Machine.{Settings, steps}
+use Rattle.dav_server.specs.Machine.{Settings, Steps, steps}
 use Rattle.dav_server.specs.Naming.{NamesLock, NamesToken}
 use Rattle.dav_server.specs.Run.{Turn, Runs, no_more, one_more}
 use Rattle.dav_server.specs.Server.{Server, AnswersAll}
@@ -25,7 +28,7 @@ use Rattle.dav_server.proofs.MeansLemmas.{runs_are_determined}
 use Rattle.dav_server.proofs.NeededTokens as tokens
 use Rattle.dav_server.proofs.NeededTokens.{second, unlocker, unlock_plan, unlock_means, unlock_names, ended, ends_guard, twice, own, tokens_are_needed}
 use Rattle.dav_server.proofs.WorkedGrant.{locker, locking, locker_means, granted_lock, none, one, makes_first, lock_reply, grants}
-use Rattle.dav_server.proofs.WorkedRun.{a, at_a, lock, stranger, turn_with, settings, no_conditions, plan_with, stranger_means, other_names, before, after, holding, one_lock, missing, makes_a, Showable, Loaded}
+use Rattle.dav_server.proofs.WorkedRun.{a, at_a, lock, stranger, holder, turn_with, settings, no_conditions, own_conditions, plan_with, stranger_means, holder_means, holder_ran, other_names, own_names, some_number, before, after, holding, one_lock, missing, makes_a, Showable, Loaded}
 
 -- a run while a lock stands is a run
 under_plain : {s : Settings} {h : Lock} {ts : List Turn} {old new : StoreState} {ls ms : Locks} {replies : List Response} → RunsUnder AsksWithNumbers s h ts old ls replies new ms → Runs s ts old ls replies new ms
@@ -153,5 +156,43 @@ standing_is_needed = (
   alone_own names_lock (alone_other other_names alone_none),
   λ alone.
       let same = runs_are_determined settings (turn_with unlocker ∷ []) (holding before) alone.end (holding before) one_lock alone.locks (Some []) alone.alone (ended_early ∷ []) alone.runs alone.ample alone_early refl in
-      let e : inside after [] (a ∷ []) ≡ inside before [] (a ∷ []) = alone.inside (a ∷ []) ∙ ap (λ (s : StoreState). inside s.world [] (a ∷ [])) same.1 in cc,
+      let e : inside after (folder_of lock) [] ≡ inside before (folder_of lock) [] = alone.inside [] ∙ ap (λ (s : StoreState). inside s.world (folder_of lock) []) same.1 in cc,
+)
+
+-- ---- what an exclusive lock covers
+
+-- the folder is made, in the world before it
+covered_changes : (h : Lock) → covers h (a ∷ []) ≡ true → ¬ Spared (covers h) before after
+covered_changes h within spared = let e : option_map content_of (node_at before (a ∷ [])) ≡ option_map content_of (node_at after (a ∷ [])) = spared.same (a ∷ []) within in cc
+
+-- A request that names the lock as its principal changes what the lock covers.
+pub unnamed_lock_is_needed : Steps settings holder (holding before) one_lock (made at_a) (holding after) one_lock × (lock.shared ≡ false) × Stands lock one_lock × NamesLock lock holder × ¬ Spared (covers lock) before after
+unnamed_lock_is_needed = (steps (plan_with (own_conditions (a ∷ []))) (Ok (made at_a)) holder_means (ran_plain holder_ran), refl, listed_here refl, own_names, covered_changes lock refl)
+
+-- So does another client's, where the lock isn't in the list.
+pub listed_lock_is_needed : Steps settings stranger (holding before) none (made at_a) (holding after) none × (lock.shared ≡ false) × ¬ NamesLock lock stranger × ¬ Spared (covers lock) before after
+listed_lock_is_needed = (steps (plan_with no_conditions) (Ok (made at_a)) stranger_means makes_first, refl, other_names, covered_changes lock refl)
+
+-- two shared locks on the folder, of two clients
+abbrev own_shared : Lock
+own_shared = record lock { shared = true }
+
+abbrev other_shared : Lock
+other_shared = record lock { shared = true; token = 117 ∷ []; principal = Some (98 ∷ []) }
+
+abbrev two_shared : Locks
+two_shared = Some (own_shared ∷ other_shared ∷ [])
+
+passes_shared : Ran AsksWithNumbers (plan_with (own_conditions (a ∷ []))) (holding before) two_shared (Ok (made at_a)) (holding after) two_shared
+passes_shared =
+    ran_ask {c = Metadata (a ∷ [])} {answer = Err NotFound} (asked missing, λ ready finds. finds.0)
+    (ran_look (ran_look (ran_ask {c = CreateDir (a ∷ []) 1} {answer = Ok tt} (asked makes_a, λ ready finds. some_number finds.1) ran_done)))
+
+-- And so does that of who holds another lock, where both are shared.
+pub exclusive_lock_is_needed : Steps settings holder (holding before) two_shared (made at_a) (holding after) two_shared × Stands other_shared two_shared × ¬ NamesLock other_shared holder × ¬ Spared (covers other_shared) before after
+exclusive_lock_is_needed = (
+  steps (plan_with (own_conditions (a ∷ []))) (Ok (made at_a)) holder_means (ran_plain passes_shared),
+  listed_later (listed_here refl),
+  λ named. let e : None ≡ Some (98 ∷ []) = named.principal in cc,
+  covered_changes other_shared refl,
 )
