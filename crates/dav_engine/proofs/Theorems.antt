@@ -37,7 +37,7 @@ pub use Rattle.dav_engine.proofs.OptionsLemmas.{options_only_reads, options_is_p
 pub use Rattle.dav_engine.proofs.PatchedWorlds.{proppatch_makes_all_or_none, refused_proppatch_leaves_all}
 pub use Rattle.dav_engine.proofs.PlanLemmas.{ran_same, ran_unset, Comes, comes}
 pub use Rattle.dav_engine.proofs.PropertyPlans.{propfind_only_reads, propfind_is_proper, proppatch_is_proper, proppatch_keeps_locks, proppatch_changes_list}
-pub use Rattle.dav_engine.proofs.PutWorld.{only_guarded, only_free, look_reads, only_put_allowed, only_mkcol_allowed, IsLook, looks, only_conditions, put_is_proper, mkcol_is_proper, create_only_leaves_all}
+pub use Rattle.dav_engine.proofs.PutWorld.{only_guarded, only_free, look_reads, only_put_allowed, only_mkcol_allowed, IsLook, looks, only_conditions, put_is_proper, mkcol_is_proper, create_only_leaves_all, creates_only}
 pub use Rattle.dav_engine.proofs.RemovalReports.{Gives, gives_done, gives_ask, gives_look, gives_keep, gives_removal}
 pub use Rattle.dav_engine.proofs.SomePlanLemmas.{some_conditions, some_put_plan, some_mkcol_plan, some_delete_plan, some_unlock_plan, some_lock_plan, some_copymove_plan, some_propfind_plan, some_proppatch_plan}
 pub use Rattle.dav_engine.proofs.SparingCopy.{copymove_spares}

@@ -22,6 +22,7 @@ pub mod HeldConditions
 pub mod StoredBytes
 pub mod NoLostUpdate
 pub mod WriteLemmas
+pub mod ErrorLemmas
 pub mod RefusedLemmas
 pub mod TurnLemmas
 pub mod StrangerLemmas
@@ -32,6 +33,8 @@ pub mod HolderLemmas
 pub mod IsolationLemmas
 pub mod GrantedRuns
 pub mod FromNoneLemmas
+pub mod EachRequestLemmas
+pub mod HeadlineLemmas
 pub mod AloneLemmas
 pub mod SpareLemmas
 pub mod WorkedRun
@@ -39,3 +42,4 @@ pub mod WorkedGrant
 pub mod NeededPremises
 pub mod NeededFolders
 pub mod NeededTokens
+pub mod NeededForHeadline

@@ -171,10 +171,10 @@ says = (
 abbrev pub unlock_plan : MethodPlan Response
 unlock_plan = unlock (Some token) at_a
 
-unlock_means : Means settings unlocker unlock_plan
+pub unlock_means : Means settings unlocker unlock_plan
 unlock_means = known unlock_request Unlock unlock_head (tt, refl) (method at_a body.None refl (target_at_a Unlock) refl (releases (is_unlock (Some token) says)))
 
-unlock_names : NamesLock granted_lock unlocker
+pub unlock_names : NamesLock granted_lock unlocker
 unlock_names = record { token = by_lock_token unlock_request unlock_head says; principal = refl }
 
 is_holder : IsHolderRequest settings granted_lock unlocker
@@ -207,7 +207,7 @@ ended = unlocked_reply (location_found (Some found_a) at_a)
 ends_root : Ran AsksWithNumbers unlock_plan (holding after) two (Ok ended) (holding after) one
 ends_root = ran_look (ran_ask {c = Metadata (a ∷ [])} {answer = Ok found_a} (asked there, λ ready finds. finds.0) (ran_look (ran_keep ran_done)))
 
-ends_guard : Ran AsksWithNumbers unlock_plan (holding after) one (Ok ended) (holding after) (Some [])
+pub ends_guard : Ran AsksWithNumbers unlock_plan (holding after) one (Ok ended) (holding after) (Some [])
 ends_guard = ran_look (ran_ask {c = Metadata (a ∷ [])} {answer = Ok found_a} (asked there, λ ready finds. finds.0) (ran_look (ran_keep ran_done)))
 
 finds_none : Ran AsksWithNumbers unlock_plan (holding after) (Some []) (Err (dav.Status 409)) (holding after) (Some [])

@@ -109,7 +109,7 @@ no_number : meaning (CreateDir (a ∷ []) 1) after ≡ Err GeneralFailure → �
 unfolding meaning
 no_number e = cc
 
-makes_first : Ran Asks (plan_with no_conditions) (holding before) none (Ok (made at_a)) (holding after) none
+pub makes_first : Ran Asks (plan_with no_conditions) (holding before) none (Ok (made at_a)) (holding after) none
 makes_first =
     ran_ask {c = Metadata (a ∷ [])} {answer = Err NotFound} (asked missing)
     (ran_look (ran_ask {c = CreateDir (a ∷ []) 1} {answer = Ok tt} (asked makes_a) ran_done))
@@ -117,7 +117,7 @@ makes_first =
 abbrev pub lock_reply : Response
 lock_reply = granted_reply true (location_found (Some found_a) at_a) granted_lock
 
-grants : Ran Asks locking (holding after) none (Ok lock_reply) (holding after) one
+pub grants : Ran Asks locking (holding after) none (Ok lock_reply) (holding after) one
 grants = ran_look (ran_ask {c = Metadata (a ∷ [])} {answer = Ok found_a} (asked there) (ran_look (ran_keep ran_done)))
 
 refused : Ran AsksWithNumbers (plan_with no_conditions) (holding after) one (Err (dav.Status 423)) (holding after) one

@@ -15,6 +15,7 @@ pub mod Setup
 pub mod TagLaws
 pub mod UpdateLaws
 pub mod WriteLaws
+pub mod Leaving
 pub mod Server
 pub mod ServerCode
 pub mod ExchangeView
@@ -26,3 +27,5 @@ pub mod Ending
 pub mod LockLists
 pub mod Isolation
 pub mod FromNone
+pub mod EachRequest
+pub mod Headline

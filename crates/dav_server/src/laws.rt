@@ -1,6 +1,8 @@
 //! Laws of heads, their headers, targets and runs. Each function does nothing: its contract is a theorem on the definitions.
 ghost use Rattle.dav_server.specs.Head.{OneHead};
 ghost use Rattle.dav_server.specs.Headers.{KeepsValues};
+ghost use Rattle.dav_server.specs.Headline.{HeadlineHolds};
+ghost use Rattle.dav_server.specs.Leaving.{CreateOnlyFails, ErrorsLeave};
 ghost use Rattle.dav_server.specs.Run.{RunsAreDetermined, RunsSplit, RunsJoin, RunsEnd, RequestsHavePlans, RequestsHaveRuns};
 ghost use Rattle.dav_server.specs.TagLaws.{TagsTellBytes, NotModifiedIsTrue, ReadingLeaves, RunsKeepWorlds};
 ghost use Rattle.dav_server.specs.Target.{OneOutcome};
@@ -82,10 +84,11 @@ pub fn runs_keep_worlds()
 {}
 
 /// A PUT or PATCH whose If-None-Match is `*`, at a path where something is, leaves the world and the list of locks: what is
-/// there is never overwritten, whatever the store refuses (RFC 9110, section 13.1.2).
-#[tactic(auto, using(crate::proofs::WriteLemmas::create_only_keeps))]
+/// there is never overwritten, whatever the store refuses, and the request isn't answered with success (RFC 9110, section 13.1.2).
+#[tactic(auto, using(crate::proofs::WriteLemmas::create_only_keeps, crate::proofs::WriteLemmas::create_only_fails))]
 pub fn creating_only_keeps_what_is_there()
-    ensures { CreateOnlyKeeps }
+    ensures keeps { CreateOnlyKeeps }
+    ensures fails { CreateOnlyFails }
 {}
 
 /// No update is lost: where a GET, or a PUT of a whole file, was answered with an entity tag, and a later PUT, PATCH, DELETE,
@@ -101,4 +104,21 @@ pub fn no_update_is_lost()
 #[tactic(auto, using(crate::proofs::RefusedLemmas::refused_leaves))]
 pub fn refused_requests_leave_all()
     ensures { RefusedLeaves }
+{}
+
+/// A request that ends in an error leaves the world and the list of locks, whatever its method is and whatever the store refuses. But a
+/// PUT or PATCH that the store refuses after its file was opened leaves what was done; and a LOCK whose file the store refuses takes
+/// back the lock of its token, so no lock may have that token before (RFC 9110, section 15; RFC 4918, section 9.10).
+#[tactic(auto, using(crate::proofs::ErrorLemmas::errors_leave))]
+pub fn errors_leave_all()
+    ensures { ErrorsLeave }
+{}
+
+/// The headline: from an empty server whose store may refuse any call, while an exclusive lock of infinite depth stands on a
+/// folder and every request that names its token as its principal is a holder's, the folder and the answers to the holder are those of
+/// the holder's requests run alone from the grant; every reply is the machine's, equal tags show equal bytes, and without its token
+/// no exclusive lock is passed and no lock ends. No two requests hand in one token (RFC 4918, sections 6.5 and 7).
+#[tactic(auto, using(crate::proofs::HeadlineLemmas::headline_holds))]
+pub fn from_an_empty_server()
+    ensures { HeadlineHolds }
 {}

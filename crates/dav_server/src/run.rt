@@ -3,8 +3,10 @@ ghost use Rattle.std.specs.Option.{is_some};
 ghost use Rattle.std.specs.Prelude.{◌≡◌, ◌<◌, ◌≤◌, ◌++◌, ◌∷◌, [], true, vec_len, IfOk, IfErr, OnOk, OnErr};
 ghost use Rattle.std.specs.Vec.{vec_capacity};
 ghost use Rattle.dav_core.specs.World.{last_moment};
+ghost use Rattle.dav_server.specs.EachRequest.{LosesNoUpdate, NotModifiedTells, OnlyCreates, ReadsLeaveAll, RefusalsLeaveAll};
 ghost use Rattle.dav_server.specs.Ending.{EndsNoLock};
 ghost use Rattle.dav_server.specs.FromNone.{EndsNoLockFromNone, PassesNoLockFromNone};
+ghost use Rattle.dav_server.specs.Headline.{FromAnEmptyServer};
 ghost use Rattle.dav_server.specs.Isolation.{IsIsolated, IsIsolatedFromGrants};
 ghost use Rattle.dav_server.specs.LockLists.{SharesLocks};
 ghost use Rattle.dav_server.specs.Passing.{PassesNoLock};
@@ -98,7 +100,9 @@ impl<F: DavFileSystem, L: DavLockSystem> DavHandler<F, L> {
     /// Answers requests, one after another: the replies, the store and the locks are those of a run of the machine. From a
     /// world, equal entity tags show equal bytes, and no request changes what an exclusive lock covers unless it names the
     /// lock's token as the lock's principal, nor ends a lock whose token it doesn't name; a request that hands in the lock's
-    /// token for a lock of its own aside. Locks that cover one path stay shared.
+    /// token for a lock of its own aside. Locks that cover one path stay shared. Requests that only read change nothing, nor do
+    /// those that are answered 412 or 423 (a LOCK, where no lock has its token); a 304 is true; no update on condition of a tag
+    /// is lost; and what is there is kept under If-None-Match `*` (RFC 9110, sections 9.2.1 and 13.1).
     ///
     /// `RunFault` where memory ran out outside the store, with the replies that were given before; they are those of a run
     /// of the machine, and of the next request at most the first calls of the store were made, each of them whole.
@@ -114,6 +118,16 @@ impl<F: DavFileSystem, L: DavLockSystem> DavHandler<F, L> {
             EndsNoLock self.old.server (turns exchanges.now) replies.items) }
         ensures shared { IfOk result (λ replies.
             SharesLocks self.old.server (turns exchanges.now) replies.items) }
+        ensures reading { IfOk result (λ replies.
+            ReadsLeaveAll self.old.server (turns exchanges.now) replies.items) }
+        ensures unmodified { IfOk result (λ replies.
+            NotModifiedTells self.old.server (turns exchanges.now) replies.items) }
+        ensures updated { IfOk result (λ replies.
+            LosesNoUpdate self.old.server (turns exchanges.now) replies.items) }
+        ensures created { IfOk result (λ replies.
+            OnlyCreates self.old.server (turns exchanges.now) replies.items) }
+        ensures refused { IfOk result (λ replies.
+            RefusalsLeaveAll self.old.server (turns exchanges.now) replies.items) }
         ensures fault { IfErr result (λ fault.
             AnswersSome self.old.server (turns exchanges.now) fault.replies.items self.new.server) }
     {
@@ -158,7 +172,9 @@ fn answer_step(
 /// While an exclusive lock of infinite depth stands on a folder, only its holder names it and no request hands in its token,
 /// the folder and the answers to the holder are as if the holder's requests were alone; from no locks on, it is enough that
 /// the lock was granted and that the tokens which are handed in differ. And then nothing that an exclusive lock covers changes,
-/// and no lock ends, unless the request names its token.
+/// and no lock ends, unless the request names its token. All this in one piece, from an empty server on, is the clause `headline`.
+/// Requests that only read change nothing, nor do those that are answered 412 or 423 (a LOCK, where no lock has its token); a 304
+/// is true; no update on condition of a tag is lost; and what is there is kept under If-None-Match `*`.
 ///
 /// `RunFault` where memory ran out outside the store, with the replies that were given before; they are those of a run of
 /// the machine, and of the next request at most the first calls of the store were made, each of them whole.
@@ -186,6 +202,18 @@ pub fn run_refused(
         PassesNoLockFromNone handler.old.server steps.entry.items replies.items) }
     ensures standing { IfOk result (λ replies.
         EndsNoLockFromNone handler.old.server steps.entry.items replies.items) }
+    ensures reading { IfOk result (λ replies.
+        ReadsLeaveAll handler.old.server steps.entry.items replies.items) }
+    ensures unmodified { IfOk result (λ replies.
+        NotModifiedTells handler.old.server steps.entry.items replies.items) }
+    ensures updated { IfOk result (λ replies.
+        LosesNoUpdate handler.old.server steps.entry.items replies.items) }
+    ensures created { IfOk result (λ replies.
+        OnlyCreates handler.old.server steps.entry.items replies.items) }
+    ensures refused { IfOk result (λ replies.
+        RefusalsLeaveAll handler.old.server steps.entry.items replies.items) }
+    ensures headline { IfOk result (λ replies. FromAnEmptyServer
+        handler.old.server steps.entry.items replies.items handler.new.server) }
     ensures fault { IfErr result (λ fault.
         AnswersSome handler.old.server steps.entry.items fault.replies.items handler.new.server) }
 {

@@ -2,9 +2,11 @@ use Rattle.std.proofs.Common.{◌∙◌, [], refl, sym}
 use Rattle.dav_server.specs.Run.{no_more}
 use Rattle.dav_server.proofs.RunLemmas.{run_added, steps_at, cut_at, ran_to, ran_for, rest_after_one, turns_of}
 use Rattle.dav_server.proofs.IsolationLemmas.{is_isolated, none_loaded, loaded_more, loaded_for}
+use Rattle.dav_server.proofs.EachRequestLemmas.{reads_leave, only_creates, refusals_leave, loses_no_update, not_modified_tells}
 use Rattle.dav_server.proofs.EndingLemmas.{ends_no_lock}
 use Rattle.dav_server.proofs.FromNoneLemmas.{passes_no_lock_from_none, ends_no_lock_from_none}
 use Rattle.dav_server.proofs.GrantedRuns.{is_isolated_from_grants}
+use Rattle.dav_server.proofs.HeadlineLemmas.{from_an_empty_server}
 use Rattle.dav_server.proofs.ListLemmas.{shares_locks}
 use Rattle.dav_server.proofs.StrangerLemmas.{passes_no_lock}
 use Rattle.dav_server.proofs.TurnLemmas.{all_yielded, run_tells, none_showable, showable_more, showable_for}
@@ -73,3 +75,30 @@ returns-clause-spared c =
 
 pub returns-clause-standing : goal.returns-clause-standing
 returns-clause-standing c = ends_no_lock_from_none _ c.args.steps.items _
+
+pub returns-clause-reading : goal.returns-clause-reading
+returns-clause-reading c = reads_leave _ c.args.steps.items _
+
+pub returns-clause-created : goal.returns-clause-created
+returns-clause-created c = only_creates _ c.args.steps.items _
+
+pub returns-clause-refused : goal.returns-clause-refused
+returns-clause-refused c = refusals_leave _ c.args.steps.items _
+
+pub returns-clause-unmodified : goal.returns-clause-unmodified
+returns-clause-unmodified c =
+    let rest = c.loop-step.step-iterator.rest in
+    let whole = all_yielded c.args.steps.items c.loop-step.yielded rest.items rest.len c.loop-step.invariant.3 rest.ok.0 c.in-None.ensures.steps.0 in
+    not_modified_tells _ c.args.steps.items _ (showable_for whole c.loop-step.invariant.2)
+
+pub returns-clause-updated : goal.returns-clause-updated
+returns-clause-updated c =
+    let rest = c.loop-step.step-iterator.rest in
+    let whole = all_yielded c.args.steps.items c.loop-step.yielded rest.items rest.len c.loop-step.invariant.3 rest.ok.0 c.in-None.ensures.steps.0 in
+    loses_no_update _ c.args.steps.items _ (showable_for whole c.loop-step.invariant.2)
+
+pub returns-clause-headline : goal.returns-clause-headline
+returns-clause-headline c =
+    let rest = c.loop-step.step-iterator.rest in
+    let whole = all_yielded c.args.steps.items c.loop-step.yielded rest.items rest.len c.loop-step.invariant.3 rest.ok.0 c.in-None.ensures.steps.0 in
+    from_an_empty_server _ c.args.steps.items _ _ (showable_for whole c.loop-step.invariant.2) (loaded_for whole c.loop-step.invariant.4) (ran_for whole c.loop-step.invariant.1)

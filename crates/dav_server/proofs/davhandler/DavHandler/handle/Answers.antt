@@ -1,4 +1,5 @@
 use Rattle.std.proofs.lemmas.Result.{IfOk-weaker}
+use Rattle.dav_server.proofs.EachRequestLemmas.{safe_leaves, create_only_leaves, refused_status_leaves}
 use Rattle.dav_server.proofs.StepLemmas.{served_ok, served_err, served_cut, any_err}
 use Rattle.dav_server.proofs.davhandler.DavHandler.handle.Goals as goal
 
@@ -10,3 +11,21 @@ returns-in-Err-clause-ok g c = IfOk-weaker _ _ _ (λ reply r. served_err c.in-Er
 
 pub returns-in-Err-clause-err : goal.returns-in-Err-clause-err
 returns-in-Err-clause-err g c = any_err _ (served_cut c.in-Err.ensures.serves)
+
+pub returns-in-Ok-clause-reading : goal.returns-in-Ok-clause-reading
+returns-in-Ok-clause-reading g c = safe_leaves _ _ _ _ _ (served_ok c.in-Ok.ensures.serves)
+
+pub returns-in-Err-clause-reading : goal.returns-in-Err-clause-reading
+returns-in-Err-clause-reading g c = IfOk-weaker _ _ _ (λ reply r. safe_leaves _ _ _ _ reply (served_err c.in-Err.ensures.serves r.0 r.1)) c.refuse.ensures
+
+pub returns-in-Ok-clause-created : goal.returns-in-Ok-clause-created
+returns-in-Ok-clause-created g c = create_only_leaves _ _ _ _ _ (served_ok c.in-Ok.ensures.serves)
+
+pub returns-in-Err-clause-created : goal.returns-in-Err-clause-created
+returns-in-Err-clause-created g c = IfOk-weaker _ _ _ (λ reply r. create_only_leaves _ _ _ _ reply (served_err c.in-Err.ensures.serves r.0 r.1)) c.refuse.ensures
+
+pub returns-in-Ok-clause-refused : goal.returns-in-Ok-clause-refused
+returns-in-Ok-clause-refused g c = refused_status_leaves _ _ _ _ _ (served_ok c.in-Ok.ensures.serves)
+
+pub returns-in-Err-clause-refused : goal.returns-in-Err-clause-refused
+returns-in-Err-clause-refused g c = IfOk-weaker _ _ _ (λ reply r. refused_status_leaves _ _ _ _ reply (served_err c.in-Err.ensures.serves r.0 r.1)) c.refuse.ensures

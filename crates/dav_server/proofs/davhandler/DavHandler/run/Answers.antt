@@ -2,6 +2,7 @@ use Rattle.std.proofs.Common.{◌∙◌, [], ◌+◌, map, take, drop, refl}
 use Rattle.dav_server.specs.Run.{no_more}
 use Rattle.dav_server.specs.Server.{turn_of}
 use Rattle.dav_server.proofs.RunLemmas.{run_further, parts_of, steps_at, cut_at, ran_to}
+use Rattle.dav_server.proofs.EachRequestLemmas.{reads_leave, only_creates, refusals_leave, loses_no_update, not_modified_tells}
 use Rattle.dav_server.proofs.EndingLemmas.{ends_no_lock}
 use Rattle.dav_server.proofs.ListLemmas.{shares_locks}
 use Rattle.dav_server.proofs.StrangerLemmas.{passes_no_lock}
@@ -48,3 +49,22 @@ returns-clause-kept g c = ends_no_lock _ (map turn_of c.args.exchanges.now) _
 
 pub returns-clause-shared : goal.returns-clause-shared
 returns-clause-shared g c = shares_locks _ (map turn_of c.args.exchanges.now) _
+
+pub returns-clause-reading : goal.returns-clause-reading
+returns-clause-reading g c = reads_leave _ (map turn_of c.args.exchanges.now) _
+
+pub returns-clause-created : goal.returns-clause-created
+returns-clause-created g c = only_creates _ (map turn_of c.args.exchanges.now) _
+
+pub returns-clause-refused : goal.returns-clause-refused
+returns-clause-refused g c = refusals_leave _ (map turn_of c.args.exchanges.now) _
+
+pub returns-clause-unmodified : goal.returns-clause-unmodified
+returns-clause-unmodified g c =
+    not_modified_tells _ (map turn_of c.args.exchanges.now) _
+    (showable_all c.args.exchanges.now c.loop-exchange.exchange-index c.loop-exchange-test.false c.loop-exchange.invariant.2)
+
+pub returns-clause-updated : goal.returns-clause-updated
+returns-clause-updated g c =
+    loses_no_update _ (map turn_of c.args.exchanges.now) _
+    (showable_all c.args.exchanges.now c.loop-exchange.exchange-index c.loop-exchange-test.false c.loop-exchange.invariant.2)

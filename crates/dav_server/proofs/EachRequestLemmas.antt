@@ -1,0 +1,72 @@
+-- What a run promises of each of its requests.
+use Rattle.std.proofs.Common.{◌≡◌, ◌++◌, ◌≤◌, ℕ, List, ◌∷◌, Some, ap, subst, ◌∙◌}
+use Rattle.dav_core.specs.Asking.{StoreState}
+use Rattle.dav_core.specs.Path.{PathText, names}
+use Rattle.dav_core.specs.World.{World, Node, node_at, last_moment}
+use Rattle.dav_engine.specs.Plan.{Locks, ServerState}
+use Rattle.dav_engine.specs.Response.{Response}
+use Rattle.dav_headers.specs.ETag.{tag_text}
+use Rattle.dav_server.specs.EachRequest.{RunStep, ReadsLeaveAll, NotModifiedTells, LosesNoUpdate, OnlyCreates, RefusalsLeaveAll}
+use Rattle.dav_server.specs.Leaving.{SameContent, SafeLeaves, CreateOnlyLeaves, RefusedStatusLeaves}
+use Rattle.dav_server.specs.Machine.{Asked, Settings, Steps}
+use Rattle.dav_server.specs.Run.{Turn, begun}
+use Rattle.dav_server.specs.Server.{Server}
+use Rattle.dav_server.specs.TagLaws.{AreShowable, ShownIn}
+use Rattle.dav_server.proofs.MeansWorld.{begun_world, all_front, reads_leave_all}
+use Rattle.dav_server.proofs.NoLostUpdate.{no_lost_update}
+use Rattle.dav_server.proofs.NotModified.{not_modified_is_true}
+use Rattle.dav_server.proofs.RefusedLemmas.{refused_leaves}
+use Rattle.dav_server.proofs.WriteLemmas.{create_only_keeps, create_only_fails}
+
+-- ---- one request
+
+pub safe_leaves : (s : Settings) (x : Asked) (was now : ServerState) (reply : Response) → Steps s x was.store was.locks reply now.store now.locks → SafeLeaves x was now
+safe_leaves s x was now reply step (m, asks, is) = reads_leave_all s x was.store now.store was.locks now.locks reply m asks is step
+
+pub create_only_leaves : (s : Settings) (x : Asked) (was now : ServerState) (reply : Response) → Steps s x was.store was.locks reply now.store now.locks → CreateOnlyLeaves s x reply was now
+create_only_leaves s x was now reply step p n is there = (
+  create_only_keeps s x p n was.store now.store was.locks now.locks reply is there step,
+  create_only_fails s x p n was.store now.store was.locks now.locks reply is there step,
+)
+
+pub refused_status_leaves : (s : Settings) (x : Asked) (was now : ServerState) (reply : Response) → Steps s x was.store was.locks reply now.store now.locks → RefusedStatusLeaves x reply was now
+refused_status_leaves s x was now reply step refused fresh = refused_leaves s x was.store now.store was.locks now.locks reply fresh refused step
+
+-- ---- a request of a run
+
+-- the state when the turn begins
+abbrev at_begin : Turn → ServerState → ServerState
+at_begin t was = record { store = begun t.refusals was.store; locks = was.locks }
+
+same_content : (t : Turn) (was now : ServerState) → SameContent (at_begin t was) now → SameContent was now
+same_content t was now (world, locks) = (world ∙ begun_world t.refusals was.store, locks)
+
+pub reads_leave : (old : Server) (ts : List Turn) (replies : List Response) → ReadsLeaveAll old ts replies
+reads_leave old ts replies u safe = same_content u.turn u.was u.now (safe_leaves old.settings u.turn.asked (at_begin u.turn u.was) u.now u.reply u.stepped safe)
+
+pub only_creates : (old : Server) (ts : List Turn) (replies : List Response) → OnlyCreates old ts replies
+only_creates old ts replies u p n is there =
+    let here = ap (λ (w : World). node_at w (names p)) (begun_world u.turn.refusals u.was.store) ∙ there in
+    let (left, failed) = create_only_leaves old.settings u.turn.asked (at_begin u.turn u.was) u.now u.reply u.stepped p n is here in
+    (same_content u.turn u.was u.now left, failed)
+
+pub refusals_leave : (old : Server) (ts : List Turn) (replies : List Response) → RefusalsLeaveAll old ts replies
+refusals_leave old ts replies u refused fresh =
+    same_content u.turn u.was u.now (refused_status_leaves old.settings u.turn.asked (at_begin u.turn u.was) u.now u.reply u.stepped refused fresh)
+
+pub loses_no_update : (old : Server) (ts : List Turn) (replies : List Response) → AreShowable ts → LosesNoUpdate old ts replies
+loses_no_update old ts replies small u p tag bytes world told updates good =
+    let all : AreShowable (u.front ++ u.turn ∷ u.back) = subst AreShowable u.turns_are small in
+    let first : AreShowable u.front = all_front (λ t. t.asked.moment ≤ last_moment) u.front (u.turn ∷ u.back) all in
+    no_lost_update old.settings u.front u.turn old.state.store u.was.store u.now.store old.state.locks u.was.locks u.now.locks u.before u.reply p tag bytes
+    world first u.earlier told updates u.stepped good
+
+pub not_modified_tells : (old : Server) (ts : List Turn) (replies : List Response) → AreShowable ts → NotModifiedTells old ts replies
+not_modified_tells old ts replies small u new ms p tag bytes world later is lacks shown =
+    let text = tag_text tag.weak tag.tag in
+    let all : AreShowable (u.front ++ u.turn ∷ u.back) = subst AreShowable u.turns_are small in
+    let by_turns : ShownIn (u.front ++ u.turn ∷ u.back) replies text bytes = subst (λ (l : List Turn). ShownIn l replies text bytes) u.turns_are shown in
+    let here : ShownIn (u.front ++ u.turn ∷ u.back) (u.before ++ u.reply ∷ u.after) text bytes =
+    subst (λ (l : List Response). ShownIn (u.front ++ u.turn ∷ u.back) l text bytes) u.replies_are by_turns in
+    not_modified_is_true old.settings u.front u.back u.turn old.state.store u.was.store u.now.store new old.state.locks u.was.locks u.now.locks ms
+    u.before u.after u.reply p tag bytes world all u.earlier u.stepped later is lacks here

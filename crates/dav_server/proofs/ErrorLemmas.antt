@@ -1,0 +1,149 @@
+-- A request that ends in an error leaves the world and the list of locks.
+use Rattle.std.proofs.Common.{◌≡◌, ◌==◌, ◌⊎◌, inl, inr, ℕ, Bool, length, List, Option, Some, None, Result, Ok, Err, refl, subst, ◌∙◌}
+use Rattle.dav_core.specs.declared.errors.FsError.{FsError}
+use Rattle.dav_core.specs.declared.errors.DavError.{DavError}
+use Rattle.dav_core.specs.declared.errors.DavError.TheVariants as dav
+use Rattle.dav_core.specs.declared.method.DavMethod.{DavMethod}
+use Rattle.dav_core.specs.declared.method.DavMethod.TheVariants.{Get, Head, Put, Patch, Copy, Move, Lock as LockMethod}
+use Rattle.dav_core.specs.Asking.{Open, CreateDir, Write, meaning, StoreState, Asks as Asking}
+use Rattle.dav_core.specs.Handle.{Handle, Opening}
+use Rattle.dav_core.specs.Path.{Path, PathText, names}
+use Rattle.dav_core.specs.World.{World}
+use Rattle.dav_engine.specs.declared.put_headers.Writing.{Writing}
+use Rattle.dav_engine.specs.declared.request.Body.{Body}
+use Rattle.dav_engine.specs.Client.{Client}
+use Rattle.dav_engine.specs.Conditions.{Conditions}
+use Rattle.dav_engine.specs.CopyMove.{is_copy_move}
+use Rattle.dav_engine.specs.Delete.{is_delete}
+use Rattle.dav_engine.specs.Headers.{Headers}
+use Rattle.dav_engine.specs.LockLaws.{IsUnused}
+use Rattle.dav_engine.specs.Method.{MethodPlan, then as followed_by, ◌>>=◌, gives, ask_for, ask_or, refused_as}
+use Rattle.dav_engine.specs.Mkcol.{mkcol_allowed, create_error, made, is_mkcol}
+use Rattle.dav_engine.specs.Plan.{Locks, Ran, ran_ask}
+use Rattle.dav_engine.specs.Put.{PutHeaders, put_opening, open_error, unsatisfiable, sought, written, store, put_allowed, put_body, bytes_of_body, is_put}
+use Rattle.dav_engine.specs.Response.{Response}
+use Rattle.dav_engine.specs.WorldLaws.{reads_done}
+use Rattle.dav_engine.proofs.Theorems.{Did, stays, means, did, refused_copymove_leaves_all, look_reads, only_put_allowed, only_mkcol_allowed, only_reads, reading_leaves, ran_split, options_only_reads, propfind_only_reads, refused_delete_leaves_all, refused_lock_leaves_all, refused_unlock_leaves_all, refused_proppatch_leaves_all}
+use Rattle.dav_server.specs.Get.{is_get}
+use Rattle.dav_server.specs.Head.{Request, IsHead}
+use Rattle.dav_server.specs.Leaving.{IsWriteRequest, IsStoresError, ErrorsLeave}
+use Rattle.dav_server.specs.Machine.{Settings, Asked, client, PlanOf, gets, heads, puts, patches, makes, deletes, copies, moves, offers, finds_properties, sets_properties, locks, releases, MeansOf, not_allowed, no_path, no_body, method, Means, no_head, no_method, known}
+use Rattle.dav_server.specs.Method.{GivesServed}
+use Rattle.dav_server.proofs.GetWorld.{get_is_reading}
+use Rattle.dav_server.proofs.PlanStatuses.{Outcome, Any, Ends, ends_done, ends_ask, ends_then, ends_bind, ends_either, ran_ends}
+
+abbrev Same : StoreState → Locks → StoreState → Locks → Type 0
+Same old ls new ms = (new.world ≡ old.world) × (ms ≡ ls)
+
+-- ---- the call that makes the first change
+
+-- where it is refused the plan ends; where it isn't, no other error comes than of this kind
+first_change : (E : DavError → Type 0) {A : Type 0} (w : World) (m : Result (A × World) FsError) (g : FsError → DavError) (answer : Result A FsError) (f : A → MethodPlan Response) (mid : StoreState) {new : StoreState} {ls ms : Locks} (e : DavError)
+    → ((a : A) → Ends E Any (f a)) → Did m w answer mid.world → ¬ E e → Ran Asking (followed_by (refused_as g answer) f) mid ls (Err e) new ms → (new.world ≡ w) × (ms ≡ ls)
+first_change E w m g (Ok a) f mid e later done other ran = absurd (other (ran_ends (later a) ran))
+first_change E w m g (Err d) f mid e later (stays c is same) other ran =
+    let (world, stay) = reading_leaves reads_done ran in
+    (world ∙ same, stay)
+first_change E w m g (Err d) f mid e later (means r h is same) other ran = absurd (cc)
+
+-- ---- PUT and PATCH
+
+own_asked : {A : Type 0} (g : FsError → DavError) → ((d : FsError) → IsStoresError (g d)) → (answer : Result A FsError) → Outcome IsStoresError Any (refused_as g answer)
+own_asked g own (Ok a) = tt
+own_asked g own (Err d) = own d
+
+own_store : {A : Type 0} (answer : Result A FsError) → Outcome IsStoresError Any (refused_as dav.FsError answer)
+own_store answer = own_asked dav.FsError (λ d. inl (d, refl)) answer
+
+own_sought : (place : Option ℕ) (file : Handle) → Ends IsStoresError Any (sought place file)
+own_sought None file = ends_done tt
+own_sought (Some k) file = ends_ask (λ answer. ends_then (refused_as (λ d. unsatisfiable) answer) _ (own_asked (λ d. unsatisfiable) (λ d. inr refl) answer) (λ moved any. ends_done tt))
+
+own_written : (file : Handle) (bytes : List ℕ) (now : ℕ) → Ends IsStoresError Any (written file bytes now)
+own_written file bytes now = ends_either (length bytes == 0) (gives file) (ask_for (Write file bytes now)) (ends_done tt) (ends_ask (λ answer. ends_done (own_store answer)))
+
+store_leaves : (how : Opening) (place : Option ℕ) (p : Path) (bytes : List ℕ) (now : ℕ) (found : Bool) (e : DavError) {old new : StoreState} {ls ms : Locks}
+    → ¬ IsStoresError e → Ran Asking (store how place p bytes now found) old ls (Err e) new ms → Same old ls new ms
+store_leaves how place p bytes now found e other (ran_ask {old = old} {mid = mid} {answer = answer} one rest) =
+    first_change IsStoresError old.world (meaning (Open p how now) old.world) (open_error how) answer _ mid e (λ file.
+    ends_bind _ (own_sought place file) (λ file any.
+    ends_bind _ (own_written file bytes now) (λ file any.
+    ends_ask (λ answer. ends_then (refused_as dav.FsError answer) _ (own_store answer) (λ done any. ends_ask (λ answer. ends_done tt)))))) (did one) other rest
+
+put_leaves : (m : DavMethod) (h : PutHeaders) (p : Path) (who : Client) (bytes : List ℕ) (checked : Result (Writing × Bool) DavError) (e : DavError) {old mid new : StoreState} {ls ks ms : Locks}
+    → ¬ IsStoresError e → Ran Asking (put_allowed m h p who bytes) old ls checked mid ks
+    → Ran Asking (followed_by checked (λ allowed. store (put_opening h allowed.0) allowed.0.from p bytes who.moment allowed.1)) mid ks (Err e) new ms → Same old ls new ms
+put_leaves m h p who bytes (Err d) e other first rest =
+    let (world, stay) = reading_leaves (only_reads look_reads (only_put_allowed m h p who bytes)) first in
+    let (same, kept) = reading_leaves reads_done rest in
+    (same ∙ world, kept ∙ stay)
+put_leaves m h p who bytes (Ok allowed) e other first rest =
+    let (world, stay) = reading_leaves (only_reads look_reads (only_put_allowed m h p who bytes)) first in
+    let (same, kept) = store_leaves (put_opening h allowed.0) allowed.0.from p bytes who.moment allowed.1 e other rest in
+    (same ∙ world, kept ∙ stay)
+
+body_leaves : (m : DavMethod) (h : PutHeaders) (p : Path) (who : Client) (bytes : Option (List ℕ)) (e : DavError) {old new : StoreState} {ls ms : Locks}
+    → ¬ IsStoresError e → Ran Asking (put_body m h p who bytes) old ls (Err e) new ms → Same old ls new ms
+body_leaves m h p who None e other ran = reading_leaves reads_done ran
+body_leaves m h p who (Some bytes) e other ran =
+    let parts = ran_split (put_allowed m h p who bytes) _ ran in
+    put_leaves m h p who bytes parts.outcome e other parts.first parts.rest
+
+-- ---- MKCOL
+
+-- once the folder is made there is no error
+abbrev NoneComes : DavError → Type 0
+NoneComes e = ⊥
+
+mkcol_leaves : (c : Conditions) (p : PathText) (who : Client) (checked : Result (Unit {0}) DavError) (e : DavError) {old mid new : StoreState} {ls ks ms : Locks}
+    → Ran Asking (mkcol_allowed c p who) old ls checked mid ks
+    → Ran Asking (followed_by checked (λ _. ask_or create_error (CreateDir (names p) who.moment) >>= (λ _. gives (made p)))) mid ks (Err e) new ms → Same old ls new ms
+mkcol_leaves c p who (Err d) e first rest =
+    let (world, stay) = reading_leaves (only_reads look_reads (only_mkcol_allowed c p who)) first in
+    let (same, kept) = reading_leaves reads_done rest in
+    (same ∙ world, kept ∙ stay)
+mkcol_leaves c p who (Ok allowed) e first (ran_ask {old = old} {mid = mid} {answer = answer} one rest) =
+    let (world, stay) = reading_leaves (only_reads look_reads (only_mkcol_allowed c p who)) first in
+    let (same, kept) = first_change NoneComes old.world (meaning (CreateDir (names p) who.moment) old.world) create_error answer (λ _. gives (made p)) mid e (λ done. ends_done tt) (did one) (λ no. no) rest in
+    (same ∙ world, kept ∙ stay)
+
+-- ---- a step
+
+abbrev IsNewToken : Client → Locks → Type 0
+IsNewToken who ls = (token : List ℕ) → who.token ≡ Some token → IsUnused token ls
+
+plan_leaves : {allowed : ℕ} {headers : Headers} {p : PathText} {given : Body} {who : Client} {m : DavMethod} {plan : MethodPlan Response} (e : DavError) {old new : StoreState} {ls ms : Locks}
+    → ((m ≡ Put) ⊎ (m ≡ Patch) → ¬ IsStoresError e) → (m ≡ LockMethod → IsNewToken who ls) → PlanOf allowed headers p given who m plan → Ran Asking plan old ls (Err e) new ms → Same old ls new ms
+plan_leaves {p = p} {who = who} e other fresh (gets (is_get c are)) ran = reading_leaves (get_is_reading Get c (names p) who.moment) ran
+plan_leaves {p = p} {who = who} e other fresh (heads (is_get c are)) ran = reading_leaves (get_is_reading Head c (names p) who.moment) ran
+plan_leaves {p = p} {given} {who} e other fresh (puts (is_put h are)) ran = body_leaves Put h (names p) who (bytes_of_body given) e (other (inl refl)) ran
+plan_leaves {p = p} {given} {who} e other fresh (patches (is_put h are)) ran = body_leaves Patch h (names p) who (bytes_of_body given) e (other (inr refl)) ran
+plan_leaves {p = p} {who = who} e other fresh (makes (is_mkcol c are)) ran =
+    let parts = ran_split (mkcol_allowed c p who) _ ran in
+    mkcol_leaves c p who parts.outcome e parts.first parts.rest
+plan_leaves {p = p} {who = who} e {old} {new} {ls} {ms} other fresh (deletes (is_delete h are)) ran = refused_delete_leaves_all h p who old new ls ms e ran
+plan_leaves {p = p} {who = who} e {old} {new} {ls} {ms} other fresh (copies (is_copy_move h are)) ran = refused_copymove_leaves_all Copy h p who old new ls ms e ran
+plan_leaves {p = p} {who = who} e {old} {new} {ls} {ms} other fresh (moves (is_copy_move h are)) ran = refused_copymove_leaves_all Move h p who old new ls ms e ran
+plan_leaves {allowed} {p = p} e other fresh offers ran = reading_leaves (options_only_reads allowed p) ran
+plan_leaves {headers = headers} {p} {given} {who} {plan = plan} e other fresh (finds_properties is) ran = reading_leaves (propfind_only_reads headers p given who plan is) ran
+plan_leaves {headers = headers} {p} {given} {who} {plan = plan} e {old} {new} {ls} {ms} other fresh (sets_properties is) ran = refused_proppatch_leaves_all headers p given who plan old new ls ms e is ran
+plan_leaves {headers = headers} {p} {given} {who} {plan = plan} e {old} {new} {ls} {ms} other fresh (locks is) ran = refused_lock_leaves_all headers p given who plan old new ls ms e (fresh refl) is ran
+plan_leaves {headers = headers} {p} {who = who} {plan = plan} e {old} {new} {ls} {ms} other fresh (releases is) ran = refused_unlock_leaves_all headers p who plan old new ls ms e is ran
+
+of_leaves : {s : Settings} {x : Asked} {r : Request} {m : DavMethod} {plan : MethodPlan Response} (e : DavError) {old new : StoreState} {ls ms : Locks}
+    → ((m ≡ Put) ⊎ (m ≡ Patch) → ¬ IsStoresError e) → (m ≡ LockMethod → IsNewToken (client x) ls) → MeansOf s x r m plan → Ran Asking plan old ls (Err e) new ms → Same old ls new ms
+of_leaves e other fresh (not_allowed out) ran = reading_leaves reads_done ran
+of_leaves e other fresh (no_path d has none) ran = reading_leaves reads_done ran
+of_leaves e other fresh (no_body p d has named bad) ran = reading_leaves reads_done ran
+of_leaves e other fresh (method p given has named good plan) ran = plan_leaves e other fresh plan ran
+
+-- a method that writes is that of a request that writes
+write_request : (x : Asked) (r : Request) (m : DavMethod) → IsHead x.head r → GivesServed r.method (Ok m) → (m ≡ Put) ⊎ (m ≡ Patch) → IsWriteRequest x
+write_request x r m head is (inl put) = inl (r, head, subst (λ (k : DavMethod). GivesServed r.method (Ok k)) put is)
+write_request x r m head is (inr patch) = inr (r, head, subst (λ (k : DavMethod). GivesServed r.method (Ok k)) patch is)
+
+pub errors_leave : ErrorsLeave
+errors_leave s x plan old new ls ms e other fresh (no_head out) ran = reading_leaves reads_done ran
+errors_leave s x plan old new ls ms e other fresh (no_method r d head is) ran = reading_leaves reads_done ran
+errors_leave s x plan old new ls ms e other fresh (known r m head is its) ran =
+    of_leaves e (λ writes. other (write_request x r m head is writes)) (λ lock. fresh (r, head, subst (λ (k : DavMethod). GivesServed r.method (Ok k)) lock is)) its ran

@@ -1,0 +1,67 @@
+-- What requests leave as it was: those that read, those that only create, those that are refused, and those that end in an error
+-- (RFC 9110, sections 9.2.1, 13.1.2 and 13.2.1; RFC 4918, sections 7 and 9.1).
+use Rattle.std.specs.Prelude.{◌≡◌, ◌⊎◌, true, Some, Err}
+use Rattle.dav_core.specs.declared.errors.DavError.{DavError}
+use Rattle.dav_core.specs.declared.errors.DavError.TheVariants as dav
+use Rattle.dav_core.specs.declared.errors.FsError.{FsError}
+use Rattle.dav_core.specs.declared.method.DavMethod.{DavMethod}
+use Rattle.dav_core.specs.declared.method.DavMethod.TheVariants.{Put, Patch}
+use Rattle.dav_core.specs.Asking.{StoreState, Asks}
+use Rattle.dav_core.specs.Path.{PathText, names}
+use Rattle.dav_core.specs.World.{Node, node_at}
+use Rattle.dav_engine.specs.Method.{MethodPlan}
+use Rattle.dav_engine.specs.Plan.{Locks, Ran, ServerState}
+use Rattle.dav_engine.specs.Put.{unsatisfiable}
+use Rattle.dav_engine.specs.Response.{Response}
+use Rattle.dav_server.specs.Machine.{Asked, Settings, Means, Steps}
+use Rattle.dav_server.specs.TagLaws.{HasMethod, is_safe}
+use Rattle.dav_server.specs.UpdateLaws.{IsSuccess}
+use Rattle.dav_server.specs.WriteLaws.{IsCreateOnly, IsRefusedStatus, IsLockRequest, HandsInUnused}
+
+-- the head of a request names one of the safe methods
+abbrev pub IsSafeRequest : Asked → Type 0
+IsSafeRequest x = (m : DavMethod) × HasMethod m x × (is_safe m ≡ true)
+
+-- A PUT or PATCH with If-None-Match `*` at a path where something is isn't answered with success.
+abbrev pub CreateOnlyFails : Type 0
+CreateOnlyFails =
+    (s : Settings) (x : Asked) (p : PathText) (n : Node) (old new : StoreState) (ls ms : Locks) (reply : Response)
+    → IsCreateOnly s x p → node_at old.world (names p) ≡ Some n → Steps s x old ls reply new ms → ¬ IsSuccess reply.status
+
+-- the request is a PUT or PATCH
+abbrev pub IsWriteRequest : Asked → Type 0
+IsWriteRequest x = HasMethod Put x ⊎ HasMethod Patch x
+
+-- An error by which a PUT or PATCH can end after it opened its file: the store's, or 416 where the store refused to seek.
+abbrev pub IsStoresError : DavError → Type 0
+IsStoresError e = ((refusal : FsError) × (e ≡ dav.FsError refusal)) ⊎ (e ≡ unsatisfiable)
+
+-- A request whose plan ends in an error leaves the world and the list of locks: any method, any error. But for these: a PUT or
+-- PATCH may have opened its file before the store refused a call; and a LOCK whose file the store refused takes back the lock of
+-- its token, so no lock of the list has that token.
+abbrev pub ErrorsLeave : Type 0
+ErrorsLeave =
+    (s : Settings) (x : Asked) (plan : MethodPlan Response) (old new : StoreState) (ls ms : Locks) (e : DavError)
+    → (IsWriteRequest x → ¬ IsStoresError e) → (IsLockRequest x → HandsInUnused x ls)
+    → Means s x plan → Ran Asks plan old ls (Err e) new ms → (new.world ≡ old.world) × (ms ≡ ls)
+
+-- ---- of one request
+
+-- the world and the list of locks are as they were
+abbrev pub SameContent : ServerState → ServerState → Type 0
+SameContent was now = (now.store.world ≡ was.store.world) × (now.locks ≡ was.locks)
+
+-- a request of a safe method leaves them
+abbrev pub SafeLeaves : Asked → ServerState → ServerState → Type 0
+SafeLeaves x was now = IsSafeRequest x → SameContent was now
+
+-- a PUT or PATCH with If-None-Match `*` leaves them where something is at its path, and isn't answered with success
+abbrev pub CreateOnlyLeaves : Settings → Asked → Response → ServerState → ServerState → Type 0
+CreateOnlyLeaves s x reply was now =
+    (p : PathText) (n : Node)
+    → IsCreateOnly s x p → node_at was.store.world (names p) ≡ Some n → SameContent was now × ¬ IsSuccess reply.status
+
+-- A request that is answered 412 or 423 leaves them; a LOCK, where no lock of the list has the token that it hands in.
+abbrev pub RefusedStatusLeaves : Asked → Response → ServerState → ServerState → Type 0
+RefusedStatusLeaves x reply was now =
+    IsRefusedStatus reply.status → (IsLockRequest x → HandsInUnused x was.locks) → SameContent was now
