@@ -36,9 +36,9 @@ IsWriteRequest x = HasMethod Put x ⊎ HasMethod Patch x
 abbrev pub IsStoresError : DavError → Type 0
 IsStoresError e = ((refusal : FsError) × (e ≡ dav.FsError refusal)) ⊎ (e ≡ unsatisfiable)
 
--- A request whose plan ends in an error leaves the world and the list of locks: any method, any error. But for these: a PUT or
--- PATCH may have opened its file before the store refused a call; and a LOCK whose file the store refused takes back the lock of
--- its token, so no lock of the list has that token.
+-- A request whose plan ends in an error leaves the world and the list of locks, whatever its method is and whatever the store
+-- refuses. Apart are a PUT or PATCH with such an error, and a LOCK with a token that a lock of the list has: where the store refuses
+-- it a file, it takes back the lock of its token.
 abbrev pub ErrorsLeave : Type 0
 ErrorsLeave =
     (s : Settings) (x : Asked) (plan : MethodPlan Response) (old new : StoreState) (ls ms : Locks) (e : DavError)

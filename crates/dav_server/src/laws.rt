@@ -106,9 +106,10 @@ pub fn refused_requests_leave_all()
     ensures { RefusedLeaves }
 {}
 
-/// A request that ends in an error leaves the world and the list of locks, whatever its method is and whatever the store refuses. But a
-/// PUT or PATCH that the store refuses after its file was opened leaves what was done; and a LOCK whose file the store refuses takes
-/// back the lock of its token, so no lock may have that token before (RFC 9110, section 15; RFC 4918, section 9.10).
+/// A request that ends in an error leaves the world and the list of locks, whatever its method is and whatever the store refuses.
+/// Apart are a PUT or PATCH whose error is the store's, or 416, since the store may refuse a call after the file was opened; and a
+/// LOCK with a token that a lock has already, since it takes back the lock of its token where the store refuses it a file (RFC 9110,
+/// section 15; RFC 4918, section 9.10).
 #[tactic(auto, using(crate::proofs::ErrorLemmas::errors_leave))]
 pub fn errors_leave_all()
     ensures { ErrorsLeave }

@@ -1,4 +1,7 @@
 //! Runs whose replies were worked out by hand from RFC 9110.
+ghost use Rattle.std.specs.Prelude.{◌≡◌, IfOk};
+ghost use Rattle.dav_server.specs.Headline.{empty_server};
+
 use super::*;
 use crate::asserting::same;
 use crate::davhandler::tests::{lockless_server, shown};
@@ -21,8 +24,10 @@ pub(super) fn exchange(
     Exchange::new(head, body, None, 1, None)
 }
 
-/// A server with locks, of a new store that refuses calls by a list.
-pub(super) fn refusing_server(alloc: Global) -> Result<DavHandler<Refusing<MemFs>, MemLs>, Fail> {
+/// A server with locks, of a new store that refuses calls by a list: it is empty, so the headline holds of its runs.
+pub(super) fn refusing_server(alloc: Global) -> Result<DavHandler<Refusing<MemFs>, MemLs>, Fail>
+    ensures { IfOk result (λ handler. handler.server ≡ empty_server handler.server.settings) }
+{
     let fs = Refusing::new(MemFs::new(alloc)?);
     let ls = MemLs::new(alloc)?;
     Ok(DavHandler::new(alloc, "", DavMethodSet::all(), fs, Some(ls))?)
