@@ -70,6 +70,10 @@ null -> !
 {"requests":[],"prefix":"dav"} -> !
 {"requests":[],"prefix":"/a%20b"} -> !
 {"requests":[],"prefix":"/a//b"} -> !
+# A place without a request, and one of a request without a token.
+{"requests":[{"head":"FOO / HTTP/1.1\r\n\r\n","token":"urn:t:1"}],"alone":1} -> !
+{"requests":[{"head":"FOO / HTTP/1.1\r\n\r\n"}],"alone":0} -> !
+{"requests":[{"head":"FOO / HTTP/1.1\r\n\r\n","token":"urn:t:1"}],"alone":0} -> 2
 # A fault after good requests.
 {"requests":[{"head":"FOO / HTTP/1.1\r\n\r\n"},{"head":"","moment":1.5}]} -> !
 "##;
