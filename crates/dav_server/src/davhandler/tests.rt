@@ -23,6 +23,7 @@ DELETE /%2e%2e HTTP/1.1\r\n\r\n | bytes x -> 403\ncontent-length: 0\n
 # trees, which PROPFIND takes up to 64 elements deep; bytes aren't one, and without a body all is asked for
 PROPFIND / HTTP/1.1\r\nDepth: 0\r\n\r\n | allprop 64 -> 207\ncache-control: no-cache\npragma: no-cache\ncontent-type: application/xml; charset=utf-8\n\n /\n
 PROPFIND / HTTP/1.1\r\nDepth: 0\r\n\r\n | allprop 65 -> 400\ncontent-length: 0\n
+PROPFIND / HTTP/1.1\r\nDepth: infinity\r\n\r\n | allprop 65 -> 400\ncontent-length: 0\n
 PROPFIND / HTTP/1.1\r\nDepth: 0\r\n\r\n | tree 64 -> 400\ncontent-length: 0\n
 PROPFIND / HTTP/1.1\r\nDepth: 0\r\n\r\n | bytes x -> 400\ncontent-length: 0\n
 PROPFIND / HTTP/1.1\r\n\r\n -> 207\ncache-control: no-cache\npragma: no-cache\ncontent-type: application/xml; charset=utf-8\n\n
