@@ -244,22 +244,6 @@ fn parent(alloc: Global, text: &'static str) -> Result<Element, Fail> {
     Ok(element)
 }
 
-// The elements between bars, in an element.
-fn holding(
-    alloc: Global,
-    text: &'static str,
-    part: impl Fn(Global, &'static str) -> Result<Element, Fail>,
-) -> Result<Element, Fail> {
-    let (name, parts) = text.split_once(" |").ok_or(NoRow(text))?;
-    let mut tree = named(alloc, name)?;
-    if let Some(parts) = parts.strip_suffix('|') {
-        for text in parts.split('|') {
-            tree.push_element(part(alloc, text)?)?;
-        }
-    }
-    Ok(tree)
-}
-
 // A part of a body that changes properties.
 fn changing_part(alloc: Global, text: &'static str) -> Result<Element, Fail> {
     let (name, inside) = text.split_once('=').ok_or(NoRow(text))?;
@@ -283,6 +267,22 @@ fn locking_part(alloc: Global, text: &'static str) -> Result<Element, Fail> {
         }
     }
     Ok(element)
+}
+
+// A body of a LOCK or of a PROPPATCH: the parts between bars, in an element.
+fn body_in(alloc: Global, method: &str, text: &'static str) -> Result<Body, Fail> {
+    let (name, parts) = text.split_once(" |").ok_or(NoRow(text))?;
+    let mut tree = named(alloc, name)?;
+    if let Some(parts) = parts.strip_suffix('|') {
+        for text in parts.split('|') {
+            let part = match method {
+                "LOCK" => locking_part(alloc, text)?,
+                _ => changing_part(alloc, text)?,
+            };
+            tree.push_element(part)?;
+        }
+    }
+    Ok(Body::Tree(tree))
 }
 
 // What asks for a lock of this scope, for writing.
@@ -427,13 +427,13 @@ impl Asked {
     // The names that the reply to an update of the file's properties tells.
     fn update(&mut self, alloc: Global, text: &'static str) -> Result<String, Fail> {
         self.ask(alloc, "PUT", "", Body::None)?;
-        let body = Body::Tree(holding(alloc, text, changing_part)?);
+        let body = body_in(alloc, "PROPPATCH", text)?;
         names_told(alloc, &self.ask(alloc, "PROPPATCH", "", body)?)
     }
 
     // The scope and the owner of the lock that is granted.
     fn lock(&mut self, alloc: Global, text: &'static str) -> Result<String, Fail> {
-        let body = Body::Tree(holding(alloc, text, locking_part)?);
+        let body = body_in(alloc, "LOCK", text)?;
         let reply = self.ask(alloc, "LOCK", "", body)?;
         let mut text = format!(in alloc; "{}", reply.status.as_u16())?;
         if let Some(lock) = lock_told(&reply) {
