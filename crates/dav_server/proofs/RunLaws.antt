@@ -1,10 +1,10 @@
 -- Runs split, join and end.
-use Rattle.std.proofs.Common.{List, [], ◌∷◌, refl, ap, ◌∙◌}
+use Rattle.std.proofs.Common.{List, [], ◌∷◌, refl, sym, ap, ◌∙◌}
 use Rattle.std.proofs.lemmas.List.Elements.{All-head, All-tail}
 use Rattle.dav_engine.specs.Response.{Response, reply_to}
-use Rattle.dav_engine.proofs.Theorems.{comes}
+use Rattle.dav_engine.proofs.Theorems.{comes, ran_unset}
 use Rattle.dav_server.specs.Machine.{steps}
-use Rattle.dav_server.specs.Run.{begun, no_more, one_more, HasPlan, RunsSplit, RunsJoin, RunsEnd, RequestsHaveRuns}
+use Rattle.dav_server.specs.Run.{begun, no_more, one_more, HasPlan, ShortnessIsKept, RunsSplit, RunsJoin, RunsEnd, RequestsHaveRuns}
 use Rattle.dav_server.proofs.SomePlan.{requests_have_plans}
 use Rattle.dav_server.proofs.MeansWorld.{begun_short}
 
@@ -17,6 +17,11 @@ runs_split s (t ∷ ts) us old new ls ms replies (one_more {reply = reply} {repl
 pub runs_join : RunsJoin
 runs_join s [] us old mid new ls ks ms before after no_more two = two
 runs_join s (t ∷ ts) us old mid new ls ks ms before after (one_more {replies = rest} step one) two = one_more step (runs_join s ts us _ mid new _ ks ms rest after one two)
+
+pub shortness_is_kept : ShortnessIsKept
+shortness_is_kept s [] old new ls ms replies no_more unset = unset
+shortness_is_kept s (t ∷ ts) old new ls ms replies (one_more {replies = rest} (steps plan outcome means ran) more) unset =
+    sym (begun_short t.refusals old) ∙ ran_unset ran (shortness_is_kept s ts _ new _ ms rest more unset)
 
 pub runs_end : RunsEnd
 runs_end s [] old ls all = ([], old, ls, no_more, refl)

@@ -61,6 +61,12 @@ RunsJoin =
     (s : Settings) (ts us : List Turn) (old mid new : StoreState) (ls ks ms : Locks) (before after : List Response)
     → Runs s ts old ls before mid ks → Runs s us mid ks after new ms → Runs s (ts ++ us) old ls (before ++ after) new ms
 
+-- A store remembers that it ran out of memory: where it hasn't after a run, it hadn't before it.
+abbrev pub ShortnessIsKept : Type 0
+ShortnessIsKept =
+    (s : Settings) (ts : List Turn) (old new : StoreState) (ls ms : Locks) (replies : List Response)
+    → Runs s ts old ls replies new ms → new.short ≡ false → old.short ≡ false
+
 -- a request that results in a plan
 abbrev pub HasPlan : Settings → Turn → Type 0
 HasPlan s t = (plan : MethodPlan Response) × Means s t.asked plan

@@ -3,7 +3,7 @@ ghost use Rattle.dav_server.specs.Head.{OneHead};
 ghost use Rattle.dav_server.specs.Headers.{KeepsValues};
 ghost use Rattle.dav_server.specs.Headline.{HeadlineHolds};
 ghost use Rattle.dav_server.specs.Leaving.{CreateOnlyFails, ErrorsLeave};
-ghost use Rattle.dav_server.specs.Run.{RunsAreDetermined, RunsSplit, RunsJoin, RunsEnd, RequestsHavePlans, RequestsHaveRuns};
+ghost use Rattle.dav_server.specs.Run.{RunsAreDetermined, RunsSplit, RunsJoin, RunsEnd, ShortnessIsKept, RequestsHavePlans, RequestsHaveRuns};
 ghost use Rattle.dav_server.specs.TagLaws.{TagsTellBytes, NotModifiedIsTrue, ReadingLeaves, RunsKeepWorlds};
 ghost use Rattle.dav_server.specs.Target.{OneOutcome};
 ghost use Rattle.dav_server.specs.UpdateLaws.{NoLostUpdate};
@@ -41,6 +41,12 @@ pub fn runs_are_determined()
 pub fn runs_split()
     ensures split { RunsSplit }
     ensures join { RunsJoin }
+{}
+
+/// Where the store hasn't run out of memory after a run, it hadn't before it: so it hadn't at any place where the run splits.
+#[tactic(auto, using(crate::proofs::RunLaws::shortness_is_kept))]
+pub fn shortness_is_kept()
+    ensures { ShortnessIsKept }
 {}
 
 /// No request is without a plan, whatever its bytes are. Whether bytes are a head, or a text names a path, is a relation that
