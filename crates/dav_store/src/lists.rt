@@ -1,7 +1,8 @@
 //! Lists of paths and their nodes, one behind the other, in order of the paths. A path is found by halving: first among
 //! the lists, then within one of them. No list gets long, so a new node moves few others, however many there are.
-ghost use Rattle.std.specs.Prelude.{◌≡◌, ◌∷◌, ◌++◌, ◌+◌, ◌<◌, ◌≤◌, [], ℕ, List, Some, ◌≢◌, ◌==◌, ◌&&◌, not, T, false, IfOk, OnOk, OnErr, IfSome, MatchOption, Option, option_copied, position, filter, length};
-ghost use Rattle.std.specs.List.{AllByRecursion, find as first};
+ghost use Rattle.std.specs.Prelude.{◌≡◌, ◌∷◌, ◌++◌, ◌+◌, ◌<◌, ◌≤◌, [], ℕ, List, Some, ◌≢◌, ◌==◌, ◌&&◌, not, T, false, IfOk, OnOk, OnErr, IfSome, MatchOption, Option, option_copied, position, filter, vec_len, length};
+ghost use Rattle.std.specs.Vec.{vec_capacity};
+ghost use Rattle.std.specs.List.{AllByRecursion, insert, find as first};
 ghost use Rattle.std.specs.FinMap.{find, put, is_sorted};
 ghost use Rattle.dav_core.specs.Lists.{without_first};
 ghost use Rattle.dav_core.specs.Path.{names, path_cmp, is_same_path, is_at_or_under, parent_of};
