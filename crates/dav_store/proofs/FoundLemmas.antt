@@ -9,15 +9,15 @@ use Rattle.std.specs.Option.{option_map}
 use Rattle.std.specs.FinMap.{is_sorted}
 use Rattle.std.specs.FinMap.Entries.{below_all}
 use Rattle.std.specs.declared.cmp.Ordering.TheVariants.{Less, Greater}
-use Rattle.std.specs.Ordering.{is_gt, is_lt}
+use Rattle.std.specs.Ordering.{is_gt, is_le, is_lt}
 use Rattle.dav_core.specs.Lists.{without_first}
 use Rattle.dav_core.specs.Path.{Path, path_cmp, is_at_or_under, rest_after, only_name}
 use Rattle.dav_core.specs.World.{Node, Nodes, change_node, prune, members, is_folder_kind}
 use Rattle.dav_core.proofs.NodesAfter.{both_true, left_true, right_true}
 use Rattle.dav_store.specs.Entries.{all_in, AreFilled, starts_below, IsHome, IsFoundAt}
 use Rattle.dav_store.proofs.Place.{IsFirst, NonePasses, is_first, none_passes, first_of, first_none, changed_at}
-use Rattle.dav_store.proofs.SearchLemmas.{less_is}
-use Rattle.dav_store.proofs.RunLemmas.{before_not_under, under_between}
+use Rattle.dav_store.proofs.SearchLemmas.{less_is, position_is, position_none}
+use Rattle.dav_store.proofs.RunLemmas.{members_run, before_not_under, under_between, not_above, is_above}
 use Rattle.dav_store.proofs.HomeLemmas.{IsBehind, right_sorted}
 
 -- none of these passes
@@ -28,7 +28,7 @@ fails_from : (test : Path × Node → Bool) (xs : Nodes) → NonePasses test xs 
 fails_from test [] h = tt
 fails_from test (x ∷ xs) h = (h.0, fails_from test xs h.1)
 
-to_none : (test : Path × Node → Bool) (xs : Nodes) → Fails test xs → NonePasses test xs
+pub to_none : (test : Path × Node → Bool) (xs : Nodes) → Fails test xs → NonePasses test xs
 to_none test [] h = tt
 to_none test (x ∷ xs) h = (h.0, to_none test xs h.1)
 
@@ -63,11 +63,11 @@ module _ (p : Path) where
   behind_fails [] h = tt
   behind_fails (x ∷ xs) h = (before_not_under p x.0 (ap is_gt h.0), behind_fails xs h.1)
 
-  not_later : (x y : Path) → path_cmp p x ≡ Less → path_cmp x y ≡ Less → is_at_or_under x p ≡ false → (b : Bool) → is_at_or_under y p ≡ b → b ≡ false
-  not_later x y less next h true e = sym (under_between p x y (ap is_gt less) next e) ∙ h
+  not_later : (x y : Path) → is_gt (path_cmp p x) ≡ false → path_cmp x y ≡ Less → is_at_or_under x p ≡ false → (b : Bool) → is_at_or_under y p ≡ b → b ≡ false
+  not_later x y less next h true e = sym (under_between p x y less next e) ∙ h
   not_later x y less next h false e = refl
 
-  later_fails : (x : Path) (ys : Nodes) → path_cmp p x ≡ Less → is_at_or_under x p ≡ false → T (below_all path_cmp x ys) → Fails (λ e. is_at_or_under e.0 p) ys
+  later_fails : (x : Path) (ys : Nodes) → is_gt (path_cmp p x) ≡ false → is_at_or_under x p ≡ false → T (below_all path_cmp x ys) → Fails (λ e. is_at_or_under e.0 p) ys
   later_fails x [] less h over = tt
   later_fails x (y ∷ ys) less h over = (
     not_later x y.0 less (less_is (path_cmp x y.0) (left_true (is_lt (path_cmp x y.0)) (below_all path_cmp x ys) over)) h (is_at_or_under y.0 p) refl,
@@ -79,9 +79,41 @@ module _ (p : Path) where
   over_fails [] ys some over sorted h = absurd (omega arith)
   over_fails (x ∷ xs) ys some over sorted h = (
     h,
-    later_fails x.0 (xs ++ ys) (less_is (path_cmp p x.0) (left_true (is_lt (path_cmp p x.0)) (below_all path_cmp p (xs ++ ys)) over)) h
+    later_fails x.0 (xs ++ ys) (ap is_gt (less_is (path_cmp p x.0) (left_true (is_lt (path_cmp p x.0)) (below_all path_cmp p (xs ++ ys)) over))) h
         (left_true (below_all path_cmp x.0 (xs ++ ys)) (is_sorted path_cmp (xs ++ ys)) sorted),
   )
+
+  none_before : (xs : Nodes) → NonePasses (λ e. is_le (path_cmp p e.0)) xs → Fails (λ e. is_at_or_under e.0 p) xs
+  none_before [] h = tt
+  none_before (x ∷ xs) h = (before_not_under p x.0 (is_above (path_cmp p x.0) h.0), none_before xs h.1)
+
+  -- where all come before p, none is below it
+  pub all_before : (xs : Nodes) → position (λ e. is_le (path_cmp p e.0)) xs ≡ None → position (λ e. is_at_or_under e.0 p) xs ≡ None
+  all_before xs h = position_none (λ e. is_at_or_under e.0 p) xs (to_none (λ e. is_at_or_under e.0 p) xs (none_before xs (none_passes (λ e. is_le (path_cmp p e.0)) xs h)))
+
+  first_below : (xs : Nodes) (i : ℕ) (e : Path × Node) → IsFirst (λ e. is_le (path_cmp p e.0)) xs i e → is_at_or_under e.0 p ≡ true → IsFirst (λ e. is_at_or_under e.0 p) xs i e
+  first_below [] i e h under = absurd h
+  first_below (x ∷ xs) zero e h under = (ap (λ (y : Path × Node). is_at_or_under y.0 p) h.1 ∙ under, h.1)
+  first_below (x ∷ xs) (suc i) e h under = (before_not_under p x.0 (is_above (path_cmp p x.0) h.0), first_below xs i e h.1 under)
+
+  -- the first that doesn't come before p is the first below it, where it is below it
+  pub below_there : (xs : Nodes) (i : ℕ) (d : Path × Node) → position (λ e. is_le (path_cmp p e.0)) xs ≡ Some i → is_at_or_under (get_or xs i d).0 p ≡ true
+      → position (λ e. is_at_or_under e.0 p) xs ≡ Some i
+  below_there xs i d h under = position_is (λ e. is_at_or_under e.0 p) xs i (get_or xs i d) (first_below xs i (get_or xs i d) (is_first (λ e. is_le (path_cmp p e.0)) xs i d h) under)
+
+  none_from : (xs : Nodes) (i : ℕ) (e : Path × Node) → T (is_sorted path_cmp xs) → IsFirst (λ e. is_le (path_cmp p e.0)) xs i e → is_at_or_under e.0 p ≡ false → Fails (λ e. is_at_or_under e.0 p) xs
+  none_from [] i e sorted h under = tt
+  none_from (x ∷ xs) zero e sorted h under =
+      let here : is_at_or_under x.0 p ≡ false = ap (λ (y : Path × Node). is_at_or_under y.0 p) h.1 ∙ under in
+      (here, later_fails x.0 xs (not_above (path_cmp p x.0) h.0) here (left_true (below_all path_cmp x.0 xs) (is_sorted path_cmp xs) sorted))
+  none_from (x ∷ xs) (suc i) e sorted h under =
+      (before_not_under p x.0 (is_above (path_cmp p x.0) h.0), none_from xs i e (right_true (below_all path_cmp x.0 xs) (is_sorted path_cmp xs) sorted) h.1 under)
+
+  -- and else none is
+  pub none_there : (xs : Nodes) (i : ℕ) (d : Path × Node) → T (is_sorted path_cmp xs) → position (λ e. is_le (path_cmp p e.0)) xs ≡ Some i → is_at_or_under (get_or xs i d).0 p ≡ false
+      → position (λ e. is_at_or_under e.0 p) xs ≡ None
+  none_there xs i d sorted h under =
+      position_none (λ e. is_at_or_under e.0 p) xs (to_none (λ e. is_at_or_under e.0 p) xs (none_from xs i (get_or xs i d) sorted (is_first (λ e. is_le (path_cmp p e.0)) xs i d h) under))
 
   starts_not : (xs : Nodes) → Fails (λ e. is_at_or_under e.0 p) xs → starts_below p xs ≡ false
   starts_not [] h = refl
@@ -99,13 +131,13 @@ module _ (p : Path) where
     next_here [] k e lt is = absurd (omega arith)
     next_here (l ∷ ls) k e lt is = is
 
-    pub found_next : (ls : List (Vec (Path × Node) Z)) (i k : ℕ) (d e : Vec (Path × Node) Z) → IsHome p ls i → position (λ e. is_at_or_under e.0 p) (get_or ls i d).items ≡ None → i + 1 < length ls
-        → position (λ e. is_at_or_under e.0 p) (get_or ls (i + 1) e).items ≡ Some k → IsFoundAt (λ e. is_at_or_under e.0 p) ls (i + 1) k
+    pub found_next : (ls : List (Vec (Path × Node) Z)) (i k : ℕ) (d e : Vec (Path × Node) Z) → IsHome p ls i → position (λ e. is_at_or_under e.0 p) (get_or ls i d).items ≡ None → suc i < length ls
+        → position (λ e. is_at_or_under e.0 p) (get_or ls (suc i) e).items ≡ Some k → IsFoundAt (λ e. is_at_or_under e.0 p) ls (suc i) k
     found_next [] i k d e h none lt is = absurd h
     found_next (l ∷ ls) zero k d e h none lt is = (fails (λ e. is_at_or_under e.0 p) l.items none, next_here ls k e (omega arith) is)
     found_next (l ∷ ls) (suc i) k d e h none lt is = (behind_fails l.items h.0, found_next ls i k d e h.1 none (omega arith) is)
 
-    pub none_last : (ls : List (Vec (Path × Node) Z)) (i : ℕ) (d : Vec (Path × Node) Z) → IsHome p ls i → position (λ e. is_at_or_under e.0 p) (get_or ls i d).items ≡ None → i + 1 ≡ length ls
+    pub none_last : (ls : List (Vec (Path × Node) Z)) (i : ℕ) (d : Vec (Path × Node) Z) → IsHome p ls i → position (λ e. is_at_or_under e.0 p) (get_or ls i d).items ≡ None → suc i ≡ length ls
         → Fails (λ e. is_at_or_under e.0 p) (all_in ls)
     none_last [] i d h none is = absurd h
     none_last (l ∷ []) zero d h none is = fails_both (λ e. is_at_or_under e.0 p) l.items [] (fails (λ e. is_at_or_under e.0 p) l.items none) tt
@@ -114,8 +146,8 @@ module _ (p : Path) where
         fails_both (λ e. is_at_or_under e.0 p) l.items (all_in ls) (behind_fails l.items h.0) (none_last ls i d h.1 none (omega arith))
 
     none_in : (ls : List (Vec (Path × Node) Z)) (i : ℕ) (d e : Vec (Path × Node) Z) → T (is_sorted path_cmp (all_in ls)) → AllByRecursion (λ l. 0 < length l.items) (drop 1 ls)
-        → IsHome p ls i → position (λ e. is_at_or_under e.0 p) (get_or ls i d).items ≡ None → i + 1 < length ls
-        → position (λ e. is_at_or_under e.0 p) (get_or ls (i + 1) e).items ≡ None → Fails (λ e. is_at_or_under e.0 p) (all_in ls)
+        → IsHome p ls i → position (λ e. is_at_or_under e.0 p) (get_or ls i d).items ≡ None → suc i < length ls
+        → position (λ e. is_at_or_under e.0 p) (get_or ls (suc i) e).items ≡ None → Fails (λ e. is_at_or_under e.0 p) (all_in ls)
     none_in [] i d e sorted filled h none lt is = absurd h
     none_in (l ∷ []) zero d e sorted filled h none lt is = absurd (omega arith)
     none_in (l ∷ m ∷ ms) zero d e sorted filled h none lt is =
@@ -127,8 +159,8 @@ module _ (p : Path) where
         (none_in (m ∷ ms) i d e (right_sorted l.items (all_in (m ∷ ms)) sorted) filled.1 h.1 none (omega arith) is)
 
     pub none_anywhere : (ls : List (Vec (Path × Node) Z)) (i : ℕ) (d e : Vec (Path × Node) Z) → T (is_sorted path_cmp (all_in ls)) → AreFilled ls
-        → IsHome p ls i → position (λ e. is_at_or_under e.0 p) (get_or ls i d).items ≡ None → i + 1 < length ls
-        → position (λ e. is_at_or_under e.0 p) (get_or ls (i + 1) e).items ≡ None → Fails (λ e. is_at_or_under e.0 p) (all_in ls)
+        → IsHome p ls i → position (λ e. is_at_or_under e.0 p) (get_or ls i d).items ≡ None → suc i < length ls
+        → position (λ e. is_at_or_under e.0 p) (get_or ls (suc i) e).items ≡ None → Fails (λ e. is_at_or_under e.0 p) (all_in ls)
     none_anywhere [] i d e sorted filled h none lt is = absurd h
     none_anywhere (l ∷ ls) i d e sorted filled h none lt is = none_in (l ∷ ls) i d e sorted filled h none lt is
 
@@ -197,6 +229,32 @@ module _ (test : Path × Node → Bool) where
         ap (λ (xs : Nodes). xs ++ all_in ls) is ∙ sym (changed_here f l.items (all_in ls) k (get_or l.items k e) n (is_first test l.items k e h) was)
     found_changed f (l ∷ ls) (suc i) k d new e n h was is = ap (λ (xs : Nodes). l.items ++ xs) (found_changed f ls i k d new e n h.1 was is) ∙ sym (changed_later f l.items (all_in ls) h.0)
 
+fails_left : (test : Path × Node → Bool) (xs ys : Nodes) → Fails test (xs ++ ys) → Fails test xs
+fails_left test [] ys h = tt
+fails_left test (x ∷ xs) ys h = (h.0, fails_left test xs ys h.1)
+
+fails_right : (test : Path × Node → Bool) (xs ys : Nodes) → Fails test (xs ++ ys) → Fails test ys
+fails_right test [] ys h = h
+fails_right test (x ∷ xs) ys h = fails_right test xs ys h.1
+
+module _ {Z : Type 0} (test : Path × Node → Bool) where
+  -- the first that passes is in the list behind those in which none does
+  pub found_from : (ls : List (Vec (Path × Node) Z)) (i k : ℕ) (l : Vec (Path × Node) Z) (ns : Nodes) → Fails test (all_in (take i ls)) → i < length ls → ns ≡ l.items → l ≡ get_or ls i l
+      → position test ns ≡ Some k → IsFoundAt test ls i k
+  found_from [] i k l ns h lt is at here = absurd (omega arith)
+  found_from (m ∷ ls) zero k l ns h lt is at here =
+      sym (ap (position test) (is ∙ ap (λ (v : Vec (Path × Node) Z). v.items) at)) ∙ here
+  found_from (m ∷ ls) (suc i) k l ns h lt is at here =
+      (fails_left test m.items (all_in (take i ls)) h, found_from ls i k l ns (fails_right test m.items (all_in (take i ls)) h) (omega arith) is at here)
+
+  pub fails_more : (ls : List (Vec (Path × Node) Z)) (i : ℕ) (l : Vec (Path × Node) Z) (ns : Nodes) → Fails test (all_in (take i ls)) → i < length ls → ns ≡ l.items → l ≡ get_or ls i l
+      → position test ns ≡ None → Fails test (all_in (take (suc i) ls))
+  fails_more [] i l ns h lt is at none = tt
+  fails_more (m ∷ ls) zero l ns h lt is at none =
+      fails_both test m.items [] (fails test m.items (sym (ap (position test) (is ∙ ap (λ (v : Vec (Path × Node) Z). v.items) at)) ∙ none)) tt
+  fails_more (m ∷ ls) (suc i) l ns h lt is at none =
+      fails_both test m.items (all_in (take (suc i) ls)) (fails_left test m.items (all_in (take i ls)) h) (fails_more ls i l ns (fails_right test m.items (all_in (take i ls)) h) (omega arith) is at none)
+
 -- what is left where one that passed was taken
 pub left_others : (test : Path × Node → Bool) (xs : Nodes) → filter (λ e. not (test e)) (without_first test xs) ≡ filter (λ e. not (test e)) xs
 left_others test [] = refl
@@ -240,6 +298,19 @@ no_items : (xs : Nodes) → length xs ≡ 0 → xs ≡ []
 no_items [] h = refl
 no_items (x ∷ xs) h = absurd (omega arith)
 
+module _ (p : Path) where
+  under_later : (xs ys : Nodes) → IsBehind p xs → filter (λ e. is_at_or_under e.0 p) (xs ++ ys) ≡ filter (λ e. is_at_or_under e.0 p) ys
+  under_later xs ys h =
+      filter-append (λ e. is_at_or_under e.0 p) xs ys ∙ ap (λ (zs : Nodes). zs ++ filter (λ e. is_at_or_under e.0 p) ys) (none_kept (λ e. is_at_or_under e.0 p) xs (behind_fails p xs h))
+
+  over_right : (xs ys : Nodes) → T (below_all path_cmp p (xs ++ ys)) → T (below_all path_cmp p ys)
+  over_right [] ys h = h
+  over_right (x ∷ xs) ys h = over_right xs ys (right_true (is_lt (path_cmp p x.0)) (below_all path_cmp p (xs ++ ys)) h)
+
+  unless : (b : Bool) → not b ≡ true → b ≡ false
+  unless true h = cc
+  unless false h = refl
+
 module _ {Z : Type 0} where
   -- a list without nodes can go
   pub all_in-removed : (ls : List (Vec (Path × Node) Z)) (i : ℕ) (d : Vec (Path × Node) Z) → i < length ls → length (get_or ls i d).items ≡ 0 → all_in (remove ls i) ≡ all_in ls
@@ -259,23 +330,11 @@ module _ {Z : Type 0} where
   filled_removed (l ∷ ls) (suc i) new lt h = all_filled_removed ls i new h
 
   module _ (p : Path) where
-    under_later : (xs ys : Nodes) → IsBehind p xs → filter (λ e. is_at_or_under e.0 p) (xs ++ ys) ≡ filter (λ e. is_at_or_under e.0 p) ys
-    under_later xs ys h =
-        filter-append (λ e. is_at_or_under e.0 p) xs ys ∙ ap (λ (zs : Nodes). zs ++ filter (λ e. is_at_or_under e.0 p) ys) (none_kept (λ e. is_at_or_under e.0 p) xs (behind_fails p xs h))
-
     -- nothing below p stands before the list in which p belongs
     pub around_all : (ls : List (Vec (Path × Node) Z)) (i : ℕ) → IsHome p ls i → filter (λ e. is_at_or_under e.0 p) (all_in (drop i ls)) ≡ filter (λ e. is_at_or_under e.0 p) (all_in ls)
     around_all [] i h = absurd h
     around_all (l ∷ ls) zero h = refl
-    around_all (l ∷ ls) (suc i) h = around_all ls i h.1 ∙ sym (under_later l.items (all_in ls) h.0)
-
-    over_right : (xs ys : Nodes) → T (below_all path_cmp p (xs ++ ys)) → T (below_all path_cmp p ys)
-    over_right [] ys h = h
-    over_right (x ∷ xs) ys h = over_right xs ys (right_true (is_lt (path_cmp p x.0)) (below_all path_cmp p (xs ++ ys)) h)
-
-    unless : (b : Bool) → not b ≡ true → b ≡ false
-    unless true h = cc
-    unless false h = refl
+    around_all (l ∷ ls) (suc i) h = around_all ls i h.1 ∙ sym (under_later p l.items (all_in ls) h.0)
 
     around_more : (ls : List (Vec (Path × Node) Z)) (n : ℕ) (e : Vec (Path × Node) Z) → T (is_sorted path_cmp (all_in ls)) → T (below_all path_cmp p (all_in ls)) → AllByRecursion (λ l. 0 < length l.items) ls
         → IsFirst (λ l. not (starts_below p l.items)) ls n e → filter (λ e. is_at_or_under e.0 p) (all_in (take n ls)) ≡ filter (λ e. is_at_or_under e.0 p) (all_in ls)
@@ -284,7 +343,7 @@ module _ {Z : Type 0} where
         sym (none_kept (λ e. is_at_or_under e.0 p) (l.items ++ all_in ls) (over_fails p l.items (all_in ls) filled.0 over sorted (unless (starts_below p l.items) h.0)))
     around_more (l ∷ ls) (suc n) e sorted over filled h =
         filter-append (λ e. is_at_or_under e.0 p) l.items (all_in (take n ls))
-        ∙ ap (λ (zs : Nodes). filter (λ e. is_at_or_under e.0 p) l.items ++ zs) (around_more ls n e (right_sorted l.items (all_in ls) sorted) (over_right l.items (all_in ls) over) filled.1 h.1)
+        ∙ ap (λ (zs : Nodes). filter (λ e. is_at_or_under e.0 p) l.items ++ zs) (around_more ls n e (right_sorted l.items (all_in ls) sorted) (over_right p l.items (all_in ls) over) filled.1 h.1)
         ∙ sym (filter-append (λ e. is_at_or_under e.0 p) l.items (all_in ls))
 
     around_at : (ls : List (Vec (Path × Node) Z)) (n : ℕ) → T (is_sorted path_cmp (all_in ls)) → T (below_all path_cmp p (all_in ls)) → AllByRecursion (λ l. 0 < length l.items) ls
@@ -293,7 +352,7 @@ module _ {Z : Type 0} where
     around_at (l ∷ ls) n sorted over filled h = around_more (l ∷ ls) n (get_or (l ∷ ls) n l) sorted over filled (is_first (λ l. not (starts_below p l.items)) (l ∷ ls) n l h)
 
     around_home : (ls : List (Vec (Path × Node) Z)) (i n : ℕ) → T (is_sorted path_cmp (all_in ls)) → AllByRecursion (λ l. 0 < length l.items) (drop 1 ls) → IsHome p ls i
-        → position (λ l. not (starts_below p l.items)) (drop (i + 1) ls) ≡ Some n → filter (λ e. is_at_or_under e.0 p) (all_in (take (suc n) (drop i ls))) ≡ filter (λ e. is_at_or_under e.0 p) (all_in ls)
+        → position (λ l. not (starts_below p l.items)) (drop (suc i) ls) ≡ Some n → filter (λ e. is_at_or_under e.0 p) (all_in (take (suc n) (drop i ls))) ≡ filter (λ e. is_at_or_under e.0 p) (all_in ls)
     around_home [] i n sorted filled h is = absurd h
     around_home (l ∷ ls) zero n sorted filled h is =
         filter-append (λ e. is_at_or_under e.0 p) l.items (all_in (take n ls))
@@ -301,14 +360,18 @@ module _ {Z : Type 0} where
         ∙ sym (filter-append (λ e. is_at_or_under e.0 p) l.items (all_in ls))
     around_home (l ∷ []) (suc i) n sorted filled h is = absurd h.1
     around_home (l ∷ m ∷ ms) (suc i) n sorted filled h is =
-        around_home (m ∷ ms) i n (right_sorted l.items (all_in (m ∷ ms)) sorted) filled.1 h.1 is ∙ sym (under_later l.items (all_in (m ∷ ms)) h.0)
+        around_home (m ∷ ms) i n (right_sorted l.items (all_in (m ∷ ms)) sorted) filled.1 h.1 is ∙ sym (under_later p l.items (all_in (m ∷ ms)) h.0)
 
     -- nor behind the first list that doesn't begin below p
     pub around_some : (ls : List (Vec (Path × Node) Z)) (i n : ℕ) → T (is_sorted path_cmp (all_in ls)) → AreFilled ls → IsHome p ls i
-        → position (λ l. not (starts_below p l.items)) (drop (i + 1) ls) ≡ Some n → filter (λ e. is_at_or_under e.0 p) (all_in (take (n + 1) (drop i ls))) ≡ filter (λ e. is_at_or_under e.0 p) (all_in ls)
+        → position (λ l. not (starts_below p l.items)) (drop (suc i) ls) ≡ Some n → filter (λ e. is_at_or_under e.0 p) (all_in (take (n + 1) (drop i ls))) ≡ filter (λ e. is_at_or_under e.0 p) (all_in ls)
     around_some [] i n sorted filled h is = absurd h
     around_some (l ∷ ls) i n sorted filled h is =
         ap (λ k. filter (λ e. is_at_or_under e.0 p) (all_in (take k (drop i (l ∷ ls))))) (add-one n) ∙ around_home (l ∷ ls) i n sorted filled h is
+
+-- members are among what is below
+pub members_alike : (p : Path) (xs ys : Nodes) → filter (λ e. is_at_or_under e.0 p) xs ≡ filter (λ e. is_at_or_under e.0 p) ys → members p xs ≡ members p ys
+members_alike p xs ys is = sym (members_run p xs) ∙ ap (λ (zs : Nodes). members p zs) is ∙ members_run p ys
 
 pub members-append : (p : Path) (xs ys : Nodes) → members p (xs ++ ys) ≡ members p xs ++ members p ys
 members-append p xs ys = filter_map-append (λ e. option_map (λ name. (name, is_folder_kind e.1.kind)) (only_name (rest_after p e.0))) xs ys

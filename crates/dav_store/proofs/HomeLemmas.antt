@@ -1,7 +1,9 @@
 -- Lists in order, one behind the other: which of them a path belongs in, and what is done there is done to all.
 use Rattle.std.proofs.Common.{◌≡◌, ℕ, zero, suc, ◌+◌, ◌<◌, ◌≤◌, Bool, true, false, not, T, cond, List, [], ◌∷◌, ◌++◌, length, get_or, set, take, drop, Some, None, refl, sym, ap, subst, ◌∙◌, arith, Vec}
 use Rattle.std.proofs.lemmas.List.{append_assoc}
-use Rattle.std.specs.List.{AllByRecursion}
+use Rattle.std.specs.List.{AllByRecursion, insert}
+use Rattle.std.specs.Vec.{with_items}
+use Rattle.std.proofs.lemmas.List.{with_items_is}
 use Rattle.std.specs.List.Sorted.{IsPartitionPoint, IsPartitionedBy}
 use Rattle.std.specs.FinMap.{find, put, is_sorted}
 use Rattle.std.specs.FinMap.Entries.{below_all, by_order}
@@ -14,6 +16,7 @@ use Rattle.dav_core.proofs.NodesLemmas.{path_total}
 use Rattle.dav_core.proofs.NodesAfter.{both_true, left_true, right_true}
 use Rattle.dav_store.specs.Entries.{all_in, AreFilled, starts_by, IsHome}
 use Rattle.dav_store.proofs.SearchLemmas.{less_is}
+use Rattle.dav_store.proofs.PropertyLemmas.{same_node}
 
 -- p comes after all of these
 abbrev pub IsBehind : Path → Nodes → Type 0
@@ -123,6 +126,15 @@ module _ {Z : Type 0} (p : Path) where
   pub others_parted : (ls : List (Vec (Path × Node) Z)) → T (is_sorted path_cmp (all_in ls)) → AreFilled ls → IsPartitionedBy (λ l. starts_by p l.items) (drop 1 ls)
   others_parted [] sorted filled = absurd filled
   others_parted (l ∷ ls) sorted filled = starts_parted ls (right_sorted l.items (all_in ls) sorted) filled
+
+  -- the same, where the others are given as a part of the lists
+  pub home_by : (ls rs : List (Vec (Path × Node) Z)) (i : ℕ) → rs ≡ drop 1 ls → T (is_sorted path_cmp (all_in ls)) → AreFilled ls
+      → (IsPartitionedBy (λ l. starts_by p l.items) rs → IsPartitionPoint (λ l. starts_by p l.items ≡ true) (λ l. starts_by p l.items ≡ false) rs i) → i ≤ length rs → IsHome p ls i
+  home_by ls rs i is sorted filled point le =
+      home_is ls i sorted filled
+      (subst (λ (xs : List (Vec (Path × Node) Z)). IsPartitionPoint (λ l. starts_by p l.items ≡ true) (λ l. starts_by p l.items ≡ false) xs i) is
+      (point (subst (λ (xs : List (Vec (Path × Node) Z)). IsPartitionedBy (λ l. starts_by p l.items) xs) (sym is) (others_parted ls sorted filled))))
+      (subst (λ (xs : List (Vec (Path × Node) Z)). i ≤ length xs) is le)
 
   pub home_within : (ls : List (Vec (Path × Node) Z)) (i : ℕ) → IsHome p ls i → i < length ls
   home_within [] i h = absurd h
@@ -236,19 +248,56 @@ module _ {Z : Type 0} where
   all_in-set_same (l ∷ ls) (suc i) d new lt is = ap (λ (xs : Nodes). l.items ++ xs) (all_in-set_same ls i d new (omega arith) is)
 
   -- a list that is cut in two leaves all as it was
-  pub all_in-cut : (ls : List (Vec (Path × Node) Z)) (i : ℕ) (d a b : Vec (Path × Node) Z) → i < length ls → a.items ++ b.items ≡ (get_or ls i d).items → all_in (take (i + 1) (set ls i a) ++ b ∷ drop (i + 1) (set ls i a)) ≡ all_in ls
+  pub all_in-cut : (ls : List (Vec (Path × Node) Z)) (i : ℕ) (d a b : Vec (Path × Node) Z) → i < length ls → a.items ++ b.items ≡ (get_or ls i d).items → all_in (insert (set ls i a) (suc i) b) ≡ all_in ls
   all_in-cut [] i d a b lt is = absurd (omega arith)
   all_in-cut (l ∷ ls) zero d a b lt is = sym (append_assoc a.items b.items (all_in ls)) ∙ ap (λ (xs : Nodes). xs ++ all_in ls) is
   all_in-cut (l ∷ ls) (suc i) d a b lt is = ap (λ (xs : Nodes). l.items ++ xs) (all_in-cut ls i d a b (omega arith) is)
 
   all_filled_cut : (ls : List (Vec (Path × Node) Z)) (i : ℕ) (a b : Vec (Path × Node) Z) → i < length ls → 0 < length a.items → 0 < length b.items
-      → AllByRecursion (λ l. 0 < length l.items) ls → AllByRecursion (λ l. 0 < length l.items) (take (i + 1) (set ls i a) ++ b ∷ drop (i + 1) (set ls i a))
+      → AllByRecursion (λ l. 0 < length l.items) ls → AllByRecursion (λ l. 0 < length l.items) (insert (set ls i a) (suc i) b)
   all_filled_cut [] i a b lt f g h = absurd (omega arith)
   all_filled_cut (l ∷ ls) zero a b lt f g h = (f, (g, h.1))
   all_filled_cut (l ∷ ls) (suc i) a b lt f g h = (h.0, all_filled_cut ls i a b (omega arith) f g h.1)
 
   pub filled_cut : (ls : List (Vec (Path × Node) Z)) (i : ℕ) (a b : Vec (Path × Node) Z) → i < length ls → 0 < length a.items → 0 < length b.items → AreFilled ls
-      → AreFilled (take (i + 1) (set ls i a) ++ b ∷ drop (i + 1) (set ls i a))
+      → AreFilled (insert (set ls i a) (suc i) b)
   filled_cut [] i a b lt f g h = absurd (omega arith)
   filled_cut (l ∷ ls) zero a b lt f g h = (g, h)
   filled_cut (l ∷ ls) (suc i) a b lt f g h = all_filled_cut ls i a b (omega arith) f g h
+
+module _ {Z : Type 0} where
+  -- a list that was read is in order
+  pub sorted_read : (ls : List (Vec (Path × Node) Z)) (i : ℕ) (l : Vec (Path × Node) Z) (ns : Nodes) → ns ≡ l.items → l ≡ get_or ls i l → T (is_sorted path_cmp (all_in ls)) → i < length ls → T (is_sorted path_cmp ns)
+  sorted_read ls i l ns is at sorted lt =
+      subst (λ (xs : Nodes). T (is_sorted path_cmp xs)) (sym (is ∙ ap (λ (m : Vec (Path × Node) Z). m.items) at)) (sorted_at ls i l sorted lt)
+
+  -- what is found in the list where p belongs
+  pub find_read : (p : Path) (ls : List (Vec (Path × Node) Z)) (i : ℕ) (l : Vec (Path × Node) Z) (ns : Nodes) → IsHome p ls i → ns ≡ l.items → l ≡ get_or ls i l → find path_cmp p ns ≡ find path_cmp p (all_in ls)
+  find_read p ls i l ns h is at =
+      ap (find path_cmp p) (is ∙ ap (λ (m : Vec (Path × Node) Z). m.items) at) ∙ sym (find_home p ls i l h)
+
+  -- and what is changed there
+  pub adjust_written : (p : Path) (f : Node → Node) (ls : List (Vec (Path × Node) Z)) (i : ℕ) (d : Vec (Path × Node) Z) (ns new : Nodes) → IsHome p ls i → ns ≡ (get_or ls i d).items
+      → new ≡ adjust p f ns → all_in (set ls i (with_items (get_or ls i d) new)) ≡ adjust p f (all_in ls)
+  adjust_written p f ls i d ns new h at is =
+      let made : new ≡ adjust p f (get_or ls i d).items = is ∙ ap (adjust p f) at in
+      let len : length new ≡ (get_or ls i d).len = ap length made ∙ length-changed (λ e. is_same_path p e.0) f (get_or ls i d).items ∙ sym (get_or ls i d).ok.0 in
+      adjust_home p f ls i d (with_items (get_or ls i d) new) h (with_items_is (get_or ls i d) new len ∙ made)
+
+  pub sorted_part : (ls : List (Vec (Path × Node) Z)) (i : ℕ) (d : Vec (Path × Node) Z) (ns : Nodes) → ns ≡ (get_or ls i d).items → T (is_sorted path_cmp (all_in ls)) → i < length ls → T (is_sorted path_cmp ns)
+  sorted_part ls i d ns is sorted lt = subst (λ (xs : Nodes). T (is_sorted path_cmp xs)) (sym is) (sorted_at ls i d sorted lt)
+
+  pub filled_some : (ls : List (Vec (Path × Node) Z)) → AreFilled ls → 0 < length ls
+  filled_some [] h = absurd h
+  filled_some (l ∷ ls) h = omega arith
+
+-- two changes that do the same to the node at p
+pub adjust_same : (p : Path) (f g : Node → Node) (n : Node) (ns : Nodes) → find path_cmp p ns ≡ Some n → f n ≡ g n → adjust p f ns ≡ adjust p g ns
+adjust_same p f g n [] found is = cc
+adjust_same p f g n (e ∷ es) found is =
+    elim (is_same_path p e.0) as (λ b. cond b (Some e.1) (find path_cmp p es) ≡ Some n → cond b ((e.0, f e.1) ∷ es) (e ∷ adjust p f es) ≡ cond b ((e.0, g e.1) ∷ es) (e ∷ adjust p g es)) [
+      | true ↦ λ k.
+          let here : e.1 ≡ n = same_node e.1 n k in
+          ap (λ (m : Node). (e.0, m) ∷ es) (ap f here ∙ is ∙ ap g (sym here))
+      | false ↦ λ k. ap (λ (zs : Nodes). e ∷ zs) (adjust_same p f g n es k is)
+    ] found

@@ -160,6 +160,11 @@ pub kept_either : {A E : Type 0} (last : Option ℕ) (r : Result A E) (ns new do
 kept_either last (Ok a) ns new done ok err step h = subst (IsKept last) (sym ok) (step h)
 kept_either last (Err e) ns new done ok err step h = subst (IsKept last) (sym err) h
 
+-- what holds anyway holds after a failure
+pub on_err : {A E : Type 0} {X : Type 0} (r : Result A E) → X → OnErr r X
+on_err (Ok a) x = tt
+on_err (Err e) x = x
+
 pub kept_moved : (last : Option ℕ) (p t : Path) (ns : Nodes) → IsKept last ns → IsKept last (moved p t ns)
 kept_moved last p t ns =
     kept_by last ns (moved p t ns) (moved p t ns) refl (sorted-moved p t ns)

@@ -60,12 +60,12 @@ sorted_drop zero ns h = h
 sorted_drop (suc i) [] h = tt
 sorted_drop (suc i) (e ∷ es) h = sorted_drop i es (right_true (below_all path_cmp e.0 es) (is_sorted path_cmp es) h)
 
-not_above : (o : Ordering) → is_le o ≡ true → is_gt o ≡ false
+pub not_above : (o : Ordering) → is_le o ≡ true → is_gt o ≡ false
 not_above Less h = refl
 not_above Equal h = refl
 not_above Greater h = cc
 
-is_above : (o : Ordering) → is_le o ≡ false → is_gt o ≡ true
+pub is_above : (o : Ordering) → is_le o ≡ false → is_gt o ≡ true
 is_above Less h = cc
 is_above Equal h = cc
 is_above Greater h = refl

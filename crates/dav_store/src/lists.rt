@@ -1,6 +1,6 @@
 //! Lists of paths and their nodes, one behind the other, in order of the paths. A path is found by halving: first among
 //! the lists, then within one of them. No list gets long, so a new node moves few others, however many there are.
-ghost use Rattle.std.specs.Prelude.{◌≡◌, ◌∷◌, ◌++◌, ◌+◌, ◌<◌, ◌≤◌, [], ℕ, List, Some, ◌≢◌, ◌==◌, ◌&&◌, not, T, false, IfOk, OnOk, OnErr, IfSome, MatchOption, Option, option_copied, position, filter, vec_len, length};
+ghost use Rattle.std.specs.Prelude.{◌≡◌, ◌∷◌, ◌++◌, ◌+◌, ◌<◌, ◌≤◌, [], ℕ, List, Some, ◌≢◌, ◌==◌, ◌&&◌, not, T, true, false, IfOk, OnOk, OnErr, IfSome, IfNone, MatchOption, Option, option_copied, position, filter, vec_len, length};
 ghost use Rattle.std.specs.Vec.{vec_capacity};
 ghost use Rattle.std.specs.List.{AllByRecursion, insert, find as first};
 ghost use Rattle.std.specs.FinMap.{find, put, is_sorted};
@@ -179,6 +179,22 @@ fn insert_within(lists: &mut Vec<Vec<(Names, Node)>>, index: usize, list: Vec<(N
     let _ = lists.insert(index, list);
 }
 
+// Cuts off the end of a list that has become long, if there is memory for it.
+fn cut_end(list: &mut Vec<(Names, Node)>) -> Option<Vec<(Names, Node)>>
+    ensures none { IfNone result (list.new.items ≡ list.old.items) }
+    ensures nodes { IfSome result (λ end. list.new.items ++ end.items ≡ list.old.items) }
+    ensures some { IfSome result (λ end. (0 < length list.new.items) × (0 < length end.items)) }
+{
+    let len = list.len();
+    if len <= MOST {
+        return None;
+    }
+    match list.split_off(len - HALF) {
+        Ok(end) => Some(end),
+        Err(_) => None,
+    }
+}
+
 // Cuts a list in two where it has become long, if there is memory for it.
 fn cut_long(lists: &mut Vec<Vec<(Names, Node)>>, i: usize)
     requires within { i < length lists.old.items }
@@ -186,11 +202,11 @@ fn cut_long(lists: &mut Vec<Vec<(Names, Node)>>, i: usize)
     ensures nodes { all_in lists.new.items ≡ all_in lists.old.items }
     ensures filled { AreFilled lists.new.items }
 {
-    if lists[i].len() <= MOST || lists.reserve(1).is_err() {
+    if lists.reserve(1).is_err() {
         return;
     }
-    if let Ok(rest) = lists[i].split_off(HALF) {
-        insert_within(lists, i + 1, rest);
+    if let Some(end) = cut_end(&mut lists[i]) {
+        insert_within(lists, i + 1, end);
     }
 }
 
@@ -218,9 +234,10 @@ pub fn put_at(
 fn place_below(lists: &[Vec<(Names, Node)>], path: &DavPath) -> Option<(usize, usize)>
     requires sorted { T (is_sorted path_cmp (all_in lists.now)) }
     requires filled { AreFilled lists.now }
-    ensures { MatchOption result
+    ensures found { MatchOption result
         (AllByRecursion (λ e. is_at_or_under e.0 (names path.now) ≡ false) (all_in lists.now))
         (λ at. IsFoundAt (λ e. is_at_or_under e.0 (names path.now)) lists.now at.0 at.1) }
+    ensures within { IfSome result (λ at. at.0 < length lists.now) }
 {
     let i = home(lists, Sought::At(path));
     if let Some(k) = listed::place_below(&lists[i], path) {
@@ -260,7 +277,7 @@ pub fn prune(lists: &mut Vec<Vec<(Names, Node)>>, path: &DavPath)
     ensures nodes { all_in lists.new.items ≡ prune (names path.now) (all_in lists.old.items) }
     ensures filled { AreFilled lists.new.items }
 {
-    while let Some(_entry) = take_below(lists, path) {}
+    while let Some(_) = take_below(lists, path) {}
 }
 
 /// The lists in which what is at a path and below it stands.
@@ -308,14 +325,7 @@ fn cut_first(lists: &mut Vec<Vec<(Names, Node)>>)
     ensures filled { AreFilled lists.new.items }
 {
     for _ in 0..lists[0].len() / HALF {
-        let len = lists[0].len();
-        if len <= MOST || lists.reserve(1).is_err() {
-            return;
-        }
-        let Ok(rest) = lists[0].split_off(len - HALF) else {
-            return;
-        };
-        insert_within(lists, 1, rest);
+        cut_long(lists, 0);
     }
 }
 
@@ -354,12 +364,19 @@ pub fn hint_of(lists: &[Vec<(Names, Node)>], path: &DavPath) -> (usize, usize)
 
 // Whether the file that was created under this change number is at a hint.
 fn is_made_at(lists: &[Vec<(Names, Node)>], made: u64, hint: (usize, usize)) -> bool
-    ensures { T result → DifferInMaking (all_in lists.now)
+    ensures { result ≡ true → DifferInMaking (all_in lists.now)
         → IsFoundAt (λ e. (e.1.made == made) && not (is_folder_kind e.1.kind)) lists.now hint.0
         hint.1 }
 {
     let (i, k) = hint;
-    i < lists.len() && k < lists[i].len() && lists[i][k].1.is_file_made_with(made)
+    if i >= lists.len() {
+        return false;
+    }
+    let list = &lists[i];
+    if k >= list.len() {
+        return false;
+    }
+    list[k].1.is_file_made_with(made)
 }
 
 // The place of the file that was created under this change number, and of its list. It is looked for at the hint first.
@@ -369,10 +386,11 @@ fn made_place(
     hint: Option<(usize, usize)>,
 ) -> Option<(usize, usize)>
     requires { IfSome hint (λ _. DifferInMaking (all_in lists.now)) }
-    ensures { MatchOption result (AllByRecursion
+    ensures found { MatchOption result (AllByRecursion
         (λ e. ((e.1.made == made) && not (is_folder_kind e.1.kind)) ≡ false) (all_in lists.now))
         (λ at. IsFoundAt (λ e. (e.1.made == made) && not (is_folder_kind e.1.kind)) lists.now
         at.0 at.1) }
+    ensures within { IfSome result (λ at. at.0 < length lists.now) }
 {
     if let Some(hint) = hint {
         if is_made_at(lists, made, hint) {

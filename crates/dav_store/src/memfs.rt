@@ -165,8 +165,9 @@ fn list(alloc: Global, entries: &Entries, path: &DavPath) -> Result<Vec<MemEntry
     ensures folder { IfOk result
         (λ list. map (λ e. e.folder) list.items ≡ map (λ _. names path.now) list.items) }
 {
+    let lists = entries::around(entries, path);
     let mut list = Vec::new(alloc);
-    for some in entries::around(entries, path) {
+    for some in lists {
         list_among(alloc, some, path, &mut list)?;
     }
     Ok(list)
