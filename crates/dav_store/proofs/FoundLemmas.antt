@@ -1,10 +1,10 @@
 -- Lists in order, one behind the other: the first that passes a test, and what is at a path and below it.
-use Rattle.std.proofs.Common.{◌≡◌, ℕ, zero, suc, ◌+◌, ◌<◌, ◌≤◌, ◌||◌, Bool, true, false, not, T, cond, List, [], ◌∷◌, ◌++◌, length, get_or, set, take, drop, Option, Some, None, refl, sym, ap, subst, ◌∙◌, arith, add-one, append-nil, Vec}
-use Rattle.std.proofs.lemmas.List.{append_assoc, length-append}
+use Rattle.std.proofs.Common.{◌≡◌, ℕ, zero, suc, ◌+◌, ◌<◌, ◌≤◌, ◌||◌, Bool, true, false, not, T, cond, List, [], ◌∷◌, ◌++◌, length, vec_len, get_or, set, take, drop, Option, Some, None, refl, sym, ap, subst, ◌∙◌, arith, add-one, append-nil, Vec}
+use Rattle.std.proofs.lemmas.List.{append_assoc, drop_more}
 use Rattle.std.proofs.lemmas.List.Elements.{filter-append, filter_map-append}
 use Rattle.std.proofs.lemmas.List.Folds.{list_any-append}
 use Rattle.std.proofs.lemmas.List.Quantifiers.{position-Some}
-use Rattle.std.specs.List.{AllByRecursion, filter, position, remove, list_any, find as first}
+use Rattle.std.specs.List.{AllByRecursion, AllZip, filter, position, remove, list_any, find as first}
 use Rattle.std.specs.Option.{option_map}
 use Rattle.std.specs.FinMap.{is_sorted}
 use Rattle.std.specs.FinMap.Entries.{below_all}
@@ -12,7 +12,7 @@ use Rattle.std.specs.declared.cmp.Ordering.TheVariants.{Less, Greater}
 use Rattle.std.specs.Ordering.{is_gt, is_le, is_lt}
 use Rattle.dav_core.specs.Lists.{without_first}
 use Rattle.dav_core.specs.Path.{Path, path_cmp, is_at_or_under, rest_after, only_name}
-use Rattle.dav_core.specs.World.{Node, Nodes, change_node, prune, members, is_folder_kind}
+use Rattle.dav_core.specs.World.{Node, Nodes, change_node, prune, members, is_folder_kind, is_file_made_with, file_made_with}
 use Rattle.dav_core.proofs.NodesAfter.{both_true, left_true, right_true}
 use Rattle.dav_store.specs.Entries.{all_in, AreFilled, starts_below, IsHome, IsFoundAt}
 use Rattle.dav_store.proofs.Place.{IsFirst, NonePasses, is_first, none_passes, first_of, first_none, changed_at}
@@ -164,6 +164,33 @@ module _ (p : Path) where
     none_anywhere [] i d e sorted filled h none lt is = absurd h
     none_anywhere (l ∷ ls) i d e sorted filled h none lt is = none_in (l ∷ ls) i d e sorted filled h none lt is
 
+-- the same, as the lists are read
+module _ {Z : Type 0} (p : Path) where
+  none_of : (ls : List (Vec (Path × Node) Z)) (i : ℕ) (l : Vec (Path × Node) Z) (ns : Nodes) (o : Option ℕ) → ns ≡ l.items → l ≡ get_or ls i l → position (λ e. is_at_or_under e.0 p) ns ≡ o
+      → position (λ e. is_at_or_under e.0 p) (get_or ls i l).items ≡ o
+  none_of ls i l ns o is at h = sym (ap (position (λ e. is_at_or_under e.0 p)) (is ∙ ap (λ (v : Vec (Path × Node) Z). v.items) at)) ∙ h
+
+  pub here_read : (ls : List (Vec (Path × Node) Z)) (i k : ℕ) (l : Vec (Path × Node) Z) (ns : Nodes) → IsHome p ls i → ns ≡ l.items → l ≡ get_or ls i l
+      → position (λ e. is_at_or_under e.0 p) ns ≡ Some k → IsFoundAt (λ e. is_at_or_under e.0 p) ls i k
+  here_read ls i k l ns h is at here = found_here p ls i k l h (none_of ls i l ns (Some k) is at here)
+
+  pub last_read : (ls : List (Vec (Path × Node) Z)) (i : ℕ) (l : Vec (Path × Node) Z) (ns : Nodes) → IsHome p ls i → ns ≡ l.items → l ≡ get_or ls i l
+      → position (λ e. is_at_or_under e.0 p) ns ≡ None → i + 1 ≡ length ls → Fails (λ e. is_at_or_under e.0 p) (all_in ls)
+  last_read ls i l ns h is at none end = none_last p ls i l h (none_of ls i l ns None is at none) (sym (add-one i) ∙ end)
+
+  pub next_read : (ls : List (Vec (Path × Node) Z)) (i k : ℕ) (l m : Vec (Path × Node) Z) (ns ms : Nodes) → IsHome p ls i → ns ≡ l.items → l ≡ get_or ls i l
+      → position (λ e. is_at_or_under e.0 p) ns ≡ None → i + 1 < length ls → ms ≡ m.items → m ≡ get_or ls (i + 1) m → position (λ e. is_at_or_under e.0 p) ms ≡ Some k
+      → IsFoundAt (λ e. is_at_or_under e.0 p) ls (i + 1) k
+  next_read ls i k l m ns ms h is at none lt is2 at2 here =
+      subst (λ j. IsFoundAt (λ e. is_at_or_under e.0 p) ls j k) (sym (add-one i))
+      (found_next p ls i k l m h (none_of ls i l ns None is at none) (omega arith) (none_of ls (suc i) m ms (Some k) is2 (at2 ∙ ap (λ j. get_or ls j m) (add-one i)) here))
+
+  pub none_read : (ls : List (Vec (Path × Node) Z)) (i : ℕ) (l m : Vec (Path × Node) Z) (ns ms : Nodes) → T (is_sorted path_cmp (all_in ls)) → AreFilled ls → IsHome p ls i → ns ≡ l.items → l ≡ get_or ls i l
+      → position (λ e. is_at_or_under e.0 p) ns ≡ None → i + 1 < length ls → ms ≡ m.items → m ≡ get_or ls (i + 1) m → position (λ e. is_at_or_under e.0 p) ms ≡ None
+      → Fails (λ e. is_at_or_under e.0 p) (all_in ls)
+  none_read ls i l m ns ms sorted filled h is at none lt is2 at2 none2 =
+      none_anywhere p ls i l m sorted filled h (none_of ls i l ns None is at none) (omega arith) (none_of ls (suc i) m ms None is2 (at2 ∙ ap (λ j. get_or ls j m) (add-one i)) none2)
+
 module _ (test : Path × Node → Bool) where
   still_first : (xs ys : Nodes) (k : ℕ) (e : Path × Node) → IsFirst test xs k e → IsFirst test (xs ++ ys) k e
   still_first [] ys k e h = absurd h
@@ -238,6 +265,18 @@ fails_right test [] ys h = h
 fails_right test (x ∷ xs) ys h = fails_right test xs ys h.1
 
 module _ {Z : Type 0} (test : Path × Node → Bool) where
+  pub found_within : (ls : List (Vec (Path × Node) Z)) (i k : ℕ) (l : Vec (Path × Node) Z) (e : Path × Node) → IsFoundAt test ls i k → l ≡ get_or ls i l → k < l.len
+  found_within ls i k l e h at =
+      let there : position test l.items ≡ Some k = ap (λ (v : Vec (Path × Node) Z). position test v.items) at ∙ found_place test ls i k l h in
+      let within = (position-Some test l.items k e there).0 in
+      let len : l.len ≡ length l.items = l.ok.0 in
+      omega (arith, within, len)
+
+  pub found_entry : (ls : List (Vec (Path × Node) Z)) (i k : ℕ) (l : Vec (Path × Node) Z) (e : Path × Node) → IsFoundAt test ls i k → l ≡ get_or ls i l → e ≡ get_or l.items k e
+      → first test (all_in ls) ≡ Some e
+  found_entry ls i k l e h at here =
+      found_first test ls i k l e h ∙ sym (ap Some (here ∙ ap (λ (v : Vec (Path × Node) Z). get_or v.items k e) at))
+
   -- the first that passes is in the list behind those in which none does
   pub found_from : (ls : List (Vec (Path × Node) Z)) (i k : ℕ) (l : Vec (Path × Node) Z) (ns : Nodes) → Fails test (all_in (take i ls)) → i < length ls → ns ≡ l.items → l ≡ get_or ls i l
       → position test ns ≡ Some k → IsFoundAt test ls i k
@@ -294,6 +333,13 @@ sorted_without test (x ∷ xs) h =
           (sorted_without test xs (right_true (below_all path_cmp x.0 xs) (is_sorted path_cmp xs) h))
     ]
 
+pub found_file : {Z : Type 0} (made : ℕ) (ls : List (Vec (Path × Node) Z)) (i k : ℕ) (l : Vec (Path × Node) Z) (e : Path × Node) → IsFoundAt (is_file_made_with made) ls i k → l ≡ get_or ls i l
+    → e ≡ get_or l.items k e → Some e.1 ≡ file_made_with made (all_in ls)
+found_file made ls i k l e h at here = sym (ap (option_map (λ (x : Path × Node). x.1)) (found_entry (is_file_made_with made) ls i k l e h at here))
+
+pub no_file : (made : ℕ) (xs : Nodes) → Fails (is_file_made_with made) xs → None ≡ file_made_with made xs
+no_file made xs h = sym (ap (option_map (λ (x : Path × Node). x.1)) (none_first (is_file_made_with made) xs h))
+
 no_items : (xs : Nodes) → length xs ≡ 0 → xs ≡ []
 no_items [] h = refl
 no_items (x ∷ xs) h = absurd (omega arith)
@@ -318,6 +364,28 @@ module _ {Z : Type 0} where
   all_in-removed (l ∷ ls) zero d lt none = ap (λ (xs : Nodes). xs ++ all_in ls) (sym (no_items l.items none))
   all_in-removed (l ∷ ls) (suc i) d lt none = ap (λ (xs : Nodes). l.items ++ xs) (all_in-removed ls i d (omega arith) none)
 
+  pub emptied : (ls : List (Vec (Path × Node) Z)) (i : ℕ) (l : Vec (Path × Node) Z) → i < length ls → l ≡ get_or ls i l → l.len ≡ 0 → all_in (remove ls i) ≡ all_in ls
+  emptied ls i l lt at none =
+      all_in-removed ls i l lt (ap (λ (v : Vec (Path × Node) Z). length v.items) (sym at) ∙ sym l.ok.0 ∙ none)
+
+  all_filled_back : (ls : List (Vec (Path × Node) Z)) (i : ℕ) (d : Vec (Path × Node) Z) → 0 < length (get_or ls i d).items → i < length ls
+      → AllByRecursion (λ l. 0 < length l.items) (remove ls i) → AllByRecursion (λ l. 0 < length l.items) ls
+  all_filled_back [] i d some lt h = tt
+  all_filled_back (l ∷ ls) zero d some lt h = (some, h)
+  all_filled_back (l ∷ ls) (suc i) d some lt h = (h.0, all_filled_back ls i d some (omega arith) h.1)
+
+  pub filled_back : (ls : List (Vec (Path × Node) Z)) (i : ℕ) (l : Vec (Path × Node) Z) → 0 < i → i < length ls → l ≡ get_or ls i l → 0 < l.len → AreFilled (remove ls i) → AreFilled ls
+  filled_back [] i l some lt at len h = absurd (omega arith)
+  filled_back (m ∷ ls) zero l some lt at len h = absurd (omega arith)
+  filled_back (m ∷ ls) (suc i) l some lt at len h =
+      let items : l.len ≡ length (get_or ls i l).items = l.ok.0 ∙ ap (λ (v : Vec (Path × Node) Z). length v.items) at in
+      all_filled_back ls i l (omega (arith, items, len)) (omega arith) h
+
+  pub filled_first : (ls : List (Vec (Path × Node) Z)) (i : ℕ) (new : Vec (Path × Node) Z) → i ≡ 0 → AreFilled ls → AreFilled (set ls i new)
+  filled_first [] i new is h = h
+  filled_first (l ∷ ls) zero new is h = h
+  filled_first (l ∷ ls) (suc i) new is h = absurd (omega arith)
+
   all_filled_removed : (ls : List (Vec (Path × Node) Z)) (i : ℕ) (new : Vec (Path × Node) Z) → AllByRecursion (λ l. 0 < length l.items) ls → AllByRecursion (λ l. 0 < length l.items) (remove (set ls i new) i)
   all_filled_removed [] zero new h = tt
   all_filled_removed [] (suc i) new h = tt
@@ -340,7 +408,7 @@ module _ {Z : Type 0} where
         → IsFirst (λ l. not (starts_below p l.items)) ls n e → filter (λ e. is_at_or_under e.0 p) (all_in (take n ls)) ≡ filter (λ e. is_at_or_under e.0 p) (all_in ls)
     around_more [] n e sorted over filled h = absurd h
     around_more (l ∷ ls) zero e sorted over filled h =
-        sym (none_kept (λ e. is_at_or_under e.0 p) (l.items ++ all_in ls) (over_fails p l.items (all_in ls) filled.0 over sorted (unless (starts_below p l.items) h.0)))
+        sym (none_kept (λ e. is_at_or_under e.0 p) (l.items ++ all_in ls) (over_fails p l.items (all_in ls) filled.0 over sorted (unless p (starts_below p l.items) h.0)))
     around_more (l ∷ ls) (suc n) e sorted over filled h =
         filter-append (λ e. is_at_or_under e.0 p) l.items (all_in (take n ls))
         ∙ ap (λ (zs : Nodes). filter (λ e. is_at_or_under e.0 p) l.items ++ zs) (around_more ls n e (right_sorted l.items (all_in ls) sorted) (over_right p l.items (all_in ls) over) filled.1 h.1)
@@ -364,14 +432,55 @@ module _ {Z : Type 0} where
 
     -- nor behind the first list that doesn't begin below p
     pub around_some : (ls : List (Vec (Path × Node) Z)) (i n : ℕ) → T (is_sorted path_cmp (all_in ls)) → AreFilled ls → IsHome p ls i
-        → position (λ l. not (starts_below p l.items)) (drop (suc i) ls) ≡ Some n → filter (λ e. is_at_or_under e.0 p) (all_in (take (n + 1) (drop i ls))) ≡ filter (λ e. is_at_or_under e.0 p) (all_in ls)
+        → position (λ l. not (starts_below p l.items)) (drop (i + 1) ls) ≡ Some n → filter (λ e. is_at_or_under e.0 p) (all_in (take (n + 1) (drop i ls))) ≡ filter (λ e. is_at_or_under e.0 p) (all_in ls)
     around_some [] i n sorted filled h is = absurd h
     around_some (l ∷ ls) i n sorted filled h is =
-        ap (λ k. filter (λ e. is_at_or_under e.0 p) (all_in (take k (drop i (l ∷ ls))))) (add-one n) ∙ around_home (l ∷ ls) i n sorted filled h is
+        ap (λ k. filter (λ e. is_at_or_under e.0 p) (all_in (take k (drop i (l ∷ ls))))) (add-one n)
+        ∙ around_home (l ∷ ls) i n sorted filled h (sym (ap (λ k. position (λ l. not (starts_below p l.items)) (drop k (l ∷ ls))) (add-one i)) ∙ is)
 
 -- members are among what is below
 pub members_alike : (p : Path) (xs ys : Nodes) → filter (λ e. is_at_or_under e.0 p) xs ≡ filter (λ e. is_at_or_under e.0 p) ys → members p xs ≡ members p ys
 members_alike p xs ys is = sym (members_run p xs) ∙ ap (λ (zs : Nodes). members p zs) is ∙ members_run p ys
+
+-- what is listed of one more list
+pub listed_more : {Z : Type 0} (p : Path) (ls : List (Vec (Path × Node) Z)) (i : ℕ) (l : Vec (Path × Node) Z) (ns : Nodes) (old new : List (List ℕ × Bool)) → i < length ls → l ≡ get_or ls i l → ns ≡ l.items
+    → new ≡ old ++ members p ns → old ++ members p (all_in (drop i ls)) ≡ members p (all_in ls) → new ++ members p (all_in (drop (i + 1) ls)) ≡ members p (all_in ls)
+listed_more {Z = Z} p ls i l ns old new lt at is more h =
+    let rest = drop (i + 1) ls in
+    let here : ns ≡ (get_or ls i l).items = is ∙ ap (λ (v : Vec (Path × Node) Z). v.items) at in
+    ap (λ (xs : List (List ℕ × Bool)). xs ++ members p (all_in rest)) (more ∙ ap (λ (xs : Nodes). old ++ members p xs) here)
+    ∙ append_assoc old (members p (get_or ls i l).items) (members p (all_in rest))
+    ∙ ap (λ (xs : List (List ℕ × Bool)). old ++ xs) (sym (filter_map-append (λ e. option_map (λ name. (name, is_folder_kind e.1.kind)) (only_name (rest_after p e.0))) (get_or ls i l).items (all_in rest)))
+    ∙ ap (λ (xs : List (Vec (Path × Node) Z)). old ++ members p (all_in xs)) (sym (drop_more ls i l lt)) ∙ h
+
+same_pairs : (xs ys : Nodes) → AllZip (λ x y. (x.0 ≡ y.0) × (x.1 ≡ y.1)) xs ys → xs ≡ ys
+same_pairs [] [] h = refl
+same_pairs [] (y ∷ ys) h = absurd h
+same_pairs (x ∷ xs) [] h = absurd h
+same_pairs (x ∷ xs) (y ∷ ys) h = λ j. (h.0.0 j, h.0.1 j) ∷ same_pairs xs ys h.1 j
+
+module _ {Z : Type 0} where
+  abbrev AreClones : List (Vec (Path × Node) Z) → List (Vec (Path × Node) Z) → Type 0
+  AreClones ls ms = AllZip (λ v w. AllZip (λ x y. (x.0 ≡ y.0) × (x.1 ≡ y.1)) v.items w.items × (vec_len w ≡ vec_len v)) ls ms
+
+  -- clones of the lists hold the same
+  pub all_cloned : (ls ms : List (Vec (Path × Node) Z)) → AreClones ls ms → all_in ls ≡ all_in ms
+  all_cloned [] [] h = refl
+  all_cloned [] (m ∷ ms) h = absurd h
+  all_cloned (l ∷ ls) [] h = absurd h
+  all_cloned (l ∷ ls) (m ∷ ms) h = λ j. same_pairs l.items m.items h.0.0 j ++ all_cloned ls ms h.1 j
+
+  all_filled_cloned : (ls ms : List (Vec (Path × Node) Z)) → AreClones ls ms → AllByRecursion (λ l. 0 < length l.items) ls → AllByRecursion (λ l. 0 < length l.items) ms
+  all_filled_cloned [] [] h k = tt
+  all_filled_cloned [] (m ∷ ms) h k = absurd h
+  all_filled_cloned (l ∷ ls) [] h k = absurd h
+  all_filled_cloned (l ∷ ls) (m ∷ ms) h k =
+      (subst (λ (xs : Nodes). 0 < length xs) (same_pairs l.items m.items h.0.0) k.0, all_filled_cloned ls ms h.1 k.1)
+
+  pub filled_cloned : (ls ms : List (Vec (Path × Node) Z)) → AreClones ls ms → AreFilled ls → AreFilled ms
+  filled_cloned [] ms h k = absurd k
+  filled_cloned (l ∷ ls) [] h k = absurd h
+  filled_cloned (l ∷ ls) (m ∷ ms) h k = all_filled_cloned ls ms h.1 k
 
 pub members-append : (p : Path) (xs ys : Nodes) → members p (xs ++ ys) ≡ members p xs ++ members p ys
 members-append p xs ys = filter_map-append (λ e. option_map (λ name. (name, is_folder_kind e.1.kind)) (only_name (rest_after p e.0))) xs ys

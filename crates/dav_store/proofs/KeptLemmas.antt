@@ -1,5 +1,5 @@
 -- Lists of paths and nodes stay in order, and their nodes stay made once.
-use Rattle.std.proofs.Common.{◌≡◌, ◌≢◌, ℕ, zero, suc, ◌<◌, ◌≤◌, ◌==◌, ◌&&◌, ◌++◌, Bool, true, false, not, cond, T, [], ◌∷◌, length, get_or, Option, Some, None, Result, Ok, Err, OnOk, OnErr, IfSome, refl, sym, subst, ◌∙◌, arith, List, Vec}
+use Rattle.std.proofs.Common.{◌≡◌, ◌≢◌, ℕ, zero, suc, ◌<◌, ◌≤◌, ◌==◌, ◌&&◌, ◌++◌, Bool, true, false, not, cond, T, [], ◌∷◌, length, get_or, Option, Some, None, Result, Ok, Err, OnOk, OnErr, IfSome, refl, sym, ap, subst, ◌∙◌, arith, List, Vec}
 use Rattle.std.specs.List.{AllByRecursion, filter, cons_option, position}
 use Rattle.std.specs.Option.{option_map, is_some}
 use Rattle.std.specs.FinMap.{put, is_sorted}
@@ -257,3 +257,10 @@ module _ {Z : Type 0} where
     made_found (l ∷ ls) zero k d e h lt within here = only_one made l.items k e (differ_left l.items (all_in ls) h) within here
     made_found (l ∷ ls) (suc i) k d e h lt within here =
         (before_fail l.items ls i k d e h (omega arith) within here, made_found ls i k d e (differ_right l.items (all_in ls) h) (omega arith) within here)
+
+    pub made_read : (ls : List (Vec (Path × Node) Z)) (i k : ℕ) (l : Vec (Path × Node) Z) (e : Path × Node) → DifferInMaking (all_in ls) → i < length ls → l ≡ get_or ls i l → k < l.len
+        → e ≡ get_or l.items k e → ((e.1.made == made) && not (is_folder_kind e.1.kind)) ≡ true → IsFoundAt (λ x. (x.1.made == made) && not (is_folder_kind x.1.kind)) ls i k
+    made_read ls i k l e h lt at within here is =
+        let there : e ≡ get_or (get_or ls i l).items k e = here ∙ ap (λ (v : Vec (Path × Node) Z). get_or v.items k e) at in
+        let len : l.len ≡ length (get_or ls i l).items = l.ok.0 ∙ ap (λ (v : Vec (Path × Node) Z). length v.items) at in
+        made_found ls i k l e h lt (omega (arith, within, len)) (sym (ap (λ (x : Path × Node). (x.1.made == made) && not (is_folder_kind x.1.kind)) there) ∙ is)

@@ -2,7 +2,7 @@
 //! the lists, then within one of them. No list gets long, so a new node moves few others, however many there are.
 ghost use Rattle.std.specs.Prelude.{◌≡◌, ◌∷◌, ◌++◌, ◌+◌, ◌<◌, ◌≤◌, [], ℕ, List, Some, ◌≢◌, ◌==◌, ◌&&◌, not, T, true, false, IfOk, OnOk, OnErr, IfSome, IfNone, MatchOption, Option, option_copied, position, filter, vec_len, length};
 ghost use Rattle.std.specs.Vec.{vec_capacity};
-ghost use Rattle.std.specs.List.{AllByRecursion, insert, find as first};
+ghost use Rattle.std.specs.List.{AllByRecursion, insert, remove, find as first};
 ghost use Rattle.std.specs.FinMap.{find, put, is_sorted};
 ghost use Rattle.dav_core.specs.Lists.{without_first};
 ghost use Rattle.dav_core.specs.Path.{names, path_cmp, is_same_path, is_at_or_under, parent_of};
@@ -252,6 +252,23 @@ fn place_below(lists: &[Vec<(Names, Node)>], path: &DavPath) -> Option<(usize, u
     }
 }
 
+// Takes out a list without nodes, unless it is the first.
+fn drop_empty(lists: &mut Vec<Vec<(Names, Node)>>, i: usize)
+    requires within { i < length lists.old.items }
+    requires first { i ≡ 0 → AreFilled lists.old.items }
+    requires others { 0 < i → AreFilled (remove lists.old.items i) }
+    ensures nodes { all_in lists.new.items ≡ all_in lists.old.items }
+    ensures filled { AreFilled lists.new.items }
+{
+    if i == 0 {
+        return;
+    }
+    if !lists[i].is_empty() {
+        return;
+    }
+    let _ = lists.remove(i);
+}
+
 // Takes out the first that is at a path or below it.
 fn take_below(lists: &mut Vec<Vec<(Names, Node)>>, path: &DavPath) -> Option<(Names, Node)>
     requires sorted { T (is_sorted path_cmp (all_in lists.old.items)) }
@@ -262,11 +279,11 @@ fn take_below(lists: &mut Vec<Vec<(Names, Node)>>, path: &DavPath) -> Option<(Na
         ≡ without_first (λ e. is_at_or_under e.0 (names path.now)) (all_in lists.old.items) }
     ensures filled { AreFilled lists.new.items }
 {
-    let (i, k) = place_below(lists, path)?;
+    let Some((i, k)) = place_below(lists, path) else {
+        return None;
+    };
     let entry = lists[i].remove(k);
-    if i > 0 && lists[i].is_empty() {
-        let _ = lists.remove(i);
-    }
+    drop_empty(lists, i);
     Some(entry)
 }
 
@@ -278,6 +295,13 @@ pub fn prune(lists: &mut Vec<Vec<(Names, Node)>>, path: &DavPath)
     ensures filled { AreFilled lists.new.items }
 {
     while let Some(_) = take_below(lists, path) {}
+}
+
+// The place of the first list that doesn't begin with what is at a path or below it.
+fn place_of_other(lists: &[Vec<(Names, Node)>], path: &DavPath) -> Option<usize>
+    ensures { result ≡ position (λ l. not (starts_below (names path.now) l.items)) lists.now }
+{
+    lists.iter().position(|list| !starts_below(list, path))
 }
 
 /// The lists in which what is at a path and below it stands.
@@ -292,10 +316,7 @@ pub fn around<'a>(
 {
     let i = home(lists, Sought::At(path));
     let from = &lists[i..];
-    match lists[i + 1..]
-        .iter()
-        .position(|list| !starts_below(list, path))
-    {
+    match place_of_other(&lists[i + 1..], path) {
         Some(n) => &from[..n + 1],
         None => from,
     }
@@ -414,8 +435,10 @@ pub fn file_made_with(
     requires { IfSome hint (λ _. DifferInMaking (all_in lists.now)) }
     ensures { option_copied result ≡ file_made_with made (all_in lists.now) }
 {
-    let (i, k) = made_place(lists, made, hint)?;
-    Some(&lists[i][k].1)
+    match made_place(lists, made, hint) {
+        Some((i, k)) => Some(&lists[i][k].1),
+        None => None,
+    }
 }
 
 /// Writes bytes to the file that was created under this change number. Where memory runs out, nothing changes.

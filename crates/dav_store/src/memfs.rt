@@ -181,13 +181,19 @@ fn any_below(entries: &[(Names, Node)], path: &DavPath) -> bool
     entries.iter().any(|e| e.0.name_below(path).is_some())
 }
 
+// Whether something in some lists is directly below a path.
+fn any_below_among(lists: &[Vec<(Names, Node)>], path: &DavPath) -> bool
+    ensures { result ≡ list_any (λ l. list_any
+        (λ e. is_some (only_name (rest_after (names path.now) e.0))) l.items) lists.now }
+{
+    lists.iter().any(|some| any_below(some, path))
+}
+
 // Whether a folder has members.
 fn has_members(entries: &Entries, path: &DavPath) -> bool
     ensures { result ≡ is_nonempty (members (names path.now) entries.now) }
 {
-    entries::around(entries, path)
-        .iter()
-        .any(|some| any_below(some, path))
+    any_below_among(entries::around(entries, path), path)
 }
 
 // The properties after these changes, in their order, and the answers to them.

@@ -1,0 +1,4 @@
+use Rattle.dav_store.proofs.lists.drop_empty.Goals as goal
+
+pub returns-clause-nodes : goal.returns-clause-nodes
+returns-clause-nodes c = ?
