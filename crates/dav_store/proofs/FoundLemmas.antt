@@ -1,6 +1,6 @@
 -- Lists in order, one behind the other: the first that passes a test, and what is at a path and below it.
 use Rattle.std.proofs.Common.{◌≡◌, ℕ, zero, suc, ◌+◌, ◌<◌, ◌≤◌, ◌||◌, Bool, true, false, not, T, cond, List, [], ◌∷◌, ◌++◌, length, vec_len, get_or, set, take, drop, Option, Some, None, refl, sym, ap, subst, ◌∙◌, arith, add-one, append-nil, Vec}
-use Rattle.std.proofs.lemmas.List.{append_assoc, drop_more}
+use Rattle.std.proofs.lemmas.List.{append_assoc, drop_more, drop_all, set-get_or, length-set}
 use Rattle.std.proofs.lemmas.List.Elements.{filter-append, filter_map-append}
 use Rattle.std.proofs.lemmas.List.Folds.{list_any-append}
 use Rattle.std.proofs.lemmas.List.Quantifiers.{position-Some}
@@ -18,7 +18,8 @@ use Rattle.dav_store.specs.Entries.{all_in, AreFilled, starts_below, IsHome, IsF
 use Rattle.dav_store.proofs.Place.{IsFirst, NonePasses, is_first, none_passes, first_of, first_none, changed_at}
 use Rattle.dav_store.proofs.SearchLemmas.{less_is, position_is, position_none}
 use Rattle.dav_store.proofs.RunLemmas.{members_run, before_not_under, under_between, not_above, is_above}
-use Rattle.dav_store.proofs.HomeLemmas.{IsBehind, right_sorted}
+use Rattle.std.specs.Vec.{with_item}
+use Rattle.dav_store.proofs.HomeLemmas.{IsBehind, right_sorted, all_in-set_same, filled_set}
 
 -- none of these passes
 abbrev pub Fails : (Path × Node → Bool) → Nodes → Type 0
@@ -264,13 +265,19 @@ fails_right : (test : Path × Node → Bool) (xs ys : Nodes) → Fails test (xs 
 fails_right test [] ys h = h
 fails_right test (x ∷ xs) ys h = fails_right test xs ys h.1
 
+within_of : (test : Path × Node → Bool) (xs : Nodes) (k : ℕ) → position test xs ≡ Some k → k < length xs
+within_of test [] k h = cc
+within_of test (x ∷ xs) k h = (position-Some test (x ∷ xs) k x h).0
+
 module _ {Z : Type 0} (test : Path × Node → Bool) where
-  pub found_within : (ls : List (Vec (Path × Node) Z)) (i k : ℕ) (l : Vec (Path × Node) Z) (e : Path × Node) → IsFoundAt test ls i k → l ≡ get_or ls i l → k < l.len
-  found_within ls i k l e h at =
-      let there : position test l.items ≡ Some k = ap (λ (v : Vec (Path × Node) Z). position test v.items) at ∙ found_place test ls i k l h in
-      let within = (position-Some test l.items k e there).0 in
-      let len : l.len ≡ length l.items = l.ok.0 in
+  pub found_len : (ls : List (Vec (Path × Node) Z)) (i k : ℕ) (d : Vec (Path × Node) Z) → IsFoundAt test ls i k → k < (get_or ls i d).len
+  found_len ls i k d h =
+      let within = within_of test (get_or ls i d).items k (found_place test ls i k d h) in
+      let len : (get_or ls i d).len ≡ length (get_or ls i d).items = (get_or ls i d).ok.0 in
       omega (arith, within, len)
+
+  pub found_within : (ls : List (Vec (Path × Node) Z)) (i k : ℕ) (l : Vec (Path × Node) Z) → IsFoundAt test ls i k → l ≡ get_or ls i l → k < l.len
+  found_within ls i k l h at = subst (λ (v : Vec (Path × Node) Z). k < v.len) (sym at) (found_len ls i k l h)
 
   pub found_entry : (ls : List (Vec (Path × Node) Z)) (i k : ℕ) (l : Vec (Path × Node) Z) (e : Path × Node) → IsFoundAt test ls i k → l ≡ get_or ls i l → e ≡ get_or l.items k e
       → first test (all_in ls) ≡ Some e
@@ -314,6 +321,9 @@ fewer test (x ∷ xs) e h =
       | true ↦ λ k. omega arith
       | false ↦ λ k. let rest = fewer test xs e k in omega arith
     ] h
+
+pub fewer_by : (test : Path × Node → Bool) (xs ys : Nodes) (e : Path × Node) → first test xs ≡ Some e → ys ≡ without_first test xs → length ys < length xs
+fewer_by test xs ys e h is = subst (λ (zs : Nodes). length zs < length xs) (sym is) (fewer test xs e h)
 
 below_without : (p : Path) (test : Path × Node → Bool) (xs : Nodes) → T (below_all path_cmp p xs) → T (below_all path_cmp p (without_first test xs))
 below_without p test [] h = tt
@@ -452,6 +462,23 @@ listed_more {Z = Z} p ls i l ns old new lt at is more h =
     ∙ append_assoc old (members p (get_or ls i l).items) (members p (all_in rest))
     ∙ ap (λ (xs : List (List ℕ × Bool)). old ++ xs) (sym (filter_map-append (λ e. option_map (λ name. (name, is_folder_kind e.1.kind)) (only_name (rest_after p e.0))) (get_or ls i l).items (all_in rest)))
     ∙ ap (λ (xs : List (Vec (Path × Node) Z)). old ++ members p (all_in xs)) (sym (drop_more ls i l lt)) ∙ h
+
+-- where all lists were listed, all members were
+pub listed_all : {Z : Type 0} (p : Path) (ls : List (Vec (Path × Node) Z)) (i : ℕ) (old : List (List ℕ × Bool)) (ns : Nodes) → length ls ≤ i → old ++ members p (all_in (drop i ls)) ≡ members p (all_in ls)
+    → filter (λ e. is_at_or_under e.0 p) (all_in ls) ≡ filter (λ e. is_at_or_under e.0 p) ns → old ≡ members p ns
+listed_all {Z = Z} p ls i old ns end h alike =
+    sym (append-nil old) ∙ ap (λ (xs : List (Vec (Path × Node) Z)). old ++ members p (all_in xs)) (sym (drop_all i ls end)) ∙ h ∙ members_alike p (all_in ls) ns alike
+
+-- a node that was written as it was
+pub unchanged_at : {Z : Type 0} (ls : List (Vec (Path × Node) Z)) (i k : ℕ) (d : Vec (Path × Node) Z) (e : Path × Node) (n : Node) → i < length ls → e ≡ get_or (get_or ls i d).items k e → n ≡ e.1
+    → all_in (set ls i (with_item (get_or ls i d) k (e.0, n))) ≡ all_in ls
+unchanged_at ls i k d e n lt at is =
+    all_in-set_same ls i d (with_item (get_or ls i d) k (e.0, n)) lt
+    (ap (λ (m : Node). set (get_or ls i d).items k (e.0, m)) is ∙ ap (λ (x : Path × Node). set (get_or ls i d).items k x) at ∙ set-get_or (get_or ls i d).items k e)
+
+pub filled_written : {Z : Type 0} (ls : List (Vec (Path × Node) Z)) (i k : ℕ) (d : Vec (Path × Node) Z) (x : Path × Node) → i < length ls → AreFilled ls → AreFilled (set ls i (with_item (get_or ls i d) k x))
+filled_written ls i k d x lt h =
+    filled_set ls i d (with_item (get_or ls i d) k x) (λ some. subst (λ n. 0 < n) (sym (length-set (get_or ls i d).items k x)) some) lt h
 
 same_pairs : (xs ys : Nodes) → AllZip (λ x y. (x.0 ≡ y.0) × (x.1 ≡ y.1)) xs ys → xs ≡ ys
 same_pairs [] [] h = refl
