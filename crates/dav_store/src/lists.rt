@@ -305,10 +305,7 @@ fn place_of_other(lists: &[Vec<(Names, Node)>], path: &DavPath) -> Option<usize>
 }
 
 /// The lists in which what is at a path and below it stands.
-pub fn around<'a>(
-    lists: &'a [Vec<(Names, Node)>],
-    path: &DavPath,
-) -> &'a [Vec<(Names, Node)>]
+pub fn around<'a>(lists: &'a [Vec<(Names, Node)>], path: &DavPath) -> &'a [Vec<(Names, Node)>]
     requires sorted { T (is_sorted path_cmp (all_in lists.now)) }
     requires filled { AreFilled lists.now }
     ensures { filter (λ e. is_at_or_under e.0 (names path.now)) (all_in result.now)

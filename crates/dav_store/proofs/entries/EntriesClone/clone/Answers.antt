@@ -11,4 +11,4 @@ invariant_of-result c = (
 )
 
 pub returns : goal.returns
-returns c = record { cases = sym c.self.view_is ∙ all_cloned c.self.inside.lists.items c.in_ok-clone.field-0.items c.in_ok-clone.ensures.cases.0; }
+returns c = record { cases = sym c.self.view_is ∙ all_cloned c.self.inside.lists.items c.in_ok-clone.field-0.items c.in_ok-clone.ensures.cases.0 }
