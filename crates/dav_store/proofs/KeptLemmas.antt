@@ -1,5 +1,5 @@
 -- Lists of paths and nodes stay in order, and their nodes stay made once.
-use Rattle.std.proofs.Common.{◌≡◌, ◌≢◌, ℕ, zero, suc, ◌<◌, ◌≤◌, ◌==◌, ◌&&◌, ◌++◌, Bool, true, false, not, cond, T, [], ◌∷◌, length, get_or, Option, Some, None, Result, Ok, Err, OnOk, OnErr, IfSome, refl, sym, subst, ◌∙◌, arith}
+use Rattle.std.proofs.Common.{◌≡◌, ◌≢◌, ℕ, zero, suc, ◌<◌, ◌≤◌, ◌==◌, ◌&&◌, ◌++◌, Bool, true, false, not, cond, T, [], ◌∷◌, length, get_or, Option, Some, None, Result, Ok, Err, OnOk, OnErr, IfSome, refl, sym, ap, subst, ◌∙◌, arith, List, Vec}
 use Rattle.std.specs.List.{AllByRecursion, filter, cons_option, position}
 use Rattle.std.specs.Option.{option_map, is_some}
 use Rattle.std.specs.FinMap.{put, is_sorted}
@@ -10,7 +10,7 @@ use Rattle.dav_core.specs.World.{Node, Nodes, change_node, prune, graft, union, 
 use Rattle.dav_core.proofs.NodesLemmas.{sorted-change, sorted-put_node}
 use Rattle.dav_core.proofs.NodesAfter.{sorted-prune, sorted-moved}
 use Rattle.dav_core.proofs.MadeLemmas.{passed}
-use Rattle.dav_store.specs.Entries.{DifferInMaking, AreMadeOnce, IsKept}
+use Rattle.dav_store.specs.Entries.{DifferInMaking, AreMadeOnce, IsKept, all_in, IsFoundAt}
 use Rattle.dav_store.proofs.Place.{IsFirst}
 use Rattle.dav_store.proofs.SearchLemmas.{position_is}
 
@@ -160,6 +160,11 @@ pub kept_either : {A E : Type 0} (last : Option ℕ) (r : Result A E) (ns new do
 kept_either last (Ok a) ns new done ok err step h = subst (IsKept last) (sym ok) (step h)
 kept_either last (Err e) ns new done ok err step h = subst (IsKept last) (sym err) h
 
+-- what holds anyway holds after a failure
+pub on_err : {A E : Type 0} {X : Type 0} (r : Result A E) → X → OnErr r X
+on_err (Ok a) x = tt
+on_err (Err e) x = x
+
 pub kept_moved : (last : Option ℕ) (p t : Path) (ns : Nodes) → IsKept last ns → IsKept last (moved p t ns)
 kept_moved last p t ns =
     kept_by last ns (moved p t ns) (moved p t ns) refl (sorted-moved p t ns)
@@ -210,3 +215,52 @@ module _ (made : ℕ) where
       → (((get_or ns i d).1.made == made) && not (is_folder_kind (get_or ns i d).1.kind)) ≡ true
       → position (λ e. (e.1.made == made) && not (is_folder_kind e.1.kind)) ns ≡ Some i
   only_one ns i d h lt here = position_is (λ e. (e.1.made == made) && not (is_folder_kind e.1.kind)) ns i (get_or ns i d) (only_first ns i d h lt here)
+
+each_left : (Q : ℕ → Type 0) (xs ys : Nodes) → Each Q (xs ++ ys) → Each Q xs
+each_left Q [] ys h = tt
+each_left Q (x ∷ xs) ys h = (h.0, each_left Q xs ys h.1)
+
+each_right : (Q : ℕ → Type 0) (xs ys : Nodes) → Each Q (xs ++ ys) → Each Q ys
+each_right Q [] ys h = h
+each_right Q (x ∷ xs) ys h = each_right Q xs ys h.1
+
+differ_left : (xs ys : Nodes) → DifferInMaking (xs ++ ys) → DifferInMaking xs
+differ_left [] ys h = tt
+differ_left (x ∷ xs) ys h = (each_left (λ k. k ≢ x.1.made) xs ys h.0, differ_left xs ys h.1)
+
+differ_right : (xs ys : Nodes) → DifferInMaking (xs ++ ys) → DifferInMaking ys
+differ_right [] ys h = h
+differ_right (x ∷ xs) ys h = differ_right xs ys h.1
+
+module _ {Z : Type 0} where
+  each_in : (Q : ℕ → Type 0) (ls : List (Vec (Path × Node) Z)) (i k : ℕ) (d : Vec (Path × Node) Z) (e : Path × Node) → Each Q (all_in ls) → i < length ls → k < length (get_or ls i d).items
+      → Q (get_or (get_or ls i d).items k e).1.made
+  each_in Q [] i k d e h lt within = absurd (omega arith)
+  each_in Q (l ∷ ls) zero k d e h lt within = each_at Q l.items k e (each_left Q l.items (all_in ls) h) within
+  each_in Q (l ∷ ls) (suc i) k d e h lt within = each_in Q ls i k d e (each_right Q l.items (all_in ls) h) (omega arith) within
+
+  module _ (made : ℕ) where
+    before_fail : (xs : Nodes) (ls : List (Vec (Path × Node) Z)) (i k : ℕ) (d : Vec (Path × Node) Z) (e : Path × Node) → DifferInMaking (xs ++ all_in ls) → i < length ls → k < length (get_or ls i d).items
+        → (((get_or (get_or ls i d).items k e).1.made == made) && not (is_folder_kind (get_or (get_or ls i d).items k e).1.kind)) ≡ true
+        → AllByRecursion (λ x. ((x.1.made == made) && not (is_folder_kind x.1.kind)) ≡ false) xs
+    before_fail [] ls i k d e h lt within here = tt
+    before_fail (x ∷ xs) ls i k d e h lt within here = (
+      unlike made x.1 (get_or (get_or ls i d).items k e).1 (each_in (λ m. m ≢ x.1.made) ls i k d e (each_right (λ m. m ≢ x.1.made) xs (all_in ls) h.0) lt within) here ((x.1.made == made) && not (is_folder_kind x.1.kind)) refl,
+      before_fail xs ls i k d e h.1 lt within here,
+    )
+
+    -- a file that was created under a number is found where it is
+    pub made_found : (ls : List (Vec (Path × Node) Z)) (i k : ℕ) (d : Vec (Path × Node) Z) (e : Path × Node) → DifferInMaking (all_in ls) → i < length ls → k < length (get_or ls i d).items
+        → (((get_or (get_or ls i d).items k e).1.made == made) && not (is_folder_kind (get_or (get_or ls i d).items k e).1.kind)) ≡ true
+        → IsFoundAt (λ x. (x.1.made == made) && not (is_folder_kind x.1.kind)) ls i k
+    made_found [] i k d e h lt within here = absurd (omega arith)
+    made_found (l ∷ ls) zero k d e h lt within here = only_one made l.items k e (differ_left l.items (all_in ls) h) within here
+    made_found (l ∷ ls) (suc i) k d e h lt within here =
+        (before_fail l.items ls i k d e h (omega arith) within here, made_found ls i k d e (differ_right l.items (all_in ls) h) (omega arith) within here)
+
+    pub made_read : (ls : List (Vec (Path × Node) Z)) (i k : ℕ) (l : Vec (Path × Node) Z) (e : Path × Node) → DifferInMaking (all_in ls) → i < length ls → l ≡ get_or ls i l → k < l.len
+        → e ≡ get_or l.items k e → ((e.1.made == made) && not (is_folder_kind e.1.kind)) ≡ true → IsFoundAt (λ x. (x.1.made == made) && not (is_folder_kind x.1.kind)) ls i k
+    made_read ls i k l e h lt at within here is =
+        let there : e ≡ get_or (get_or ls i l).items k e = here ∙ ap (λ (v : Vec (Path × Node) Z). get_or v.items k e) at in
+        let len : l.len ≡ length (get_or ls i l).items = l.ok.0 ∙ ap (λ (v : Vec (Path × Node) Z). length v.items) at in
+        made_found ls i k l e h lt (omega (arith, within, len)) (sym (ap (λ (x : Path × Node). (x.1.made == made) && not (is_folder_kind x.1.kind)) there) ∙ is)

@@ -15,3 +15,5 @@ pub mod TreeClimbs
 pub mod SearchLemmas
 pub mod KeptLemmas
 pub mod RunLemmas
+pub mod HomeLemmas
+pub mod FoundLemmas

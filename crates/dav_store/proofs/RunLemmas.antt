@@ -20,7 +20,7 @@ use Rattle.dav_store.proofs.Place.{IsFirst, NonePasses, is_first, none_passes}
 use Rattle.dav_store.proofs.SearchLemmas.{parted, below_at, less_is}
 
 -- what is before a path isn't below it
-before_not_under : (p x : Path) → is_gt (path_cmp p x) ≡ true → is_at_or_under x p ≡ false
+pub before_not_under : (p x : Path) → is_gt (path_cmp p x) ≡ true → is_at_or_under x p ≡ false
 before_not_under [] [] h = cc
 before_not_under [] (b ∷ x) h = cc
 before_not_under (a ∷ p) [] h = refl
@@ -48,7 +48,7 @@ module _ (a b c : List ℕ) (p x y : Path) where
   between_step Greater Equal eo er h k u ih = cc
 
 -- what is between a path and something below it is below it
-under_between : (p x y : Path) → is_gt (path_cmp p x) ≡ false → path_cmp x y ≡ Less → is_at_or_under y p ≡ true → is_at_or_under x p ≡ true
+pub under_between : (p x y : Path) → is_gt (path_cmp p x) ≡ false → path_cmp x y ≡ Less → is_at_or_under y p ≡ true → is_at_or_under x p ≡ true
 under_between [] x y h k u = refl
 under_between (a ∷ p) [] y h k u = cc
 under_between (a ∷ p) (b ∷ x) [] h k u = cc
@@ -60,12 +60,12 @@ sorted_drop zero ns h = h
 sorted_drop (suc i) [] h = tt
 sorted_drop (suc i) (e ∷ es) h = sorted_drop i es (right_true (below_all path_cmp e.0 es) (is_sorted path_cmp es) h)
 
-not_above : (o : Ordering) → is_le o ≡ true → is_gt o ≡ false
+pub not_above : (o : Ordering) → is_le o ≡ true → is_gt o ≡ false
 not_above Less h = refl
 not_above Equal h = refl
 not_above Greater h = cc
 
-is_above : (o : Ordering) → is_le o ≡ false → is_gt o ≡ true
+pub is_above : (o : Ordering) → is_le o ≡ false → is_gt o ≡ true
 is_above Less h = cc
 is_above Equal h = cc
 is_above Greater h = refl

@@ -8,3 +8,4 @@ pub mod Tree
 pub mod TreeLaws
 pub mod TreeLends
 pub mod Entries
+pub mod Sought

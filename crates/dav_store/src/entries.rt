@@ -1,4 +1,4 @@
-//! Paths and their nodes, as a store in memory keeps them: a list in order of the paths.
+//! Paths and their nodes, as a store in memory keeps them: lists in order of the paths.
 ghost use Rattle.std.specs.Prelude.{◌≡◌, ◌∷◌, ◌++◌, ◌+◌, ◌<◌, ◌≤◌, [], ℕ, List, Some, ◌≢◌, IfOk, OnOk, OnErr, IfSome, Option, option_copied, filter, length};
 ghost use Rattle.std.specs.FinMap.{find, put};
 ghost use Rattle.dav_core.specs.Path.{names, path_cmp, is_at_or_under, parent_of};
@@ -6,9 +6,9 @@ ghost use Rattle.dav_core.specs.World.{adjust, touched, prune, moved, is_folder_
 ghost use Rattle.dav_core.specs.World.{Node as Seen, fresh};
 ghost use Rattle.dav_core.specs.Calls.{emptied, written, copied_over, repatched};
 ghost use Rattle.dav_core.specs.Property.{Patch, patched};
-ghost use Rattle.dav_store.specs.Entries.{DifferInMaking};
+ghost use Rattle.dav_store.specs.Entries.{DifferInMaking, all_in};
 
-use crate::listed;
+use crate::lists;
 use crate::names::{Name, Names};
 use crate::node::Node;
 use crate::properties::Properties;
@@ -21,21 +21,21 @@ use std::marker::Model;
 /// created under a number of its own.
 #[derive(Drop)]
 pub struct Entries {
-    list: Vec<(Names, Node)>,
+    lists: Vec<Vec<(Names, Node)>>,
     last: Option<u64>,
 }
 
 impl Model for Entries {
     ghost use Rattle.dav_core.specs.World.{Nodes};
-    ghost use Rattle.dav_store.specs.Entries.{coded_nodes, IsKept};
+    ghost use Rattle.dav_store.specs.Entries.{coded_nodes, all_in, AreFilled, IsKept};
 
     ghost Value = { Nodes };
 
     ghost coded = { coded_nodes };
 
-    ghost view = { λ s. s.list.items };
+    ghost view = { λ s. all_in s.lists.items };
 
-    ghost invariant = { λ s. IsKept s.last s.list.items };
+    ghost invariant = { λ s. IsKept s.last (all_in s.lists.items) × AreFilled s.lists.items };
 }
 
 impl Clone for Entries {
@@ -45,7 +45,7 @@ impl Clone for Entries {
 
     fn clone(&self) -> Result<Entries, NoMemory> {
         Ok(Entries {
-            list: self.list.clone()?,
+            lists: self.lists.clone()?,
             last: self.last,
         })
     }
@@ -58,8 +58,10 @@ pub fn of_root(alloc: Global, root: Node) -> Result<Entries, NoMemory>
     let last = root.creation_number();
     let mut list = Vec::new(alloc);
     list.push((Names::root(alloc), root))?;
+    let mut lists = Vec::new(alloc);
+    lists.push(list)?;
     Ok(Entries {
-        list,
+        lists,
         last: Some(last),
     })
 }
@@ -68,42 +70,52 @@ pub fn of_root(alloc: Global, root: Node) -> Result<Entries, NoMemory>
 pub fn node_at<'a>(entries: &'a Entries, path: &DavPath) -> Option<&'a Node>
     ensures { option_copied result ≡ find path_cmp (names path.now) entries.now }
 {
-    listed::node_at(&entries.list, path)
+    lists::node_at(&entries.lists, path)
 }
 
 /// Whether there is a folder at a path.
 pub fn is_folder(entries: &Entries, path: &DavPath) -> bool
     ensures { result ≡ is_folder_node (find path_cmp (names path.now) entries.now) }
 {
-    listed::is_folder(&entries.list, path)
+    match node_at(entries, path) {
+        Some(node) => node.is_folder(),
+        None => false,
+    }
 }
 
 /// Whether there is a file at a path.
 pub fn is_file(entries: &Entries, path: &DavPath) -> bool
     ensures { result ≡ is_file_node (find path_cmp (names path.now) entries.now) }
 {
-    listed::is_file(&entries.list, path)
+    match node_at(entries, path) {
+        Some(node) => !node.is_folder(),
+        None => false,
+    }
 }
 
 /// Whether there is a folder above a path.
 pub fn has_folder(entries: &Entries, path: &DavPath) -> bool
     ensures { result ≡ is_folder_node (find path_cmp (parent_of (names path.now)) entries.now) }
 {
-    listed::has_folder(&entries.list, path)
+    match lists::folder_of(&entries.lists, path) {
+        Some(node) => node.is_folder(),
+        None => false,
+    }
 }
 
 /// The node at a name in a folder.
 pub fn member_at<'a>(entries: &'a Entries, folder: &Names, name: &Name) -> Option<&'a Node>
     ensures { option_copied result ≡ find path_cmp (folder.now ++ name.now ∷ []) entries.now }
 {
-    listed::member_at(&entries.list, folder, name)
+    lists::member_at(&entries.lists, folder, name)
 }
 
-/// What is at a path and below it, in order.
-pub fn at_or_below<'a>(entries: &'a Entries, path: &DavPath) -> &'a [(Names, Node)]
-    ensures { result.now ≡ filter (λ e. is_at_or_under e.0 (names path.now)) entries.now }
+/// Lists of nodes in which what is at a path and below it stands, in order.
+pub fn around<'a>(entries: &'a Entries, path: &DavPath) -> &'a [Vec<(Names, Node)>]
+    ensures { filter (λ e. is_at_or_under e.0 (names path.now)) (all_in result.now)
+        ≡ filter (λ e. is_at_or_under e.0 (names path.now)) entries.now }
 {
-    listed::at_or_below(&entries.list, path)
+    lists::around(&entries.lists, path)
 }
 
 /// Sets the moment at which the folder of a path was last changed.
@@ -111,7 +123,7 @@ pub fn touch_folder(entries: &mut Entries, path: &DavPath, now: u64)
     requires { now ≤ last_moment }
     ensures { entries.new ≡ touched (names path.now) now entries.old }
 {
-    listed::touch_folder(&mut entries.list, path, now);
+    lists::touch_folder(&mut entries.lists, path, now);
 }
 
 /// Empties the file at a path, which takes this number.
@@ -119,14 +131,14 @@ pub fn empty_at(entries: &mut Entries, path: &DavPath, number: u64, now: u64)
     requires { now ≤ last_moment }
     ensures { entries.new ≡ adjust (names path.now) (emptied number now) entries.old }
 {
-    listed::empty_at(&mut entries.list, path, number, now);
+    lists::empty_at(&mut entries.lists, path, number, now);
 }
 
 /// Removes what is at a path and below it.
 pub fn prune(entries: &mut Entries, path: &DavPath)
     ensures { entries.new ≡ prune (names path.now) entries.old }
 {
-    listed::prune(&mut entries.list, path);
+    lists::prune(&mut entries.lists, path);
 }
 
 /// Moves what is at `from` and below it to `to`, in place of what is there. Where memory runs out, nothing changes.
@@ -140,7 +152,7 @@ pub fn move_nodes(
         ≡ moved (names from.now) (names to.now) entries.old) }
     ensures err { OnErr result (entries.new ≡ entries.old) }
 {
-    listed::move_nodes(alloc, &mut entries.list, from, to)
+    lists::move_nodes(alloc, &mut entries.lists, from, to)
 }
 
 // The number above which no node was created, once one more is created under this number.
@@ -156,7 +168,7 @@ fn put_at(alloc: Global, entries: &mut Entries, path: &DavPath, node: Node) -> R
     ensures err { OnErr result (entries.new ≡ entries.old) }
 {
     let last = last_with(entries.last, node.creation_number());
-    listed::put_at(alloc, &mut entries.list, path, node)?;
+    lists::put_at(alloc, &mut entries.lists, path, node)?;
     entries.last = last;
     Ok(())
 }
@@ -180,15 +192,12 @@ pub fn add_node(
 }
 
 /// The place of what is at a path, by which it can be found again as long as nothing comes or goes before it.
-pub fn hint_of(entries: &Entries, path: &DavPath) -> usize {
-    match listed::place(&entries.list, path) {
-        Some(i) => i,
-        None => 0,
-    }
+pub fn hint_of(entries: &Entries, path: &DavPath) -> (usize, usize) {
+    lists::hint_of(&entries.lists, path)
 }
 
 // The hint, where what is found by it is the only one.
-fn sure_hint(entries: &Entries, hint: usize) -> Option<usize>
+fn sure_hint(entries: &Entries, hint: (usize, usize)) -> Option<(usize, usize)>
     ensures { IfSome result (λ _. DifferInMaking entries.now) }
 {
     match entries.last {
@@ -198,10 +207,10 @@ fn sure_hint(entries: &Entries, hint: usize) -> Option<usize>
 }
 
 /// The file that was created under this change number. It is looked for at the hint first.
-pub fn file_made_with(entries: &Entries, made: u64, hint: usize) -> Option<&Node>
+pub fn file_made_with(entries: &Entries, made: u64, hint: (usize, usize)) -> Option<&Node>
     ensures { option_copied result ≡ file_made_with made entries.now }
 {
-    listed::file_made_with(&entries.list, made, sure_hint(entries, hint))
+    lists::file_made_with(&entries.lists, made, sure_hint(entries, hint))
 }
 
 /// Writes bytes to the file that was created under this change number. Where memory runs out, nothing changes.
@@ -209,7 +218,7 @@ pub fn write_file_made_with(
     alloc: Global,
     entries: &mut Entries,
     made: u64,
-    hint: usize,
+    hint: (usize, usize),
     place: usize,
     chunk: &[u8],
     number: u64,
@@ -223,9 +232,9 @@ pub fn write_file_made_with(
     ensures err { OnErr result (entries.new ≡ entries.old) }
 {
     let hint = sure_hint(entries, hint);
-    listed::write_file_made_with(
+    lists::write_file_made_with(
         alloc,
-        &mut entries.list,
+        &mut entries.lists,
         made,
         hint,
         place,
@@ -241,7 +250,7 @@ pub fn copy_over(entries: &mut Entries, path: &DavPath, copy: Node)
         ≡ record (fresh number source.kind now) { properties = source.properties } → entries.new
         ≡ adjust (names path.now) (copied_over source number now) entries.old }
 {
-    listed::copy_over(&mut entries.list, path, copy);
+    lists::copy_over(&mut entries.lists, path, copy);
 }
 
 /// Replaces the properties of the node at a path, by its own after some changes.
@@ -250,5 +259,5 @@ pub fn set_properties_at(entries: &mut Entries, path: &DavPath, properties: Prop
         ≡ Some n → properties ≡ patched patches n.properties → entries.new
         ≡ adjust (names path.now) (repatched patches) entries.old }
 {
-    listed::set_properties_at(&mut entries.list, path, properties);
+    lists::set_properties_at(&mut entries.lists, path, properties);
 }

@@ -6,6 +6,7 @@ mod asserting;
 mod entries;
 pub mod laws;
 mod listed;
+mod lists;
 pub mod memfs;
 pub mod memls;
 mod names;

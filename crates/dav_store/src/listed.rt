@@ -137,39 +137,6 @@ pub fn folder_of<'a>(entries: &'a [(Names, Node)], path: &DavPath) -> Option<&'a
     }
 }
 
-/// Whether there is a folder at a path.
-pub fn is_folder(entries: &[(Names, Node)], path: &DavPath) -> bool
-    requires { T (is_sorted path_cmp entries.now) }
-    ensures { result ≡ is_folder_node (find path_cmp (names path.now) entries.now) }
-{
-    match node_at(entries, path) {
-        Some(node) => node.is_folder(),
-        None => false,
-    }
-}
-
-/// Whether there is a file at a path.
-pub fn is_file(entries: &[(Names, Node)], path: &DavPath) -> bool
-    requires { T (is_sorted path_cmp entries.now) }
-    ensures { result ≡ is_file_node (find path_cmp (names path.now) entries.now) }
-{
-    match node_at(entries, path) {
-        Some(node) => !node.is_folder(),
-        None => false,
-    }
-}
-
-/// Whether there is a folder above a path.
-pub fn has_folder(entries: &[(Names, Node)], path: &DavPath) -> bool
-    requires { T (is_sorted path_cmp entries.now) }
-    ensures { result ≡ is_folder_node (find path_cmp (parent_of (names path.now)) entries.now) }
-{
-    match folder_of(entries, path) {
-        Some(node) => node.is_folder(),
-        None => false,
-    }
-}
-
 /// Sets the moment at which the folder of a path was last changed.
 pub fn touch_folder(entries: &mut [(Names, Node)], path: &DavPath, now: u64)
     requires sorted { T (is_sorted path_cmp entries.old) }
@@ -192,53 +159,18 @@ pub fn empty_at(entries: &mut [(Names, Node)], path: &DavPath, number: u64, now:
     }
 }
 
-// The place from which on paths are no longer at a path or below it.
-fn run_end(list: &[(Names, Node)], path: &DavPath, from: usize) -> usize
-    requires sorted { T (is_sorted path_cmp list.now) }
-    requires from { position (λ e. is_le (path_cmp (names path.now) e.0)) list.now ≡ Some from }
-    ensures { IsRun (names path.now) list.now from result }
-{
-    let count = list[from..].partition_point(
-        |e: &(Names, Node)| -> bool
-            ensures { result ≡ is_at_or_under e.now.0 (names path.entry.now) }
-        { e.0.are_at_or_below(path) },
-    );
-    from + count
-}
-
-/// What is at a path and below it, in order.
-pub fn at_or_below<'a>(list: &'a [(Names, Node)], path: &DavPath) -> &'a [(Names, Node)]
+/// The place of the first that is at a path or below it.
+pub fn place_below(list: &[(Names, Node)], path: &DavPath) -> Option<usize>
     requires { T (is_sorted path_cmp list.now) }
-    ensures { result.now ≡ filter (λ e. is_at_or_under e.0 (names path.now)) list.now }
+    ensures { result ≡ position (λ e. is_at_or_under e.0 (names path.now)) list.now }
 {
     match place_from(list, path) {
-        None => &[],
-        Some(from) => {
-            let to = run_end(list, path, from);
-            &list[from..to]
-        }
-    }
-}
-
-// Removes what is at a path and below it, by a look at all.
-fn prune_all(entries: &mut Vec<(Names, Node)>, path: &DavPath)
-    ensures { entries.new.items ≡ prune (names path.now) entries.old.items }
-{
-    entries.retain(|e| !e.0.are_at_or_below(path));
-}
-
-/// Removes what is at a path and below it.
-pub fn prune(entries: &mut Vec<(Names, Node)>, path: &DavPath)
-    requires { T (is_sorted path_cmp entries.old.items) }
-    ensures { entries.new.items ≡ prune (names path.now) entries.old.items }
-{
-    if let Some(from) = place_from(entries, path) {
-        let to = run_end(entries, path, from);
-        if to == from + 1 {
-            let _ = entries.remove(from);
+        None => None,
+        Some(i) => if list[i].0.are_at_or_below(path) {
+            Some(i)
         } else {
-            prune_all(entries, path);
-        }
+            None
+        },
     }
 }
 
@@ -387,54 +319,12 @@ pub fn put_at(
     Ok(())
 }
 
-// The place of the file that was created under this change number. It is looked for at the hint first.
-fn made_place(entries: &[(Names, Node)], made: u64, hint: Option<usize>) -> Option<usize>
-    requires { IfSome hint (λ _. DifferInMaking entries.now) }
+/// The place of the file that was created under this change number.
+pub fn made_place(entries: &[(Names, Node)], made: u64) -> Option<usize>
     ensures { result ≡ position
         (λ e. (e.1.made == made) && not (is_folder_kind e.1.kind)) entries.now }
 {
-    if let Some(i) = hint {
-        if i < entries.len() && entries[i].1.is_file_made_with(made) {
-            return Some(i);
-        }
-    }
     entries.iter().position(|e| e.1.is_file_made_with(made))
-}
-
-/// The file that was created under this change number. It is looked for at the hint first.
-pub fn file_made_with(entries: &[(Names, Node)], made: u64, hint: Option<usize>) -> Option<&Node>
-    requires { IfSome hint (λ _. DifferInMaking entries.now) }
-    ensures { option_copied result ≡ file_made_with made entries.now }
-{
-    match made_place(entries, made, hint) {
-        None => None,
-        Some(i) => Some(&entries[i].1),
-    }
-}
-
-/// Writes bytes to the file that was created under this change number. Where memory runs out, nothing changes.
-pub fn write_file_made_with(
-    alloc: Global,
-    entries: &mut [(Names, Node)],
-    made: u64,
-    hint: Option<usize>,
-    place: usize,
-    chunk: &[u8],
-    number: u64,
-    now: u64,
-) -> Result<(), NoMemory>
-    requires differ { IfSome hint (λ _. DifferInMaking entries.old) }
-    requires some { chunk.now ≢ [] }
-    requires fits { place + length chunk.now ≤ max_file_len }
-    requires now { now ≤ last_moment }
-    ensures ok { OnOk result (entries.new
-        ≡ change_node (is_file_made_with made) (written place chunk.now number now) entries.old) }
-    ensures err { OnErr result (entries.new ≡ entries.old) }
-{
-    if let Some(i) = made_place(entries, made, hint) {
-        entries[i].1.write(alloc, place, chunk, number, now)?;
-    }
-    Ok(())
 }
 
 /// Gives the file at a path all that a copy has; it stays the node that it was.
@@ -451,11 +341,8 @@ pub fn copy_over(entries: &mut [(Names, Node)], path: &DavPath, copy: Node)
 /// Replaces the properties of the node at a path, by its own after some changes.
 pub fn set_properties_at(entries: &mut [(Names, Node)], path: &DavPath, properties: Properties)
     requires { T (is_sorted path_cmp entries.old) }
-    ensures exact { entries.new
+    ensures { entries.new
         ≡ adjust (names path.now) (λ n. record n { properties = properties }) entries.old }
-    ensures patched { (n : Seen) (patches : List Patch) → find path_cmp (names path.now) entries.old
-        ≡ Some n → properties ≡ patched patches n.properties → entries.new
-        ≡ adjust (names path.now) (repatched patches) entries.old }
 {
     if let Some(i) = place(entries, path) {
         entries[i].1.set_properties(properties);

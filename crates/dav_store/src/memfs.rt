@@ -1,5 +1,5 @@
 //! A file store in memory (RFC 4918, section 5).
-ghost use Rattle.std.specs.Prelude.{◌≡◌, IfOk, map};
+ghost use Rattle.std.specs.Prelude.{◌≡◌, ◌++◌, IfOk, OnOk, map};
 ghost use Rattle.std.specs.List.{list_any};
 ghost use Rattle.std.specs.Option.{is_some};
 ghost use Rattle.dav_core.specs.Path.{names, is_nonempty, only_name, rest_after};
@@ -72,7 +72,7 @@ pub struct MemFile {
     reads: bool,
     writes: bool,
     appends: bool,
-    hint: usize,
+    hint: (usize, usize),
 }
 
 impl Model for MemFile {
@@ -89,7 +89,7 @@ impl MemFile {
     ghost use Rattle.dav_core.specs.Metadata.{opening_of};
 
     // A file that was just opened.
-    fn open(made: u64, options: &OpenOptions, hint: usize) -> MemFile
+    fn open(made: u64, options: &OpenOptions, hint: (usize, usize)) -> MemFile
         ensures { result ≡ opened made (opening_of options.now) }
     {
         MemFile {
@@ -133,18 +133,19 @@ pub struct MemEntry {
     dir: bool,
 }
 
-// The entries of a folder that are in a list, in order.
+// Adds the entries of a folder that are in a list, in order.
 fn list_among(
     alloc: Global,
     entries: &[(Names, Node)],
     path: &DavPath,
-) -> Result<Vec<MemEntry>, NoMemory>
-    ensures members { IfOk result (λ list. map (λ e. (e.name, e.dir)) list.items
-        ≡ members (names path.now) entries.now) }
-    ensures folder { IfOk result
-        (λ list. map (λ e. e.folder) list.items ≡ map (λ _. names path.now) list.items) }
+    list: &mut Vec<MemEntry>,
+) -> Result<(), NoMemory>
+    ensures members { OnOk result (map (λ e. (e.name, e.dir)) list.new.items
+        ≡ map (λ e. (e.name, e.dir)) list.old.items ++ members (names path.now) entries.now) }
+    ensures folder { OnOk result
+        (map (λ e. e.folder) list.old.items ≡ map (λ _. names path.now) list.old.items →
+        map (λ e. e.folder) list.new.items ≡ map (λ _. names path.now) list.new.items) }
 {
-    let mut list = Vec::new(alloc);
     for e in entries {
         if let Some(name) = e.0.name_below(path) {
             list.push(MemEntry {
@@ -154,7 +155,7 @@ fn list_among(
             })?;
         }
     }
-    Ok(list)
+    Ok(())
 }
 
 // The entries of a folder, in order.
@@ -164,7 +165,12 @@ fn list(alloc: Global, entries: &Entries, path: &DavPath) -> Result<Vec<MemEntry
     ensures folder { IfOk result
         (λ list. map (λ e. e.folder) list.items ≡ map (λ _. names path.now) list.items) }
 {
-    list_among(alloc, entries::at_or_below(entries, path), path)
+    let lists = entries::around(entries, path);
+    let mut list = Vec::new(alloc);
+    for some in lists {
+        list_among(alloc, some, path, &mut list)?;
+    }
+    Ok(list)
 }
 
 // Whether something in a list is directly below a path.
@@ -175,11 +181,19 @@ fn any_below(entries: &[(Names, Node)], path: &DavPath) -> bool
     entries.iter().any(|e| e.0.name_below(path).is_some())
 }
 
+// Whether something in some lists is directly below a path.
+fn any_below_among(lists: &[Vec<(Names, Node)>], path: &DavPath) -> bool
+    ensures { result ≡ list_any (λ l. list_any
+        (λ e. is_some (only_name (rest_after (names path.now) e.0))) l.items) lists.now }
+{
+    lists.iter().any(|some| any_below(some, path))
+}
+
 // Whether a folder has members.
 fn has_members(entries: &Entries, path: &DavPath) -> bool
     ensures { result ≡ is_nonempty (members (names path.now) entries.now) }
 {
-    any_below(entries::at_or_below(entries, path), path)
+    any_below_among(entries::around(entries, path), path)
 }
 
 // The properties after these changes, in their order, and the answers to them.
