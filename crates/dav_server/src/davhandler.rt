@@ -27,6 +27,8 @@ mod engine_calls;
 #[cfg(test)]
 mod engine_words;
 #[cfg(test)]
+mod property_calls;
+#[cfg(test)]
 pub(crate) mod tests;
 
 use crate::body::body_for;

@@ -149,7 +149,7 @@ pub(crate) fn shown(alloc: Global, reply: &Reply) -> Result<String, Fail> {
 }
 
 // A server of a new store in memory, with locks, below no prefix, that allows every method.
-fn new_server(alloc: Global) -> Result<DavHandler<MemFs, MemLs>, Fail> {
+pub(super) fn new_server(alloc: Global) -> Result<DavHandler<MemFs, MemLs>, Fail> {
     let fs = MemFs::new(alloc)?;
     let ls = MemLs::new(alloc)?;
     Ok(DavHandler::new(alloc, "", DavMethodSet::all(), fs, Some(ls))?)
