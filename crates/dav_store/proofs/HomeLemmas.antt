@@ -171,12 +171,12 @@ module _ {Z : Type 0} (p : Path) where
     set_home (l ∷ ls) (suc i) d new h is = ap (λ (xs : Nodes). l.items ++ xs) (set_home ls i d new h.1 is) ∙ sym (skips l.items (all_in ls) h.0)
 
 module _ (p : Path) (v : Node) where
-  put_skips : (xs ys : Nodes) → IsBehind p xs → put path_cmp p v (xs ++ ys) ≡ xs ++ put path_cmp p v ys
+  pub put_skips : (xs ys : Nodes) → IsBehind p xs → put path_cmp p v (xs ++ ys) ≡ xs ++ put path_cmp p v ys
   put_skips [] ys h = refl
   put_skips (x ∷ xs) ys h =
       ap (λ o. by_order o ((p, v) ∷ x ∷ (xs ++ ys)) ((x.0, v) ∷ (xs ++ ys)) (x ∷ put path_cmp p v (xs ++ ys))) h.0 ∙ ap (λ (zs : Nodes). x ∷ zs) (put_skips xs ys h.1)
 
-  put_over : (ys : Nodes) → T (below_all path_cmp p ys) → put path_cmp p v ys ≡ (p, v) ∷ ys
+  pub put_over : (ys : Nodes) → T (below_all path_cmp p ys) → put path_cmp p v ys ≡ (p, v) ∷ ys
   put_over [] h = refl
   put_over (y ∷ ys) h =
       ap (λ o. by_order o ((p, v) ∷ y ∷ ys) ((y.0, v) ∷ ys) (y ∷ put path_cmp p v ys)) (less_is (path_cmp p y.0) (left_true (is_lt (path_cmp p y.0)) (below_all path_cmp p ys) h))

@@ -70,7 +70,7 @@ is_above Less h = cc
 is_above Equal h = cc
 is_above Greater h = refl
 
-then_less : (p x y : Path) (o : Ordering) → path_cmp p x ≡ o → is_le o ≡ true → path_cmp x y ≡ Less → is_gt (path_cmp p y) ≡ false
+pub then_less : (p x y : Path) (o : Ordering) → path_cmp p x ≡ o → is_le o ≡ true → path_cmp x y ≡ Less → is_gt (path_cmp p y) ≡ false
 then_less p x y Less e h k = ap is_gt (path_total.trans p x y e k)
 then_less p x y Equal e h k = ap is_gt (path_total.congr p x y e ∙ k)
 then_less p x y Greater e h k = cc

@@ -368,6 +368,19 @@ fn grafted_keys(
     Ok(keys)
 }
 
+// Adds a node to a list under the last of some paths, which is taken out; there must be room for as many as paths.
+fn add_under_last(keys: &mut Vec<Names>, list: &mut Vec<(Names, Node)>, node: Node)
+    requires { vec_len list.old + vec_len keys.old ≤ vec_capacity list.old }
+    ensures added { 0 < vec_len keys.old → (key : Path)
+        × (keys.old.items ≡ keys.new.items ++ key ∷ [])
+        × (list.new.items ≡ list.old.items ++ (key, node) ∷ []) }
+    ensures room { vec_len list.new + vec_len keys.new ≤ vec_capacity list.new }
+{
+    if let Some(key) = keys.pop() {
+        listed::push_within(list, key, node);
+    }
+}
+
 // Takes out what is at a path and below it, and adds it to a list under new paths, the last of which comes first.
 fn take_all(
     lists: &mut Vec<Vec<(Names, Node)>>,
@@ -388,9 +401,7 @@ fn take_all(
     ensures capacity { vec_capacity lists.old ≤ vec_capacity lists.new }
 {
     while let Some((_, node)) = take_below(lists, path) {
-        if let Some(key) = keys.pop() {
-            listed::push_within(taken, key, node);
-        }
+        add_under_last(keys, taken, node);
     }
 }
 
@@ -428,6 +439,7 @@ fn insert_list(
 // Joins a list and the next, where both are short and there is memory for it.
 fn join_short(lists: &mut Vec<Vec<(Names, Node)>>, i: usize)
     requires filled { AreFilled lists.old.items }
+    requires within { i < length lists.old.items }
     ensures nodes { all_in lists.new.items ≡ all_in lists.old.items }
     ensures filled { AreFilled lists.new.items }
     ensures len { vec_len lists.old ≤ vec_len lists.new + 1 }
