@@ -265,7 +265,7 @@ fails_right : (test : Path × Node → Bool) (xs ys : Nodes) → Fails test (xs 
 fails_right test [] ys h = h
 fails_right test (x ∷ xs) ys h = fails_right test xs ys h.1
 
-within_of : (test : Path × Node → Bool) (xs : Nodes) (k : ℕ) → position test xs ≡ Some k → k < length xs
+pub within_of : (test : Path × Node → Bool) (xs : Nodes) (k : ℕ) → position test xs ≡ Some k → k < length xs
 within_of test [] k h = cc
 within_of test (x ∷ xs) k h = (position-Some test (x ∷ xs) k x h).0
 

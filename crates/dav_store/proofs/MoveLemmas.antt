@@ -1,6 +1,6 @@
 -- Lists in order, one behind the other: cutting them at a path, and moving what is below another to it.
 use Rattle.std.proofs.Common.{◌≡◌, ℕ, zero, suc, ◌+◌, ◌<◌, ◌≤◌, ◌⊎◌, inl, inr, Bool, true, false, not, T, cond, List, [], ◌∷◌, ◌++◌, length, vec_len, get_or, set, take, drop, map, reverse, Option, Some, None, refl, sym, ap, subst, ◌∙◌, arith, add-one, append-nil, Vec}
-use Rattle.std.proofs.lemmas.List.{append_assoc, length-append, drop_more, drop_all, take-append-drop, map-append, reverse-append}
+use Rattle.std.proofs.lemmas.List.{append_assoc, length-append, get_or_default, drop_more, drop_all, take-append-drop, map-append, reverse-append}
 use Rattle.std.proofs.lemmas.List.Edits.{length-remove}
 use Rattle.std.proofs.lemmas.List.Elements.{filter_map-append}
 use Rattle.std.specs.List.{AllByRecursion, filter, position, insert, remove, cons_option, find as first}
@@ -21,8 +21,8 @@ use Rattle.dav_store.specs.Entries.{all_in, AreFilled, AreCutAt, IsHome, starts_
 use Rattle.dav_store.proofs.Place.{IsFirst, NonePasses, is_first, none_passes}
 use Rattle.dav_store.proofs.SearchLemmas.{less_is}
 use Rattle.dav_store.proofs.RunLemmas.{before_not_under, under_between, not_above, is_above, then_less}
-use Rattle.dav_store.proofs.HomeLemmas.{IsBehind, greater_than, left_sorted, right_sorted, put_skips, put_over}
-use Rattle.dav_store.proofs.FoundLemmas.{Fails}
+use Rattle.dav_store.proofs.HomeLemmas.{IsBehind, home_within, all_in-cut, filled_cut, sorted_read, greater_than, left_sorted, right_sorted, put_skips, put_over}
+use Rattle.dav_store.proofs.FoundLemmas.{Fails, within_of}
 
 -- all of these come before p; none does
 abbrev pub IsBefore : Path → Nodes → Type 0
@@ -128,6 +128,62 @@ module _ {Z : Type 0} (p : Path) where
   cut_removed ls new i is h =
       subst (λ (ms : List (Vec (Path × Node) Z)). AreCutAt p ms) (sym is) (all_removed (λ (l : Vec (Path × Node) Z). IsBefore p l.items ⊎ IsFrom p l.items) ls i h)
 
+module _ {Z : Type 0} where
+  -- one place is read alike twice
+  pub same_read : (ls : List (Vec (Path × Node) Z)) (i : ℕ) (l m : Vec (Path × Node) Z) → i < length ls → l ≡ get_or ls i l → m ≡ get_or ls i m → l ≡ m
+  same_read ls i l m lt at at2 = at ∙ get_or_default ls i l m lt ∙ sym at2
+
+-- what was found of a list as it was read, of what stood there
+pub starts_read : {Z : Type 0} (p : Path) (ls : List (Vec (Path × Node) Z)) (i : ℕ) (n m l : Vec (Path × Node) Z) → i < length ls → n ≡ get_or ls i n → m ≡ get_or ls i m → l ≡ m → starts_by p n.items ≡ false
+    → (starts_by p l.items ≡ false) × (l ≡ get_or ls i l)
+starts_read {Z = Z} p ls i n m l lt at at2 is starts = (
+  ap (λ (v : Vec (Path × Node) Z). starts_by p v.items) (is ∙ same_read ls i m n lt at2 at) ∙ starts,
+  subst (λ (v : Vec (Path × Node) Z). v ≡ get_or ls i v) (sym is) at2,
+)
+
+pub positive : {Z : Type 0} (v : Vec (Path × Node) Z) → 0 < v.len → 0 < length v.items
+positive v h = subst (λ n. 0 < n) v.ok.0 h
+
+take_some : (xs : Nodes) (k : ℕ) → 0 < k → k < length xs → 0 < length (take k xs)
+take_some xs zero h lt = absurd (omega arith)
+take_some [] (suc k) h lt = absurd (omega arith)
+take_some (x ∷ xs) (suc k) h lt = omega arith
+
+drop_some : (xs : Nodes) (k : ℕ) → k < length xs → 0 < length (drop k xs)
+drop_some [] k lt = absurd (omega arith)
+drop_some (x ∷ xs) zero lt = omega arith
+drop_some (x ∷ xs) (suc k) lt = drop_some xs k (omega arith)
+
+module _ {Z : Type 0} (p : Path) (ls new : List (Vec (Path × Node) Z)) (i k : ℕ) (n m a b : Vec (Path × Node) Z) (sorted : T (is_sorted path_cmp (all_in ls))) (home : IsHome p ls i)
+    (at : n ≡ get_or ls i n) (at2 : m ≡ get_or ls i m) (found : position (λ e. is_le (path_cmp p e.0)) n.items ≡ Some k) (some : 0 < k) (front : a.items ≡ take k m.items) (back : b.items ≡ drop k m.items)
+    (made : new ≡ insert (set ls i a) (i + 1) b) where
+  there : position (λ e. is_le (path_cmp p e.0)) m.items ≡ Some k
+  there = ap (λ (v : Vec (Path × Node) Z). position (λ e. is_le (path_cmp p e.0)) v.items) (same_read ls i m n (home_within p ls i home) at2 at) ∙ found
+
+  at_next : new ≡ insert (set ls i a) (suc i) b
+  at_next = made ∙ ap (λ j. insert (set ls i a) j b) (add-one i)
+
+  pub cut_nodes : all_in new ≡ all_in ls
+  cut_nodes =
+      ap all_in at_next ∙ all_in-cut ls i m a b (home_within p ls i home)
+      ((λ j. front j ++ back j) ∙ take-append-drop k m.items ∙ ap (λ (v : Vec (Path × Node) Z). v.items) at2)
+
+  pub cut_filled : AreFilled ls → AreFilled new
+  cut_filled filled =
+      let lt = within_of (λ e. is_le (path_cmp p e.0)) m.items k there in
+      subst (λ (ms : List (Vec (Path × Node) Z)). AreFilled ms) (sym at_next)
+      (filled_cut ls i a b (home_within p ls i home) (subst (λ (xs : Nodes). 0 < length xs) (sym front) (take_some m.items k some lt)) (subst (λ (xs : Nodes). 0 < length xs) (sym back) (drop_some m.items k lt)) filled)
+
+  pub cut_cut : AreCutAt p new
+  cut_cut =
+      cut_new p ls new i a b home (subst (λ (xs : Nodes). IsBefore p xs) (sym front) (before_part p m.items k there))
+      (subst (λ (xs : Nodes). IsFrom p xs) (sym back) (from_part p m.items k (sorted_read ls i m m.items refl at2 sorted (home_within p ls i home)) there)) made
+
+insert_alike : {Z : Type 0} (ls : List (Vec (Path × Node) Z)) (k : ℕ) (a b : Vec (Path × Node) Z) → a.items ≡ b.items → all_in (insert ls k a) ≡ all_in (insert ls k b)
+insert_alike ls zero a b is = ap (λ (xs : Nodes). xs ++ all_in ls) is
+insert_alike [] (suc k) a b is = ap (λ (xs : Nodes). xs ++ []) is
+insert_alike (l ∷ ls) (suc k) a b is = ap (λ (xs : Nodes). l.items ++ xs) (insert_alike ls k a b is)
+
 -- what moves
 module _ (p t : Path) where
   graft_step : (e : Path × Node) (es : Nodes) (o : Option Path) → rest_after p e.0 ≡ o → graft p t (filter (λ e. is_at_or_under e.0 p) es) ≡ graft p t es
@@ -172,8 +228,8 @@ module _ (p t : Path) where
   taken (x ∷ xs) e h = taken_step x xs e (rest_after p x.0) refl (taken xs e) h
 
   none_taken_step : (x : Path × Node) (xs : Nodes) (o : Option Path) → rest_after p x.0 ≡ o → is_some o ≡ false → graft p t xs ≡ [] → cons_option (option_map (λ r. (t ++ r, x.1)) o) (graft p t xs) ≡ []
-  none_taken_step x xs None is no ih = ih
-  none_taken_step x xs (Some r) is no ih = cc
+  none_taken_step x xs None is fail ih = ih
+  none_taken_step x xs (Some r) is fail ih = cc
 
   pub none_taken : (ns : Nodes) → Fails (λ e. is_at_or_under e.0 p) ns → graft p t ns ≡ []
   none_taken [] h = refl
@@ -200,7 +256,7 @@ module _ (p t : Path) where
   pub key_there : {A : Type 0} (ns : Nodes) (e : Path × Node) (keys : List Path) → first (λ e. is_at_or_under e.0 p) ns ≡ Some e → length keys ≡ 0 → reverse keys ≡ map (λ e. e.0) (graft p t ns) → A
   key_there ns e [] h none is =
       let one = taken ns e h in
-      let no : 0 ≡ length (map (λ (e : Path × Node). e.0) ((one.key, e.1) ∷ graft p t (without_first (λ e. is_at_or_under e.0 p) ns))) = ap length is ∙ ap (λ (xs : Nodes). length (map (λ e. e.0) xs)) one.graft_is in
+      let none_left : 0 ≡ length (map (λ (e : Path × Node). e.0) ((one.key, e.1) ∷ graft p t (without_first (λ e. is_at_or_under e.0 p) ns))) = ap length is ∙ ap (λ (xs : Nodes). length (map (λ e. e.0) xs)) one.graft_is in
       absurd (omega arith)
   key_there ns e (k ∷ ks) h none is = absurd (omega arith)
 
@@ -383,11 +439,12 @@ module _ {Z : Type 0} where
   rejoined_at (l ∷ ls) (suc i) d same next lt is at = ap (λ (xs : Nodes). l.items ++ xs) (rejoined_at ls i d same next (omega arith) is at)
 
   -- and two that stayed two
-  pub all_in-rejoined : (ls rest res : List (Vec (Path × Node) Z)) (i : ℕ) (d same next : Vec (Path × Node) Z) → i + 1 < length ls → rest ≡ remove ls (i + 1) → same.items ≡ (get_or rest i d).items → next ≡ get_or ls (i + 1) next
-      → res ≡ insert (set rest i same) (i + 1) next → all_in res ≡ all_in ls
-  all_in-rejoined ls rest res i d same next lt gone is at made =
+  pub all_in-rejoined : (ls rest res : List (Vec (Path × Node) Z)) (i : ℕ) (d same next back : Vec (Path × Node) Z) → i + 1 < length ls → rest ≡ remove ls (i + 1) → same.items ≡ (get_or rest i d).items → next ≡ get_or ls (i + 1) next
+      → back.items ≡ next.items → res ≡ insert (set rest i same) (i + 1) back → all_in res ≡ all_in ls
+  all_in-rejoined ls rest res i d same next back lt gone is at alike made =
       let there : rest ≡ remove ls (suc i) = gone ∙ ap (remove ls) (add-one i) in
-      ap all_in (made ∙ ap (λ k. insert (set rest i same) k next) (add-one i)) ∙ ap (λ (ms : List (Vec (Path × Node) Z)). all_in (insert (set ms i same) (suc i) next)) there
+      ap all_in (made ∙ ap (λ k. insert (set rest i same) k back) (add-one i)) ∙ insert_alike (set rest i same) (suc i) back next alike
+      ∙ ap (λ (ms : List (Vec (Path × Node) Z)). all_in (insert (set ms i same) (suc i) next)) there
       ∙ rejoined_at ls i d same next (omega arith) (is ∙ ap (λ (ms : List (Vec (Path × Node) Z)). (get_or ms i d).items) there) (at ∙ ap (λ k. get_or ls k next) (add-one i))
 
   pub filled_rest : (ls rest : List (Vec (Path × Node) Z)) (i : ℕ) → rest ≡ remove ls (i + 1) → AreFilled ls → AreFilled rest
