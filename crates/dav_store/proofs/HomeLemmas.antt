@@ -1,5 +1,5 @@
 -- Lists in order, one behind the other: which of them a path belongs in, and what is done there is done to all.
-use Rattle.std.proofs.Common.{◌≡◌, ℕ, zero, suc, ◌+◌, ◌<◌, ◌≤◌, Bool, true, false, not, T, cond, List, [], ◌∷◌, ◌++◌, length, get_or, set, take, drop, Some, None, refl, sym, ap, subst, ◌∙◌, arith, Vec}
+use Rattle.std.proofs.Common.{◌≡◌, ℕ, zero, suc, ◌<◌, ◌≤◌, Bool, true, false, not, T, cond, List, [], ◌∷◌, ◌++◌, length, get_or, set, drop, Some, None, refl, sym, ap, subst, ◌∙◌, arith, Vec}
 use Rattle.std.proofs.lemmas.List.{append_assoc}
 use Rattle.std.specs.List.{AllByRecursion, insert}
 use Rattle.std.specs.Vec.{with_items}
@@ -286,10 +286,6 @@ module _ {Z : Type 0} where
 
   pub sorted_part : (ls : List (Vec (Path × Node) Z)) (i : ℕ) (d : Vec (Path × Node) Z) (ns : Nodes) → ns ≡ (get_or ls i d).items → T (is_sorted path_cmp (all_in ls)) → i < length ls → T (is_sorted path_cmp ns)
   sorted_part ls i d ns is sorted lt = subst (λ (xs : Nodes). T (is_sorted path_cmp xs)) (sym is) (sorted_at ls i d sorted lt)
-
-  pub filled_some : (ls : List (Vec (Path × Node) Z)) → AreFilled ls → 0 < length ls
-  filled_some [] h = absurd h
-  filled_some (l ∷ ls) h = omega arith
 
 -- two changes that do the same to the node at p
 pub adjust_same : (p : Path) (f g : Node → Node) (n : Node) (ns : Nodes) → find path_cmp p ns ≡ Some n → f n ≡ g n → adjust p f ns ≡ adjust p g ns

@@ -1,27 +1,27 @@
 -- Lists in order, one behind the other: cutting them at a path, and moving what is below another to it.
-use Rattle.std.proofs.Common.{◌≡◌, ℕ, zero, suc, ◌+◌, ◌<◌, ◌≤◌, ◌⊎◌, inl, inr, Bool, true, false, not, T, cond, List, [], ◌∷◌, ◌++◌, length, vec_len, get_or, set, take, drop, map, reverse, Option, Some, None, refl, sym, ap, subst, ◌∙◌, arith, add-one, append-nil, Vec}
-use Rattle.std.proofs.lemmas.List.{append_assoc, length-append, get_or_default, drop_more, drop_all, take-append-drop, map-append, reverse-append}
+use Rattle.std.proofs.Common.{◌≡◌, ℕ, zero, suc, ◌+◌, ◌<◌, ◌≤◌, ◌⊎◌, inl, inr, Bool, true, false, not, T, cond, List, [], ◌∷◌, ◌++◌, length, get_or, set, take, drop, map, reverse, Option, Some, None, refl, sym, ap, subst, ◌∙◌, arith, add-one, Vec}
+use Rattle.std.proofs.lemmas.List.{append_assoc, length-append, get_or_default, drop_more, take-append-drop, map-append, reverse-append}
 use Rattle.std.proofs.lemmas.List.Edits.{length-remove}
 use Rattle.std.proofs.lemmas.List.Elements.{filter_map-append}
 use Rattle.std.specs.List.{AllByRecursion, filter, position, insert, remove, cons_option, find as first}
 use Rattle.std.specs.Option.{option_map, is_some, unwrap_or}
 use Rattle.std.specs.FinMap.{put, is_sorted}
-use Rattle.std.specs.FinMap.Entries.{below_all, by_order}
+use Rattle.std.specs.FinMap.Entries.{below_all}
 use Rattle.std.specs.declared.cmp.Ordering.{Ordering}
 use Rattle.std.specs.declared.cmp.Ordering.TheVariants.{Less, Equal, Greater}
 use Rattle.std.specs.Ordering.{is_eq, is_gt, is_le, is_lt, ordering_reverse}
 use Rattle.std.specs.Cmp.{tied_itself}
 use Rattle.std.specs.Cmp.Lexicographic.{nat_list_cmp_total}
 use Rattle.dav_core.specs.Lists.{without_first}
-use Rattle.dav_core.specs.Path.{Path, path_cmp, is_same_path, is_at_or_under, rest_after}
-use Rattle.dav_core.specs.World.{Node, Nodes, prune, graft, union, moved}
+use Rattle.dav_core.specs.Path.{Path, path_cmp, is_at_or_under, rest_after}
+use Rattle.dav_core.specs.World.{Node, Nodes, prune, graft, union}
 use Rattle.dav_core.proofs.NodesLemmas.{path_total, path_exact}
 use Rattle.dav_core.proofs.NodesAfter.{both_true, left_true, right_true}
 use Rattle.dav_store.specs.Entries.{all_in, AreFilled, AreCutAt, IsHome, starts_by}
 use Rattle.dav_store.proofs.Place.{IsFirst, NonePasses, is_first, none_passes}
 use Rattle.dav_store.proofs.SearchLemmas.{less_is}
 use Rattle.dav_store.proofs.RunLemmas.{before_not_under, under_between, not_above, is_above, then_less}
-use Rattle.dav_store.proofs.HomeLemmas.{IsBehind, home_within, all_in-cut, filled_cut, sorted_read, greater_than, left_sorted, right_sorted, put_skips, put_over}
+use Rattle.dav_store.proofs.HomeLemmas.{IsBehind, home_within, all_in-cut, filled_cut, sorted_read, greater_than, put_skips, put_over}
 use Rattle.dav_store.proofs.FoundLemmas.{Fails, within_of}
 
 -- all of these come before p; none does
@@ -36,9 +36,6 @@ all_removed P [] zero h = tt
 all_removed P [] (suc k) h = tt
 all_removed P (x ∷ xs) zero h = h.1
 all_removed P (x ∷ xs) (suc k) h = (h.0, all_removed P xs k h.1)
-
-is_greater : (o : Ordering) → is_le o ≡ false → is_gt o ≡ true
-is_greater o h = is_above o h
 
 module _ (p : Path) where
   behind_before : (xs : Nodes) → IsBehind p xs → IsBefore p xs
@@ -124,9 +121,6 @@ module _ {Z : Type 0} (p : Path) where
   cut_taken (l ∷ ls) zero k d new is h = (side_removed p l.items new.items k is h.0, h.1)
   cut_taken (l ∷ ls) (suc i) k d new is h = (h.0, cut_taken ls i k d new is h.1)
 
-  pub cut_removed : (ls new : List (Vec (Path × Node) Z)) (i : ℕ) → new ≡ remove ls i → AreCutAt p ls → AreCutAt p new
-  cut_removed ls new i is h =
-      subst (λ (ms : List (Vec (Path × Node) Z)). AreCutAt p ms) (sym is) (all_removed (λ (l : Vec (Path × Node) Z). IsBefore p l.items ⊎ IsFrom p l.items) ls i h)
 
 module _ {Z : Type 0} where
   -- one place is read alike twice

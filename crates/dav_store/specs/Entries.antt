@@ -1,6 +1,6 @@
 -- Lists of paths and nodes, as a store in memory keeps them.
 use Rattle.std.specs.Prelude.{◌≡◌, ◌≢◌, ◌⊎◌, ℕ, zero, suc, ◌<◌, ◌≤◌, Bool, true, false, not, T, List, [], ◌∷◌, length, Option, Some, IfSome, Vec}
-use Rattle.std.specs.List.{AllByRecursion, AllWithin, flat_map, position}
+use Rattle.std.specs.List.{AllByRecursion, flat_map, position}
 use Rattle.std.specs.FinMap.{is_sorted}
 use Rattle.std.specs.FinMap.Entries.{below_all}
 use Rattle.std.specs.declared.cmp.Ordering.TheVariants.{Greater}
@@ -25,14 +25,6 @@ AreMadeOnce last ns = DifferInMaking ns × AllByRecursion (λ x. x.1.made ≤ la
 -- in order of the paths; and where a last number is known, each was created under a number of its own up to that
 abbrev pub IsKept : Option ℕ → Nodes → Type 0
 IsKept last ns = T (is_sorted path_cmp ns) × IfSome last (λ n. AreMadeOnce n ns)
-
--- what is at p or below it stands in the places from i up to j
-pub record IsRun (p : Path) (ns : Nodes) (i j : ℕ) : Type 0 where
-  pub order : i ≤ j
-  pub within : j ≤ length ns
-  pub before : AllWithin (λ e. is_at_or_under e.0 p ≡ false) ns 0 i
-  pub there : AllWithin (λ e. is_at_or_under e.0 p ≡ true) ns i j
-  pub after : AllWithin (λ e. is_at_or_under e.0 p ≡ false) ns j (length ns)
 
 -- what stands in some lists, one after the other
 abbrev pub all_in : {Z : Type 0} → List (Vec (Path × Node) Z) → Nodes

@@ -9,7 +9,7 @@ ghost use Rattle.dav_core.specs.World.{adjust, touched, prune, graft, union, mov
 ghost use Rattle.dav_core.specs.World.{Node as Seen};
 ghost use Rattle.dav_core.specs.Calls.{emptied, written, repatched};
 ghost use Rattle.dav_core.specs.Property.{Patch, patched};
-ghost use Rattle.dav_store.specs.Entries.{DifferInMaking, IsRun};
+ghost use Rattle.dav_store.specs.Entries.{DifferInMaking};
 
 use crate::names::{Name, Names};
 use crate::node::Node;

@@ -1,9 +1,9 @@
-use Rattle.std.proofs.Common.{◌≡◌, ◌<◌, ◌+◌, length, set, sym, ap, subst, refl, ◌∙◌, arith}
+use Rattle.std.proofs.Common.{◌≡◌, ◌<◌, ◌+◌, set, sym, ap, subst, refl, ◌∙◌, arith}
 use Rattle.std.proofs.lemmas.Grind.{common_steps}
 use Rattle.std.proofs.lemmas.List.{length-set}
 use Rattle.std.specs.List.{insert}
 use Rattle.dav_core.specs.Path.{names}
-use Rattle.dav_store.specs.Entries.{all_in, starts_by}
+use Rattle.dav_store.specs.Entries.{all_in}
 use Rattle.dav_store.proofs.HomeLemmas.{filled_set}
 use Rattle.dav_store.proofs.MoveLemmas.{insert_behind, insert_before, empty_between, filled_inserted, positive, starts_read}
 use Rattle.dav_store.proofs.lists.insert_list.Goals as goal
