@@ -121,7 +121,6 @@ module _ {Z : Type 0} (p : Path) where
   cut_taken (l ∷ ls) zero k d new is h = (side_removed p l.items new.items k is h.0, h.1)
   cut_taken (l ∷ ls) (suc i) k d new is h = (h.0, cut_taken ls i k d new is h.1)
 
-
 module _ {Z : Type 0} where
   -- one place is read alike twice
   pub same_read : (ls : List (Vec (Path × Node) Z)) (i : ℕ) (l m : Vec (Path × Node) Z) → i < length ls → l ≡ get_or ls i l → m ≡ get_or ls i m → l ≡ m

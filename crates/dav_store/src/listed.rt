@@ -1,15 +1,12 @@
 //! Lists of paths and their nodes, in order of the paths. A path is found by halving the list.
-ghost use Rattle.std.specs.Prelude.{◌≡◌, ◌∷◌, ◌++◌, ◌+◌, ◌<◌, ◌≤◌, [], ℕ, List, Some, ◌≢◌, ◌==◌, ◌&&◌, not, T, IfOk, OnOk, OnErr, IfSome, Option, option_map, option_copied, position, filter, map, vec_len, length, reverse};
+ghost use Rattle.std.specs.Prelude.{◌≡◌, ◌∷◌, ◌++◌, ◌+◌, ◌<◌, ◌≤◌, [], Some, ◌==◌, ◌&&◌, not, T, OnOk, OnErr, Option, option_copied, position, map, vec_len};
 ghost use Rattle.std.specs.Vec.{vec_capacity};
 ghost use Rattle.std.specs.List.{insert};
 ghost use Rattle.std.specs.FinMap.{find, put, is_sorted};
 ghost use Rattle.std.specs.Ordering.{is_le, is_gt};
 ghost use Rattle.dav_core.specs.Path.{names, path_cmp, is_same_path, is_at_or_under, parent_of};
-ghost use Rattle.dav_core.specs.World.{adjust, touched, prune, graft, union, moved, modified_at, is_folder_node, is_file_node, last_moment, max_file_len, change_node, is_file_made_with, file_made_with, is_folder_kind};
-ghost use Rattle.dav_core.specs.World.{Node as Seen};
-ghost use Rattle.dav_core.specs.Calls.{emptied, written, repatched};
-ghost use Rattle.dav_core.specs.Property.{Patch, patched};
-ghost use Rattle.dav_store.specs.Entries.{DifferInMaking};
+ghost use Rattle.dav_core.specs.World.{adjust, touched, graft, last_moment, is_file_made_with, is_folder_kind};
+ghost use Rattle.dav_core.specs.Calls.{emptied};
 
 use crate::names::{Name, Names};
 use crate::node::Node;

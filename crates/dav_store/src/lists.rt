@@ -1,15 +1,13 @@
 //! Lists of paths and their nodes, one behind the other, in order of the paths. A path is found by halving: first among
 //! the lists, then within one of them. No list gets long, so a new node moves few others, however many there are.
-ghost use Rattle.std.specs.Prelude.{◌≡◌, ◌∷◌, ◌++◌, ◌+◌, ◌<◌, ◌≤◌, [], ℕ, List, Some, ◌≢◌, ◌==◌, ◌&&◌, not, T, true, false, IfOk, OnOk, OnErr, IfSome, IfNone, MatchOption, Option, option_copied, position, filter, map, reverse, vec_len, length};
+ghost use Rattle.std.specs.Prelude.{◌≡◌, ◌∷◌, ◌++◌, ◌+◌, ◌<◌, ◌≤◌, [], Some, ◌≢◌, ◌==◌, ◌&&◌, not, T, true, false, IfOk, OnOk, OnErr, IfSome, IfNone, MatchOption, Option, option_copied, position, filter, map, reverse, vec_len, length};
 ghost use Rattle.std.specs.Vec.{vec_capacity};
 ghost use Rattle.std.specs.List.{AllByRecursion, insert, remove, find as first};
 ghost use Rattle.std.specs.FinMap.{find, put, is_sorted};
 ghost use Rattle.dav_core.specs.Lists.{without_first};
-ghost use Rattle.dav_core.specs.Path.{Path, names, path_cmp, is_same_path, is_at_or_under, parent_of};
-ghost use Rattle.dav_core.specs.World.{adjust, touched, prune, graft, union, moved, modified_at, is_folder_node, is_file_node, last_moment, max_file_len, change_node, is_file_made_with, file_made_with, is_folder_kind};
-ghost use Rattle.dav_core.specs.World.{Node as Seen};
-ghost use Rattle.dav_core.specs.Calls.{emptied, written, repatched};
-ghost use Rattle.dav_core.specs.Property.{Patch, patched};
+ghost use Rattle.dav_core.specs.Path.{Path, names, path_cmp, is_at_or_under, parent_of};
+ghost use Rattle.dav_core.specs.World.{adjust, touched, prune, graft, union, moved, last_moment, max_file_len, change_node, is_file_made_with, file_made_with, is_folder_kind};
+ghost use Rattle.dav_core.specs.Calls.{emptied, written};
 ghost use Rattle.dav_store.specs.Entries.{all_in, AreFilled, AreCutAt, starts_by, starts_below, IsHome, IsFoundAt, DifferInMaking};
 ghost use Rattle.dav_store.specs.Sought.{asked};
 
