@@ -8,14 +8,14 @@ use Rattle.std.specs.List.{AllByRecursion, AllZip, filter, position, remove, lis
 use Rattle.std.specs.Option.{option_map}
 use Rattle.std.specs.FinMap.{is_sorted}
 use Rattle.std.specs.FinMap.Entries.{below_all}
-use Rattle.std.specs.declared.cmp.Ordering.TheVariants.{Less, Greater}
+use Rattle.std.specs.declared.cmp.Ordering.TheVariants.{Less}
 use Rattle.std.specs.Ordering.{is_gt, is_le, is_lt}
 use Rattle.dav_core.specs.Lists.{without_first}
 use Rattle.dav_core.specs.Path.{Path, path_cmp, is_at_or_under, rest_after, only_name}
-use Rattle.dav_core.specs.World.{Node, Nodes, change_node, prune, members, is_folder_kind, is_file_made_with, file_made_with}
+use Rattle.dav_core.specs.World.{Node, Nodes, change_node, members, is_folder_kind, is_file_made_with, file_made_with}
 use Rattle.dav_core.proofs.NodesAfter.{both_true, left_true, right_true}
 use Rattle.dav_store.specs.Entries.{all_in, AreFilled, starts_below, IsHome, IsFoundAt}
-use Rattle.dav_store.proofs.Place.{IsFirst, NonePasses, is_first, none_passes, first_of, first_none, changed_at}
+use Rattle.dav_store.proofs.Place.{IsFirst, NonePasses, is_first, none_passes, first_of, first_none}
 use Rattle.dav_store.proofs.SearchLemmas.{less_is, position_is, position_none}
 use Rattle.dav_store.proofs.RunLemmas.{members_run, before_not_under, under_between, not_above, is_above}
 use Rattle.std.specs.Vec.{with_item}
@@ -265,7 +265,7 @@ fails_right : (test : Path × Node → Bool) (xs ys : Nodes) → Fails test (xs 
 fails_right test [] ys h = h
 fails_right test (x ∷ xs) ys h = fails_right test xs ys h.1
 
-within_of : (test : Path × Node → Bool) (xs : Nodes) (k : ℕ) → position test xs ≡ Some k → k < length xs
+pub within_of : (test : Path × Node → Bool) (xs : Nodes) (k : ℕ) → position test xs ≡ Some k → k < length xs
 within_of test [] k h = cc
 within_of test (x ∷ xs) k h = (position-Some test (x ∷ xs) k x h).0
 
@@ -391,11 +391,6 @@ module _ {Z : Type 0} where
       let items : l.len ≡ length (get_or ls i l).items = l.ok.0 ∙ ap (λ (v : Vec (Path × Node) Z). length v.items) at in
       all_filled_back ls i l (omega (arith, items, len)) (omega arith) h
 
-  pub filled_first : (ls : List (Vec (Path × Node) Z)) (i : ℕ) (new : Vec (Path × Node) Z) → i ≡ 0 → AreFilled ls → AreFilled (set ls i new)
-  filled_first [] i new is h = h
-  filled_first (l ∷ ls) zero new is h = h
-  filled_first (l ∷ ls) (suc i) new is h = absurd (omega arith)
-
   all_filled_removed : (ls : List (Vec (Path × Node) Z)) (i : ℕ) (new : Vec (Path × Node) Z) → AllByRecursion (λ l. 0 < length l.items) ls → AllByRecursion (λ l. 0 < length l.items) (remove (set ls i new) i)
   all_filled_removed [] zero new h = tt
   all_filled_removed [] (suc i) new h = tt
@@ -508,9 +503,6 @@ module _ {Z : Type 0} where
   filled_cloned [] ms h k = absurd k
   filled_cloned (l ∷ ls) [] h k = absurd h
   filled_cloned (l ∷ ls) (m ∷ ms) h k = all_filled_cloned ls ms h.1 k
-
-pub members-append : (p : Path) (xs ys : Nodes) → members p (xs ++ ys) ≡ members p xs ++ members p ys
-members-append p xs ys = filter_map-append (λ e. option_map (λ name. (name, is_folder_kind e.1.kind)) (only_name (rest_after p e.0))) xs ys
 
 -- some entry of some list passes exactly where some of all does
 pub any_all : {Z : Type 0} (test : Path × Node → Bool) (ls : List (Vec (Path × Node) Z)) → list_any (λ l. list_any test l.items) ls ≡ list_any test (all_in ls)

@@ -1,5 +1,5 @@
 -- Lists in order, one behind the other: which of them a path belongs in, and what is done there is done to all.
-use Rattle.std.proofs.Common.{◌≡◌, ℕ, zero, suc, ◌+◌, ◌<◌, ◌≤◌, Bool, true, false, not, T, cond, List, [], ◌∷◌, ◌++◌, length, get_or, set, take, drop, Some, None, refl, sym, ap, subst, ◌∙◌, arith, Vec}
+use Rattle.std.proofs.Common.{◌≡◌, ℕ, zero, suc, ◌<◌, ◌≤◌, Bool, true, false, not, T, cond, List, [], ◌∷◌, ◌++◌, length, get_or, set, drop, Some, None, refl, sym, ap, subst, ◌∙◌, arith, Vec}
 use Rattle.std.proofs.lemmas.List.{append_assoc}
 use Rattle.std.specs.List.{AllByRecursion, insert}
 use Rattle.std.specs.Vec.{with_items}
@@ -171,12 +171,12 @@ module _ {Z : Type 0} (p : Path) where
     set_home (l ∷ ls) (suc i) d new h is = ap (λ (xs : Nodes). l.items ++ xs) (set_home ls i d new h.1 is) ∙ sym (skips l.items (all_in ls) h.0)
 
 module _ (p : Path) (v : Node) where
-  put_skips : (xs ys : Nodes) → IsBehind p xs → put path_cmp p v (xs ++ ys) ≡ xs ++ put path_cmp p v ys
+  pub put_skips : (xs ys : Nodes) → IsBehind p xs → put path_cmp p v (xs ++ ys) ≡ xs ++ put path_cmp p v ys
   put_skips [] ys h = refl
   put_skips (x ∷ xs) ys h =
       ap (λ o. by_order o ((p, v) ∷ x ∷ (xs ++ ys)) ((x.0, v) ∷ (xs ++ ys)) (x ∷ put path_cmp p v (xs ++ ys))) h.0 ∙ ap (λ (zs : Nodes). x ∷ zs) (put_skips xs ys h.1)
 
-  put_over : (ys : Nodes) → T (below_all path_cmp p ys) → put path_cmp p v ys ≡ (p, v) ∷ ys
+  pub put_over : (ys : Nodes) → T (below_all path_cmp p ys) → put path_cmp p v ys ≡ (p, v) ∷ ys
   put_over [] h = refl
   put_over (y ∷ ys) h =
       ap (λ o. by_order o ((p, v) ∷ y ∷ ys) ((y.0, v) ∷ ys) (y ∷ put path_cmp p v ys)) (less_is (path_cmp p y.0) (left_true (is_lt (path_cmp p y.0)) (below_all path_cmp p ys) h))
@@ -286,10 +286,6 @@ module _ {Z : Type 0} where
 
   pub sorted_part : (ls : List (Vec (Path × Node) Z)) (i : ℕ) (d : Vec (Path × Node) Z) (ns : Nodes) → ns ≡ (get_or ls i d).items → T (is_sorted path_cmp (all_in ls)) → i < length ls → T (is_sorted path_cmp ns)
   sorted_part ls i d ns is sorted lt = subst (λ (xs : Nodes). T (is_sorted path_cmp xs)) (sym is) (sorted_at ls i d sorted lt)
-
-  pub filled_some : (ls : List (Vec (Path × Node) Z)) → AreFilled ls → 0 < length ls
-  filled_some [] h = absurd h
-  filled_some (l ∷ ls) h = omega arith
 
 -- two changes that do the same to the node at p
 pub adjust_same : (p : Path) (f g : Node → Node) (n : Node) (ns : Nodes) → find path_cmp p ns ≡ Some n → f n ≡ g n → adjust p f ns ≡ adjust p g ns

@@ -17,3 +17,4 @@ pub mod KeptLemmas
 pub mod RunLemmas
 pub mod HomeLemmas
 pub mod FoundLemmas
+pub mod MoveLemmas

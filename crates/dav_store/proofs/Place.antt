@@ -8,8 +8,8 @@ use Rattle.std.specs.declared.cmp.Ordering.TheVariants.{Less, Equal, Greater}
 use Rattle.std.specs.Ordering.{is_eq, is_le}
 use Rattle.std.proofs.lemmas.List.Quantifiers.{position-Some}
 use Rattle.std.proofs.lemmas.Iterator.Adapters.{position_from-zero}
-use Rattle.dav_core.specs.Path.{Path, path_cmp}
-use Rattle.dav_core.specs.World.{Node, Nodes, change_node, union}
+use Rattle.dav_core.specs.Path.{Path}
+use Rattle.dav_core.specs.World.{Node, Nodes, change_node}
 
 -- i is the first place that passes, and e is what is there
 abbrev pub IsFirst : {E : Type 0} → (E → Bool) → List E → ℕ → E → Type 0
@@ -141,11 +141,6 @@ module _ {K X : Type 0} (R : K → K → Ordering) where
   put_pushes k v (x ∷ xs) h =
       ap (λ (ns : List (K × X)). x ∷ ns) (put_pushes k v xs h.1)
       ∙ sym (not_after (R k x.0) ((k, v) ∷ x ∷ xs) ((x.0, v) ∷ xs) (x ∷ put R k v xs) h.0)
-
--- the last node of a union is put in first
-pub union-push : (es : Nodes) (e : Path × Node) (ns : Nodes) → union (es ++ e ∷ []) ns ≡ union es (put path_cmp e.0 e.1 ns)
-union-push [] e ns = refl
-union-push (x ∷ es) e ns = ap (put path_cmp x.0 x.1) (union-push es e ns)
 
 -- the first entry that passes
 pub first_of : {E : Type 0} (test : E → Bool) (xs : List E) (i : ℕ) (e : E) → IsFirst test xs i e → first test xs ≡ Some e

@@ -4,7 +4,6 @@ use Rattle.std.proofs.lemmas.List.{map-append}
 use Rattle.dav_core.specs.Property.{Property, Properties, Patch, patched, patched_by, patch_of, patched_property, without_xml}
 use Rattle.std.specs.Option.{unwrap_or}
 use Rattle.dav_core.specs.World.{Node}
-use Rattle.dav_core.specs.Calls.{repatched}
 use Rattle.dav_store.specs.Answered.{answer_to}
 
 patched_last : (xs : List Patch) (x : Patch) (ps : Properties) → patched (xs ++ x ∷ []) ps ≡ patched_by x (patched xs ps)
@@ -35,9 +34,3 @@ answers_are (y ∷ ys) = ap (λ (rest : List (ℕ × Property)). answer_to y ∷
 -- there is one node at a path
 pub same_node : (n m : Node) → Some n ≡ Some m → n ≡ m
 same_node n m e = ap (λ o. unwrap_or o n) e
-
--- the node that was there, with its properties changed
-pub patched_node : (m new n : Node) (patches : List Patch) (ps : Properties)
-    → new ≡ record m { properties = ps } → ps ≡ patched patches n.properties → n ≡ m → new ≡ repatched patches m
-patched_node m new n patches ps is changed same =
-    is ∙ ap (λ (qs : Properties). record m { properties = qs }) (changed ∙ ap (λ (o : Node). patched patches o.properties) same)

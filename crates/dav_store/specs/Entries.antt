@@ -1,10 +1,10 @@
 -- Lists of paths and nodes, as a store in memory keeps them.
-use Rattle.std.specs.Prelude.{◌≡◌, ◌≢◌, ℕ, zero, suc, ◌<◌, ◌≤◌, Bool, true, false, not, T, List, [], ◌∷◌, length, Option, Some, IfSome, Vec}
-use Rattle.std.specs.List.{AllByRecursion, AllWithin, flat_map, position}
+use Rattle.std.specs.Prelude.{◌≡◌, ◌≢◌, ◌⊎◌, ℕ, zero, suc, ◌<◌, ◌≤◌, Bool, true, false, not, T, List, [], ◌∷◌, length, Option, Some, IfSome, Vec}
+use Rattle.std.specs.List.{AllByRecursion, flat_map, position}
 use Rattle.std.specs.FinMap.{is_sorted}
 use Rattle.std.specs.FinMap.Entries.{below_all}
 use Rattle.std.specs.declared.cmp.Ordering.TheVariants.{Greater}
-use Rattle.std.specs.Ordering.{is_lt}
+use Rattle.std.specs.Ordering.{is_lt, is_gt}
 use Rattle.std.specs.Coded.{Coded, coded_ℕ, coded_list, coded×}
 use Rattle.dav_core.specs.Path.{Path, path_cmp, is_at_or_under}
 use Rattle.dav_core.specs.World.{Node, Nodes}
@@ -25,14 +25,6 @@ AreMadeOnce last ns = DifferInMaking ns × AllByRecursion (λ x. x.1.made ≤ la
 -- in order of the paths; and where a last number is known, each was created under a number of its own up to that
 abbrev pub IsKept : Option ℕ → Nodes → Type 0
 IsKept last ns = T (is_sorted path_cmp ns) × IfSome last (λ n. AreMadeOnce n ns)
-
--- what is at p or below it stands in the places from i up to j
-pub record IsRun (p : Path) (ns : Nodes) (i j : ℕ) : Type 0 where
-  pub order : i ≤ j
-  pub within : j ≤ length ns
-  pub before : AllWithin (λ e. is_at_or_under e.0 p ≡ false) ns 0 i
-  pub there : AllWithin (λ e. is_at_or_under e.0 p ≡ true) ns i j
-  pub after : AllWithin (λ e. is_at_or_under e.0 p ≡ false) ns j (length ns)
 
 -- what stands in some lists, one after the other
 abbrev pub all_in : {Z : Type 0} → List (Vec (Path × Node) Z) → Nodes
@@ -58,6 +50,10 @@ abbrev pub IsHome : {Z : Type 0} → Path → List (Vec (Path × Node) Z) → �
 IsHome p [] i = ⊥
 IsHome p (l ∷ ls) zero = T (below_all path_cmp p (all_in ls))
 IsHome p (l ∷ ls) (suc i) = AllByRecursion (λ e. path_cmp p e.0 ≡ Greater) l.items × IsHome p ls i
+
+-- each list ends before p, or begins with p or behind it
+abbrev pub AreCutAt : {Z : Type 0} → Path → List (Vec (Path × Node) Z) → Type 0
+AreCutAt p ls = AllByRecursion (λ l. AllByRecursion (λ e. is_gt (path_cmp p e.0) ≡ true) l.items ⊎ AllByRecursion (λ e. is_gt (path_cmp p e.0) ≡ false) l.items) ls
 
 -- the first that passes is in the list at i, at k
 abbrev pub IsFoundAt : {Z : Type 0} → (Path × Node → Bool) → List (Vec (Path × Node) Z) → ℕ → ℕ → Type 0

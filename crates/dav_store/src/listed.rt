@@ -1,15 +1,12 @@
 //! Lists of paths and their nodes, in order of the paths. A path is found by halving the list.
-ghost use Rattle.std.specs.Prelude.{◌≡◌, ◌∷◌, ◌++◌, ◌+◌, ◌<◌, ◌≤◌, [], ℕ, List, Some, ◌≢◌, ◌==◌, ◌&&◌, not, T, IfOk, OnOk, OnErr, IfSome, Option, option_map, option_copied, position, filter, map, vec_len, length, reverse};
+ghost use Rattle.std.specs.Prelude.{◌≡◌, ◌∷◌, ◌++◌, ◌+◌, ◌<◌, ◌≤◌, [], Some, ◌==◌, ◌&&◌, not, T, OnOk, OnErr, Option, option_copied, position, map, vec_len};
 ghost use Rattle.std.specs.Vec.{vec_capacity};
 ghost use Rattle.std.specs.List.{insert};
 ghost use Rattle.std.specs.FinMap.{find, put, is_sorted};
 ghost use Rattle.std.specs.Ordering.{is_le, is_gt};
 ghost use Rattle.dav_core.specs.Path.{names, path_cmp, is_same_path, is_at_or_under, parent_of};
-ghost use Rattle.dav_core.specs.World.{adjust, touched, prune, graft, union, moved, modified_at, is_folder_node, is_file_node, last_moment, max_file_len, change_node, is_file_made_with, file_made_with, is_folder_kind};
-ghost use Rattle.dav_core.specs.World.{Node as Seen};
-ghost use Rattle.dav_core.specs.Calls.{emptied, written, repatched};
-ghost use Rattle.dav_core.specs.Property.{Patch, patched};
-ghost use Rattle.dav_store.specs.Entries.{DifferInMaking, IsRun};
+ghost use Rattle.dav_core.specs.World.{adjust, touched, graft, last_moment, is_file_made_with, is_folder_kind};
+ghost use Rattle.dav_core.specs.Calls.{emptied};
 
 use crate::names::{Name, Names};
 use crate::node::Node;
@@ -18,8 +15,8 @@ use dav_core::davpath::DavPath;
 use dav_core::errors::NoMemory;
 use std::alloc::Global;
 
-// The place of the first path that doesn't come before this one.
-fn place_from(list: &[(Names, Node)], path: &DavPath) -> Option<usize>
+/// The place of the first path that doesn't come before this one.
+pub fn place_from(list: &[(Names, Node)], path: &DavPath) -> Option<usize>
     requires { T (is_sorted path_cmp list.now) }
     ensures { result ≡ position (λ e. is_le (path_cmp (names path.now) e.0)) list.now }
 {
@@ -174,8 +171,8 @@ pub fn place_below(list: &[(Names, Node)], path: &DavPath) -> Option<usize>
     }
 }
 
-// Adds a node at the end, where there is room.
-fn push_within(entries: &mut Vec<(Names, Node)>, path: Names, node: Node)
+/// Adds a node at the end, where there is room.
+pub fn push_within(entries: &mut Vec<(Names, Node)>, path: Names, node: Node)
     requires { vec_len entries.old < vec_capacity entries.old }
     ensures items { entries.new.items ≡ entries.old.items ++ (path, node) ∷ [] }
     ensures len { vec_len entries.new ≡ vec_len entries.old + 1 }
@@ -215,89 +212,22 @@ pub fn put_node(entries: &mut Vec<(Names, Node)>, path: Names, node: Node)
     }
 }
 
-/// Puts each of these nodes at its path, in place of what is there; there must be room for them.
-fn put_all(entries: &mut Vec<(Names, Node)>, mut nodes: Vec<(Names, Node)>)
-    requires sorted { T (is_sorted path_cmp entries.old.items) }
-    requires room { vec_len entries.old + vec_len nodes ≤ vec_capacity entries.old }
-    ensures { entries.new.items ≡ union nodes.items entries.old.items }
-{
-    while let Some((path, node)) = nodes.pop() {
-        put_node(entries, path, node);
-    }
-}
-
-// The new paths of what is at `from` and below it, once it is at `to`.
-fn grafted_keys(
+/// Adds the new paths of what is at `from` and below it, once it is at `to`.
+pub fn add_grafted_keys(
     alloc: Global,
     entries: &[(Names, Node)],
     from: &DavPath,
     to: &DavPath,
-) -> Result<Vec<Names>, NoMemory>
-    ensures { IfOk result (λ keys. keys.items
-        ≡ map (λ e. e.0) (graft (names from.now) (names to.now) entries.now)) }
+    keys: &mut Vec<Names>,
+) -> Result<(), NoMemory>
+    ensures { OnOk result (keys.new.items ≡ keys.old.items
+        ++ map (λ e. e.0) (graft (names from.now) (names to.now) entries.now)) }
 {
-    let mut keys = Vec::new(alloc);
     for e in entries {
         if let Some(key) = e.0.graft(alloc, from, to)? {
             keys.push(key)?;
         }
     }
-    Ok(keys)
-}
-
-// Splits the nodes, the last of which comes first, into those that move, under their new paths, and those that stay
-// and aren't replaced.
-fn part(
-    old: &mut Vec<(Names, Node)>,
-    keys: &mut Vec<Names>,
-    from: &DavPath,
-    to: &DavPath,
-    kept: &mut Vec<(Names, Node)>,
-    moving: &mut Vec<(Names, Node)>,
-)
-    requires keys { reverse keys.old.items
-        ≡ map (λ e. e.0) (graft (names from.now) (names to.now) (reverse old.old.items)) }
-    requires kept_room { vec_len kept.old + vec_len old.old ≤ vec_capacity kept.old }
-    requires moving_room { vec_len moving.old + vec_len keys.old ≤ vec_capacity moving.old }
-    ensures kept { kept.new.items ≡ kept.old.items ++ prune (names to.now)
-        (prune (names from.now) (reverse old.old.items)) }
-    ensures moving { moving.new.items ≡ moving.old.items ++ graft (names from.now) (names to.now)
-        (reverse old.old.items) }
-    ensures kept_capacity { vec_capacity kept.old ≤ vec_capacity kept.new }
-    ensures count { vec_len kept.new + vec_len moving.new
-        ≤ vec_len kept.old + vec_len moving.old + vec_len old.old }
-{
-    while let Some((path, node)) = old.pop() {
-        if path.are_at_or_below(from) {
-            if let Some(key) = keys.pop() {
-                push_within(moving, key, node);
-            }
-        } else if !path.are_at_or_below(to) {
-            push_within(kept, path, node);
-        }
-    }
-}
-
-/// Moves what is at `from` and below it to `to`, in place of what is there. Where memory runs out, nothing changes.
-pub fn move_nodes(
-    alloc: Global,
-    entries: &mut Vec<(Names, Node)>,
-    from: &DavPath,
-    to: &DavPath,
-) -> Result<(), NoMemory>
-    requires { T (is_sorted path_cmp entries.old.items) }
-    ensures ok { OnOk result (entries.new.items
-        ≡ moved (names from.now) (names to.now) entries.old.items) }
-    ensures err { OnErr result (entries.new.items ≡ entries.old.items) }
-{
-    let mut keys = grafted_keys(alloc, entries, from, to)?;
-    let mut moving = Vec::with_capacity(alloc, keys.len())?;
-    let mut kept = Vec::with_capacity(alloc, entries.len())?;
-    entries.reverse();
-    keys.reverse();
-    part(entries, &mut keys, from, to, &mut kept, &mut moving);
-    put_all(&mut kept, moving);
-    *entries = kept;
     Ok(())
 }
 

@@ -1,16 +1,14 @@
 //! Lists of paths and their nodes, one behind the other, in order of the paths. A path is found by halving: first among
 //! the lists, then within one of them. No list gets long, so a new node moves few others, however many there are.
-ghost use Rattle.std.specs.Prelude.{◌≡◌, ◌∷◌, ◌++◌, ◌+◌, ◌<◌, ◌≤◌, [], ℕ, List, Some, ◌≢◌, ◌==◌, ◌&&◌, not, T, true, false, IfOk, OnOk, OnErr, IfSome, IfNone, MatchOption, Option, option_copied, position, filter, vec_len, length};
+ghost use Rattle.std.specs.Prelude.{◌≡◌, ◌∷◌, ◌++◌, ◌+◌, ◌<◌, ◌≤◌, [], Some, ◌≢◌, ◌==◌, ◌&&◌, not, T, true, false, IfOk, OnOk, OnErr, IfSome, IfNone, MatchOption, Option, option_copied, position, filter, map, reverse, vec_len, length};
 ghost use Rattle.std.specs.Vec.{vec_capacity};
 ghost use Rattle.std.specs.List.{AllByRecursion, insert, remove, find as first};
 ghost use Rattle.std.specs.FinMap.{find, put, is_sorted};
 ghost use Rattle.dav_core.specs.Lists.{without_first};
-ghost use Rattle.dav_core.specs.Path.{names, path_cmp, is_same_path, is_at_or_under, parent_of};
-ghost use Rattle.dav_core.specs.World.{adjust, touched, prune, moved, modified_at, is_folder_node, is_file_node, last_moment, max_file_len, change_node, is_file_made_with, file_made_with, is_folder_kind};
-ghost use Rattle.dav_core.specs.World.{Node as Seen};
-ghost use Rattle.dav_core.specs.Calls.{emptied, written, repatched};
-ghost use Rattle.dav_core.specs.Property.{Patch, patched};
-ghost use Rattle.dav_store.specs.Entries.{all_in, AreFilled, starts_by, starts_below, IsHome, IsFoundAt, DifferInMaking};
+ghost use Rattle.dav_core.specs.Path.{Path, names, path_cmp, is_at_or_under, parent_of};
+ghost use Rattle.dav_core.specs.World.{adjust, touched, prune, graft, union, moved, last_moment, max_file_len, change_node, is_file_made_with, file_made_with, is_folder_kind};
+ghost use Rattle.dav_core.specs.Calls.{emptied, written};
+ghost use Rattle.dav_store.specs.Entries.{all_in, AreFilled, AreCutAt, starts_by, starts_below, IsHome, IsFoundAt, DifferInMaking};
 ghost use Rattle.dav_store.specs.Sought.{asked};
 
 use crate::listed;
@@ -21,6 +19,7 @@ use dav_core::davpath::DavPath;
 use dav_core::errors::NoMemory;
 use std::alloc::Global;
 use std::cmp::Ordering;
+use std::mem::replace;
 
 // A list with more nodes than these is cut in two.
 const MOST: usize = 128;
@@ -201,6 +200,7 @@ fn cut_long(lists: &mut Vec<Vec<(Names, Node)>>, i: usize)
     requires filled { AreFilled lists.old.items }
     ensures nodes { all_in lists.new.items ≡ all_in lists.old.items }
     ensures filled { AreFilled lists.new.items }
+    ensures len { length lists.old.items ≤ length lists.new.items }
 {
     if lists.reserve(1).is_err() {
         return;
@@ -259,6 +259,9 @@ fn drop_empty(lists: &mut Vec<Vec<(Names, Node)>>, i: usize)
     requires others { 0 < i → AreFilled (remove lists.old.items i) }
     ensures nodes { all_in lists.new.items ≡ all_in lists.old.items }
     ensures filled { AreFilled lists.new.items }
+    ensures cut { (p : Path) → AreCutAt p lists.old.items → AreCutAt p lists.new.items }
+    ensures len { vec_len lists.new ≤ vec_len lists.old }
+    ensures capacity { vec_capacity lists.old ≤ vec_capacity lists.new }
 {
     if i == 0 {
         return;
@@ -278,6 +281,9 @@ fn take_below(lists: &mut Vec<Vec<(Names, Node)>>, path: &DavPath) -> Option<(Na
     ensures others { all_in lists.new.items
         ≡ without_first (λ e. is_at_or_under e.0 (names path.now)) (all_in lists.old.items) }
     ensures filled { AreFilled lists.new.items }
+    ensures cut { (p : Path) → AreCutAt p lists.old.items → AreCutAt p lists.new.items }
+    ensures len { vec_len lists.new ≤ vec_len lists.old }
+    ensures capacity { vec_capacity lists.old ≤ vec_capacity lists.new }
 {
     let Some((i, k)) = place_below(lists, path) else {
         return None;
@@ -293,6 +299,9 @@ pub fn prune(lists: &mut Vec<Vec<(Names, Node)>>, path: &DavPath)
     requires filled { AreFilled lists.old.items }
     ensures nodes { all_in lists.new.items ≡ prune (names path.now) (all_in lists.old.items) }
     ensures filled { AreFilled lists.new.items }
+    ensures cut { (p : Path) → AreCutAt p lists.old.items → AreCutAt p lists.new.items }
+    ensures len { vec_len lists.new ≤ vec_len lists.old }
+    ensures capacity { vec_capacity lists.old ≤ vec_capacity lists.new }
 {
     while let Some(_) = take_below(lists, path) {}
 }
@@ -319,31 +328,145 @@ pub fn around<'a>(lists: &'a [Vec<(Names, Node)>], path: &DavPath) -> &'a [Vec<(
     }
 }
 
-// Makes one list of all.
-fn join(lists: &mut Vec<Vec<(Names, Node)>>) -> Result<(), NoMemory>
+// Cuts a list in two, so that one begins where a path is or belongs. Where memory runs out, all stays.
+fn cut_at(lists: &mut Vec<Vec<(Names, Node)>>, path: &DavPath) -> Result<(), NoMemory>
+    requires sorted { T (is_sorted path_cmp (all_in lists.old.items)) }
     requires filled { AreFilled lists.old.items }
     ensures nodes { all_in lists.new.items ≡ all_in lists.old.items }
     ensures filled { AreFilled lists.new.items }
-    ensures one { OnOk result (length lists.new.items ≡ 1) }
+    ensures cut { OnOk result (AreCutAt (names path.now) lists.new.items) }
 {
-    while lists.len() > 1 {
-        let mut next = lists.remove(1);
-        if lists[0].append(&mut next).is_err() {
-            insert_within(lists, 1, next);
-            return Err(NoMemory);
-        }
+    let i = home(lists, Sought::At(path));
+    let Some(k) = listed::place_from(&lists[i], path) else {
+        return Ok(());
+    };
+    if k == 0 {
+        return Ok(());
     }
+    lists.reserve(1)?;
+    let end = lists[i].split_off(k)?;
+    insert_within(lists, i + 1, end);
     Ok(())
 }
 
-// Cuts the first list into short ones, as far as there is memory for it.
-fn cut_first(lists: &mut Vec<Vec<(Names, Node)>>)
+// The new paths of what is at `from` and below it, once it is at `to`.
+fn grafted_keys(
+    alloc: Global,
+    lists: &[Vec<(Names, Node)>],
+    from: &DavPath,
+    to: &DavPath,
+) -> Result<Vec<Names>, NoMemory>
+    ensures { IfOk result (λ keys. keys.items
+        ≡ map (λ e. e.0) (graft (names from.now) (names to.now) (all_in lists.now))) }
+{
+    let mut keys = Vec::new(alloc);
+    for list in lists {
+        listed::add_grafted_keys(alloc, list, from, to, &mut keys)?;
+    }
+    Ok(keys)
+}
+
+// Adds a node to a list under the last of some paths, which is taken out; there must be room for as many as paths.
+fn add_under_last(keys: &mut Vec<Names>, list: &mut Vec<(Names, Node)>, node: Node)
+    requires { vec_len list.old + vec_len keys.old ≤ vec_capacity list.old }
+    ensures added { 0 < vec_len keys.old → (key : Path)
+        × (keys.old.items ≡ keys.new.items ++ key ∷ [])
+        × (list.new.items ≡ list.old.items ++ (key, node) ∷ []) }
+    ensures room { vec_len list.new + vec_len keys.new ≤ vec_capacity list.new }
+{
+    if let Some(key) = keys.pop() {
+        listed::push_within(list, key, node);
+    }
+}
+
+// Takes out what is at a path and below it, and adds it to a list under new paths, the last of which comes first.
+fn take_all(
+    lists: &mut Vec<Vec<(Names, Node)>>,
+    path: &DavPath,
+    keys: &mut Vec<Names>,
+    taken: &mut Vec<(Names, Node)>,
+)
+    requires sorted { T (is_sorted path_cmp (all_in lists.old.items)) }
     requires filled { AreFilled lists.old.items }
+    requires room { vec_len taken.old + vec_len keys.old ≤ vec_capacity taken.old }
+    ensures taken { (to : Path) → reverse keys.old.items
+        ≡ map (λ e. e.0) (graft (names path.now) to (all_in lists.old.items))
+        → taken.new.items ≡ taken.old.items ++ graft (names path.now) to (all_in lists.old.items) }
+    ensures nodes { all_in lists.new.items ≡ prune (names path.now) (all_in lists.old.items) }
+    ensures filled { AreFilled lists.new.items }
+    ensures cut { (p : Path) → AreCutAt p lists.old.items → AreCutAt p lists.new.items }
+    ensures len { vec_len lists.new ≤ vec_len lists.old }
+    ensures capacity { vec_capacity lists.old ≤ vec_capacity lists.new }
+{
+    while let Some((_, node)) = take_below(lists, path) {
+        add_under_last(keys, taken, node);
+    }
+}
+
+// Adds a list of what is below a path, where nothing is at that path or below it, and says at which place it is.
+fn insert_list(
+    lists: &mut Vec<Vec<(Names, Node)>>,
+    path: &DavPath,
+    list: Vec<(Names, Node)>,
+) -> usize
+    requires sorted { T (is_sorted path_cmp (all_in lists.old.items)) }
+    requires filled { AreFilled lists.old.items }
+    requires room { vec_len lists.old < vec_capacity lists.old }
+    requires cut { AreCutAt (names path.now) lists.old.items }
+    requires free { AllByRecursion (λ e. is_at_or_under e.0 (names path.now) ≡ false)
+        (all_in lists.old.items) }
+    requires some { 0 < length list.items }
+    requires below { AllByRecursion (λ e. is_at_or_under e.0 (names path.now) ≡ true) list.items }
+    requires list { T (is_sorted path_cmp list.items) }
+    ensures nodes { all_in lists.new.items ≡ union list.items (all_in lists.old.items) }
+    ensures filled { AreFilled lists.new.items }
+    ensures within { result < length lists.new.items }
+{
+    let i = home(lists, Sought::At(path));
+    if starts_by(&lists[i], Sought::At(path)) {
+        insert_within(lists, i + 1, list);
+        return i + 1;
+    }
+    let first = replace(&mut lists[i], list);
+    if !first.is_empty() {
+        insert_within(lists, i + 1, first);
+    }
+    i
+}
+
+// Joins a list and the next, where both are short and there is memory for it.
+fn join_short(lists: &mut Vec<Vec<(Names, Node)>>, i: usize)
+    requires filled { AreFilled lists.old.items }
+    requires within { i < length lists.old.items }
+    ensures nodes { all_in lists.new.items ≡ all_in lists.old.items }
+    ensures filled { AreFilled lists.new.items }
+    ensures len { vec_len lists.old ≤ vec_len lists.new + 1 }
+{
+    if i + 1 >= lists.len() {
+        return;
+    }
+    if lists[i].len() > HALF || lists[i + 1].len() > HALF {
+        return;
+    }
+    let mut next = lists.remove(i + 1);
+    if lists[i].append(&mut next).is_err() {
+        insert_within(lists, i + 1, next);
+    }
+}
+
+// Cuts a long list into short ones, and joins a short one with its neighbours.
+fn tidy(lists: &mut Vec<Vec<(Names, Node)>>, i: usize)
+    requires filled { AreFilled lists.old.items }
+    requires within { i < length lists.old.items }
     ensures nodes { all_in lists.new.items ≡ all_in lists.old.items }
     ensures filled { AreFilled lists.new.items }
 {
-    for _ in 0..lists[0].len() / HALF {
-        cut_long(lists, 0);
+    for _ in 0..lists[i].len() / HALF {
+        cut_long(lists, i);
+    }
+    join_short(lists, i);
+    if i > 0 {
+        join_short(lists, i - 1);
     }
 }
 
@@ -361,9 +484,18 @@ pub fn move_nodes(
     ensures err { OnErr result (all_in lists.new.items ≡ all_in lists.old.items) }
     ensures filled { AreFilled lists.new.items }
 {
-    join(lists)?;
-    listed::move_nodes(alloc, &mut lists[0], from, to)?;
-    cut_first(lists);
+    cut_at(lists, to)?;
+    lists.reserve(1)?;
+    let mut keys = grafted_keys(alloc, around(lists, from), from, to)?;
+    let mut moving = Vec::with_capacity(alloc, keys.len())?;
+    keys.reverse();
+    take_all(lists, from, &mut keys, &mut moving);
+    prune(lists, to);
+    if moving.is_empty() {
+        return Ok(());
+    }
+    let place = insert_list(lists, to, moving);
+    tidy(lists, place);
     Ok(())
 }
 

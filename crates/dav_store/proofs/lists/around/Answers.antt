@@ -1,4 +1,4 @@
-use Rattle.std.proofs.Common.{◌≡◌, ◌+◌, ◌-◌, not, length, take, drop, List, Vec, sym, ap, subst, ◌∙◌, add-one}
+use Rattle.std.proofs.Common.{◌+◌, not, take, sym, ap, ◌∙◌}
 use Rattle.std.proofs.lemmas.List.{take_rest}
 use Rattle.std.specs.List.{filter, position}
 use Rattle.dav_core.specs.Path.{names, is_at_or_under}

@@ -1,7 +1,6 @@
-use Rattle.std.proofs.Common.{◌≡◌, ◌<◌, ◌++◌, length, sym, ap, subst, ◌∙◌, add-one}
+use Rattle.std.proofs.Common.{sym, ap, subst, ◌∙◌, add-one}
 use Rattle.std.specs.List.{insert}
 use Rattle.std.specs.Prelude.{set}
-use Rattle.dav_core.specs.World.{Nodes}
 use Rattle.dav_store.specs.Entries.{all_in, AreFilled}
 use Rattle.dav_store.proofs.HomeLemmas.{all_in-cut, filled_cut, all_in-set_same}
 use Rattle.dav_store.proofs.lists.cut_long.Goals as goal

@@ -1,4 +1,4 @@
-use Rattle.std.proofs.Common.{◌≡◌, ◌<◌, ◌==◌, ◌&&◌, not, IfSome, length, take, sym, subst, ◌∙◌, arith, add-one}
+use Rattle.std.proofs.Common.{◌<◌, IfSome, length, take, sym, subst, ◌∙◌, arith, add-one}
 use Rattle.std.proofs.lemmas.Grind.{common_steps}
 use Rattle.dav_core.specs.World.{is_file_made_with}
 use Rattle.dav_store.specs.Entries.{all_in, DifferInMaking}

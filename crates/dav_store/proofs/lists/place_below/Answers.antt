@@ -1,9 +1,6 @@
-use Rattle.std.proofs.Common.{◌≡◌, ◌<◌, ◌+◌, length, get_or, None, Some, sym, ap, subst, ◌∙◌, arith, add-one, Vec}
+use Rattle.std.proofs.Common.{◌<◌, ◌+◌, length, sym, ◌∙◌, arith}
 use Rattle.std.proofs.lemmas.Grind.{common_steps}
-use Rattle.std.specs.List.{position}
-use Rattle.dav_core.specs.Path.{names, is_at_or_under}
-use Rattle.dav_core.specs.World.{Nodes}
-use Rattle.dav_store.specs.Entries.{IsFoundAt}
+use Rattle.dav_core.specs.Path.{names}
 use Rattle.dav_store.proofs.HomeLemmas.{sorted_read}
 use Rattle.dav_store.proofs.FoundLemmas.{here_read, next_read, none_read, last_read}
 use Rattle.dav_store.proofs.lists.place_below.Goals as goal

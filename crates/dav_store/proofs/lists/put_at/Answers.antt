@@ -1,6 +1,6 @@
-use Rattle.std.proofs.Common.{◌≡◌, ◌<◌, length, sym, ap, subst, refl, ◌∙◌}
-use Rattle.dav_core.specs.Path.{Path, names, path_cmp}
-use Rattle.dav_core.specs.World.{Node, Nodes}
+use Rattle.std.proofs.Common.{◌<◌, length, sym, subst, refl, ◌∙◌}
+use Rattle.dav_core.specs.Path.{names, path_cmp}
+use Rattle.dav_core.specs.World.{Nodes}
 use Rattle.std.specs.FinMap.{put}
 use Rattle.dav_store.proofs.HomeLemmas.{sorted_read, put_home, length-put_some, filled_set, all_in-set_same}
 use Rattle.dav_store.proofs.KeptLemmas.{on_err}

@@ -3,6 +3,7 @@ use Rattle.std.specs.List.{remove}
 use Rattle.dav_core.specs.Path.{names, is_at_or_under}
 use Rattle.dav_store.specs.Entries.{all_in}
 use Rattle.dav_store.proofs.FoundLemmas.{found_within, found_entry, found_taken, none_first, all_stay, filled_removed}
+use Rattle.dav_store.proofs.MoveLemmas.{cut_taken}
 use Rattle.dav_store.proofs.lists.take_below.Goals as goal
 
 pub returns-in_default-clause-first : goal.returns-in_default-clause-first
@@ -28,3 +29,8 @@ returns-clause-others c =
     c.drop_empty.ensures.nodes
     ∙ found_taken (λ e. is_at_or_under e.0 (names c.args.path.now)) c.args.lists.now.items c.in-Some.i c.in-Some.k c.index_mut.result.now c.remove-entry.new.self c.remove-entry.result (rw c.deref.ensures.value at c.in-Some.ensures.found)
     (c.remove-entry.ensures.items ∙ (λ j. remove (c.index_mut.ensures.value j).items c.in-Some.k))
+
+pub returns-clause-cut : goal.returns-clause-cut
+returns-clause-cut c p cut =
+    c.drop_empty.ensures.cut p
+    (cut_taken p c.args.lists.now.items c.in-Some.i c.in-Some.k c.index_mut.result.now c.remove-entry.new.self (c.remove-entry.ensures.items ∙ (λ j. remove (c.index_mut.ensures.value j).items c.in-Some.k)) cut)
