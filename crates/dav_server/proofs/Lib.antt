@@ -43,3 +43,4 @@ pub mod NeededPremises
 pub mod NeededFolders
 pub mod NeededTokens
 pub mod NeededForHeadline
+pub mod NeededGrants

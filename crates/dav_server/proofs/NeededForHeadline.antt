@@ -37,22 +37,22 @@ under_plain (under_more stands holds (steps plan outcome means ran) more) = one_
 
 -- ---- MKCOL /a and LOCK /a, on an empty server
 
-abbrev begun_with : List Turn → List Turn
+abbrev pub begun_with : List Turn → List Turn
 begun_with later = turn_with stranger ∷ turn_with locker ∷ later
 
-abbrev answered_with : List Response → List Response
+abbrev pub answered_with : List Response → List Response
 answered_with given = made at_a ∷ lock_reply ∷ given
 
-made_first : Runs settings (turn_with stranger ∷ []) (holding before) none (made at_a ∷ []) (holding after) none
+pub made_first : Runs settings (turn_with stranger ∷ []) (holding before) none (made at_a ∷ []) (holding after) none
 made_first = one_more (steps (plan_with no_conditions) (Ok (made at_a)) stranger_means makes_first) no_more
 
 after_the_grant : {later : List Turn} {given : List Response} {new : StoreState} {ms : Locks} → Runs settings later (holding after) one given new ms → Runs settings (begun_with later) (holding before) none (answered_with given) new ms
 after_the_grant ran = one_more (steps (plan_with no_conditions) (Ok (made at_a)) stranger_means makes_first) (one_more (steps locking (Ok lock_reply) locker_means grants) ran)
 
-abbrev state : StoreState → Locks → ServerState
+abbrev pub state : StoreState → Locks → ServerState
 state store locks = record { store = store; locks = locks }
 
-abbrev the_grant : (later : List Turn) (given : List Response) → RunStep (empty_server settings) (begun_with later) (answered_with given)
+abbrev pub the_grant : (later : List Turn) (given : List Response) → RunStep (empty_server settings) (begun_with later) (answered_with given)
 the_grant later given = record {
   front = turn_with stranger ∷ [];
   turn = turn_with locker;
@@ -68,7 +68,7 @@ the_grant later given = record {
   stepped = steps locking (Ok lock_reply) locker_means grants;
 }
 
-granted : GrantsFolder (turn_with locker) (state (holding after) none) (state (holding after) one) granted_lock
+pub granted : GrantsFolder (turn_with locker) (state (holding after) none) (state (holding after) one) granted_lock
 granted = record {
   guard = record { exclusive = refl; deep = refl };
   before = [];

@@ -52,7 +52,7 @@ shorted = record { world = before; refusals = []; short = true }
 abbrev pub no_room : Response
 no_room = reply_to (Err (create_error InsufficientStorage))
 
-runs_short : RanShort (CreateDir (a ∷ []) 1) (holding before) (Err InsufficientStorage) shorted
+pub runs_short : RanShort (CreateDir (a ∷ []) 1) (holding before) (Err InsufficientStorage) shorted
 unfolding meaning
 runs_short = record { takes_memory = tt; not_refused = refl; allowed = tt; answer_is = refl; world = refl; refusals = refl; short = refl }
 
@@ -231,13 +231,13 @@ plan_b c = mkcol c at_b (client stranger)
 pub other_b_means : Means settings other_b (plan_b no_conditions)
 other_b_means = known (request_of_head (head_to slash_b [])) MkCol other_b_head (tt, refl) (method at_b body.None refl target_b refl (makes (is_mkcol no_conditions (stranger_says (b ∷ [])))))
 
-named_b_means : Means settings named_b (plan_b (own_conditions (b ∷ [])))
+pub named_b_means : Means settings named_b (plan_b (own_conditions (b ∷ [])))
 named_b_means = known named_b_request MkCol named_b_head (tt, refl) (method at_b body.None refl target_b refl (makes (is_mkcol (own_conditions (b ∷ [])) (holder_says (b ∷ [])))))
 
 pub other_b_names : ¬ NamesLock lock other_b
 other_b_names named = unnamed_by other_b (request_of_head (head_to slash_b [])) other_b_head refl named.token
 
-named_b_names : NamesLock lock named_b
+pub named_b_names : NamesLock lock named_b
 named_b_names = record { token = by_if named_b_request named_b_head (asks_for token ∷ [], own_if, (0, omega arith, refl)); principal = refl }
 
 -- ---- a request that names the lock, but isn't at its folder

@@ -55,7 +55,7 @@ depth_field = record { name = codes "Depth"; raw = codes "0"; end = crlf }
 abbrev pub second : Asked
 second = record { head = print_request (head_of (codes "LOCK") slash (depth_field ∷ [])); body = body.Tree info; principal = None; moment = 1; token = Some token }
 
-text_root : IsUtf8 slash
+pub text_root : IsUtf8 slash
 unfolding lib.Utf8.encode
 text_root = (slash, (refl, refl))
 
@@ -91,7 +91,7 @@ root_path = record {
   closed_if = ([], refl);
 }
 
-target_root : TargetNames [] LockMethod slash (Ok at_root)
+pub target_root : TargetNames [] LockMethod slash (Ok at_root)
 target_root = path (inl (([], refl), refl)) (inr ([], true, root_path, refl)) (at_start refl refl)
 
 abbrev pub second_headers : LockHeaders
@@ -103,7 +103,7 @@ says_second = record { conditions = record { match = no_tags; none_match = no_ta
 abbrev pub second_plan : MethodPlan Response
 second_plan = lock_plan second_headers at_root (body.Tree info) (client second)
 
-second_means : Means settings second second_plan
+pub second_means : Means settings second second_plan
 second_means = known second_request LockMethod second_head (tt, refl) (method at_root (body.Tree info) refl target_root refl (locks (is_lock second_headers says_second)))
 
 -- it names nothing: it has no If, and no Lock-Token

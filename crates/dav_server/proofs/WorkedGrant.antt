@@ -67,7 +67,7 @@ lock_head = (short, head_of (codes "LOCK") slash_a [], (head_with_method (codes 
 abbrev pub lock_headers : LockHeaders
 lock_headers = record { conditions = no_conditions; depth = None; timeout = None }
 
-no_depth : (d : Depth) → ¬ IsDepth [] d
+pub no_depth : (d : Depth) → ¬ IsDepth [] d
 no_depth d is = absurd is
 
 pub no_timeout : (times : List DavTimeout) → ¬ IsTimeout [] times
