@@ -1,15 +1,17 @@
 -- What is written when a script is played.
-use Rattle.std.specs.Prelude.{◌≡◌, ◌⊎◌, ◌++◌, ℕ, max, false, List, [], map, if◌then◌else◌, Some, None}
+use Rattle.std.specs.Prelude.{◌≡◌, ◌+◌, ◌⊎◌, ◌++◌, ℕ, max, List, [], map, take, drop, slice_get, if◌then◌else◌, Option, Some, None, IsSomeAnd, false}
 use Rattle.dav_core.specs.Asking.{StoreState}
+use Rattle.dav_core.specs.Locks.{Lock}
 use Rattle.dav_core.specs.World.{empty_from}
 use Rattle.dav_engine.specs.Plan.{Locks, ServerState}
 use Rattle.dav_engine.specs.Response.{Response}
+use Rattle.dav_server.specs.Isolation.{Alone}
 use Rattle.dav_server.specs.Machine.{Settings}
 use Rattle.dav_server.specs.Run.{Turn}
 use Rattle.dav_server.specs.Server.{Server, AnswersAll}
 use Rattle.dav_server.specs.Setup.{IsPrefix}
 use Rattle.dav_run.specs.Script.{ScriptRequest, ScriptContent, IsShort, IsScript}
-use Rattle.dav_run.specs.Print.{lines_of}
+use Rattle.dav_run.specs.Print.{lines_of, place_line}
 use Rattle.dav_run.specs.declared.play.Fault.{Fault}
 use Rattle.dav_run.specs.declared.play.Fault.TheVariants.{NotScript, Io, Memory}
 
@@ -19,6 +21,10 @@ turn_for r = record {
   asked = record { head = r.head; body = r.body; principal = r.principal; moment = r.moment; token = r.token };
   refusals = Some r.refusals;
 }
+
+-- the requests of a script, in order
+abbrev pub turns_for : ScriptContent → List Turn
+turns_for s = map turn_for s.requests
 
 -- the settings of a script's server
 abbrev pub settings_for : ScriptContent → Settings
@@ -44,23 +50,78 @@ new_server s = record { settings = settings_for s; state = new_state s }
 abbrev pub IsPlayable : List ℕ → Type 0
 IsPlayable text = (s : ScriptContent) × IsShort text × IsScript text s × IsPrefix s.prefix
 
--- The text is a script, and the lines are the replies of the machine's run of its requests, from the server that it sets
--- up.
+-- ---- the run of all requests
+
+-- The lines are the replies of the machine's run of all requests of the script, from the server that it sets up.
+abbrev pub AreReplies : ScriptContent → List ℕ → Type 0
+AreReplies s lines =
+    (replies : List Response) × (left : Server)
+    × AnswersAll (new_server s) (turns_for s) replies left × (lines ≡ lines_of replies)
+
+-- These replies are those of a run of the first of these requests, perhaps of none, from this server.
+abbrev pub RunsSome : Server → List Turn → List Response → Type 0
+RunsSome old ts replies =
+    (first : List Turn) × (rest : List Turn) × (left : Server) × (ts ≡ first ++ rest) × AnswersAll old first replies left
+
+-- The lines are the replies to the first requests of the script, perhaps to none.
+abbrev pub AreFirstReplies : ScriptContent → List ℕ → Type 0
+AreFirstReplies s lines =
+    (replies : List Response) × RunsSome (new_server s) (turns_for s) replies × (lines ≡ lines_of replies)
+
+-- ---- the run alone
+
+-- a lock as the request may be granted it: with the token that it hands in, and its principal
+abbrev pub MayBeGranted : Turn → Lock → Type 0
+MayBeGranted t h = (t.asked.token ≡ Some h.token) × (t.asked.principal ≡ h.principal)
+
+-- these are the turns after this place whose request names the token that the request at the place hands in, as its principal
+abbrev pub AloneAfter : ℕ → List Turn → List Turn → Type 0
+AloneAfter place ts us =
+    IsSomeAnd (slice_get ts place) (λ t. (h : Lock) → MayBeGranted t h → Alone h (drop (place + 1) ts) us)
+
+-- this server is what a run of the requests up to this place left, from the server that the script sets up
+abbrev pub IsServerAfter : ScriptContent → ℕ → Server → Type 0
+IsServerAfter s place there =
+    (replies : List Response) × AnswersAll (new_server s) (take (place + 1) (turns_for s)) replies there
+
+-- The lines are the place, and the replies to the requests after it that name the token of the request there as its
+-- principal, run alone from what the requests up to the place left.
+abbrev pub AreAloneReplies : ScriptContent → ℕ → List ℕ → Type 0
+AreAloneReplies s place lines =
+    (us : List Turn) × (there : Server) × (replies : List Response) × (left : Server)
+    × AloneAfter place (turns_for s) us × IsServerAfter s place there
+    × AnswersAll there us replies left × (lines ≡ place_line place ++ lines_of replies)
+
+-- They are the place, and the replies to the first of these requests, perhaps to none.
+abbrev pub AreFirstAloneReplies : ScriptContent → ℕ → List ℕ → Type 0
+AreFirstAloneReplies s place lines =
+    (us : List Turn) × (there : Server) × (replies : List Response)
+    × AloneAfter place (turns_for s) us × IsServerAfter s place there
+    × RunsSome there us replies × (lines ≡ place_line place ++ lines_of replies)
+
+-- what follows the replies to all requests: nothing, or the run alone
+abbrev pub Follows : ScriptContent → Option ℕ → List ℕ → Type 0
+Follows s None lines = lines ≡ []
+Follows s (Some place) lines = AreAloneReplies s place lines
+
+-- ---- what is written
+
+-- The text is a script, and the lines are the replies to all its requests, and, where it asks for it, those of a run alone.
 abbrev pub Plays : List ℕ → List ℕ → Type 0
 Plays text lines =
-    (s : ScriptContent) × (replies : List Response) × (left : Server)
+    (s : ScriptContent) × (all : List ℕ) × (alone : List ℕ)
     × IsShort text × IsScript text s × IsPrefix s.prefix
-    × AnswersAll (new_server s) (map turn_for s.requests) replies left
-    × (lines ≡ lines_of replies)
+    × AreReplies s all × Follows s s.alone alone × (lines ≡ all ++ alone)
 
--- The lines are the replies of the machine's run of the first requests of the script, perhaps of none, from the server that it
--- sets up; or nothing was written before there was a server.
+-- The lines are the replies to the first of these requests, perhaps to none; or those to all, and what comes first of the run
+-- alone; or nothing was written before there was a server.
 abbrev pub PlaysSome : List ℕ → List ℕ → Type 0
 PlaysSome text lines =
     (lines ≡ [])
-    ⊎ ((s : ScriptContent) × (first : List Turn) × (rest : List Turn) × (replies : List Response) × (left : Server)
-    × IsShort text × IsScript text s × IsPrefix s.prefix × (map turn_for s.requests ≡ first ++ rest)
-    × AnswersAll (new_server s) first replies left × (lines ≡ lines_of replies))
+    ⊎ ((s : ScriptContent) × IsShort text × IsScript text s × IsPrefix s.prefix
+    × (AreFirstReplies s lines
+    ⊎ ((place : ℕ) × (all : List ℕ) × (alone : List ℕ) × (s.alone ≡ Some place)
+    × AreReplies s all × AreFirstAloneReplies s place alone × (lines ≡ all ++ alone))))
 
 -- the exit status of the program after a fault
 abbrev pub fault_status : Fault → ℕ

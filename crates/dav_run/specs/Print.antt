@@ -40,3 +40,11 @@ line_of r = compact_text (reply_data r) ++ 10 ∷ []
 -- the lines of the replies, in order
 abbrev pub lines_of : List Response → List ℕ
 lines_of rs = flat_map line_of rs
+
+-- a place as an object, before the replies of the run alone
+abbrev pub place_data : ℕ → Data
+place_data place = object (member (codes "alone") (number (unsigned place)) no_members)
+
+-- the line of a place
+abbrev pub place_line : ℕ → List ℕ
+place_line place = compact_text (place_data place) ++ 10 ∷ []

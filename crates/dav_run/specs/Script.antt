@@ -1,5 +1,5 @@
 -- Scripts: which JSON texts (RFC 8259) are a server and a list of requests, and which server and requests they are.
-use Rattle.std.specs.Prelude.{◌≡◌, ◌≤◌, ◌<◌, ◌^◌, ◌⊎◌, ⊤, ℕ, Bool, true, List, [], ◌∷◌, length, map, codes, Option, Some, None, Ok, IsUtf8, All, IfSome, IsSomeAnd, option_and_then, option_map, string_bytes}
+use Rattle.std.specs.Prelude.{◌≡◌, ◌≤◌, ◌<◌, ◌^◌, ◌⊎◌, ⊤, ℕ, Bool, true, List, [], ◌∷◌, length, map, slice_get, codes, Option, Some, None, Ok, IsUtf8, All, IfSome, IsSome, IsSomeAnd, option_and_then, option_map, string_bytes}
 use Rattle.hex.specs.Hex.{decode_of}
 use Rattle.serde_json.specs.Data.{Data, null, Items, no_items, item, Members, no_members, member}
 use Rattle.serde_json.specs.Find.{get, as_bool, as_str, as_number, as_array, as_object, as_u64}
@@ -29,13 +29,15 @@ pub record ScriptRequest : Type 0 where
   pub refusals : List (Option FsError)
 
 -- A script: the prefix of the server's paths, the set of the methods that it allows, whether it has locks, the change number
--- that comes next in its store, and the requests, in order.
+-- that comes next in its store, the requests, in order, and the place of the request, counted from 0, whose token's later
+-- requests are to be run alone too.
 pub record ScriptContent : Type 0 where
   pub prefix : List ℕ
   pub methods : ℕ
   pub locks : Bool
   pub next : ℕ
   pub requests : List ScriptRequest
+  pub alone : Option ℕ
 
 -- the names of an object's members
 abbrev pub member_names : Members → List (List ℕ)
@@ -45,7 +47,7 @@ member_names (member name value more) = name ∷ member_names more
 -- the names that members of an object of this form may have
 abbrev pub IsMemberOf : Form → List ℕ → Type 0
 IsMemberOf Script name =
-    (name ≡ codes "locks") ⊎ ((name ≡ codes "methods") ⊎ ((name ≡ codes "next") ⊎ ((name ≡ codes "prefix") ⊎ (name ≡ codes "requests"))))
+    (name ≡ codes "alone") ⊎ ((name ≡ codes "locks") ⊎ ((name ≡ codes "methods") ⊎ ((name ≡ codes "next") ⊎ ((name ≡ codes "prefix") ⊎ (name ≡ codes "requests")))))
 IsMemberOf Request name =
     (name ≡ codes "body") ⊎ ((name ≡ codes "head") ⊎ ((name ≡ codes "moment") ⊎ ((name ≡ codes "principal") ⊎ ((name ≡ codes "refuse") ⊎ (name ≡ codes "token")))))
 IsMemberOf Digits name = name ≡ codes "hex"
@@ -203,7 +205,17 @@ abbrev pub IsNext : Option Data → ℕ → Type 0
 IsNext None next = next ≡ 1
 IsNext (Some d) next = IsWholeNumber d next
 
--- a script has a list of requests, and may have a prefix, methods, locks and a next change number
+-- the request at this place, counted from 0, is there and has a token
+abbrev pub HasToken : List ScriptRequest → ℕ → Type 0
+HasToken requests place = IsSomeAnd (slice_get requests place) (λ r. IsSome r.token)
+
+-- whose requests are to be run alone is a whole number: the place of a request with a token; nobody's where it is absent
+abbrev pub IsAlone : Option Data → List ScriptRequest → Option ℕ → Type 0
+IsAlone None requests alone = alone ≡ None
+IsAlone (Some d) requests None = ⊥
+IsAlone (Some d) requests (Some place) = IsWholeNumber d place × HasToken requests place
+
+-- a script has a list of requests, and may have a prefix, methods, locks, a next change number and a place of a request
 pub record IsScriptValue (d : Data) (s : ScriptContent) : Type 0 where
   pub members : IsObjectOf Script d
   pub prefix : IsPrefix (get (codes "prefix") d) s.prefix
@@ -211,6 +223,7 @@ pub record IsScriptValue (d : Data) (s : ScriptContent) : Type 0 where
   pub locks : IsLocks (get (codes "locks") d) s.locks
   pub next : IsNext (get (codes "next") d) s.next
   pub requests : IsSomeAnd (get (codes "requests") d) (λ list. IsListOf IsRequest list s.requests)
+  pub alone : IsAlone (get (codes "alone") d) s.requests s.alone
 
 -- bytes are a script: UTF-8, and the JSON text of such a value; of a member that occurs twice the last one counts
 abbrev pub IsScript : List ℕ → ScriptContent → Type 0
@@ -242,4 +255,5 @@ script_content s = record {
   locks = s.locks;
   next = s.next;
   requests = map script_request s.requests.items;
+  alone = s.alone;
 }

@@ -1,13 +1,18 @@
 //! Plays a script: from the bytes of a reader to the lines of a writer.
-ghost use Rattle.std.specs.Prelude.{◌≡◌, ◌≢◌, ◌↔◌, ◌≤◌, map, take, ℕ, List, [], if◌then◌else◌, None, Some, IfSome, IfOk, IfErr, OnOk, IsErrOf};
+ghost use Rattle.std.specs.Prelude.{◌≡◌, ◌≢◌, ◌↔◌, ◌≤◌, ◌<◌, ◌⊎◌, ◌++◌, map, take, length, ℕ, List, [], if◌then◌else◌, None, Some, IsTrue, IfSome, IfOk, IfErr, OnOk, IsErrOf};
 ghost use Rattle.std.specs.Io.KnownBytes.{Appends};
-ghost use Rattle.dav_run.specs.Print.{lines_of};
+ghost use Rattle.dav_core.specs.Locks.{Lock};
+ghost use Rattle.dav_engine.specs.Response.{Response};
+ghost use Rattle.dav_run.specs.Print.{lines_of, place_line};
 ghost use Rattle.dav_run.specs.Script.{IsScript, IsShort, script_request, script_content};
+ghost use Rattle.dav_server.specs.Isolation.{Alone};
+ghost use Rattle.dav_server.specs.Naming.{NamesLock};
+ghost use Rattle.dav_server.specs.Server.{AnswersAll};
 ghost use Rattle.dav_server.specs.Setup.{IsPrefix};
-ghost use Rattle.dav_run.specs.Play.{Plays, PlaysSome, IsPlayable, settings_for, new_state, turn_for, fault_status};
+ghost use Rattle.dav_run.specs.Play.{Plays, PlaysSome, IsPlayable, AreReplies, AreFirstReplies, AreAloneReplies, AreFirstAloneReplies, MayBeGranted, RunsSome, settings_for, new_state, turn_for, fault_status};
 ghost use Rattle.dav_run.specs.declared.play.Fault.TheVariants.{NotScript, Io, Memory};
 
-use crate::print::reply_line;
+use crate::print::{alone_line, reply_line};
 use crate::request::Request;
 use crate::script::{Script, ScriptError};
 use dav_core::errors::NoMemory;
@@ -15,7 +20,7 @@ use dav_engine::{Body, Reply};
 use dav_server::davhandler::{DavHandler, HandlerError};
 use dav_server::exchange::{Exchange, GrantToken};
 use dav_server::refusing::Refusing;
-use dav_server::run::{Step, run_refused};
+use dav_server::run::{RunFault, Step, run_refused};
 use dav_store::memfs::MemFs;
 use dav_store::memls::MemLs;
 use std::alloc::{AllocError, AllocFailed, Global};
@@ -82,6 +87,14 @@ impl From<HandlerError> for Fault {
     }
 }
 
+impl From<RunFault> for Fault {
+    ghost from_gives = { λ _ e. e ≡ Memory };
+
+    fn from(_fault: RunFault) -> Fault {
+        Fault::Memory
+    }
+}
+
 impl From<ScriptError> for Fault {
     ghost use Rattle.dav_run.specs.declared.script.ScriptError.{ScriptError};
 
@@ -95,9 +108,11 @@ impl From<ScriptError> for Fault {
     }
 }
 
-/// Reads a script to its end, plays it on a new server, and writes one line of JSON per reply. Returns [`PLAYED`], or
-/// the status of the first fault: after [`OUT_OF_MEMORY`] the lines that were written are those of the first requests.
-/// Where memory ran out, but the replies before that can't be written, the status is [`IO_FAILED`].
+/// Reads a script to its end, plays it on a new server, and writes one line of JSON per reply. Where the script has
+/// `alone`, it writes the place of that request after them, and the replies of the later requests that name its token as
+/// its principal, run alone on a second server. Returns [`PLAYED`], or the status of the first fault: after
+/// [`OUT_OF_MEMORY`] the lines that were written are the first of these. Where memory ran out, but the replies before
+/// that can't be written, the status is [`IO_FAILED`].
 pub fn play<R: Read, W: Write>(alloc: Global, reader: &mut R, writer: &mut W) -> u8
     ensures status { result ≤ 3 }
     ensures played { result ≡ 0 → IfSome (R.remaining reader.old) (λ text.
@@ -144,9 +159,72 @@ fn play_through<R: Read, W: Write>(
         × Appends (W.contents writer.old) (W.contents writer.new) lines) }
 {
     let script = read_script(alloc, reader)?;
-    let mut handler = server_of(alloc, &script)?;
-    let steps = steps_of(alloc, &script)?;
-    match run_refused(&mut handler, alloc, steps) {
+    play_all(alloc, &script, writer)?;
+    match script.alone {
+        None => Ok(()),
+        Some(place) => play_alone(alloc, &script, place, writer),
+    }
+}
+
+// Plays all requests of a script on a new server, and writes the replies.
+fn play_all<W: Write>(alloc: Global, script: &Script, writer: &mut W) -> Result<(), Fault>
+    ensures prefix { OnOk result (IsPrefix (script_content script.now).prefix) }
+    ensures played { OnOk result ((lines : List ℕ) × AreReplies (script_content script.now) lines
+        × Appends (W.contents writer.old) (W.contents writer.new) lines) }
+    ensures bad { IsErrOf result NotScript → ¬ IsPrefix (script_content script.now).prefix }
+    ensures untouched { IsErrOf result NotScript → writer.new ≡ writer.old }
+    ensures short { IsErrOf result Memory → (lines : List ℕ)
+        × ((lines ≡ []) ⊎ (IsPrefix (script_content script.now).prefix
+        × AreFirstReplies (script_content script.now) lines))
+        × Appends (W.contents writer.old) (W.contents writer.new) lines }
+{
+    let mut handler = server_of(alloc, script)?;
+    let steps = steps_of(alloc, &script.requests)?;
+    play_steps(&mut handler, alloc, steps, writer)
+}
+
+// Plays the requests after the one at `place` that name its token as its principal, on a new server on which the
+// requests up to that one were played. Writes the place and the replies.
+fn play_alone<W: Write>(
+    alloc: Global,
+    script: &Script,
+    place: usize,
+    writer: &mut W,
+) -> Result<(), Fault>
+    requires { place < length script.now.requests.items }
+    ensures played { OnOk result
+        ((lines : List ℕ) × AreAloneReplies (script_content script.now) place lines
+        × Appends (W.contents writer.old) (W.contents writer.new) lines) }
+    ensures bad { IsErrOf result NotScript → ¬ IsPrefix (script_content script.now).prefix }
+    ensures short { IsErrOf result Memory → (lines : List ℕ)
+        × ((lines ≡ []) ⊎ AreFirstAloneReplies (script_content script.now) place lines)
+        × Appends (W.contents writer.old) (W.contents writer.new) lines }
+{
+    let (first, later) = script.requests.split_at(place + 1);
+    let mut handler = server_of(alloc, script)?;
+    let first = steps_of(alloc, first)?;
+    let own = own_steps(alloc, &script.requests[place], later)?;
+    run_refused(&mut handler, alloc, first)?;
+    write_place(alloc, place, writer)?;
+    play_steps(&mut handler, alloc, own, writer)
+}
+
+// Plays requests on a server, and writes the replies.
+fn play_steps<W: Write>(
+    handler: &mut DavHandler<Refusing<MemFs>, MemLs>,
+    alloc: Global,
+    steps: Vec<Step<'_>>,
+    writer: &mut W,
+) -> Result<(), Fault>
+    ensures played { OnOk result ((replies : List Response)
+        × AnswersAll handler.old.server steps.entry.items replies handler.new.server
+        × Appends (W.contents writer.old) (W.contents writer.new) (lines_of replies)) }
+    ensures err { IfErr result (λ e. e ≢ NotScript) }
+    ensures short { IsErrOf result Memory → (replies : List Response)
+        × RunsSome handler.old.server steps.entry.items replies
+        × Appends (W.contents writer.old) (W.contents writer.new) (lines_of replies) }
+{
+    match run_refused(handler, alloc, steps) {
         Ok(replies) => write_replies(alloc, &replies, writer),
         Err(fault) => {
             write_replies(alloc, &fault.replies, writer)?;
@@ -159,6 +237,8 @@ fn play_through<R: Read, W: Write>(
 fn read_script<R: Read>(alloc: Global, reader: &mut R) -> Result<Script, Fault>
     ensures ok { IfOk result (λ script. IfSome (R.remaining reader.old) (λ text.
         IsShort text × IsScript text (script_content script))) }
+    ensures there { IfOk result (λ script.
+        IfSome script.alone (λ place. place < length script.requests.items)) }
     ensures not_script { IsErrOf result NotScript
         → IfSome (R.remaining reader.old) (λ text. ¬ IsPlayable text) }
 {
@@ -214,16 +294,56 @@ fn server_of(alloc: Global, script: &Script) -> Result<DavHandler<Refusing<MemFs
     Ok(DavHandler::new(alloc, &script.prefix, script.methods, fs, ls)?)
 }
 
-// The steps of a script.
-fn steps_of(alloc: Global, script: &Script) -> Result<Vec<Step<'_>>, NoMemory>
+// The steps of requests.
+fn steps_of(alloc: Global, requests: &[Request]) -> Result<Vec<Step<'_>>, NoMemory>
     ensures { IfOk result (λ steps.
-        steps.items ≡ map turn_for (map script_request script.now.requests.items)) }
+        steps.items ≡ map turn_for (map script_request requests.now)) }
 {
     let mut steps = Vec::new(alloc);
-    for request in &script.requests {
+    for request in requests {
         steps.push(step_of(alloc, request)?)?;
     }
     Ok(steps)
+}
+
+// The steps of those of these requests that name the token of the request `grant` as its principal.
+fn own_steps<'a>(
+    alloc: Global,
+    grant: &Request,
+    requests: &'a [Request],
+) -> Result<Vec<Step<'a>>, NoMemory>
+    ensures { IfOk result (λ steps.
+        (h : Lock) → MayBeGranted (turn_for (script_request grant.now)) h
+        → Alone h (map turn_for (map script_request requests.now)) steps.items) }
+{
+    let mut steps = Vec::new(alloc);
+    for request in requests {
+        let step = step_of(alloc, request)?;
+        if is_own(alloc, grant, request, &step)? {
+            steps.push(step)?;
+        }
+    }
+    Ok(steps)
+}
+
+// Whether a request, whose step this is, names the token of the request `grant` as its principal.
+fn is_own(
+    alloc: Global,
+    grant: &Request,
+    request: &Request,
+    step: &Step<'_>,
+) -> Result<bool, NoMemory>
+    requires { step.now ≡ turn_for (script_request request.now) }
+    ensures { IfOk result (λ own.
+        (h : Lock) → MayBeGranted (turn_for (script_request grant.now)) h
+        → (IsTrue own ↔ NamesLock h step.now.asked)) }
+{
+    match &grant.token {
+        Some(token) if request.principal == grant.principal => {
+            step.exchange.names(alloc, token.as_str())
+        }
+        _ => Ok(false),
+    }
 }
 
 // The step of a request. The exchange accepts its moment.
@@ -263,6 +383,19 @@ fn body_of(body: &Body) -> Result<Body, NoMemory>
     }
 }
 
+// Writes the line of a place.
+fn write_place<W: Write>(alloc: Global, place: usize, writer: &mut W) -> Result<(), Fault>
+    ensures written { OnOk result
+        (Appends (W.contents writer.old) (W.contents writer.new) (place_line place)) }
+    ensures err { IfErr result (λ e. e ≢ NotScript) }
+    ensures short { IsErrOf result Memory → writer.new ≡ writer.old }
+{
+    let line = alone_line(alloc, place)?;
+    writer.write_all(line.as_bytes())?;
+    writer.flush()?;
+    Ok(())
+}
+
 // Writes one line for each reply. A line is flushed before the next one is made.
 fn write_replies<W: Write>(alloc: Global, replies: &[Reply], writer: &mut W) -> Result<(), Fault>
     ensures written { OnOk result
@@ -283,6 +416,8 @@ fn write_replies<W: Write>(alloc: Global, replies: &[Reply], writer: &mut W) -> 
 mod copying;
 #[cfg(test)]
 mod finding;
+#[cfg(test)]
+mod isolation;
 #[cfg(test)]
 mod locking;
 #[cfg(test)]

@@ -1,8 +1,9 @@
 //! Replies as JSON.
-ghost use Rattle.std.specs.Prelude.{◌≡◌, IfOk, string_bytes};
+ghost use Rattle.std.specs.Prelude.{◌≡◌, ◌∷◌, ◌++◌, [], false, IfOk, string_bytes};
+ghost use Rattle.serde_json.specs.Written.{compact_text, has_float};
 ghost use Rattle.serde_json.specs.View.{view};
 ghost use Rattle.dav_engine.specs.Response.{headers_in};
-ghost use Rattle.dav_run.specs.Print.{body_data, headers_data, reply_data, line_of};
+ghost use Rattle.dav_run.specs.Print.{body_data, headers_data, reply_data, line_of, place_data, place_line};
 
 use crate::tree::tree_value;
 use dav_engine::{Reply, ReplyBody};
@@ -18,9 +19,32 @@ use std::alloc::{AllocError, Global};
 pub fn reply_line(alloc: Global, reply: &Reply) -> Result<String, AllocError>
     ensures { IfOk result (λ line. string_bytes line ≡ line_of reply.now) }
 {
-    let mut line = reply_value(alloc, reply)?.to_string(alloc)?;
+    value_line(alloc, &reply_value(alloc, reply)?)
+}
+
+/// The line before the replies of a run alone: an object with the member `alone`, the place of a request counted from 0,
+/// and a newline.
+pub fn alone_line(alloc: Global, place: usize) -> Result<String, AllocError>
+    ensures { IfOk result (λ line. string_bytes line ≡ place_line place) }
+{
+    value_line(alloc, &place_value(alloc, place)?)
+}
+
+// The line of a value: its JSON text without white space, and a newline.
+fn value_line(alloc: Global, value: &Value) -> Result<String, AllocError>
+    ensures { IfOk result (λ line. has_float (view value.now) ≡ false
+        → string_bytes line ≡ compact_text (view value.now) ++ 10 ∷ []) }
+{
+    let mut line = value.to_string(alloc)?;
     line.push('\n')?;
     Ok(line)
+}
+
+// A place as an object.
+fn place_value(alloc: Global, place: usize) -> Result<Value, AllocError>
+    ensures { IfOk result (λ value. view value ≡ place_data place) }
+{
+    json!(in alloc; {"alone": place})
 }
 
 // A reply as an object.

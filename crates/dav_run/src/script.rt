@@ -1,10 +1,11 @@
 //! Scripts: a server and the requests that are made to it, written as JSON (RFC 8259).
 //!
 //! A script is an object with a list `requests`. It may have a `prefix` (a text), `methods` (a list of the names of
-//! the allowed methods), `locks` (true or false) and `next` (a whole number). A request is an object with a `head` (a
-//! text, or an object with the one member `hex`). It may have a `body` (null, an object with one of the members `text`,
-//! `hex` and `element`, or the word `malformed`), a `principal` (a text), a `moment` (a whole number of seconds), a
-//! `token` (a text that a lock may be granted with), and `refuse` (a list of null and names of errors).
+//! the allowed methods), `locks` (true or false), `next` (a whole number) and `alone` (the place of a request with a
+//! token, counted from 0). A request is an object with a `head` (a text, or an object with the one member `hex`). It may
+//! have a `body` (null, an object with one of the members `text`, `hex` and `element`, or the word `malformed`), a
+//! `principal` (a text), a `moment` (a whole number of seconds), a `token` (a text that a lock may be granted with), and
+//! `refuse` (a list of null and names of errors).
 ghost use Rattle.std.specs.Prelude.{◌≡◌, ◌≢◌, ◌↔◌, ◌≤◌, ℕ, Bool, List, Option, All, map, option_map, string_bytes, IsTrue, OnOk, OnErr, IfOk, IsErrOf, IsOkUnless, MatchOption};
 ghost use Rattle.std.specs.Map.{keys_of};
 ghost use Rattle.serde_json.specs.View.{view, items_view};
@@ -14,7 +15,7 @@ ghost use Rattle.hex.specs.declared.error.FromHexError.TheVariants.{OutOfMemory}
 ghost use Rattle.dav_core.specs.ErrorNames.{fs_error_name};
 ghost use Rattle.dav_core.specs.declared.errors.FsError.{FsError};
 ghost use Rattle.dav_core.specs.Method.{texts_of};
-ghost use Rattle.dav_run.specs.Script.{IsMemberOf, IsObjectOf, AreItems, IsText, IsTextOrNone, IsDigits, IsHeadText, IsBodyValue, IsBody, IsMoment, IsToken, IsLocks, IsRefusal, AreRefusals, IsPrefix, AreMethods, IsMethods, IsNext, IsRequest, IsScriptValue, IsScript, ScriptRequest, ScriptContent, script_request, script_content};
+ghost use Rattle.dav_run.specs.Script.{IsMemberOf, IsObjectOf, AreItems, IsText, IsTextOrNone, IsDigits, IsHeadText, IsBodyValue, IsBody, IsMoment, IsToken, IsLocks, IsRefusal, AreRefusals, IsPrefix, AreMethods, IsMethods, IsNext, IsAlone, HasToken, IsRequest, IsScriptValue, IsScript, ScriptRequest, ScriptContent, script_request, script_content};
 ghost use Rattle.dav_engine.specs.declared.request.Body.{Body};
 ghost use Rattle.dav_run.specs.declared.script.ScriptError.TheVariants.{NotScript, Memory};
 
@@ -99,6 +100,9 @@ pub struct Script {
     pub next: u64,
     /// The requests, the first one first.
     pub requests: Vec<Request>,
+    /// The place in `requests` of one that has a token, where the later requests that name this token are to be run
+    /// alone too.
+    pub alone: Option<usize>,
 }
 
 impl Script {
@@ -135,7 +139,10 @@ impl Form {
         ensures { IsTrue result ↔ IsMemberOf self name.now }
     {
         match self {
-            Form::Script => matches!(name, "locks" | "methods" | "next" | "prefix" | "requests"),
+            Form::Script => matches!(
+                name,
+                "alone" | "locks" | "methods" | "next" | "prefix" | "requests"
+            ),
             Form::Request => matches!(
                 name,
                 "body" | "head" | "moment" | "principal" | "refuse" | "token"
@@ -173,12 +180,14 @@ fn read_script(alloc: Global, value: &Value) -> Result<Script, ScriptError>
     let methods = read_methods(alloc, value.get("methods"))?;
     let locks = read_locks(value.get("locks"))?;
     let next = read_next(value.get("next"))?;
+    let alone = read_alone(value.get("alone"), &requests)?;
     Ok(Script {
         prefix,
         methods,
         locks,
         next,
         requests,
+        alone,
     })
 }
 
@@ -254,6 +263,34 @@ fn read_next(value: Option<&Value>) -> Result<u64, ScriptError>
         return Ok(1);
     };
     value.as_u64().ok_or(ScriptError::NotScript)
+}
+
+// The place of the request whose token's later requests are to be run alone; none where the member is absent.
+fn read_alone(value: Option<&Value>, requests: &[Request]) -> Result<Option<usize>, ScriptError>
+    ensures ok { IfOk result (IsAlone (option_map (λ v. view v.now) value.entry)
+        (map script_request requests.now)) }
+    ensures none { OnErr result ((alone : Option ℕ)
+        → ¬ IsAlone (option_map (λ v. view v.now) value.entry)
+        (map script_request requests.now) alone) }
+    ensures err { IsOkUnless result NotScript }
+{
+    let Some(value) = value else {
+        return Ok(None);
+    };
+    match value.as_u64() {
+        Some(place) if has_token(requests, place) => Ok(Some(place as usize)),
+        _ => Err(ScriptError::NotScript),
+    }
+}
+
+// Whether the request at this place is there and has a token.
+fn has_token(requests: &[Request], place: u64) -> bool
+    ensures { IsTrue result ↔ HasToken (map script_request requests.now) place }
+{
+    match requests.get(place as usize) {
+        Some(request) => request.token.is_some(),
+        None => false,
+    }
 }
 
 // The requests in a list.

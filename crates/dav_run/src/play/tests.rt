@@ -70,6 +70,10 @@ null -> !
 {"requests":[],"prefix":"dav"} -> !
 {"requests":[],"prefix":"/a%20b"} -> !
 {"requests":[],"prefix":"/a//b"} -> !
+# A place without a request, and one of a request without a token.
+{"requests":[{"head":"FOO / HTTP/1.1\r\n\r\n","token":"urn:t:1"}],"alone":1} -> !
+{"requests":[{"head":"FOO / HTTP/1.1\r\n\r\n"}],"alone":0} -> !
+{"requests":[{"head":"FOO / HTTP/1.1\r\n\r\n","token":"urn:t:1"}],"alone":0} -> 2
 # A fault after good requests.
 {"requests":[{"head":"FOO / HTTP/1.1\r\n\r\n"},{"head":"","moment":1.5}]} -> !
 "##;
@@ -177,6 +181,9 @@ fn bounds_the_nesting(rt: HostRuntime) -> Result<(), AllocError> {
 const TWO_REQUESTS: &str =
     r#"{"requests":[{"head":"FOO / HTTP/1.1\r\n\r\n"},{"head":"FOO / HTTP/1.1\r\n\r\n"}]}"#;
 
+const RUN_ALONE: &str =
+    r#"{"alone":0,"requests":[{"head":"FOO / HTTP/1.1\r\n\r\n","token":"urn:t:1"}]}"#;
+
 // A reader that returns some bytes and then fails.
 #[derive(Drop)]
 struct BrokenReader<'a> {
@@ -224,9 +231,13 @@ fn reports_a_read_that_fails(rt: HostRuntime) {
     }
 }
 
-// The status of two requests where so many writes succeed, and how many lines were written.
-fn played_with_writes(alloc: Global, writes_left: usize) -> Result<(u8, usize), AllocError> {
-    let mut input = TWO_REQUESTS.as_bytes();
+// The status of a script where so many writes succeed, and how many lines were written.
+fn played_with_writes(
+    alloc: Global,
+    script: &str,
+    writes_left: usize,
+) -> Result<(u8, usize), AllocError> {
+    let mut input = script.as_bytes();
     let mut writer = BrokenWriter {
         writes_left,
         written: Vec::new(alloc),
@@ -238,8 +249,10 @@ fn played_with_writes(alloc: Global, writes_left: usize) -> Result<(u8, usize), 
 #[test]
 fn reports_a_write_that_fails(rt: HostRuntime) -> Result<(), AllocError> {
     for (writes, wanted) in [(0, IO_FAILED), (1, IO_FAILED), (2, PLAYED)] {
-        let outcome = played_with_writes(rt.alloc(), writes)?;
-        same(&rt, &outcome, &(wanted, writes));
+        for script in [TWO_REQUESTS, RUN_ALONE] {
+            let outcome = played_with_writes(rt.alloc(), script, writes)?;
+            same(&rt, &outcome, &(wanted, writes));
+        }
     }
     Ok(())
 }

@@ -2,8 +2,8 @@ use super::*;
 use crate::asserting::{rows_of, same_outcome};
 use dav_core::method::DavMethod;
 
-// Texts, and the script that each is: the server's settings, and then the four parts of each request; `!` where it
-// isn't a script.
+// Texts, and the script that each is: the server's settings, the place of the request whose token's requests are to be run
+// alone, where it is there, and then the six parts of each request; `!` where it isn't a script.
 const SCRIPTS: &str = r##"# What is left out.
 {"requests":[{"head":"GET /"}]} -> prefix= methods=all locks=true next=1 head=GET / body=none principal=None moment=0 token=None refuse=[]
 # Prefixes. Whether a server takes the prefix isn't checked.
@@ -23,6 +23,9 @@ const SCRIPTS: &str = r##"# What is left out.
 # Locks.
 {"requests":[],"locks":true} -> prefix= methods=all locks=true next=1
 {"requests":[],"locks":false} -> prefix= methods=all locks=false next=1
+# Places of requests with a token.
+{"requests":[{"head":"","token":"urn:t:1"}],"alone":0} -> prefix= methods=all locks=true next=1 alone=0 head= body=none principal=None moment=0 token=urn:t:1 refuse=[]
+{"alone":1,"requests":[{"head":""},{"head":"","token":"urn:t:1"}]} -> prefix= methods=all locks=true next=1 alone=1 head= body=none principal=None moment=0 token=None refuse=[] head= body=none principal=None moment=0 token=urn:t:1 refuse=[]
 # Principals and tokens.
 {"requests":[{"head":"","principal":"anna","token":"urn:t:1"}]} -> prefix= methods=all locks=true next=1 head= body=none principal=Some("anna") moment=0 token=urn:t:1 refuse=[]
 {"requests":[{"head":"","principal":null,"token":null}]} -> prefix= methods=all locks=true next=1 head= body=none principal=None moment=0 token=None refuse=[]
@@ -38,6 +41,7 @@ const SCRIPTS: &str = r##"# What is left out.
 {"requests":[{"head":"","refuse":[]}]} -> prefix= methods=all locks=true next=1 head= body=none principal=None moment=0 token=None refuse=[]
 {"requests":[{"head":"","refuse":[null,"NotImplemented","GeneralFailure","Exists","NotFound","Forbidden","InsufficientStorage","LoopDetected","PathTooLong","TooLarge","IsRemote",null]}]} -> prefix= methods=all locks=true next=1 head= body=none principal=None moment=0 token=None refuse=[None, Some(NotImplemented), Some(GeneralFailure), Some(Exists), Some(NotFound), Some(Forbidden), Some(InsufficientStorage), Some(LoopDetected), Some(PathTooLong), Some(TooLarge), Some(IsRemote), None]
 # Of a member that is there twice the last one counts.
+{"alone":7,"requests":[{"head":"","token":"urn:t:1"}],"alone":0} -> prefix= methods=all locks=true next=1 alone=0 head= body=none principal=None moment=0 token=urn:t:1 refuse=[]
 {"prefix":1,"next":"","methods":null,"methods":["GET"],"next":7,"next":8,"prefix":"/a", "requests":[{"refuse":["Exists"],"head":"a","refuse":[null]}]} -> prefix=/a methods=GET locks=true next=8 head=a body=none principal=None moment=0 token=None refuse=[None]
 # Members of a script in other forms.
 {"requests":[],"prefix":null} -> !
@@ -103,7 +107,25 @@ const SCRIPTS: &str = r##"# What is left out.
 {"requests":[],"Prefix":""} -> !
 {"requests":[],"refuse":[]} -> !
 {"requests":[],"moment":1} -> !
+{"requests":[],"Alone":0} -> !
+# Places in other forms, past the last request, and of requests without a token.
+{"requests":[{"head":"","token":"urn:t:1"}],"alone":null} -> !
+{"requests":[{"head":"","token":"urn:t:1"}],"alone":false} -> !
+{"requests":[{"head":"","token":"urn:t:1"}],"alone":"0"} -> !
+{"requests":[{"head":"","token":"urn:t:1"}],"alone":[0]} -> !
+{"requests":[{"head":"","token":"urn:t:1"}],"alone":{"0":0}} -> !
+{"requests":[{"head":"","token":"urn:t:1"}],"alone":-1} -> !
+{"requests":[{"head":"","token":"urn:t:1"}],"alone":-0} -> !
+{"requests":[{"head":"","token":"urn:t:1"}],"alone":0.0} -> !
+{"requests":[{"head":"","token":"urn:t:1"}],"alone":0e1} -> !
+{"requests":[{"head":"","token":"urn:t:1"}],"alone":1} -> !
+{"requests":[{"head":"","token":"urn:t:1"}],"alone":18446744073709551615} -> !
+{"requests":[{"head":"","token":"urn:t:1"}],"alone":18446744073709551616} -> !
 {"requests":[],"alone":0} -> !
+{"requests":[{"head":""}],"alone":0} -> !
+{"requests":[{"head":"","token":null}],"alone":0} -> !
+{"requests":[{"head":"","token":"urn:t:1"},{"head":"","principal":"anna"}],"alone":1} -> !
+{"requests":[{"head":"","token":"urn:t:1"}],"alone":0,"alone":1} -> !
 # Refusals in other forms.
 {"requests":[{"head":"","refuse":null}]} -> !
 {"requests":[{"head":"","refuse":"Forbidden"}]} -> !
@@ -168,6 +190,14 @@ fn spelled_request(alloc: Global, request: &Request) -> Result<String, AllocErro
     )
 }
 
+// A place as its row has it.
+fn spelled_place(alloc: Global, place: Option<usize>) -> Result<String, AllocError> {
+    match place {
+        Some(place) => format!(in alloc; " alone={place}"),
+        None => Ok(String::new(alloc)),
+    }
+}
+
 // A script as its row has it.
 fn spelled(alloc: Global, script: &Script) -> Result<String, AllocError> {
     let (prefix, methods) = (&script.prefix, set_name(script.methods));
@@ -175,6 +205,8 @@ fn spelled(alloc: Global, script: &Script) -> Result<String, AllocError> {
     let mut text = format!(in alloc;
         "prefix={prefix} methods={methods} locks={locks} next={next}"
     )?;
+    let place = spelled_place(alloc, script.alone)?;
+    text.push_str(&place)?;
     for request in &script.requests {
         let request = spelled_request(alloc, request)?;
         text.push_str(&request)?;
