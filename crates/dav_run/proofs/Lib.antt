@@ -3,6 +3,8 @@ pub mod Items
 pub mod Refusals
 pub mod Headers
 pub mod Lines
+pub mod Places
 pub mod Played
+pub mod AloneLemmas
 pub mod TreeLemmas
 pub mod ScriptTrees

@@ -1,5 +1,6 @@
 -- From the bytes of a script to the lines that are written.
-use Rattle.std.proofs.Common.{◌≡◌, ℕ, zero, suc, inl, inr, List, [], ◌∷◌, ◌++◌, take, drop, map, Option, Some, None, Result, Ok, Err, OnOk, IfSome, IsSomeAnd, refl, sym, ap, subst, ◌∙◌, append_assoc, append-nil}
+use Rattle.std.proofs.Common.{◌≡◌, ℕ, zero, suc, inl, inr, List, [], ◌∷◌, ◌++◌, take, drop, Option, Some, None, Result, Ok, Err, OnOk, IfSome, IsSomeAnd, refl, sym, ap, subst, ◌∙◌, append_assoc, append-nil}
+use Rattle.std.specs.Prelude.{◌⊎◌}
 use Rattle.std.proofs.lemmas.List.{take-append-drop}
 use Rattle.std.specs.Io.KnownBytes.{Appends}
 use Rattle.serde_json.specs.Data.{Data}
@@ -12,19 +13,11 @@ use Rattle.dav_server.specs.Run.{Turn, Runs, no_more, one_more}
 use Rattle.dav_server.specs.Server.{Server, AnswersAll, AnswersSome}
 use Rattle.dav_server.specs.Setup.{IsPrefix}
 use Rattle.dav_run.specs.declared.play.Fault.{Fault}
-use Rattle.dav_run.specs.Print.{lines_of}
 use Rattle.dav_run.specs.Script as script
 use Rattle.dav_run.specs.Script.{ScriptContent, IsShort, IsScript, IsScriptValue}
-use Rattle.dav_run.specs.Play.{Plays, PlaysSome, IsPlayable, settings_for, new_state, new_server, turn_for}
+use Rattle.dav_run.specs.Play.{Plays, PlaysSome, IsPlayable, RunsSome, AreReplies, AreFirstReplies, AreAloneReplies, AreFirstAloneReplies, Follows}
 
--- a script that was read, the run of its requests and the lines of the replies meet `Plays`
-pub together : {E : Type 0} (result : Result (Unit {0}) E) (o : Option (List ℕ)) (Wrote : List ℕ → Type 0) (s : ScriptContent) (replies : List Response) (left : Server)
-    → IfSome o (λ text. IsShort text × IsScript text s) → IsPrefix s.prefix
-    → AnswersAll (new_server s) (map turn_for s.requests) replies left
-    → OnOk result (Wrote (lines_of replies)) → OnOk result (IfSome o (λ text. (lines : List ℕ) × Plays text lines × Wrote lines))
-together (Ok x) (Some text) Wrote s replies left read prefix run wrote = (lines_of replies, (s, replies, left, read.0, read.1, prefix, run, refl), wrote)
-together (Ok x) None Wrote s replies left read prefix run wrote = tt
-together (Err e) o Wrote s replies left read prefix run wrote = tt
+-- ---- a script has one prefix
 
 -- a member is one text
 one_text : (o : Option Data) (a b : List ℕ) → script.IsPrefix o a → script.IsPrefix o b → a ≡ b
@@ -45,6 +38,8 @@ pub unplayable : (o : Option (List ℕ)) (s : ScriptContent) → IfSome o (λ te
 unplayable None s read bad = tt
 unplayable (Some text) s read bad = λ can. bad (subst IsPrefix (one_prefix text can.0 s can.2 read.1) can.3)
 
+-- ---- runs
+
 -- the run of a server with these settings and this state
 pub run_set_up : {one : Server} {s : Settings} {from : ServerState} {ts us : List Turn} (replies : List Response) (left : Server) → one.settings ≡ s → one.state ≡ from → ts ≡ us
     → AnswersAll one ts replies left → AnswersAll (record { settings = s; state = from }) us replies left
@@ -52,6 +47,21 @@ run_set_up {one} {s} {from} {ts} {us} replies left settings state turns run =
     subst (λ (l : List Turn). AnswersAll (record { settings = s; state = from }) l replies left) turns
     (subst (λ (o : ServerState). AnswersAll (record { settings = s; state = o }) ts replies left) state
     (subst (λ (c : Settings). AnswersAll (record { settings = c; state = one.state }) ts replies left) settings run))
+
+-- the same of a run of the first turns
+pub some_set_up : {one : Server} {s : Settings} {from : ServerState} {ts us : List Turn} (replies : List Response) → one.settings ≡ s → one.state ≡ from → ts ≡ us
+    → RunsSome one ts replies → RunsSome (record { settings = s; state = from }) us replies
+some_set_up replies settings state turns (first, rest, left, parts, run) =
+    (first, rest, left, sym turns ∙ parts, run_set_up replies left settings state refl run)
+
+-- a run of all turns, and one that memory cut short
+pub some_of_all : {old : Server} {ts : List Turn} {replies : List Response} (new : Server) → AnswersAll old ts replies new → RunsSome old ts replies
+some_of_all {ts = ts} new run = (ts, [], new, sym (append-nil ts), run)
+
+pub some_of_part : {old : Server} {ts : List Turn} {replies : List Response} (new : Server) → AnswersSome old ts replies new → RunsSome old ts replies
+some_of_part {old} new (first, t, rest, mid, ks, parts, run, stop) =
+    let left : Server = record { settings = old.settings; state = record { store = mid; locks = ks } } in
+    (first, t ∷ rest, left, parts, run)
 
 -- the run of the first turns, where there are so many, and their replies
 run_first : {s : Settings} (k : ℕ) (ts : List Turn) {old new : StoreState} {ls ms : Locks} (replies : List Response) → Runs s ts old ls replies new ms
@@ -62,47 +72,94 @@ run_first (suc k) [] (r ∷ rs) run = elim run [ ]
 run_first (suc k) (t ∷ ts) [] run = elim run [ ]
 run_first (suc k) (t ∷ ts) (r ∷ rs) (one_more step run) = let (mid, ks, first) = run_first k ts rs run in (mid, ks, one_more step first)
 
-appends_nothing : (a : Option (List ℕ)) → Appends a a []
-appends_nothing None = tt
-appends_nothing (Some bytes) = sym (append-nil bytes)
-
--- nothing was written
-pub none_played : (o : Option (List ℕ)) (a : Option (List ℕ)) → IfSome o (λ text. (lines : List ℕ) × PlaysSome text lines × Appends a a lines)
-none_played None a = tt
-none_played (Some text) a = ([], inl refl, appends_nothing a)
-
--- all replies of the first turns were written
-pub all_played : (o : Option (List ℕ)) (Wrote : List ℕ → Type 0) (s : ScriptContent) (first rest : List Turn) (replies : List Response) (left : Server)
-    → IfSome o (λ text. IsShort text × IsScript text s) → IsPrefix s.prefix → map turn_for s.requests ≡ first ++ rest
-    → AnswersAll (new_server s) first replies left → Wrote (lines_of replies) → IfSome o (λ text. (lines : List ℕ) × PlaysSome text lines × Wrote lines)
-all_played None Wrote s first rest replies left read prefix parts run wrote = tt
-all_played (Some text) Wrote s first rest replies left read prefix parts run wrote =
-    (lines_of replies, inr (s, first, rest, replies, left, read.0, read.1, prefix, parts, run, refl), wrote)
-
--- or the first of them were
-pub some_played : (o : Option (List ℕ)) (Wrote : List ℕ → Type 0) (s : ScriptContent) (first rest : List Turn) (replies : List Response) (left : Server) (k : ℕ)
-    → IfSome o (λ text. IsShort text × IsScript text s) → IsPrefix s.prefix → map turn_for s.requests ≡ first ++ rest
-    → AnswersAll (new_server s) first replies left → Wrote (lines_of (take k replies)) → IfSome o (λ text. (lines : List ℕ) × PlaysSome text lines × Wrote lines)
-some_played o Wrote s first rest replies left k read prefix parts run wrote =
+-- the first replies are those of a run of the first turns too
+pub some_taken : {old : Server} {ts : List Turn} {replies : List Response} (k : ℕ) → RunsSome old ts replies → RunsSome old ts (take k replies)
+some_taken {replies = replies} k (first, rest, left, parts, run) =
     let (mid, ks, part) = run_first k first replies run in
     let more : first ++ rest ≡ take k first ++ (drop k first ++ rest) = ap (λ l. l ++ rest) (sym (take-append-drop k first)) ∙ append_assoc (take k first) (drop k first) rest in
     let mid_way : Server = record { settings = left.settings; state = record { store = mid; locks = ks } } in
-    all_played o Wrote s (take k first) (drop k first ++ rest) (take k replies) mid_way read prefix (parts ∙ more) part wrote
+    (take k first, drop k first ++ rest, mid_way, parts ∙ more, part)
 
--- a run that memory cut short, as one of the first requests of a script
-pub record FirstRun (s : ScriptContent) (replies : List Response) : Type 0 where
-  pub first : List Turn
-  pub rest : List Turn
-  pub left : Server
-  pub parts : map turn_for s.requests ≡ first ++ rest
-  pub run : AnswersAll (new_server s) first replies left
+-- ---- what was written
 
-pub first_run : {one : Server} (s : ScriptContent) (ts : List Turn) (replies : List Response) (new : Server) → one.settings ≡ settings_for s → one.state ≡ new_state s
-    → ts ≡ map turn_for s.requests → AnswersSome one ts replies new → FirstRun s replies
-first_run {one} s ts replies new settings state turns (first, t, rest, mid, ks, parts, run, stop) =
-    let left : Server = record { settings = one.settings; state = record { store = mid; locks = ks } } in
-    record { first = first; rest = t ∷ rest; left = left; parts = sym turns ∙ parts; run = run_set_up replies left settings state refl run }
+pub appends_nothing : (a : Option (List ℕ)) → Appends a a []
+appends_nothing None = tt
+appends_nothing (Some bytes) = sym (append-nil bytes)
+
+pub appends_both : (a b c : Option (List ℕ)) (x y : List ℕ) → Appends a b x → Appends b c y → Appends a c (x ++ y)
+appends_both None b c x y p q = tt
+appends_both (Some u) None c x y p q = absurd p
+appends_both (Some u) (Some v) None x y p q = absurd q
+appends_both (Some u) (Some v) (Some w) x y p q = q ∙ ap (λ l. l ++ y) p ∙ append_assoc u x y
+
+-- what follows from what a result promises where it is good
+pub onto : {E : Type 0} {A B : Type 0} (result : Result (Unit {0}) E) → (A → B) → OnOk result A → OnOk result B
+onto (Ok x) f given = f given
+onto (Err e) f given = tt
 
 -- where two results are the same error, so are the errors
 pub same_error : {A : Type 0} {a b : Fault} → ◌≡◌ {A = Result A Fault} (Err a) (Err b) → a ≡ b
 same_error is = cc
+
+-- ---- a script that was read, and what was written of its runs
+
+module _ (o : Option (List ℕ)) (s : ScriptContent) (read : IfSome o (λ text. IsShort text × IsScript text s)) (before after : Option (List ℕ)) where
+  -- all replies, and no run alone is asked for
+  pub played_all : s.alone ≡ None → IsPrefix s.prefix → (lines : List ℕ) × AreReplies s lines × Appends before after lines
+      → IfSome o (λ text. (lines : List ℕ) × Plays text lines × Appends before after lines)
+  played_all none prefix (lines, are, wrote) = under o read
+    where
+      under : (p : Option (List ℕ)) → IfSome p (λ text. IsShort text × IsScript text s) → IfSome p (λ text. (lines : List ℕ) × Plays text lines × Appends before after lines)
+      under None given = tt
+      under (Some text) given =
+          let follows = subst (λ (a : Option ℕ). Follows s a []) (sym none) refl in
+          (lines, (s, lines, [], given.0, given.1, prefix, are, follows, sym (append-nil lines)), wrote)
+
+  -- all replies, and all of the run alone
+  pub played_alone : (place : ℕ) (mid : Option (List ℕ)) → s.alone ≡ Some place → IsPrefix s.prefix → (all : List ℕ) × AreReplies s all × Appends before mid all
+      → (alone : List ℕ) × AreAloneReplies s place alone × Appends mid after alone
+      → IfSome o (λ text. (lines : List ℕ) × Plays text lines × Appends before after lines)
+  played_alone place mid some prefix (all, are, wrote) (alone, follow, appended) = under o read
+    where
+      under : (p : Option (List ℕ)) → IfSome p (λ text. IsShort text × IsScript text s) → IfSome p (λ text. (lines : List ℕ) × Plays text lines × Appends before after lines)
+      under None given = tt
+      under (Some text) given =
+          let follows = subst (λ (a : Option ℕ). Follows s a alone) (sym some) follow in
+          (all ++ alone, (s, all, alone, given.0, given.1, prefix, are, follows, refl), appends_both before mid after all alone wrote appended)
+
+  -- the first replies, or none
+  pub played_some : (lines : List ℕ) × ((lines ≡ []) ⊎ (IsPrefix s.prefix × AreFirstReplies s lines)) × Appends before after lines
+      → IfSome o (λ text. (lines : List ℕ) × PlaysSome text lines × Appends before after lines)
+  played_some (lines, inl nothing, wrote) = under o
+    where
+      under : (p : Option (List ℕ)) → IfSome p (λ text. (lines : List ℕ) × PlaysSome text lines × Appends before after lines)
+      under None = tt
+      under (Some text) = (lines, inl nothing, wrote)
+  played_some (lines, inr some, wrote) = under o read
+    where
+      under : (p : Option (List ℕ)) → IfSome p (λ text. IsShort text × IsScript text s) → IfSome p (λ text. (lines : List ℕ) × PlaysSome text lines × Appends before after lines)
+      under None given = tt
+      under (Some text) given = (lines, inr (s, given.0, given.1, some.0, inl some.1), wrote)
+
+  -- all replies, and the first lines of the run alone, or none of them
+  pub played_some_alone : (place : ℕ) (mid : Option (List ℕ)) → s.alone ≡ Some place → IsPrefix s.prefix → (all : List ℕ) × AreReplies s all × Appends before mid all
+      → (alone : List ℕ) × ((alone ≡ []) ⊎ AreFirstAloneReplies s place alone) × Appends mid after alone
+      → IfSome o (λ text. (lines : List ℕ) × PlaysSome text lines × Appends before after lines)
+  played_some_alone place mid is prefix (all, are, wrote) (alone, some, appended) = under o read some
+    where
+      both : Appends before after (all ++ alone)
+      both = appends_both before mid after all alone wrote appended
+
+      under : (p : Option (List ℕ)) → IfSome p (λ text. IsShort text × IsScript text s) → (alone ≡ []) ⊎ AreFirstAloneReplies s place alone
+          → IfSome p (λ text. (lines : List ℕ) × PlaysSome text lines × Appends before after lines)
+      under None given which = tt
+      under (Some text) given (inl nothing) =
+          let (replies, left, run, lines_are) = are in
+          (all ++ alone, inr (s, given.0, given.1, prefix, inl (replies, some_of_all left run, ap (λ l. all ++ l) nothing ∙ append-nil all ∙ lines_are)), both)
+      under (Some text) given (inr first) =
+          (all ++ alone, inr (s, given.0, given.1, prefix, inr (place, all, alone, is, are, first, refl)), both)
+
+-- nothing was written before there was a script
+pub none_played : (o : Option (List ℕ)) (a : Option (List ℕ)) → IfSome o (λ text. (lines : List ℕ) × PlaysSome text lines × Appends a a lines)
+none_played None a = tt
+none_played (Some text) a = ([], inl refl, appends_nothing a)

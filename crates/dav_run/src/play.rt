@@ -175,7 +175,7 @@ fn play_all<W: Write>(alloc: Global, script: &Script, writer: &mut W) -> Result<
     ensures untouched { IsErrOf result NotScript → writer.new ≡ writer.old }
     ensures short { IsErrOf result Memory → (lines : List ℕ)
         × ((lines ≡ []) ⊎ (IsPrefix (script_content script.now).prefix
-            × AreFirstReplies (script_content script.now) lines))
+        × AreFirstReplies (script_content script.now) lines))
         × Appends (W.contents writer.old) (W.contents writer.new) lines }
 {
     let mut handler = server_of(alloc, script)?;

@@ -271,7 +271,7 @@ fn read_alone(value: Option<&Value>, requests: &[Request]) -> Result<Option<usiz
         (map script_request requests.now)) }
     ensures none { OnErr result ((alone : Option ℕ)
         → ¬ IsAlone (option_map (λ v. view v.now) value.entry)
-            (map script_request requests.now) alone) }
+        (map script_request requests.now) alone) }
     ensures err { IsOkUnless result NotScript }
 {
     let Some(value) = value else {

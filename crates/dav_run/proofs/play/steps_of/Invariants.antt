@@ -5,4 +5,4 @@ use Rattle.dav_run.proofs.play.steps_of.Given as goal
 
 -- the steps so far are those of the requests so far
 abbrev pub invariant-loop-request : goal.invariant-loop-request
-invariant-loop-request l = l.steps.items ≡ map turn_for (map script_request (take l.request-index l.script.requests.items))
+invariant-loop-request l = l.steps.items ≡ map turn_for (map script_request (take l.request-index l.requests))
