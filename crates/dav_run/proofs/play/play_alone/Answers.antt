@@ -1,7 +1,10 @@
-use Rattle.std.proofs.Common.{◌+◌, ◌++◌, inr, refl}
+use Rattle.std.proofs.Common.{[], ◌+◌, ◌++◌, Err, inl, inr, refl, sym, ap, subst}
+use Rattle.std.proofs.KnownBytes.{Appends-nil}
+use Rattle.std.proofs.lemmas.Result.{err_from_is_err_and}
+use Rattle.std.specs.Io.KnownBytes.{Appends}
 use Rattle.dav_run.specs.Print.{lines_of, place_line}
 use Rattle.dav_run.proofs.AloneLemmas.{alone_of_parts, run_of_front}
-use Rattle.dav_run.proofs.Played.{appends_both, onto}
+use Rattle.dav_run.proofs.Played.{appends_both, onto, same_error}
 use Rattle.dav_run.proofs.play.play_alone.Goals as goal
 
 pub returns-clause-played : goal.returns-clause-played
@@ -37,3 +40,13 @@ returns-clause-short g c = λ is.
       appends_both (g.W.Write.contents c.args.writer.now) (g.W.Write.contents c.write_place.new.writer) (g.W.Write.contents c.play_steps.new.writer) (place_line c.args.place) (lines_of replies)
           c.in_ok-write_place.ensures.written wrote,
     )
+
+pub returns-in_err-write_place-clause-short : goal.returns-in_err-write_place-clause-short
+returns-in_err-write_place-clause-short g c =
+    let p = err_from_is_err_and c.from_residual-in_err-write_place.result c.from_residual-in_err-write_place.ensures.1 in
+    rw (p.1, p.2) (λ is. (
+      [],
+      inl refl,
+      subst (λ w. Appends (g.W.Write.contents c.args.writer.now) (g.W.Write.contents w) []) (sym (c.in_err-write_place.ensures.short (ap Err (same_error is))))
+      (Appends-nil (g.W.Write.contents c.args.writer.now)),
+    ))
