@@ -48,5 +48,5 @@ returns-in_err-write_place-clause-short g c =
       [],
       inl refl,
       subst (λ w. Appends (g.W.Write.contents c.args.writer.now) (g.W.Write.contents w) []) (sym (c.in_err-write_place.ensures.short (ap Err (same_error is))))
-      (Appends-nil (g.W.Write.contents c.args.writer.now)),
+          (Appends-nil (g.W.Write.contents c.args.writer.now)),
     ))
