@@ -100,7 +100,8 @@ pub fn node_at<'a>(lists: &'a [Vec<(Names, Node)>], path: &DavPath) -> Option<&'
 pub fn folder_of<'a>(lists: &'a [Vec<(Names, Node)>], path: &DavPath) -> Option<&'a Node>
     requires sorted { T (is_sorted path_cmp (all_in lists.now)) }
     requires filled { AreFilled lists.now }
-    ensures { option_copied result ≡ find path_cmp (parent_of (names path.now)) (all_in lists.now) }
+    ensures { option_copied result
+        ≡ find path_cmp (parent_of (names path.now)) (all_in lists.now) }
 {
     let i = home(lists, Sought::FolderOf(path));
     listed::folder_of(&lists[i], path)
@@ -114,7 +115,8 @@ pub fn member_at<'a>(
 ) -> Option<&'a Node>
     requires sorted { T (is_sorted path_cmp (all_in lists.now)) }
     requires filled { AreFilled lists.now }
-    ensures { option_copied result ≡ find path_cmp (folder.now ++ name.now ∷ []) (all_in lists.now) }
+    ensures { option_copied result
+        ≡ find path_cmp (folder.now ++ name.now ∷ []) (all_in lists.now) }
 {
     let i = home(lists, Sought::Member(folder, name));
     listed::member_at(&lists[i], folder, name)
