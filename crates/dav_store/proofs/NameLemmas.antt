@@ -1,13 +1,15 @@
 -- Paths compared name by name.
-use Rattle.std.proofs.Common.{◌≡◌, ◌≢◌, zero, suc, ◌==◌, All, subst, ℕ, ◌<◌, ◌-◌, Bool, true, false, cond, List, [], ◌∷◌, length, get_or, take, drop, refl, sym, ap, ◌∙◌, arith}
+use Rattle.std.proofs.Common.{◌≡◌, ◌≢◌, zero, suc, ◌==◌, All, subst, ℕ, ◌<◌, ◌-◌, Bool, true, false, cond, List, [], ◌∷◌, ◌++◌, if◌then◌else◌, length, get_or, take, drop, Option, Some, None, refl, sym, ap, ◌∙◌, arith}
+use Rattle.std.specs.Prelude.{bytes_eq}
+use Rattle.std.specs.Option.{unwrap_or}
 use Rattle.std.proofs.lemmas.List.{take_rest}
 use Rattle.std.proofs.lemmas.List.Splits.{slice_split-cons_yes, slice_split-cons_no}
 use Rattle.std.proofs.lemmas.Bool.Decides.{nat_tests}
-use Rattle.std.specs.List.{AllByRecursion, slice_split, onto_first, filter}
+use Rattle.std.specs.List.{AllByRecursion, slice_split, onto_first, filter, last_or}
 use Rattle.std.specs.declared.cmp.Ordering.{Ordering}
 use Rattle.std.specs.declared.cmp.Ordering.TheVariants.{Less, Equal, Greater}
 use Rattle.std.specs.Ordering.{is_eq, ordering_then}
-use Rattle.dav_core.specs.Path.{Path, name_cmp, is_same_path, parent_of, is_nonempty, names_in, IsSegment}
+use Rattle.dav_core.specs.Path.{Path, name_cmp, is_same_path, parent_of, is_nonempty, names_in, names_of, last_name, star, IsSegment}
 
 same_then : (o p : Ordering) (b : Bool) → is_eq o ≡ b → cond b (is_eq p) false ≡ is_eq (ordering_then o p)
 same_then Less p b h = ap (λ c. cond c (is_eq p) false) (sym h)
@@ -56,3 +58,22 @@ pub first_is_segment : (bytes name : List ℕ) (rest : Path) → names_in bytes 
 first_is_segment bytes name rest e =
     let all : AllByRecursion IsSegment (name ∷ rest) = subst (AllByRecursion IsSegment) e (kept (slice_split (λ b. b == 47) bytes) (slashless bytes)) in
     all.0
+
+only_last : (p : Path) (x : List ℕ) → AllByRecursion IsSegment (p ++ x ∷ []) → IsSegment x
+only_last [] x all = all.0
+only_last (y ∷ p) x all = only_last p x all.1
+
+if_star : (b : Bool) (p : Path) → AllByRecursion IsSegment p → AllByRecursion IsSegment (if b then [] else p)
+if_star true p all = tt
+if_star false p all = all
+
+-- the last of the names in bytes is a segment
+pub last_is_segment : (bytes : List ℕ) (p : Path) (x : List ℕ) → names_of bytes ≡ p ++ x ∷ [] → IsSegment x
+last_is_segment bytes p x e = only_last p x (subst (AllByRecursion IsSegment) e (if_star (bytes_eq bytes star) (names_in bytes) (kept (slice_split (λ b. b == 47) bytes) (slashless bytes))))
+
+last_push : (o : Option (List ℕ)) (p : Path) (x : List ℕ) → last_or o (p ++ x ∷ []) ≡ Some x
+last_push o [] x = refl
+last_push o (y ∷ p) x = last_push (Some y) p x
+
+pub last_name_is : (bytes : List ℕ) (p : Path) (x : List ℕ) → names_of bytes ≡ p ++ x ∷ [] → last_name bytes ≡ x
+last_name_is bytes p x e = ap (λ (q : Path). unwrap_or (last_or None q) []) e ∙ ap (λ (o : Option (List ℕ)). unwrap_or o []) (last_push None p x)

@@ -8,4 +8,5 @@ pub mod Tree
 pub mod TreeLaws
 pub mod TreeLends
 pub mod Entries
-pub mod Sought
+pub mod Walks
+pub mod Placed

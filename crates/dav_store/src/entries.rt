@@ -1,41 +1,42 @@
-//! Paths and their nodes, as a store in memory keeps them: lists in order of the paths.
-ghost use Rattle.std.specs.Prelude.{◌≡◌, ◌∷◌, ◌++◌, ◌+◌, ◌<◌, ◌≤◌, [], ℕ, List, Some, ◌≢◌, IfOk, OnOk, OnErr, IfSome, Option, option_copied, filter, length};
-ghost use Rattle.std.specs.FinMap.{find, put};
-ghost use Rattle.dav_core.specs.Path.{names, path_cmp, is_at_or_under, parent_of};
-ghost use Rattle.dav_core.specs.World.{adjust, touched, prune, moved, is_folder_node, is_file_node, last_moment, max_file_len, change_node, is_file_made_with, file_made_with};
-ghost use Rattle.dav_core.specs.World.{Node as Seen, fresh};
-ghost use Rattle.dav_core.specs.Calls.{emptied, written, copied_over, repatched};
-ghost use Rattle.dav_core.specs.Property.{Patch, patched};
-ghost use Rattle.dav_store.specs.Entries.{DifferInMaking, all_in};
+//! Paths and their nodes, as a store in memory keeps them: a tree whose keys are names.
+ghost use Rattle.std.specs.Prelude.{◌≡◌, ◌∷◌, ◌++◌, [], IfOk, option_copied};
+ghost use Rattle.std.specs.FinMap.{find};
+ghost use Rattle.dav_core.specs.Path.{names, path_cmp, parent_of, is_nonempty};
+ghost use Rattle.dav_core.specs.World.{is_folder_node, is_file_node, file_made_with, members};
 
-use crate::lists;
+pub mod changes;
+mod finding;
+pub mod listing;
+
 use crate::names::{Name, Names};
 use crate::node::Node;
-use crate::properties::Properties;
+use crate::tree::{ROOT_ID, Tree};
 use dav_core::davpath::DavPath;
 use dav_core::errors::NoMemory;
 use std::alloc::Global;
+use std::collections::HashMap;
 use std::marker::Model;
 
-/// Paths and their nodes. `last` is a change number above which no node was created, where each is known to have been
-/// created under a number of its own.
+/// Paths and their nodes: a tree of the nodes, whose keys are the names of the paths, and the number of each node in the
+/// tree by the change number under which it was created.
 #[derive(Drop)]
 pub struct Entries {
-    lists: Vec<Vec<(Names, Node)>>,
-    last: Option<u64>,
+    tree: Tree<Vec<u8>, Node>,
+    made: HashMap<u64, u64>,
 }
 
 impl Model for Entries {
     ghost use Rattle.dav_core.specs.World.{Nodes};
-    ghost use Rattle.dav_store.specs.Entries.{coded_nodes, all_in, AreFilled, IsKept};
+    ghost use Rattle.dav_store.specs.Entries.{coded_nodes, IsKept};
+    ghost use Rattle.dav_store.specs.Placed.{placed, bare};
 
     ghost Value = { Nodes };
 
     ghost coded = { coded_nodes };
 
-    ghost view = { λ s. all_in s.lists.items };
+    ghost view = { λ s. placed (bare s.tree) };
 
-    ghost invariant = { λ s. IsKept s.last (all_in s.lists.items) × AreFilled s.lists.items };
+    ghost invariant = { λ s. IsKept s.tree s.made };
 }
 
 impl Clone for Entries {
@@ -45,8 +46,8 @@ impl Clone for Entries {
 
     fn clone(&self) -> Result<Entries, NoMemory> {
         Ok(Entries {
-            lists: self.lists.clone()?,
-            last: self.last,
+            tree: self.tree.clone()?,
+            made: self.made.clone()?,
         })
     }
 }
@@ -55,14 +56,11 @@ impl Clone for Entries {
 pub fn of_root(alloc: Global, root: Node) -> Result<Entries, NoMemory>
     ensures { IfOk result (λ es. es ≡ ([], root) ∷ []) }
 {
-    let last = root.creation_number();
-    let mut list = Vec::new(alloc);
-    list.push((Names::root(alloc), root))?;
-    let mut lists = Vec::new(alloc);
-    lists.push(list)?;
+    let mut made = HashMap::new(alloc);
+    let _ = made.insert(root.creation_number(), ROOT_ID)?;
     Ok(Entries {
-        lists,
-        last: Some(last),
+        tree: Tree::new(alloc, root)?,
+        made,
     })
 }
 
@@ -70,7 +68,7 @@ pub fn of_root(alloc: Global, root: Node) -> Result<Entries, NoMemory>
 pub fn node_at<'a>(entries: &'a Entries, path: &DavPath) -> Option<&'a Node>
     ensures { option_copied result ≡ find path_cmp (names path.now) entries.now }
 {
-    lists::node_at(&entries.lists, path)
+    finding::value(&entries.tree, finding::find(&entries.tree, path).at)
 }
 
 /// Whether there is a folder at a path.
@@ -97,7 +95,7 @@ pub fn is_file(entries: &Entries, path: &DavPath) -> bool
 pub fn has_folder(entries: &Entries, path: &DavPath) -> bool
     ensures { result ≡ is_folder_node (find path_cmp (parent_of (names path.now)) entries.now) }
 {
-    match lists::folder_of(&entries.lists, path) {
+    match finding::value(&entries.tree, finding::find(&entries.tree, path).above) {
         Some(node) => node.is_folder(),
         None => false,
     }
@@ -107,157 +105,28 @@ pub fn has_folder(entries: &Entries, path: &DavPath) -> bool
 pub fn member_at<'a>(entries: &'a Entries, folder: &Names, name: &Name) -> Option<&'a Node>
     ensures { option_copied result ≡ find path_cmp (folder.now ++ name.now ∷ []) entries.now }
 {
-    lists::member_at(&entries.lists, folder, name)
-}
-
-/// Lists of nodes in which what is at a path and below it stands, in order.
-pub fn around<'a>(entries: &'a Entries, path: &DavPath) -> &'a [Vec<(Names, Node)>]
-    ensures { filter (λ e. is_at_or_under e.0 (names path.now)) (all_in result.now)
-        ≡ filter (λ e. is_at_or_under e.0 (names path.now)) entries.now }
-{
-    lists::around(&entries.lists, path)
-}
-
-/// Sets the moment at which the folder of a path was last changed.
-pub fn touch_folder(entries: &mut Entries, path: &DavPath, now: u64)
-    requires { now ≤ last_moment }
-    ensures { entries.new ≡ touched (names path.now) now entries.old }
-{
-    lists::touch_folder(&mut entries.lists, path, now);
-}
-
-/// Empties the file at a path, which takes this number.
-pub fn empty_at(entries: &mut Entries, path: &DavPath, number: u64, now: u64)
-    requires { now ≤ last_moment }
-    ensures { entries.new ≡ adjust (names path.now) (emptied number now) entries.old }
-{
-    lists::empty_at(&mut entries.lists, path, number, now);
-}
-
-/// Removes what is at a path and below it.
-pub fn prune(entries: &mut Entries, path: &DavPath)
-    ensures { entries.new ≡ prune (names path.now) entries.old }
-{
-    lists::prune(&mut entries.lists, path);
-}
-
-/// Moves what is at `from` and below it to `to`, in place of what is there. Where memory runs out, nothing changes.
-pub fn move_nodes(
-    alloc: Global,
-    entries: &mut Entries,
-    from: &DavPath,
-    to: &DavPath,
-) -> Result<(), NoMemory>
-    ensures ok { OnOk result (entries.new
-        ≡ moved (names from.now) (names to.now) entries.old) }
-    ensures err { OnErr result (entries.new ≡ entries.old) }
-{
-    lists::move_nodes(alloc, &mut entries.lists, from, to)
-}
-
-// The number above which no node was created, once one more is created under this number.
-fn last_with(last: Option<u64>, made: u64) -> Option<u64>
-    ensures { IfSome result (λ m. (m ≡ made) × ((n : ℕ) × (last ≡ Some n) × (n < made))) }
-{
-    if last? < made { Some(made) } else { None }
-}
-
-// Puts a node at a path, in place of what is there. Where memory runs out, nothing changes.
-fn put_at(alloc: Global, entries: &mut Entries, path: &DavPath, node: Node) -> Result<(), NoMemory>
-    ensures ok { OnOk result (entries.new ≡ put path_cmp (names path.now) node entries.old) }
-    ensures err { OnErr result (entries.new ≡ entries.old) }
-{
-    let last = last_with(entries.last, node.creation_number());
-    lists::put_at(alloc, &mut entries.lists, path, node)?;
-    entries.last = last;
-    Ok(())
-}
-
-/// Adds a new node at a path, and changes its folder at this moment. Where memory runs out, nothing changes.
-pub fn add_node(
-    alloc: Global,
-    entries: &mut Entries,
-    path: &DavPath,
-    node: Node,
-    now: u64,
-) -> Result<(), NoMemory>
-    requires { now ≤ last_moment }
-    ensures ok { OnOk result (entries.new
-        ≡ touched (names path.now) now (put path_cmp (names path.now) node entries.old)) }
-    ensures err { OnErr result (entries.new ≡ entries.old) }
-{
-    put_at(alloc, entries, path, node)?;
-    touch_folder(entries, path, now);
-    Ok(())
-}
-
-/// The place of what is at a path, by which it can be found again as long as nothing comes or goes before it.
-pub fn hint_of(entries: &Entries, path: &DavPath) -> (usize, usize) {
-    lists::hint_of(&entries.lists, path)
-}
-
-// The hint, where what is found by it is the only one.
-fn sure_hint(entries: &Entries, hint: (usize, usize)) -> Option<(usize, usize)>
-    ensures { IfSome result (λ _. DifferInMaking entries.now) }
-{
-    match entries.last {
-        Some(_) => Some(hint),
-        None => None,
-    }
-}
-
-/// The file that was created under this change number. It is looked for at the hint first.
-pub fn file_made_with(entries: &Entries, made: u64, hint: (usize, usize)) -> Option<&Node>
-    ensures { option_copied result ≡ file_made_with made entries.now }
-{
-    lists::file_made_with(&entries.lists, made, sure_hint(entries, hint))
-}
-
-/// Writes bytes to the file that was created under this change number. Where memory runs out, nothing changes.
-pub fn write_file_made_with(
-    alloc: Global,
-    entries: &mut Entries,
-    made: u64,
-    hint: (usize, usize),
-    place: usize,
-    chunk: &[u8],
-    number: u64,
-    now: u64,
-) -> Result<(), NoMemory>
-    requires some { chunk.now ≢ [] }
-    requires fits { place + length chunk.now ≤ max_file_len }
-    requires now { now ≤ last_moment }
-    ensures ok { OnOk result (entries.new
-        ≡ change_node (is_file_made_with made) (written place chunk.now number now) entries.old) }
-    ensures err { OnErr result (entries.new ≡ entries.old) }
-{
-    let hint = sure_hint(entries, hint);
-    lists::write_file_made_with(
-        alloc,
-        &mut entries.lists,
-        made,
-        hint,
-        place,
-        chunk,
-        number,
-        now,
+    finding::value(
+        &entries.tree,
+        finding::find_member(&entries.tree, folder, name),
     )
 }
 
-/// Gives the file at a path all that a copy has; it stays the node that it was.
-pub fn copy_over(entries: &mut Entries, path: &DavPath, copy: Node)
-    ensures { (source : Seen) (number now : ℕ) → copy
-        ≡ record (fresh number source.kind now) { properties = source.properties } → entries.new
-        ≡ adjust (names path.now) (copied_over source number now) entries.old }
+/// Whether a folder has members.
+pub fn has_members(entries: &Entries, path: &DavPath) -> bool
+    ensures { result ≡ is_nonempty (members (names path.now) entries.now) }
 {
-    lists::copy_over(&mut entries.lists, path, copy);
+    match finding::find(&entries.tree, path).at {
+        Some(id) => entries.tree.has_children(id),
+        None => false,
+    }
 }
 
-/// Replaces the properties of the node at a path, by its own after some changes.
-pub fn set_properties_at(entries: &mut Entries, path: &DavPath, properties: Properties)
-    ensures { (n : Seen) (patches : List Patch) → find path_cmp (names path.now) entries.old
-        ≡ Some n → properties ≡ patched patches n.properties → entries.new
-        ≡ adjust (names path.now) (repatched patches) entries.old }
+/// The file that was created under this change number.
+pub fn file_made_with(entries: &Entries, made: u64) -> Option<&Node>
+    ensures { option_copied result ≡ file_made_with made entries.now }
 {
-    lists::set_properties_at(&mut entries.lists, path, properties);
+    match finding::value(&entries.tree, entries.made.get(&made).copied()) {
+        Some(node) => if node.is_folder() { None } else { Some(node) },
+        None => None,
+    }
 }

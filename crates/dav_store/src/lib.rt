@@ -5,8 +5,6 @@
 mod asserting;
 mod entries;
 pub mod laws;
-mod listed;
-mod lists;
 pub mod memfs;
 pub mod memls;
 mod names;

@@ -11,8 +11,7 @@ mod filesystem;
 #[cfg(test)]
 mod tests;
 
-use crate::entries;
-use crate::entries::Entries;
+use crate::entries::{self, Entries, changes, listing};
 use crate::names::{Name, Names};
 use crate::node::Node;
 use crate::properties::Properties;
@@ -72,7 +71,6 @@ pub struct MemFile {
     reads: bool,
     writes: bool,
     appends: bool,
-    hint: (usize, usize),
 }
 
 impl Model for MemFile {
@@ -89,7 +87,7 @@ impl MemFile {
     ghost use Rattle.dav_core.specs.Metadata.{opening_of};
 
     // A file that was just opened.
-    fn open(made: u64, options: &OpenOptions, hint: (usize, usize)) -> MemFile
+    fn open(made: u64, options: &OpenOptions) -> MemFile
         ensures { result ≡ opened made (opening_of options.now) }
     {
         MemFile {
@@ -98,7 +96,6 @@ impl MemFile {
             reads: options.read,
             writes: options.write || options.append,
             appends: options.append,
-            hint,
         }
     }
 
@@ -133,31 +130,6 @@ pub struct MemEntry {
     dir: bool,
 }
 
-// Adds the entries of a folder that are in a list, in order.
-fn list_among(
-    alloc: Global,
-    entries: &[(Names, Node)],
-    path: &DavPath,
-    list: &mut Vec<MemEntry>,
-) -> Result<(), NoMemory>
-    ensures members { OnOk result (map (λ e. (e.name, e.dir)) list.new.items
-        ≡ map (λ e. (e.name, e.dir)) list.old.items ++ members (names path.now) entries.now) }
-    ensures folder { OnOk result
-        (map (λ e. e.folder) list.old.items ≡ map (λ _. names path.now) list.old.items →
-        map (λ e. e.folder) list.new.items ≡ map (λ _. names path.now) list.new.items) }
-{
-    for e in entries {
-        if let Some(name) = e.0.name_below(path) {
-            list.push(MemEntry {
-                folder: Names::of(alloc, path)?,
-                name: name.clone()?,
-                dir: e.1.is_folder(),
-            })?;
-        }
-    }
-    Ok(())
-}
-
 // The entries of a folder, in order.
 fn list(alloc: Global, entries: &Entries, path: &DavPath) -> Result<Vec<MemEntry>, NoMemory>
     ensures members { IfOk result (λ list. map (λ e. (e.name, e.dir)) list.items
@@ -165,35 +137,16 @@ fn list(alloc: Global, entries: &Entries, path: &DavPath) -> Result<Vec<MemEntry
     ensures folder { IfOk result
         (λ list. map (λ e. e.folder) list.items ≡ map (λ _. names path.now) list.items) }
 {
-    let lists = entries::around(entries, path);
+    let members = listing::list(alloc, entries, path)?;
     let mut list = Vec::new(alloc);
-    for some in lists {
-        list_among(alloc, some, path, &mut list)?;
+    for (name, dir) in members {
+        list.push(MemEntry {
+            folder: Names::of(alloc, path)?,
+            name,
+            dir,
+        })?;
     }
     Ok(list)
-}
-
-// Whether something in a list is directly below a path.
-fn any_below(entries: &[(Names, Node)], path: &DavPath) -> bool
-    ensures { result ≡ list_any
-        (λ e. is_some (only_name (rest_after (names path.now) e.0))) entries.now }
-{
-    entries.iter().any(|e| e.0.name_below(path).is_some())
-}
-
-// Whether something in some lists is directly below a path.
-fn any_below_among(lists: &[Vec<(Names, Node)>], path: &DavPath) -> bool
-    ensures { result ≡ list_any (λ l. list_any
-        (λ e. is_some (only_name (rest_after (names path.now) e.0))) l.items) lists.now }
-{
-    lists.iter().any(|some| any_below(some, path))
-}
-
-// Whether a folder has members.
-fn has_members(entries: &Entries, path: &DavPath) -> bool
-    ensures { result ≡ is_nonempty (members (names path.now) entries.now) }
-{
-    any_below_among(entries::around(entries, path), path)
 }
 
 // The properties after these changes, in their order, and the answers to them.
@@ -252,12 +205,12 @@ impl MemFs {
     {
         match entries::node_at(&self.entries, to) {
             Some(_) => {
-                entries::copy_over(&mut self.entries, to, copy);
+                changes::copy_over(&mut self.entries, to, copy);
                 self.next += 1;
                 Ok(())
             }
             None => {
-                if let Err(_) = entries::add_node(alloc, &mut self.entries, to, copy, now) {
+                if let Err(_) = changes::add_node(alloc, &mut self.entries, to, copy, now) {
                     self.short = true;
                     return Err(FsError::InsufficientStorage);
                 }
@@ -285,15 +238,14 @@ impl MemFs {
         if options.create_new {
             return Err(FsError::Exists);
         }
-        let hint = entries::hint_of(&self.entries, path);
-        let file = MemFile::open(node.creation_number(), options, hint);
+        let file = MemFile::open(node.creation_number(), options);
         if !options.truncate {
             return Ok(file);
         }
         if self.next == u64::MAX {
             return Err(FsError::GeneralFailure);
         }
-        entries::empty_at(&mut self.entries, path, self.next, now);
+        changes::empty_at(&mut self.entries, path, self.next, now);
         self.next += 1;
         Ok(file)
     }
@@ -321,13 +273,12 @@ impl MemFs {
         }
         let node = Node::new_file(alloc, self.next, now);
         let made = self.next;
-        if let Err(_) = entries::add_node(alloc, &mut self.entries, path, node, now) {
+        if let Err(_) = changes::add_node(alloc, &mut self.entries, path, node, now) {
             self.short = true;
             return Err(FsError::InsufficientStorage);
         }
         self.next += 1;
-        let hint = entries::hint_of(&self.entries, path);
-        Ok(MemFile::open(made, options, hint))
+        Ok(MemFile::open(made, options))
     }
 
     // Writes these bytes, as `write_bytes` does.
@@ -343,7 +294,7 @@ impl MemFs {
             (seen (λ _. file.new) result) self.old self.new }
         ensures err { OnErr result (file.new ≡ file.old) }
     {
-        let Some(node) = entries::file_made_with(&self.entries, file.made, file.hint) else {
+        let Some(node) = entries::file_made_with(&self.entries, file.made) else {
             return Err(FsError::NotFound);
         };
         let place = file.write_place(node.bytes().len());
@@ -360,11 +311,10 @@ impl MemFs {
             return Err(FsError::GeneralFailure);
         }
         let (made, number) = (file.made, self.next);
-        if let Err(_) = entries::write_file_made_with(
+        if let Err(_) = changes::write_file_made_with(
             alloc,
             &mut self.entries,
             made,
-            file.hint,
             place as usize,
             chunk,
             number,
@@ -383,7 +333,7 @@ impl MemFs {
         ensures { (bytes : List ℕ) (now : ℕ) → length bytes ≡ len → result
             ≡ refusal_in (write_bytes self.now.world file.now bytes now) }
     {
-        let Some(node) = entries::file_made_with(&self.entries, file.made, file.hint) else {
+        let Some(node) = entries::file_made_with(&self.entries, file.made) else {
             return Some(FsError::NotFound);
         };
         let place = file.write_place(node.bytes().len());

@@ -37,6 +37,14 @@ impl Name {
         Ok(Name { bytes })
     }
 
+    /// The name of these bytes.
+    pub fn from_bytes(bytes: Vec<u8>) -> Name
+        requires { IsSegment bytes.items }
+        ensures { result ≡ bytes.items }
+    {
+        Name { bytes }
+    }
+
     /// The bytes; there are some, and no slash is among them.
     pub fn as_slice(&self) -> &[u8]
         ensures value { result.now ≡ self.now }
@@ -204,6 +212,13 @@ impl Names {
             names.push(Name::from_slice(alloc, segment)?)?;
         }
         Ok(Names { names })
+    }
+
+    /// The names, from the root down.
+    pub fn as_slice(&self) -> &[Name]
+        ensures { result.now ≡ self.now }
+    {
+        &self.names
     }
 
     /// No names: the root.

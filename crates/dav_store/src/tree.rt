@@ -8,7 +8,7 @@ ghost use Rattle.std.specs.Result.{result_ok};
 ghost use Rattle.std.specs.Borrow.{sem};
 ghost use Rattle.std.specs.Option.{ok_or, option_copied_mut};
 ghost use Rattle.std.specs.List.{AllZip};
-ghost use Rattle.dav_store.specs.Tree.{single, node, child, child_of_bytes, value_of, children_of, IsListedAs, delete_refusal, deleted, add_refusal, added, move_refusal, moved, Does, DoesOrLacks};
+ghost use Rattle.dav_store.specs.Tree.{single, node, child, child_of_bytes, value_of, children_of, has_children, IsListedAs, delete_refusal, deleted, add_refusal, added, move_refusal, moved, Does, DoesOrLacks};
 ghost use Rattle.dav_core.specs.declared.errors.FsError.TheVariants.{NotFound as Missing, InsufficientStorage as Lacking};
 
 pub mod children;
@@ -111,6 +111,13 @@ impl<K: Eq + Hash + Drop, D: Drop> Tree<K, D> {
             Ok(list) => Ok(Children::new(list)),
             Err(_) => Err(FsError::InsufficientStorage),
         }
+    }
+
+    // Whether a node has children.
+    pub(crate) fn has_children(&self, id: u64) -> bool
+        ensures { result ≡ has_children self.now id }
+    {
+        self.nodes.has_children(id)
     }
 
     // Why a child isn't added.

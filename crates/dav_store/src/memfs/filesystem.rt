@@ -1,8 +1,9 @@
 //! `MemFs` as a `DavFileSystem`: each call is answered as it means. The tests of its rules come first, in their order,
 //! and only then is memory allocated.
-use super::{MemEntry, MemFile, MemFs, has_members, list, place_for, properties_after};
+use super::{MemEntry, MemFile, MemFs, list, place_for, properties_after};
+use crate::entries::{self, changes};
 use crate::node::Node;
-use crate::{entries, paths};
+use crate::paths;
 use bytes::{Buf, Bytes};
 use dav_core::davpath::DavPath;
 use dav_core::element::Element;
@@ -99,7 +100,7 @@ impl DavFileSystem for MemFs {
             return Err(FsError::GeneralFailure);
         }
         let node = Node::new_folder(alloc, self.next, now);
-        if let Err(_) = entries::add_node(alloc, &mut self.entries, path, node, now) {
+        if let Err(_) = changes::add_node(alloc, &mut self.entries, path, node, now) {
             self.short = true;
             return Err(FsError::InsufficientStorage);
         }
@@ -117,11 +118,11 @@ impl DavFileSystem for MemFs {
         if entries::is_file(&self.entries, path) {
             return Err(FsError::Forbidden);
         }
-        if has_members(&self.entries, path) {
+        if entries::has_members(&self.entries, path) {
             return Err(FsError::Exists);
         }
-        entries::prune(&mut self.entries, path);
-        entries::touch_folder(&mut self.entries, path, now);
+        changes::prune(&mut self.entries, path);
+        changes::touch_folder(&mut self.entries, path, now);
         Ok(())
     }
 
@@ -132,8 +133,8 @@ impl DavFileSystem for MemFs {
         if entries::is_folder(&self.entries, path) {
             return Err(FsError::Forbidden);
         }
-        entries::prune(&mut self.entries, path);
-        entries::touch_folder(&mut self.entries, path, now);
+        changes::prune(&mut self.entries, path);
+        changes::touch_folder(&mut self.entries, path, now);
         Ok(())
     }
 
@@ -153,15 +154,15 @@ impl DavFileSystem for MemFs {
         if !entries::has_folder(&self.entries, to) {
             return Err(FsError::NotFound);
         }
-        if entries::is_folder(&self.entries, to) && has_members(&self.entries, to) {
+        if entries::is_folder(&self.entries, to) && entries::has_members(&self.entries, to) {
             return Err(FsError::Exists);
         }
-        if let Err(_) = entries::move_nodes(alloc, &mut self.entries, from, to) {
+        if let Err(_) = changes::move_nodes(alloc, &mut self.entries, from, to) {
             self.short = true;
             return Err(FsError::InsufficientStorage);
         }
-        entries::touch_folder(&mut self.entries, to, now);
-        entries::touch_folder(&mut self.entries, from, now);
+        changes::touch_folder(&mut self.entries, to, now);
+        changes::touch_folder(&mut self.entries, from, now);
         Ok(())
     }
 
@@ -205,7 +206,7 @@ impl DavFileSystem for MemFs {
             self.short = true;
             return Err(FsError::InsufficientStorage);
         };
-        entries::set_properties_at(&mut self.entries, path, properties);
+        changes::set_properties_at(&mut self.entries, path, properties);
         Ok(answers)
     }
 
@@ -260,7 +261,7 @@ impl DavFileSystem for MemFs {
     }
 
     fn read_bytes(&mut self, _alloc: Global, file: &mut MemFile, count: usize) -> FsResult<Bytes> {
-        let Some(node) = entries::file_made_with(&self.entries, file.made, file.hint) else {
+        let Some(node) = entries::file_made_with(&self.entries, file.made) else {
             return Err(FsError::NotFound);
         };
         if !file.reads {
@@ -303,7 +304,7 @@ impl DavFileSystem for MemFs {
     }
 
     fn seek(&mut self, file: &mut MemFile, to: SeekFrom) -> FsResult<u64> {
-        let Some(node) = entries::file_made_with(&self.entries, file.made, file.hint) else {
+        let Some(node) = entries::file_made_with(&self.entries, file.made) else {
             return Err(FsError::NotFound);
         };
         match place_for(to, file.position, node.bytes().len() as u64) {
@@ -316,14 +317,14 @@ impl DavFileSystem for MemFs {
     }
 
     fn flush(&mut self, file: &mut MemFile) -> FsResult<()> {
-        match entries::file_made_with(&self.entries, file.made, file.hint) {
+        match entries::file_made_with(&self.entries, file.made) {
             Some(_) => Ok(()),
             None => Err(FsError::NotFound),
         }
     }
 
     fn file_metadata(&mut self, file: &MemFile) -> FsResult<DavMetaData> {
-        match entries::file_made_with(&self.entries, file.made, file.hint) {
+        match entries::file_made_with(&self.entries, file.made) {
             Some(node) => Ok(node.metadata()),
             None => Err(FsError::NotFound),
         }

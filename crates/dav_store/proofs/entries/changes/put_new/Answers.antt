@@ -1,0 +1,41 @@
+use Rattle.std.proofs.Common.{ℕ, ◌<◌, nat_eq, cond, Some, Ok, refl, arith, ◌∷◌, ◌++◌, [], sym, ap, subst, ◌∙◌}
+use Rattle.std.specs.HashMap.{get, spare}
+use Rattle.dav_core.specs.Path.{names, parent_of, IsSegment}
+use Rattle.dav_store.proofs.NameLemmas.{last_name_is, last_is_segment}
+use Rattle.dav_store.specs.Entries.{IsKept}
+use Rattle.dav_store.specs.Placed.{placed, bare}
+use Rattle.dav_store.proofs.KeptCalls.{kept_reordered, lacking_new, answered_new, kept_put, view_put, cut_here, on_ok, not_some}
+use Rattle.dav_store.proofs.entries.changes.put_new.Goals as goal
+
+pub invariant_of-entries : goal.invariant_of-entries
+invariant_of-entries c = kept_reordered c.entries.inside.tree c.entries.inside.made c.reserve.new.self c.entries.invariant c.reserve.ensures.entries.2
+
+pub invariant_of-entries-in_default-add_child : goal.invariant_of-entries-in_default-add_child
+invariant_of-entries-in_default-add_child c =
+    subst (λ u. IsKept u c.reserve.new.self) (sym (lacking_new _ _ _ _ c.entries.inside.tree c.add_child.new.self c.add_child.result c.in_default-add_child.field-0 c.in_default-add_child.is c.add_child.ensures))
+    (kept_reordered c.entries.inside.tree c.entries.inside.made c.reserve.new.self c.entries.invariant c.reserve.ensures.entries.2)
+
+pub returns-in_default-add_child-clause-err : goal.returns-in_default-add_child-clause-err
+returns-in_default-add_child-clause-err c =
+    ap (λ u. placed (bare u)) (lacking_new _ _ _ _ c.entries.inside.tree c.add_child.new.self c.add_child.result c.in_default-add_child.field-0 c.in_default-add_child.is c.add_child.ensures) ∙ c.entries.view_is
+
+pub invariant_of-entries-2 : goal.invariant_of-entries-2
+invariant_of-entries-2 c =
+    let done = answered_new _ _ _ c.in-Ok.id _ c.entries.inside.tree c.add_child.new.self (Ok c.in-Ok.id) refl c.in-Ok.ensures in
+    let room : 0 < spare c.reserve.new.self = omega (arith, c.in_ok-reserve.ensures.ok) in
+    let updates = on_ok c.insert.result _ (c.insert.ensures.succeeds room) c.insert.ensures.updates in
+    subst (λ u. IsKept u c.insert.new.self) (sym done.0)
+    (kept_put c.entries.inside.tree c.entries.inside.made c.entries.invariant c.args.entries.now c.entries.view_is (names c.args.path.now) c.find.result.above c.find.ensures.above c.in-Some.folder c.in-Some.is c.requires.free c.requires.folder c.in_ok-name.name c.args.node
+    (c.in_ok-name.ensures.items ∙ c.file_name_bytes.ensures ∙ last_name_is c.args.path.now.bytes (parent_of (names c.args.path.now)) (cut_here c.entries.inside.tree c.entries.inside.made c.entries.invariant c.args.entries.now c.entries.view_is (names c.args.path.now) c.find.result.above c.find.ensures.above c.in-Some.folder c.in-Some.is c.requires.free c.requires.folder).0 (cut_here c.entries.inside.tree c.entries.inside.made c.entries.invariant c.args.entries.now c.entries.view_is (names c.args.path.now) c.find.result.above c.find.ensures.above c.in-Some.folder c.in-Some.is c.requires.free c.requires.folder).1)
+    (subst IsSegment (sym (c.in_ok-name.ensures.items ∙ c.file_name_bytes.ensures ∙ last_name_is c.args.path.now.bytes (parent_of (names c.args.path.now)) (cut_here c.entries.inside.tree c.entries.inside.made c.entries.invariant c.args.entries.now c.entries.view_is (names c.args.path.now) c.find.result.above c.find.ensures.above c.in-Some.folder c.in-Some.is c.requires.free c.requires.folder).0 (cut_here c.entries.inside.tree c.entries.inside.made c.entries.invariant c.args.entries.now c.entries.view_is (names c.args.path.now) c.find.result.above c.find.ensures.above c.in-Some.folder c.in-Some.is c.requires.free c.requires.folder).1)) (last_is_segment c.args.path.now.bytes (parent_of (names c.args.path.now)) (cut_here c.entries.inside.tree c.entries.inside.made c.entries.invariant c.args.entries.now c.entries.view_is (names c.args.path.now) c.find.result.above c.find.ensures.above c.in-Some.folder c.in-Some.is c.requires.free c.requires.folder).0 (cut_here c.entries.inside.tree c.entries.inside.made c.entries.invariant c.args.entries.now c.entries.view_is (names c.args.path.now) c.find.result.above c.find.ensures.above c.in-Some.folder c.in-Some.is c.requires.free c.requires.folder).1))
+    c.insert.new.self
+    (ap (get nat_eq c.entries.inside.made) (sym c.creation_number-made.ensures) ∙ not_some (get nat_eq c.entries.inside.made c.creation_number-made.result) c.contains_key.result c.contains_key.ensures c.if-contains_key.false)
+    (λ n. updates.0 n ∙ (λ i. cond (nat_eq (c.creation_number-made.ensures i) n) (Some (done.1 i)) (c.reserve.ensures.entries.2 n i))))
+
+pub returns-clause-ok : goal.returns-clause-ok
+returns-clause-ok c =
+    let done = answered_new _ _ _ c.in-Ok.id _ c.entries.inside.tree c.add_child.new.self (Ok c.in-Ok.id) refl c.in-Ok.ensures in
+    ap (λ u. placed (bare u)) done.0
+    ∙ view_put c.entries.inside.tree c.entries.inside.made c.entries.invariant c.args.entries.now c.entries.view_is (names c.args.path.now) c.find.result.above c.find.ensures.above c.in-Some.folder c.in-Some.is c.requires.free c.requires.folder c.in_ok-name.name c.args.node
+    (c.in_ok-name.ensures.items ∙ c.file_name_bytes.ensures ∙ last_name_is c.args.path.now.bytes (parent_of (names c.args.path.now)) (cut_here c.entries.inside.tree c.entries.inside.made c.entries.invariant c.args.entries.now c.entries.view_is (names c.args.path.now) c.find.result.above c.find.ensures.above c.in-Some.folder c.in-Some.is c.requires.free c.requires.folder).0 (cut_here c.entries.inside.tree c.entries.inside.made c.entries.invariant c.args.entries.now c.entries.view_is (names c.args.path.now) c.find.result.above c.find.ensures.above c.in-Some.folder c.in-Some.is c.requires.free c.requires.folder).1)
+    (subst IsSegment (sym (c.in_ok-name.ensures.items ∙ c.file_name_bytes.ensures ∙ last_name_is c.args.path.now.bytes (parent_of (names c.args.path.now)) (cut_here c.entries.inside.tree c.entries.inside.made c.entries.invariant c.args.entries.now c.entries.view_is (names c.args.path.now) c.find.result.above c.find.ensures.above c.in-Some.folder c.in-Some.is c.requires.free c.requires.folder).0 (cut_here c.entries.inside.tree c.entries.inside.made c.entries.invariant c.args.entries.now c.entries.view_is (names c.args.path.now) c.find.result.above c.find.ensures.above c.in-Some.folder c.in-Some.is c.requires.free c.requires.folder).1)) (last_is_segment c.args.path.now.bytes (parent_of (names c.args.path.now)) (cut_here c.entries.inside.tree c.entries.inside.made c.entries.invariant c.args.entries.now c.entries.view_is (names c.args.path.now) c.find.result.above c.find.ensures.above c.in-Some.folder c.in-Some.is c.requires.free c.requires.folder).0 (cut_here c.entries.inside.tree c.entries.inside.made c.entries.invariant c.args.entries.now c.entries.view_is (names c.args.path.now) c.find.result.above c.find.ensures.above c.in-Some.folder c.in-Some.is c.requires.free c.requires.folder).1))

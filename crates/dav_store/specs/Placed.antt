@@ -1,0 +1,89 @@
+-- The paths and nodes that a tree stands for, whose keys are names.
+use Rattle.std.specs.Prelude.{◌≡◌, ◌≢◌, ℕ, ◌+◌, ◌==◌, nat_eq, Bool, true, false, if◌then◌else◌, List, [], ◌∷◌, map, reverse, Option, None, Some, Vec}
+use Rattle.std.specs.Option.{option_and_then, option_map, option_map_or, IsSome}
+use Rattle.std.specs.Ordering.{nat_cmp, eq_by_cmp}
+use Rattle.std.specs.Cmp.Lexicographic.{pointwise}
+use Rattle.std.specs.List.{IsDistinct}
+use Rattle.std.specs.Map.{lookup, keys_of}
+use Rattle.std.specs.FinMap.{put}
+use Rattle.dav_core.specs.Path.{Path, path_cmp, IsSegment}
+use Rattle.dav_core.specs.World.{Node as Seen, Nodes, is_folder_node}
+use Rattle.dav_store.specs.Tree.{Tree, Node, node, value_of, parent_of, children_of, child, root_id, NoneAbove}
+use Rattle.dav_store.specs.Walks.{reach, walk, climb}
+
+abbrev pub is_same_name : List ℕ → List ℕ → Bool
+is_same_name = pointwise nat_eq
+
+-- children, a node and a tree, with the bytes of each key in its place
+abbrev pub bare_children : {Z : Type 0} → List (Vec ℕ Z × ℕ) → List (List ℕ × ℕ)
+bare_children es = map (λ e. (e.0.items, e.1)) es
+
+module _ {Z D : Type 0} where
+  abbrev pub bare_node : Node (Vec ℕ Z) D → Node (List ℕ) D
+  bare_node x = record { parent = x.parent; value = x.value; children = bare_children x.children }
+
+  abbrev pub bare : Tree (Vec ℕ Z) D → Tree (List ℕ) D
+  bare t = record { nodes = map (λ e. (e.0, bare_node e.1)) t.nodes; last = t.last }
+
+-- the first of these children that is found by its name and has this number
+abbrev pub name_among : List (List ℕ × ℕ) → List (List ℕ × ℕ) → ℕ → Option (List ℕ)
+name_among all [] m = None
+name_among all (e ∷ es) m =
+    if option_map_or (λ n. n == m) (lookup (is_same_name e.0) all) false then Some e.0
+    else name_among all es m
+
+module _ {D : Type 0} where
+  -- the number of the child of a node under a name
+  abbrev pub named : Tree (List ℕ) D → ℕ → List ℕ → Option ℕ
+  named t n k = child is_same_name t n k
+
+  -- the parent of a node of this number, and its name there
+  abbrev pub seat_of : Tree (List ℕ) D → ℕ → Node (List ℕ) D → Option (Option (ℕ × List ℕ))
+  seat_of t m x =
+      option_map (λ k. Some (x.parent, k))
+      (name_among (children_of t x.parent) (children_of t x.parent) m)
+
+  -- the same of a number: `Some None` for the root, and `None` where there is no node
+  abbrev pub seat : Tree (List ℕ) D → ℕ → Option (Option (ℕ × List ℕ))
+  seat t m = if m == root_id then Some None else option_and_then (seat_of t m) (node t m)
+
+  -- the values of these nodes by their paths, in order of the paths
+  abbrev pub by_path : Tree (List ℕ) D → List (ℕ × Node (List ℕ) D) → List (Path × D)
+  by_path t [] = []
+  by_path t (e ∷ es) =
+      option_map_or (λ r. put path_cmp (reverse r) e.1.value (by_path t es))
+      (climb (seat t) (t.last + 1) e.0) (by_path t es)
+
+  abbrev pub placed : Tree (List ℕ) D → List (Path × D)
+  placed t = by_path t t.nodes
+
+  -- the node that a path leads to, and its value
+  abbrev pub found : Tree (List ℕ) D → Path → Option ℕ
+  found t q = walk (named t) root_id q
+
+  abbrev pub stands : Tree (List ℕ) D → Path → Option D
+  stands t q = option_and_then (value_of t) (found t q)
+
+-- A child: it isn't the root, it is there and knows its parent, its name is a segment, and its parent is a folder.
+pub record IsChild (t : Tree (List ℕ) Seen) (n : ℕ) (k : List ℕ) (m : ℕ) : Type 0 where
+  pub not_root : m ≢ root_id
+  pub there : IsSome (value_of t m)
+  pub parent : parent_of t m ≡ n
+  pub name : IsSegment k
+  pub folder : is_folder_node (value_of t n) ≡ true
+
+-- What holds of a tree whose keys are names: no number and no name of a node's child comes twice, no child has two
+-- names, and each node is at a path.
+pub record IsGrown (t : Tree (List ℕ) Seen) : Type 0 where
+  pub above : NoneAbove t
+  pub numbers : IsDistinct (eq_by_cmp nat_cmp) (keys_of t.nodes)
+  pub names : (n : ℕ) → IsDistinct is_same_name (keys_of (children_of t n))
+  pub root : IsSome (value_of t root_id)
+  pub children : (n : ℕ) (k : List ℕ) (m : ℕ) → named t n k ≡ Some m → IsChild t n k m
+  pub once : (n : ℕ) (k l : List ℕ) (m : ℕ) → named t n k ≡ Some m → named t n l ≡ Some m → k ≡ l
+  pub reached : (m : ℕ) → IsSome (value_of t m) → (q : Path) × (found t q ≡ Some m)
+
+-- A map from the numbers with which nodes were made to their numbers in the tree: it has each node, and nothing else.
+pub record IsMadeMap (made : ℕ → Option ℕ) (t : Tree (List ℕ) Seen) : Type 0 where
+  pub each : (m : ℕ) (v : Seen) → value_of t m ≡ Some v → made v.made ≡ Some m
+  pub only : (n m : ℕ) → made n ≡ Some m → (v : Seen) × (value_of t m ≡ Some v) × (v.made ≡ n)
