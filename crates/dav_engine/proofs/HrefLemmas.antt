@@ -92,7 +92,8 @@ record Front (prefix : List ℕ) : Type 0 where
 one_less : (xs : List ℕ) → length (xs ++ 47 ∷ []) - 1 ≡ length xs
 one_less xs = let more = length_push xs 47 in omega (arith, more)
 
-bare : (ns : Path) (c : Bool) → All IsName ns → without_slash (path_bytes ns c) ≡ joined ns
+-- without the slash at its end, a path is its names
+pub bare : (ns : Path) (c : Bool) → All IsName ns → without_slash (path_bytes ns c) ≡ joined ns
 bare [] c all = refl
 bare (n ∷ ns) false all =
     ap without_slash (append-nil (joined (n ∷ ns))) ∙ (rw (open_names [] n ns all) refl)
