@@ -3,6 +3,7 @@ pub mod RefusalLemmas
 pub mod HeaderLemmas
 pub mod NamingLemmas
 pub mod TargetLemmas
+pub mod PathLemmas
 pub mod RunLemmas
 pub mod SomePlan
 pub mod RunLaws
