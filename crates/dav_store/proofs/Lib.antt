@@ -18,3 +18,4 @@ pub mod RunLemmas
 pub mod HomeLemmas
 pub mod FoundLemmas
 pub mod MoveLemmas
+pub mod IndexLemmas

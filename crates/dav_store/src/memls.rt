@@ -8,6 +8,7 @@ ghost use Rattle.dav_core.specs.LockRefusals.{IsRefusedRefresh};
 ghost use Rattle.dav_core.specs.Numbers.{max_u64};
 ghost use Rattle.dav_store.specs.LockCalls.{requester_in, IsNamedPlace};
 
+mod index;
 #[cfg(test)]
 mod tests;
 
