@@ -19,3 +19,4 @@ pub mod HomeLemmas
 pub mod FoundLemmas
 pub mod MoveLemmas
 pub mod IndexLemmas
+pub mod IndexSound

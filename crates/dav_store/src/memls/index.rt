@@ -176,6 +176,7 @@ impl Counts {
 }
 
 /// Whether a lock may matter to a path: it may cover it or, where `deep`, be on it or below it. Without an index any may.
+#[tactic(auto, using(crate::proofs::IndexSound::none_matters))]
 pub fn may_matter(index: &Option<Counts>, path: &DavPath, deep: bool) -> bool
     ensures { (ls : List Lock) → HasCounts index.now (λ k. tally k ls) → result ≡ false
         → list_any (matters deep (names path.now)) ls ≡ false }
