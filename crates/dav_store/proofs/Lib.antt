@@ -20,3 +20,4 @@ pub mod FoundLemmas
 pub mod MoveLemmas
 pub mod IndexLemmas
 pub mod IndexSound
+pub mod IndexCalls
