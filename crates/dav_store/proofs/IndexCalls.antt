@@ -1,13 +1,13 @@
 -- What the calls of a list of locks do to its index, and answer where no lock matters.
-use Rattle.std.proofs.Common.{◌≡◌, ℕ, ◌+◌, ◌-◌, ◌<◌, ◌&&◌, ◌||◌, not, Bool, true, false, cond, List, [], ◌∷◌, ◌++◌, length, get_or, set, Option, Some, None, refl, sym, ap, subst, ◌∙◌, arith}
-use Rattle.std.specs.List.{list_any, list_all, filter, flat_map, remove}
-use Rattle.std.proofs.lemmas.List.Sums.{sum_by-cons, sum_by-append, sum_by-remove, sum_by-set}
+use Rattle.std.proofs.Common.{◌≡◌, ℕ, ◌+◌, ◌-◌, ◌&&◌, ◌||◌, not, Bool, true, false, cond, List, [], ◌∷◌, ◌++◌, Option, Some, None, refl, ap, ◌∙◌, arith}
+use Rattle.std.specs.List.{list_any, list_all, filter, flat_map}
+use Rattle.std.proofs.lemmas.List.Sums.{sum_by-cons}
 use Rattle.dav_core.specs.Lists.{is_empty}
 use Rattle.dav_core.specs.Path.{Path, names, fronts, is_same_path, is_under, is_at_or_under, rest_after, has_names}
 use Rattle.std.specs.Option.{is_some}
-use Rattle.dav_core.specs.Locks.{Lock, Requester, covers, covering, is_held, is_free, is_free_for, discovered, deleted, refreshed_lock}
+use Rattle.dav_core.specs.Locks.{Lock, Requester, covers, covering, is_held, is_free, is_free_for, discovered, deleted}
 use Rattle.dav_store.specs.declared.memls.index.Counts.{Counts}
-use Rattle.dav_store.specs.LockIndex.{count_of, path_keys, times, tally, HasCounts, IsIndexOf, matters}
+use Rattle.dav_store.specs.LockIndex.{path_keys, times, tally, HasCounts, IsIndexOf, matters}
 
 -- the keys of a lock, counted
 abbrev keys_at : ℕ → Lock → ℕ
@@ -18,38 +18,6 @@ keys_at k l = times k (path_keys l.deep (names l.path))
 pub counts_along : (index : Option Counts) (f g : ℕ → ℕ) → HasCounts index f → ((k : ℕ) → f k ≡ g k) → HasCounts index g
 counts_along None f g h same = tt
 counts_along (Some c) f g h same = λ k. h k ∙ same k
-
--- a lock after the others
-pub index_pushed : (index : Option Counts) (ls new : List Lock) (l : Lock) → HasCounts index (λ k. tally k ls + keys_at k l) → new ≡ ls ++ l ∷ [] → IsIndexOf index new
-index_pushed index ls new l h is =
-    counts_along index (λ k. tally k ls + keys_at k l) (λ k. tally k new) h
-    (λ k.
-        let a = sum_by-append (keys_at k) ls (l ∷ []) in
-        let b = sum_by-cons (keys_at k) l [] in
-        let c : tally k new ≡ tally k (ls ++ l ∷ []) = ap (tally k) is in
-        omega (arith, a, b, c))
-
--- a lock is in the list at its place
-pub taken_out : (ls new : List Lock) (i : ℕ) (l : Lock) → i < length ls → l ≡ get_or ls i l → new ≡ remove ls i → (k : ℕ) → tally k ls ≡ tally k new + keys_at k l
-taken_out ls new i l small at is k =
-    let a = sum_by-remove (keys_at k) ls i l small in
-    let b : tally k new ≡ tally k (remove ls i) = ap (tally k) is in
-    let c : keys_at k l ≡ keys_at k (get_or ls i l) = ap (keys_at k) at in
-    omega (arith, a, b, c)
-
--- a lock is taken out
-pub index_taken : (index : Option Counts) (ls new : List Lock) (l : Lock) → HasCounts index (λ k. tally k ls - keys_at k l) → ((k : ℕ) → tally k ls ≡ tally k new + keys_at k l) → IsIndexOf index new
-index_taken index ls new l h is = counts_along index (λ k. tally k ls - keys_at k l) (λ k. tally k new) h (λ k. let a = is k in omega (arith, a))
-
--- a lock gets a new timeout
-pub timeout_kept : (ls new : List Lock) (i : ℕ) (l : Lock) (timeout : Option ℕ) (now : ℕ) → i < length ls → new ≡ set ls i (refreshed_lock timeout now (get_or ls i l)) → (k : ℕ) → tally k new ≡ tally k ls
-timeout_kept ls new i l timeout now small is k =
-    let a = sum_by-set (keys_at k) ls i (refreshed_lock timeout now (get_or ls i l)) l small in
-    let b : tally k new ≡ tally k (set ls i (refreshed_lock timeout now (get_or ls i l))) = ap (tally k) is in
-    omega (arith, a, b)
-
-pub index_kept : (index : Option Counts) (ls new : List Lock) → IsIndexOf index ls → ((k : ℕ) → tally k new ≡ tally k ls) → IsIndexOf index new
-index_kept index ls new h same = counts_along index (λ k. tally k ls) (λ k. tally k new) h (λ k. sym (same k))
 
 module _ (test : Lock → Bool) (k : ℕ) where
   parted_by : (l : Lock) (ms ns : List Lock) (b : Bool) → tally k (cond b (l ∷ ms) ms) + tally k (cond (not b) (l ∷ ns) ns) ≡ keys_at k l + (tally k ms + tally k ns)
@@ -70,9 +38,9 @@ pub index_cut : (index : Option Counts) (p : Path) (ls new : List Lock) → HasC
 index_cut index p ls new h is =
     counts_along index (λ k. tally k ls - tally k (filter (λ l. is_at_or_under (names l.path) p) ls)) (λ k. tally k new) h
     (λ k.
-        let a = parted (λ l. is_at_or_under (names l.path) p) k ls in
-        let b : tally k new ≡ tally k (deleted p ls) = ap (tally k) is in
-        omega (arith, a, b))
+    let a = parted (λ l. is_at_or_under (names l.path) p) k ls in
+    let b : tally k new ≡ tally k (deleted p ls) = ap (tally k) is in
+    omega (arith, a, b))
 
 -- ---- answers, where no lock matters
 
@@ -152,7 +120,7 @@ pub none_refuses : (deep shared : Bool) (p : Path) (ls : List Lock) → list_any
     → (list_any (λ l. covers l p && not (l.shared && shared)) ls || (deep && list_any (λ l. is_under (names l.path) p) ls)) ≡ false
 none_refuses deep shared p ls h =
     let excluding : list_any (λ l. covers l p && not (l.shared && shared)) ls ≡ false =
-        none_weaker (matters deep p) (λ l. covers l p && not (l.shared && shared)) (λ l k. ap (λ b. b && not (l.shared && shared)) (uncovered deep p l k)) ls h in
+    none_weaker (matters deep p) (λ l. covers l p && not (l.shared && shared)) (λ l k. ap (λ b. b && not (l.shared && shared)) (uncovered deep p l k)) ls h in
     ap (λ b. b || (deep && list_any (λ l. is_under (names l.path) p) ls)) excluding ∙ by_deep deep h
   where
     by_deep : (d : Bool) → list_any (matters d p) ls ≡ false → (d && list_any (λ l. is_under (names l.path) p) ls) ≡ false
@@ -172,8 +140,8 @@ pub none_discovered : (asked : Bool) (p : Path) (ls : List Lock) → list_any (m
 none_discovered asked p ls h =
     none_collected (λ q. filter (λ l. is_same_path (names l.path) q && covers l p) ls)
     (λ q.
-        none_filtered (λ l. is_same_path (names l.path) q && covers l p) ls
-        (none_weaker (matters asked p) (λ l. is_same_path (names l.path) q && covers l p) (λ l k. both_false (is_same_path (names l.path) q) (covers l p) (uncovered asked p l k)) ls h))
+    none_filtered (λ l. is_same_path (names l.path) q && covers l p) ls
+    (none_weaker (matters asked p) (λ l. is_same_path (names l.path) q && covers l p) (λ l k. both_false (is_same_path (names l.path) q) (covers l p) (uncovered asked p l k)) ls h))
     (fronts p)
 
 -- none ends

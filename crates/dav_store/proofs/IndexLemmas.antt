@@ -1,10 +1,8 @@
 -- Counts of keys, as locks come and go.
-use Rattle.std.proofs.Common.{◌≡◌, ℕ, ◌+◌, ◌-◌, ◌≤◌, ◌==◌, ◌&&◌, ◌||◌, not, Bool, true, false, cond, List, [], ◌∷◌, ◌++◌, refl, sym, ap, subst, ◌∙◌, arith}
-use Rattle.std.specs.List.{filter}
-use Rattle.std.proofs.lemmas.List.Sums.{sum_by-cons, sum_by-append, sum_by-remove}
-use Rattle.dav_core.specs.Path.{Path, names}
-use Rattle.dav_core.specs.Locks.{Lock}
-use Rattle.dav_store.specs.LockIndex.{below_key, at_key, deep_key, with_name, keys_from, path_keys, times, one_at, tally}
+use Rattle.std.proofs.Common.{◌≡◌, ℕ, ◌+◌, ◌-◌, ◌==◌, Bool, true, false, cond, List, [], ◌∷◌, ap, ◌∙◌, arith}
+use Rattle.std.proofs.lemmas.List.Sums.{sum_by-cons}
+use Rattle.dav_core.specs.Path.{Path}
+use Rattle.dav_store.specs.LockIndex.{below_key, at_key, deep_key, with_name, keys_from, times, one_at}
 
 pub times_more : (k x : ℕ) (keys : List ℕ) → times k (x ∷ keys) ≡ one_at x k + times k keys
 times_more k x keys = sum_by-cons (λ y. cond (y == k) 1 0) x keys

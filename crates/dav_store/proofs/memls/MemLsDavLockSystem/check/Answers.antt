@@ -10,4 +10,4 @@ pub returns-then-not-may_matter : goal.returns-then-not-may_matter
 returns-then-not-may_matter c =
     let indexed = subst (λ (ls : List Lock). IsIndexOf c.self.inside.index ls) c.self.view_is c.self.invariant in
     free (free_where_none c.args.deep (requester_of (map string_bytes c.args.tokens.now) c.args.ignore_principal (option_copied c.args.principal)) (names c.args.path.now) c.args.self.now
-      (c.may_matter.ensures c.args.self.now indexed c.if-not-may_matter.true))
+    (c.may_matter.ensures c.args.self.now indexed c.if-not-may_matter.true))
