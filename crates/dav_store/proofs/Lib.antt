@@ -18,3 +18,6 @@ pub mod RunLemmas
 pub mod HomeLemmas
 pub mod FoundLemmas
 pub mod MoveLemmas
+pub mod IndexLemmas
+pub mod IndexSound
+pub mod IndexCalls

@@ -9,3 +9,4 @@ pub mod TreeLaws
 pub mod TreeLends
 pub mod Entries
 pub mod Sought
+pub mod LockIndex
