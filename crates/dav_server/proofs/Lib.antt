@@ -44,3 +44,4 @@ pub mod NeededFolders
 pub mod NeededTokens
 pub mod NeededForHeadline
 pub mod NeededGrants
+pub mod NeededGuards
