@@ -45,3 +45,4 @@ pub mod NeededTokens
 pub mod NeededForHeadline
 pub mod NeededGrants
 pub mod NeededGuards
+pub mod WrongSteps
