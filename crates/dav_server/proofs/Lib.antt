@@ -46,3 +46,4 @@ pub mod NeededForHeadline
 pub mod NeededGrants
 pub mod NeededGuards
 pub mod WrongSteps
+pub mod NeededBeginning
