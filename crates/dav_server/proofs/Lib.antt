@@ -45,3 +45,6 @@ pub mod NeededFolders
 pub mod NeededTokens
 pub mod NeededForHeadline
 pub mod NeededGrants
+pub mod NeededGuards
+pub mod WrongSteps
+pub mod NeededBeginning
