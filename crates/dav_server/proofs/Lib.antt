@@ -48,3 +48,4 @@ pub mod NeededGrants
 pub mod NeededGuards
 pub mod WrongSteps
 pub mod NeededBeginning
+pub mod NeededMoments
