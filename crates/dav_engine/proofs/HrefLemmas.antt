@@ -17,8 +17,7 @@ use Rattle.dav_core.specs.Path.{Path, PathText, IsName, joined, path_bytes, star
 use Rattle.dav_core.specs.Target.{Reads}
 use Rattle.dav_core.specs.UrlText.{path_text, url_text}
 use Rattle.dav_core.specs.World.{World, IsWorld}
-use Rattle.dav_core.proofs.Theorems.{Leaves-names, Reads-bytes, names_kept, rest_after-append}
-use Rattle.dav_core.proofs.UrlLemmas.{names_again}
+use Rattle.dav_core.proofs.Theorems.{Leaves-names, Reads-bytes, names_kept, rest_after-append, names_again}
 use Rattle.dav_engine.specs.declared.reply.ReplyBody.TheVariants as reply
 use Rattle.dav_engine.specs.declared.request.Body.{Body}
 use Rattle.dav_engine.specs.AnswerParts.{children_named}

@@ -13,7 +13,7 @@ use Rattle.std.specs.Ordering.{is_gt, is_le, is_lt}
 use Rattle.dav_core.specs.Lists.{without_first}
 use Rattle.dav_core.specs.Path.{Path, path_cmp, is_at_or_under, rest_after, only_name}
 use Rattle.dav_core.specs.World.{Node, Nodes, change_node, members, is_folder_kind, is_file_made_with, file_made_with}
-use Rattle.dav_core.proofs.NodesAfter.{both_true, left_true, right_true}
+use Rattle.dav_core.proofs.Theorems.{both_true, left_true, right_true}
 use Rattle.dav_store.specs.Entries.{all_in, AreFilled, starts_below, IsHome, IsFoundAt}
 use Rattle.dav_store.proofs.Place.{IsFirst, NonePasses, is_first, none_passes, first_of, first_none}
 use Rattle.dav_store.proofs.SearchLemmas.{less_is, position_is, position_none}

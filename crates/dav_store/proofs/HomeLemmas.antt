@@ -12,8 +12,7 @@ use Rattle.std.specs.declared.cmp.Ordering.TheVariants.{Less, Equal, Greater}
 use Rattle.std.specs.Ordering.{is_eq, is_lt, ordering_reverse}
 use Rattle.dav_core.specs.Path.{Path, path_cmp, is_same_path}
 use Rattle.dav_core.specs.World.{Node, Nodes, change_node, adjust}
-use Rattle.dav_core.proofs.NodesLemmas.{path_total}
-use Rattle.dav_core.proofs.NodesAfter.{both_true, left_true, right_true}
+use Rattle.dav_core.proofs.Theorems.{path_total, both_true, left_true, right_true}
 use Rattle.dav_store.specs.Entries.{all_in, AreFilled, starts_by, IsHome}
 use Rattle.dav_store.proofs.SearchLemmas.{less_is}
 use Rattle.dav_store.proofs.PropertyLemmas.{same_node}

@@ -5,8 +5,7 @@ use Rattle.std.specs.Option.{is_some}
 use Rattle.std.proofs.lemmas.List.Sums.{sum_by-cons}
 use Rattle.dav_core.specs.Path.{Path, names, rest_after, is_at_or_under}
 use Rattle.dav_core.specs.Locks.{Lock, covers}
-use Rattle.dav_core.proofs.FrontLemmas.{from_rest}
-use Rattle.dav_core.proofs.SharedLemmas.{CoveringWay, covering_way}
+use Rattle.dav_core.proofs.Theorems.{from_rest, CoveringWay, covering_way}
 use Rattle.dav_store.specs.LockIndex.{root_number, below_key, at_key, deep_key, with_name, keys_from, path_keys, times, one_at, tally, matters, may_from, may_matter}
 use Rattle.dav_store.proofs.IndexLemmas.{times_more}
 

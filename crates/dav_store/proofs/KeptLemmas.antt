@@ -7,9 +7,7 @@ use Rattle.std.specs.FinMap.Entries.{by_order}
 use Rattle.std.specs.declared.cmp.Ordering.TheVariants.{Less, Equal, Greater}
 use Rattle.dav_core.specs.Path.{Path, path_cmp, rest_after, is_at_or_under}
 use Rattle.dav_core.specs.World.{Node, Nodes, change_node, prune, graft, union, moved, is_folder_kind}
-use Rattle.dav_core.proofs.NodesLemmas.{sorted-change, sorted-put_node}
-use Rattle.dav_core.proofs.NodesAfter.{sorted-prune, sorted-moved}
-use Rattle.dav_core.proofs.MadeLemmas.{passed}
+use Rattle.dav_core.proofs.Theorems.{sorted-change, sorted-put_node, sorted-prune, sorted-moved, passed}
 use Rattle.dav_store.specs.Entries.{DifferInMaking, AreMadeOnce, IsKept, all_in, IsFoundAt}
 use Rattle.dav_store.proofs.Place.{IsFirst}
 use Rattle.dav_store.proofs.SearchLemmas.{position_is}

@@ -15,8 +15,7 @@ use Rattle.std.specs.Cmp.Lexicographic.{nat_list_cmp_total}
 use Rattle.dav_core.specs.Lists.{without_first}
 use Rattle.dav_core.specs.Path.{Path, path_cmp, is_at_or_under, rest_after}
 use Rattle.dav_core.specs.World.{Node, Nodes, prune, graft, union}
-use Rattle.dav_core.proofs.NodesLemmas.{path_total, path_exact}
-use Rattle.dav_core.proofs.NodesAfter.{both_true, left_true, right_true}
+use Rattle.dav_core.proofs.Theorems.{path_total, path_exact, both_true, left_true, right_true}
 use Rattle.dav_store.specs.Entries.{all_in, AreFilled, AreCutAt, IsHome, starts_by}
 use Rattle.dav_store.proofs.Place.{IsFirst, NonePasses, is_first, none_passes}
 use Rattle.dav_store.proofs.SearchLemmas.{less_is}

@@ -8,7 +8,7 @@ use Rattle.std.specs.Ordering.{is_eq, is_le, is_gt, ordering_reverse, ordering_t
 use Rattle.std.specs.Cmp.Lexicographic.{nat_list_cmp_total}
 use Rattle.dav_core.specs.Path.{Path, path_cmp, name_cmp, is_at_or_under, rest_after, only_name}
 use Rattle.dav_core.specs.World.{Node, Nodes, members, is_folder_kind}
-use Rattle.dav_core.proofs.NodesLemmas.{path_total}
+use Rattle.dav_core.proofs.Theorems.{path_total}
 
 -- what is before a path isn't below it
 pub before_not_under : (p x : Path) → is_gt (path_cmp p x) ≡ true → is_at_or_under x p ≡ false

@@ -9,7 +9,7 @@ use Rattle.std.specs.declared.cmp.Ordering.{Ordering}
 use Rattle.std.specs.declared.cmp.Ordering.TheVariants.{Less, Equal, Greater}
 use Rattle.std.specs.Ordering.{is_eq, is_le, is_lt, is_gt, ordering_reverse}
 use Rattle.std.specs.Cmp.{IsTotalOrder}
-use Rattle.dav_core.proofs.NodesAfter.{left_true, right_true}
+use Rattle.dav_core.proofs.Theorems.{left_true, right_true}
 use Rattle.dav_store.proofs.Place.{IsFirst, NonePasses, first_at, is_first, none_passes}
 
 -- the first place that passes is what `position` returns

@@ -1,7 +1,7 @@
 use Rattle.std.proofs.Common.{◌≡◌, true, false, sym, ap, ◌∙◌, get_or, ◌++◌, ◌∷◌, []}
 use Rattle.std.specs.Ordering.{is_eq}
 use Rattle.dav_core.specs.Path.{path_cmp}
-use Rattle.dav_core.proofs.NodesLemmas.{path_total}
+use Rattle.dav_core.proofs.Theorems.{path_total}
 use Rattle.dav_store.proofs.SearchLemmas.{one_there, none_there, none_at_all}
 use Rattle.dav_store.proofs.listed.member_place.Goals as goal
 

@@ -3,7 +3,7 @@ use Rattle.std.proofs.lemmas.Grind.{common_steps}
 use Rattle.std.proofs.lemmas.List.Sorted.{IsPartitionPoint-from_clause}
 use Rattle.std.specs.Ordering.{is_gt}
 use Rattle.dav_core.specs.Path.{names, path_cmp}
-use Rattle.dav_core.proofs.NodesLemmas.{path_total}
+use Rattle.dav_core.proofs.Theorems.{path_total}
 use Rattle.dav_store.proofs.SearchLemmas.{before_parts, found_from, missing_from}
 use Rattle.dav_store.proofs.listed.place_from.Goals as goal
 

@@ -5,7 +5,7 @@ use Rattle.std.specs.List.{AllByRecursion}
 use Rattle.std.specs.FinMap.{is_sorted}
 use Rattle.dav_core.specs.Path.{names, path_cmp, is_at_or_under}
 use Rattle.dav_core.specs.World.{Nodes, graft, prune, union}
-use Rattle.dav_core.proofs.NodesAfter.{sorted-prune, sorted-graft}
+use Rattle.dav_core.proofs.Theorems.{sorted-prune, sorted-graft}
 use Rattle.dav_store.specs.Entries.{all_in}
 use Rattle.dav_store.proofs.FoundLemmas.{Fails}
 use Rattle.dav_store.proofs.MoveLemmas.{graft_alike, grafted_below, pruned_fails, no_items_by}
