@@ -1,5 +1,5 @@
 -- What a DELETE leaves.
-use Rattle.std.proofs.Common.{◌≡◌, ◌≢◌, ℕ, ◌≤◌, ◌&&◌, arith, if◌then◌else◌, Bool, true, false, List, [], ◌∷◌, Option, Some, None, Result, Ok, Err, refl, sym, ap, subst, ◌∙◌, map}
+use Rattle.std.proofs.Common.{◌≡◌, ◌≢◌, ℕ, ◌≤◌, ◌&&◌, arith, if◌then◌else◌, Bool, true, false, List, [], ◌∷◌, All, Option, Some, None, Result, Ok, Err, refl, sym, ap, subst, ◌∙◌, map}
 use Rattle.std.specs.Prelude.{⊤}
 use Rattle.std.specs.Option.{option_map}
 use Rattle.std.proofs.lemmas.List.Elements.{All-head}
@@ -20,12 +20,14 @@ use Rattle.dav_engine.specs.Folder.{closed}
 use Rattle.dav_engine.specs.Method.{then as followed_by, ◌>>=◌, refused_as, ask_for, set_by}
 use Rattle.dav_engine.specs.Multistatus.{PathStatus, multi_reply, one_reply, status_reply, multistatus_reply}
 use Rattle.dav_engine.specs.Plan.{Plan, Done, Look, Keep, Locks, kept, Ran, ran_look, ran_keep}
-use Rattle.dav_engine.specs.Removal.{Fault, report_of, removal}
+use Rattle.dav_core.proofs.Theorems.{found}
+use Rattle.dav_engine.specs.Removal.{Fault, report_of, fault_path, removal}
 use Rattle.dav_engine.specs.Response.{Response}
 use Rattle.dav_engine.specs.RemovalLaws.{timeless, timeless_at, LeavesSurvivors, IsErrorReport, AreErrorReports, NoContentMeansGone, locks_after, DeleteLeaves, DeletesLeaveSurvivors, RefusedDeleteLeavesAll}
 use Rattle.dav_engine.proofs.CallWorlds.{did, did_leave}
 use Rattle.dav_engine.proofs.ChildLemmas.{names_closed, closed_is_path}
 use Rattle.dav_engine.proofs.DeleteWorld.{only_delete_allowed}
+use Rattle.dav_engine.proofs.NamedLemmas.{reported_are_there}
 use Rattle.dav_engine.proofs.PutWorld.{look_reads}
 use Rattle.dav_engine.proofs.RemovalReports.{Gives, gives_done, gives_look, gives_keep, never_errs, gave_by, gives_bind, gives_removal}
 use Rattle.dav_engine.proofs.RunLemmas.{first, finish, parts, only_list}
@@ -60,6 +62,15 @@ told_dir {p} {old} one =
     let (dir, world) = dir_told old.world p r h in
     (ap (λ (x : DavMetaData). x.dir) (sym is) ∙ dir, after ∙ world)
 
+-- and that something is there
+told_there : {p : Path} {old new : StoreState} {m : DavMetaData} → Asks (Metadata p) old (Ok m) new → node_at old.world p ≢ None
+unfolding meaning
+told_there {p} {old} one none =
+    let (r, h, is, after) = answered one in
+    let (n, stood, told) = found (node_at old.world p) _ r h in
+    let clash = sym none ∙ stood in
+    cc
+
 -- ---- what a removal reports are errors
 
 error_status : (e : FsError) → 400 ≤ fs_status e
@@ -80,9 +91,9 @@ gives_errors deep now p dir = gives_removal (λ status. 400 ≤ status) error_st
 -- ---- a DELETE that a reply ends
 
 found_leaves : (deep : Bool) (c : Conditions) (p : PathText) (who : Client) (m : DavMetaData) {old new : StoreState} {ls ms : Locks} {r : Response}
-    → IsWorld old.world → p.bytes ≢ star → m.dir ≡ is_folder old.world (names p) → Ran Asks (delete_found deep c (closed m.dir p) who m) old ls (Ok r) new ms
+    → IsWorld old.world → p.bytes ≢ star → node_at old.world (names p) ≢ None → m.dir ≡ is_folder old.world (names p) → Ran Asks (delete_found deep c (closed m.dir p) who m) old ls (Ok r) new ms
     → (faults : List Fault) × DeleteLeaves p faults old new ls ms r
-found_leaves deep c p who m {old} {new} {ls} {ms} {r} world other dir ran =
+found_leaves deep c p who m {old} {new} {ls} {ms} {r} world other here dir ran =
     let q : PathText = closed m.dir p in
     let a = parts (delete_allowed c q who m) _ ran in
     let (w1, l1) = reading_leaves (only_reads look_reads (only_delete_allowed c q who m)) a.one in
@@ -93,6 +104,10 @@ found_leaves deep c p who m {old} {new} {ls} {ms} {r} world other dir ran =
     let ends = finish d.more in
     let path : names q ≡ names p = names_closed m.dir p other in
     let told : m.dir ≡ is_folder a.mid.world (names q) = dir ∙ ap (λ (w : World). is_folder w (names p)) (sym w1) ∙ ap (is_folder a.mid.world) (sym path) in
+    let still : node_at a.mid.world (names q) ≢ None = λ none. here (ap (λ (w : World). node_at w (names p)) (sym w1) ∙ ap (node_at a.mid.world) (sym path) ∙ none) in
+    let stays =
+    reported_are_there deep who.moment q a.mid b.mid a.ks b.ks b.value (subst IsWorld (sym w1) world) (closed_is_path m.dir p other) still
+    (subst (λ (d : Bool). Ran Asks (removal deep who.moment q d) a.mid a.ks (Ok b.value) b.mid b.ks) told b.one) in
     let left : LeavesSurvivors (names q) b.value a.mid.world b.mid.world = survivors_by deep who.moment q m.dir (subst IsWorld (sym w1) world) (closed_is_path m.dir p other) told b.one in (
       b.value,
       record {
@@ -101,6 +116,7 @@ found_leaves deep c p who m {old} {new} {ls} {ms} {r} world other dir ran =
             (subst (λ (w : World). LeavesSurvivors (names q) b.value w new.world) w1
             (subst (λ (s : StoreState). LeavesSurvivors (names q) b.value a.mid.world s.world) (sym (ends.1 ∙ drop.same)) left));
         errors = gave_by (gives_errors deep who.moment q m.dir) b.one;
+        there = subst (λ (s : StoreState). All (λ f. node_at s.world (names (fault_path f)) ≢ None) b.value) (sym (ends.1 ∙ drop.same)) stays;
         reply = ends.0 ∙ ap (λ x. delete_reply (closed x p) b.value) dir;
         locks = ends.2 ∙ drop.locks ∙ ap (λ (x : Path). locks_after x b.value b.ks) path ∙ ap (locks_after (names p) b.value) (l2 ∙ l1);
       },
@@ -113,11 +129,13 @@ answer_leaves : (deep : Bool) (h : DeleteHeaders) (p : PathText) (who : Client) 
 answer_leaves deep h p who (Err e) world other one ran = let ends = finish ran in let clash = ends.0 in cc
 answer_leaves deep h p who (Ok m) {old} {mid} {new} {ls} {ms} {r} world other one ran =
     let (dir, same) = told_dir one in
-    let (faults, d) = found_leaves deep h.conditions p who m (subst IsWorld (sym same) world) other (dir ∙ ap (λ (w : World). is_folder w (names p)) (sym same)) ran in (
+    let here : node_at mid.world (names p) ≢ None = λ none. told_there one (ap (λ (w : World). node_at w (names p)) (sym same) ∙ none) in
+    let (faults, d) = found_leaves deep h.conditions p who m (subst IsWorld (sym same) world) other here (dir ∙ ap (λ (w : World). is_folder w (names p)) (sym same)) ran in (
       faults,
       record {
         survivors = subst (λ (w : World). LeavesSurvivors (names p) faults w new.world) same d.survivors;
         errors = d.errors;
+        there = d.there;
         reply = d.reply ∙ ap (λ (w : World). delete_reply (closed (is_folder w (names p)) p) faults) same;
         locks = d.locks;
       },

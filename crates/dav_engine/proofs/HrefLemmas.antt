@@ -17,8 +17,7 @@ use Rattle.dav_core.specs.Path.{Path, PathText, IsName, joined, path_bytes, star
 use Rattle.dav_core.specs.Target.{Reads}
 use Rattle.dav_core.specs.UrlText.{path_text, url_text}
 use Rattle.dav_core.specs.World.{World, IsWorld}
-use Rattle.dav_core.proofs.Theorems.{Leaves-names, Reads-bytes, names_kept, rest_after-append}
-use Rattle.dav_core.proofs.UrlLemmas.{names_again}
+use Rattle.dav_core.proofs.Theorems.{Leaves-names, Reads-bytes, names_kept, rest_after-append, names_again}
 use Rattle.dav_engine.specs.declared.reply.ReplyBody.TheVariants as reply
 use Rattle.dav_engine.specs.declared.request.Body.{Body}
 use Rattle.dav_engine.specs.AnswerParts.{children_named}
@@ -92,7 +91,8 @@ record Front (prefix : List ℕ) : Type 0 where
 one_less : (xs : List ℕ) → length (xs ++ 47 ∷ []) - 1 ≡ length xs
 one_less xs = let more = length_push xs 47 in omega (arith, more)
 
-bare : (ns : Path) (c : Bool) → All IsName ns → without_slash (path_bytes ns c) ≡ joined ns
+-- without the slash at its end, a path is its names
+pub bare : (ns : Path) (c : Bool) → All IsName ns → without_slash (path_bytes ns c) ≡ joined ns
 bare [] c all = refl
 bare (n ∷ ns) false all =
     ap without_slash (append-nil (joined (n ∷ ns))) ∙ (rw (open_names [] n ns all) refl)

@@ -14,7 +14,7 @@ use Rattle.dav_headers.specs.declared.errors.HeaderError.TheVariants.{Invalid}
 use Rattle.dav_headers.specs.Elements.{elements_of}
 use Rattle.dav_headers.specs.Language.{AreLanguages, IsLanguage}
 use Rattle.dav_headers.specs.Value.{ReadsBy}
-use Rattle.dav_headers.proofs.LanguageLemmas.{IsReadable, readable_are_languages, languages_are_readable}
+use Rattle.dav_headers.proofs.Theorems.{IsReadable, readable_are_languages, languages_are_readable}
 use Rattle.dav_core.specs.Path.{is_nonempty}
 use Rattle.dav_engine.specs.LanguageLaws.{AcceptedLanguagesAreRead}
 use Rattle.dav_engine.specs.Proppatch.{are_languages, is_language}

@@ -22,7 +22,7 @@ pub use Rattle.dav_engine.proofs.Following.{follows_done, follows_ask, follows_o
 pub use Rattle.dav_engine.proofs.GrantLemmas.{shared_guards, folders_are_above}
 pub use Rattle.dav_engine.proofs.GuardLemmas.{carried}
 pub use Rattle.dav_engine.proofs.GuardedFolders.{free_for_is}
-pub use Rattle.dav_engine.proofs.HrefLemmas.{properties_lead_back, responses_lead_back}
+pub use Rattle.dav_engine.proofs.HrefLemmas.{properties_lead_back, responses_lead_back, bare}
 pub use Rattle.dav_engine.proofs.ListChangeLemmas.{lists_are_changed, lists_are_changed_cut, changes_keep_shared, changes_bring_tokens, tokens_after_all, changes_join, changes_reading, reading_changes_list, put_changes_list, mkcol_changes_list, delete_changes_list, unlock_changes_list}
 pub use Rattle.dav_engine.proofs.LockChanges.{lock_changes_list}
 pub use Rattle.dav_engine.proofs.LockPlans.{only_asked, only_token, lock_is_proper, lock_keeps_locks}
@@ -35,6 +35,7 @@ pub use Rattle.dav_engine.proofs.NumberLemmas.{spare_numbers_suffice}
 pub use Rattle.dav_engine.proofs.OnePlanLemmas.{one_conditions, one_put_plan, one_mkcol_plan, one_delete_plan, one_unlock_plan, one_lock_plan, one_place, one_copymove_plan, one_propfind_plan, one_proppatch_plan}
 pub use Rattle.dav_engine.proofs.OptionsLemmas.{options_only_reads, options_is_proper, options_goes_along}
 pub use Rattle.dav_engine.proofs.PatchedWorlds.{proppatch_makes_all_or_none, refused_proppatch_leaves_all}
+pub use Rattle.dav_engine.proofs.PlainLemmas.{open_names}
 pub use Rattle.dav_engine.proofs.PlanLemmas.{ran_same, ran_unset, Comes, comes}
 pub use Rattle.dav_engine.proofs.PropertyPlans.{propfind_only_reads, propfind_is_proper, proppatch_is_proper, proppatch_keeps_locks, proppatch_changes_list}
 pub use Rattle.dav_engine.proofs.PutWorld.{only_guarded, only_free, look_reads, only_put_allowed, only_mkcol_allowed, IsLook, looks, only_conditions, put_is_proper, mkcol_is_proper, create_only_leaves_all, creates_only}

@@ -13,8 +13,7 @@ use Rattle.dav_core.specs.Locks.{Lock, Requester, requester_of, covers, is_free_
 use Rattle.dav_core.specs.Path.{Path, PathText, names, IsName, IsCut, at_start, at_slash, at_end}
 use Rattle.dav_core.specs.Target.{Reads}
 use Rattle.dav_core.specs.UrlText.{url_text}
-use Rattle.dav_core.proofs.Theorems.{Reads-one}
-use Rattle.dav_core.proofs.UrlLemmas.{names_again}
+use Rattle.dav_core.proofs.Theorems.{Reads-one, names_again}
 use Rattle.dav_core.specs.Property.{Property, Patch}
 use Rattle.dav_engine.specs.declared.put_headers.Writing.{Writing}
 use Rattle.dav_engine.specs.declared.reply.ReplyBody.TheVariants as body

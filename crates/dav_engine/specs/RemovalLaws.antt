@@ -66,11 +66,12 @@ IsErrorReport f = 400 ≤ (report_of f).1
 abbrev pub AreErrorReports : List Fault → Type 0
 AreErrorReports faults = All IsErrorReport faults
 
--- What a DELETE of p with these faults left: what survives them. The reply reports them as errors, and the locks at p and below
--- it are gone exactly where there is none.
+-- What a DELETE of p with these faults left: what survives them. The reply reports them as errors, something is at each path that it
+-- reports, and the locks at p and below it are gone exactly where there is none.
 pub record DeleteLeaves (p : PathText) (faults : List Fault) (old new : StoreState) (ls ms : Locks) (r : Response) : Type 0 where
   pub survivors : LeavesSurvivors (names p) faults old.world new.world
   pub errors : AreErrorReports faults
+  pub there : All (λ f. node_at new.world (names (fault_path f)) ≢ None) faults
   pub reply : Ok r ≡ delete_reply (closed (is_folder old.world (names p)) p) faults
   pub locks : ms ≡ locks_after (names p) faults ls
 

@@ -1,8 +1,9 @@
 //! LOCK (RFC 4918, sections 6, 7 and 9.10).
-ghost use Rattle.std.specs.Prelude.{◌≡◌, ◌≤◌, ◌+◌, IfOk, IfSome, OnOk, OnErr, option_map, string_bytes, map};
+ghost use Rattle.std.specs.Prelude.{◌≡◌, ◌≢◌, ◌≤◌, ◌+◌, false, IfOk, IfErr, IfSome, IsErrOf, OnOk, OnErr, option_map, string_bytes, map};
 ghost use Rattle.std.specs.Option.{is_some, option_copied};
 ghost use Rattle.std.specs.Result.{result_err};
 ghost use Rattle.http_header.specs.FieldValue.{plain_value};
+ghost use Rattle.dav_core.specs.declared.errors.DavError.TheVariants as DavError;
 ghost use Rattle.dav_core.specs.Locks.{ends_at};
 ghost use Rattle.dav_core.specs.Metadata.{opening_of};
 ghost use Rattle.dav_core.specs.Numbers.{max_u64};
@@ -13,6 +14,7 @@ ghost use Rattle.dav_engine.specs.ConditionView.{texts_of};
 ghost use Rattle.dav_engine.specs.Folder.{location_found};
 ghost use Rattle.dav_engine.specs.Follows.{as_is, Sets, viewed};
 ghost use Rattle.dav_engine.specs.Lock as spec;
+ghost use Rattle.dav_engine.specs.Lock.{is_absent};
 ghost use Rattle.dav_engine.specs.LockView.{LastsFrom};
 ghost use Rattle.dav_engine.specs.Multistatus.{xml_type};
 ghost use Rattle.dav_engine.specs.Plan.{Ran};
@@ -207,7 +209,8 @@ fn empty_opening(conditions: &Conditions) -> OpenOptions
 
 // The error where the store refuses to open an empty file.
 fn empty_error(options: &OpenOptions, error: FsError) -> DavError
-    ensures { result ≡ spec.empty_error (opening_of options.now) error }
+    ensures is { result ≡ spec.empty_error (opening_of options.now) error }
+    ensures other { result ≢ DavError.Memory }
 {
     match error {
         FsError::NotFound => DavError::Status(missing_status(options)),
@@ -227,9 +230,11 @@ fn open_empty<F: DavFileSystem, L: DavLockSystem>(
     now: u64,
 ) -> DavResult<()>
     requires { now ≤ last_moment }
-    ensures { Ran Asks (spec.open_empty (opening_of options.now) token.now (names path.now) now)
+    ensures ran { Ran Asks
+        (spec.open_empty (opening_of options.now) token.now (names path.now) now)
         (F.state fs.old) (option_map L.locks ls.old) result
         (F.state fs.new) (option_map L.locks ls.new) }
+    ensures other { IfErr result (λ e. e ≢ DavError.Memory) }
 {
     match fs.open(alloc, path, options, now) {
         Ok(_) => Ok(()),
@@ -387,6 +392,7 @@ impl<'a, 'b, 'c, F: DavFileSystem, L: DavLockSystem> DavInner<'a, 'b, 'c, F, L> 
         ensures plan { FollowsOn as_is (λ who. spec.lock_new headers.now path.now
             (location_found (option_copied found.entry) request.now.path) body.now who
             (option_copied found.entry)) self.old result self.new }
+        ensures memory { IsErrOf result DavError.Memory → KeepsLent self.old self.new }
     {
         let lock = self.asked_lock(alloc, headers, path, body, found)?;
         let reply = granted_reply(alloc, &request.path, found, &lock)?;
@@ -422,6 +428,8 @@ impl<'a, 'b, 'c, F: DavFileSystem, L: DavLockSystem> DavInner<'a, 'b, 'c, F, L> 
         ensures lent { StaysLent self.old self.new }
         ensures plan { FollowsOn as_is (λ who. spec.lock_found headers.now request.now.path
             body.now who (option_copied found.entry)) self.old result self.new }
+        ensures memory { IsErrOf result DavError.Memory
+            → is_absent body.now ≡ false → KeepsLent self.old self.new }
     {
         let path = closed(&request.path, is_folder_found(found))?;
         if is_absent(body) {
@@ -456,6 +464,8 @@ impl<'a, 'b, 'c, F: DavFileSystem, L: DavLockSystem> DavInner<'a, 'b, 'c, F, L> 
         requires { self.old.caller.now.moment ≤ last_moment }
         ensures lent { StaysLent self.old self.new }
         ensures serves { ServesFrom (LockOf request.now body.now) self.old result self.new }
+        ensures memory { IsErrOf result DavError.Memory
+            → is_absent body.now ≡ false → KeepsLent self.old self.new }
     {
         let headers = LockHeaders::decode(alloc, request)?;
         let backend = &mut *self.backend;

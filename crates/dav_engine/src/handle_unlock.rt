@@ -21,7 +21,8 @@ use std::alloc::Global;
 
 // The reply where a lock was ended.
 fn unlocked(alloc: Global, path: &DavPath, found: Option<&DavMetaData>) -> Result<Reply, NoMemory>
-    ensures { IfOk result (λ r. r ≡ spec.unlocked_reply (location_found (option_copied found.entry) path.now)) }
+    ensures { IfOk result (λ r. r
+        ≡ spec.unlocked_reply (location_found (option_copied found.entry) path.now)) }
 {
     let mut headers = HeaderMap::new(alloc);
     set_location_found(alloc, &mut headers, path, found)?;

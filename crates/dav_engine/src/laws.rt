@@ -119,9 +119,9 @@ pub fn removals_leave_survivors()
     ensures there { ReportedAreThere }
 {}
 
-/// A DELETE leaves exactly what survives the faults that its reply reports, and the locks at its path and below it end exactly
-/// where there is none; so after a 204 nothing is at the path or below it. An error leaves the world and the list of locks as they
-/// are (RFC 4918, section 9.6).
+/// A DELETE leaves exactly what survives the faults that its reply reports, something is at each path that it reports, and the
+/// locks at its path and below it end exactly where there is none; so after a 204 nothing is at the path or below it. An error
+/// leaves the world and the list of locks as they are (RFC 4918, section 9.6).
 #[tactic(auto, using(crate::proofs::DeletedWorlds::deletes_leave_survivors, crate::proofs::DeletedWorlds::no_content_means_gone, crate::proofs::DeletedWorlds::refused_delete_leaves_all))]
 pub fn deletes_leave_survivors()
     ensures survivors { DeletesLeaveSurvivors }

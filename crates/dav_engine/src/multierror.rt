@@ -186,6 +186,7 @@ pub fn multi_error(
     ensures ok { IfOk result (λ reply. multi_reply path.now items.items ≡ Ok reply) }
     ensures err { IfErr result
         (λ e. (e ≡ DavError.Memory) ⊎ (multi_reply path.now items.items ≡ Err e)) }
+    ensures none { items.items ≡ [] → result ≡ Err DavError.ChanError }
 {
     let Some((first, others)) = items.split_first() else {
         return Err(DavError::ChanError);

@@ -171,6 +171,8 @@ impl PropWriter {
     /// element that asks for them (RFC 4918, sections 14.2, 14.18, 14.19 and 14.20): `prop` for the given properties;
     /// `allprop` for them and then all that every resource has; `propname` for names alone; `propertyupdate` for what became
     /// of changes. Under another name the given ones are followed by those that are told under `propname`.
+    ///
+    /// `Memory` where memory runs out.
     pub fn new(
         alloc: Global,
         request: &DavRequest,
@@ -182,6 +184,7 @@ impl PropWriter {
         ensures writer { IfOk result (λ w. w ≡ started (writer (telling_of name.now)
             request.now.headers (option_copied principal.entry) props.items)) }
         ensures reply { OnOk result (BeginsReply reply.old reply.new) }
+        ensures memory { IfErr result (λ e. e ≡ DavError.Memory) }
     {
         let telling = Telling::by_name(name);
         let writer = Writer::new(alloc, telling, &request.headers, principal, props)?;
@@ -264,7 +267,7 @@ impl PropWriter {
     }
 
     /// Adds the response for one path: properties under their statuses, in rising order; a status without properties is
-    /// told too.
+    /// told too. `Memory` where memory runs out; the responses then stay as they were.
     pub fn write_propresponse(
         &mut self,
         alloc: Global,
@@ -275,19 +278,21 @@ impl PropWriter {
           waiting = self.old.waiting ++ property_response path.now (groups_in props) ∷ [];
         }) }
         ensures err { OnErr result (self.new ≡ self.old) }
+        ensures memory { IfErr result (λ e. e ≡ DavError.Memory) }
     {
         let response = property_response(alloc, path, props)?;
         self.waiting.push(response)?;
         Ok(())
     }
 
-    /// Sends the responses that wait. Where memory runs out, they wait on.
+    /// Sends the responses that wait. `Memory` where memory runs out; they then wait on.
     pub fn flush(&mut self) -> DavResult<()>
         ensures ok { OnOk result (self.new ≡ record self.old {
           finished = self.old.finished ++ self.old.waiting;
           waiting = [];
         }) }
         ensures err { OnErr result (self.new ≡ self.old) }
+        ensures memory { IfErr result (λ e. e ≡ DavError.Memory) }
     {
         self.finished.append(&mut self.waiting)?;
         Ok(())
@@ -310,9 +315,12 @@ impl PropWriter {
 
     /// The element with all responses that were written, in order (RFC 4918, section 14.16). It declares the namespaces of the
     /// properties that are told, of those that the server knows, and none where outcomes are told.
+    ///
+    /// `Memory` where memory runs out.
     pub fn close(self, alloc: Global) -> DavResult<Element>
-        ensures { IfOk result (λ e. e
+        ensures ok { IfOk result (λ e. e
             ≡ spec.told_by self.writer (self.finished ++ self.waiting)) }
+        ensures memory { IfErr result (λ e. e ≡ DavError.Memory) }
     {
         Ok(self.all_told(alloc)?)
     }

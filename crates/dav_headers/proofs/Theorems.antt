@@ -5,3 +5,4 @@ pub use Rattle.dav_headers.proofs.LawLemmas.{one_overwrite, one_depth, one_updat
 pub use Rattle.dav_headers.proofs.LoopLemmas.{drop_turn, take_turn}
 pub use Rattle.dav_headers.proofs.OneReading.{one_tag_list, one_content_range, one_content_length}
 pub use Rattle.dav_headers.proofs.TimeoutAgain.{timeout_again}
+pub use Rattle.dav_headers.proofs.LanguageLemmas.{IsReadable, languages_are_readable, readable_are_languages}

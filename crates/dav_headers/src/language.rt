@@ -60,7 +60,7 @@ impl ContentLanguage {
 
     /// The languages, in order, each as often as it occurs. Allocates nothing.
     pub fn iter_langs(&self) -> Langs<'_>
-        ensures { map string_bytes result.rest.now ≡ self.now }
+        ensures { result ≡ self.now }
     {
         Langs { rest: &self.items }
     }
@@ -168,15 +168,22 @@ pub struct Langs<'a> {
     rest: &'a [String],
 }
 
+impl<'a> Model for Langs<'a> {
+    ghost use Rattle.std.specs.Prelude.{ℕ, List, map, string_bytes};
+
+    ghost Value = { List (List ℕ) };
+
+    ghost view = { λ langs. map string_bytes langs.rest.now };
+}
+
 impl<'a> Iterator for Langs<'a> {
     type Item = &'a str;
 
-    ghost use Rattle.std.specs.Prelude.{map, string_bytes};
     ghost use Rattle.std.specs.Iterator.{YieldsFirstRef, item_count};
 
-    ghost next_gives = { YieldsFirstRef (λ s. map string_bytes s.rest.now) };
+    ghost next_gives = { YieldsFirstRef (λ langs. langs) };
 
-    ghost remaining = { item_count (λ s. map string_bytes s.rest.now) };
+    ghost remaining = { item_count (λ langs. langs) };
 
     fn next(&mut self) -> Option<&'a str> {
         let (first, rest) = self.rest.split_first()?;

@@ -3,6 +3,7 @@ pub mod RefusalLemmas
 pub mod HeaderLemmas
 pub mod NamingLemmas
 pub mod TargetLemmas
+pub mod PathLemmas
 pub mod RunLemmas
 pub mod SomePlan
 pub mod RunLaws
@@ -44,3 +45,7 @@ pub mod NeededFolders
 pub mod NeededTokens
 pub mod NeededForHeadline
 pub mod NeededGrants
+pub mod NeededGuards
+pub mod WrongSteps
+pub mod NeededBeginning
+pub mod NeededMoments

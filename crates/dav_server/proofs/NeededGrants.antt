@@ -37,10 +37,10 @@ use Rattle.dav_server.proofs.WorkedGrant.{info, lock_headers, no_depth, no_timeo
 use Rattle.dav_server.proofs.WorkedRun.{a, at_a, token, head_of, head_with_method, holder, holder_request, own_head, own_list, own_says, own_names, turn_with, settings, no_conditions, own_conditions, plan_with, stranger_says, target_a, holder_means, before, after, holding, missing, makes_a, some_number}
 
 -- what is at the root of an empty store
-abbrev new_root : DavMetaData
+abbrev pub new_root : DavMetaData
 new_root = record { len = 0; dir = true; created = 0; modified = 0; number = Some 0 }
 
-finds_root : Answered (Metadata []) (holding before) (Ok new_root) (holding before)
+pub finds_root : Answered (Metadata []) (holding before) (Ok new_root) (holding before)
 unfolding meaning
 finds_root = record { as_asked = refl; refusals = refl; short = refl }
 
@@ -78,18 +78,18 @@ deep_lock_is_needed = (zero_grant, refl, record { token_is = refl; listed = refl
 
 -- ---- LOCK / of infinite depth
 
-abbrev root_locker : Asked
+abbrev pub root_locker : Asked
 root_locker = record { head = print_request (head_of (codes "LOCK") slash []); body = body.Tree info; principal = None; moment = 1; token = Some token }
 
 root_short : length root_locker.head ≤ 65536
 unfolding print_request
 root_short = omega arith
 
-root_head : IsHead root_locker.head (request_of_head (head_of (codes "LOCK") slash []))
+pub root_head : IsHead root_locker.head (request_of_head (head_of (codes "LOCK") slash []))
 unfolding is_token_byte
 root_head = (root_short, head_of (codes "LOCK") slash [], (head_with_method (codes "LOCK") slash [] (omega arith) refl (omega arith) refl text_root (All-nil IsField), sym (append-nil _)), omega arith, refl)
 
-says_root : AreLockHeaders (headers_of []) at_root lock_headers
+pub says_root : AreLockHeaders (headers_of []) at_root lock_headers
 says_root = record { conditions = stranger_says []; depth = no_depth; timeout = no_timeout }
 
 abbrev root_plan : MethodPlan Response

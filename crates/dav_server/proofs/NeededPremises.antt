@@ -101,7 +101,7 @@ other_turn = turn_with stranger ∷ []
 not_shallow : ¬ NamesLock shallow stranger
 not_shallow named = stranger_unnamed named.token
 
-nothing_runs : {old new : StoreState} {ls ms : Locks} {replies : List Response} → Runs settings [] old ls replies new ms → new ≡ old
+pub nothing_runs : {old new : StoreState} {ls ms : Locks} {replies : List Response} → Runs settings [] old ls replies new ms → new ≡ old
 nothing_runs no_more = refl
 
 -- With a lock of Depth 0 the folder changes below it, and wouldn't alone.
@@ -126,7 +126,7 @@ plain_turn x = record { asked = x; refusals = None }
 abbrev pub two_refusals : List (Option FsError)
 two_refusals = None ∷ Some Forbidden ∷ []
 
-asks_first : Answered (Metadata (a ∷ [])) (refusing two_refusals) (Err NotFound) (refusing (Some Forbidden ∷ []))
+pub asks_first : Answered (Metadata (a ∷ [])) (refusing two_refusals) (Err NotFound) (refusing (Some Forbidden ∷ []))
 unfolding meaning
 asks_first = record { as_asked = refl; refusals = refl; short = refl }
 

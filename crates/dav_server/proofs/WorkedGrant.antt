@@ -60,7 +60,7 @@ short : length locker.head ≤ 65536
 unfolding print_request
 short = omega arith
 
-lock_head : IsHead locker.head (request_of_head (head_of (codes "LOCK") slash_a []))
+pub lock_head : IsHead locker.head (request_of_head (head_of (codes "LOCK") slash_a []))
 unfolding is_token_byte
 lock_head = (short, head_of (codes "LOCK") slash_a [], (head_with_method (codes "LOCK") slash_a [] (omega arith) refl (omega arith) refl text_a (All-nil IsField), sym (append-nil _)), omega arith, refl)
 
@@ -167,7 +167,7 @@ under =
 among : Alone granted_lock later (turn_with holder ∷ [])
 among = alone_other other_names (alone_own own_names alone_none)
 
-abbrev Others : Turn → Turn → Type 0
+abbrev pub Others : Turn → Turn → Type 0
 Others t u = (token : List ℕ) → t.asked.token ≡ Some token → u.asked.token ≢ Some token
 
 all_showable : AreShowable turns
@@ -181,7 +181,7 @@ all_loaded =
     (All-cons Loaded (turn_with stranger) (turn_with holder ∷ []) refl (All-cons Loaded (turn_with holder) [] refl (All-nil Loaded))))
 
 -- one of the requests hands in a token
-quiet : (t : Turn) → t.asked.token ≡ None → (us : List Turn) → All (Others t) us
+pub quiet : (t : Turn) → t.asked.token ≡ None → (us : List Turn) → All (Others t) us
 quiet t none us = λ k d small token own. absurd (let e : None ≡ Some token = sym none ∙ own in cc)
 
 alone_hands_in : All (Others (turn_with locker)) later

@@ -136,7 +136,7 @@ short_too : length holder.head ≤ 65536
 unfolding print_request
 short_too = omega arith
 
-stranger_head : IsHead stranger.head (request_of_head (head_with []))
+pub stranger_head : IsHead stranger.head (request_of_head (head_with []))
 stranger_head = (short, head_with [], (request_head slash_a [] (omega arith) refl text_a (All-nil IsField), sym (append-nil _)), omega arith, refl)
 
 holder_head : IsHead holder.head (request_of_head (head_with (if_field ∷ [])))

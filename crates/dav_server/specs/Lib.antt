@@ -27,5 +27,6 @@ pub mod Ending
 pub mod LockLists
 pub mod Isolation
 pub mod FromNone
+pub mod PathLaws
 pub mod EachRequest
 pub mod Headline

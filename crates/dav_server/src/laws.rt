@@ -3,6 +3,7 @@ ghost use Rattle.dav_server.specs.Head.{OneHead};
 ghost use Rattle.dav_server.specs.Headers.{KeepsValues};
 ghost use Rattle.dav_server.specs.Headline.{HeadlineHolds};
 ghost use Rattle.dav_server.specs.Leaving.{CreateOnlyFails, ErrorsLeave};
+ghost use Rattle.dav_server.specs.PathLaws.{OneTextOnePath};
 ghost use Rattle.dav_server.specs.Run.{RunsAreDetermined, RunsSplit, RunsJoin, RunsEnd, ShortnessIsKept, RequestsHavePlans, RequestsHaveRuns};
 ghost use Rattle.dav_server.specs.TagLaws.{TagsTellBytes, NotModifiedIsTrue, ReadingLeaves, RunsKeepWorlds};
 ghost use Rattle.dav_server.specs.Target.{OneOutcome};
@@ -26,6 +27,13 @@ pub fn headers_keep_values()
 /// The target of a request results in one path, or in one error.
 pub fn targets_name_one_thing()
     ensures { OneOutcome }
+{}
+
+/// One text names one path: a text that begins with a slash results in one path, or in one error, as the target of a request and as
+/// the Destination of a request whose own target was cut after the same prefix (RFC 4918, section 10.3).
+#[tactic(auto, using(crate::proofs::PathLemmas::one_text_one_path))]
+pub fn one_text_names_one_path()
+    ensures { OneTextOnePath }
 {}
 
 /// Where the store never ran out of memory, a run is determined: from one store and one list of locks the same requests

@@ -28,3 +28,6 @@ pub mod EntryLemmas
 pub mod KeptCalls
 pub mod KeptMoves
 pub mod MadeWrites
+pub mod IndexLemmas
+pub mod IndexSound
+pub mod IndexCalls

@@ -10,3 +10,4 @@ pub mod TreeLends
 pub mod Entries
 pub mod Walks
 pub mod Placed
+pub mod LockIndex

@@ -1,5 +1,5 @@
 //! A list of locks in memory (RFC 4918, sections 6 and 7).
-ghost use Rattle.std.specs.Prelude.{◌≡◌, ◌&&◌, ◌||◌, ◌+◌, ◌++◌, ◌∷◌, ◌≤◌, not, [], map, IfOk, IfErr, OnOk, OnErr, IfSome, MatchOption, Some, None, Contains, true, bytes_eq, string_bytes, option_copied, position, take};
+ghost use Rattle.std.specs.Prelude.{◌≡◌, ℕ, ◌&&◌, ◌||◌, ◌+◌, ◌++◌, ◌∷◌, ◌≤◌, not, [], map, IfOk, IfErr, OnOk, OnErr, IfSome, MatchOption, Some, None, Contains, true, bytes_eq, string_bytes, option_copied, position, take};
 ghost use Rattle.std.specs.List.{list_any, filter};
 ghost use Rattle.std.specs.Option.{option_map};
 ghost use Rattle.dav_core.specs.Path.{names, is_same_path, is_under, is_at_or_under};
@@ -7,7 +7,9 @@ ghost use Rattle.dav_core.specs.Locks.{Lock, Checks, lent, covers, requester_of,
 ghost use Rattle.dav_core.specs.LockRefusals.{IsRefusedRefresh};
 ghost use Rattle.dav_core.specs.Numbers.{max_u64};
 ghost use Rattle.dav_store.specs.LockCalls.{requester_in, IsNamedPlace};
+ghost use Rattle.dav_store.specs.LockIndex.{IsIndexOf, tally, times, path_keys};
 
+mod index;
 #[cfg(test)]
 mod tests;
 
@@ -16,13 +18,16 @@ use dav_core::davpath::DavPath;
 use dav_core::element::Element;
 use dav_core::errors::NoMemory;
 use dav_core::ls::{DavLock, DavLockSystem, LockRefusal, RefreshRefusal};
+use index::Counts;
 use std::alloc::Global;
 use std::marker::Model;
 
-/// A list of locks in memory, in the order in which they were granted.
+/// A list of locks in memory, in the order in which they were granted, and beside it an index, which is `None` from the
+/// moment on when it can't grow.
 #[derive(Drop)]
 pub struct MemLs {
     locks: Vec<DavLock>,
+    index: Option<Counts>,
 }
 
 impl Model for MemLs {
@@ -35,7 +40,11 @@ impl Model for MemLs {
 
     ghost coded = { coded_list lock_code };
 
+    ghost use Rattle.dav_store.specs.LockIndex.{IsIndexOf};
+
     ghost view = { λ s. s.locks.items };
+
+    ghost invariant = { λ s. IsIndexOf s.index s.locks.items };
 }
 
 // Whether a lock covers a path.
@@ -212,6 +221,22 @@ fn any_refuses(locks: &[DavLock], path: &DavPath, shared: bool, deep: bool) -> b
     any_excludes(locks, path, shared) || deep && any_below(locks, path)
 }
 
+// The same, without a look at the list where the index says that no lock matters.
+fn refuses(
+    locks: &[DavLock],
+    index: &Option<Counts>,
+    path: &DavPath,
+    shared: bool,
+    deep: bool,
+) -> bool
+    requires { IsIndexOf index.now locks.now }
+    ensures { result ≡ (list_any
+        (λ l. covers l (names path.now) && not (l.shared && shared)) locks.now
+        || (deep && list_any (λ l. is_under (names l.path) (names path.now)) locks.now)) }
+{
+    index::may_matter(index, path, deep) && any_refuses(locks, path, shared, deep)
+}
+
 // The moment at which a lock ends that lasts for so many seconds; `None` for one that never ends.
 fn ends_at(now: u64, timeout: Option<u64>) -> Option<u64>
     requires { IfSome timeout (λ seconds. now + seconds ≤ max_u64) }
@@ -282,19 +307,18 @@ fn keep(locks: &mut Vec<DavLock>, lock: DavLock) -> Result<DavLock, NoMemory>
     Ok(lock)
 }
 
-// Drops the lock that a token and a path mean.
-fn unlock_in(locks: &mut Vec<DavLock>, path: &DavPath, token: &str) -> Result<(), ()>
+// Takes the lock that a token and a path mean out of the list.
+fn unlock_in(locks: &mut Vec<DavLock>, path: &DavPath, token: &str) -> Result<DavLock, ()>
     ensures ok { OnOk result (unlocked token.now (names path.now) locks.old.items
         ≡ Some locks.new.items) }
+    ensures keys { IfOk result (λ l. (k : ℕ) → tally k locks.old.items
+        ≡ tally k locks.new.items + times k (path_keys l.deep (names l.path))) }
     ensures err { OnErr result ((unlocked token.now (names path.now) locks.old.items ≡ None)
         × (locks.new.items ≡ locks.old.items)) }
 {
     match named_place(locks, path, token) {
         None => Err(()),
-        Some(i) => {
-            drop(locks.remove(i));
-            Ok(())
-        }
+        Some(i) => Ok(locks.remove(i)),
     }
 }
 
@@ -324,6 +348,7 @@ fn refresh_in(
     ensures err { IfErr result
         (λ e. IsRefusedRefresh e (named_lock token.now (names path.now) locks.old.items)) }
     ensures same { OnErr result (locks.new.items ≡ locks.old.items) }
+    ensures keys { (k : ℕ) → tally k locks.new.items ≡ tally k locks.old.items }
 {
     let Some(i) = named_place(locks, path, token) else {
         return Err(RefreshRefusal::NotThere);
@@ -375,6 +400,7 @@ impl MemLs {
     {
         Ok(MemLs {
             locks: Vec::new(alloc),
+            index: Some(Counts::new(alloc)),
         })
     }
 }
@@ -394,7 +420,7 @@ impl DavLockSystem for MemLs {
         token: &str,
         now: u64,
     ) -> Result<DavLock, LockRefusal> {
-        if any_refuses(&self.locks, path, shared, deep) {
+        if refuses(&self.locks, &self.index, path, shared, deep) {
             return Err(LockRefusal::Conflict);
         }
         let Ok(lock) = new_lock(
@@ -405,11 +431,14 @@ impl DavLockSystem for MemLs {
         let Ok(lock) = keep(&mut self.locks, lock) else {
             return Err(LockRefusal::Memory);
         };
+        index::raise(&mut self.index, path, deep);
         Ok(lock)
     }
 
     fn unlock(&mut self, path: &DavPath, token: &str) -> Result<(), ()> {
-        unlock_in(&mut self.locks, path, token)
+        let lock = unlock_in(&mut self.locks, path, token)?;
+        index::lower(&mut self.index, &lock.path, lock.deep);
+        Ok(())
     }
 
     fn refresh(
@@ -431,6 +460,9 @@ impl DavLockSystem for MemLs {
         deep: bool,
         tokens: &[String],
     ) -> Result<(), &DavLock> {
+        if !index::may_matter(&self.index, path, deep) {
+            return Ok(());
+        }
         let who = Requester {
             tokens,
             principal,
@@ -440,11 +472,17 @@ impl DavLockSystem for MemLs {
     }
 
     fn discover(&self, alloc: Global, path: &DavPath) -> Result<Vec<DavLock>, NoMemory> {
+        if !index::may_matter(&self.index, path, false) {
+            return Ok(Vec::new(alloc));
+        }
         discover_in(alloc, &self.locks, path)
     }
 
     fn delete(&mut self, path: &DavPath) -> Result<(), ()> {
-        drop_below(&mut self.locks, path);
+        if index::may_matter(&self.index, path, true) {
+            index::lower_below(&mut self.index, &self.locks, path);
+            drop_below(&mut self.locks, path);
+        }
         Ok(())
     }
 }

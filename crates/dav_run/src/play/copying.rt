@@ -92,6 +92,15 @@ const COPIES: &str = r##"
 {"body":null,"headers":{"content-length":"0"},"status":502}
 {"body":null,"headers":{},"status":201}
 {"body":{"hex":"78"},"headers":{"content-length":"1","content-type":"application/octet-stream","etag":"\"5\"","last-modified":"Thu, 01 Jan 1970 00:00:01 GMT"},"status":200}
+# under a prefix and a lock: the destination is cut before locks are asked; one outside the prefix, or without it, is none
+{"prefix":"/dav","requests":[{"head":"MKCOL /dav/d HTTP/1.1\r\n\r\n","moment":1},{"head":"PUT /dav/f HTTP/1.1\r\nContent-Length: 1\r\n\r\n","body":{"text":"x"},"moment":1},{"head":"LOCK /dav/d HTTP/1.1\r\n\r\n","body":{"element":{"name":"lockinfo","children":[{"name":"lockscope","children":[{"name":"exclusive"}]},{"name":"locktype","children":[{"name":"write"}]}]}},"principal":"anna","moment":1,"token":"urn:t:1"},{"head":"COPY /dav/f HTTP/1.1\r\nDestination: /dav/d/g\r\n\r\n","principal":"ben","moment":1},{"head":"COPY /dav/f HTTP/1.1\r\nDestination: /other/g\r\n\r\n","principal":"ben","moment":1},{"head":"COPY /dav/f HTTP/1.1\r\nDestination: /d/g\r\n\r\n","principal":"ben","moment":1},{"head":"GET /dav/d/g HTTP/1.1\r\n\r\n","moment":1}]}
+{"body":null,"headers":{},"status":201}
+{"body":null,"headers":{"accept-ranges":"bytes","content-length":"0","etag":"\"3\"","last-modified":"Thu, 01 Jan 1970 00:00:01 GMT"},"status":201}
+{"body":{"element":{"attributes":[["xmlns:D","DAV:"]],"children":[{"attributes":[],"children":[{"attributes":[],"children":[{"attributes":[],"children":[{"attributes":[],"children":[],"name":"exclusive","namespace":null,"prefix":"D"}],"name":"lockscope","namespace":null,"prefix":"D"},{"attributes":[],"children":[{"attributes":[],"children":[],"name":"write","namespace":null,"prefix":"D"}],"name":"locktype","namespace":null,"prefix":"D"},{"attributes":[],"children":["Infinity"],"name":"depth","namespace":null,"prefix":"D"},{"attributes":[],"children":["Infinite"],"name":"timeout","namespace":null,"prefix":"D"},{"attributes":[],"children":[{"attributes":[],"children":["urn:t:1"],"name":"href","namespace":null,"prefix":"D"}],"name":"locktoken","namespace":null,"prefix":"D"},{"attributes":[],"children":[{"attributes":[],"children":["/dav/d/"],"name":"href","namespace":null,"prefix":"D"}],"name":"lockroot","namespace":null,"prefix":"D"}],"name":"activelock","namespace":null,"prefix":"D"}],"name":"lockdiscovery","namespace":null,"prefix":"D"}],"name":"prop","namespace":null,"prefix":"D"}},"headers":{"content-location":"/dav/d/","content-type":"application/xml; charset=utf-8","lock-token":"<urn:t:1>"},"status":200}
+{"body":null,"headers":{"content-length":"0"},"status":423}
+{"body":null,"headers":{"content-length":"0"},"status":502}
+{"body":null,"headers":{"content-length":"0"},"status":502}
+{"body":null,"headers":{"content-length":"0"},"status":404}
 "##;
 
 const MOVES: &str = r##"
@@ -162,6 +171,19 @@ const MOVES: &str = r##"
 {"body":null,"headers":{"content-length":"0"},"status":404}
 {"body":null,"headers":{},"status":201}
 {"body":{"hex":"78"},"headers":{"content-length":"1","content-type":"application/octet-stream","etag":"\"2\"","last-modified":"Thu, 01 Jan 1970 00:00:01 GMT"},"status":200}
+# a move onto its own path is forbidden, and with Overwrite F a failed condition; the file stays
+{"requests":[{"head":"PUT /a HTTP/1.1\r\nContent-Length: 1\r\n\r\n","body":{"text":"x"},"moment":1},{"head":"MOVE /a HTTP/1.1\r\nDestination: /a\r\n\r\n","moment":1},{"head":"MOVE /a HTTP/1.1\r\nDestination: /a\r\nOverwrite: F\r\n\r\n","moment":1},{"head":"GET /a HTTP/1.1\r\n\r\n","moment":1}]}
+{"body":null,"headers":{"accept-ranges":"bytes","content-length":"0","etag":"\"2\"","last-modified":"Thu, 01 Jan 1970 00:00:01 GMT"},"status":201}
+{"body":null,"headers":{"content-length":"0"},"status":403}
+{"body":null,"headers":{"content-length":"0"},"status":412}
+{"body":{"hex":"78"},"headers":{"content-length":"1","content-type":"application/octet-stream","etag":"\"2\"","last-modified":"Thu, 01 Jan 1970 00:00:01 GMT"},"status":200}
+# the change numbers are used up: neither a copy nor a folder can be made, but a move takes none
+{"next":18446744073709551613,"requests":[{"head":"PUT /f HTTP/1.1\r\nContent-Length: 1\r\n\r\n","body":{"text":"x"},"moment":1},{"head":"COPY /f HTTP/1.1\r\nDestination: /g\r\n\r\n","moment":1},{"head":"MKCOL /d HTTP/1.1\r\n\r\n","moment":1},{"head":"MOVE /f HTTP/1.1\r\nDestination: /g\r\n\r\n","moment":1},{"head":"GET /g HTTP/1.1\r\n\r\n","moment":1}]}
+{"body":null,"headers":{"accept-ranges":"bytes","content-length":"0","etag":"\"fffffffffffffffe\"","last-modified":"Thu, 01 Jan 1970 00:00:01 GMT"},"status":201}
+{"body":null,"headers":{},"status":500}
+{"body":null,"headers":{"content-length":"0"},"status":500}
+{"body":null,"headers":{},"status":201}
+{"body":{"hex":"78"},"headers":{"content-length":"1","content-type":"application/octet-stream","etag":"\"fffffffffffffffe\"","last-modified":"Thu, 01 Jan 1970 00:00:01 GMT"},"status":200}
 "##;
 
 #[test]

@@ -27,6 +27,37 @@ lock /a shared,infinite t2 -> never ends
 lock /a/b shared,infinite t1 -> never ends
 lock /a/b shared,infinite t3 -> never ends
 discover /a/b/c -> t2 t1 t3
+# a path below a lock of infinite depth; the lock ends, and is granted again
+lock /a exclusive,infinite t1 anna -> never ends
+check /a/b/c ben -> t1
+discover /a/b -> t1
+lock /a/b/c exclusive t2 ben -> Conflict
+unlock /a t1 -> ok
+check /a/b/c ben -> free
+discover /a/b ->
+lock /a exclusive,infinite t1 anna -> never ends
+check /a/b/c ben -> t1
+unlock /a t1 -> ok
+lock /a/b/c exclusive t2 ben -> never ends
+# a folder with several locks below, which end with it; a lock of infinite depth asked above others
+lock /a/b/c exclusive t2 anna -> never ends
+lock /a/b/d exclusive,infinite t3 anna -> never ends
+lock /a/e exclusive t4 anna -> never ends
+lock /a exclusive,infinite t5 anna -> Conflict
+lock /a exclusive t6 anna -> never ends
+check /a/b ben -> free
+check /a/b ben infinite -> t2
+check /a/b/d/x ben -> t3
+delete /a/b -> ok
+check /a/b ben infinite -> free
+check /a/b/d/x ben -> free
+discover /a/e -> t4
+lock /a/b exclusive,infinite t7 anna -> never ends
+check /a/b/c ben -> t7
+delete /a -> ok
+check / ben infinite -> free
+lock / exclusive,infinite t8 anna -> never ends
+check /x ben -> t8
 "##;
 
 // A row: the name of a call and its arguments.

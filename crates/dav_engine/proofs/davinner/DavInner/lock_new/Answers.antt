@@ -50,7 +50,7 @@ returns-in_err-open_empty-clause-plan g c =
     let token = c.deref.ensures ∙ ap (λ (l : Lock). l.token) c.lock.view_is in
     let now = ap (λ w. w.moment) c.caller.view_is ∙ ap (λ k. k.now.moment) lent.caller in
     let none = some_copied c.args.found ∙ sym c.is_some.ensures ∙ c.if-is_some.false in
-    let run = opens_as (names c.args.path.now) how token now c.in_err-open_empty.ensures in
+    let run = opens_as (names c.args.path.now) how token now c.in_err-open_empty.ensures.ran in
     rw (p.1, p.2) (new_unmade c.args.headers.now c.args.path.now (location_found (option_copied c.args.found) c.args.request.now.path) c.args.body.now c.args.self.now.caller.now (option_copied c.args.found) c.in_ok-lock.lock one two _ none run)
 
 pub returns-clause-plan : goal.returns-clause-plan
@@ -63,5 +63,5 @@ returns-clause-plan g c =
     let token = c.deref.ensures ∙ ap (λ (l : Lock). l.token) c.lock.view_is in
     let now = ap (λ w. w.moment) c.caller.view_is ∙ ap (λ k. k.now.moment) lent.caller in
     let none = some_copied c.args.found ∙ sym c.is_some.ensures ∙ c.if-is_some.false in
-    let run = opens_as (names c.args.path.now) how token now c.in_ok-open_empty.ensures in
+    let run = opens_as (names c.args.path.now) how token now c.in_ok-open_empty.ensures.ran in
     new_made c.args.headers.now c.args.path.now (location_found (option_copied c.args.found) c.args.request.now.path) c.args.body.now c.args.self.now.caller.now (option_copied c.args.found) c.in_ok-lock.lock one two _ none run c.in_ok-reply.ensures

@@ -8,23 +8,23 @@ pub returns-clause-ok : goal.returns-clause-ok
 returns-clause-ok c =
     let new : Lock = new_lock c.args.token.now c.args.path.now (option_copied c.args.principal) (option_copied c.args.owner) c.args.timeout c.args.shared c.args.deep c.args.now in
     let kept : c.in-Ok-keep.lock ≡ new = c.in-Ok-keep.ensures.ok.0 ∙ c.in-Ok.ensures in
-    let free = grantable_seen new c.args.self.now c.deref.result.now (c.deref.ensures.value ∙ c.self.view_is) (sym c.if-any_refuses.ensures) in (
+    let free = grantable_seen new c.args.self.now c.deref.result.now (c.deref.ensures.value ∙ c.self.view_is) (sym c.if-refuses.ensures) in (
       kept,
       subst (λ (l : Lock). is_grantable l c.args.self.now ≡ true) (sym kept) free,
       c.in-Ok-keep.ensures.ok.1 ∙ ap (λ (ls : List Lock). ls ++ c.in-Ok-keep.lock ∷ []) c.self.view_is,
     )
 
-pub returns-then-any_refuses-clause-err : goal.returns-then-any_refuses-clause-err
-returns-then-any_refuses-clause-err c =
+pub returns-then-refuses-clause-err : goal.returns-then-refuses-clause-err
+returns-then-refuses-clause-err c =
     let new : Lock = new_lock c.args.token.now c.args.path.now (option_copied c.args.principal) (option_copied c.args.owner) c.args.timeout c.args.shared c.args.deep c.args.now in
-    conflict_seen new c.args.self.now c.deref.result.now (c.deref.ensures.value ∙ c.self.view_is) (sym c.if-any_refuses.ensures)
+    conflict_seen new c.args.self.now c.deref.result.now (c.deref.ensures.value ∙ c.self.view_is) (sym c.if-refuses.ensures)
 
 pub returns-in_default-clause-err : goal.returns-in_default-clause-err
 returns-in_default-clause-err c =
     let new : Lock = new_lock c.args.token.now c.args.path.now (option_copied c.args.principal) (option_copied c.args.owner) c.args.timeout c.args.shared c.args.deep c.args.now in
-    grantable_seen new c.args.self.now c.deref.result.now (c.deref.ensures.value ∙ c.self.view_is) (sym c.if-any_refuses.ensures)
+    grantable_seen new c.args.self.now c.deref.result.now (c.deref.ensures.value ∙ c.self.view_is) (sym c.if-refuses.ensures)
 
 pub returns-in_default-keep-clause-err : goal.returns-in_default-keep-clause-err
 returns-in_default-keep-clause-err c =
     let new : Lock = new_lock c.args.token.now c.args.path.now (option_copied c.args.principal) (option_copied c.args.owner) c.args.timeout c.args.shared c.args.deep c.args.now in
-    grantable_seen new c.args.self.now c.deref.result.now (c.deref.ensures.value ∙ c.self.view_is) (sym c.if-any_refuses.ensures)
+    grantable_seen new c.args.self.now c.deref.result.now (c.deref.ensures.value ∙ c.self.view_is) (sym c.if-refuses.ensures)

@@ -1,0 +1,150 @@
+-- What the calls of a list of locks do to its index, and answer where no lock matters.
+use Rattle.std.proofs.Common.{◌≡◌, ℕ, ◌+◌, ◌-◌, ◌&&◌, ◌||◌, not, Bool, true, false, cond, List, [], ◌∷◌, ◌++◌, Option, Some, None, refl, ap, ◌∙◌, arith}
+use Rattle.std.specs.List.{list_any, list_all, filter, flat_map}
+use Rattle.std.proofs.lemmas.List.Sums.{sum_by-cons}
+use Rattle.dav_core.specs.Lists.{is_empty}
+use Rattle.dav_core.specs.Path.{Path, names, fronts, is_same_path, is_under, is_at_or_under, rest_after, has_names}
+use Rattle.std.specs.Option.{is_some}
+use Rattle.dav_core.specs.Locks.{Lock, Requester, covers, covering, is_held, is_free, is_free_for, discovered, deleted}
+use Rattle.dav_store.specs.declared.memls.index.Counts.{Counts}
+use Rattle.dav_store.specs.LockIndex.{path_keys, times, tally, HasCounts, IsIndexOf, matters}
+
+-- the keys of a lock, counted
+abbrev keys_at : ℕ → Lock → ℕ
+keys_at k l = times k (path_keys l.deep (names l.path))
+
+-- ---- the index, as the list changes
+
+pub counts_along : (index : Option Counts) (f g : ℕ → ℕ) → HasCounts index f → ((k : ℕ) → f k ≡ g k) → HasCounts index g
+counts_along None f g h same = tt
+counts_along (Some c) f g h same = λ k. h k ∙ same k
+
+module _ (test : Lock → Bool) (k : ℕ) where
+  parted_by : (l : Lock) (ms ns : List Lock) (b : Bool) → tally k (cond b (l ∷ ms) ms) + tally k (cond (not b) (l ∷ ns) ns) ≡ keys_at k l + (tally k ms + tally k ns)
+  parted_by l ms ns true = let a = sum_by-cons (keys_at k) l ms in omega (arith, a)
+  parted_by l ms ns false = let a = sum_by-cons (keys_at k) l ns in omega (arith, a)
+
+  -- what passes a test, and what doesn't, is all
+  parted : (ls : List Lock) → tally k (filter test ls) + tally k (filter (λ l. not (test l)) ls) ≡ tally k ls
+  parted [] = refl
+  parted (l ∷ ls) =
+      let a = parted_by l (filter test ls) (filter (λ m. not (test m)) ls) (test l) in
+      let b = sum_by-cons (keys_at k) l ls in
+      let c = parted ls in
+      omega (arith, a, b, c)
+
+-- the locks at a path and below it are taken out
+pub index_cut : (index : Option Counts) (p : Path) (ls new : List Lock) → HasCounts index (λ k. tally k ls - tally k (filter (λ l. is_at_or_under (names l.path) p) ls)) → new ≡ deleted p ls → IsIndexOf index new
+index_cut index p ls new h is =
+    counts_along index (λ k. tally k ls - tally k (filter (λ l. is_at_or_under (names l.path) p) ls)) (λ k. tally k new) h
+    (λ k.
+    let a = parted (λ l. is_at_or_under (names l.path) p) k ls in
+    let b : tally k new ≡ tally k (deleted p ls) = ap (tally k) is in
+    omega (arith, a, b))
+
+-- ---- answers, where no lock matters
+
+none_step : (a b c : Bool) → (a || b) ≡ false → (a ≡ false → c ≡ false) → (a ≡ false) × (b ≡ false) × (c ≡ false)
+none_step true b c h f = cc
+none_step false b c h f = (refl, h, f refl)
+
+-- none passes a test that asks for more
+none_weaker : (f g : Lock → Bool) → ((l : Lock) → f l ≡ false → g l ≡ false) → (ls : List Lock) → list_any f ls ≡ false → list_any g ls ≡ false
+none_weaker f g weaker [] h = refl
+none_weaker f g weaker (l ∷ ls) h =
+    let (a, b, c) = none_step (f l) (list_any f ls) (g l) h (weaker l) in
+    ap (λ d. d || list_any g ls) c ∙ none_weaker f g weaker ls b
+
+uncovered : (asked : Bool) (p : Path) (l : Lock) → matters asked p l ≡ false → covers l p ≡ false
+uncovered asked p l h = by_covers (covers l p) (asked && is_at_or_under (names l.path) p) h
+  where
+    by_covers : (a b : Bool) → (a || b) ≡ false → a ≡ false
+    by_covers true b k = k
+    by_covers false b k = refl
+
+elsewhere : (p : Path) (l : Lock) → matters true p l ≡ false → is_at_or_under (names l.path) p ≡ false
+elsewhere p l h = by_covers (covers l p) (is_at_or_under (names l.path) p) h
+  where
+    by_covers : (a b : Bool) → (a || (true && b)) ≡ false → b ≡ false
+    by_covers true b k = cc
+    by_covers false b k = k
+
+-- none is filtered
+none_filtered : (f : Lock → Bool) (ls : List Lock) → list_any f ls ≡ false → filter f ls ≡ []
+none_filtered f [] h = refl
+none_filtered f (l ∷ ls) h =
+    let (a, b, c) = none_step (f l) (list_any f ls) (f l) h (λ e. e) in
+    ap (λ d. cond d (l ∷ filter f ls) (filter f ls)) a ∙ none_filtered f ls b
+
+-- all are left
+all_left : (f : Lock → Bool) (ls : List Lock) → list_any f ls ≡ false → filter (λ l. not (f l)) ls ≡ ls
+all_left f [] h = refl
+all_left f (l ∷ ls) h =
+    let (a, b, c) = none_step (f l) (list_any f ls) (f l) h (λ e. e) in
+    ap (λ d. cond (not d) (l ∷ filter (λ m. not (f m)) ls) (filter (λ m. not (f m)) ls)) a ∙ ap (λ (ms : List Lock). l ∷ ms) (all_left f ls b)
+
+-- each holds or isn't there
+all_elsewhere : (held there : Lock → Bool) (ls : List Lock) → list_any there ls ≡ false → list_all (λ l. held l || not (there l)) ls ≡ true
+all_elsewhere held there [] h = refl
+all_elsewhere held there (l ∷ ls) h =
+    let (a, b, c) = none_step (there l) (list_any there ls) (there l) h (λ e. e) in
+    by_held (held l) (there l) a (all_elsewhere held there ls b)
+  where
+    by_held : (x y : Bool) → y ≡ false → list_all (λ m. held m || not (there m)) ls ≡ true → ((x || not y) && list_all (λ m. held m || not (there m)) ls) ≡ true
+    by_held true y e rest = rest
+    by_held false true e rest = cc
+    by_held false false e rest = rest
+
+-- the path is free
+pub free_where_none : (asked : Bool) (who : Requester) (p : Path) (ls : List Lock) → list_any (matters asked p) ls ≡ false → is_free_for asked who p ls ≡ true
+free_where_none asked who p ls h =
+    let none : covering p ls ≡ [] = none_filtered (λ l. covers l p) ls (none_weaker (matters asked p) (λ l. covers l p) (uncovered asked p) ls h) in
+    let free : is_free who p ls ≡ true = ap (λ (ms : List Lock). list_all (λ l. is_held who l || l.shared) ms && (list_any (is_held who) ms || is_empty ms)) none in
+    by_asked asked h free
+  where
+    by_asked : (a : Bool) → list_any (matters a p) ls ≡ false → is_free who p ls ≡ true → is_free_for a who p ls ≡ true
+    by_asked false k free = free
+    by_asked true k free =
+        (λ i. free i && list_all (λ l. is_held who l || not (is_at_or_under (names l.path) p)) ls)
+        ∙ all_elsewhere (is_held who) (λ l. is_at_or_under (names l.path) p) ls (none_weaker (matters true p) (λ l. is_at_or_under (names l.path) p) (elsewhere p) ls k)
+
+not_below : (p : Path) (l : Lock) → matters true p l ≡ false → is_under (names l.path) p ≡ false
+not_below p l h = by_rest (rest_after p (names l.path)) (elsewhere p l h)
+  where
+    by_rest : (o : Option Path) → is_some o ≡ false → has_names o ≡ false
+    by_rest None k = refl
+    by_rest (Some r) k = cc
+
+-- no lock conflicts with a new one
+pub none_refuses : (deep shared : Bool) (p : Path) (ls : List Lock) → list_any (matters deep p) ls ≡ false
+    → (list_any (λ l. covers l p && not (l.shared && shared)) ls || (deep && list_any (λ l. is_under (names l.path) p) ls)) ≡ false
+none_refuses deep shared p ls h =
+    let excluding : list_any (λ l. covers l p && not (l.shared && shared)) ls ≡ false =
+    none_weaker (matters deep p) (λ l. covers l p && not (l.shared && shared)) (λ l k. ap (λ b. b && not (l.shared && shared)) (uncovered deep p l k)) ls h in
+    ap (λ b. b || (deep && list_any (λ l. is_under (names l.path) p) ls)) excluding ∙ by_deep deep h
+  where
+    by_deep : (d : Bool) → list_any (matters d p) ls ≡ false → (d && list_any (λ l. is_under (names l.path) p) ls) ≡ false
+    by_deep false k = refl
+    by_deep true k = none_weaker (matters true p) (λ l. is_under (names l.path) p) (not_below p) ls k
+
+none_collected : (f : Path → List Lock) → ((q : Path) → f q ≡ []) → (qs : List Path) → flat_map f qs ≡ []
+none_collected f none [] = refl
+none_collected f none (q ∷ qs) = ap (λ (ms : List Lock). ms ++ flat_map f qs) (none q) ∙ none_collected f none qs
+
+both_false : (a b : Bool) → b ≡ false → (a && b) ≡ false
+both_false true b h = h
+both_false false b h = refl
+
+-- none is listed
+pub none_discovered : (asked : Bool) (p : Path) (ls : List Lock) → list_any (matters asked p) ls ≡ false → discovered p ls ≡ []
+none_discovered asked p ls h =
+    none_collected (λ q. filter (λ l. is_same_path (names l.path) q && covers l p) ls)
+    (λ q.
+    none_filtered (λ l. is_same_path (names l.path) q && covers l p) ls
+    (none_weaker (matters asked p) (λ l. is_same_path (names l.path) q && covers l p) (λ l k. both_false (is_same_path (names l.path) q) (covers l p) (uncovered asked p l k)) ls h))
+    (fronts p)
+
+-- none ends
+pub none_deleted : (p : Path) (ls : List Lock) → list_any (matters true p) ls ≡ false → deleted p ls ≡ ls
+none_deleted p ls h =
+    all_left (λ l. is_at_or_under (names l.path) p) ls (none_weaker (matters true p) (λ l. is_at_or_under (names l.path) p) (elsewhere p) ls h)
