@@ -14,8 +14,7 @@ use Rattle.dav_store.proofs.PlacedCalls.{grown_valued, placed_valued, placed_unc
 use Rattle.dav_store.proofs.MadeMaps.{made_valued}
 use Rattle.dav_store.proofs.TreeCalls.{node_of_value}
 use Rattle.dav_store.proofs.TreeLooks.{others_valued, value_valued}
-use Rattle.dav_core.proofs.FrontLemmas.{parent-append, name-itself as name-itself_cmp}
-use Rattle.dav_core.proofs.MemberLemmas.{members_stand_below}
+use Rattle.dav_core.proofs.Theorems.{parent-append, name-itself as name-itself_cmp, members_stand_below}
 use Rattle.std.specs.Map.{lookup}
 use Rattle.std.specs.Option.{option_map_or}
 use Rattle.dav_store.specs.Tree.{Tree, value_of, with_value, has_children, has_some, children_of, node, Node}

@@ -7,12 +7,12 @@ use Rattle.std.specs.Result.{IsOk, OnOk}
 use Rattle.std.specs.FinMap.{find, put}
 use Rattle.dav_core.specs.Path.{Path, path_cmp, parent_of, IsSegment, is_root, is_nonempty, name_cmp}
 use Rattle.dav_core.specs.World.{Node as Seen, Nodes, is_folder_node, is_folder_kind, prune, moved as moved_nodes, file_made_with, members}
-use Rattle.dav_core.proofs.FrontLemmas.{shape}
+use Rattle.dav_core.proofs.Theorems.{shape}
 use Rattle.dav_store.specs.Tree.{Tree, Node, node, value_of, single, leaf, added, deleted, moved, Does, DoesOrLacks, delete_refusal, has_children, has_some, children_of, root_id}
 use Rattle.dav_store.specs.Placed.{named, placed, found, stands, bare, is_same_name, IsGrown, IsMadeMap, IsChild}
 use Rattle.dav_store.specs.Entries.{IsKept}
 use Rattle.dav_store.proofs.Walks.{inner}
-use Rattle.dav_store.proofs.Placing.{number_is, named_from, name-itself}
+use Rattle.dav_store.proofs.Placing.{number_is, named_from, name-itself, root_there}
 use Rattle.dav_store.proofs.TreePaths.{then_same, some_is, none-below, found-push}
 use Rattle.dav_store.proofs.TreeCalls.{node_of_value, none_of_value, is_added, is_deleted, is_moved}
 use Rattle.dav_store.proofs.PlacedCalls.{grown_with, placed_with, grown_without, placed_without, grown_elsewhere, placed_elsewhere}
@@ -102,13 +102,13 @@ module _ {Z S : Type 0} (t : Tree (Vec ℕ Z) Seen) (made : HashMap ℕ ℕ S) (
     }
 
 -- ---- the root alone, and a copy
-grown_single : (root : Seen) → IsGrown (single {K = List ℕ} root)
+grown_single : (root : Seen) → is_folder_kind root.kind ≡ true → IsGrown (single {K = List ℕ} root)
 unfolding IsDistinct
-grown_single root = record {
+grown_single root folder = record {
   above = begins_at_the_root (List ℕ) Seen root;
   numbers = (tt, tt);
   names = λ n. by (is_at (nat_cmp n) 1);
-  root = refl;
+  root = folder;
   children = λ n k m e. absurd (no_child n k m (is_at (nat_cmp n) 1) e);
   once = λ n k l m e f. absurd (no_child n k m (is_at (nat_cmp n) 1) e);
   reached = λ m some. ([], at m (is_at (nat_cmp m) 1) refl some);
@@ -123,9 +123,9 @@ grown_single root = record {
   at m true is some = ap Some (sym (number_is m 1 is))
   at m false is some = let no : false ≡ true = some in cc
 
-pub kept_single : {Z S : Type 0} (root : Seen) (made later : HashMap ℕ ℕ S) → made.entries ≡ [] → ((q : ℕ) → get nat_eq later q ≡ cond (root.made == q) (Some 1) (get nat_eq made q)) → IsKept (single {K = Vec ℕ Z} root) later
-kept_single {Z} root made later empty map = record {
-  grown = grown_single root;
+pub kept_single : {Z S : Type 0} (root : Seen) (made later : HashMap ℕ ℕ S) → is_folder_kind root.kind ≡ true → made.entries ≡ [] → ((q : ℕ) → get nat_eq later q ≡ cond (root.made == q) (Some 1) (get nat_eq made q)) → IsKept (single {K = Vec ℕ Z} root) later
+kept_single {Z} root made later folder empty map = record {
+  grown = grown_single root folder;
   map = record {
     each = λ m v e.
         let is = value_single m v (is_at (nat_cmp m) 1) refl e in
@@ -165,6 +165,13 @@ items_cloned R same (x ∷ xs) (y ∷ ys) z = λ i. same x y z.0 i ∷ items_clo
 -- what a call leaves that no rule refuses
 pub does_new : {X Y : Type 0} (refusal : Option FsError) (answer : Y) (done old new : X) (result : Result Y FsError) → refusal ≡ None → Does refusal answer done result old new → new ≡ done
 does_new refusal answer done old new result free does = (subst (λ r. Does r answer done result old new) free does).1
+
+-- what isn't a folder isn't the root
+pub below_root : {Z S : Type 0} (t : Tree (Vec ℕ Z) Seen) (made : HashMap ℕ ℕ S) → IsKept t made → (ns : Nodes) → placed (bare t) ≡ ns → (q : Path) → (is_root q && is_folder_node (find path_cmp q ns)) ≡ false → is_root q ≡ false
+below_root t made kept ns view [] free =
+    let root : is_folder_node (find path_cmp [] ns) ≡ true = ap is_folder_node (value_some t kept.grown ns view [] (Some 1) refl 1 refl ∙ sym (value_bare t 1)) ∙ kept.grown.root in
+    let clash : true ≡ false = sym root ∙ free in cc
+below_root t made kept ns view (x ∷ q) free = refl
 
 -- ---- a node that may be removed
 is_side : (b c : Bool) → (b && c) ≡ false → b ≡ true → c ≡ false
@@ -264,7 +271,7 @@ module _ {Z S : Type 0} (t : Tree (Vec ℕ Z) Seen) (made : HashMap ℕ ℕ S) (
   isnt_root e =
       let root : find path_cmp [] ns ≡ value_of t 1 = value_some t kept.grown ns view [] (Some 1) refl 1 refl in
       let none : value_of (bare t) 1 ≡ None = value_bare t 1 ∙ sym root ∙ ap (λ (r : Path). find path_cmp r ns) (sym e) ∙ free in
-      let no : false ≡ true = sym (ap is_some none) ∙ kept.grown.root in cc
+      let no : false ≡ true = sym (ap is_some none) ∙ root_there (bare t) kept.grown in cc
 
   pub cut_here : (x : List ℕ) × (q ≡ parent_of q ++ x ∷ [])
   cut_here = ⊎_elim (λ e. absurd (isnt_root e)) (λ s. s) (shape q)

@@ -9,7 +9,7 @@ use Rattle.dav_core.specs.Path.{Path, path_cmp, parent_of, rest_after, is_at_or_
 use Rattle.dav_core.specs.World.{Node as Seen, Nodes, is_folder_node, moved as moved_nodes}
 use Rattle.dav_core.specs.declared.errors.FsError.{FsError}
 use Rattle.dav_core.specs.declared.errors.FsError.TheVariants.{NotFound, Exists, Forbidden}
-use Rattle.dav_core.proofs.FrontLemmas.{shape, rest_after-append}
+use Rattle.dav_core.proofs.Theorems.{shape, rest_after-append}
 use Rattle.dav_store.specs.Tree.{Tree, Node, node, value_of, children_of, has_children, has_some, child, is_child, is_at_or_below, key_refusal, move_refusal, moved, root_id}
 use Rattle.dav_store.specs.Placed.{named, placed, found, bare, is_same_name, IsGrown}
 use Rattle.dav_store.specs.Entries.{IsKept}

@@ -6,7 +6,7 @@ use Rattle.std.specs.FinMap.{find, is_sorted}
 use Rattle.std.proofs.lemmas.Bool.{cases_Bool, cases_eq, eqb-true, eq-eqb}
 use Rattle.dav_core.specs.Path.{Path, path_cmp}
 use Rattle.dav_core.specs.World.{Node as Seen, Nodes, is_folder_kind, is_folder_node, is_file_made_with, file_made_with, change_node, adjust}
-use Rattle.dav_core.proofs.MadeLemmas.{made_stands, change_made}
+use Rattle.dav_core.proofs.Theorems.{made_stands, change_made}
 use Rattle.dav_store.specs.Tree.{Tree, value_of}
 use Rattle.dav_store.specs.Placed.{named, placed, found, stands, IsGrown, IsMadeMap}
 use Rattle.dav_store.proofs.Walks.{inner}

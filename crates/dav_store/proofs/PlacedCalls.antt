@@ -5,8 +5,7 @@ use Rattle.std.specs.FinMap.{find, put, is_sorted}
 use Rattle.std.proofs.lemmas.Bool.{cases_Bool, cases_eq}
 use Rattle.dav_core.specs.Path.{Path, path_cmp, is_same_path, is_at_or_under, rest_after, IsSegment}
 use Rattle.dav_core.specs.World.{Node as Seen, Nodes, is_folder_kind, is_folder_node, adjust, prune, moved as moved_nodes}
-use Rattle.dav_core.proofs.NodesLemmas.{find-adjust, find-put_node, sorted-put_node, same_path, path-itself, apart as apart_path}
-use Rattle.dav_core.proofs.NodesAfter.{find-prune, sorted-prune, find-moved, sorted-moved, adjust_keeps_order}
+use Rattle.dav_core.proofs.Theorems.{find-adjust, find-put_node, sorted-put_node, same_path, path-itself, find-prune, sorted-prune, find-moved, sorted-moved, adjust_keeps_order}
 use Rattle.dav_store.specs.Tree.{Tree, Node, node, value_of, parent_of, with_value, added, deleted, moved, root_id}
 use Rattle.dav_store.specs.Placed.{is_same_name, named, placed, found, stands, IsChild, IsGrown}
 use Rattle.dav_store.proofs.Walks.{inner}
@@ -58,7 +57,7 @@ module _ (t : Tree (List ℕ) Seen) (grown : IsGrown t) where
       above = looks.none_valued t m v here.0 here.1 grown.above;
       numbers = (looks.once_valued t m v here.0 here.1 (once_of t grown)).numbers;
       names = (looks.once_valued t m v here.0 here.1 (once_of t grown)).names;
-      root = some_valued root_id ∙ grown.root;
+      root = folder_valued root_id ∙ grown.root;
       children = λ n k x e.
           let c = grown.children n k x (sym (named_same n k) ∙ e) in
           record {

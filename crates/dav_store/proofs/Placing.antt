@@ -15,8 +15,8 @@ use Rattle.std.proofs.lemmas.Bool.{cases_Bool, eqb-true, eq-eqb}
 use Rattle.std.proofs.lemmas.Slice.Eq.{slice_eq-Decides}
 use Rattle.std.proofs.lemmas.List.{reverse-reverse}
 use Rattle.dav_core.specs.Path.{Path, path_cmp, is_same_path}
-use Rattle.dav_core.specs.World.{Node as Seen, Nodes}
-use Rattle.dav_core.proofs.NodesLemmas.{path_total, path_exact, same_path, path-itself}
+use Rattle.dav_core.specs.World.{Node as Seen, Nodes, is_folder_node}
+use Rattle.dav_core.proofs.Theorems.{path_total, path_exact, same_path, path-itself}
 use Rattle.dav_store.specs.Tree.{Tree, Node, node, value_of, parent_of, children_of, child, root_id, NoneAbove}
 use Rattle.dav_store.specs.Walks.{reach, walk, climb}
 use Rattle.dav_store.specs.Placed.{is_same_name, name_among, named, seat, seat_of, by_path, placed, found, stands, IsChild, IsGrown}
@@ -114,7 +114,14 @@ value_there {D} t m h = by (node t m) refl h where
   by None is h = let no : false ≡ true = h in cc
   by (Some x) is h = (x, is)
 
+pub folder_there : (o : Option Seen) → is_folder_node o ≡ true → IsSome o
+folder_there None h = cc
+folder_there (Some x) h = refl
+
 module _ (t : Tree (List ℕ) Seen) (grown : IsGrown t) where
+  pub root_there : IsSome (value_of t root_id)
+  root_there = folder_there (value_of t root_id) grown.root
+
   down_seat : (n : ℕ) (k : List ℕ) (m : ℕ) → named t n k ≡ Some m → seat t m ≡ Some (Some (n, k))
   down_seat n k m e =
       let c = grown.children n k m e in
@@ -151,7 +158,7 @@ module _ (t : Tree (List ℕ) Seen) (grown : IsGrown t) where
   seats_within : (m : ℕ) (p : Option (ℕ × List ℕ)) → seat t m ≡ Some p → m ≤ t.last
   seats_within m p e =
       ⊎_elim
-      (λ a. let root = value_there t 1 grown.root in there_within m (ap is_some (ap (node t) (eqb-true m 1 a) ∙ root.1)))
+      (λ a. let root = value_there t 1 root_there in there_within m (ap is_some (ap (node t) (eqb-true m 1 a) ∙ root.1)))
       (λ a. let other : (m ≡ 1 → ⊥) = λ one. let yes = eq-eqb m 1 one in cc in there_within m (seat_some t m p (node t m) (sym (seat_other t m other) ∙ e)).0)
       (cases_Bool (m == 1))
 

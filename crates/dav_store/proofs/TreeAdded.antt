@@ -5,13 +5,12 @@ use Rattle.std.specs.Option.{option_and_then, IsSome, is_some}
 use Rattle.std.proofs.lemmas.Bool.{cases_eq}
 use Rattle.dav_core.specs.Path.{Path, rest_after, is_same_path, IsSegment}
 use Rattle.dav_core.specs.World.{Node as Seen, is_folder_node}
-use Rattle.dav_core.proofs.FrontLemmas.{rest_after-append, from_rest}
-use Rattle.dav_core.proofs.NodesLemmas.{path-itself}
+use Rattle.dav_core.proofs.Theorems.{from_rest, path-itself}
 use Rattle.dav_store.specs.Tree.{Tree, value_of, parent_of, NoneAbove, root_id}
 use Rattle.dav_store.specs.Walks.{walk}
 use Rattle.dav_store.specs.Placed.{named, found, stands, IsChild, IsGrown}
 use Rattle.dav_store.proofs.Walks.{inner}
-use Rattle.dav_store.proofs.Placing.{one_at}
+use Rattle.dav_store.proofs.Placing.{root_there}
 use Rattle.dav_store.proofs.TreeLooks.{IsOnce, cases_seat}
 use Rattle.dav_store.proofs.TreePaths.{some_is, then_same, not_longer, no_rest_from, no_rest_if, differs, differs_behind, found_there, found-push, found-below, none-below, leaf_below, outside, goes_by}
 
@@ -93,7 +92,7 @@ module _ (t : Tree (List ℕ) Seen) (grown : IsGrown t) (u : Tree (List ℕ) See
   child_new n l x same e =
       let is : m ≡ x = inner m x (sym added.here ∙ (λ i. named u (sym same.0 i) (sym same.1 i)) ∙ e) in
       record {
-        not_root = λ r. isnt_new root_id grown.root (sym (is ∙ r));
+        not_root = λ r. isnt_new root_id (root_there t grown) (sym (is ∙ r));
         there = ap is_some (ap (value_of u) (sym is) ∙ added.value);
         parent = ap (parent_of u) (sym is) ∙ added.parent ∙ sym same.0;
         name = subst IsSegment (sym same.1) segment;
@@ -140,7 +139,7 @@ module _ (t : Tree (List ℕ) Seen) (grown : IsGrown t) (u : Tree (List ℕ) See
     above = added.above;
     numbers = added.once.numbers;
     names = added.once.names;
-    root = ap is_some (added.values root_id (isnt_new root_id grown.root)) ∙ grown.root;
+    root = ap is_folder_node (added.values root_id (isnt_new root_id (root_there t grown))) ∙ grown.root;
     children = λ n l x e. ⊎_elim (λ same. child_new n l x same e) (λ other. child_old n l x (sym (added.others n l other) ∙ e)) (cases_seat n p l k);
     once = once_by;
     reached = λ x some. ⊎_elim (λ e. (full, found_full ∙ ap Some (sym e))) (λ other. reached_old x (sym (ap is_some (added.values x other)) ∙ some)) (cases_eq x m);

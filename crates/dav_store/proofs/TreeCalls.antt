@@ -11,8 +11,6 @@ use Rattle.std.proofs.lemmas.Cmp.{nat_list_eq_equiv}
 use Rattle.std.proofs.lemmas.Map.Entries.{place_from_lookup, lookup_from_place}
 use Rattle.dav_core.specs.Path.{Path, path_cmp, is_same_path, is_at_or_under, rest_after, IsSegment}
 use Rattle.dav_core.specs.World.{Node as Seen, Nodes, is_folder_node, adjust, prune, moved as moved_nodes}
-use Rattle.dav_core.proofs.NodesLemmas.{find-adjust, find-put_node, sorted-put_node, sorted-change, same_path, path-itself, apart as apart_path}
-use Rattle.dav_core.proofs.NodesAfter.{find-prune, sorted-prune, find-moved, sorted-moved, adjust_keeps_order}
 use Rattle.dav_store.specs.Tree.{Tree, Node, node, value_of, parent_of, children_of, with_value, without, without_old, grown as grown_tree, leaf, linked, unlinked_at, unlinked, seated, place_of, is_child, added, deleted, moved, moved_over, NoneAbove, root_id}
 use Rattle.dav_store.specs.Placed.{is_same_name, named, placed, found, stands, IsChild, IsGrown}
 use Rattle.dav_store.proofs.TreeNumbers.{adds_the_next_number, keeps_numbers}

@@ -4,7 +4,7 @@ use Rattle.std.specs.Option.{option_and_then, IsSome, is_some}
 use Rattle.std.proofs.lemmas.Bool.{cases_eq}
 use Rattle.dav_core.specs.Path.{Path, rest_after, is_at_or_under}
 use Rattle.dav_core.specs.World.{Node as Seen, is_folder_node}
-use Rattle.dav_core.proofs.FrontLemmas.{from_rest}
+use Rattle.dav_core.proofs.Theorems.{from_rest}
 use Rattle.dav_store.specs.Tree.{Tree, value_of, parent_of, NoneAbove, root_id}
 use Rattle.dav_store.specs.Placed.{named, found, stands, IsChild, IsGrown}
 use Rattle.dav_store.proofs.Walks.{inner}
@@ -91,7 +91,7 @@ module _ (t : Tree (List ℕ) Seen) (grown : IsGrown t) (u : Tree (List ℕ) See
     above = deleted.above;
     numbers = deleted.once.numbers;
     names = deleted.once.names;
-    root = ap is_some (deleted.values root_id (λ e. (grown.children p k m child).not_root (sym e))) ∙ grown.root;
+    root = ap is_folder_node (deleted.values root_id (λ e. (grown.children p k m child).not_root (sym e))) ∙ grown.root;
     children = child_still;
     once = λ n l o x a b. grown.once n l o x (is_old n l x a) (is_old n o x b);
     reached = λ x some. ⊎_elim

@@ -5,7 +5,7 @@ use Rattle.std.specs.Option.{option_and_then, option_or, IsSome, is_some}
 use Rattle.std.proofs.lemmas.Bool.{cases_eq}
 use Rattle.dav_core.specs.Path.{Path, rest_after, is_at_or_under, IsSegment}
 use Rattle.dav_core.specs.World.{Node as Seen, is_folder_node}
-use Rattle.dav_core.proofs.FrontLemmas.{from_rest}
+use Rattle.dav_core.proofs.Theorems.{from_rest}
 use Rattle.dav_store.specs.Tree.{Tree, value_of, parent_of, NoneAbove, root_id}
 use Rattle.dav_store.specs.Walks.{walk}
 use Rattle.dav_store.specs.Placed.{named, found, stands, IsChild, IsGrown}
@@ -171,7 +171,7 @@ module _ (t : Tree (List ℕ) Seen) (grown : IsGrown t) (u : Tree (List ℕ) See
     above = moved.above;
     numbers = moved.once.numbers;
     names = moved.once.names;
-    root = ap is_some (moved.values root_id (λ e. (grown.children tp tk root_id (old_is ∙ e)).not_root refl)) ∙ grown.root;
+    root = ap is_folder_node (moved.values root_id (λ e. (grown.children tp tk root_id (old_is ∙ e)).not_root refl)) ∙ grown.root;
     children = λ m l x e. ⊎_elim (λ one. child_new m l x one.0 one.1 one.2) (λ one. child_old m l x one.0 one.1 one.2) (which m l x e);
     once = once_by;
     reached = λ x some. ⊎_elim

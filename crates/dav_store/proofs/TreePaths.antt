@@ -3,13 +3,12 @@ use Rattle.std.proofs.Common.{◌≡◌, ℕ, ◌+◌, Bool, true, false, cond, 
 use Rattle.std.specs.Option.{option_and_then, IsSome, is_some}
 use Rattle.dav_core.specs.Path.{Path, rest_after, is_at_or_under, is_same_path}
 use Rattle.dav_core.specs.World.{Node as Seen}
-use Rattle.dav_core.proofs.FrontLemmas.{rest_after-append, from_rest}
-use Rattle.dav_core.proofs.NodesLemmas.{same_path, path-itself}
+use Rattle.dav_core.proofs.Theorems.{rest_after-append, from_rest, same_path}
 use Rattle.dav_store.specs.Tree.{Tree, value_of, parent_of}
 use Rattle.dav_store.specs.Walks.{walk, reach}
 use Rattle.dav_store.specs.Placed.{named, found, stands, IsGrown}
 use Rattle.dav_store.proofs.Walks.{walk-append, walk-push, walk_same, inner, reach-reverse, before}
-use Rattle.dav_store.proofs.Placing.{one_at}
+use Rattle.dav_store.proofs.Placing.{one_at, root_there}
 
 pub some_is : {X : Type 0} (o : Option X) → IsSome o → (x : X) × (o ≡ Some x)
 some_is None h = let no : false ≡ true = h in cc
@@ -77,7 +76,7 @@ module _ (t : Tree (List ℕ) Seen) where
   pub found_there : IsGrown t → (q : Path) (m : ℕ) → found t q ≡ Some m → IsSome (value_of t m)
   found_there grown q m e = by (reverse q) (reach-reverse (named t) q ∙ e) where
     by : (r : Path) → reach (named t) r ≡ Some m → IsSome (value_of t m)
-    by [] h = ap is_some (ap (value_of t) (sym (inner 1 m h))) ∙ grown.root
+    by [] h = ap is_some (ap (value_of t) (sym (inner 1 m h))) ∙ root_there t grown
     by (k ∷ r) h = let b = before (named t) k r m h in (grown.children b.0 k m b.2).there
 
   -- a child has one parent and one name

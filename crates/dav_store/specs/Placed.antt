@@ -73,12 +73,12 @@ pub record IsChild (t : Tree (List ℕ) Seen) (n : ℕ) (k : List ℕ) (m : ℕ)
   pub folder : is_folder_node (value_of t n) ≡ true
 
 -- What holds of a tree whose keys are names: no number and no name of a node's child comes twice, no child has two
--- names, and each node is at a path.
+-- names, the root is a folder, and each node is at a path.
 pub record IsGrown (t : Tree (List ℕ) Seen) : Type 0 where
   pub above : NoneAbove t
   pub numbers : IsDistinct (eq_by_cmp nat_cmp) (keys_of t.nodes)
   pub names : (n : ℕ) → IsDistinct is_same_name (keys_of (children_of t n))
-  pub root : IsSome (value_of t root_id)
+  pub root : is_folder_node (value_of t root_id) ≡ true
   pub children : (n : ℕ) (k : List ℕ) (m : ℕ) → named t n k ≡ Some m → IsChild t n k m
   pub once : (n : ℕ) (k l : List ℕ) (m : ℕ) → named t n k ≡ Some m → named t n l ≡ Some m → k ≡ l
   pub reached : (m : ℕ) → IsSome (value_of t m) → (q : Path) × (found t q ≡ Some m)

@@ -1,8 +1,8 @@
 //! Paths and their nodes, as a store in memory keeps them: a tree whose keys are names.
-ghost use Rattle.std.specs.Prelude.{◌≡◌, ◌∷◌, ◌++◌, [], IfOk, option_copied};
+ghost use Rattle.std.specs.Prelude.{◌≡◌, ◌∷◌, ◌++◌, [], true, IfOk, option_copied};
 ghost use Rattle.std.specs.FinMap.{find};
 ghost use Rattle.dav_core.specs.Path.{names, path_cmp, parent_of, is_nonempty};
-ghost use Rattle.dav_core.specs.World.{is_folder_node, is_file_node, file_made_with, members};
+ghost use Rattle.dav_core.specs.World.{is_folder_kind, is_folder_node, is_file_node, file_made_with, members};
 
 pub mod changes;
 mod finding;
@@ -52,8 +52,9 @@ impl Clone for Entries {
     }
 }
 
-/// The root alone.
+/// The root alone, a folder.
 pub fn of_root(alloc: Global, root: Node) -> Result<Entries, NoMemory>
+    requires { is_folder_kind root.kind ≡ true }
     ensures { IfOk result (λ es. es ≡ ([], root) ∷ []) }
 {
     let mut made = HashMap::new(alloc);

@@ -150,7 +150,8 @@ pub fn prune(entries: &mut Entries, path: &DavPath)
     requires there { IsSome (find path_cmp (names path.now) entries.old) }
     requires bare { (is_folder_node (find path_cmp (names path.now) entries.old)
         && is_nonempty (members (names path.now) entries.old)) ≡ false }
-    requires below { is_root (names path.now) ≡ false }
+    requires below { (is_root (names path.now)
+        && is_folder_node (find path_cmp (names path.now) entries.old)) ≡ false }
     ensures { entries.new ≡ prune (names path.now) entries.old }
 {
     let Some(id) = finding::find(&entries.tree, path).at else {

@@ -6,7 +6,7 @@ use Rattle.dav_store.specs.Tree.{delete_refusal, deleted}
 use Rattle.dav_store.specs.Placed.{placed, bare}
 use Rattle.dav_store.specs.Entries.{IsKept}
 use Rattle.dav_store.proofs.EntryLemmas.{value_none, value_some}
-use Rattle.dav_store.proofs.KeptCalls.{does_new, not_refused, kept_pruned, view_pruned}
+use Rattle.dav_store.proofs.KeptCalls.{below_root, does_new, not_refused, kept_pruned, view_pruned}
 use Rattle.dav_store.proofs.entries.changes.prune.Goals as goal
 
 pub same-entries : goal.same-entries
@@ -25,11 +25,11 @@ returns-in_default-get_node c =
 
 pub invariant_of-entries : goal.invariant_of-entries
 invariant_of-entries c =
-    subst (λ u. IsKept u c.remove.new.self) (sym (does_new (delete_refusal c.entries.inside.tree c.in-Some.id) _ (deleted c.entries.inside.tree c.in-Some.id) c.entries.inside.tree c.delete_node.new.self c.delete_node.result (not_refused c.entries.inside.tree c.entries.inside.made c.entries.invariant c.args.entries.now c.entries.view_is (names c.args.path.now) c.find.result.at c.find.ensures.at c.in-Some.id c.in-Some.is c.requires.below c.requires.bare) c.delete_node.ensures))
-    (kept_pruned c.entries.inside.tree c.entries.inside.made c.entries.invariant c.args.entries.now c.entries.view_is (names c.args.path.now) c.find.result.at c.find.ensures.at c.in-Some.id c.in-Some.is c.requires.below c.requires.bare c.in-Ok.node.now c.remove.new.self c.in-Ok.ensures.value
+    subst (λ u. IsKept u c.remove.new.self) (sym (does_new (delete_refusal c.entries.inside.tree c.in-Some.id) _ (deleted c.entries.inside.tree c.in-Some.id) c.entries.inside.tree c.delete_node.new.self c.delete_node.result (not_refused c.entries.inside.tree c.entries.inside.made c.entries.invariant c.args.entries.now c.entries.view_is (names c.args.path.now) c.find.result.at c.find.ensures.at c.in-Some.id c.in-Some.is (below_root c.entries.inside.tree c.entries.inside.made c.entries.invariant c.args.entries.now c.entries.view_is (names c.args.path.now) c.requires.below) c.requires.bare) c.delete_node.ensures))
+    (kept_pruned c.entries.inside.tree c.entries.inside.made c.entries.invariant c.args.entries.now c.entries.view_is (names c.args.path.now) c.find.result.at c.find.ensures.at c.in-Some.id c.in-Some.is (below_root c.entries.inside.tree c.entries.inside.made c.entries.invariant c.args.entries.now c.entries.view_is (names c.args.path.now) c.requires.below) c.requires.bare c.in-Ok.node.now c.remove.new.self c.in-Ok.ensures.value
     (λ q. c.remove.ensures.updates.0 q ∙ ap (λ (k : ℕ). cond (nat_eq k q) None (get nat_eq c.entries.inside.made q)) c.creation_number-made.ensures))
 
 pub returns : goal.returns
 returns c =
-    ap (λ u. placed (bare u)) (does_new (delete_refusal c.entries.inside.tree c.in-Some.id) _ (deleted c.entries.inside.tree c.in-Some.id) c.entries.inside.tree c.delete_node.new.self c.delete_node.result (not_refused c.entries.inside.tree c.entries.inside.made c.entries.invariant c.args.entries.now c.entries.view_is (names c.args.path.now) c.find.result.at c.find.ensures.at c.in-Some.id c.in-Some.is c.requires.below c.requires.bare) c.delete_node.ensures)
-    ∙ view_pruned c.entries.inside.tree c.entries.inside.made c.entries.invariant c.args.entries.now c.entries.view_is (names c.args.path.now) c.find.result.at c.find.ensures.at c.in-Some.id c.in-Some.is c.requires.below c.requires.bare
+    ap (λ u. placed (bare u)) (does_new (delete_refusal c.entries.inside.tree c.in-Some.id) _ (deleted c.entries.inside.tree c.in-Some.id) c.entries.inside.tree c.delete_node.new.self c.delete_node.result (not_refused c.entries.inside.tree c.entries.inside.made c.entries.invariant c.args.entries.now c.entries.view_is (names c.args.path.now) c.find.result.at c.find.ensures.at c.in-Some.id c.in-Some.is (below_root c.entries.inside.tree c.entries.inside.made c.entries.invariant c.args.entries.now c.entries.view_is (names c.args.path.now) c.requires.below) c.requires.bare) c.delete_node.ensures)
+    ∙ view_pruned c.entries.inside.tree c.entries.inside.made c.entries.invariant c.args.entries.now c.entries.view_is (names c.args.path.now) c.find.result.at c.find.ensures.at c.in-Some.id c.in-Some.is (below_root c.entries.inside.tree c.entries.inside.made c.entries.invariant c.args.entries.now c.entries.view_is (names c.args.path.now) c.requires.below) c.requires.bare
