@@ -28,6 +28,7 @@ pub mod EntryLemmas
 pub mod KeptCalls
 pub mod KeptMoves
 pub mod MadeWrites
+pub mod ListedMembers
 pub mod IndexLemmas
 pub mod IndexSound
 pub mod IndexCalls

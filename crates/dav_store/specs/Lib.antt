@@ -10,4 +10,5 @@ pub mod TreeLends
 pub mod Entries
 pub mod Walks
 pub mod Placed
+pub mod ChildOrder
 pub mod LockIndex

@@ -165,9 +165,9 @@ fn properties_after(
 }
 
 impl MemFs {
-    ghost use Rattle.std.specs.Prelude.{◌≡◌, ◌≤◌, ◌<◌, Ok, IfOk, OnErr, IfSome, IsSome, false, max, ℕ, List, length};
-    ghost use Rattle.dav_core.specs.Path.{names};
-    ghost use Rattle.dav_core.specs.World.{empty_from, last_moment, last_number, node_at, fresh, Node as Seen};
+    ghost use Rattle.std.specs.Prelude.{◌≡◌, ◌≤◌, ◌<◌, Ok, None, IfOk, OnErr, IfSome, IsSome, false, true, max, ℕ, List, length};
+    ghost use Rattle.dav_core.specs.Path.{names, parent_of};
+    ghost use Rattle.dav_core.specs.World.{empty_from, last_moment, last_number, node_at, is_folder, is_folder_kind, fresh, Node as Seen};
     ghost use Rattle.dav_core.specs.Calls.{with_copy, open_found, open_missing, write_bytes};
     ghost use Rattle.dav_core.specs.Metadata.{opening_of};
     ghost use Rattle.dav_core.specs.Asking.{seen};
@@ -191,10 +191,13 @@ impl MemFs {
         })
     }
 
-    // Puts a copy at a path where there is a file or nothing.
+    // Puts a copy of a file at a path in a folder, where there is a file or nothing.
     fn put_copy(&mut self, alloc: Global, to: &DavPath, copy: Node, now: u64) -> FsResult<()>
         requires now { now ≤ last_moment }
         requires next { self.old.world.next < last_number }
+        requires file { is_folder_kind copy.kind ≡ false }
+        requires free { is_folder self.old.world (names to.now) ≡ false }
+        requires folder { is_folder self.old.world (parent_of (names to.now)) ≡ true }
         ensures { (source : Seen) → copy
             ≡ record (fresh self.old.world.next source.kind now) { properties = source.properties }
             → Answers (Ok (
@@ -258,7 +261,8 @@ impl MemFs {
         options: &OpenOptions,
         now: u64,
     ) -> FsResult<MemFile>
-        requires { now ≤ last_moment }
+        requires now { now ≤ last_moment }
+        requires missing { node_at self.old.world (names path.now) ≡ None }
         ensures { Answers (open_missing self.old.world (names path.now)
             (opening_of options.now) now) result self.old self.new }
     {
