@@ -1,6 +1,6 @@
 -- The members of a folder, from the children of its node in the order of their names.
 use Rattle.std.proofs.Common.{◌≡◌, ℕ, suc, zero, ◌<◌, ◌≤◌, ◌+◌, Bool, true, false, cond, T, List, [], ◌∷◌, ◌++◌, map, All, length, get_or, Option, Some, None, refl, sym, ap, subst, ◌∙◌, ⊎_elim, arith, IsPermutation}
-use Rattle.std.specs.Prelude.{Vec}
+use Rattle.std.specs.Prelude.{Vec, Result, Ok, Err, IfOk}
 use Rattle.std.specs.declared.cmp.Ordering.{Ordering}
 use Rattle.std.specs.declared.cmp.Ordering.TheVariants.{Less, Equal, Greater}
 use Rattle.std.specs.Ordering.{nat_cmp, is_eq, is_lt, ordering_then, ordering_reverse}
@@ -125,7 +125,7 @@ still_found name e es true h = refl
 still_found name e es false h = h
 
 each_found : (es : List (List ℕ × ℕ)) → All (λ e. IsSome (lookup (is_same_name e.0) es)) es
-each_found [] = All-nil (λ e. IsSome (lookup (is_same_name e.0) []))
+each_found [] = All-nil (λ (e : List ℕ × ℕ). IsSome {T = ℕ} (lookup (is_same_name e.0) []))
 each_found (e ∷ es) =
     All-cons (λ f. IsSome (lookup (is_same_name f.0) (e ∷ es))) e es (ap (λ b. is_some (cond b (Some e.1) (lookup (is_same_name e.0) es))) (name-itself e.0))
     (λ k d lt. still_found (get_or es k d).0 e es (is_same_name (get_or es k d).0 e.0) (each_found es k d lt))
@@ -190,3 +190,8 @@ pub children_listed : {Z : Type 0} (t : Tree (Vec ℕ Z) Seen) (id : ℕ) (IsClo
 children_listed t id IsClone same listed sorted clones moves =
     subst (λ (cs : List (List ℕ × ℕ)). IsPermutation cs (bare_children sorted)) (bare_listed IsClone same (children_of t id) listed clones ∙ sym (children_bare t id))
     (IsPermutation-map (λ (e : Vec _ _ × ℕ). (e.0.items, e.1)) listed sorted moves)
+
+-- what is listed, where memory doesn't run out
+pub then_listed : {X Z E : Type 0} (r : Result (Vec X Z) E) (xs ys : List X) → IfOk r (λ list. list.items ≡ xs) → xs ≡ ys → IfOk r (λ list. list.items ≡ ys)
+then_listed (Ok list) xs ys h e = h ∙ e
+then_listed (Err x) xs ys h e = tt
