@@ -1,8 +1,19 @@
-use Rattle.std.proofs.Common.{arith}
+use Rattle.std.proofs.Common.{◌≡◌, true, false, List, [], ◌∷◌, ◌++◌, Option, None, Some, refl, sym, ap, ◌∙◌, append-nil, arith}
+use Rattle.std.specs.Option.{is_some}
 use Rattle.std.proofs.lemmas.Grind.{common_steps}
-use Rattle.dav_core.specs.Path.{names}
+use Rattle.dav_core.specs.Path.{Path, names, rest_after, is_same_path, has_names}
+use Rattle.dav_core.proofs.Theorems.{from_rest, path-itself}
 use Rattle.dav_store.proofs.AskingLemmas.{asks_rename}
 use Rattle.dav_store.proofs.memfs.filesystem.MemFsDavFileSystem.rename.Goals as goal
+
+-- a path that isn't another, nor under it, isn't at or under it
+apart : (p q : Path) (o : Option Path) → rest_after p q ≡ o → is_same_path p q ≡ false → has_names o ≡ false → is_some o ≡ false
+apart p q None is same under = refl
+apart p q (Some []) is same under = let yes : is_same_path p q ≡ true = ap (is_same_path p) (from_rest p q [] is ∙ append-nil p) ∙ path-itself p in let clash : true ≡ false = sym yes ∙ same in cc
+apart p q (Some (x ∷ r)) is same under = cc
+
+pub move_nodes-requires-clause-apart : goal.move_nodes-requires-clause-apart
+move_nodes-requires-clause-apart c = apart (names c.args.from.now) (names c.args.to.now) (rest_after (names c.args.from.now) (names c.args.to.now)) refl (sym c.is_same.ensures ∙ c.if-is_same.false) (sym c.is_under.ensures ∙ c.if-is_under.false)
 
 pub returns-then-is_root : goal.returns-then-is_root
 returns-then-is_root c = asks_rename (names c.args.from.now) (names c.args.to.now) c.args.now c.args.self.now _ _ (grind (arith, common_steps))
