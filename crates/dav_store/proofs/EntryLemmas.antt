@@ -73,9 +73,6 @@ module _ {Z : Type 0} (t : Tree (Vec ℕ Z) Seen) (grown : IsGrown (bare t)) (ns
   pub value_none : at ≡ None → find path_cmp q ns ≡ None
   value_none is = value_at ∙ ap (option_and_then (value_of t)) is
 
-  pub is_folder_at : is_folder_node (find path_cmp q ns) ≡ is_folder_node (option_and_then (value_of t) at)
-  is_folder_at = ap is_folder_node value_at
-
   pub file_there : (id : ℕ) → at ≡ Some id → (w : Seen) → Some w ≡ value_of t id → is_folder_node (find path_cmp q ns) ≡ false → is_folder_kind w.kind ≡ false
   file_there id is w value file = sym (ap is_folder_node (value_some id is ∙ sym value)) ∙ file
 

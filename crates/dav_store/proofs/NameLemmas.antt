@@ -11,19 +11,6 @@ use Rattle.std.specs.declared.cmp.Ordering.TheVariants.{Less, Equal, Greater}
 use Rattle.std.specs.Ordering.{is_eq, ordering_then}
 use Rattle.dav_core.specs.Path.{Path, name_cmp, is_same_path, parent_of, is_nonempty, names_in, names_of, last_name, star, IsSegment}
 
-same_then : (o p : Ordering) (b : Bool) → is_eq o ≡ b → cond b (is_eq p) false ≡ is_eq (ordering_then o p)
-same_then Less p b h = ap (λ c. cond c (is_eq p) false) (sym h)
-same_then Equal p b h = ap (λ c. cond c (is_eq p) false) (sym h)
-same_then Greater p b h = ap (λ c. cond c (is_eq p) false) (sym h)
-
--- the names are all but the last of a path's exactly where the first is equal and the others are all but the last of
--- the others
-pub all_but_last : (b : Bool) (x s : List ℕ) (left rest : Path) (ns : Path) (d : List ℕ) → left ≡ s ∷ rest → 0 < length ns → is_eq (name_cmp x (get_or ns 0 d)) ≡ b
-    → cond b (is_same_path (parent_of (s ∷ rest)) (take (length ns - 1) (drop 1 ns))) false ≡ is_same_path (parent_of (x ∷ left)) ns
-all_but_last b x s left rest [] d e some h = absurd (omega arith)
-all_but_last b x s left rest (n ∷ ns) d e some h =
-    ap (λ (p : Path). cond b (is_same_path (parent_of (s ∷ rest)) p) false) (take_rest (n ∷ ns) 1) ∙ same_then (name_cmp x n) _ b h ∙ ap (λ (p : Path). is_same_path (parent_of (x ∷ p)) (n ∷ ns)) (sym e)
-
 -- bytes without a slash
 abbrev Slashless : List ℕ → Type 0
 Slashless p = AllByRecursion (λ b. b ≢ 47) p

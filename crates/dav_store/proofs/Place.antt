@@ -77,23 +77,6 @@ module _ {K X : Type 0} (R : K → K → Ordering) where
   find_none k [] h = refl
   find_none k (x ∷ xs) h = ap (λ b. cond b (Some x.1) (find R k xs)) h.0 ∙ find_none k xs h.1
 
--- the node at the first place is changed
-pub changed_at : (test : Path × Node → Bool) (g : Node → Node) (xs : Nodes) (i : ℕ) (e : Path × Node) (n : Node) → IsFirst test xs i e → n ≡ g e.1
-    → set xs i (e.0, n) ≡ change_node test g xs
-changed_at test g [] i e n h is = absurd h
-changed_at test g (x ∷ xs) zero e n h is =
-    ap (λ (z : Path × Node). (z.0, n) ∷ xs) (sym h.1) ∙ ap (λ (m : Node). (x.0, m) ∷ xs) (is ∙ ap (λ (z : Path × Node). g z.1) (sym h.1))
-    ∙ sym (ap (λ b. cond b ((x.0, g x.1) ∷ xs) (x ∷ change_node test g xs)) h.0)
-changed_at test g (x ∷ xs) (suc i) e n h is =
-    ap (λ (ns : Nodes). x ∷ ns) (changed_at test g xs i e n h.1 is)
-    ∙ sym (ap (λ b. cond b ((x.0, g x.1) ∷ xs) (x ∷ change_node test g xs)) h.0)
-
-pub changed_none : (test : Path × Node → Bool) (g : Node → Node) (xs : Nodes) → NonePasses test xs → xs ≡ change_node test g xs
-changed_none test g [] h = refl
-changed_none test g (x ∷ xs) h =
-    ap (λ (ns : Nodes). x ∷ ns) (changed_none test g xs h.1)
-    ∙ sym (ap (λ b. cond b ((x.0, g x.1) ∷ xs) (x ∷ change_node test g xs)) h.0)
-
 -- where a key is after another one, the third of the cases is taken
 not_after : {A : Type 0} (o : Ordering) (a b c : A) → is_le o ≡ false → by_order o a b c ≡ c
 not_after Less a b c h = cc
@@ -147,7 +130,3 @@ pub first_of : {E : Type 0} (test : E → Bool) (xs : List E) (i : ℕ) (e : E) 
 first_of test [] i e h = absurd h
 first_of test (x ∷ xs) zero e h = ap (λ b. cond b (Some x) (first test xs)) h.0 ∙ ap Some h.1
 first_of test (x ∷ xs) (suc i) e h = ap (λ b. cond b (Some x) (first test xs)) h.0 ∙ first_of test xs i e h.1
-
-pub first_none : {E : Type 0} (test : E → Bool) (xs : List E) → NonePasses test xs → first test xs ≡ None
-first_none test [] h = refl
-first_none test (x ∷ xs) h = ap (λ b. cond b (Some x) (first test xs)) h.0 ∙ first_none test xs h.1

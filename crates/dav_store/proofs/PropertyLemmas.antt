@@ -30,7 +30,3 @@ answered_more ys y said told p before one now =
 pub answers_are : (ys : List (Bool × Property)) → map answer_to ys ≡ map (λ patch. (200, without_xml (patched_property patch))) (map patch_of ys)
 answers_are [] = refl
 answers_are (y ∷ ys) = ap (λ (rest : List (ℕ × Property)). answer_to y ∷ rest) (answers_are ys)
-
--- there is one node at a path
-pub same_node : (n m : Node) → Some n ≡ Some m → n ≡ m
-same_node n m e = ap (λ o. unwrap_or o n) e

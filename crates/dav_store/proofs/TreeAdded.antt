@@ -12,7 +12,7 @@ use Rattle.dav_store.specs.Placed.{named, found, stands, IsChild, IsGrown}
 use Rattle.dav_store.proofs.Walks.{inner}
 use Rattle.dav_store.proofs.Placing.{root_there}
 use Rattle.dav_store.proofs.TreeLooks.{IsOnce, cases_seat}
-use Rattle.dav_store.proofs.TreePaths.{some_is, then_same, not_longer, no_rest_from, no_rest_if, differs, differs_behind, found_there, found-push, found-below, none-below, leaf_below, outside, goes_by}
+use Rattle.dav_store.proofs.TreePaths.{some_is, then_same, not_longer, no_rest_from, differs, differs_behind, found_there, found-push, found-below, none-below, leaf_below, outside, goes_by}
 
 -- u is t with a new node m of value v under the name k of p
 pub record IsAdded (t u : Tree (List ℕ) Seen) (p : ℕ) (k : List ℕ) (m : ℕ) (v : Seen) : Type 0 where

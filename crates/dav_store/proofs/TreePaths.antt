@@ -35,12 +35,6 @@ not_behind p s l e =
 pub no_rest_from : (p q : Path) → rest_after p q ≡ None → (b : Path) → q ≡ p ++ b → ⊥
 no_rest_from p q none b e = let some : rest_after p q ≡ Some b = ap (rest_after p) e ∙ rest_after-append p b in let clash : None ≡ Some b = sym none ∙ some in cc
 
-pub no_rest_if : (p q : Path) → ((b : Path) → q ≡ p ++ b → ⊥) → rest_after p q ≡ None
-no_rest_if p q h = by (rest_after p q) refl where
-  by : (o : Option Path) → rest_after p q ≡ o → o ≡ None
-  by None is = refl
-  by (Some b) is = absurd (h b (from_rest p q b is))
-
 pub differs : (p q : Path) → rest_after p q ≡ None → is_same_path q p ≡ false
 differs p q none = by (is_same_path q p) refl where
   empty : (r : Path) → r ≡ r ++ []

@@ -109,7 +109,7 @@ fn bytes_after_write(
 }
 
 impl Node {
-    ghost use Rattle.std.specs.Prelude.{◌≡◌, ◌≤◌, ◌+◌, ◌==◌, ◌&&◌, not, [], length, take, drop, ◌≢◌, IfOk, OnOk, OnErr};
+    ghost use Rattle.std.specs.Prelude.{◌≡◌, ◌≤◌, ◌+◌, [], length, take, drop, ◌≢◌, IfOk, OnOk, OnErr};
     ghost use Rattle.dav_core.specs.World.{bytes_of, is_folder_kind, fresh, modified_at, last_moment, max_file_len, Folder as FolderKind, File as FileKind};
     ghost use Rattle.dav_core.specs.Calls.{metadata_of, emptied, written, repatched, copied_over};
 
@@ -151,13 +151,6 @@ impl Node {
             Content::Folder => true,
             Content::File(_) => false,
         }
-    }
-
-    /// Whether it is the file that was created under this change number.
-    pub fn is_file_made_with(&self, made: u64) -> bool
-        ensures { result ≡ ((self.now.made == made) && not (is_folder_kind self.now.kind)) }
-    {
-        self.made == made && !self.is_folder()
     }
 
     /// The change number under which it was created.
