@@ -11,6 +11,8 @@ use Rattle.dav_core.proofs.Theorems.{shape}
 use Rattle.dav_store.specs.Tree.{Tree, Node, node, value_of, single, leaf, added, deleted, moved, Does, DoesOrLacks, delete_refusal, has_children, has_some, children_of, root_id}
 use Rattle.dav_store.specs.Placed.{named, placed, found, stands, bare, is_same_name, IsGrown, IsMadeMap, IsChild}
 use Rattle.dav_store.specs.Entries.{IsKept}
+use Rattle.dav_store.specs.Makings.{AreMadeBefore}
+use Rattle.dav_store.proofs.MadeBefore.{before_found}
 use Rattle.dav_store.proofs.Walks.{inner}
 use Rattle.dav_store.proofs.Placing.{number_is, named_from, name-itself, root_there}
 use Rattle.dav_store.proofs.TreePaths.{then_same, some_is, none-below, found-push}
@@ -260,9 +262,16 @@ pub on_ok : {A E : Type 0} (r : Result A E) (P : Type 0) → IsOk r → OnOk r P
 on_ok (Ok x) P i h = h
 on_ok (Err e) P i h = let no : false ≡ true = i in cc
 
-pub not_some : {A : Type 0} (o : Option A) (b : Bool) → b ≡ is_some o → b ≡ false → o ≡ None
-not_some None b e h = refl
-not_some (Some x) b e h = let no : false ≡ true = sym h ∙ e in cc
+-- where all nodes were made under numbers below one, none was made under that one
+pub unmade : {Z S : Type 0} (t : Tree (Vec ℕ Z) Seen) (made : HashMap ℕ ℕ S) → IsKept t made → (ns : Nodes) → placed (bare t) ≡ ns → (n : ℕ) → AreMadeBefore n ns → get nat_eq made n ≡ None
+unmade t made kept ns view n before = by (get nat_eq made n) refl where
+  by : (o : Option ℕ) → get nat_eq made n ≡ o → o ≡ None
+  by None e = refl
+  by (Some m) e =
+      let one = kept.map.only n m e in
+      let at = kept.grown.reached m (ap is_some one.1) in
+      let stood : find path_cmp at.0 ns ≡ Some one.0 = value_some t kept.grown ns view at.0 (Some m) (sym at.1) m refl ∙ sym (value_bare t m) ∙ one.1 in
+      absurd (omega (arith, one.2, before_found n ns at.0 one.0 before stood))
 
 -- ---- a node that may be put at a path
 module _ {Z S : Type 0} (t : Tree (Vec ℕ Z) Seen) (made : HashMap ℕ ℕ S) (kept : IsKept t made) (ns : Nodes) (view : placed (bare t) ≡ ns) (q : Path) (above : Option ℕ) (here : above ≡ found (bare t) (parent_of q)) (id : ℕ) (is : above ≡ Some id)

@@ -22,6 +22,7 @@ pub mod TreeDeleted
 pub mod TreeMoved
 pub mod TreeCalls
 pub mod PlacedCalls
+pub mod MadeBefore
 pub mod MadeMaps
 pub mod BareTrees
 pub mod EntryLemmas

@@ -11,4 +11,5 @@ pub mod Entries
 pub mod Walks
 pub mod Placed
 pub mod ChildOrder
+pub mod Makings
 pub mod LockIndex

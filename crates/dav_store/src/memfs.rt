@@ -40,12 +40,15 @@ pub struct MemFs {
 impl Model for MemFs {
     ghost use Rattle.dav_store.specs.Store.{Store};
     ghost use Rattle.dav_store.specs.StoreCode.{coded_store};
+    ghost use Rattle.dav_store.specs.Makings.{AreMadeBefore};
 
     ghost Value = { Store };
 
     ghost coded = { coded_store };
 
     ghost view = { λ s. record { world = record { nodes = s.entries; next = s.next }; short = s.short } };
+
+    ghost invariant = { λ s. AreMadeBefore s.next s.entries };
 }
 
 /// An independent copy: a change to one doesn't change the other.

@@ -6,6 +6,7 @@ ghost use Rattle.dav_core.specs.Path.{names, path_cmp, parent_of, is_at_or_under
 ghost use Rattle.dav_core.specs.World.{adjust, touched, prune, moved, members, is_folder_node, is_folder_kind, last_moment, max_file_len, change_node, is_file_made_with, Node as Seen, fresh};
 ghost use Rattle.dav_core.specs.Calls.{emptied, written, copied_over, repatched};
 ghost use Rattle.dav_core.specs.Property.{Patch, patched};
+ghost use Rattle.dav_store.specs.Makings.{AreMadeBefore};
 
 use super::{Entries, finding};
 use crate::node::Node;
@@ -96,8 +97,8 @@ pub fn write_file_made_with(
     node.write(alloc, place, chunk, number, now)
 }
 
-/// Adds a new node at a path where nothing is, below a folder, and changes that folder at this moment. Where memory runs
-/// out, nothing changes.
+/// Adds a new node at a path where nothing is, below a folder, and changes that folder at this moment. The number of its
+/// creation is above those of all others. Where memory runs out, nothing changes.
 pub fn add_node(
     alloc: Global,
     entries: &mut Entries,
@@ -107,6 +108,7 @@ pub fn add_node(
 ) -> Result<(), NoMemory>
     requires folder { is_folder_node (find path_cmp (parent_of (names path.now)) entries.old) ≡ true }
     requires free { find path_cmp (names path.now) entries.old ≡ None }
+    requires new { AreMadeBefore node.made entries.old }
     requires now { now ≤ last_moment }
     ensures ok { OnOk result (entries.new
         ≡ touched (names path.now) now (put path_cmp (names path.now) node entries.old)) }
@@ -126,6 +128,7 @@ fn put_new(
 ) -> Result<(), NoMemory>
     requires folder { is_folder_node (find path_cmp (parent_of (names path.now)) entries.old) ≡ true }
     requires free { find path_cmp (names path.now) entries.old ≡ None }
+    requires new { AreMadeBefore node.made entries.old }
     ensures ok { OnOk result (entries.new ≡ put path_cmp (names path.now) node entries.old) }
     ensures err { OnErr result (entries.new ≡ entries.old) }
 {
@@ -133,9 +136,6 @@ fn put_new(
     let Some(folder) = finding::find(&entries.tree, path).above else {
         return Err(AllocError);
     };
-    if entries.made.contains_key(&made) {
-        return Err(AllocError);
-    }
     let name = Vec::from_slice(alloc, path.file_name_bytes())?;
     entries.made.reserve(1)?;
     let Ok(id) = entries.tree.add_child(alloc, folder, name, node, false) else {

@@ -1,10 +1,10 @@
-use Rattle.std.proofs.Common.{ℕ, ◌<◌, nat_eq, cond, Some, Ok, refl, arith, ◌∷◌, ◌++◌, [], sym, ap, subst, ◌∙◌}
+use Rattle.std.proofs.Common.{◌<◌, nat_eq, cond, Some, Ok, refl, arith, sym, ap, subst, ◌∙◌}
 use Rattle.std.specs.HashMap.{get, spare}
 use Rattle.dav_core.specs.Path.{names, parent_of, IsSegment}
 use Rattle.dav_store.proofs.NameLemmas.{last_name_is, last_is_segment}
 use Rattle.dav_store.specs.Entries.{IsKept}
 use Rattle.dav_store.specs.Placed.{placed, bare}
-use Rattle.dav_store.proofs.KeptCalls.{kept_reordered, lacking_new, answered_new, kept_put, view_put, cut_here, on_ok, not_some}
+use Rattle.dav_store.proofs.KeptCalls.{kept_reordered, lacking_new, answered_new, kept_put, view_put, cut_here, on_ok, unmade}
 use Rattle.dav_store.proofs.entries.changes.put_new.Goals as goal
 
 pub invariant_of-entries : goal.invariant_of-entries
@@ -29,7 +29,7 @@ invariant_of-entries-2 c =
     (c.in_ok-name.ensures.items ∙ c.file_name_bytes.ensures ∙ last_name_is c.args.path.now.bytes (parent_of (names c.args.path.now)) (cut_here c.entries.inside.tree c.entries.inside.made c.entries.invariant c.args.entries.now c.entries.view_is (names c.args.path.now) c.find.result.above c.find.ensures.above c.in-Some.folder c.in-Some.is c.requires.free c.requires.folder).0 (cut_here c.entries.inside.tree c.entries.inside.made c.entries.invariant c.args.entries.now c.entries.view_is (names c.args.path.now) c.find.result.above c.find.ensures.above c.in-Some.folder c.in-Some.is c.requires.free c.requires.folder).1)
     (subst IsSegment (sym (c.in_ok-name.ensures.items ∙ c.file_name_bytes.ensures ∙ last_name_is c.args.path.now.bytes (parent_of (names c.args.path.now)) (cut_here c.entries.inside.tree c.entries.inside.made c.entries.invariant c.args.entries.now c.entries.view_is (names c.args.path.now) c.find.result.above c.find.ensures.above c.in-Some.folder c.in-Some.is c.requires.free c.requires.folder).0 (cut_here c.entries.inside.tree c.entries.inside.made c.entries.invariant c.args.entries.now c.entries.view_is (names c.args.path.now) c.find.result.above c.find.ensures.above c.in-Some.folder c.in-Some.is c.requires.free c.requires.folder).1)) (last_is_segment c.args.path.now.bytes (parent_of (names c.args.path.now)) (cut_here c.entries.inside.tree c.entries.inside.made c.entries.invariant c.args.entries.now c.entries.view_is (names c.args.path.now) c.find.result.above c.find.ensures.above c.in-Some.folder c.in-Some.is c.requires.free c.requires.folder).0 (cut_here c.entries.inside.tree c.entries.inside.made c.entries.invariant c.args.entries.now c.entries.view_is (names c.args.path.now) c.find.result.above c.find.ensures.above c.in-Some.folder c.in-Some.is c.requires.free c.requires.folder).1))
     c.insert.new.self
-    (ap (get nat_eq c.entries.inside.made) (sym c.creation_number-made.ensures) ∙ not_some (get nat_eq c.entries.inside.made c.creation_number-made.result) c.contains_key.result c.contains_key.ensures c.if-contains_key.false)
+    (unmade c.entries.inside.tree c.entries.inside.made c.entries.invariant c.args.entries.now c.entries.view_is c.args.node.made c.requires.new)
     (λ n. updates.0 n ∙ (λ i. cond (nat_eq (c.creation_number-made.ensures i) n) (Some (done.1 i)) (c.reserve.ensures.entries.2 n i))))
 
 pub returns-clause-ok : goal.returns-clause-ok
