@@ -18,6 +18,7 @@ pub mod RunLemmas
 pub mod HomeLemmas
 pub mod FoundLemmas
 pub mod MoveLemmas
+pub mod PathNumbers
 pub mod IndexLemmas
 pub mod IndexSound
 pub mod IndexCalls
