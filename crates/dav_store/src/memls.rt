@@ -238,7 +238,10 @@ fn conflict_in<'a>(
 {
     match conflict_place(locks, path, who, deep) {
         None => None,
-        Some(i) => Some(&locks[i].lock),
+        Some(i) => {
+            let kept = &locks[i];
+            Some(&kept.lock)
+        }
     }
 }
 
