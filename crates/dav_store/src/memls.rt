@@ -10,6 +10,7 @@ ghost use Rattle.dav_store.specs.LockCalls.{requester_in, IsNamedPlace};
 ghost use Rattle.dav_store.specs.LockIndex.{IsIndexOf, tally, times, path_keys};
 
 mod index;
+mod kept;
 #[cfg(test)]
 mod tests;
 
@@ -19,6 +20,7 @@ use dav_core::element::Element;
 use dav_core::errors::NoMemory;
 use dav_core::ls::{DavLock, DavLockSystem, LockRefusal, RefreshRefusal};
 use index::Counts;
+use kept::{Kept, Sought, covers, ends_at, is_at_or_below, is_below, set_timeout};
 use std::alloc::Global;
 use std::marker::Model;
 
@@ -45,102 +47,6 @@ impl Model for MemLs {
     ghost view = { λ s. s.locks.items };
 
     ghost invariant = { λ s. IsIndexOf s.index s.locks.items };
-}
-
-/// A lock, with the number of its path and how many names that has, by which most other paths are told from it at once.
-#[derive(Drop)]
-struct Kept {
-    number: u64,
-    len: usize,
-    lock: DavLock,
-}
-
-impl Model for Kept {
-    ghost use Rattle.std.specs.Prelude.{◌≡◌, length};
-    ghost use Rattle.dav_core.specs.Path.{names};
-    ghost use Rattle.dav_core.specs.Locks.{Lock};
-    ghost use Rattle.dav_core.specs.LockCode.{lock_code};
-    ghost use Rattle.dav_store.specs.LockIndex.{path_number};
-
-    ghost Value = { Lock };
-
-    ghost coded = { lock_code };
-
-    ghost view = { λ k. k.lock };
-
-    ghost invariant = { λ k. (k.number ≡ path_number (names k.lock.path))
-        × (k.len ≡ length (names k.lock.path)) };
-}
-
-/// A path for which locks are looked for, with its number and how many names it has.
-#[derive(Drop)]
-struct Sought<'a> {
-    number: u64,
-    len: usize,
-    path: &'a DavPath,
-}
-
-impl<'a> Model for Sought<'a> {
-    ghost use Rattle.std.specs.Prelude.{◌≡◌, length};
-    ghost use Rattle.dav_core.specs.Path.{PathText, names};
-    ghost use Rattle.dav_store.specs.LockIndex.{path_number};
-
-    ghost Value = { PathText };
-
-    ghost view = { λ s. s.path.now };
-
-    ghost invariant = { λ s. (s.number ≡ path_number (names s.path.now))
-        × (s.len ≡ length (names s.path.now)) };
-}
-
-// A path, with its numbers.
-fn with_number(path: &DavPath) -> Sought<'_>
-    ensures { result ≡ path.now }
-{
-    Sought {
-        number: index::path_number(path),
-        len: paths::count(path),
-        path,
-    }
-}
-
-// Whether a lock is on a path.
-#[tactic(auto, using(crate::proofs::PathNumbers::other_numbers))]
-fn is_on(kept: &Kept, path: &Sought<'_>) -> bool
-    ensures { result ≡ is_same_path (names kept.now.path) (names path.now) }
-{
-    kept.number == path.number && paths::is_same(&kept.lock.path, path.path)
-}
-
-// Whether a lock is on a path above this one.
-#[tactic(auto, using(crate::proofs::PathNumbers::not_longer))]
-fn is_above(kept: &Kept, path: &Sought<'_>) -> bool
-    ensures { result ≡ is_under (names path.now) (names kept.now.path) }
-{
-    kept.len < path.len && paths::is_under(path.path, &kept.lock.path)
-}
-
-// Whether a lock is on a path below this one.
-#[tactic(auto, using(crate::proofs::PathNumbers::not_longer))]
-fn is_below(kept: &Kept, path: &Sought<'_>) -> bool
-    ensures { result ≡ is_under (names kept.now.path) (names path.now) }
-{
-    path.len < kept.len && paths::is_under(&kept.lock.path, path.path)
-}
-
-// Whether a lock is on a path or below it.
-#[tactic(auto, using(crate::proofs::PathNumbers::at_or_under_apart))]
-fn is_at_or_below(kept: &Kept, path: &Sought<'_>) -> bool
-    ensures { result ≡ is_at_or_under (names kept.now.path) (names path.now) }
-{
-    is_on(kept, path) || is_below(kept, path)
-}
-
-// Whether a lock covers a path.
-fn covers(kept: &Kept, path: &Sought<'_>) -> bool
-    ensures { result ≡ covers kept.now (names path.now) }
-{
-    is_on(kept, path) || kept.lock.deep && is_above(kept, path)
 }
 
 // Whether a token is among the submitted ones.
@@ -177,8 +83,8 @@ fn is_of(lock: &DavLock, principal: Option<&str>, ignore_principal: bool) -> boo
 fn is_held(kept: &Kept, who: Requester<'_>) -> bool
     ensures { result ≡ is_held (requester_in who.entry) kept.now }
 {
-    has_token(who.tokens, &kept.lock.token)
-        && is_of(&kept.lock, who.principal, who.ignore_principal)
+    let lock = kept.lock();
+    has_token(who.tokens, &lock.token) && is_of(lock, who.principal, who.ignore_principal)
 }
 
 // Whether the requester holds some lock that covers a path.
@@ -202,7 +108,7 @@ fn conflicts(
         (λ l. covers l (names path.now) && is_held (requester_in who.entry) l) locks.now)))
         || (deep && is_at_or_under (names kept.now.path) (names path.now)))) }
 {
-    (covers(kept, path) && (!kept.lock.shared || !any_held(locks, path, who))
+    (covers(kept, path) && (!kept.lock().shared || !any_held(locks, path, who))
         || deep && is_at_or_below(kept, path))
         && !is_held(kept, who)
 }
@@ -238,10 +144,7 @@ fn conflict_in<'a>(
 {
     match conflict_place(locks, path, who, deep) {
         None => None,
-        Some(i) => {
-            let kept = &locks[i];
-            Some(&kept.lock)
-        }
+        Some(i) => Some(locks[i].lock()),
     }
 }
 
@@ -260,6 +163,14 @@ fn check_in<'a>(
     }
 }
 
+// Whether a lock has this token and is on the first so many names of a path.
+fn is_named(lock: &DavLock, path: &DavPath, token: &str, len: usize) -> bool
+    ensures { result ≡ (bytes_eq lock.now.token token.now
+        && is_same_path (names lock.now.path) (take len (names path.now))) }
+{
+    lock.token.as_str() == token && paths::is_front(&lock.path, path, len)
+}
+
 // The place of the first lock that has this token and is on the first so many names of a path.
 fn named_at(locks: &[Kept], path: &DavPath, token: &str, len: usize) -> Option<usize>
     ensures { result ≡ position
@@ -268,7 +179,7 @@ fn named_at(locks: &[Kept], path: &DavPath, token: &str, len: usize) -> Option<u
 {
     locks
         .iter()
-        .position(|l| l.lock.token.as_str() == token && paths::is_front(&l.lock.path, path, len))
+        .position(|l| is_named(l.lock(), path, token, len))
 }
 
 // The place of the lock that a token and a path mean.
@@ -297,7 +208,7 @@ fn any_excludes(locks: &[Kept], path: &Sought<'_>, shared: bool) -> bool
 {
     locks
         .iter()
-        .any(|l| covers(l, path) && !(l.lock.shared && shared))
+        .any(|l| covers(l, path) && !(l.lock().shared && shared))
 }
 
 // Whether there is a lock below a path.
@@ -329,18 +240,7 @@ fn refuses(
         (λ l. covers l (names path.now) && not (l.shared && shared)) locks.now
         || (deep && list_any (λ l. is_under (names l.path) (names path.now)) locks.now)) }
 {
-    index::may_matter(index, path, deep) && any_refuses(locks, &with_number(path), shared, deep)
-}
-
-// The moment at which a lock ends that lasts for so many seconds; `None` for one that never ends.
-fn ends_at(now: u64, timeout: Option<u64>) -> Option<u64>
-    requires { IfSome timeout (λ seconds. now + seconds ≤ max_u64) }
-    ensures { result ≡ ends_at now timeout }
-{
-    match timeout {
-        Some(seconds) => Some(now + seconds),
-        None => None,
-    }
+    index::may_matter(index, path, deep) && any_refuses(locks, &Sought::new(path), shared, deep)
 }
 
 // An owned copy of a text.
@@ -398,11 +298,7 @@ fn keep(locks: &mut Vec<Kept>, lock: DavLock) -> Result<DavLock, NoMemory>
     ensures err { OnErr result (locks.new.items ≡ locks.old.items) }
 {
     let copy = lock.clone()?;
-    locks.push(Kept {
-        number: index::path_number(&copy.path),
-        len: paths::count(&copy.path),
-        lock: copy,
-    })?;
+    locks.push(Kept::new(copy))?;
     Ok(lock)
 }
 
@@ -417,28 +313,8 @@ fn unlock_in(locks: &mut Vec<Kept>, path: &DavPath, token: &str) -> Result<DavLo
 {
     match named_place(locks, path, token) {
         None => Err(()),
-        Some(i) => {
-            let Kept { lock, .. } = locks.remove(i);
-            Ok(lock)
-        }
+        Some(i) => Ok(locks.remove(i).into_lock()),
     }
-}
-
-// Gives a lock a new timeout.
-fn set_timeout(lock: &mut DavLock, timeout: Option<u64>, now: u64)
-    requires { IfSome timeout (λ seconds. now + seconds ≤ max_u64) }
-    ensures { lock.new ≡ refreshed_lock timeout now lock.old }
-{
-    lock.timeout_at = ends_at(now, timeout);
-    lock.timeout = timeout;
-}
-
-// Gives a lock of the list a new timeout.
-fn extend(kept: &mut Kept, timeout: Option<u64>, now: u64)
-    requires { IfSome timeout (λ seconds. now + seconds ≤ max_u64) }
-    ensures { kept.new ≡ refreshed_lock timeout now kept.old }
-{
-    set_timeout(&mut kept.lock, timeout, now);
 }
 
 // Gives the lock that a token and a path mean a new timeout, and returns a copy of it.
@@ -463,11 +339,11 @@ fn refresh_in(
     let Some(i) = named_place(locks, path, token) else {
         return Err(RefreshRefusal::NotThere);
     };
-    let Ok(mut lock) = locks[i].lock.clone() else {
+    let Ok(mut lock) = locks[i].lock().clone() else {
         return Err(RefreshRefusal::Memory);
     };
     set_timeout(&mut lock, timeout, now);
-    extend(&mut locks[i], timeout, now);
+    locks[i].set_timeout(timeout, now);
     Ok(lock)
 }
 
@@ -483,8 +359,9 @@ fn push_covering(
         && covers l (names path.now)) locks.now) }
 {
     for kept in locks {
-        if covers(kept, path) && paths::is_front(&kept.lock.path, path.path, len) {
-            found.push(kept.lock.clone()?)?;
+        let lock = kept.lock();
+        if covers(kept, path) && paths::is_front(&lock.path, path.path(), len) {
+            found.push(lock.clone()?)?;
         }
     }
     Ok(())
@@ -495,7 +372,7 @@ fn discover_in(alloc: Global, locks: &[Kept], path: &Sought<'_>) -> Result<Vec<D
     ensures { IfOk result (λ found. found.items ≡ discovered (names path.now) locks.now) }
 {
     let mut found = Vec::new(alloc);
-    for len in 0..=path.len {
+    for len in 0..=path.len() {
         push_covering(&mut found, locks, path, len)?;
     }
     Ok(found)
@@ -578,20 +455,20 @@ impl DavLockSystem for MemLs {
             principal,
             ignore_principal,
         };
-        check_in(&self.locks, &with_number(path), who, deep)
+        check_in(&self.locks, &Sought::new(path), who, deep)
     }
 
     fn discover(&self, alloc: Global, path: &DavPath) -> Result<Vec<DavLock>, NoMemory> {
         if !index::may_matter(&self.index, path, false) {
             return Ok(Vec::new(alloc));
         }
-        discover_in(alloc, &self.locks, &with_number(path))
+        discover_in(alloc, &self.locks, &Sought::new(path))
     }
 
     fn delete(&mut self, path: &DavPath) -> Result<(), ()> {
         if index::may_matter(&self.index, path, true) {
             index::lower_below(&mut self.index, &self.locks, path);
-            drop_below(&mut self.locks, &with_number(path));
+            drop_below(&mut self.locks, &Sought::new(path));
         }
         Ok(())
     }

@@ -9,7 +9,7 @@ ghost use Rattle.dav_core.specs.Path.{names, is_at_or_under};
 ghost use Rattle.dav_core.specs.Locks.{Lock};
 ghost use Rattle.dav_store.specs.LockIndex.{with_byte, with_name, path_number, at_key, deep_key, below_key, count_of, one_at, path_keys, times, tally, HasCounts, matters, may_matter};
 
-use super::Kept;
+use super::kept::Kept;
 use crate::paths;
 use dav_core::davpath::DavPath;
 use dav_core::errors::NoMemory;
@@ -161,8 +161,9 @@ impl Counts {
             - tally k (filter (λ l. is_at_or_under (names l.path) (names path.now)) locks.now) }
     {
         for kept in locks {
-            if paths::is_at_or_under(&kept.lock.path, path) {
-                self.lower_path(&kept.lock.path, kept.lock.deep);
+            let lock = kept.lock();
+            if paths::is_at_or_under(&lock.path, path) {
+                self.lower_path(&lock.path, lock.deep);
             }
         }
     }

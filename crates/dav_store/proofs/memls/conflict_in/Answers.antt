@@ -15,4 +15,4 @@ pub returns-in-Some : goal.returns-in-Some
 returns-in-Some c =
     let at = conflict_if_some c.args.deep (requester_in c.args.who) (names c.args.path.now) c.args.locks.now
     (list_any (λ l. covers l (names c.args.path.now) && is_held (requester_in c.args.who) l) c.args.locks.now) c.in-Some.i c.index-locks-i.result refl (sym c.in-Some.ensures) c.index-locks-i.is in
-    subst (λ (l : Lock). Contains c.args.locks.now l × (conflicts c.args.deep (requester_in c.args.who) (names c.args.path.now) c.args.locks.now l ≡ true)) (sym c.kept.view_is) at
+    subst (λ (l : Lock). Contains c.args.locks.now l × (conflicts c.args.deep (requester_in c.args.who) (names c.args.path.now) c.args.locks.now l ≡ true)) (sym c.lock.ensures) at
