@@ -3,7 +3,7 @@ ghost use Rattle.std.specs.Prelude.{◌≡◌, ℕ, ◌&&◌, ◌||◌, ◌+◌,
 ghost use Rattle.std.specs.List.{list_any, filter};
 ghost use Rattle.std.specs.Option.{option_map};
 ghost use Rattle.dav_core.specs.Path.{names, is_same_path, is_under, is_at_or_under};
-ghost use Rattle.dav_core.specs.Locks.{Lock, Checks, lent, covers, requester_of, is_held, is_of, is_free_for, conflicts, ends_at, new_lock, named_lock, unlocked, refreshed, refreshed_lock, discovered, deleted};
+ghost use Rattle.dav_core.specs.Locks.{Lock, Checks, lent, covers, requester_of, is_held, is_of, is_free_for, conflicts, new_lock, named_lock, unlocked, refreshed, refreshed_lock, discovered, deleted};
 ghost use Rattle.dav_core.specs.LockRefusals.{IsRefusedRefresh};
 ghost use Rattle.dav_core.specs.Numbers.{max_u64};
 ghost use Rattle.dav_store.specs.LockCalls.{requester_in, IsNamedPlace};
@@ -96,13 +96,7 @@ fn any_held(locks: &[Kept], path: &Sought<'_>, who: Requester<'_>) -> bool
 }
 
 // Whether a lock of the list conflicts.
-fn conflicts(
-    kept: &Kept,
-    locks: &[Kept],
-    path: &Sought<'_>,
-    who: Requester<'_>,
-    deep: bool,
-) -> bool
+fn conflicts(kept: &Kept, locks: &[Kept], path: &Sought<'_>, who: Requester<'_>, deep: bool) -> bool
     ensures { result ≡ (not (is_held (requester_in who.entry) kept.now)
         && ((covers kept.now (names path.now) && (not kept.now.shared || not (list_any
         (λ l. covers l (names path.now) && is_held (requester_in who.entry) l) locks.now)))
@@ -228,13 +222,7 @@ fn any_refuses(locks: &[Kept], path: &Sought<'_>, shared: bool, deep: bool) -> b
 }
 
 // The same, without a look at the list where the index says that no lock matters.
-fn refuses(
-    locks: &[Kept],
-    index: &Option<Counts>,
-    path: &DavPath,
-    shared: bool,
-    deep: bool,
-) -> bool
+fn refuses(locks: &[Kept], index: &Option<Counts>, path: &DavPath, shared: bool, deep: bool) -> bool
     requires { IsIndexOf index.now locks.now }
     ensures { result ≡ (list_any
         (λ l. covers l (names path.now) && not (l.shared && shared)) locks.now

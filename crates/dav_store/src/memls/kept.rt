@@ -1,6 +1,6 @@
 //! A lock as it is kept, and a path for which locks are looked for: each with the number of its path and how many names
 //! that has, by which most paths are told apart without a look at their names.
-ghost use Rattle.std.specs.Prelude.{◌≡◌, ◌≤◌, ◌+◌, ◌||◌, length, IfSome};
+ghost use Rattle.std.specs.Prelude.{◌≡◌, ◌≤◌, ◌+◌, IfSome};
 ghost use Rattle.dav_core.specs.Path.{names, is_same_path, is_under, is_at_or_under};
 ghost use Rattle.dav_core.specs.Locks.{covers, ends_at, refreshed_lock};
 ghost use Rattle.dav_core.specs.Numbers.{max_u64};
