@@ -30,6 +30,7 @@ pub mod KeptCalls
 pub mod KeptMoves
 pub mod MadeWrites
 pub mod ListedMembers
+pub mod PathNumbers
 pub mod IndexLemmas
 pub mod IndexSound
 pub mod IndexCalls

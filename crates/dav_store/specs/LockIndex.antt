@@ -19,6 +19,10 @@ with_byte n b = n % 4294967291 * 2654435761 + b
 unfoldable pub with_name : ℕ → List ℕ → ℕ
 with_name n name = fold with_byte (with_byte n 47) name
 
+-- the number of a path
+abbrev pub path_number : Path → ℕ
+path_number p = fold with_name root_number p
+
 -- the key of the locks on a path, of those on it that are of infinite depth, and of those on it or below it
 unfoldable pub at_key : ℕ → ℕ
 at_key n = n % 4294967291 * 3

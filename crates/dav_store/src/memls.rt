@@ -3,13 +3,14 @@ ghost use Rattle.std.specs.Prelude.{◌≡◌, ℕ, ◌&&◌, ◌||◌, ◌+◌,
 ghost use Rattle.std.specs.List.{list_any, filter};
 ghost use Rattle.std.specs.Option.{option_map};
 ghost use Rattle.dav_core.specs.Path.{names, is_same_path, is_under, is_at_or_under};
-ghost use Rattle.dav_core.specs.Locks.{Lock, Checks, lent, covers, requester_of, is_held, is_of, is_free_for, conflicts, ends_at, new_lock, named_lock, unlocked, refreshed, refreshed_lock, discovered, deleted};
+ghost use Rattle.dav_core.specs.Locks.{Lock, Checks, lent, covers, requester_of, is_held, is_of, is_free_for, conflicts, new_lock, named_lock, unlocked, refreshed, refreshed_lock, discovered, deleted};
 ghost use Rattle.dav_core.specs.LockRefusals.{IsRefusedRefresh};
 ghost use Rattle.dav_core.specs.Numbers.{max_u64};
 ghost use Rattle.dav_store.specs.LockCalls.{requester_in, IsNamedPlace};
 ghost use Rattle.dav_store.specs.LockIndex.{IsIndexOf, tally, times, path_keys};
 
 mod index;
+mod kept;
 #[cfg(test)]
 mod tests;
 
@@ -19,6 +20,7 @@ use dav_core::element::Element;
 use dav_core::errors::NoMemory;
 use dav_core::ls::{DavLock, DavLockSystem, LockRefusal, RefreshRefusal};
 use index::Counts;
+use kept::{Kept, Sought, covers, ends_at, is_at_or_below, is_below, set_timeout};
 use std::alloc::Global;
 use std::marker::Model;
 
@@ -26,7 +28,7 @@ use std::marker::Model;
 /// moment on when it can't grow.
 #[derive(Drop)]
 pub struct MemLs {
-    locks: Vec<DavLock>,
+    locks: Vec<Kept>,
     index: Option<Counts>,
 }
 
@@ -45,13 +47,6 @@ impl Model for MemLs {
     ghost view = { λ s. s.locks.items };
 
     ghost invariant = { λ s. IsIndexOf s.index s.locks.items };
-}
-
-// Whether a lock covers a path.
-fn covers(lock: &DavLock, path: &DavPath) -> bool
-    ensures { result ≡ covers lock.now (names path.now) }
-{
-    paths::is_same(&lock.path, path) || lock.deep && paths::is_under(path, &lock.path)
 }
 
 // Whether a token is among the submitted ones.
@@ -85,58 +80,54 @@ fn is_of(lock: &DavLock, principal: Option<&str>, ignore_principal: bool) -> boo
 }
 
 // Whether the requester holds a lock.
-fn is_held(lock: &DavLock, who: Requester<'_>) -> bool
-    ensures { result ≡ is_held (requester_in who.entry) lock.now }
+fn is_held(kept: &Kept, who: Requester<'_>) -> bool
+    ensures { result ≡ is_held (requester_in who.entry) kept.now }
 {
+    let lock = kept.lock();
     has_token(who.tokens, &lock.token) && is_of(lock, who.principal, who.ignore_principal)
 }
 
 // Whether the requester holds some lock that covers a path.
-fn any_held(locks: &[DavLock], path: &DavPath, who: Requester<'_>) -> bool
+fn any_held(locks: &[Kept], path: &Sought<'_>, who: Requester<'_>) -> bool
     ensures { result ≡ list_any
         (λ l. covers l (names path.now) && is_held (requester_in who.entry) l) locks.now }
 {
     locks.iter().any(|l| covers(l, path) && is_held(l, who))
 }
 
-// Whether a lock conflicts; `some_held` says whether the requester holds some lock that covers the path.
-fn conflicts(
-    lock: &DavLock,
-    path: &DavPath,
-    who: Requester<'_>,
-    deep: bool,
-    some_held: bool,
-) -> bool
-    ensures { result ≡ (not (is_held (requester_in who.entry) lock.now)
-        && ((covers lock.now (names path.now) && (not lock.now.shared || not some_held))
-        || (deep && is_at_or_under (names lock.now.path) (names path.now)))) }
+// Whether a lock of the list conflicts.
+fn conflicts(kept: &Kept, locks: &[Kept], path: &Sought<'_>, who: Requester<'_>, deep: bool) -> bool
+    ensures { result ≡ (not (is_held (requester_in who.entry) kept.now)
+        && ((covers kept.now (names path.now) && (not kept.now.shared || not (list_any
+        (λ l. covers l (names path.now) && is_held (requester_in who.entry) l) locks.now)))
+        || (deep && is_at_or_under (names kept.now.path) (names path.now)))) }
 {
-    !is_held(lock, who)
-        && (covers(lock, path) && (!lock.shared || !some_held)
-            || deep && paths::is_at_or_under(&lock.path, path))
+    (covers(kept, path) && (!kept.lock().shared || !any_held(locks, path, who))
+        || deep && is_at_or_below(kept, path))
+        && !is_held(kept, who)
 }
 
 // The place of the first lock that conflicts.
 fn conflict_place(
-    locks: &[DavLock],
-    path: &DavPath,
+    locks: &[Kept],
+    path: &Sought<'_>,
     who: Requester<'_>,
     deep: bool,
-    some_held: bool,
 ) -> Option<usize>
     ensures { result ≡ position (λ l. not (is_held (requester_in who.entry) l)
-        && ((covers l (names path.now) && (not l.shared || not some_held))
+        && ((covers l (names path.now) && (not l.shared || not (list_any
+        (λ m. covers m (names path.now) && is_held (requester_in who.entry) m) locks.now)))
         || (deep && is_at_or_under (names l.path) (names path.now)))) locks.now }
 {
     locks
         .iter()
-        .position(|l| conflicts(l, path, who, deep, some_held))
+        .position(|l| conflicts(l, locks, path, who, deep))
 }
 
 // A lock that conflicts; `None` where the path is free.
 fn conflict_in<'a>(
-    locks: &'a [DavLock],
-    path: &DavPath,
+    locks: &'a [Kept],
+    path: &Sought<'_>,
     who: Requester<'_>,
     deep: bool,
 ) -> Option<&'a DavLock>
@@ -145,17 +136,16 @@ fn conflict_in<'a>(
         (λ l. Contains locks.now l.now
         × (conflicts deep (requester_in who.entry) (names path.now) locks.now l.now ≡ true)) }
 {
-    let some_held = any_held(locks, path, who);
-    match conflict_place(locks, path, who, deep, some_held) {
+    match conflict_place(locks, path, who, deep) {
         None => None,
-        Some(i) => Some(&locks[i]),
+        Some(i) => Some(locks[i].lock()),
     }
 }
 
 // `Ok` where a path is free, and else a lock that conflicts.
 fn check_in<'a>(
-    locks: &'a [DavLock],
-    path: &DavPath,
+    locks: &'a [Kept],
+    path: &Sought<'_>,
     who: Requester<'_>,
     deep: bool,
 ) -> Result<(), &'a DavLock>
@@ -167,17 +157,27 @@ fn check_in<'a>(
     }
 }
 
+// Whether a lock has this token and is on the first so many names of a path.
+fn is_named(lock: &DavLock, path: &DavPath, token: &str, len: usize) -> bool
+    ensures { result ≡ (bytes_eq lock.now.token token.now
+        && is_same_path (names lock.now.path) (take len (names path.now))) }
+{
+    lock.token.as_str() == token && paths::is_front(&lock.path, path, len)
+}
+
 // The place of the first lock that has this token and is on the first so many names of a path.
-fn named_at(locks: &[DavLock], path: &DavPath, token: &str, len: usize) -> Option<usize>
+fn named_at(locks: &[Kept], path: &DavPath, token: &str, len: usize) -> Option<usize>
     ensures { result ≡ position
         (λ l. bytes_eq l.token token.now && is_same_path (names l.path) (take len (names path.now)))
         locks.now }
 {
-    locks.iter().position(|l| l.token.as_str() == token && paths::is_front(&l.path, path, len))
+    locks
+        .iter()
+        .position(|l| is_named(l.lock(), path, token, len))
 }
 
 // The place of the lock that a token and a path mean.
-fn named_place(locks: &[DavLock], path: &DavPath, token: &str) -> Option<usize>
+fn named_place(locks: &[Kept], path: &DavPath, token: &str) -> Option<usize>
     ensures { IsNamedPlace token.now (names path.now) locks.now result }
 {
     for len in 0..=paths::count(path) {
@@ -189,31 +189,31 @@ fn named_place(locks: &[DavLock], path: &DavPath, token: &str) -> Option<usize>
 }
 
 // Drops the locks at a path and below it.
-fn drop_below(locks: &mut Vec<DavLock>, path: &DavPath)
+fn drop_below(locks: &mut Vec<Kept>, path: &Sought<'_>)
     ensures { locks.new.items ≡ deleted (names path.now) locks.old.items }
 {
-    locks.retain(|l| !paths::is_at_or_under(&l.path, path));
+    locks.retain(|l| !is_at_or_below(l, path));
 }
 
 // Whether some lock that covers a path excludes a new one there: all but two shared locks exclude each other.
-fn any_excludes(locks: &[DavLock], path: &DavPath, shared: bool) -> bool
+fn any_excludes(locks: &[Kept], path: &Sought<'_>, shared: bool) -> bool
     ensures { result ≡ list_any
         (λ l. covers l (names path.now) && not (l.shared && shared)) locks.now }
 {
     locks
         .iter()
-        .any(|l| covers(l, path) && !(l.shared && shared))
+        .any(|l| covers(l, path) && !(l.lock().shared && shared))
 }
 
 // Whether there is a lock below a path.
-fn any_below(locks: &[DavLock], path: &DavPath) -> bool
+fn any_below(locks: &[Kept], path: &Sought<'_>) -> bool
     ensures { result ≡ list_any (λ l. is_under (names l.path) (names path.now)) locks.now }
 {
-    locks.iter().any(|l| paths::is_under(&l.path, path))
+    locks.iter().any(|l| is_below(l, path))
 }
 
 // Whether some lock conflicts with a new one.
-fn any_refuses(locks: &[DavLock], path: &DavPath, shared: bool, deep: bool) -> bool
+fn any_refuses(locks: &[Kept], path: &Sought<'_>, shared: bool, deep: bool) -> bool
     ensures { result ≡ (list_any
         (λ l. covers l (names path.now) && not (l.shared && shared)) locks.now
         || (deep && list_any (λ l. is_under (names l.path) (names path.now)) locks.now)) }
@@ -222,30 +222,13 @@ fn any_refuses(locks: &[DavLock], path: &DavPath, shared: bool, deep: bool) -> b
 }
 
 // The same, without a look at the list where the index says that no lock matters.
-fn refuses(
-    locks: &[DavLock],
-    index: &Option<Counts>,
-    path: &DavPath,
-    shared: bool,
-    deep: bool,
-) -> bool
+fn refuses(locks: &[Kept], index: &Option<Counts>, path: &DavPath, shared: bool, deep: bool) -> bool
     requires { IsIndexOf index.now locks.now }
     ensures { result ≡ (list_any
         (λ l. covers l (names path.now) && not (l.shared && shared)) locks.now
         || (deep && list_any (λ l. is_under (names l.path) (names path.now)) locks.now)) }
 {
-    index::may_matter(index, path, deep) && any_refuses(locks, path, shared, deep)
-}
-
-// The moment at which a lock ends that lasts for so many seconds; `None` for one that never ends.
-fn ends_at(now: u64, timeout: Option<u64>) -> Option<u64>
-    requires { IfSome timeout (λ seconds. now + seconds ≤ max_u64) }
-    ensures { result ≡ ends_at now timeout }
-{
-    match timeout {
-        Some(seconds) => Some(now + seconds),
-        None => None,
-    }
+    index::may_matter(index, path, deep) && any_refuses(locks, &Sought::new(path), shared, deep)
 }
 
 // An owned copy of a text.
@@ -298,17 +281,17 @@ fn new_lock(
 }
 
 // Puts a copy of a lock after the others, and returns the lock.
-fn keep(locks: &mut Vec<DavLock>, lock: DavLock) -> Result<DavLock, NoMemory>
+fn keep(locks: &mut Vec<Kept>, lock: DavLock) -> Result<DavLock, NoMemory>
     ensures ok { IfOk result (λ l. (l ≡ lock) × (locks.new.items ≡ locks.old.items ++ l ∷ [])) }
     ensures err { OnErr result (locks.new.items ≡ locks.old.items) }
 {
     let copy = lock.clone()?;
-    locks.push(copy)?;
+    locks.push(Kept::new(copy))?;
     Ok(lock)
 }
 
 // Takes the lock that a token and a path mean out of the list.
-fn unlock_in(locks: &mut Vec<DavLock>, path: &DavPath, token: &str) -> Result<DavLock, ()>
+fn unlock_in(locks: &mut Vec<Kept>, path: &DavPath, token: &str) -> Result<DavLock, ()>
     ensures ok { OnOk result (unlocked token.now (names path.now) locks.old.items
         ≡ Some locks.new.items) }
     ensures keys { IfOk result (λ l. (k : ℕ) → tally k locks.old.items
@@ -318,22 +301,13 @@ fn unlock_in(locks: &mut Vec<DavLock>, path: &DavPath, token: &str) -> Result<Da
 {
     match named_place(locks, path, token) {
         None => Err(()),
-        Some(i) => Ok(locks.remove(i)),
+        Some(i) => Ok(locks.remove(i).into_lock()),
     }
-}
-
-// Gives a lock a new timeout.
-fn set_timeout(lock: &mut DavLock, timeout: Option<u64>, now: u64)
-    requires { IfSome timeout (λ seconds. now + seconds ≤ max_u64) }
-    ensures { lock.new ≡ refreshed_lock timeout now lock.old }
-{
-    lock.timeout_at = ends_at(now, timeout);
-    lock.timeout = timeout;
 }
 
 // Gives the lock that a token and a path mean a new timeout, and returns a copy of it.
 fn refresh_in(
-    locks: &mut Vec<DavLock>,
+    locks: &mut Vec<Kept>,
     path: &DavPath,
     token: &str,
     timeout: Option<u64>,
@@ -353,27 +327,28 @@ fn refresh_in(
     let Some(i) = named_place(locks, path, token) else {
         return Err(RefreshRefusal::NotThere);
     };
-    let Ok(mut lock) = locks[i].clone() else {
+    let Ok(mut lock) = locks[i].lock().clone() else {
         return Err(RefreshRefusal::Memory);
     };
     set_timeout(&mut lock, timeout, now);
-    set_timeout(&mut locks[i], timeout, now);
+    locks[i].set_timeout(timeout, now);
     Ok(lock)
 }
 
 // Adds copies of the locks that cover a path and are on its first so many names.
 fn push_covering(
     found: &mut Vec<DavLock>,
-    locks: &[DavLock],
-    path: &DavPath,
+    locks: &[Kept],
+    path: &Sought<'_>,
     len: usize,
 ) -> Result<(), NoMemory>
     ensures { OnOk result (found.new.items
         ≡ found.old.items ++ filter (λ l. is_same_path (names l.path) (take len (names path.now))
         && covers l (names path.now)) locks.now) }
 {
-    for lock in locks {
-        if paths::is_front(&lock.path, path, len) && covers(lock, path) {
+    for kept in locks {
+        let lock = kept.lock();
+        if covers(kept, path) && paths::is_front(&lock.path, path.path(), len) {
             found.push(lock.clone()?)?;
         }
     }
@@ -381,11 +356,11 @@ fn push_covering(
 }
 
 // Copies of the locks that cover a path, those on the shortest path first.
-fn discover_in(alloc: Global, locks: &[DavLock], path: &DavPath) -> Result<Vec<DavLock>, NoMemory>
+fn discover_in(alloc: Global, locks: &[Kept], path: &Sought<'_>) -> Result<Vec<DavLock>, NoMemory>
     ensures { IfOk result (λ found. found.items ≡ discovered (names path.now) locks.now) }
 {
     let mut found = Vec::new(alloc);
-    for len in 0..=paths::count(path) {
+    for len in 0..=path.len() {
         push_covering(&mut found, locks, path, len)?;
     }
     Ok(found)
@@ -468,20 +443,20 @@ impl DavLockSystem for MemLs {
             principal,
             ignore_principal,
         };
-        check_in(&self.locks, path, who, deep)
+        check_in(&self.locks, &Sought::new(path), who, deep)
     }
 
     fn discover(&self, alloc: Global, path: &DavPath) -> Result<Vec<DavLock>, NoMemory> {
         if !index::may_matter(&self.index, path, false) {
             return Ok(Vec::new(alloc));
         }
-        discover_in(alloc, &self.locks, path)
+        discover_in(alloc, &self.locks, &Sought::new(path))
     }
 
     fn delete(&mut self, path: &DavPath) -> Result<(), ()> {
         if index::may_matter(&self.index, path, true) {
             index::lower_below(&mut self.index, &self.locks, path);
-            drop_below(&mut self.locks, path);
+            drop_below(&mut self.locks, &Sought::new(path));
         }
         Ok(())
     }

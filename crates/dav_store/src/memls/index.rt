@@ -7,12 +7,12 @@ ghost use Rattle.std.specs.Prelude.{◌≡◌, ℕ, ◌+◌, ◌-◌, false, Lis
 ghost use Rattle.std.specs.List.{filter, list_any};
 ghost use Rattle.dav_core.specs.Path.{names, is_at_or_under};
 ghost use Rattle.dav_core.specs.Locks.{Lock};
-ghost use Rattle.dav_store.specs.LockIndex.{with_byte, with_name, at_key, deep_key, below_key, count_of, one_at, path_keys, times, tally, HasCounts, matters, may_matter};
+ghost use Rattle.dav_store.specs.LockIndex.{with_byte, with_name, path_number, at_key, deep_key, below_key, count_of, one_at, path_keys, times, tally, HasCounts, matters, may_matter};
 
+use super::kept::Kept;
 use crate::paths;
 use dav_core::davpath::DavPath;
 use dav_core::errors::NoMemory;
-use dav_core::ls::DavLock;
 use std::alloc::{AllocError, Global};
 use std::collections::HashMap;
 
@@ -40,6 +40,13 @@ fn with_name(number: u64, name: &[u8]) -> u64
 {
     name.iter()
         .fold(with_byte(number, b'/'), |n, b| with_byte(n, *b))
+}
+
+/// The number of a path.
+pub fn path_number(path: &DavPath) -> u64
+    ensures { result ≡ path_number (names path.now) }
+{
+    path.segments().fold(ROOT, with_name)
 }
 
 // The key of the locks on a path.
@@ -149,11 +156,12 @@ impl Counts {
     }
 
     // The locks at a path and below it go.
-    fn lower_below(&mut self, locks: &[DavLock], path: &DavPath)
+    fn lower_below(&mut self, locks: &[Kept], path: &DavPath)
         ensures { (k : ℕ) → count_of self.new k ≡ count_of self.old k
             - tally k (filter (λ l. is_at_or_under (names l.path) (names path.now)) locks.now) }
     {
-        for lock in locks {
+        for kept in locks {
+            let lock = kept.lock();
             if paths::is_at_or_under(&lock.path, path) {
                 self.lower_path(&lock.path, lock.deep);
             }
@@ -210,7 +218,7 @@ pub fn lower(index: &mut Option<Counts>, path: &DavPath, deep: bool)
 }
 
 /// The locks at a path and below it go.
-pub fn lower_below(index: &mut Option<Counts>, locks: &[DavLock], path: &DavPath)
+pub fn lower_below(index: &mut Option<Counts>, locks: &[Kept], path: &DavPath)
     ensures { (f : ℕ → ℕ) → HasCounts index.old f → HasCounts index.new (λ k. f k
         - tally k (filter (λ l. is_at_or_under (names l.path) (names path.now)) locks.now)) }
 {

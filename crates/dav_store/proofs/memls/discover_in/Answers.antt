@@ -13,7 +13,7 @@ pub loop-len-preserved : goal.loop-len-preserved
 loop-len-preserved c =
     let f : Path → List Lock = at_front (names c.args.path.now) c.args.locks.now in
     c.in_ok-push_covering.ensures ∙ ap (λ (ms : List Lock). ms ++ f (take c.loop-len.len (names c.args.path.now))) c.loop-len.invariant
-    ∙ sym (gathered_more f (names c.args.path.now) c.loop-len.len (omega (arith, c.count-len-end.ensures)))
+    ∙ sym (gathered_more f (names c.args.path.now) c.loop-len.len (omega (arith, c.len-len-end.ensures)))
 
 pub returns : goal.returns
 returns c =
@@ -22,6 +22,6 @@ returns c =
       | else-loop-len-test w ↦ absurd (omega (arith, w.loop-len-test.false, c.loop-len.auto.len-end))
       | then-loop-len-test+in_ok-push_covering+else-len-len-end w ↦
           ap (λ v. v.items) w.found-is ∙ w.in_ok-push_covering.ensures ∙ ap (λ (ms : List Lock). ms ++ f (take c.loop-len.len (names c.args.path.now))) c.loop-len.invariant
-          ∙ sym (gathered_more f (names c.args.path.now) c.loop-len.len (omega (arith, c.count-len-end.ensures, c.loop-len.auto.len-end)))
-          ∙ gathered f (names c.args.path.now) c.loop-len.len (omega (arith, c.count-len-end.ensures))
+          ∙ sym (gathered_more f (names c.args.path.now) c.loop-len.len (omega (arith, c.len-len-end.ensures, c.loop-len.auto.len-end)))
+          ∙ gathered f (names c.args.path.now) c.loop-len.len (omega (arith, c.len-len-end.ensures))
     ]

@@ -5,6 +5,6 @@ use Rattle.dav_core.specs.Locks.{covers}
 use Rattle.dav_store.proofs.memls.push_covering.Given as goal
 
 -- what was found so far
-abbrev pub invariant-loop-lock : goal.invariant-loop-lock
-invariant-loop-lock l =
-    l.found.items ≡ l.initial.found.items ++ filter (λ m. is_same_path (names m.path) (take l.len (names l.path)) && covers m (names l.path)) (take l.lock-index l.locks)
+abbrev pub invariant-loop-kept : goal.invariant-loop-kept
+invariant-loop-kept l =
+    l.found.items ≡ l.initial.found.items ++ filter (λ m. is_same_path (names m.path) (take l.len (names l.path)) && covers m (names l.path)) (take l.kept-index l.locks)

@@ -10,7 +10,7 @@ returns-clause-ok c =
     let f : Lock → Lock = refreshed_lock c.args.timeout c.args.now in
     let ls : List Lock = c.args.locks.now.items in (
       ap (option_map f) (named_lock_at c.args.token.now (names c.args.path.now) ls c.deref.result.now c.in-Some.i c.index.result.now c.deref.ensures.value c.in-Some.ensures c.index.ensures)
-          ∙ ap (λ l. Some (f l)) c.in-Ok.ensures.cases ∙ ap Some (sym c.set_timeout.ensures),
+          ∙ ap (λ l. Some (f l)) (sym c.lock.ensures) ∙ ap (λ l. Some (f l)) c.in-Ok.ensures.cases ∙ ap Some (sym c.set_timeout.ensures),
       refreshed_at c.args.token.now (names c.args.path.now) c.args.timeout c.args.now ls c.deref.result.now c.in-Some.i c.index_mut.result.now c.deref.ensures.value c.in-Some.ensures
           ∙ ap (λ l. Some (set ls c.in-Some.i (f l))) (sym c.index_mut.ensures.value) ∙ ap (λ l. Some (set ls c.in-Some.i l)) (sym c.set_timeout-2.ensures),
     )

@@ -5,6 +5,6 @@ use Rattle.dav_store.specs.LockIndex.{count_of, tally}
 use Rattle.dav_store.proofs.memls.index.Counts.lower_below.Given as goal
 
 -- each key has lost what the locks so far have
-abbrev pub invariant-loop-lock : goal.invariant-loop-lock
-invariant-loop-lock l =
-    (k : ℕ) → count_of l.self k ≡ count_of l.initial.self k - tally k (filter (λ m. is_at_or_under (names m.path) (names l.path)) (take l.lock-index l.locks))
+abbrev pub invariant-loop-kept : goal.invariant-loop-kept
+invariant-loop-kept l =
+    (k : ℕ) → count_of l.self k ≡ count_of l.initial.self k - tally k (filter (λ m. is_at_or_under (names m.path) (names l.path)) (take l.kept-index l.locks))

@@ -1,0 +1,186 @@
+//! A lock as it is kept, and a path for which locks are looked for: each with the number of its path and how many names
+//! that has, by which most paths are told apart without a look at their names.
+ghost use Rattle.std.specs.Prelude.{◌≡◌, ◌≤◌, ◌+◌, IfSome};
+ghost use Rattle.dav_core.specs.Path.{names, is_same_path, is_under, is_at_or_under};
+ghost use Rattle.dav_core.specs.Locks.{covers, ends_at, refreshed_lock};
+ghost use Rattle.dav_core.specs.Numbers.{max_u64};
+
+use super::index;
+use crate::paths;
+use dav_core::davpath::DavPath;
+use dav_core::ls::DavLock;
+use std::marker::Model;
+
+/// A lock, with the number of its path and how many names that has.
+#[derive(Drop)]
+pub struct Kept {
+    number: u64,
+    len: usize,
+    lock: DavLock,
+}
+
+impl Model for Kept {
+    ghost use Rattle.std.specs.Prelude.{◌≡◌, length};
+    ghost use Rattle.dav_core.specs.Path.{names};
+    ghost use Rattle.dav_core.specs.Locks.{Lock};
+    ghost use Rattle.dav_core.specs.LockCode.{lock_code};
+    ghost use Rattle.dav_store.specs.LockIndex.{path_number};
+
+    ghost Value = { Lock };
+
+    ghost coded = { lock_code };
+
+    ghost view = { λ k. k.lock };
+
+    ghost invariant = { λ k. (k.number ≡ path_number (names k.lock.path))
+        × (k.len ≡ length (names k.lock.path)) };
+}
+
+impl Kept {
+    ghost use Rattle.std.specs.Prelude.{◌≡◌, ◌≤◌, ◌+◌, IfSome};
+    ghost use Rattle.dav_core.specs.Locks.{refreshed_lock};
+    ghost use Rattle.dav_core.specs.Numbers.{max_u64};
+
+    /// A lock with its numbers.
+    pub fn new(lock: DavLock) -> Kept
+        ensures { result ≡ lock }
+    {
+        Kept {
+            number: index::path_number(&lock.path),
+            len: paths::count(&lock.path),
+            lock,
+        }
+    }
+
+    /// The lock.
+    pub fn lock(&self) -> &DavLock
+        ensures { result.now ≡ self.now }
+    {
+        &self.lock
+    }
+
+    /// The lock, without its numbers.
+    pub fn into_lock(self) -> DavLock
+        ensures { result ≡ self }
+    {
+        self.lock
+    }
+
+    /// Gives the lock a new timeout.
+    pub fn set_timeout(&mut self, timeout: Option<u64>, now: u64)
+        requires { IfSome timeout (λ seconds. now + seconds ≤ max_u64) }
+        ensures { self.new ≡ refreshed_lock timeout now self.old }
+    {
+        set_timeout(&mut self.lock, timeout, now);
+    }
+}
+
+/// A path for which locks are looked for, with its number and how many names it has.
+#[derive(Drop)]
+pub struct Sought<'a> {
+    number: u64,
+    len: usize,
+    path: &'a DavPath,
+}
+
+impl<'a> Model for Sought<'a> {
+    ghost use Rattle.std.specs.Prelude.{◌≡◌, length};
+    ghost use Rattle.dav_core.specs.Path.{PathText, names};
+    ghost use Rattle.dav_store.specs.LockIndex.{path_number};
+
+    ghost Value = { PathText };
+
+    ghost view = { λ s. s.path.now };
+
+    ghost invariant = { λ s. (s.number ≡ path_number (names s.path.now))
+        × (s.len ≡ length (names s.path.now)) };
+}
+
+impl<'a> Sought<'a> {
+    ghost use Rattle.std.specs.Prelude.{◌≡◌, length};
+    ghost use Rattle.dav_core.specs.Path.{names};
+
+    /// A path with its numbers.
+    pub fn new(path: &'a DavPath) -> Sought<'a>
+        ensures { result ≡ path.now }
+    {
+        Sought {
+            number: index::path_number(path),
+            len: paths::count(path),
+            path,
+        }
+    }
+
+    /// The path.
+    pub fn path(&self) -> &'a DavPath
+        ensures { result.now ≡ self.now }
+    {
+        self.path
+    }
+
+    /// How many names the path has.
+    pub fn len(&self) -> usize
+        ensures { result ≡ length (names self.now) }
+    {
+        self.len
+    }
+}
+
+// Whether a lock is on a path.
+#[tactic(auto, using(crate::proofs::PathNumbers::other_numbers))]
+fn is_on(kept: &Kept, path: &Sought<'_>) -> bool
+    ensures { result ≡ is_same_path (names kept.now.path) (names path.now) }
+{
+    kept.number == path.number && paths::is_same(&kept.lock.path, path.path)
+}
+
+// Whether a lock is on a path above this one.
+#[tactic(auto, using(crate::proofs::PathNumbers::not_longer))]
+fn is_above(kept: &Kept, path: &Sought<'_>) -> bool
+    ensures { result ≡ is_under (names path.now) (names kept.now.path) }
+{
+    kept.len < path.len && paths::is_under(path.path, &kept.lock.path)
+}
+
+/// Whether a lock is on a path below this one.
+#[tactic(auto, using(crate::proofs::PathNumbers::not_longer))]
+pub fn is_below(kept: &Kept, path: &Sought<'_>) -> bool
+    ensures { result ≡ is_under (names kept.now.path) (names path.now) }
+{
+    path.len < kept.len && paths::is_under(&kept.lock.path, path.path)
+}
+
+/// Whether a lock is on a path or below it.
+#[tactic(auto, using(crate::proofs::PathNumbers::at_or_under_apart))]
+pub fn is_at_or_below(kept: &Kept, path: &Sought<'_>) -> bool
+    ensures { result ≡ is_at_or_under (names kept.now.path) (names path.now) }
+{
+    is_on(kept, path) || is_below(kept, path)
+}
+
+/// Whether a lock covers a path.
+pub fn covers(kept: &Kept, path: &Sought<'_>) -> bool
+    ensures { result ≡ covers kept.now (names path.now) }
+{
+    is_on(kept, path) || kept.lock.deep && is_above(kept, path)
+}
+
+/// The moment at which a lock ends that lasts for so many seconds; `None` for one that never ends.
+pub fn ends_at(now: u64, timeout: Option<u64>) -> Option<u64>
+    requires { IfSome timeout (λ seconds. now + seconds ≤ max_u64) }
+    ensures { result ≡ ends_at now timeout }
+{
+    match timeout {
+        Some(seconds) => Some(now + seconds),
+        None => None,
+    }
+}
+
+/// Gives a lock a new timeout.
+pub fn set_timeout(lock: &mut DavLock, timeout: Option<u64>, now: u64)
+    requires { IfSome timeout (λ seconds. now + seconds ≤ max_u64) }
+    ensures { lock.new ≡ refreshed_lock timeout now lock.old }
+{
+    lock.timeout_at = ends_at(now, timeout);
+    lock.timeout = timeout;
+}
