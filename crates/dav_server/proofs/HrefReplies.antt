@@ -280,7 +280,7 @@ begins text bytes other (inr (ns, c, named, is)) = named.rooted.rooted
 
 -- what Destination names has the prefix of the target, without a slash at its end
 place_front : {front : List ℕ} {values : List FieldValue} {r : Result PathText DavError} (d : PathText) → DestinationNames front values r → r ≡ Ok d → d.prefix ≡ without_slash front
-place_front d (absent none) h = cc
+place_front d (absent out) h = cc
 place_front d (unreadable text is refused other) h = cc
 place_front d (outside text bytes is reads cut) h = cc
 place_front {front} d (inside text bytes {d = place} is reads cut) h =
@@ -359,7 +359,7 @@ module _ (s : Settings) (x : Asked) (fits : IsPrefix s.prefix) (small : x.moment
   of_planned : (r : Request) (m : DavMethod) {plan : MethodPlan Response} {old new : StoreState} {ls ms : Locks} {outcome : Result Response DavError}
       → IsHead x.head r → GivesServed r.method (Ok m) → MeansOf s x r m plan → IsProperPlan plan → IsWorld old.world → Ran Asks plan old ls outcome new ms → IfOk outcome AllTold
   of_planned r m head gives (not_allowed out) proper world ran = tells_ran tells_err proper world ran
-  of_planned r m head gives (no_path e has none) proper world ran = tells_ran tells_err proper world ran
+  of_planned r m head gives (no_path e has out) proper world ran = tells_ran tells_err proper world ran
   of_planned r m head gives (no_body p e has named bad) proper world ran = tells_ran tells_err proper world ran
   of_planned r m head gives (method p body has named good is) proper world ran = planned r p (record { head = head; method = gives; target = named }) is proper world ran
 

@@ -41,7 +41,6 @@ pub fn one_text_names_one_path()
 /// whatever the bytes of its names are. So each href of a multistatus leads to the path that its response tells of, with a status or with
 /// properties; and each response that a request is answered with tells of a path at its target or below it, or for COPY and MOVE at its
 /// destination or below it, whatever the store refuses (RFC 4918, sections 8.3 and 14.7).
-#[tactic(auto, using(crate::proofs::HrefLemmas::targets_are_served, crate::proofs::HrefLemmas::texts_lead_back, crate::proofs::HrefLemmas::statuses_lead_back, crate::proofs::HrefLemmas::properties_lead_back, crate::proofs::HrefReplies::replies_lead_back))]
 pub fn hrefs_lead_back()
     ensures served { TargetsAreServed }
     ensures texts { TextsLeadBack }
