@@ -1,14 +1,12 @@
 -- The text of a path leads back to it, and so do the hrefs of responses.
-use Rattle.std.proofs.Common.{◌≡◌, ◌≢◌, ℕ, ◌<◌, ◌-◌, ◌++◌, Bool, true, false, List, [], ◌∷◌, All, if◌then◌else◌, length, take, map, codes, Ok, inl, inr, refl, sym, ap, subst, ◌∙◌, append-nil, append_assoc, arith}
+use Rattle.std.proofs.Common.{◌≡◌, ◌≢◌, ℕ, ◌<◌, ◌-◌, ◌++◌, Bool, true, false, List, [], ◌∷◌, All, length, map, codes, inl, inr, refl, sym, ap, subst, ◌∙◌, append-nil, append_assoc, arith}
 use Rattle.std.proofs.lemmas.Grind.{flat_map-append}
-use Rattle.std.proofs.lemmas.Bool.Decides.{nat_tests}
-use Rattle.std.proofs.lemmas.List.{drop_at, take_at, length_push}
-use Rattle.std.proofs.lemmas.List.Elements.{All-nil, All-cons, All-head, All-tail, All-append}
+use Rattle.std.proofs.lemmas.List.{drop_at, length_push}
+use Rattle.std.proofs.lemmas.List.Elements.{All-head, All-tail, All-append}
 use Rattle.std.specs.List.{filter}
-use Rattle.dav_core.specs.declared.method.DavMethod.{DavMethod}
 use Rattle.dav_core.specs.CallLaws.{IsStorable}
 use Rattle.dav_core.specs.Element.{ElementTree, tree_list, trees, is_named}
-use Rattle.dav_core.specs.Path.{Path, PathText, IsName, joined, path_bytes, star, names, names_of, full_bytes, is_collection, with_slash, end_for, with_bytes, without_slash, IsCut, at_start, at_slash, at_end}
+use Rattle.dav_core.specs.Path.{Path, PathText, IsName, joined, path_bytes, star, names, names_of, full_bytes, is_collection, with_slash, end_for, with_bytes, without_slash, IsCut, at_slash}
 use Rattle.dav_core.specs.Target.{Reads}
 use Rattle.dav_core.specs.UrlText.{path_text, url_text}
 use Rattle.dav_core.proofs.Theorems.{Leaves-names, Reads-bytes, names_kept, names_again, cut_keeps_names}
@@ -18,9 +16,9 @@ use Rattle.dav_engine.specs.Multistatus.{PathStatus, href, response_for, multist
 use Rattle.dav_engine.specs.Properties.{Group, propstat, property_response}
 use Rattle.dav_engine.specs.PropfindLaws.{responses_in}
 use Rattle.dav_engine.proofs.Theorems.{bare, open_names}
-use Rattle.dav_server.specs.HrefLaws.{IsServed, TargetsAreServed, LeadsTo, TextsLeadBack, TellsOf, TellOf, none_told, one_told, StatusesLeadBack, PropertiesLeadBack}
+use Rattle.dav_server.specs.HrefLaws.{IsServed, TargetsAreServed, TextsLeadBack, TellsOf, TellOf, none_told, one_told, StatusesLeadBack, PropertiesLeadBack}
 use Rattle.dav_server.specs.Setup.{IsPrefix}
-use Rattle.dav_server.specs.Target.{BeginsWithSlash, TargetNames, server, path}
+use Rattle.dav_server.specs.Target.{BeginsWithSlash, server, path}
 use Rattle.dav_server.proofs.MeansWorld.{all_back, storable_root}
 use Rattle.dav_server.proofs.PathLemmas.{slash_no_star, cut_prefix}
 use Rattle.dav_server.proofs.TargetLemmas.{text_no_star, path_no_star}

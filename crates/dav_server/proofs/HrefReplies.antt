@@ -1,25 +1,22 @@
 -- The hrefs of replies lead back to paths that the request is about.
-use Rattle.std.proofs.Common.{◌≡◌, ◌≢◌, ◌⊎◌, ◌≤◌, ℕ, ◌==◌, ◌++◌, Bool, true, false, not, if◌then◌else◌, List, [], ◌∷◌, All, map, codes, Option, Some, None, Result, Ok, Err, inl, inr, refl, sym, ap, subst, ◌∙◌, append-nil}
+use Rattle.std.proofs.Common.{◌≡◌, ◌≢◌, ◌⊎◌, ◌≤◌, ℕ, ◌==◌, Bool, true, false, not, if◌then◌else◌, List, [], ◌∷◌, All, map, codes, Option, Some, None, Result, Ok, Err, inl, inr, refl, sym, ap, subst, ◌∙◌, append-nil}
 use Rattle.std.specs.Prelude.{IfOk}
 use Rattle.std.specs.Option.{is_some}
 use Rattle.std.specs.Result.{result_ok}
 use Rattle.std.proofs.lemmas.List.Elements.{All-nil, All-cons, All-head, All-tail, All-weaker, All-map}
 use Rattle.http_header.specs.FieldValue.{FieldValue}
 use Rattle.http_header.specs.HeaderMap.{get_all}
-use Rattle.dav_core.specs.declared.errors.FsError.{FsError}
 use Rattle.dav_core.specs.declared.errors.DavError.{DavError}
 use Rattle.dav_core.specs.declared.errors.DavError.TheVariants as dav
 use Rattle.dav_core.specs.declared.fs.DavMetaData.{DavMetaData}
 use Rattle.dav_core.specs.declared.method.DavMethod.{DavMethod}
 use Rattle.dav_core.specs.declared.method.DavMethod.TheVariants.{Get, Head, Put, Patch, Options, PropFind, PropPatch, Delete, Copy as CopyMethod, Move as MoveMethod}
-use Rattle.dav_core.specs.Asking.{Answer, StoreState, Asks, Metadata, CreateDir, HaveProps, Open, Read, Flush, FileMetadata, Rename}
+use Rattle.dav_core.specs.Asking.{StoreState, Asks, Metadata, CreateDir, HaveProps, Open, Flush, FileMetadata, Rename}
 use Rattle.dav_core.specs.Element.{ElementTree}
-use Rattle.dav_core.specs.Handle.{Handle}
-use Rattle.dav_core.specs.Path.{Path, PathText, names, star, is_at_or_under, are_equal, without_slash, IsCut}
+use Rattle.dav_core.specs.Path.{Path, PathText, names, star, is_at_or_under, are_equal, without_slash}
 use Rattle.dav_core.specs.Target.{Reads}
 use Rattle.dav_core.specs.World.{IsWorld, last_moment}
 use Rattle.dav_core.proofs.Theorems.{rest_after-append}
-use Rattle.dav_headers.specs.declared.depth.Depth.{Depth}
 use Rattle.dav_engine.specs.declared.request.Body.{Body}
 use Rattle.dav_engine.specs.Client.{Client, requester}
 use Rattle.dav_engine.specs.Conditions.{Conditions, if_match, guarded}
@@ -28,7 +25,7 @@ use Rattle.dav_engine.specs.CopyMove.{CopyHeaders, DestinationNames, absent, unr
 use Rattle.dav_engine.specs.Delete.{DeleteHeaders, is_delete, whole_depth, delete_allowed, drop_if_gone, delete_reply, delete_found, delete}
 use Rattle.dav_engine.specs.Folder.{closed, room_at, is_folder_found, path_found, location_found}
 use Rattle.dav_engine.specs.Headers.{Headers}
-use Rattle.dav_engine.specs.Lock.{is_lock, asked_lock, grant_in, empty_opening, make_empty, lock_new, token_to_refresh, refresh_in, lock_again, is_absent, lock_found, lock as lock_plan}
+use Rattle.dav_engine.specs.Lock.{is_lock, asked_lock, grant_in, empty_opening, make_empty, lock_new, token_to_refresh, refresh_in, lock_again, is_absent, lock as lock_plan}
 use Rattle.dav_engine.specs.LockHeaders.{LockHeaders, refreshed_for}
 use Rattle.dav_engine.specs.Method.{MethodPlan, ◌>>=◌, gives, require, require_free, required, has_locks, refused_as}
 use Rattle.dav_engine.specs.Mkcol.{is_mkcol, mkcol, mkcol_allowed, create_error}
@@ -38,18 +35,18 @@ use Rattle.dav_engine.specs.Plan.{Done, Locks, Ran}
 use Rattle.dav_engine.specs.Properties.{property_response}
 use Rattle.dav_engine.specs.Propfind.{IsPropfind}
 use Rattle.dav_engine.specs.PropfindLaws.{IsServerPrefix, IsTarget, IsOfOneUnder, responses_in}
-use Rattle.dav_engine.specs.Proppatch.{Change, is_proppatch, changes_in, answered_at_once, to_store, has_refused, change_all, grouped, proppatch_reply, patch_properties, proppatch}
-use Rattle.dav_engine.specs.Put.{PutHeaders, is_put, put_opening, open_error, sought, written, store, put_allowed, put_body, bytes_of_body}
-use Rattle.dav_engine.specs.Removal.{Fault, Stays, StaysWhole, StaysWith, report_of, removal}
+use Rattle.dav_engine.specs.Proppatch.{Change, is_proppatch, changes_in, grouped, proppatch_reply, patch_properties, proppatch}
+use Rattle.dav_engine.specs.Put.{PutHeaders, is_put, put_opening, open_error, sought, written, put_allowed, put_body, bytes_of_body}
+use Rattle.dav_engine.specs.Removal.{Fault, Stays, StaysWhole, StaysWith, report_of}
 use Rattle.dav_engine.specs.Response.{Response, Header, reply_to}
-use Rattle.dav_engine.specs.WorldLaws.{IsProperPlan}
 use Rattle.dav_engine.specs.Unlock.{is_unlock, end_in, end_lock, unlock}
+use Rattle.dav_engine.specs.WorldLaws.{IsProperPlan}
 use Rattle.dav_engine.proofs.Theorems.{IsPlace, place_by, responses_lead_back}
 use Rattle.dav_server.specs.Get.{is_get, show, show_or_tell, judged, get}
 use Rattle.dav_server.specs.Head.{Request, IsHead}
 use Rattle.dav_server.specs.Headers.{headers_of}
 use Rattle.dav_server.specs.Holder.{IsFor}
-use Rattle.dav_server.specs.HrefLaws.{IsServed, TellsOf, IsAbout, at_target, at_destination, TellsOfOne, RepliesLeadBack}
+use Rattle.dav_server.specs.HrefLaws.{IsServed, TellsOf, IsAbout, at_target, at_destination, RepliesLeadBack}
 use Rattle.dav_server.specs.Machine.{Settings, Asked, client, PlanOf, gets, heads, puts, patches, makes, deletes, copies, moves, offers, finds_properties, sets_properties, locks, releases, MeansOf, not_allowed, no_path, no_body, method, Means, no_head, no_method, known, steps}
 use Rattle.dav_server.specs.Method.{GivesServed}
 use Rattle.dav_server.specs.Setup.{IsPrefix}

@@ -13,7 +13,7 @@ use Rattle.dav_core.specs.Calls.{emptied}
 use Rattle.dav_core.specs.Handle.{opened}
 use Rattle.dav_core.specs.LockLaws.{CoveringAreShared}
 use Rattle.dav_core.specs.Locks.{Lock, covers}
-use Rattle.dav_core.specs.World.{World, Node, Kind, File, adjust}
+use Rattle.dav_core.specs.World.{World, Node, File, adjust}
 use Rattle.dav_headers.specs.ETag.{EntityTag, IsUnquoted}
 use Rattle.dav_headers.specs.ETagList.{IsTagList, tags}
 use Rattle.dav_engine.specs.declared.request.Body.TheVariants as body

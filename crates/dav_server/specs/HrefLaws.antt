@@ -20,6 +20,7 @@ use Rattle.dav_server.specs.Head.{Request}
 use Rattle.dav_server.specs.Headers.{headers_of}
 use Rattle.dav_server.specs.Holder.{IsFor}
 use Rattle.dav_server.specs.Machine.{Asked, Settings, Steps}
+use Rattle.dav_server.specs.Server.{Server}
 use Rattle.dav_server.specs.Setup.{IsPrefix}
 use Rattle.dav_server.specs.Target.{TargetNames}
 
@@ -90,3 +91,8 @@ RepliesLeadBack =
     (s : Settings) (x : Asked) (old new : StoreState) (ls ms : Locks) (reply : Response)
     → IsPrefix s.prefix → IsWorld old.world → x.moment ≤ last_moment → Steps s x old ls reply new ms
     → All (TellsOfOne s x) (responses_in reply.body)
+
+-- so it is of this reply of a server whose prefix is one and whose store holds a world, at a moment that HTTP can write
+abbrev pub ReplyLeadsBack : Server → Asked → Response → Type 0
+ReplyLeadsBack old x reply =
+    IsPrefix old.settings.prefix → IsWorld old.state.store.world → x.moment ≤ last_moment → All (TellsOfOne old.settings x) (responses_in reply.body)
