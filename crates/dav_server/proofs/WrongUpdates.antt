@@ -1,4 +1,5 @@
--- More steps that aren't the machine's: a false 304, a lost update, a lock that is passed, and an exclusive lock beside another one.
+-- More steps that aren't the machine's: a false 304, a lost update, a lock that is passed, and an exclusive lock beside another one; and an href
+-- that leads nowhere.
 use Rattle.std.proofs.Common.{◌≡◌, ◌≢◌, ◌++◌, ◌≤◌, ℕ, true, false, true≢false, List, [], ◌∷◌, length, get_or, codes, Some, None, Ok, inl, inr, refl, sym, ap, subst, ◌∙◌, append-nil, arith}
 use Rattle.std.proofs.lemmas.List.Elements.{All-nil, All-cons, All-contains}
 use Rattle.std.proofs.lemmas.List.Sums.{AllPass-from_list_all}
@@ -10,29 +11,38 @@ use Rattle.dav_core.specs.declared.fs.DavMetaData.{DavMetaData}
 use Rattle.dav_core.specs.declared.method.DavMethod.TheVariants.{Get, Put}
 use Rattle.dav_core.specs.Asking.{meaning, Asks, Answered, asked, Metadata, CreateDir, Open}
 use Rattle.dav_core.specs.Calls.{emptied}
+use Rattle.dav_core.specs.Element.{ElementTree}
 use Rattle.dav_core.specs.Handle.{opened}
 use Rattle.dav_core.specs.LockLaws.{CoveringAreShared}
 use Rattle.dav_core.specs.Locks.{Lock, covers}
+use Rattle.dav_core.specs.Path.{PathText, star}
+use Rattle.dav_core.specs.Target.{Reads}
+use Rattle.dav_core.specs.UrlText.{url_text}
 use Rattle.dav_core.specs.World.{World, Node, File, adjust}
 use Rattle.dav_headers.specs.ETag.{EntityTag, IsUnquoted}
 use Rattle.dav_headers.specs.ETagList.{IsTagList, tags}
 use Rattle.dav_engine.specs.declared.request.Body.TheVariants as body
+use Rattle.dav_engine.specs.AnswerParts.{children_named}
 use Rattle.dav_engine.specs.Guard.{Stands, listed_here}
 use Rattle.dav_engine.specs.Lock.{granted_reply}
 use Rattle.dav_engine.specs.Method.{MethodPlan, ◌>>=◌, ask_for, ask_or, change_locks, gives}
 use Rattle.dav_engine.specs.Mkcol.{create_error, made}
+use Rattle.dav_engine.specs.Multistatus.{dav_text, response_for}
 use Rattle.dav_engine.specs.Plan.{Locks, Ran, ran_done, ran_ask, ran_look, ran_keep}
 use Rattle.dav_engine.specs.Response.{Response}
 use Rattle.dav_engine.specs.Sparing.{Spared}
 use Rattle.dav_engine.specs.Unlock.{unlocked_reply}
+use Rattle.dav_engine.proofs.Theorems.{unprefixed_leads_nowhere}
 use Rattle.dav_server.specs.EachRequest.{HoldsBytes, UnmodifiedFinds, UpdateFinds}
 use Rattle.dav_server.specs.Get.{not_modified}
 use Rattle.dav_server.specs.Head.{Request, IsHead, request_of_head}
 use Rattle.dav_server.specs.Headers.{headers_of}
+use Rattle.dav_server.specs.HrefLaws.{TellsOf}
 use Rattle.dav_server.specs.Machine.{Asked}
 use Rattle.dav_server.specs.Naming.{NamesLock}
 use Rattle.dav_server.specs.Run.{Turn}
 use Rattle.dav_server.specs.TagLaws.{ShownIn, LacksTag}
+use Rattle.dav_server.specs.Target.{TargetNames, server, path}
 use Rattle.dav_server.specs.UpdateLaws.{UpdatesIf}
 use Rattle.dav_server.proofs.NeededForHeadline.{state, covered_changes}
 use Rattle.dav_server.proofs.WorkedGrant.{none}
@@ -252,3 +262,25 @@ unasked_grant_shares_no_path = (
   one_is_shared,
   λ shared. true≢false (sym (shared 0 1 lock (omega arith) (omega arith) (a ∷ []) refl refl).0),
 )
+
+-- ---- an href that leads nowhere
+
+-- the response for /f of a server whose prefix is /d, without the prefix
+abbrev pub unprefixed : ElementTree
+unprefixed = response_for (record { prefix = []; bytes = codes "/f" }, 200)
+
+f_no_star : codes "/f" ≢ star
+f_no_star e = let first : ◌≡◌ {A = ℕ} 47 42 = cc in absurd (omega (arith, first))
+
+leads_nowhere : (target : List ℕ) (p : PathText) → target ≡ codes "/f" → ¬ TargetNames (codes "/d") Get target (Ok p)
+leads_nowhere target p is (server star_is options) = f_no_star (sym is ∙ star_is)
+leads_nowhere target p is (path {text} {bytes} (inl (slash, same)) reads cut) =
+    unprefixed_leads_nowhere p (f_no_star, (bytes, subst (λ (t : List ℕ). Reads t bytes) (same ∙ is) reads, cut))
+leads_nowhere target p is (path (inr (bare, form)) reads cut) = bare (102 ∷ [], is)
+
+href_text : (text : List ℕ) → children_named (codes "href") unprefixed ≡ dav_text (codes "href") text ∷ [] → text ≡ codes "/f"
+unfolding url_text
+href_text text is = cc
+
+pub unprefixed_href_tells_of_nothing : (p : PathText) → ¬ TellsOf (codes "/d") p unprefixed
+unprefixed_href_tells_of_nothing p tells = leads_nowhere tells.text p (href_text tells.text tells.hrefs) (tells.leads Get)
