@@ -55,14 +55,14 @@ refusals_leave old ts replies u refused fresh =
     same_content u.turn u.was u.now (refused_status_leaves old.settings u.turn.asked (at_begin u.turn u.was) u.now u.reply u.stepped refused fresh)
 
 pub loses_no_update : (old : Server) (ts : List Turn) (replies : List Response) → AreShowable ts → LosesNoUpdate old ts replies
-loses_no_update old ts replies small u p tag bytes world told updates good =
+loses_no_update old ts replies small u world p tag bytes told updates good =
     let all : AreShowable (u.front ++ u.turn ∷ u.back) = subst AreShowable u.turns_are small in
     let first : AreShowable u.front = all_front (λ t. t.asked.moment ≤ last_moment) u.front (u.turn ∷ u.back) all in
     no_lost_update old.settings u.front u.turn old.state.store u.was.store u.now.store old.state.locks u.was.locks u.now.locks u.before u.reply p tag bytes
     world first u.earlier told updates u.stepped good
 
 pub not_modified_tells : (old : Server) (ts : List Turn) (replies : List Response) → AreShowable ts → NotModifiedTells old ts replies
-not_modified_tells old ts replies small u new ms p tag bytes world later is lacks shown =
+not_modified_tells old ts replies small u new ms world later p tag bytes is lacks shown =
     let text = tag_text tag.weak tag.tag in
     let all : AreShowable (u.front ++ u.turn ∷ u.back) = subst AreShowable u.turns_are small in
     let by_turns : ShownIn (u.front ++ u.turn ∷ u.back) replies text bytes = subst (λ (l : List Turn). ShownIn l replies text bytes) u.turns_are shown in

@@ -18,6 +18,9 @@ pub mod TagLemmas
 pub mod PlanStatuses
 pub mod FindStatuses
 pub mod PropertyStatuses
+pub mod HrefLemmas
+pub mod TellWalks
+pub mod HrefReplies
 pub mod NotModified
 pub mod HeldConditions
 pub mod StoredBytes
@@ -47,5 +50,6 @@ pub mod NeededForHeadline
 pub mod NeededGrants
 pub mod NeededGuards
 pub mod WrongSteps
+pub mod WrongUpdates
 pub mod NeededBeginning
 pub mod NeededMoments

@@ -40,7 +40,7 @@ pub all_back : {X : Type 0} (P : X → Type 0) (xs ys : List X) → All P (xs ++
 all_back P [] ys h = h
 all_back P (x ∷ xs) ys h = all_back P xs ys (All-tail P x (xs ++ ys) h)
 
-storable_root : IsStorable []
+pub storable_root : IsStorable []
 storable_root = (All-nil IsName, All-nil (All (λ b. b < 256)))
 
 -- a text of one other byte holds no slash

@@ -27,10 +27,10 @@ names_alone : (ns : Path) → All IsName ns → without_slash (joined ns) ≡ jo
 names_alone [] all = refl
 names_alone (n ∷ ns) all = rw (open_names [] n ns all) refl
 
-slash_no_star : (text : List ℕ) → BeginsWithSlash text → text ≢ star
+pub slash_no_star : (text : List ℕ) → BeginsWithSlash text → text ≢ star
 slash_no_star text (rest, slash) is = let same : ◌≡◌ {A = ℕ} 47 42 = cc in absurd (omega (arith, same))
 
-slash_once : (prefix : List ℕ) → IsPrefix prefix → without_slash (without_slash prefix) ≡ without_slash prefix
+pub slash_once : (prefix : List ℕ) → IsPrefix prefix → without_slash (without_slash prefix) ≡ without_slash prefix
 slash_once prefix (inl empty) = subst (λ (x : List ℕ). without_slash (without_slash x) ≡ without_slash x) (sym empty) refl
 slash_once prefix (inr (slash, inl (is, same))) = absurd (slash_no_star prefix slash is)
 slash_once prefix (inr (slash, inr (ns, closed, named, is))) =
@@ -40,12 +40,12 @@ slash_once prefix (inr (slash, inr (ns, closed, named, is))) =
 
 -- ---- a path that was cut has the prefix that it was cut after
 
-cut_prefix : {q bytes : List ℕ} {p : PathText} → IsCut q bytes p → p.prefix ≡ q
+pub cut_prefix : {q bytes : List ℕ} {p : PathText} → IsCut q bytes p → p.prefix ≡ q
 cut_prefix (at_start empty is) = ap (λ (x : PathText). x.prefix) is ∙ sym empty
 cut_prefix (at_slash whole is) = ap (λ (x : PathText). x.prefix) is
 cut_prefix (at_end some whole is) = ap (λ (x : PathText). x.prefix) is
 
-own_prefix : {prefix own : List ℕ} {method : DavMethod} {p : PathText} → own ≢ star → TargetNames prefix method own (Ok p) → p.prefix ≡ without_slash prefix
+pub own_prefix : {prefix own : List ℕ} {method : DavMethod} {p : PathText} → own ≢ star → TargetNames prefix method own (Ok p) → p.prefix ≡ without_slash prefix
 own_prefix other (server is options) = absurd (other is)
 own_prefix other (path has reads cut) = cut_prefix cut
 

@@ -205,7 +205,7 @@ one_outcome prefix method target _ b (path {text} {bytes} {p} has reads cut) als
 slash_no_star : (rest : List ℕ) → 47 ∷ rest ≢ star
 slash_no_star rest e = let same : ◌≡◌ {A = ℕ} 47 42 = cc in absurd (omega (arith, same))
 
-path_no_star : (ns : Path) (closed : Bool) → path_bytes ns closed ≢ star
+pub path_no_star : (ns : Path) (closed : Bool) → path_bytes ns closed ≢ star
 path_no_star [] closed e = slash_no_star [] e
 path_no_star (n ∷ ns) closed e = slash_no_star _ e
 
@@ -220,7 +220,7 @@ tail_no_star : (tail behind : List ℕ) → IsTail tail behind → or_slash behi
 tail_no_star tail behind (inl (empty, is)) e = slash_no_star [] (ap or_slash (sym is) ∙ e)
 tail_no_star tail behind (inr (delimits, input, is)) e = front_no_star (index_of hash_sign tail) tail delimits (ap or_slash (sym is) ∙ e)
 
-text_no_star : (target text : List ℕ) → HasPathText target text → text ≢ star
+pub text_no_star : (target text : List ℕ) → HasPathText target text → text ≢ star
 text_no_star target text (inl ((rest, slash), is)) e = slash_no_star rest (sym slash ∙ sym is ∙ e)
 text_no_star target text (inr (bare, (clean, scheme, authority, behind, form, is))) e = tail_no_star form.1.tail behind form.1.is_tail (sym is ∙ e)
 

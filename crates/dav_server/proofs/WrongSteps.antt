@@ -75,7 +75,7 @@ get_head : IsHead getter.head (request_of_head (head_of (codes "GET") slash_a []
 unfolding is_token_byte
 get_head = (get_short, head_of (codes "GET") slash_a [], (head_with_method (codes "GET") slash_a [] (omega arith) refl (omega arith) refl text_a (All-nil IsField), sym (append-nil _)), omega arith, refl)
 
-is_get : HasMethod Get getter
+pub is_get : HasMethod Get getter
 is_get = (request_of_head (head_of (codes "GET") slash_a []), get_head, (tt, refl))
 
 -- a GET that makes what it doesn't find
@@ -205,7 +205,7 @@ tagged bytes = record { status = 200; headers = (codes "etag", one_tag) ∷ []; 
 abbrev pub asks_twice : List Turn
 asks_twice = turn_with getter ∷ turn_with getter ∷ []
 
-shows : (bytes : List ℕ) → Shows one_tag bytes (tagged bytes)
+pub shows : (bytes : List ℕ) → Shows one_tag bytes (tagged bytes)
 shows bytes = record { status = refl; tag_is = (0, omega arith, refl); bytes_are = refl }
 
 -- two GETs that are answered so, with different bytes

@@ -7,7 +7,7 @@ use Rattle.dav_headers.specs.ETag.{EntityTag, tag_text}
 use Rattle.dav_engine.specs.Plan.{Locks, ServerState}
 use Rattle.dav_engine.specs.Response.{Response}
 use Rattle.dav_server.specs.Leaving.{SafeLeaves, CreateOnlyLeaves, RefusedStatusLeaves}
-use Rattle.dav_server.specs.Machine.{Steps}
+use Rattle.dav_server.specs.Machine.{Asked, Settings, Steps}
 use Rattle.dav_server.specs.Run.{Turn, begun, Runs}
 use Rattle.dav_server.specs.Server.{Server}
 use Rattle.dav_server.specs.TagLaws.{ShownIn, LacksTag}
@@ -37,22 +37,33 @@ HoldsBytes state p bytes = (n : Node) × (node_at state.store.world (names p) �
 abbrev pub ReadsLeaveAll : Server → List Turn → List Response → Type 0
 ReadsLeaveAll old ts replies = (u : RunStep old ts replies) → SafeLeaves u.turn.asked u.was u.now
 
+-- A request that is answered 304 to an If-None-Match of one tag finds at its path a file of the bytes that any of these GETs shows
+-- with that tag.
+abbrev pub UnmodifiedFinds : Settings → List Turn → List Response → Asked → Response → ServerState → Type 0
+UnmodifiedFinds s ts replies x reply was =
+    (p : PathText) (tag : EntityTag) (bytes : List ℕ)
+    → reply.status ≡ 304 → LacksTag s x p tag → ShownIn ts replies (tag_text tag.weak tag.tag) bytes → HoldsBytes was p bytes
+
 -- Each 304 is true: where the run begins with a world, and If-None-Match named one tag, the file has the bytes that any GET of the
 -- run shows with that tag, before the request or after it.
 abbrev pub NotModifiedTells : Server → List Turn → List Response → Type 0
 NotModifiedTells old ts replies =
-    (u : RunStep old ts replies) (new : StoreState) (ms : Locks) (p : PathText) (tag : EntityTag) (bytes : List ℕ)
+    (u : RunStep old ts replies) (new : StoreState) (ms : Locks)
     → IsWorld old.state.store.world → Runs old.settings u.back u.now.store u.now.locks u.after new ms
-    → u.reply.status ≡ 304 → LacksTag old.settings u.turn.asked p tag → ShownIn ts replies (tag_text tag.weak tag.tag) bytes
-    → HoldsBytes u.was p bytes
+    → UnmodifiedFinds old.settings ts replies u.turn.asked u.reply u.was
+
+-- An update that asks for a tag and is answered with success finds at its path a file of the bytes that one of these replies told to
+-- have that tag.
+abbrev pub UpdateFinds : Settings → List Turn → List Response → Asked → Response → ServerState → Type 0
+UpdateFinds s ts replies x reply was =
+    (p : PathText) (tag : EntityTag) (bytes : List ℕ)
+    → ToldIn ts replies (tag_text tag.weak tag.tag) bytes → UpdatesIf s x p tag → IsSuccess reply.status → HoldsBytes was p bytes
 
 -- No update is lost: where the run begins with a world, and an earlier reply told that a file of some bytes has a tag, each PUT,
 -- PATCH, DELETE, COPY, MOVE and PROPPATCH that asks for the tag and is answered with success finds these bytes at its path.
 abbrev pub LosesNoUpdate : Server → List Turn → List Response → Type 0
 LosesNoUpdate old ts replies =
-    (u : RunStep old ts replies) (p : PathText) (tag : EntityTag) (bytes : List ℕ)
-    → IsWorld old.state.store.world → ToldIn u.front u.before (tag_text tag.weak tag.tag) bytes
-    → UpdatesIf old.settings u.turn.asked p tag → IsSuccess u.reply.status → HoldsBytes u.was p bytes
+    (u : RunStep old ts replies) → IsWorld old.state.store.world → UpdateFinds old.settings u.front u.before u.turn.asked u.reply u.was
 
 -- Each PUT and PATCH with If-None-Match `*` leaves what is there, and then isn't answered with success.
 abbrev pub OnlyCreates : Server → List Turn → List Response → Type 0

@@ -28,5 +28,6 @@ pub mod LockLists
 pub mod Isolation
 pub mod FromNone
 pub mod PathLaws
+pub mod HrefLaws
 pub mod EachRequest
 pub mod Headline

@@ -10,6 +10,7 @@ ghost use Rattle.dav_engine.specs.AtWork.{MkcolOf, DeleteOf, PutOf, CopyMoveOf, 
 ghost use Rattle.dav_engine.specs.ConditionView.{locks_in};
 ghost use Rattle.dav_server.specs.Get.{GetOf};
 ghost use Rattle.dav_engine.specs.Response.{error_reply};
+ghost use Rattle.dav_server.specs.HrefLaws.{ReplyLeadsBack};
 ghost use Rattle.dav_server.specs.Leaving.{CreateOnlyLeaves, RefusedStatusLeaves, SafeLeaves};
 ghost use Rattle.dav_server.specs.Machine.{client, PlanOf, Means, MeansOf};
 ghost use Rattle.dav_server.specs.Method.{IsServed};
@@ -321,7 +322,8 @@ impl<F: DavFileSystem, L: DavLockSystem> DavHandler<F, L> {
 
     /// Answers a request: the reply, the store and the locks are those of one step of the machine, from the bytes of the
     /// head on. A request that only reads changes nothing, nor does one that is answered 412 or 423 (a LOCK, where no lock has its
-    /// token); and what is there is kept under If-None-Match `*`.
+    /// token); and what is there is kept under If-None-Match `*`. Each href of a multistatus leads back to the path that its
+    /// response tells of.
     ///
     /// `NoMemory` where memory ran out outside the store: then each call of the store that was made is whole, and the locks
     /// are as before, or as the request leaves them where the store refuses each later call. The handler can still answer
@@ -336,6 +338,8 @@ impl<F: DavFileSystem, L: DavLockSystem> DavHandler<F, L> {
             exchange.now reply self.old.server.state self.new.server.state) }
         ensures refused { IfOk result (λ reply. RefusedStatusLeaves
             exchange.now reply self.old.server.state self.new.server.state) }
+        ensures hrefs { IfOk result (λ reply.
+            ReplyLeadsBack self.old.server exchange.now reply) }
         ensures err { OnErr result (StopsIn self.old.server exchange.now self.new.server) }
     {
         match answer(self, alloc, exchange) {

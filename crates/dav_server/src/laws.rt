@@ -2,6 +2,7 @@
 ghost use Rattle.dav_server.specs.Head.{OneHead};
 ghost use Rattle.dav_server.specs.Headers.{KeepsValues};
 ghost use Rattle.dav_server.specs.Headline.{HeadlineHolds};
+ghost use Rattle.dav_server.specs.HrefLaws.{TargetsAreServed, TextsLeadBack, StatusesLeadBack, PropertiesLeadBack, RepliesLeadBack};
 ghost use Rattle.dav_server.specs.Leaving.{CreateOnlyFails, ErrorsLeave};
 ghost use Rattle.dav_server.specs.PathLaws.{OneTextOnePath};
 ghost use Rattle.dav_server.specs.Run.{RunsAreDetermined, RunsSplit, RunsJoin, RunsEnd, ShortnessIsKept, RequestsHavePlans, RequestsHaveRuns};
@@ -34,6 +35,18 @@ pub fn targets_name_one_thing()
 #[tactic(auto, using(crate::proofs::PathLemmas::one_text_one_path))]
 pub fn one_text_names_one_path()
     ensures { OneTextOnePath }
+{}
+
+/// Hrefs lead back: the text in a URL of each path of a server, as the target of a request, names this path, whatever the method is and
+/// whatever the bytes of its names are. So each href of a multistatus leads to the path that its response tells of, with a status or with
+/// properties; and each response that a request is answered with tells of a path at its target or below it, or for COPY and MOVE at its
+/// destination or below it, whatever the store refuses (RFC 4918, sections 8.3 and 14.7).
+pub fn hrefs_lead_back()
+    ensures served { TargetsAreServed }
+    ensures texts { TextsLeadBack }
+    ensures statuses { StatusesLeadBack }
+    ensures properties { PropertiesLeadBack }
+    ensures replies { RepliesLeadBack }
 {}
 
 /// Where the store never ran out of memory, a run is determined: from one store and one list of locks the same requests

@@ -1,0 +1,362 @@
+-- More steps that aren't the machine's: a false 304, a lost update, a lock that is passed, and an exclusive lock beside another one; and an href
+-- that leads nowhere.
+use Rattle.std.proofs.Common.{◌≡◌, ◌≢◌, ◌++◌, ◌<◌, ◌≤◌, ℕ, true, false, true≢false, List, [], ◌∷◌, length, get_or, codes, Some, None, Ok, inl, inr, refl, sym, ap, subst, ◌∙◌, append-nil, arith}
+use Rattle.std.proofs.lemmas.List.Elements.{All-nil, All-cons, All-contains}
+use Rattle.std.proofs.lemmas.List.Sums.{AllPass-from_list_all}
+use Rattle.http_header.specs.FieldValue.{FieldValue, plain_value}
+use Rattle.http_header.specs.HeaderMap.{get_all}
+use Rattle.http_header.specs.Token.{is_visible_or_blank}
+use Rattle.httparse.specs.Grammar.{Field, IsField, crlf, is_token_byte, is_value_byte, print_request, trim_ows}
+use Rattle.dav_core.specs.declared.fs.DavMetaData.{DavMetaData}
+use Rattle.dav_core.specs.declared.method.DavMethod.{DavMethod}
+use Rattle.dav_core.specs.declared.method.DavMethod.TheVariants.{Get, Put, Patch, MkCol, Lock as LockMethod}
+use Rattle.dav_core.specs.Asking.{meaning, Asks, Answered, asked, Metadata, CreateDir, Open}
+use Rattle.dav_core.specs.Calls.{emptied}
+use Rattle.dav_core.specs.Element.{ElementTree}
+use Rattle.dav_core.specs.Handle.{opened}
+use Rattle.dav_core.specs.LockLaws.{CoveringAreShared}
+use Rattle.dav_core.specs.Locks.{Lock, covers}
+use Rattle.dav_core.specs.Path.{PathText, star}
+use Rattle.dav_core.specs.Target.{Reads}
+use Rattle.dav_core.specs.UrlText.{url_text}
+use Rattle.dav_core.specs.World.{World, Node, File, adjust}
+use Rattle.dav_headers.specs.ETag.{EntityTag, IsUnquoted}
+use Rattle.dav_headers.specs.ETagList.{IsTagList, tags, star as every_tag}
+use Rattle.dav_engine.specs.declared.request.Body.TheVariants as body
+use Rattle.dav_engine.specs.AnswerParts.{children_named}
+use Rattle.dav_engine.specs.Guard.{Stands, listed_here}
+use Rattle.dav_engine.specs.Lock.{granted_reply}
+use Rattle.dav_engine.specs.Method.{MethodPlan, ◌>>=◌, ask_for, ask_or, change_locks, gives}
+use Rattle.dav_engine.specs.Mkcol.{create_error, made}
+use Rattle.dav_engine.specs.Multistatus.{dav_text, response_for}
+use Rattle.dav_engine.specs.Plan.{Locks, ServerState, Ran, ran_done, ran_ask, ran_look, ran_keep}
+use Rattle.dav_engine.specs.Response.{Response}
+use Rattle.dav_engine.specs.Sparing.{Spared}
+use Rattle.dav_engine.specs.Unlock.{unlocked_reply}
+use Rattle.dav_engine.proofs.Theorems.{unprefixed_leads_nowhere}
+use Rattle.dav_server.specs.EachRequest.{HoldsBytes, UnmodifiedFinds, UpdateFinds}
+use Rattle.dav_server.specs.Get.{not_modified}
+use Rattle.dav_server.specs.Head.{Request, IsHead, request_of_head}
+use Rattle.dav_server.specs.Headers.{headers_of}
+use Rattle.dav_server.specs.HrefLaws.{TellsOf}
+use Rattle.dav_server.specs.Leaving.{SafeLeaves, CreateOnlyLeaves, RefusedStatusLeaves}
+use Rattle.dav_server.specs.Machine.{Asked}
+use Rattle.dav_server.specs.Method.{GivesServed}
+use Rattle.dav_server.specs.Naming.{NamesLock}
+use Rattle.dav_server.specs.Run.{Turn}
+use Rattle.dav_server.specs.TagLaws.{is_safe, ShownIn, LacksTag}
+use Rattle.dav_server.specs.Target.{TargetNames, server, path}
+use Rattle.dav_server.specs.UpdateLaws.{IsSuccess, UpdatesIf}
+use Rattle.dav_server.proofs.HeadLemmas.{one_head}
+use Rattle.dav_server.proofs.MeansWorld.{asks_one}
+use Rattle.dav_server.proofs.NeededForHeadline.{state, covered_changes}
+use Rattle.dav_server.proofs.WorkedGrant.{locker, lock_head, none}
+use Rattle.dav_server.proofs.WorkedRun.{a, slash_a, at_a, lock, head_of, head_with_method, head_with, text_a, target_at_a, stranger, stranger_head, no_tags, other_names, turn_with, settings, before, after, holding, one_lock, makes_a}
+use Rattle.dav_server.proofs.WrongSteps.{getter, is_get, emptying, filled, one_tag, tagged, shows}
+
+-- ---- a file that another client has changed
+
+-- the file with another byte, under the next number
+abbrev pub changed : Node → Node
+changed n = record n { number = 2; kind = File (50 ∷ []) }
+
+abbrev pub rewritten : World
+rewritten = record { nodes = adjust (a ∷ []) changed filled.nodes; next = 3 }
+
+abbrev pub other_byte : Node
+other_byte = record { made = 1; number = 2; kind = File (50 ∷ []); properties = []; created = 1; modified = 1 }
+
+-- it doesn't have its first byte any more
+first_byte_is_gone : ¬ HoldsBytes (state (holding rewritten) none) at_a (49 ∷ [])
+first_byte_is_gone (n, there, kind) =
+    let found : Some other_byte ≡ Some n = there in
+    let same : other_byte ≡ n = cc in
+    let bytes : File (50 ∷ []) ≡ File (49 ∷ []) = ap (λ (m : Node). m.kind) same ∙ kind in
+    let other : ◌≡◌ {A = ℕ} 50 49 = cc in
+    omega (arith, other)
+
+-- the PUT that changed it
+abbrev pub changer : Asked
+changer = record { head = print_request (head_of (codes "PUT") slash_a []); body = body.Bytes (50 ∷ []); principal = None; moment = 1; token = None }
+
+-- a GET that shows the first byte with its tag, and then that PUT
+abbrev pub earlier : List Turn
+earlier = turn_with getter ∷ turn_with changer ∷ []
+
+abbrev pub answers : List Response
+answers = tagged (49 ∷ []) ∷ unlocked_reply [] ∷ []
+
+shown_first : (more : List Turn) (replies : List Response) → ShownIn (earlier ++ more) (answers ++ replies) one_tag (49 ∷ [])
+shown_first more replies = (turn_with getter, tagged (49 ∷ []), (0, omega arith, refl), is_get, shows (49 ∷ []))
+
+-- ---- a header that says the tag of the first byte
+
+abbrev pub first_tag : EntityTag
+first_tag = record { weak = false; tag = 49 ∷ [] }
+
+unquoted : IsUnquoted (49 ∷ [])
+unquoted contains = All-contains (λ (b : ℕ). b ≢ 34) (49 ∷ []) 34 (All-cons (λ (b : ℕ). b ≢ 34) 49 [] (λ e. omega (arith, e)) (All-nil (λ (b : ℕ). b ≢ 34))) contains refl
+
+says_tag : IsTagList (plain_value one_tag ∷ []) (tags (first_tag ∷ []))
+says_tag = (
+  omega arith,
+  (
+    AllPass-from_list_all is_visible_or_blank one_tag refl,
+    λ e. absurd (let first : ◌≡◌ {A = ℕ} 34 42 = ap (λ (bytes : List ℕ). get_or bytes 0 0) e in omega (arith, first)),
+    (first_tag ∷ [], [], refl, inr (first_tag, [], (unquoted, refl), refl, refl), refl),
+  ),
+)
+
+-- ---- what is asked of one request besides
+
+-- a step is as the clauses `reading`, `created` and `refused` ask
+pub record IsAsAsked (x : Asked) (reply : Response) (was now : ServerState) : Type 0 where
+  pub reading : SafeLeaves x was now
+  pub created : CreateOnlyLeaves settings x reply was now
+  pub refused : RefusedStatusLeaves x reply was now
+
+-- one that changes nothing, and isn't answered with success
+quiet : (x : Asked) (reply : Response) (was : ServerState) → ¬ IsSuccess reply.status → IsAsAsked x reply was was
+quiet x reply was failed = record { reading = λ safe. (refl, refl); created = λ p n is there. ((refl, refl), failed); refused = λ refused fresh. (refl, refl) }
+
+module _ (x : Asked) (r : Request) (m : DavMethod) (head : IsHead x.head r) (served : GivesServed r.method (Ok m)) (reply : Response) (was now : ServerState) where
+  unsafe : is_safe m ≡ false → SafeLeaves x was now
+  unsafe is (n, asks, safe) = absurd (true≢false (sym safe ∙ ap is_safe (sym (asks_one x n asks head served)) ∙ is))
+
+  no_creation : m ≢ Put → m ≢ Patch → CreateOnlyLeaves settings x reply was now
+  no_creation no_put no_patch p n (q, k, also, has, inl writes, named, says) there = absurd (no_put (asks_one x k (q, also, has) head served ∙ writes))
+  no_creation no_put no_patch p n (q, k, also, has, inr writes, named, says) there = absurd (no_patch (asks_one x k (q, also, has) head served ∙ writes))
+
+  no_star : get_all (headers_of r.fields) (codes "if-none-match") ≡ [] → CreateOnlyLeaves settings x reply was now
+  no_star empty p n (q, k, also, has, writes, named, says) there =
+      let same : q ≡ r = one_head x.head q r also head in
+      absurd (no_tags every_tag (subst (λ (values : List FieldValue). IsTagList values every_tag) (ap (λ (z : Request). get_all (headers_of z.fields) (codes "if-none-match")) same ∙ empty) says))
+
+  answered : reply.status ≢ 412 → reply.status ≢ 423 → RefusedStatusLeaves x reply was now
+  answered one other (inl is) fresh = absurd (one is)
+  answered one other (inr is) fresh = absurd (other is)
+
+-- ---- a 304 that is false
+
+abbrev pub none_match_field : Field
+none_match_field = record { name = codes "If-None-Match"; raw = one_tag; end = crlf }
+
+-- GET /a with If-None-Match of the first tag
+abbrev pub rechecker : Asked
+rechecker = record { head = print_request (head_of (codes "GET") slash_a (none_match_field ∷ [])); body = body.None; principal = None; moment = 1; token = None }
+
+is_none_match_field : IsField none_match_field
+unfolding is_token_byte
+is_none_match_field = record { name = (omega arith, AllPass-from_list_all is_token_byte (codes "If-None-Match") refl); raw = AllPass-from_list_all is_value_byte one_tag refl }
+
+recheck_short : length rechecker.head ≤ 65536
+unfolding print_request
+recheck_short = omega arith
+
+abbrev pub none_match_fields : List (List ℕ × List ℕ)
+none_match_fields = (codes "If-None-Match", one_tag) ∷ []
+
+none_match_fields_are : (request_of_head (head_of (codes "GET") slash_a (none_match_field ∷ []))).fields ≡ none_match_fields
+unfolding trim_ows
+none_match_fields_are = refl
+
+abbrev pub recheck_request : Request
+recheck_request = record { method = codes "GET"; target = slash_a; fields = none_match_fields }
+
+recheck_head : IsHead rechecker.head recheck_request
+unfolding is_token_byte
+recheck_head =
+    subst (IsHead rechecker.head) (ap (λ f. record { method = codes "GET"; target = slash_a; fields = f }) none_match_fields_are)
+    (recheck_short, head_of (codes "GET") slash_a (none_match_field ∷ []), (head_with_method (codes "GET") slash_a (none_match_field ∷ []) (omega arith) refl (omega arith) refl text_a (All-cons IsField none_match_field [] is_none_match_field (All-nil IsField)), sym (append-nil _)), omega arith, refl)
+
+says_none_match : IsTagList (get_all (headers_of none_match_fields) (codes "if-none-match")) (tags (first_tag ∷ []))
+says_none_match = says_tag
+
+lacks_first : LacksTag settings rechecker at_a first_tag
+lacks_first = (recheck_request, Get, recheck_head, (tt, refl), target_at_a Get, says_none_match)
+
+abbrev pub found_other : DavMetaData
+found_other = record { len = 1; dir = false; created = 1; modified = 1; number = Some 2 }
+
+-- a GET that answers 304 to any If-None-Match, whatever the number of the file is
+abbrev pub never_compares : MethodPlan Response
+never_compares = do
+  found ← ask_for (Metadata (a ∷ []))
+  gives (not_modified found)
+
+finds_other : Answered (Metadata (a ∷ [])) (holding rewritten) (Ok found_other) (holding rewritten)
+unfolding meaning
+finds_other = record { as_asked = refl; refusals = refl; short = refl }
+
+not_modified_fails : ¬ IsSuccess 304
+not_modified_fails good = let small : 304 < 300 = good.1 in omega (arith, small)
+
+-- it is false, and all else that is asked of one request is so
+pub uncompared_304_is_false :
+    Ran Asks never_compares (holding rewritten) none (Ok (not_modified found_other)) (holding rewritten) none
+    × ¬ UnmodifiedFinds settings (earlier ++ turn_with rechecker ∷ []) (answers ++ not_modified found_other ∷ []) rechecker (not_modified found_other) (state (holding rewritten) none)
+    × UpdateFinds settings earlier answers rechecker (not_modified found_other) (state (holding rewritten) none)
+    × IsAsAsked rechecker (not_modified found_other) (state (holding rewritten) none) (state (holding rewritten) none)
+uncompared_304_is_false = (
+  ran_ask {c = Metadata (a ∷ [])} {answer = Ok found_other} (asked finds_other) ran_done,
+  λ finds. first_byte_is_gone (finds at_a first_tag (49 ∷ []) refl lacks_first (shown_first (turn_with rechecker ∷ []) (not_modified found_other ∷ []))),
+  λ p tag bytes told updates good. absurd (not_modified_fails good),
+  quiet rechecker (not_modified found_other) (state (holding rewritten) none) not_modified_fails,
+)
+
+-- ---- an update that is lost
+
+abbrev pub match_field : Field
+match_field = record { name = codes "If-Match"; raw = one_tag; end = crlf }
+
+-- PUT /a with If-Match of the first tag
+abbrev pub updater : Asked
+updater = record { head = print_request (head_of (codes "PUT") slash_a (match_field ∷ [])); body = body.None; principal = None; moment = 1; token = None }
+
+is_match_field : IsField match_field
+unfolding is_token_byte
+is_match_field = record { name = (omega arith, AllPass-from_list_all is_token_byte (codes "If-Match") refl); raw = AllPass-from_list_all is_value_byte one_tag refl }
+
+update_short : length updater.head ≤ 65536
+unfolding print_request
+update_short = omega arith
+
+abbrev pub match_fields : List (List ℕ × List ℕ)
+match_fields = (codes "If-Match", one_tag) ∷ []
+
+match_fields_are : (request_of_head (head_of (codes "PUT") slash_a (match_field ∷ []))).fields ≡ match_fields
+unfolding trim_ows
+match_fields_are = refl
+
+abbrev pub update_request : Request
+update_request = record { method = codes "PUT"; target = slash_a; fields = match_fields }
+
+update_head : IsHead updater.head update_request
+unfolding is_token_byte
+update_head =
+    subst (IsHead updater.head) (ap (λ f. record { method = codes "PUT"; target = slash_a; fields = f }) match_fields_are)
+    (update_short, head_of (codes "PUT") slash_a (match_field ∷ []), (head_with_method (codes "PUT") slash_a (match_field ∷ []) (omega arith) refl (omega arith) refl text_a (All-cons IsField match_field [] is_match_field (All-nil IsField)), sym (append-nil _)), omega arith, refl)
+
+says_match : IsTagList (get_all (headers_of match_fields) (codes "if-match")) (tags (first_tag ∷ []))
+says_match = says_tag
+
+updates_first : UpdatesIf settings updater at_a first_tag
+updates_first = (update_request, Put, update_head, (tt, refl), refl, target_at_a Put, inl says_match)
+
+-- the file after it
+abbrev pub overwritten : World
+overwritten = record { nodes = adjust (a ∷ []) (emptied 3 1) rewritten.nodes; next = 4 }
+
+-- a PUT that doesn't look at If-Match
+abbrev pub puts_over : MethodPlan Response
+puts_over = do
+  _ ← ask_for (Open (a ∷ []) emptying 1)
+  gives (unlocked_reply [])
+
+empties_other : Answered (Open (a ∷ []) emptying 1) (holding rewritten) (Ok (opened 1 emptying)) (holding overwritten)
+unfolding meaning
+empties_other = record { as_asked = refl; refusals = refl; short = refl }
+
+-- what the other client stored is lost, and all else that is asked of one request is so
+pub unconditional_put_loses_an_update :
+    Ran Asks puts_over (holding rewritten) none (Ok (unlocked_reply [])) (holding overwritten) none
+    × ¬ UpdateFinds settings earlier answers updater (unlocked_reply []) (state (holding rewritten) none)
+    × UnmodifiedFinds settings (earlier ++ turn_with updater ∷ []) (answers ++ unlocked_reply [] ∷ []) updater (unlocked_reply []) (state (holding rewritten) none)
+    × IsAsAsked updater (unlocked_reply []) (state (holding rewritten) none) (state (holding overwritten) none)
+unconditional_put_loses_an_update = (
+  ran_ask {c = Open (a ∷ []) emptying 1} {answer = Ok (opened 1 emptying)} (asked empties_other) ran_done,
+  λ finds. first_byte_is_gone (finds at_a first_tag (49 ∷ []) (inl (shown_first [] [])) updates_first (omega arith, omega arith)),
+  λ p tag bytes is lacks shown. absurd (omega (arith, is)),
+  record {
+    reading = unsafe updater update_request Put update_head (tt, refl) (unlocked_reply []) (state (holding rewritten) none) (state (holding overwritten) none) refl;
+    created = no_star updater update_request Put update_head (tt, refl) (unlocked_reply []) (state (holding rewritten) none) (state (holding overwritten) none) refl;
+    refused = answered updater update_request Put update_head (tt, refl) (unlocked_reply []) (state (holding rewritten) none) (state (holding overwritten) none) (λ e. omega (arith, e)) (λ e. omega (arith, e));
+  },
+)
+
+-- ---- a lock that is passed
+
+-- a MKCOL that doesn't look at the locks
+abbrev pub makes_unasked : MethodPlan Response
+makes_unasked = do
+  _ ← ask_or create_error (CreateDir (a ∷ []) 1)
+  gives (made at_a)
+
+-- the lock is passed, and all else that is asked of one request is so; the lock stands as before
+pub unasked_folder_passes_a_lock :
+    Ran Asks makes_unasked (holding before) one_lock (Ok (made at_a)) (holding after) one_lock
+    × (lock.shared ≡ false) × Stands lock one_lock × ¬ NamesLock lock stranger × ¬ Spared (covers lock) before after
+    × IsAsAsked stranger (made at_a) (state (holding before) one_lock) (state (holding after) one_lock)
+unasked_folder_passes_a_lock = (
+  ran_ask {c = CreateDir (a ∷ []) 1} {answer = Ok tt} (asked makes_a) ran_done,
+  refl,
+  listed_here refl,
+  other_names,
+  covered_changes lock refl,
+  record {
+    reading = unsafe stranger (request_of_head (head_with [])) MkCol stranger_head (tt, refl) (made at_a) (state (holding before) one_lock) (state (holding after) one_lock) refl;
+    created = no_creation stranger (request_of_head (head_with [])) MkCol stranger_head (tt, refl) (made at_a) (state (holding before) one_lock) (state (holding after) one_lock) (λ e. cc) (λ e. cc);
+    refused = answered stranger (request_of_head (head_with [])) MkCol stranger_head (tt, refl) (made at_a) (state (holding before) one_lock) (state (holding after) one_lock) (λ e. omega (arith, e)) (λ e. omega (arith, e));
+  },
+)
+
+-- ---- an exclusive lock beside another one
+
+-- that of another client
+abbrev pub other_lock : Lock
+other_lock = record lock { token = 117 ∷ []; principal = Some (98 ∷ []) }
+
+abbrev pub two_locks : Locks
+two_locks = Some (lock ∷ other_lock ∷ [])
+
+-- a LOCK that is granted whatever the list is
+abbrev pub grants_unasked : MethodPlan Response
+grants_unasked = do
+  _ ← change_locks (λ ls. ls ++ other_lock ∷ [])
+  gives (granted_reply false [] other_lock)
+
+-- LOCK /a of that client
+abbrev pub other_locker : Asked
+other_locker = record locker { principal = Some (98 ∷ []); token = Some (117 ∷ []) }
+
+one_is_shared : CoveringAreShared (lock ∷ [])
+one_is_shared i j d less small = absurd (omega (arith, less, small))
+
+-- two exclusive locks cover the path, and all else that is asked of one request is so; the first stands as before
+pub unasked_grant_shares_no_path :
+    Ran Asks grants_unasked (holding before) one_lock (Ok (granted_reply false [] other_lock)) (holding before) two_locks
+    × CoveringAreShared (lock ∷ []) × ¬ CoveringAreShared (lock ∷ other_lock ∷ []) × Stands lock two_locks
+    × IsAsAsked other_locker (granted_reply false [] other_lock) (state (holding before) one_lock) (state (holding before) two_locks)
+unasked_grant_shares_no_path = (
+  ran_look (ran_keep ran_done),
+  one_is_shared,
+  λ shared. true≢false (sym (shared 0 1 lock (omega arith) (omega arith) (a ∷ []) refl refl).0),
+  listed_here refl,
+  record {
+    reading = unsafe other_locker (request_of_head (head_of (codes "LOCK") slash_a [])) LockMethod lock_head (tt, refl) (granted_reply false [] other_lock) (state (holding before) one_lock) (state (holding before) two_locks) refl;
+    created = no_creation other_locker (request_of_head (head_of (codes "LOCK") slash_a [])) LockMethod lock_head (tt, refl) (granted_reply false [] other_lock) (state (holding before) one_lock) (state (holding before) two_locks) (λ e. cc) (λ e. cc);
+    refused = answered other_locker (request_of_head (head_of (codes "LOCK") slash_a [])) LockMethod lock_head (tt, refl) (granted_reply false [] other_lock) (state (holding before) one_lock) (state (holding before) two_locks) (λ e. omega (arith, e)) (λ e. omega (arith, e));
+  },
+)
+
+-- ---- an href that leads nowhere
+
+-- the response for /f of a server whose prefix is /d, without the prefix
+abbrev pub unprefixed : ElementTree
+unprefixed = response_for (record { prefix = []; bytes = codes "/f" }, 200)
+
+f_no_star : codes "/f" ≢ star
+f_no_star e = let first : ◌≡◌ {A = ℕ} 47 42 = cc in absurd (omega (arith, first))
+
+leads_nowhere : (target : List ℕ) (p : PathText) → target ≡ codes "/f" → ¬ TargetNames (codes "/d") Get target (Ok p)
+leads_nowhere target p is (server star_is options) = f_no_star (sym is ∙ star_is)
+leads_nowhere target p is (path {text} {bytes} (inl (slash, same)) reads cut) =
+    unprefixed_leads_nowhere p (f_no_star, (bytes, subst (λ (t : List ℕ). Reads t bytes) (same ∙ is) reads, cut))
+leads_nowhere target p is (path (inr (bare, form)) reads cut) = bare (102 ∷ [], is)
+
+href_text : (text : List ℕ) → children_named (codes "href") unprefixed ≡ dav_text (codes "href") text ∷ [] → text ≡ codes "/f"
+unfolding url_text
+href_text text is = cc
+
+pub unprefixed_href_tells_of_nothing : (p : PathText) → ¬ TellsOf (codes "/d") p unprefixed
+unprefixed_href_tells_of_nothing p tells = leads_nowhere tells.text p (href_text tells.text tells.hrefs) (tells.leads Get)

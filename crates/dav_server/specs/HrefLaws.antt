@@ -1,0 +1,98 @@
+-- Hrefs lead back: each of a multistatus, as the target of a request, names the path that it tells of (RFC 4918, sections 8.3 and 14.7).
+use Rattle.std.specs.Prelude.{◌≡◌, ◌≢◌, ◌⊎◌, ℕ, ◌≤◌, Bool, true, List, [], ◌∷◌, All, map, codes, Ok}
+use Rattle.http_header.specs.HeaderMap.{get_all}
+use Rattle.dav_core.specs.declared.method.DavMethod.{DavMethod}
+use Rattle.dav_core.specs.declared.method.DavMethod.TheVariants.{Copy, Move}
+use Rattle.dav_core.specs.Asking.{StoreState}
+use Rattle.dav_core.specs.CallLaws.{IsStorable}
+use Rattle.dav_core.specs.Element.{ElementTree}
+use Rattle.dav_core.specs.Path.{PathText, names, star, path_bytes, full_bytes, without_slash, is_at_or_under}
+use Rattle.dav_core.specs.UrlText.{path_text}
+use Rattle.dav_core.specs.World.{IsWorld, last_moment}
+use Rattle.dav_engine.specs.AnswerParts.{children_named}
+use Rattle.dav_engine.specs.CopyMove.{DestinationNames}
+use Rattle.dav_engine.specs.Multistatus.{PathStatus, dav_text, multistatus_reply}
+use Rattle.dav_engine.specs.Plan.{Locks}
+use Rattle.dav_engine.specs.Properties.{Group, property_response}
+use Rattle.dav_engine.specs.PropfindLaws.{responses_in}
+use Rattle.dav_engine.specs.Response.{Response}
+use Rattle.dav_server.specs.Head.{Request}
+use Rattle.dav_server.specs.Headers.{headers_of}
+use Rattle.dav_server.specs.Holder.{IsFor}
+use Rattle.dav_server.specs.Machine.{Asked, Settings, Steps}
+use Rattle.dav_server.specs.Server.{Server}
+use Rattle.dav_server.specs.Setup.{IsPrefix}
+use Rattle.dav_server.specs.Target.{TargetNames}
+
+-- ---- the text of a path
+
+-- A path of a server with this prefix: after the prefix, without the slash at its end, come names, whatever their bytes are, each after a
+-- slash, and perhaps a slash at the end.
+pub record IsServed (prefix : List ℕ) (p : PathText) : Type 0 where
+  pub front : p.prefix ≡ without_slash prefix
+  pub storable : IsStorable (names p)
+  pub is_closed : Bool
+  pub bytes_are : p.bytes ≡ path_bytes (names p) is_closed
+
+-- What a target but `*` names is such a path.
+abbrev pub TargetsAreServed : Type 0
+TargetsAreServed = (prefix target : List ℕ) (m : DavMethod) (p : PathText) → target ≢ star → TargetNames prefix m target (Ok p) → IsServed prefix p
+
+-- a request with this target is for this path, whatever its method is
+abbrev pub LeadsTo : List ℕ → List ℕ → PathText → Type 0
+LeadsTo prefix target p = (m : DavMethod) → TargetNames prefix m target (Ok p)
+
+-- The text of such a path in a URL, with the prefix, leads to this path.
+abbrev pub TextsLeadBack : Type 0
+TextsLeadBack = (prefix : List ℕ) (p : PathText) → IsPrefix prefix → IsServed prefix p → LeadsTo prefix (path_text (full_bytes p)) p
+
+-- ---- responses
+
+-- The response tells of this path: it has one href of its own, and that leads to the path.
+pub record TellsOf (prefix : List ℕ) (p : PathText) (response : ElementTree) : Type 0 where
+  pub text : List ℕ
+  pub hrefs : children_named (codes "href") response ≡ dav_text (codes "href") text ∷ []
+  pub leads : LeadsTo prefix text p
+
+-- responses tell of these paths, in order
+pub data TellOf (prefix : List ℕ) : List PathText → List ElementTree → Type 0 where
+  none_told : TellOf prefix [] []
+  one_told : {p : PathText} {ps : List PathText} {response : ElementTree} {responses : List ElementTree}
+      → TellsOf prefix p response → TellOf prefix ps responses → TellOf prefix (p ∷ ps) (response ∷ responses)
+
+-- A reply that reports a status of each of these paths has a response for each of them, in order, which tells of it.
+abbrev pub StatusesLeadBack : Type 0
+StatusesLeadBack =
+    (prefix : List ℕ) (items : List PathStatus)
+    → IsPrefix prefix → All (λ i. IsServed prefix i.0) items
+    → TellOf prefix (map (λ i. i.0) items) (responses_in (multistatus_reply items).body)
+
+-- So does the response with the properties of a path, under any statuses.
+abbrev pub PropertiesLeadBack : Type 0
+PropertiesLeadBack =
+    (prefix : List ℕ) (p : PathText) (groups : List Group) → IsPrefix prefix → IsServed prefix p → TellsOf prefix p (property_response p groups)
+
+-- ---- replies
+
+-- The request is about this path: it is at the target or below it, or for COPY and MOVE at the destination or below it.
+pub data IsAbout (s : Settings) (x : Asked) (q : PathText) : Type 0 where
+  at_target : (r : Request) (m : DavMethod) (p : PathText) → IsFor s x r m p → is_at_or_under (names q) (names p) ≡ true → IsAbout s x q
+  at_destination : (r : Request) (m : DavMethod) (p d : PathText) → IsFor s x r m p → (m ≡ Copy) ⊎ (m ≡ Move)
+      → DestinationNames p.prefix (get_all (headers_of r.fields) (codes "destination")) (Ok d) → is_at_or_under (names q) (names d) ≡ true → IsAbout s x q
+
+-- the response tells of a path that the request is about
+abbrev pub TellsOfOne : Settings → Asked → ElementTree → Type 0
+TellsOfOne s x response = (q : PathText) × IsAbout s x q × TellsOf s.prefix q response
+
+-- Each response of a multistatus that answers a request tells of a path that the request is about, whatever its method is and whatever the
+-- store refuses.
+abbrev pub RepliesLeadBack : Type 0
+RepliesLeadBack =
+    (s : Settings) (x : Asked) (old new : StoreState) (ls ms : Locks) (reply : Response)
+    → IsPrefix s.prefix → IsWorld old.world → x.moment ≤ last_moment → Steps s x old ls reply new ms
+    → All (TellsOfOne s x) (responses_in reply.body)
+
+-- so it is of this reply of a server whose prefix is one and whose store holds a world, at a moment that HTTP can write
+abbrev pub ReplyLeadsBack : Server → Asked → Response → Type 0
+ReplyLeadsBack old x reply =
+    IsPrefix old.settings.prefix → IsWorld old.state.store.world → x.moment ≤ last_moment → All (TellsOfOne old.settings x) (responses_in reply.body)
