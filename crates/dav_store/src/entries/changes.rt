@@ -44,9 +44,8 @@ pub fn empty_at(entries: &mut Entries, path: &DavPath, number: u64, now: u64)
 pub fn copy_over(entries: &mut Entries, path: &DavPath, copy: Node)
     requires file { is_folder_node (find path_cmp (names path.now) entries.old) ≡ false }
     requires copied { is_folder_kind copy.kind ≡ false }
-    ensures { (source : Seen) (number now : ℕ) → copy
-        ≡ record (fresh number source.kind now) { properties = source.properties } → entries.new
-        ≡ adjust (names path.now) (copied_over source number now) entries.old }
+    ensures { entries.new
+        ≡ adjust (names path.now) (λ n. record copy { made = n.made }) entries.old }
 {
     if let Some(id) = finding::find(&entries.tree, path).at {
         if let Ok(node) = entries.tree.get_node_mut(id) {
