@@ -9,7 +9,7 @@ use Rattle.dav_core.specs.Path.{Path, path_cmp, parent_of, IsSegment, is_root, i
 use Rattle.dav_core.specs.World.{Node as Seen, Nodes, is_folder_node, is_folder_kind, prune, moved as moved_nodes, file_made_with, members}
 use Rattle.dav_core.proofs.Theorems.{shape}
 use Rattle.dav_store.specs.Tree.{Tree, Node, node, value_of, single, leaf, added, deleted, moved, Does, DoesOrLacks, delete_refusal, has_children, has_some, children_of, root_id}
-use Rattle.dav_store.specs.Placed.{named, placed, found, stands, bare, is_same_name, IsGrown, IsMadeMap, IsChild}
+use Rattle.dav_store.specs.Placed.{named, placed, found, bare, is_same_name, IsGrown, IsMadeMap, IsChild}
 use Rattle.dav_store.specs.Entries.{IsKept}
 use Rattle.dav_store.specs.Makings.{AreMadeBefore}
 use Rattle.dav_store.proofs.MadeBefore.{before_found}

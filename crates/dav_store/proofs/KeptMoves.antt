@@ -1,21 +1,21 @@
 -- The parts of a store in memory after a node was moved, where no rule refuses it.
-use Rattle.std.proofs.Common.{◌≡◌, ℕ, ◌==◌, Bool, true, false, not, cond, List, [], ◌∷◌, ◌++◌, Option, Some, None, refl, sym, ap, subst, ◌∙◌, ⊎_elim, inl, inr, if◌then◌else◌}
+use Rattle.std.proofs.Common.{◌≡◌, ℕ, ◌==◌, Bool, true, false, not, cond, List, [], ◌∷◌, ◌++◌, Option, Some, None, refl, sym, ap, ◌∙◌, ⊎_elim, inl, inr, if◌then◌else◌}
 use Rattle.std.specs.Prelude.{Vec, nat_eq, ◌⊎◌, ◌||◌, is_none}
 use Rattle.std.specs.Option.{option_and_then, option_map, option_map_or, is_some}
 use Rattle.std.specs.HashMap.{HashMap, get}
 use Rattle.std.specs.FinMap.{find}
 use Rattle.std.proofs.lemmas.Bool.{eqb-true}
-use Rattle.dav_core.specs.Path.{Path, path_cmp, parent_of, rest_after, is_at_or_under, is_root, IsSegment}
+use Rattle.dav_core.specs.Path.{Path, path_cmp, parent_of, is_at_or_under, is_root, IsSegment}
 use Rattle.dav_core.specs.World.{Node as Seen, Nodes, is_folder_node, moved as moved_nodes}
 use Rattle.dav_core.specs.declared.errors.FsError.{FsError}
 use Rattle.dav_core.specs.declared.errors.FsError.TheVariants.{NotFound, Exists, Forbidden}
 use Rattle.dav_core.proofs.Theorems.{shape, rest_after-append}
-use Rattle.dav_store.specs.Tree.{Tree, Node, node, value_of, children_of, has_children, has_some, child, is_child, is_at_or_below, key_refusal, move_refusal, moved, root_id}
+use Rattle.dav_store.specs.Tree.{Tree, node, value_of, children_of, has_children, has_some, child, is_child, is_at_or_below, key_refusal, move_refusal, moved, root_id}
 use Rattle.dav_store.specs.Placed.{named, placed, found, bare, is_same_name, IsGrown}
 use Rattle.dav_store.specs.Entries.{IsKept}
 use Rattle.std.specs.Map.{lookup}
 use Rattle.dav_store.proofs.Walks.{inner}
-use Rattle.dav_store.proofs.Placing.{one_at, named_from, name-itself}
+use Rattle.dav_store.proofs.Placing.{one_at, named_from}
 use Rattle.dav_store.proofs.TreePaths.{none-below, found-push, found_there, some_is}
 use Rattle.dav_store.proofs.EntryLemmas.{value_some, value_at, children_known, empty}
 use Rattle.dav_store.proofs.KeptCalls.{view_elsewhere, kept_to_new, kept_over_old}

@@ -1,17 +1,16 @@
 -- The map from the numbers with which nodes were made, after each call of a tree of names, and what it finds.
-use Rattle.std.proofs.Common.{◌≡◌, ℕ, ◌+◌, ◌==◌, ◌&&◌, Bool, true, false, not, cond, T, if◌then◌else◌, List, [], ◌∷◌, ◌++◌, Option, Some, None, refl, sym, ap, subst, ◌∙◌, ⊎_elim, arith}
-use Rattle.std.specs.Option.{option_and_then, option_map, IsSome, is_some}
+use Rattle.std.proofs.Common.{◌≡◌, ℕ, ◌==◌, ◌&&◌, Bool, true, false, not, cond, if◌then◌else◌, List, [], ◌∷◌, Option, Some, None, refl, sym, ap, subst, ◌∙◌, ⊎_elim}
+use Rattle.std.specs.Option.{option_and_then, option_map, is_some}
 use Rattle.std.specs.List.{find as first}
-use Rattle.std.specs.FinMap.{find, is_sorted}
+use Rattle.std.specs.FinMap.{find}
 use Rattle.std.proofs.lemmas.Bool.{cases_Bool, cases_eq, eqb-true, eq-eqb}
 use Rattle.dav_core.specs.Path.{Path, path_cmp}
-use Rattle.dav_core.specs.World.{Node as Seen, Nodes, is_folder_kind, is_folder_node, is_file_made_with, file_made_with, change_node, adjust}
+use Rattle.dav_core.specs.World.{Node as Seen, Nodes, is_folder_kind, is_file_made_with, file_made_with, change_node, adjust}
 use Rattle.dav_core.proofs.Theorems.{made_stands, change_made}
 use Rattle.dav_store.specs.Tree.{Tree, value_of}
-use Rattle.dav_store.specs.Placed.{named, placed, found, stands, IsGrown, IsMadeMap}
+use Rattle.dav_store.specs.Placed.{placed, found, stands, IsGrown, IsMadeMap}
 use Rattle.dav_store.proofs.Walks.{inner}
-use Rattle.dav_store.proofs.Placing.{one_at, find-placed, sorted-placed}
-use Rattle.dav_store.proofs.TreePaths.{some_is, found_there}
+use Rattle.dav_store.proofs.Placing.{find-placed, sorted-placed}
 
 -- a file, where there is one
 abbrev pub if_file : Option Seen → Option Seen

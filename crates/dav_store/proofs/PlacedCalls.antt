@@ -1,17 +1,16 @@
 -- The list that a tree of names stands for after each call of the tree.
-use Rattle.std.proofs.Common.{◌≡◌, ℕ, ◌+◌, Bool, true, false, cond, T, List, [], ◌∷◌, ◌++◌, Option, Some, None, refl, sym, ap, subst, ◌∙◌, ⊎_elim, arith}
-use Rattle.std.specs.Option.{option_and_then, option_map, option_or, IsSome, is_some}
-use Rattle.std.specs.FinMap.{find, put, is_sorted}
+use Rattle.std.proofs.Common.{◌≡◌, ℕ, ◌+◌, true, cond, List, [], ◌∷◌, ◌++◌, Option, Some, None, refl, sym, ap, ◌∙◌, ⊎_elim, arith}
+use Rattle.std.specs.Option.{option_and_then, option_map, option_or, is_some}
+use Rattle.std.specs.FinMap.{find, put}
 use Rattle.std.proofs.lemmas.Bool.{cases_Bool, cases_eq}
 use Rattle.dav_core.specs.Path.{Path, path_cmp, is_same_path, is_at_or_under, rest_after, IsSegment}
-use Rattle.dav_core.specs.World.{Node as Seen, Nodes, is_folder_kind, is_folder_node, adjust, prune, moved as moved_nodes}
+use Rattle.dav_core.specs.World.{Node as Seen, is_folder_kind, is_folder_node, adjust, prune, moved as moved_nodes}
 use Rattle.dav_core.proofs.Theorems.{find-adjust, find-put_node, sorted-put_node, same_path, path-itself, find-prune, sorted-prune, find-moved, sorted-moved, adjust_keeps_order}
-use Rattle.dav_store.specs.Tree.{Tree, Node, node, value_of, parent_of, with_value, added, deleted, moved, root_id}
-use Rattle.dav_store.specs.Placed.{is_same_name, named, placed, found, stands, IsChild, IsGrown}
-use Rattle.dav_store.proofs.Walks.{inner}
+use Rattle.dav_store.specs.Tree.{Tree, Node, node, value_of, with_value, added, deleted, moved, root_id}
+use Rattle.dav_store.specs.Placed.{is_same_name, named, placed, found, stands, IsGrown}
 use Rattle.dav_store.proofs.Placing.{one_at, find-placed, same_placed, sorted-placed}
 use Rattle.dav_store.proofs.TreeLooks as looks
-use Rattle.dav_store.proofs.TreePaths.{some_is, then_same, outside}
+use Rattle.dav_store.proofs.TreePaths.{then_same, outside}
 use Rattle.dav_store.proofs.TreeAdded.{stands_added, grown_added}
 use Rattle.dav_store.proofs.TreeDeleted.{stands_deleted, grown_deleted}
 use Rattle.dav_store.proofs.TreeMoved.{stands_moved, grown_moved, after_move}

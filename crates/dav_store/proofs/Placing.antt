@@ -1,14 +1,14 @@
 -- What is found in the list that a tree stands for.
-use Rattle.std.proofs.Common.{◌≡◌, ℕ, ◌+◌, ◌<◌, ◌≤◌, Bool, true, false, cond, T, List, [], ◌∷◌, ◌++◌, Option, Some, None, refl, sym, ap, subst, ◌∙◌, arith, ⊎_elim, reverse, if◌then◌else◌}
-use Rattle.std.specs.Prelude.{◌==◌, ◌≢◌, nat_eq}
+use Rattle.std.proofs.Common.{◌≡◌, ℕ, ◌+◌, ◌≤◌, Bool, true, false, cond, T, List, [], ◌∷◌, Option, Some, None, refl, sym, ap, ◌∙◌, arith, ⊎_elim, reverse, if◌then◌else◌}
+use Rattle.std.specs.Prelude.{◌==◌, nat_eq}
 use Rattle.std.specs.Option.{option_map, option_map_or, option_and_then, IsSome, is_some}
-use Rattle.std.specs.Ordering.{nat_cmp, eq_by_cmp, is_eq}
+use Rattle.std.specs.Ordering.{nat_cmp, is_eq}
 use Rattle.std.specs.Cmp.{unsigned_tied, tied_itself, nat_cmp_total}
 use Rattle.std.specs.Cmp.Lexicographic.{pointwise}
 use Rattle.std.proofs.lemmas.Cmp.{nat_list_eq_equiv}
 use native.Mathlib.Decide.{dec_lt}
 use Rattle.std.specs.BTreeMap.{is_at}
-use Rattle.std.specs.Map.{lookup, keys_of}
+use Rattle.std.specs.Map.{lookup}
 use Rattle.std.specs.FinMap.{find, put, is_sorted}
 use Rattle.std.specs.FinMap.Entries.{find-put, is_sorted-put, same_entries}
 use Rattle.std.proofs.lemmas.Bool.{cases_Bool, eqb-true, eq-eqb}
@@ -17,9 +17,9 @@ use Rattle.std.proofs.lemmas.List.{reverse-reverse}
 use Rattle.dav_core.specs.Path.{Path, path_cmp, is_same_path}
 use Rattle.dav_core.specs.World.{Node as Seen, Nodes, is_folder_node}
 use Rattle.dav_core.proofs.Theorems.{path_total, path_exact, same_path, path-itself}
-use Rattle.dav_store.specs.Tree.{Tree, Node, node, value_of, parent_of, children_of, child, root_id, NoneAbove}
-use Rattle.dav_store.specs.Walks.{reach, walk, climb}
-use Rattle.dav_store.specs.Placed.{is_same_name, name_among, named, seat, seat_of, by_path, placed, found, stands, IsChild, IsGrown}
+use Rattle.dav_store.specs.Tree.{Tree, Node, node, value_of, children_of, root_id}
+use Rattle.dav_store.specs.Walks.{reach, climb}
+use Rattle.dav_store.specs.Placed.{is_same_name, name_among, named, seat, seat_of, by_path, placed, found, stands, IsGrown}
 use Rattle.dav_store.proofs.Walks.{inner, IsSeated, climb_reach, reach_climb, one_path, one_walk, short, reach-reverse}
 
 pub number_is : (q n : ℕ) → is_at (nat_cmp q) n ≡ true → q ≡ n

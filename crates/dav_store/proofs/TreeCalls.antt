@@ -1,31 +1,26 @@
 -- Each call of a tree of names as a change of what it stands for.
-use Rattle.std.proofs.Common.{◌≡◌, ℕ, zero, suc, ◌+◌, ◌<◌, Bool, true, false, cond, T, List, [], ◌∷◌, ◌++◌, slice_get, position, Option, Some, None, refl, sym, ap, subst, ◌∙◌, arith, ⊎_elim, if◌then◌else◌, length}
+use Rattle.std.proofs.Common.{◌≡◌, ℕ, zero, suc, ◌+◌, true, false, List, [], ◌∷◌, ◌++◌, slice_get, position, Option, Some, None, refl, sym, ap, subst, ◌∙◌, arith, ⊎_elim, if◌then◌else◌}
 use Rattle.std.specs.Prelude.{◌==◌}
-use Rattle.std.specs.Option.{option_and_then, option_map, option_map_or, IsSome, is_some}
+use Rattle.std.specs.Option.{option_and_then, option_map, option_map_or}
 use Rattle.std.specs.Map.{lookup, keys_of}
 use Rattle.std.specs.List.{IsDistinct}
 use Rattle.dav_store.proofs.Place.{NonePasses, none_passes}
-use Rattle.std.specs.FinMap.{find, put, is_sorted}
 use Rattle.std.proofs.lemmas.Bool.{cases_Bool, cases_eq, eqb-true, eq-eqb}
 use Rattle.std.proofs.lemmas.Cmp.{nat_list_eq_equiv}
 use Rattle.std.proofs.lemmas.Map.Entries.{place_from_lookup, lookup_from_place}
-use Rattle.dav_core.specs.Path.{Path, path_cmp, is_same_path, is_at_or_under, rest_after, IsSegment}
-use Rattle.dav_core.specs.World.{Node as Seen, Nodes, is_folder_node, adjust, prune, moved as moved_nodes}
-use Rattle.dav_store.specs.Tree.{Tree, Node, node, value_of, parent_of, children_of, with_value, without, without_old, grown as grown_tree, leaf, linked, unlinked_at, unlinked, seated, place_of, is_child, added, deleted, moved, moved_over, NoneAbove, root_id}
-use Rattle.dav_store.specs.Placed.{is_same_name, named, placed, found, stands, IsChild, IsGrown}
+use Rattle.dav_core.specs.World.{Node as Seen}
+use Rattle.dav_store.specs.Tree.{Tree, Node, node, value_of, parent_of, without, without_old, grown as grown_tree, leaf, linked, unlinked_at, seated, place_of, is_child, added, deleted, moved, moved_over, NoneAbove}
+use Rattle.dav_store.specs.Placed.{is_same_name, named, IsGrown}
 use Rattle.dav_store.proofs.TreeNumbers.{adds_the_next_number, keeps_numbers}
 use Rattle.dav_store.proofs.Walks.{inner}
 use Rattle.dav_store.proofs.Entering.{place_is, kept_put}
-use Rattle.dav_store.proofs.Placing.{one_at, find-placed, same_placed, sorted-placed, named_from}
+use Rattle.dav_store.proofs.Placing.{one_at}
 use Rattle.dav_store.proofs.TreeLooks as looks
 use Rattle.dav_store.proofs.TreeLooks.{IsOnce, cases_seat, value_in, parent_in, named_in, children_in}
-use Rattle.dav_store.proofs.TreePaths.{some_is, not_behind, then_same, found-push, found_there, one_seat}
-use Rattle.dav_store.proofs.TreeAdded as to_add
+use Rattle.dav_store.proofs.TreePaths.{some_is, not_behind, found-push}
 use Rattle.dav_store.proofs.TreeAdded.{IsAdded}
-use Rattle.dav_store.proofs.TreeDeleted as to_delete
 use Rattle.dav_store.proofs.TreeDeleted.{IsDeleted}
-use Rattle.dav_store.proofs.TreeMoved as to_move
-use Rattle.dav_store.proofs.TreeMoved.{IsMoved, after_move}
+use Rattle.dav_store.proofs.TreeMoved.{IsMoved}
 
 none_at : {X : Type 0} (es : List (X × ℕ)) (j : ℕ) (d : X × ℕ) (m : ℕ) → NonePasses (λ e. e.1 == m) es → slice_get es j ≡ Some d → (d.1 == m) ≡ true → ⊥
 none_at {X = X} [] j d m all at is = cc

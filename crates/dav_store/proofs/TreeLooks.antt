@@ -1,10 +1,10 @@
 -- What a tree looks like after one step: its values, its nodes' parents, and its children by their names.
-use Rattle.std.proofs.Common.{◌≡◌, ℕ, ◌+◌, ◌<◌, Bool, true, false, cond, List, [], ◌∷◌, slice_get, Option, Some, None, refl, sym, ap, subst, ◌∙◌, arith, ⊎_elim, inl, inr}
+use Rattle.std.proofs.Common.{◌≡◌, ℕ, ◌+◌, ◌<◌, true, cond, List, [], slice_get, Option, Some, None, refl, sym, ap, subst, ◌∙◌, ⊎_elim, inl, inr}
 use Rattle.std.specs.Prelude.{◌⊎◌}
 use Rattle.std.specs.Option.{option_map, option_map_or, option_and_then, IsSome, is_some}
 use Rattle.std.specs.Ordering.{nat_cmp, eq_by_cmp}
 use Rattle.std.specs.Cmp.{IsEquivalence, eq_by_cmp_equiv, nat_cmp_total}
-use Rattle.std.specs.BTreeMap.{is_at, insert_entry}
+use Rattle.std.specs.BTreeMap.{is_at}
 use Rattle.std.specs.Map.{lookup, keys_of}
 use Rattle.std.specs.List.{IsDistinct}
 use Rattle.std.proofs.lemmas.Bool.{cases_Bool, cases_eq}
@@ -13,7 +13,7 @@ use Rattle.std.proofs.lemmas.Map.{lookup-set_value, lookup-remove_entry, keys-se
 use Rattle.indexmap.specs.IndexMap.{insert_entry as put_key}
 use Rattle.dav_store.specs.Tree.{Tree, Node, node, value_of, parent_of, children_of, with_node, with_value, without, without_place, grown, leaf, linked, unlinked_at, seated, NoneAbove}
 use Rattle.dav_store.specs.Placed.{is_same_name, named}
-use Rattle.dav_store.proofs.Placing.{number_is, number-itself, other_number, name_is, name-itself, other_name}
+use Rattle.dav_store.proofs.Placing.{number-itself, other_number, name_is, name-itself, other_name}
 use Rattle.dav_store.proofs.Entering.{lookup_put, distinct_put, distinct_out, gone_out, others_out, lookup_came, distinct_came, distinct_left}
 
 pub same_laws : IsEquivalence (eq_by_cmp nat_cmp)

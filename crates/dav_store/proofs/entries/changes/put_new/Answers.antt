@@ -1,5 +1,5 @@
 use Rattle.std.proofs.Common.{◌<◌, nat_eq, cond, Some, Ok, refl, arith, sym, ap, subst, ◌∙◌}
-use Rattle.std.specs.HashMap.{get, spare}
+use Rattle.std.specs.HashMap.{spare}
 use Rattle.dav_core.specs.Path.{names, parent_of, IsSegment}
 use Rattle.dav_store.proofs.NameLemmas.{last_name_is, last_is_segment}
 use Rattle.dav_store.specs.Entries.{IsKept}

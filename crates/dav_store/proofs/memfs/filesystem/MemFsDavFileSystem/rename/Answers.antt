@@ -1,4 +1,4 @@
-use Rattle.std.proofs.Common.{subst, ◌≡◌, true, false, List, [], ◌∷◌, ◌++◌, Option, None, Some, refl, sym, ap, ◌∙◌, append-nil, arith}
+use Rattle.std.proofs.Common.{subst, ◌≡◌, true, false, [], ◌∷◌, Option, None, Some, refl, sym, ap, ◌∙◌, append-nil, arith}
 use Rattle.std.specs.Option.{is_some}
 use Rattle.std.proofs.lemmas.Grind.{common_steps}
 use Rattle.dav_core.specs.Path.{Path, names, rest_after, is_same_path, has_names}
