@@ -49,9 +49,9 @@ module _ {Z S : Type 0} (t : Tree (Vec ℕ Z) Seen) (made : HashMap ℕ ℕ S) (
       (λ e. absurd (never_under q (ap (λ (r : Path). r ++ q) (sym e))))
       (λ s. by s.0 (parent_of p) s.1 (found (bare t) (parent_of p)) refl)
       (shape p) where
-    by : (k : List ℕ) (F : Path) → p ≡ F ++ k ∷ [] → (o : Option ℕ) → found (bare t) F ≡ o → (F : Path) × (fk : List ℕ) × (fp : ℕ) × (p ≡ F ++ fk ∷ []) × (found (bare t) F ≡ Some fp) × (named (bare t) fp fk ≡ Some n)
-    by k F cut None e = let clash : None ≡ Some n = sym (none-below (bare t) F (k ∷ []) e) ∙ ap (found (bare t)) (sym cut) ∙ from in cc
-    by k F cut (Some fp) e = (F, k, fp, cut, e, sym (found-push (bare t) F fp k e) ∙ ap (found (bare t)) (sym cut) ∙ from)
+        by : (k : List ℕ) (F : Path) → p ≡ F ++ k ∷ [] → (o : Option ℕ) → found (bare t) F ≡ o → (F : Path) × (fk : List ℕ) × (fp : ℕ) × (p ≡ F ++ fk ∷ []) × (found (bare t) F ≡ Some fp) × (named (bare t) fp fk ≡ Some n)
+        by k F cut None e = let clash : None ≡ Some n = sym (none-below (bare t) F (k ∷ []) e) ∙ ap (found (bare t)) (sym cut) ∙ from in cc
+        by k F cut (Some fp) e = (F, k, fp, cut, e, sym (found-push (bare t) F fp k e) ∙ ap (found (bare t)) (sym cut) ∙ from)
 
   -- and the one that it gets
   pub new_name : (x : List ℕ) × (q ≡ parent_of q ++ x ∷ [])

@@ -33,9 +33,9 @@ same_test : (k l : List ℕ) → is_eq (name_cmp k l) ≡ is_same_name k l
 same_test k l = ⊎_elim
     (λ a. ap (λ (x : List ℕ). is_eq (name_cmp k x)) (sym (name_is k l a)) ∙ tied-itself k ∙ sym a)
     (λ a. ⊎_elim
-      (λ b. let same : is_same_name k l ≡ true = ap (is_same_name k) (sym (same_name k l b)) ∙ name-itself k in let clash : true ≡ false = sym same ∙ a in cc)
-      (λ b. b ∙ sym a)
-      (cases_Bool (is_eq (name_cmp k l))))
+    (λ b. let same : is_same_name k l ≡ true = ap (is_same_name k) (sym (same_name k l b)) ∙ name-itself k in let clash : true ≡ false = sym same ∙ a in cc)
+    (λ b. b ∙ sym a)
+    (cases_Bool (is_eq (name_cmp k l))))
     (cases_Bool (is_same_name k l))
 
 -- a child by its name, and whether it is a folder

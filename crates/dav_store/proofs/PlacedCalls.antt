@@ -75,11 +75,11 @@ module _ (t : Tree (List ℕ) Seen) (grown : IsGrown t) where
         ap (option_and_then (value_of valued)) (found_same q)
         ∙ ⊎_elim
         (λ same. let there : found t q ≡ Some m = ap (found t) (sym (same_path path q same)) ∙ at in
-          ap (option_and_then (value_of valued)) there ∙ value_here ∙ ap Some made
-          ∙ sym (ap (λ b. cond b (option_map f (stands t q)) (stands t q)) same ∙ ap (option_map f) (ap (option_and_then (value_of t)) there ∙ is)))
+        ap (option_and_then (value_of valued)) there ∙ value_here ∙ ap Some made
+        ∙ sym (ap (λ b. cond b (option_map f (stands t q)) (stands t q)) same ∙ ap (option_map f) (ap (option_and_then (value_of t)) there ∙ is)))
         (λ other. then_same (value_of valued) (value_of t) (found t q)
-          (λ x there. value_apart x (λ e. let same : is_same_path path q ≡ true = ap (is_same_path path) (one_at t grown q path m (there ∙ ap Some e) at) ∙ path-itself path in cc))
-          ∙ sym (ap (λ b. cond b (option_map f (stands t q)) (stands t q)) other))
+        (λ x there. value_apart x (λ e. let same : is_same_path path q ≡ true = ap (is_same_path path) (one_at t grown q path m (there ∙ ap Some e) at) ∙ path-itself path in cc))
+        ∙ sym (ap (λ b. cond b (option_map f (stands t q)) (stands t q)) other))
         (cases_Bool (is_same_path path q))
 
     -- the node at a path is changed
@@ -94,10 +94,10 @@ module _ (t : Tree (List ℕ) Seen) (grown : IsGrown t) where
   placed_unchanged path f none =
       same_placed t grown (adjust path f (placed t)) (adjust_keeps_order path f (placed t) (sorted-placed t grown))
       (λ q. ⊎_elim
-        (λ same. let there : stands t q ≡ None = ap (stands t) (sym (same_path path q same)) ∙ none in
-          there ∙ sym (ap (λ b. cond b (option_map f (stands t q)) (stands t q)) same ∙ ap (option_map f) there))
-        (λ other. sym (ap (λ b. cond b (option_map f (stands t q)) (stands t q)) other))
-        (cases_Bool (is_same_path path q))
+      (λ same. let there : stands t q ≡ None = ap (stands t) (sym (same_path path q same)) ∙ none in
+      there ∙ sym (ap (λ b. cond b (option_map f (stands t q)) (stands t q)) same ∙ ap (option_map f) there))
+      (λ other. sym (ap (λ b. cond b (option_map f (stands t q)) (stands t q)) other))
+      (cases_Bool (is_same_path path q))
       ∙ sym (find-adjust path f q (placed t) ∙ ap (λ o. cond (is_same_path path q) (option_map f o) o) (find-placed t grown q)))
 
   -- ---- a new node

@@ -116,15 +116,15 @@ module _ (t : Tree (List ℕ) Seen) (grown : IsGrown t) (u : Tree (List ℕ) See
   once_by n l o x a b =
       ⊎_elim
       (λ one. ⊎_elim
-        (λ two. one.1 ∙ sym two.1)
-        (λ two. let is : m ≡ x = inner m x (sym added.here ∙ (λ i. named u (sym one.0 i) (sym one.1 i)) ∙ a) in
-          absurd (new_only n o (sym (added.others n o two) ∙ b ∙ ap Some (sym is))))
-        (cases_seat n p o k))
+      (λ two. one.1 ∙ sym two.1)
+      (λ two. let is : m ≡ x = inner m x (sym added.here ∙ (λ i. named u (sym one.0 i) (sym one.1 i)) ∙ a) in
+      absurd (new_only n o (sym (added.others n o two) ∙ b ∙ ap Some (sym is))))
+      (cases_seat n p o k))
       (λ one. ⊎_elim
-        (λ two. let is : m ≡ x = inner m x (sym added.here ∙ (λ i. named u (sym two.0 i) (sym two.1 i)) ∙ b) in
-          absurd (new_only n l (sym (added.others n l one) ∙ a ∙ ap Some (sym is))))
-        (λ two. grown.once n l o x (sym (added.others n l one) ∙ a) (sym (added.others n o two) ∙ b))
-        (cases_seat n p o k))
+      (λ two. let is : m ≡ x = inner m x (sym added.here ∙ (λ i. named u (sym two.0 i) (sym two.1 i)) ∙ b) in
+      absurd (new_only n l (sym (added.others n l one) ∙ a ∙ ap Some (sym is))))
+      (λ two. grown.once n l o x (sym (added.others n l one) ∙ a) (sym (added.others n o two) ∙ b))
+      (cases_seat n p o k))
       (cases_seat n p l k)
 
   reached_old : (x : ℕ) → IsSome (value_of t x) → (q : Path) × (found u q ≡ Some x)

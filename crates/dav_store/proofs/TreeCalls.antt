@@ -86,16 +86,16 @@ module _ (t : Tree (List ℕ) Seen) (grown : IsGrown t) where
       let found_in : lookup (is_same_name k) x.children ≡ Some m = sym (ap (named_in k) at) ∙ child in
       let stands_at = place_from_lookup (is_same_name k) x.children m found_in in
       by (position (λ e. e.1 == m) x.children) refl stands_at.0 (stands_at.1, m) stands_at.2 where
-    by : (o : Option ℕ) → position (λ e. e.1 == m) x.children ≡ o → (j : ℕ) (d : List ℕ × ℕ) → slice_get x.children j ≡ Some (d.0, m)
-        → (i : ℕ) × (e : List ℕ × ℕ) × (place_of t p m ≡ Some i) × (slice_get x.children i ≡ Some e) × (e.0 ≡ k)
-    by None is j d there =
-        let all = none_passes (λ e. e.1 == m) x.children is in
-        absurd (none_at x.children j (d.0, m) m all there (eq-eqb m m refl))
-    by (Some i) is j d there =
-        let place = place_is x.children m i d is in
-        let distinct = subst (λ (es : List (List ℕ × ℕ)). IsDistinct is_same_name (keys_of es)) (ap children_in at) (grown.names p) in
-        let by_name : named t p place.0.0 ≡ Some m = ap (named_in place.0.0) at ∙ lookup_from_place nat_list_eq_equiv x.children i place.0.0 place.0.1 distinct place.1 ∙ ap Some place.2 in
-        (i, place.0, ap (option_and_then (λ y. position (λ e. e.1 == m) y.children)) at ∙ is, place.1, grown.once p place.0.0 k m by_name child)
+        by : (o : Option ℕ) → position (λ e. e.1 == m) x.children ≡ o → (j : ℕ) (d : List ℕ × ℕ) → slice_get x.children j ≡ Some (d.0, m)
+            → (i : ℕ) × (e : List ℕ × ℕ) × (place_of t p m ≡ Some i) × (slice_get x.children i ≡ Some e) × (e.0 ≡ k)
+        by None is j d there =
+            let all = none_passes (λ e. e.1 == m) x.children is in
+            absurd (none_at x.children j (d.0, m) m all there (eq-eqb m m refl))
+        by (Some i) is j d there =
+            let place = place_is x.children m i d is in
+            let distinct = subst (λ (es : List (List ℕ × ℕ)). IsDistinct is_same_name (keys_of es)) (ap children_in at) (grown.names p) in
+            let by_name : named t p place.0.0 ≡ Some m = ap (named_in place.0.0) at ∙ lookup_from_place nat_list_eq_equiv x.children i place.0.0 place.0.1 distinct place.1 ∙ ap Some place.2 in
+            (i, place.0, ap (option_and_then (λ y. position (λ e. e.1 == m) y.children)) at ∙ is, place.1, grown.once p place.0.0 k m by_name child)
 
   apart_from_child : (p m : ℕ) (k : List ℕ) → named t p k ≡ Some m → p ≡ m → ⊥
   apart_from_child p m k child e =
@@ -170,8 +170,8 @@ module _ (t : Tree (List ℕ) Seen) (grown : IsGrown t) where
     more_place =
         ⊎_elim
         (λ e. let same : x ≡ from_node.0 = inner x from_node.0 (sym at ∙ ap (node t) (sym e) ∙ from_node.1) in
-          let kept = kept_put nat_list_eq_equiv tk n x.children from_place.0 from_place.1 (ap (λ (y : Node (List ℕ) Seen). slice_get y.children from_place.0) same ∙ from_place.3) in
-          (looks.with_link t tp tk n x at, kept.0, ap (node more) e ∙ looks.node_linked t tp tk n x at, kept.1, kept.2 ∙ from_place.4))
+        let kept = kept_put nat_list_eq_equiv tk n x.children from_place.0 from_place.1 (ap (λ (y : Node (List ℕ) Seen). slice_get y.children from_place.0) same ∙ from_place.3) in
+        (looks.with_link t tp tk n x at, kept.0, ap (node more) e ∙ looks.node_linked t tp tk n x at, kept.1, kept.2 ∙ from_place.4))
         (λ differ. (from_node.0, from_place.1, looks.node_unlinked t tp tk n x at fp differ ∙ from_node.1, from_place.3, from_place.4))
         (cases_eq fp tp)
 
@@ -209,6 +209,7 @@ module _ (t : Tree (List ℕ) Seen) (grown : IsGrown t) where
           isnt_in : (o : Option ℕ) → (o ≡ Some n → ⊥) → option_map_or (λ m. m == n) o false ≡ false
           isnt_in None apart = refl
           isnt_in (Some o) apart = ⊎_elim (λ e. absurd (apart (ap Some (eqb-true o n e)))) (λ e. e) (cases_Bool (o == n))
+
           isnt_own : is_child is_same_name t tp tk n ≡ false
           isnt_own = ap (λ o. option_map_or (λ m. m == n) o false) old_is ∙ isnt_in old other
 

@@ -113,8 +113,8 @@ module _ {D : Type 0} where
     others_linked q l apart =
         ⊎_elim
         (λ e. ap (λ n. named (linked is_same_name t p k m) n l) e ∙ ap (named_in l) node_linked
-          ∙ lookup_put nat_list_eq_equiv k l m x.children ∙ ap (λ b. cond b (Some m) (lookup (is_same_name l) x.children)) (other_name l k (λ s. apart (e, s)))
-          ∙ sym (ap (λ n. named t n l) e ∙ ap (named_in l) at))
+        ∙ lookup_put nat_list_eq_equiv k l m x.children ∙ ap (λ b. cond b (Some m) (lookup (is_same_name l) x.children)) (other_name l k (λ s. apart (e, s)))
+        ∙ sym (ap (λ n. named t n l) e ∙ ap (named_in l) at))
         (λ differ. ap (named_in l) (node_unlinked q differ))
         (cases_eq q p)
 
@@ -151,8 +151,8 @@ module _ {D : Type 0} where
     others_left q l apart =
         ⊎_elim
         (λ s. ap (λ n. named (unlinked_at t p (Some i)) n l) s ∙ ap (named_in l) node_out
-          ∙ others_out nat_list_eq_equiv x.children i e place distinct_in l (other_name l e.0 (λ same. apart (s, same)))
-          ∙ sym (ap (λ n. named t n l) s ∙ ap (named_in l) at))
+        ∙ others_out nat_list_eq_equiv x.children i e place distinct_in l (other_name l e.0 (λ same. apart (s, same)))
+        ∙ sym (ap (λ n. named t n l) s ∙ ap (named_in l) at))
         (λ differ. ap (named_in l) (ap (λ u. node u q) out_is ∙ node_apart t p without_link q (ap is_some at) differ))
         (cases_eq q p)
 
@@ -218,7 +218,7 @@ module _ {D : Type 0} where
     none_valued none = λ q above.
         ⊎_elim
         (λ e. let low : t.last < n = subst (λ (a : ℕ). t.last < a) e (subst (λ (l : ℕ). l < q) last_valued above) in
-          let clash : None ≡ Some x = sym (none n low) ∙ at in cc)
+        let clash : None ≡ Some x = sym (none n low) ∙ at in cc)
         (λ apart. ap (λ u. node u q) valued_is ∙ node_apart t n valued q (ap is_some at) apart ∙ none q (subst (λ (l : ℕ). l < q) last_valued above))
         (cases_eq q n)
 

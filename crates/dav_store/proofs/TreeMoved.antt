@@ -117,10 +117,10 @@ module _ (t : Tree (List ℕ) Seen) (grown : IsGrown t) (u : Tree (List ℕ) See
       ⊎_elim
       (λ same. inl (same.0, same.1, inner n x (sym moved.here ∙ (λ i. named u (sym same.0 i) (sym same.1 i)) ∙ e)))
       (λ other. ⊎_elim
-        (λ same. let clash : None ≡ Some x = sym moved.gone ∙ (λ i. named u (sym same.0 i) (sym same.1 i)) ∙ e in cc)
-        (λ differ. let was : named t m l ≡ Some x = sym (moved.others m l other differ) ∙ e in
-          inr (was, (λ is. differ (one_seat t grown m fp l fk n (was ∙ ap Some is) child)), (λ is. other (one_seat t grown m tp l tk x was (old_is ∙ is)))))
-        (cases_seat m fp l fk))
+      (λ same. let clash : None ≡ Some x = sym moved.gone ∙ (λ i. named u (sym same.0 i) (sym same.1 i)) ∙ e in cc)
+      (λ differ. let was : named t m l ≡ Some x = sym (moved.others m l other differ) ∙ e in
+      inr (was, (λ is. differ (one_seat t grown m fp l fk n (was ∙ ap Some is) child)), (λ is. other (one_seat t grown m tp l tk x was (old_is ∙ is)))))
+      (cases_seat m fp l fk))
       (cases_seat m tp l tk)
 
   child_new : (m : ℕ) (l : List ℕ) (x : ℕ) → m ≡ tp → l ≡ tk → n ≡ x → IsChild u m l x

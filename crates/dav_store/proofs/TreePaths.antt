@@ -40,6 +40,7 @@ differs p q none = by (is_same_path q p) refl where
   empty : (r : Path) → r ≡ r ++ []
   empty [] = refl
   empty (x ∷ r) = ap (λ y. x ∷ y) (empty r)
+
   by : (b : Bool) → is_same_path q p ≡ b → b ≡ false
   by true is = absurd (no_rest_from p q none [] (same_path q p is ∙ empty p))
   by false is = refl

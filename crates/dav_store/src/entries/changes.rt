@@ -105,7 +105,8 @@ pub fn add_node(
     node: Node,
     now: u64,
 ) -> Result<(), NoMemory>
-    requires folder { is_folder_node (find path_cmp (parent_of (names path.now)) entries.old) ≡ true }
+    requires folder { is_folder_node
+        (find path_cmp (parent_of (names path.now)) entries.old) ≡ true }
     requires free { find path_cmp (names path.now) entries.old ≡ None }
     requires new { AreMadeBefore node.made entries.old }
     requires now { now ≤ last_moment }
@@ -119,13 +120,9 @@ pub fn add_node(
 }
 
 // Puts a new node at a path. All room is made before anything changes.
-fn put_new(
-    alloc: Global,
-    entries: &mut Entries,
-    path: &DavPath,
-    node: Node,
-) -> Result<(), NoMemory>
-    requires folder { is_folder_node (find path_cmp (parent_of (names path.now)) entries.old) ≡ true }
+fn put_new(alloc: Global, entries: &mut Entries, path: &DavPath, node: Node) -> Result<(), NoMemory>
+    requires folder { is_folder_node
+        (find path_cmp (parent_of (names path.now)) entries.old) ≡ true }
     requires free { find path_cmp (names path.now) entries.old ≡ None }
     requires new { AreMadeBefore node.made entries.old }
     ensures ok { OnOk result (entries.new ≡ put path_cmp (names path.now) node entries.old) }
