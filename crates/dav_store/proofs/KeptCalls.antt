@@ -291,34 +291,34 @@ module _ {Z S : Type 0} (t : Tree (Vec ℕ Z) Seen) (made : HashMap ℕ ℕ S) (
       let none : value_of (bare t) 1 ≡ None = value_bare t 1 ∙ sym root ∙ ap (λ (r : Path). find path_cmp r ns) (sym e) ∙ free in
       let no : false ≡ true = sym (ap is_some none) ∙ root_there (bare t) kept.grown in cc
 
-  pub cut_here : (x : List ℕ) × (q ≡ parent_of q ++ x ∷ [])
-  cut_here = ⊎_elim (λ e. absurd (isnt_root e)) (λ s. s) (shape q)
+  pub below_the_root : is_root q ≡ false
+  below_the_root = by q refl where
+    by : (r : Path) → q ≡ r → is_root q ≡ false
+    by [] e = absurd (isnt_root e)
+    by (x ∷ r) e = ap is_root e
 
   above_is : found (bare t) (parent_of q) ≡ Some id
   above_is = sym here ∙ is
 
-  is_free : named (bare t) id cut_here.0 ≡ None
-  is_free = by (named (bare t) id cut_here.0) refl where
-    by : (o : Option ℕ) → named (bare t) id cut_here.0 ≡ o → o ≡ None
-    by None e = refl
-    by (Some m) e =
-        let c = kept.grown.children id cut_here.0 m e in
-        let v = some_is (value_of (bare t) m) c.there in
-        let at : Some m ≡ found (bare t) q = sym (ap (found (bare t)) cut_here.1 ∙ found-push (bare t) (parent_of q) id cut_here.0 above_is ∙ e) in
-        let stands_there : find path_cmp q ns ≡ value_of t m = value_some t kept.grown ns view q (Some m) at m refl in
-        let clash : None ≡ Some v.0 = sym free ∙ stands_there ∙ sym (value_bare t m) ∙ v.1 in cc
-
   is_under_folder : is_folder_node (value_of (bare t) id) ≡ true
   is_under_folder = ap is_folder_node (value_bare t id ∙ sym (value_some t kept.grown ns view (parent_of q) above here id is)) ∙ folder
 
-  module _ (k : Vec ℕ Z) (v : Seen) (name : k.items ≡ cut_here.0) (segment : IsSegment k.items) where
-    free_named : named (bare t) id k.items ≡ None
-    free_named = ap (named (bare t) id) name ∙ is_free
+  module _ (k : Vec ℕ Z) (v : Seen) (at_new : q ≡ parent_of q ++ k.items ∷ []) (segment : IsSegment k.items) where
+    is_free : named (bare t) id k.items ≡ None
+    is_free = by (named (bare t) id k.items) refl where
+      by : (o : Option ℕ) → named (bare t) id k.items ≡ o → o ≡ None
+      by None e = refl
+      by (Some m) e =
+          let c = kept.grown.children id k.items m e in
+          let v = some_is (value_of (bare t) m) c.there in
+          let at : Some m ≡ found (bare t) q = sym (ap (found (bare t)) at_new ∙ found-push (bare t) (parent_of q) id k.items above_is ∙ e) in
+          let stands_there : find path_cmp q ns ≡ value_of t m = value_some t kept.grown ns view q (Some m) at m refl in
+          let clash : None ≡ Some v.0 = sym free ∙ stands_there ∙ sym (value_bare t m) ∙ v.1 in cc
 
     pub view_put : placed (bare (added same_bytes t id k v)) ≡ put path_cmp q v ns
     view_put =
-        view_with t made kept (parent_of q) id k v above_is free_named is_under_folder segment
-        ∙ ap (λ (r : Path). put path_cmp r v (placed (bare t))) (ap (λ (x : List ℕ). parent_of q ++ x ∷ []) name ∙ sym cut_here.1) ∙ ap (put path_cmp q v) view
+        view_with t made kept (parent_of q) id k v above_is is_free is_under_folder segment
+        ∙ ap (λ (r : Path). put path_cmp r v (placed (bare t))) (sym at_new) ∙ ap (put path_cmp q v) view
 
     pub kept_put : (later : HashMap ℕ ℕ S) → get nat_eq made v.made ≡ None → ((n : ℕ) → get nat_eq later n ≡ cond (v.made == n) (Some (t.last + 1)) (get nat_eq made n)) → IsKept (added same_bytes t id k v) later
-    kept_put later new map = kept_with t made kept (parent_of q) id k v above_is free_named is_under_folder segment later new map
+    kept_put later new map = kept_with t made kept (parent_of q) id k v above_is is_free is_under_folder segment later new map

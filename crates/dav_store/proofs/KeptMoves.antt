@@ -39,7 +39,7 @@ own_by (Some m) n h = ap Some (eqb-true m n h)
 
 module _ {Z S : Type 0} (t : Tree (Vec ℕ Z) Seen) (made : HashMap ℕ ℕ S) (kept : IsKept t made) (ns : Nodes) (view : placed (bare t) ≡ ns)
     (p q : Path) (n tp : ℕ) (from : found (bare t) p ≡ Some n) (to : found (bare t) (parent_of q) ≡ Some tp)
-    (folder : is_folder_node (find path_cmp (parent_of q) ns) ≡ true) (apart : is_at_or_under q p ≡ false) (below : is_root q ≡ false) where
+    (folder : is_folder_node (find path_cmp (parent_of q) ns) ≡ true) (apart : is_at_or_under q p ≡ false) where
   never_under : (s : Path) → q ≡ p ++ s → ⊥
   never_under s e = let yes : is_at_or_under q p ≡ true = ap (λ (r : Path). is_at_or_under r p) e ∙ ap is_some (rest_after-append p s) in let clash : true ≡ false = sym yes ∙ apart in cc
 
@@ -54,15 +54,9 @@ module _ {Z S : Type 0} (t : Tree (Vec ℕ Z) Seen) (made : HashMap ℕ ℕ S) (
         by k F cut (Some fp) e = (F, k, fp, cut, e, sym (found-push (bare t) F fp k e) ∙ ap (found (bare t)) (sym cut) ∙ from)
 
   -- and the one that it gets
-  pub new_name : (x : List ℕ) × (q ≡ parent_of q ++ x ∷ [])
-  new_name = ⊎_elim (λ e. let yes : is_root q ≡ true = ap is_root e in let clash : true ≡ false = sym yes ∙ below in cc) (λ s. s) (shape q)
-
-  module _ (k : Vec ℕ Z) (name : k.items ≡ new_name.0) (segment : IsSegment k.items) (free : move_refusal same_bytes t n tp k true ≡ None) where
+  module _ (k : Vec ℕ Z) (at_new : q ≡ parent_of q ++ k.items ∷ []) (segment : IsSegment k.items) (free : move_refusal same_bytes t n tp k true ≡ None) where
     abbrev old : Option ℕ
     old = named (bare t) tp k.items
-
-    at_new : q ≡ parent_of q ++ k.items ∷ []
-    at_new = new_name.1 ∙ ap (λ (x : List ℕ). parent_of q ++ x ∷ []) (sym name)
 
     pub old_found : found (bare t) q ≡ old
     old_found = ap (found (bare t)) at_new ∙ found-push (bare t) (parent_of q) tp k.items to
