@@ -5,7 +5,7 @@ use Rattle.std.specs.Option.{option_and_then, option_map, option_map_or, is_some
 use Rattle.std.specs.HashMap.{HashMap, get}
 use Rattle.std.specs.FinMap.{find}
 use Rattle.std.proofs.lemmas.Bool.{eqb-true}
-use Rattle.dav_core.specs.Path.{Path, path_cmp, parent_of, is_at_or_under, is_root, IsSegment}
+use Rattle.dav_core.specs.Path.{Path, path_cmp, parent_of, is_at_or_under, IsSegment}
 use Rattle.dav_core.specs.World.{Node as Seen, Nodes, is_folder_node, moved as moved_nodes}
 use Rattle.dav_core.specs.declared.errors.FsError.{FsError}
 use Rattle.dav_core.specs.declared.errors.FsError.TheVariants.{NotFound, Exists, Forbidden}

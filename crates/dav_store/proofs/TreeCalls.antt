@@ -16,7 +16,7 @@ use Rattle.dav_store.proofs.Walks.{inner}
 use Rattle.dav_store.proofs.Entering.{place_is, kept_put}
 use Rattle.dav_store.proofs.Placing.{one_at}
 use Rattle.dav_store.proofs.TreeLooks as looks
-use Rattle.dav_store.proofs.TreeLooks.{IsOnce, cases_seat, value_in, parent_in, named_in, children_in}
+use Rattle.dav_store.proofs.TreeLooks.{IsOnce, value_in, parent_in, named_in, children_in}
 use Rattle.dav_store.proofs.TreePaths.{some_is, not_behind, found-push}
 use Rattle.dav_store.proofs.TreeAdded.{IsAdded}
 use Rattle.dav_store.proofs.TreeDeleted.{IsDeleted}
