@@ -1,5 +1,5 @@
 -- Trees whose keys are owned bytes, and the same with the bytes alone.
-use Rattle.std.proofs.Common.{◌≡◌, ℕ, zero, suc, ◌+◌, ◌-◌, nat_lt, Bool, true, false, not, cond, List, [], ◌∷◌, map, length, take, slice_get, get_or, position, Option, Some, None, refl, sym, ap, subst, ◌∙◌, if◌then◌else◌}
+use Rattle.std.proofs.Common.{◌≡◌, ℕ, zero, suc, ◌+◌, ◌-◌, nat_lt, Bool, true, false, not, cond, List, [], ◌∷◌, map, length, take, slice_get, get_or, position, Option, Some, None, refl, sym, ap, ◌∙◌, if◌then◌else◌}
 use Rattle.std.specs.Prelude.{◌==◌, nat_eq, Vec}
 use Rattle.std.specs.Option.{option_map, option_map_or, option_and_then}
 use Rattle.std.specs.Ordering.{nat_cmp, match_ordering}
@@ -13,7 +13,7 @@ use Rattle.std.proofs.lemmas.List.{take-map, map-set}
 use Rattle.std.proofs.lemmas.Option.{slice_get-map}
 use lib.ListN.{length-map}
 use Rattle.indexmap.specs.IndexMap.{insert_entry as put_key}
-use Rattle.dav_store.specs.Tree.{Tree, Node, node, value_of, parent_of, children_of, has_children, has_some, with_node, with_value, without, without_old, without_place, grown, leaf, linked, unlinked_at, unlinked, seated, place_of, child, child_of_bytes, is_child, added, deleted, moved, moved_over, IsListedAs, IsCloneOfNode, IsCloneOfTree}
+use Rattle.dav_store.specs.Tree.{Tree, Node, node, value_of, parent_of, children_of, with_node, with_value, without, without_old, without_place, grown, leaf, linked, unlinked_at, unlinked, seated, place_of, child, child_of_bytes, is_child, added, deleted, moved, moved_over, IsListedAs, IsCloneOfNode, IsCloneOfTree}
 use Rattle.dav_store.specs.Placed.{is_same_name, bare_children, bare_node, bare, named}
 
 -- ---- lists of nodes with another thing in the place of each

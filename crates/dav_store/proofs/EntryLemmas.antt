@@ -1,7 +1,7 @@
 -- What the parts of a store in memory find: the tree of its nodes, and the list that it stands for.
-use Rattle.std.proofs.Common.{◌≡◌, ℕ, ◌+◌, ◌<◌, ◌≤◌, Bool, true, false, cond, List, [], ◌∷◌, ◌++◌, length, take, get_or, Option, Some, None, refl, sym, ap, subst, ◌∙◌, ⊎_elim, arith, append_assoc}
+use Rattle.std.proofs.Common.{◌≡◌, ℕ, ◌+◌, ◌<◌, ◌≤◌, Bool, true, false, cond, List, [], ◌∷◌, ◌++◌, length, take, get_or, Option, Some, None, refl, sym, ap, subst, ◌∙◌, append_assoc}
 use Rattle.std.specs.Prelude.{Vec}
-use Rattle.std.specs.Option.{option_and_then, option_map, IsSome, is_some}
+use Rattle.std.specs.Option.{option_and_then, option_map}
 use Rattle.std.specs.FinMap.{find}
 use Rattle.std.proofs.lemmas.List.{take_more, take_all}
 use Rattle.dav_core.specs.Path.{Path, path_cmp, parent_of, is_nonempty, name_cmp}

@@ -9,7 +9,7 @@ use Rattle.dav_core.specs.Path.{Path, path_cmp, parent_of, IsSegment, is_root, i
 use Rattle.dav_core.specs.World.{Node as Seen, Nodes, is_folder_node, is_folder_kind, prune, moved as moved_nodes, file_made_with, members}
 use Rattle.dav_core.proofs.Theorems.{shape}
 use Rattle.dav_store.specs.Tree.{Tree, Node, node, value_of, single, leaf, added, deleted, moved, Does, DoesOrLacks, delete_refusal, has_children, has_some, children_of, root_id}
-use Rattle.dav_store.specs.Placed.{named, placed, found, stands, bare, is_same_name, IsGrown, IsMadeMap, IsChild}
+use Rattle.dav_store.specs.Placed.{named, placed, found, bare, is_same_name, IsGrown, IsMadeMap, IsChild}
 use Rattle.dav_store.specs.Entries.{IsKept}
 use Rattle.dav_store.specs.Makings.{AreMadeBefore}
 use Rattle.dav_store.proofs.MadeBefore.{before_found}
@@ -118,9 +118,11 @@ grown_single root folder = record {
   by : (b : Bool) → IsDistinct is_same_name (keys_of (option_map_or (λ x. x.children) (cond b (Some (leaf {K = List ℕ} 0 root)) None) []))
   by true = tt
   by false = tt
+
   no_child : (n : ℕ) (k : List ℕ) (m : ℕ) (b : Bool) → option_and_then (λ x. lookup (is_same_name k) x.children) (cond b (Some (leaf {K = List ℕ} 0 root)) None) ≡ Some m → ⊥
   no_child n k m true e = cc
   no_child n k m false e = cc
+
   at : (m : ℕ) (b : Bool) → is_at (nat_cmp m) 1 ≡ b → IsSome (option_map (λ x. x.value) (cond b (Some (leaf {K = List ℕ} 0 root)) None)) → Some 1 ≡ Some m
   at m true is some = ap Some (sym (number_is m 1 is))
   at m false is some = let no : false ≡ true = some in cc
@@ -138,6 +140,7 @@ kept_single {Z} root made later folder empty map = record {
   value_single : (m : ℕ) (v : Seen) (b : Bool) → is_at (nat_cmp m) 1 ≡ b → option_map (λ x. x.value) (cond b (Some (leaf {K = List ℕ} 0 root)) None) ≡ Some v → (m ≡ 1) × (root ≡ v)
   value_single m v true is e = (number_is m 1 is, inner root v e)
   value_single m v false is e = cc
+
   by_made : (n m : ℕ) (b : Bool) → (root.made == n) ≡ b → cond b (Some 1) (get nat_eq made n) ≡ Some m → (v : Seen) × (value_of (bare (single {K = Vec ℕ Z} root)) m ≡ Some v) × (v.made ≡ n)
   by_made n m true is e = (root, ap (value_of (bare (single {K = Vec ℕ Z} root))) (sym (inner 1 m e)), eqb-true root.made n is)
   by_made n m false is e = let clash : None ≡ Some m = sym (ap (lookup (nat_eq n)) empty) ∙ e in cc
@@ -187,6 +190,7 @@ module _ {Z S : Type 0} (t : Tree (Vec ℕ Z) Seen) (made : HashMap ℕ ℕ S) (
     some_member : {b : Bool} (ms : List (List ℕ × Bool)) → find name_cmp l ms ≡ Some b → is_nonempty ms ≡ true
     some_member [] h = cc
     some_member (m ∷ ms) h = refl
+
     by : (o : Option ℕ) → named (bare t) id l ≡ o → o ≡ None
     by None e = refl
     by (Some m) e =
@@ -195,7 +199,7 @@ module _ {Z S : Type 0} (t : Tree (Vec ℕ Z) Seen) (made : HashMap ℕ ℕ S) (
         let empty = is_side (is_folder_node (find path_cmp q ns)) (is_nonempty (members q ns)) free folder in
         let v = some_is (value_of (bare t) m) c.there in
         let member = some_member (members q ns) (member_named t kept.grown ns view q at here l
-            ∙ ap (λ o. option_map (λ n. is_folder_kind n.kind) (option_and_then (value_of (bare t)) o)) (child_at t kept.grown ns view q at here id is l ∙ e) ∙ ap (option_map (λ n. is_folder_kind n.kind)) v.1) in
+        ∙ ap (λ o. option_map (λ n. is_folder_kind n.kind) (option_and_then (value_of (bare t)) o)) (child_at t kept.grown ns view q at here id is l ∙ e) ∙ ap (option_map (λ n. is_folder_kind n.kind)) v.1) in
         let clash : true ≡ false = sym member ∙ empty in cc
 
   -- it has a seat
@@ -204,9 +208,9 @@ module _ {Z S : Type 0} (t : Tree (Vec ℕ Z) Seen) (made : HashMap ℕ ℕ S) (
       (λ e. let yes : is_root q ≡ true = ap is_root e in cc)
       (λ s. by s.0 (parent_of q) s.1 (found (bare t) (parent_of q)) refl)
       (shape q) where
-    by : (k : List ℕ) (P : Path) → q ≡ P ++ k ∷ [] → (o : Option ℕ) → found (bare t) P ≡ o → (P : Path) × (k : List ℕ) × (p : ℕ) × (q ≡ P ++ k ∷ []) × (found (bare t) P ≡ Some p) × (named (bare t) p k ≡ Some id)
-    by k P cut None e = let clash : None ≡ Some id = sym (none-below (bare t) P (k ∷ []) e) ∙ ap (found (bare t)) (sym cut) ∙ sym here ∙ is in cc
-    by k P cut (Some p) e = (P, k, p, cut, e, sym (found-push (bare t) P p k e) ∙ ap (found (bare t)) (sym cut) ∙ sym here ∙ is)
+        by : (k : List ℕ) (P : Path) → q ≡ P ++ k ∷ [] → (o : Option ℕ) → found (bare t) P ≡ o → (P : Path) × (k : List ℕ) × (p : ℕ) × (q ≡ P ++ k ∷ []) × (found (bare t) P ≡ Some p) × (named (bare t) p k ≡ Some id)
+        by k P cut None e = let clash : None ≡ Some id = sym (none-below (bare t) P (k ∷ []) e) ∙ ap (found (bare t)) (sym cut) ∙ sym here ∙ is in cc
+        by k P cut (Some p) e = (P, k, p, cut, e, sym (found-push (bare t) P p k e) ∙ ap (found (bare t)) (sym cut) ∙ sym here ∙ is)
 
   -- so it is deleted
   pub not_refused : delete_refusal t id ≡ None
@@ -214,22 +218,27 @@ module _ {Z S : Type 0} (t : Tree (Vec ℕ Z) Seen) (made : HashMap ℕ ℕ S) (
       ap (λ b. if b then Some NotFound else if id == root_id then Some Forbidden else if has_children t id then Some Exists else None) node_there
       ∙ ap (λ b. if b then Some Forbidden else if has_children t id then Some Exists else None) not_root
       ∙ ap (λ b. if b then Some Exists else None) childless where
-    seat_child : IsChild (bare t) seat_here.2 seat_here.1 id
-    seat_child = kept.grown.children seat_here.2 seat_here.1 id seat_here.5
-    none_in : (o : Option (Node (Vec ℕ Z) Seen)) → IsSome (option_map (λ x. x.value) o) → is_none o ≡ false
-    none_in None h = let no : false ≡ true = h in cc
-    none_in (Some x) h = refl
-    node_there : is_none (node t id) ≡ false
-    node_there = none_in (node t id) (ap is_some (sym (value_bare t id)) ∙ seat_child.there)
-    not_root : (id == root_id) ≡ false
-    not_root = ⊎_elim (λ a. absurd (seat_child.not_root (eqb-true id root_id a))) (λ a. a) (cases_Bool (id == root_id))
-    no_children : (cs : List (List ℕ × ℕ)) → children_of (bare t) id ≡ cs → has_some cs ≡ false
-    no_children [] e = refl
-    no_children (c ∷ cs) e =
-        let child : named (bare t) id c.0 ≡ Some c.1 = named_from (bare t) id c.0 ∙ ap (lookup (is_same_name c.0)) e ∙ ap (λ b. cond b (Some c.1) (lookup (is_same_name c.0) cs)) (name-itself c.0) in
-        let clash : None ≡ Some c.1 = sym (leaf_here c.0) ∙ child in cc
-    childless : has_children t id ≡ false
-    childless = sym (children_known t kept.grown ns view q at here id is) ∙ no_children (children_of (bare t) id) refl
+        seat_child : IsChild (bare t) seat_here.2 seat_here.1 id
+        seat_child = kept.grown.children seat_here.2 seat_here.1 id seat_here.5
+
+        none_in : (o : Option (Node (Vec ℕ Z) Seen)) → IsSome (option_map (λ x. x.value) o) → is_none o ≡ false
+        none_in None h = let no : false ≡ true = h in cc
+        none_in (Some x) h = refl
+
+        node_there : is_none (node t id) ≡ false
+        node_there = none_in (node t id) (ap is_some (sym (value_bare t id)) ∙ seat_child.there)
+
+        not_root : (id == root_id) ≡ false
+        not_root = ⊎_elim (λ a. absurd (seat_child.not_root (eqb-true id root_id a))) (λ a. a) (cases_Bool (id == root_id))
+
+        no_children : (cs : List (List ℕ × ℕ)) → children_of (bare t) id ≡ cs → has_some cs ≡ false
+        no_children [] e = refl
+        no_children (c ∷ cs) e =
+            let child : named (bare t) id c.0 ≡ Some c.1 = named_from (bare t) id c.0 ∙ ap (lookup (is_same_name c.0)) e ∙ ap (λ b. cond b (Some c.1) (lookup (is_same_name c.0) cs)) (name-itself c.0) in
+            let clash : None ≡ Some c.1 = sym (leaf_here c.0) ∙ child in cc
+
+        childless : has_children t id ≡ false
+        childless = sym (children_known t kept.grown ns view q at here id is) ∙ no_children (children_of (bare t) id) refl
 
   pub view_pruned : placed (bare (deleted t id)) ≡ prune q ns
   view_pruned =
@@ -282,34 +291,34 @@ module _ {Z S : Type 0} (t : Tree (Vec ℕ Z) Seen) (made : HashMap ℕ ℕ S) (
       let none : value_of (bare t) 1 ≡ None = value_bare t 1 ∙ sym root ∙ ap (λ (r : Path). find path_cmp r ns) (sym e) ∙ free in
       let no : false ≡ true = sym (ap is_some none) ∙ root_there (bare t) kept.grown in cc
 
-  pub cut_here : (x : List ℕ) × (q ≡ parent_of q ++ x ∷ [])
-  cut_here = ⊎_elim (λ e. absurd (isnt_root e)) (λ s. s) (shape q)
+  pub below_the_root : is_root q ≡ false
+  below_the_root = by q refl where
+    by : (r : Path) → q ≡ r → is_root q ≡ false
+    by [] e = absurd (isnt_root e)
+    by (x ∷ r) e = ap is_root e
 
   above_is : found (bare t) (parent_of q) ≡ Some id
   above_is = sym here ∙ is
 
-  is_free : named (bare t) id cut_here.0 ≡ None
-  is_free = by (named (bare t) id cut_here.0) refl where
-    by : (o : Option ℕ) → named (bare t) id cut_here.0 ≡ o → o ≡ None
-    by None e = refl
-    by (Some m) e =
-        let c = kept.grown.children id cut_here.0 m e in
-        let v = some_is (value_of (bare t) m) c.there in
-        let at : Some m ≡ found (bare t) q = sym (ap (found (bare t)) cut_here.1 ∙ found-push (bare t) (parent_of q) id cut_here.0 above_is ∙ e) in
-        let stands_there : find path_cmp q ns ≡ value_of t m = value_some t kept.grown ns view q (Some m) at m refl in
-        let clash : None ≡ Some v.0 = sym free ∙ stands_there ∙ sym (value_bare t m) ∙ v.1 in cc
-
   is_under_folder : is_folder_node (value_of (bare t) id) ≡ true
   is_under_folder = ap is_folder_node (value_bare t id ∙ sym (value_some t kept.grown ns view (parent_of q) above here id is)) ∙ folder
 
-  module _ (k : Vec ℕ Z) (v : Seen) (name : k.items ≡ cut_here.0) (segment : IsSegment k.items) where
-    free_named : named (bare t) id k.items ≡ None
-    free_named = ap (named (bare t) id) name ∙ is_free
+  module _ (k : Vec ℕ Z) (v : Seen) (at_new : q ≡ parent_of q ++ k.items ∷ []) (segment : IsSegment k.items) where
+    is_free : named (bare t) id k.items ≡ None
+    is_free = by (named (bare t) id k.items) refl where
+      by : (o : Option ℕ) → named (bare t) id k.items ≡ o → o ≡ None
+      by None e = refl
+      by (Some m) e =
+          let c = kept.grown.children id k.items m e in
+          let v = some_is (value_of (bare t) m) c.there in
+          let at : Some m ≡ found (bare t) q = sym (ap (found (bare t)) at_new ∙ found-push (bare t) (parent_of q) id k.items above_is ∙ e) in
+          let stands_there : find path_cmp q ns ≡ value_of t m = value_some t kept.grown ns view q (Some m) at m refl in
+          let clash : None ≡ Some v.0 = sym free ∙ stands_there ∙ sym (value_bare t m) ∙ v.1 in cc
 
     pub view_put : placed (bare (added same_bytes t id k v)) ≡ put path_cmp q v ns
     view_put =
-        view_with t made kept (parent_of q) id k v above_is free_named is_under_folder segment
-        ∙ ap (λ (r : Path). put path_cmp r v (placed (bare t))) (ap (λ (x : List ℕ). parent_of q ++ x ∷ []) name ∙ sym cut_here.1) ∙ ap (put path_cmp q v) view
+        view_with t made kept (parent_of q) id k v above_is is_free is_under_folder segment
+        ∙ ap (λ (r : Path). put path_cmp r v (placed (bare t))) (sym at_new) ∙ ap (put path_cmp q v) view
 
     pub kept_put : (later : HashMap ℕ ℕ S) → get nat_eq made v.made ≡ None → ((n : ℕ) → get nat_eq later n ≡ cond (v.made == n) (Some (t.last + 1)) (get nat_eq made n)) → IsKept (added same_bytes t id k v) later
-    kept_put later new map = kept_with t made kept (parent_of q) id k v above_is free_named is_under_folder segment later new map
+    kept_put later new map = kept_with t made kept (parent_of q) id k v above_is is_free is_under_folder segment later new map

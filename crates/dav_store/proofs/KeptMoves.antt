@@ -1,21 +1,21 @@
 -- The parts of a store in memory after a node was moved, where no rule refuses it.
-use Rattle.std.proofs.Common.{◌≡◌, ℕ, ◌==◌, Bool, true, false, not, cond, List, [], ◌∷◌, ◌++◌, Option, Some, None, refl, sym, ap, subst, ◌∙◌, ⊎_elim, inl, inr, if◌then◌else◌}
+use Rattle.std.proofs.Common.{◌≡◌, ℕ, ◌==◌, Bool, true, false, not, cond, List, [], ◌∷◌, ◌++◌, Option, Some, None, refl, sym, ap, ◌∙◌, ⊎_elim, inl, inr, if◌then◌else◌}
 use Rattle.std.specs.Prelude.{Vec, nat_eq, ◌⊎◌, ◌||◌, is_none}
 use Rattle.std.specs.Option.{option_and_then, option_map, option_map_or, is_some}
 use Rattle.std.specs.HashMap.{HashMap, get}
 use Rattle.std.specs.FinMap.{find}
 use Rattle.std.proofs.lemmas.Bool.{eqb-true}
-use Rattle.dav_core.specs.Path.{Path, path_cmp, parent_of, rest_after, is_at_or_under, is_root, IsSegment}
+use Rattle.dav_core.specs.Path.{Path, path_cmp, parent_of, is_at_or_under, IsSegment}
 use Rattle.dav_core.specs.World.{Node as Seen, Nodes, is_folder_node, moved as moved_nodes}
 use Rattle.dav_core.specs.declared.errors.FsError.{FsError}
 use Rattle.dav_core.specs.declared.errors.FsError.TheVariants.{NotFound, Exists, Forbidden}
 use Rattle.dav_core.proofs.Theorems.{shape, rest_after-append}
-use Rattle.dav_store.specs.Tree.{Tree, Node, node, value_of, children_of, has_children, has_some, child, is_child, is_at_or_below, key_refusal, move_refusal, moved, root_id}
+use Rattle.dav_store.specs.Tree.{Tree, node, value_of, children_of, has_children, has_some, child, is_child, is_at_or_below, key_refusal, move_refusal, moved, root_id}
 use Rattle.dav_store.specs.Placed.{named, placed, found, bare, is_same_name, IsGrown}
 use Rattle.dav_store.specs.Entries.{IsKept}
 use Rattle.std.specs.Map.{lookup}
 use Rattle.dav_store.proofs.Walks.{inner}
-use Rattle.dav_store.proofs.Placing.{one_at, named_from, name-itself}
+use Rattle.dav_store.proofs.Placing.{one_at, named_from}
 use Rattle.dav_store.proofs.TreePaths.{none-below, found-push, found_there, some_is}
 use Rattle.dav_store.proofs.EntryLemmas.{value_some, value_at, children_known, empty}
 use Rattle.dav_store.proofs.KeptCalls.{view_elsewhere, kept_to_new, kept_over_old}
@@ -39,7 +39,7 @@ own_by (Some m) n h = ap Some (eqb-true m n h)
 
 module _ {Z S : Type 0} (t : Tree (Vec ℕ Z) Seen) (made : HashMap ℕ ℕ S) (kept : IsKept t made) (ns : Nodes) (view : placed (bare t) ≡ ns)
     (p q : Path) (n tp : ℕ) (from : found (bare t) p ≡ Some n) (to : found (bare t) (parent_of q) ≡ Some tp)
-    (folder : is_folder_node (find path_cmp (parent_of q) ns) ≡ true) (apart : is_at_or_under q p ≡ false) (below : is_root q ≡ false) where
+    (folder : is_folder_node (find path_cmp (parent_of q) ns) ≡ true) (apart : is_at_or_under q p ≡ false) where
   never_under : (s : Path) → q ≡ p ++ s → ⊥
   never_under s e = let yes : is_at_or_under q p ≡ true = ap (λ (r : Path). is_at_or_under r p) e ∙ ap is_some (rest_after-append p s) in let clash : true ≡ false = sym yes ∙ apart in cc
 
@@ -49,20 +49,14 @@ module _ {Z S : Type 0} (t : Tree (Vec ℕ Z) Seen) (made : HashMap ℕ ℕ S) (
       (λ e. absurd (never_under q (ap (λ (r : Path). r ++ q) (sym e))))
       (λ s. by s.0 (parent_of p) s.1 (found (bare t) (parent_of p)) refl)
       (shape p) where
-    by : (k : List ℕ) (F : Path) → p ≡ F ++ k ∷ [] → (o : Option ℕ) → found (bare t) F ≡ o → (F : Path) × (fk : List ℕ) × (fp : ℕ) × (p ≡ F ++ fk ∷ []) × (found (bare t) F ≡ Some fp) × (named (bare t) fp fk ≡ Some n)
-    by k F cut None e = let clash : None ≡ Some n = sym (none-below (bare t) F (k ∷ []) e) ∙ ap (found (bare t)) (sym cut) ∙ from in cc
-    by k F cut (Some fp) e = (F, k, fp, cut, e, sym (found-push (bare t) F fp k e) ∙ ap (found (bare t)) (sym cut) ∙ from)
+        by : (k : List ℕ) (F : Path) → p ≡ F ++ k ∷ [] → (o : Option ℕ) → found (bare t) F ≡ o → (F : Path) × (fk : List ℕ) × (fp : ℕ) × (p ≡ F ++ fk ∷ []) × (found (bare t) F ≡ Some fp) × (named (bare t) fp fk ≡ Some n)
+        by k F cut None e = let clash : None ≡ Some n = sym (none-below (bare t) F (k ∷ []) e) ∙ ap (found (bare t)) (sym cut) ∙ from in cc
+        by k F cut (Some fp) e = (F, k, fp, cut, e, sym (found-push (bare t) F fp k e) ∙ ap (found (bare t)) (sym cut) ∙ from)
 
   -- and the one that it gets
-  pub new_name : (x : List ℕ) × (q ≡ parent_of q ++ x ∷ [])
-  new_name = ⊎_elim (λ e. let yes : is_root q ≡ true = ap is_root e in let clash : true ≡ false = sym yes ∙ below in cc) (λ s. s) (shape q)
-
-  module _ (k : Vec ℕ Z) (name : k.items ≡ new_name.0) (segment : IsSegment k.items) (free : move_refusal same_bytes t n tp k true ≡ None) where
+  module _ (k : Vec ℕ Z) (at_new : q ≡ parent_of q ++ k.items ∷ []) (segment : IsSegment k.items) (free : move_refusal same_bytes t n tp k true ≡ None) where
     abbrev old : Option ℕ
     old = named (bare t) tp k.items
-
-    at_new : q ≡ parent_of q ++ k.items ∷ []
-    at_new = new_name.1 ∙ ap (λ (x : List ℕ). parent_of q ++ x ∷ []) (sym name)
 
     pub old_found : found (bare t) q ≡ old
     old_found = ap (found (bare t)) at_new ∙ found-push (bare t) (parent_of q) tp k.items to

@@ -1,11 +1,11 @@
 -- The members of a folder, from the children of its node in the order of their names.
-use Rattle.std.proofs.Common.{◌≡◌, ℕ, suc, zero, ◌<◌, ◌≤◌, ◌+◌, Bool, true, false, cond, T, List, [], ◌∷◌, ◌++◌, map, All, length, get_or, Option, Some, None, refl, sym, ap, subst, ◌∙◌, ⊎_elim, arith, IsPermutation}
+use Rattle.std.proofs.Common.{◌≡◌, ℕ, suc, ◌+◌, Bool, true, false, cond, T, List, [], ◌∷◌, map, All, get_or, Option, Some, None, refl, sym, ap, subst, ◌∙◌, ⊎_elim, arith, IsPermutation}
 use Rattle.std.specs.Prelude.{Vec, Result, Ok, Err, IfOk}
 use Rattle.std.specs.declared.cmp.Ordering.{Ordering}
 use Rattle.std.specs.declared.cmp.Ordering.TheVariants.{Less, Equal, Greater}
 use Rattle.std.specs.Ordering.{nat_cmp, is_eq, is_lt, ordering_then, ordering_reverse}
 use Rattle.std.specs.Option.{option_map, option_and_then, IsSome, is_some}
-use Rattle.std.specs.List.{IsDistinct, AllByRecursion, AllZip}
+use Rattle.std.specs.List.{IsDistinct, AllZip}
 use Rattle.std.specs.List.Sorted.{IsSortedBy}
 use Rattle.std.specs.Cmp.Lexicographic.{nat_list_cmp_total}
 use Rattle.std.specs.Map.{lookup, keys_of}
@@ -22,7 +22,7 @@ use Rattle.dav_core.specs.World.{Node as Seen, Nodes, is_folder_node, is_folder_
 use Rattle.dav_core.proofs.Theorems.{same_name, name-itself as tied-itself, sorted-members, both_true, left_true, right_true}
 use Rattle.dav_store.specs.Tree.{Tree, value_of, children_of, IsListedAs}
 use Rattle.dav_store.specs.ChildOrder.{child_cmp}
-use Rattle.dav_store.specs.Placed.{named, placed, found, stands, bare, bare_children, is_same_name, IsGrown}
+use Rattle.dav_store.specs.Placed.{named, placed, found, bare, bare_children, is_same_name, IsGrown}
 use Rattle.dav_store.proofs.Placing.{name_is, name-itself, named_from, sorted-placed}
 use Rattle.dav_store.proofs.TreePaths.{some_is}
 use Rattle.dav_store.proofs.BareTrees.{value_bare, children_bare}
@@ -33,9 +33,9 @@ same_test : (k l : List ℕ) → is_eq (name_cmp k l) ≡ is_same_name k l
 same_test k l = ⊎_elim
     (λ a. ap (λ (x : List ℕ). is_eq (name_cmp k x)) (sym (name_is k l a)) ∙ tied-itself k ∙ sym a)
     (λ a. ⊎_elim
-      (λ b. let same : is_same_name k l ≡ true = ap (is_same_name k) (sym (same_name k l b)) ∙ name-itself k in let clash : true ≡ false = sym same ∙ a in cc)
-      (λ b. b ∙ sym a)
-      (cases_Bool (is_eq (name_cmp k l))))
+    (λ b. let same : is_same_name k l ≡ true = ap (is_same_name k) (sym (same_name k l b)) ∙ name-itself k in let clash : true ≡ false = sym same ∙ a in cc)
+    (λ b. b ∙ sym a)
+    (cases_Bool (is_eq (name_cmp k l))))
     (cases_Bool (is_same_name k l))
 
 -- a child by its name, and whether it is a folder

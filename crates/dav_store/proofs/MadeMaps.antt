@@ -1,17 +1,16 @@
 -- The map from the numbers with which nodes were made, after each call of a tree of names, and what it finds.
-use Rattle.std.proofs.Common.{◌≡◌, ℕ, ◌+◌, ◌==◌, ◌&&◌, Bool, true, false, not, cond, T, if◌then◌else◌, List, [], ◌∷◌, ◌++◌, Option, Some, None, refl, sym, ap, subst, ◌∙◌, ⊎_elim, arith}
-use Rattle.std.specs.Option.{option_and_then, option_map, IsSome, is_some}
+use Rattle.std.proofs.Common.{◌≡◌, ℕ, ◌==◌, ◌&&◌, Bool, true, false, not, cond, if◌then◌else◌, List, [], ◌∷◌, Option, Some, None, refl, sym, ap, subst, ◌∙◌, ⊎_elim}
+use Rattle.std.specs.Option.{option_and_then, option_map, is_some}
 use Rattle.std.specs.List.{find as first}
-use Rattle.std.specs.FinMap.{find, is_sorted}
+use Rattle.std.specs.FinMap.{find}
 use Rattle.std.proofs.lemmas.Bool.{cases_Bool, cases_eq, eqb-true, eq-eqb}
 use Rattle.dav_core.specs.Path.{Path, path_cmp}
-use Rattle.dav_core.specs.World.{Node as Seen, Nodes, is_folder_kind, is_folder_node, is_file_made_with, file_made_with, change_node, adjust}
+use Rattle.dav_core.specs.World.{Node as Seen, Nodes, is_folder_kind, is_file_made_with, file_made_with, change_node, adjust}
 use Rattle.dav_core.proofs.Theorems.{made_stands, change_made}
 use Rattle.dav_store.specs.Tree.{Tree, value_of}
-use Rattle.dav_store.specs.Placed.{named, placed, found, stands, IsGrown, IsMadeMap}
+use Rattle.dav_store.specs.Placed.{placed, found, stands, IsGrown, IsMadeMap}
 use Rattle.dav_store.proofs.Walks.{inner}
-use Rattle.dav_store.proofs.Placing.{one_at, find-placed, sorted-placed}
-use Rattle.dav_store.proofs.TreePaths.{some_is, found_there}
+use Rattle.dav_store.proofs.Placing.{find-placed, sorted-placed}
 
 -- a file, where there is one
 abbrev pub if_file : Option Seen → Option Seen
@@ -107,7 +106,7 @@ module _ (t u : Tree (List ℕ) Seen) (made later : ℕ → Option ℕ) (is : Is
   made_valued w v was value same map = record {
     each = λ x y h. ⊎_elim
         (λ e. let y_is : y ≡ v = inner y v (sym h ∙ ap (value_of u) e ∙ value) in
-          map y.made ∙ ap made (ap (λ (z : Seen). z.made) y_is ∙ same) ∙ is.each m w was ∙ ap Some (sym e))
+        map y.made ∙ ap made (ap (λ (z : Seen). z.made) y_is ∙ same) ∙ is.each m w was ∙ ap Some (sym e))
         (λ differ. map y.made ∙ is.each x y (sym (others x differ) ∙ h))
         (cases_eq x m);
     only = λ n x e.
@@ -123,20 +122,20 @@ module _ (t u : Tree (List ℕ) Seen) (made later : ℕ → Option ℕ) (is : Is
   made_added v was value free map = record {
     each = λ x y h. ⊎_elim
         (λ e. let y_is : y ≡ v = inner y v (sym h ∙ ap (value_of u) e ∙ value) in
-          map y.made ∙ ap (λ b. cond b (Some m) (made y.made)) (eq-eqb v.made y.made (ap (λ (z : Seen). z.made) (sym y_is))) ∙ ap Some (sym e))
+        map y.made ∙ ap (λ b. cond b (Some m) (made y.made)) (eq-eqb v.made y.made (ap (λ (z : Seen). z.made) (sym y_is))) ∙ ap Some (sym e))
         (λ differ.
-          let there : made y.made ≡ Some x = is.each x y (sym (others x differ) ∙ h) in
-          ⊎_elim
-          (λ same. let clash : None ≡ Some x = sym free ∙ ap made (eqb-true v.made y.made same) ∙ there in cc)
-          (λ apart. map y.made ∙ ap (λ b. cond b (Some m) (made y.made)) apart ∙ there)
-          (cases_Bool (v.made == y.made)))
+        let there : made y.made ≡ Some x = is.each x y (sym (others x differ) ∙ h) in
+        ⊎_elim
+        (λ same. let clash : None ≡ Some x = sym free ∙ ap made (eqb-true v.made y.made same) ∙ there in cc)
+        (λ apart. map y.made ∙ ap (λ b. cond b (Some m) (made y.made)) apart ∙ there)
+        (cases_Bool (v.made == y.made)))
         (cases_eq x m);
     only = λ n x e. ⊎_elim
         (λ same. let x_is : m ≡ x = inner m x (sym (ap (λ b. cond b (Some m) (made n)) same) ∙ sym (map n) ∙ e) in
-          (v, ap (value_of u) (sym x_is) ∙ value, eqb-true v.made n same))
+        (v, ap (value_of u) (sym x_is) ∙ value, eqb-true v.made n same))
         (λ apart.
-          let one = is.only n x (sym (ap (λ b. cond b (Some m) (made n)) apart) ∙ sym (map n) ∙ e) in
-          (one.0, others x (λ e. let clash : None ≡ Some one.0 = sym was ∙ ap (value_of t) (sym e) ∙ one.1 in cc) ∙ one.1, one.2))
+        let one = is.only n x (sym (ap (λ b. cond b (Some m) (made n)) apart) ∙ sym (map n) ∙ e) in
+        (one.0, others x (λ e. let clash : None ≡ Some one.0 = sym was ∙ ap (value_of t) (sym e) ∙ one.1 in cc) ∙ one.1, one.2))
         (cases_Bool (v.made == n));
   }
 
@@ -146,18 +145,21 @@ module _ (t u : Tree (List ℕ) Seen) (made later : ℕ → Option ℕ) (is : Is
     each = λ x y h. ⊎_elim
         (λ e. let clash : None ≡ Some y = sym gone ∙ ap (value_of u) (sym e) ∙ h in cc)
         (λ differ.
-          let there : made y.made ≡ Some x = is.each x y (sym (others x differ) ∙ h) in
-          ⊎_elim
-          (λ same. absurd (differ (inner x m (sym there ∙ ap made (sym (eqb-true w.made y.made same)) ∙ is.each m w was))))
-          (λ apart. map y.made ∙ ap (λ b. cond b None (made y.made)) apart ∙ there)
-          (cases_Bool (w.made == y.made)))
+        let there : made y.made ≡ Some x = is.each x y (sym (others x differ) ∙ h) in
+        ⊎_elim
+        (λ same. absurd (differ (inner x m (sym there ∙ ap made (sym (eqb-true w.made y.made same)) ∙ is.each m w was))))
+        (λ apart. map y.made ∙ ap (λ b. cond b None (made y.made)) apart ∙ there)
+        (cases_Bool (w.made == y.made)))
         (cases_eq x m);
     only = λ n x e. ⊎_elim
         (λ same. let clash : None ≡ Some x = sym (ap (λ b. cond b None (made n)) same) ∙ sym (map n) ∙ e in cc)
         (λ apart.
-          let one = is.only n x (sym (ap (λ b. cond b None (made n)) apart) ∙ sym (map n) ∙ e) in
-          (one.0, others x (λ e.
-          let same : (w.made == n) ≡ true = eq-eqb w.made n (ap (λ (z : Seen). z.made) (inner w one.0 (sym was ∙ ap (value_of t) (sym e) ∙ one.1)) ∙ one.2) in cc) ∙ one.1, one.2))
+        let one = is.only n x (sym (ap (λ b. cond b None (made n)) apart) ∙ sym (map n) ∙ e) in (
+          one.0,
+          others x (λ e.
+              let same : (w.made == n) ≡ true = eq-eqb w.made n (ap (λ (z : Seen). z.made) (inner w one.0 (sym was ∙ ap (value_of t) (sym e) ∙ one.1)) ∙ one.2) in cc) ∙ one.1,
+          one.2,
+        ))
         (cases_Bool (w.made == n));
   }
 

@@ -1,15 +1,12 @@
--- Paths compared name by name.
-use Rattle.std.proofs.Common.{◌≡◌, ◌≢◌, zero, suc, ◌==◌, All, subst, ℕ, ◌<◌, ◌-◌, Bool, true, false, cond, List, [], ◌∷◌, ◌++◌, if◌then◌else◌, length, get_or, take, drop, Option, Some, None, refl, sym, ap, ◌∙◌, arith}
+-- The names in the bytes of a path.
+use Rattle.std.proofs.Common.{◌≡◌, ◌≢◌, zero, suc, ◌==◌, All, subst, ℕ, ◌<◌, Bool, true, false, cond, List, [], ◌∷◌, ◌++◌, if◌then◌else◌, length, get_or, Option, Some, None, refl, sym, ap, ◌∙◌, ⊎_elim, arith}
 use Rattle.std.specs.Prelude.{bytes_eq}
 use Rattle.std.specs.Option.{unwrap_or}
-use Rattle.std.proofs.lemmas.List.{take_rest}
 use Rattle.std.proofs.lemmas.List.Splits.{slice_split-cons_yes, slice_split-cons_no}
 use Rattle.std.proofs.lemmas.Bool.Decides.{nat_tests}
 use Rattle.std.specs.List.{AllByRecursion, slice_split, onto_first, filter, last_or}
-use Rattle.std.specs.declared.cmp.Ordering.{Ordering}
-use Rattle.std.specs.declared.cmp.Ordering.TheVariants.{Less, Equal, Greater}
-use Rattle.std.specs.Ordering.{is_eq, ordering_then}
-use Rattle.dav_core.specs.Path.{Path, name_cmp, is_same_path, parent_of, is_nonempty, names_in, names_of, last_name, star, IsSegment}
+use Rattle.dav_core.specs.Path.{Path, is_nonempty, is_root, parent_of, names_in, names_of, last_name, star, IsSegment}
+use Rattle.dav_core.proofs.Theorems.{shape}
 
 -- bytes without a slash
 abbrev Slashless : List ℕ → Type 0
@@ -55,12 +52,23 @@ if_star true p all = tt
 if_star false p all = all
 
 -- the last of the names in bytes is a segment
-pub last_is_segment : (bytes : List ℕ) (p : Path) (x : List ℕ) → names_of bytes ≡ p ++ x ∷ [] → IsSegment x
+last_is_segment : (bytes : List ℕ) (p : Path) (x : List ℕ) → names_of bytes ≡ p ++ x ∷ [] → IsSegment x
 last_is_segment bytes p x e = only_last p x (subst (AllByRecursion IsSegment) e (if_star (bytes_eq bytes star) (names_in bytes) (kept (slice_split (λ b. b == 47) bytes) (slashless bytes))))
 
 last_push : (o : Option (List ℕ)) (p : Path) (x : List ℕ) → last_or o (p ++ x ∷ []) ≡ Some x
 last_push o [] x = refl
 last_push o (y ∷ p) x = last_push (Some y) p x
 
-pub last_name_is : (bytes : List ℕ) (p : Path) (x : List ℕ) → names_of bytes ≡ p ++ x ∷ [] → last_name bytes ≡ x
+last_name_is : (bytes : List ℕ) (p : Path) (x : List ℕ) → names_of bytes ≡ p ++ x ∷ [] → last_name bytes ≡ x
 last_name_is bytes p x e = ap (λ (q : Path). unwrap_or (last_or None q) []) e ∙ ap (λ (o : Option (List ℕ)). unwrap_or o []) (last_push None p x)
+
+-- the last name in bytes ends the path that they name, and is a segment
+pub named_last : (bytes k : List ℕ) → is_root (names_of bytes) ≡ false → k ≡ last_name bytes → (names_of bytes ≡ parent_of (names_of bytes) ++ k ∷ []) × IsSegment k
+named_last bytes k below last =
+    ⊎_elim
+    (λ e. let yes : is_root (names_of bytes) ≡ true = ap is_root e in let clash : true ≡ false = sym yes ∙ below in cc)
+    (λ s. let name : k ≡ s.0 = last ∙ last_name_is bytes (parent_of (names_of bytes)) s.0 s.1 in (
+      s.1 ∙ ap (λ (x : List ℕ). parent_of (names_of bytes) ++ x ∷ []) (sym name),
+      subst IsSegment (sym name) (last_is_segment bytes (parent_of (names_of bytes)) s.0 s.1),
+    ))
+    (shape (names_of bytes))

@@ -8,8 +8,6 @@ use Rattle.std.specs.declared.cmp.Ordering.TheVariants.{Less, Equal, Greater}
 use Rattle.std.specs.Ordering.{is_eq, is_le}
 use Rattle.std.proofs.lemmas.List.Quantifiers.{position-Some}
 use Rattle.std.proofs.lemmas.Iterator.Adapters.{position_from-zero}
-use Rattle.dav_core.specs.Path.{Path}
-use Rattle.dav_core.specs.World.{Node, Nodes, change_node}
 
 -- i is the first place that passes, and e is what is there
 abbrev pub IsFirst : {E : Type 0} → (E → Bool) → List E → ℕ → E → Type 0

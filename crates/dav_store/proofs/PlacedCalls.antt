@@ -1,17 +1,16 @@
 -- The list that a tree of names stands for after each call of the tree.
-use Rattle.std.proofs.Common.{◌≡◌, ℕ, ◌+◌, Bool, true, false, cond, T, List, [], ◌∷◌, ◌++◌, Option, Some, None, refl, sym, ap, subst, ◌∙◌, ⊎_elim, arith}
-use Rattle.std.specs.Option.{option_and_then, option_map, option_or, IsSome, is_some}
-use Rattle.std.specs.FinMap.{find, put, is_sorted}
+use Rattle.std.proofs.Common.{◌≡◌, ℕ, ◌+◌, true, cond, List, [], ◌∷◌, ◌++◌, Option, Some, None, refl, sym, ap, ◌∙◌, ⊎_elim, arith}
+use Rattle.std.specs.Option.{option_and_then, option_map, option_or, is_some}
+use Rattle.std.specs.FinMap.{find, put}
 use Rattle.std.proofs.lemmas.Bool.{cases_Bool, cases_eq}
 use Rattle.dav_core.specs.Path.{Path, path_cmp, is_same_path, is_at_or_under, rest_after, IsSegment}
-use Rattle.dav_core.specs.World.{Node as Seen, Nodes, is_folder_kind, is_folder_node, adjust, prune, moved as moved_nodes}
+use Rattle.dav_core.specs.World.{Node as Seen, is_folder_kind, is_folder_node, adjust, prune, moved as moved_nodes}
 use Rattle.dav_core.proofs.Theorems.{find-adjust, find-put_node, sorted-put_node, same_path, path-itself, find-prune, sorted-prune, find-moved, sorted-moved, adjust_keeps_order}
-use Rattle.dav_store.specs.Tree.{Tree, Node, node, value_of, parent_of, with_value, added, deleted, moved, root_id}
-use Rattle.dav_store.specs.Placed.{is_same_name, named, placed, found, stands, IsChild, IsGrown}
-use Rattle.dav_store.proofs.Walks.{inner}
+use Rattle.dav_store.specs.Tree.{Tree, Node, node, value_of, with_value, added, deleted, moved, root_id}
+use Rattle.dav_store.specs.Placed.{is_same_name, named, placed, found, stands, IsGrown}
 use Rattle.dav_store.proofs.Placing.{one_at, find-placed, same_placed, sorted-placed}
 use Rattle.dav_store.proofs.TreeLooks as looks
-use Rattle.dav_store.proofs.TreePaths.{some_is, then_same, outside}
+use Rattle.dav_store.proofs.TreePaths.{then_same, outside}
 use Rattle.dav_store.proofs.TreeAdded.{stands_added, grown_added}
 use Rattle.dav_store.proofs.TreeDeleted.{stands_deleted, grown_deleted}
 use Rattle.dav_store.proofs.TreeMoved.{stands_moved, grown_moved, after_move}
@@ -76,11 +75,11 @@ module _ (t : Tree (List ℕ) Seen) (grown : IsGrown t) where
         ap (option_and_then (value_of valued)) (found_same q)
         ∙ ⊎_elim
         (λ same. let there : found t q ≡ Some m = ap (found t) (sym (same_path path q same)) ∙ at in
-          ap (option_and_then (value_of valued)) there ∙ value_here ∙ ap Some made
-          ∙ sym (ap (λ b. cond b (option_map f (stands t q)) (stands t q)) same ∙ ap (option_map f) (ap (option_and_then (value_of t)) there ∙ is)))
+        ap (option_and_then (value_of valued)) there ∙ value_here ∙ ap Some made
+        ∙ sym (ap (λ b. cond b (option_map f (stands t q)) (stands t q)) same ∙ ap (option_map f) (ap (option_and_then (value_of t)) there ∙ is)))
         (λ other. then_same (value_of valued) (value_of t) (found t q)
-          (λ x there. value_apart x (λ e. let same : is_same_path path q ≡ true = ap (is_same_path path) (one_at t grown q path m (there ∙ ap Some e) at) ∙ path-itself path in cc))
-          ∙ sym (ap (λ b. cond b (option_map f (stands t q)) (stands t q)) other))
+        (λ x there. value_apart x (λ e. let same : is_same_path path q ≡ true = ap (is_same_path path) (one_at t grown q path m (there ∙ ap Some e) at) ∙ path-itself path in cc))
+        ∙ sym (ap (λ b. cond b (option_map f (stands t q)) (stands t q)) other))
         (cases_Bool (is_same_path path q))
 
     -- the node at a path is changed
@@ -95,10 +94,10 @@ module _ (t : Tree (List ℕ) Seen) (grown : IsGrown t) where
   placed_unchanged path f none =
       same_placed t grown (adjust path f (placed t)) (adjust_keeps_order path f (placed t) (sorted-placed t grown))
       (λ q. ⊎_elim
-        (λ same. let there : stands t q ≡ None = ap (stands t) (sym (same_path path q same)) ∙ none in
-          there ∙ sym (ap (λ b. cond b (option_map f (stands t q)) (stands t q)) same ∙ ap (option_map f) there))
-        (λ other. sym (ap (λ b. cond b (option_map f (stands t q)) (stands t q)) other))
-        (cases_Bool (is_same_path path q))
+      (λ same. let there : stands t q ≡ None = ap (stands t) (sym (same_path path q same)) ∙ none in
+      there ∙ sym (ap (λ b. cond b (option_map f (stands t q)) (stands t q)) same ∙ ap (option_map f) there))
+      (λ other. sym (ap (λ b. cond b (option_map f (stands t q)) (stands t q)) other))
+      (cases_Bool (is_same_path path q))
       ∙ sym (find-adjust path f q (placed t) ∙ ap (λ o. cond (is_same_path path q) (option_map f o) o) (find-placed t grown q)))
 
   -- ---- a new node

@@ -1,14 +1,14 @@
 -- What is found in the list that a tree stands for.
-use Rattle.std.proofs.Common.{◌≡◌, ℕ, ◌+◌, ◌<◌, ◌≤◌, Bool, true, false, cond, T, List, [], ◌∷◌, ◌++◌, Option, Some, None, refl, sym, ap, subst, ◌∙◌, arith, ⊎_elim, reverse, if◌then◌else◌}
-use Rattle.std.specs.Prelude.{◌==◌, ◌≢◌, nat_eq}
+use Rattle.std.proofs.Common.{◌≡◌, ℕ, ◌+◌, ◌≤◌, Bool, true, false, cond, T, List, [], ◌∷◌, Option, Some, None, refl, sym, ap, ◌∙◌, arith, ⊎_elim, reverse, if◌then◌else◌}
+use Rattle.std.specs.Prelude.{◌==◌, nat_eq}
 use Rattle.std.specs.Option.{option_map, option_map_or, option_and_then, IsSome, is_some}
-use Rattle.std.specs.Ordering.{nat_cmp, eq_by_cmp, is_eq}
+use Rattle.std.specs.Ordering.{nat_cmp, is_eq}
 use Rattle.std.specs.Cmp.{unsigned_tied, tied_itself, nat_cmp_total}
 use Rattle.std.specs.Cmp.Lexicographic.{pointwise}
 use Rattle.std.proofs.lemmas.Cmp.{nat_list_eq_equiv}
 use native.Mathlib.Decide.{dec_lt}
 use Rattle.std.specs.BTreeMap.{is_at}
-use Rattle.std.specs.Map.{lookup, keys_of}
+use Rattle.std.specs.Map.{lookup}
 use Rattle.std.specs.FinMap.{find, put, is_sorted}
 use Rattle.std.specs.FinMap.Entries.{find-put, is_sorted-put, same_entries}
 use Rattle.std.proofs.lemmas.Bool.{cases_Bool, eqb-true, eq-eqb}
@@ -17,9 +17,9 @@ use Rattle.std.proofs.lemmas.List.{reverse-reverse}
 use Rattle.dav_core.specs.Path.{Path, path_cmp, is_same_path}
 use Rattle.dav_core.specs.World.{Node as Seen, Nodes, is_folder_node}
 use Rattle.dav_core.proofs.Theorems.{path_total, path_exact, same_path, path-itself}
-use Rattle.dav_store.specs.Tree.{Tree, Node, node, value_of, parent_of, children_of, child, root_id, NoneAbove}
-use Rattle.dav_store.specs.Walks.{reach, walk, climb}
-use Rattle.dav_store.specs.Placed.{is_same_name, name_among, named, seat, seat_of, by_path, placed, found, stands, IsChild, IsGrown}
+use Rattle.dav_store.specs.Tree.{Tree, Node, node, value_of, children_of, root_id}
+use Rattle.dav_store.specs.Walks.{reach, climb}
+use Rattle.dav_store.specs.Placed.{is_same_name, name_among, named, seat, seat_of, by_path, placed, found, stands, IsGrown}
 use Rattle.dav_store.proofs.Walks.{inner, IsSeated, climb_reach, reach_climb, one_path, one_walk, short, reach-reverse}
 
 pub number_is : (q n : ℕ) → is_at (nat_cmp q) n ≡ true → q ≡ n
@@ -60,9 +60,11 @@ among_some_step : (all es : List (List ℕ × ℕ)) (e : List ℕ × ℕ) (m : �
     → (lookup (is_same_name k) es ≡ Some m → (l : List ℕ) × (name_among all es m ≡ Some l))
     → cond b (Some e.1) (lookup (is_same_name k) es) ≡ Some m → (l : List ℕ) × ((if option_map_or (λ n. n == m) o false then Some e.0 else name_among all es m) ≡ Some l)
 among_some_step all es e m k o true at was is ih h =
-    let here : o ≡ Some m = sym was ∙ ap (λ l. lookup (is_same_name l) all) (sym (name_is k e.0 is)) ∙ at in
-    (e.0, ap (λ p. if option_map_or (λ n. n == m) p false then Some e.0 else name_among all es m) here
-    ∙ ap (λ b. if b then Some e.0 else name_among all es m) (eq-eqb m m refl))
+    let here : o ≡ Some m = sym was ∙ ap (λ l. lookup (is_same_name l) all) (sym (name_is k e.0 is)) ∙ at in (
+      e.0,
+      ap (λ p. if option_map_or (λ n. n == m) p false then Some e.0 else name_among all es m) here
+          ∙ ap (λ b. if b then Some e.0 else name_among all es m) (eq-eqb m m refl),
+    )
 among_some_step all es e m k None false at was is ih h = ih h
 among_some_step all es e m k (Some n) false at was is ih h = by (n == m) where
   by : (b : Bool) → (l : List ℕ) × ((if b then Some e.0 else name_among all es m) ≡ Some l)
@@ -190,11 +192,11 @@ module _ (t : Tree (List ℕ) Seen) (grown : IsGrown t) where
       find-put path_cmp path_total q (reverse r) e.1.value (by_path t es)
       ∙ ⊎_elim
       (λ a. let same : reverse q ≡ r = ap reverse (same_path q (reverse r) a) ∙ reverse-reverse r in
-        ap (λ b. cond b (Some e.1.value) (find path_cmp q (by_path t es))) a
-        ∙ sym (ap (option_and_then (value_among (e ∷ es))) (ap (reach (named t)) same ∙ at) ∙ head_of e es))
+      ap (λ b. cond b (Some e.1.value) (find path_cmp q (by_path t es))) a
+      ∙ sym (ap (option_and_then (value_among (e ∷ es))) (ap (reach (named t)) same ∙ at) ∙ head_of e es))
       (λ a. ap (λ b. cond b (Some e.1.value) (find path_cmp q (by_path t es))) a
-        ∙ ih ∙ sym (later e es (reach (named t) (reverse q)) (λ b. let one = one_path (named t) (seat t) seated (reverse q) r e.0 b at in
-        let twice : is_same_path q (reverse r) ≡ true = ap (is_same_path q) (sym (ap reverse one) ∙ reverse-reverse q) ∙ path-itself q in cc)))
+      ∙ ih ∙ sym (later e es (reach (named t) (reverse q)) (λ b. let one = one_path (named t) (seat t) seated (reverse q) r e.0 b at in
+      let twice : is_same_path q (reverse r) ≡ true = ap (is_same_path q) (sym (ap reverse one) ∙ reverse-reverse q) ∙ path-itself q in cc)))
       (cases_Bool (is_same_path q (reverse r)))
 
   none_for : (o : Option ℕ) → None ≡ option_and_then (value_among []) o

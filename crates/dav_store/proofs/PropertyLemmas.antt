@@ -1,9 +1,7 @@
 -- Changes of properties, one after another.
-use Rattle.std.proofs.Common.{◌≡◌, ℕ, Some, Bool, true, false, List, [], ◌∷◌, ◌++◌, map, refl, sym, ap, ◌∙◌}
+use Rattle.std.proofs.Common.{◌≡◌, ℕ, Bool, true, false, List, [], ◌∷◌, ◌++◌, map, refl, sym, ap, ◌∙◌}
 use Rattle.std.proofs.lemmas.List.{map-append}
 use Rattle.dav_core.specs.Property.{Property, Properties, Patch, patched, patched_by, patch_of, patched_property, without_xml}
-use Rattle.std.specs.Option.{unwrap_or}
-use Rattle.dav_core.specs.World.{Node}
 use Rattle.dav_store.specs.Answered.{answer_to}
 
 patched_last : (xs : List Patch) (x : Patch) (ps : Properties) → patched (xs ++ x ∷ []) ps ≡ patched_by x (patched xs ps)

@@ -1,18 +1,16 @@
 -- What stands at each path after a node was added.
-use Rattle.std.proofs.Common.{◌≡◌, ℕ, ◌+◌, Bool, true, false, cond, List, [], ◌∷◌, ◌++◌, Option, Some, None, refl, sym, ap, subst, ◌∙◌, ⊎_elim}
-use Rattle.std.specs.Prelude.{◌≢◌}
+use Rattle.std.proofs.Common.{◌≡◌, ℕ, true, false, cond, List, [], ◌∷◌, ◌++◌, Option, Some, None, refl, sym, ap, subst, ◌∙◌, ⊎_elim}
 use Rattle.std.specs.Option.{option_and_then, IsSome, is_some}
 use Rattle.std.proofs.lemmas.Bool.{cases_eq}
 use Rattle.dav_core.specs.Path.{Path, rest_after, is_same_path, IsSegment}
 use Rattle.dav_core.specs.World.{Node as Seen, is_folder_node}
 use Rattle.dav_core.proofs.Theorems.{from_rest, path-itself}
 use Rattle.dav_store.specs.Tree.{Tree, value_of, parent_of, NoneAbove, root_id}
-use Rattle.dav_store.specs.Walks.{walk}
 use Rattle.dav_store.specs.Placed.{named, found, stands, IsChild, IsGrown}
 use Rattle.dav_store.proofs.Walks.{inner}
 use Rattle.dav_store.proofs.Placing.{root_there}
 use Rattle.dav_store.proofs.TreeLooks.{IsOnce, cases_seat}
-use Rattle.dav_store.proofs.TreePaths.{some_is, then_same, not_longer, no_rest_from, differs, differs_behind, found_there, found-push, found-below, none-below, leaf_below, outside, goes_by}
+use Rattle.dav_store.proofs.TreePaths.{then_same, not_longer, no_rest_from, differs, differs_behind, found_there, found-push, found-below, none-below, leaf_below, outside, goes_by}
 
 -- u is t with a new node m of value v under the name k of p
 pub record IsAdded (t u : Tree (List ℕ) Seen) (p : ℕ) (k : List ℕ) (m : ℕ) (v : Seen) : Type 0 where
@@ -118,15 +116,15 @@ module _ (t : Tree (List ℕ) Seen) (grown : IsGrown t) (u : Tree (List ℕ) See
   once_by n l o x a b =
       ⊎_elim
       (λ one. ⊎_elim
-        (λ two. one.1 ∙ sym two.1)
-        (λ two. let is : m ≡ x = inner m x (sym added.here ∙ (λ i. named u (sym one.0 i) (sym one.1 i)) ∙ a) in
-          absurd (new_only n o (sym (added.others n o two) ∙ b ∙ ap Some (sym is))))
-        (cases_seat n p o k))
+      (λ two. one.1 ∙ sym two.1)
+      (λ two. let is : m ≡ x = inner m x (sym added.here ∙ (λ i. named u (sym one.0 i) (sym one.1 i)) ∙ a) in
+      absurd (new_only n o (sym (added.others n o two) ∙ b ∙ ap Some (sym is))))
+      (cases_seat n p o k))
       (λ one. ⊎_elim
-        (λ two. let is : m ≡ x = inner m x (sym added.here ∙ (λ i. named u (sym two.0 i) (sym two.1 i)) ∙ b) in
-          absurd (new_only n l (sym (added.others n l one) ∙ a ∙ ap Some (sym is))))
-        (λ two. grown.once n l o x (sym (added.others n l one) ∙ a) (sym (added.others n o two) ∙ b))
-        (cases_seat n p o k))
+      (λ two. let is : m ≡ x = inner m x (sym added.here ∙ (λ i. named u (sym two.0 i) (sym two.1 i)) ∙ b) in
+      absurd (new_only n l (sym (added.others n l one) ∙ a ∙ ap Some (sym is))))
+      (λ two. grown.once n l o x (sym (added.others n l one) ∙ a) (sym (added.others n o two) ∙ b))
+      (cases_seat n p o k))
       (cases_seat n p l k)
 
   reached_old : (x : ℕ) → IsSome (value_of t x) → (q : Path) × (found u q ≡ Some x)

@@ -1,31 +1,26 @@
 -- Each call of a tree of names as a change of what it stands for.
-use Rattle.std.proofs.Common.{◌≡◌, ℕ, zero, suc, ◌+◌, ◌<◌, Bool, true, false, cond, T, List, [], ◌∷◌, ◌++◌, slice_get, position, Option, Some, None, refl, sym, ap, subst, ◌∙◌, arith, ⊎_elim, if◌then◌else◌, length}
+use Rattle.std.proofs.Common.{◌≡◌, ℕ, zero, suc, ◌+◌, true, false, List, [], ◌∷◌, ◌++◌, slice_get, position, Option, Some, None, refl, sym, ap, subst, ◌∙◌, arith, ⊎_elim, if◌then◌else◌}
 use Rattle.std.specs.Prelude.{◌==◌}
-use Rattle.std.specs.Option.{option_and_then, option_map, option_map_or, IsSome, is_some}
+use Rattle.std.specs.Option.{option_and_then, option_map, option_map_or}
 use Rattle.std.specs.Map.{lookup, keys_of}
 use Rattle.std.specs.List.{IsDistinct}
 use Rattle.dav_store.proofs.Place.{NonePasses, none_passes}
-use Rattle.std.specs.FinMap.{find, put, is_sorted}
 use Rattle.std.proofs.lemmas.Bool.{cases_Bool, cases_eq, eqb-true, eq-eqb}
 use Rattle.std.proofs.lemmas.Cmp.{nat_list_eq_equiv}
 use Rattle.std.proofs.lemmas.Map.Entries.{place_from_lookup, lookup_from_place}
-use Rattle.dav_core.specs.Path.{Path, path_cmp, is_same_path, is_at_or_under, rest_after, IsSegment}
-use Rattle.dav_core.specs.World.{Node as Seen, Nodes, is_folder_node, adjust, prune, moved as moved_nodes}
-use Rattle.dav_store.specs.Tree.{Tree, Node, node, value_of, parent_of, children_of, with_value, without, without_old, grown as grown_tree, leaf, linked, unlinked_at, unlinked, seated, place_of, is_child, added, deleted, moved, moved_over, NoneAbove, root_id}
-use Rattle.dav_store.specs.Placed.{is_same_name, named, placed, found, stands, IsChild, IsGrown}
+use Rattle.dav_core.specs.World.{Node as Seen}
+use Rattle.dav_store.specs.Tree.{Tree, Node, node, value_of, parent_of, without, without_old, grown as grown_tree, leaf, linked, unlinked_at, seated, place_of, is_child, added, deleted, moved, moved_over, NoneAbove}
+use Rattle.dav_store.specs.Placed.{is_same_name, named, IsGrown}
 use Rattle.dav_store.proofs.TreeNumbers.{adds_the_next_number, keeps_numbers}
 use Rattle.dav_store.proofs.Walks.{inner}
 use Rattle.dav_store.proofs.Entering.{place_is, kept_put}
-use Rattle.dav_store.proofs.Placing.{one_at, find-placed, same_placed, sorted-placed, named_from}
+use Rattle.dav_store.proofs.Placing.{one_at}
 use Rattle.dav_store.proofs.TreeLooks as looks
-use Rattle.dav_store.proofs.TreeLooks.{IsOnce, cases_seat, value_in, parent_in, named_in, children_in}
-use Rattle.dav_store.proofs.TreePaths.{some_is, not_behind, then_same, found-push, found_there, one_seat}
-use Rattle.dav_store.proofs.TreeAdded as to_add
+use Rattle.dav_store.proofs.TreeLooks.{IsOnce, value_in, parent_in, named_in, children_in}
+use Rattle.dav_store.proofs.TreePaths.{some_is, not_behind, found-push}
 use Rattle.dav_store.proofs.TreeAdded.{IsAdded}
-use Rattle.dav_store.proofs.TreeDeleted as to_delete
 use Rattle.dav_store.proofs.TreeDeleted.{IsDeleted}
-use Rattle.dav_store.proofs.TreeMoved as to_move
-use Rattle.dav_store.proofs.TreeMoved.{IsMoved, after_move}
+use Rattle.dav_store.proofs.TreeMoved.{IsMoved}
 
 none_at : {X : Type 0} (es : List (X × ℕ)) (j : ℕ) (d : X × ℕ) (m : ℕ) → NonePasses (λ e. e.1 == m) es → slice_get es j ≡ Some d → (d.1 == m) ≡ true → ⊥
 none_at {X = X} [] j d m all at is = cc
@@ -91,16 +86,16 @@ module _ (t : Tree (List ℕ) Seen) (grown : IsGrown t) where
       let found_in : lookup (is_same_name k) x.children ≡ Some m = sym (ap (named_in k) at) ∙ child in
       let stands_at = place_from_lookup (is_same_name k) x.children m found_in in
       by (position (λ e. e.1 == m) x.children) refl stands_at.0 (stands_at.1, m) stands_at.2 where
-    by : (o : Option ℕ) → position (λ e. e.1 == m) x.children ≡ o → (j : ℕ) (d : List ℕ × ℕ) → slice_get x.children j ≡ Some (d.0, m)
-        → (i : ℕ) × (e : List ℕ × ℕ) × (place_of t p m ≡ Some i) × (slice_get x.children i ≡ Some e) × (e.0 ≡ k)
-    by None is j d there =
-        let all = none_passes (λ e. e.1 == m) x.children is in
-        absurd (none_at x.children j (d.0, m) m all there (eq-eqb m m refl))
-    by (Some i) is j d there =
-        let place = place_is x.children m i d is in
-        let distinct = subst (λ (es : List (List ℕ × ℕ)). IsDistinct is_same_name (keys_of es)) (ap children_in at) (grown.names p) in
-        let by_name : named t p place.0.0 ≡ Some m = ap (named_in place.0.0) at ∙ lookup_from_place nat_list_eq_equiv x.children i place.0.0 place.0.1 distinct place.1 ∙ ap Some place.2 in
-        (i, place.0, ap (option_and_then (λ y. position (λ e. e.1 == m) y.children)) at ∙ is, place.1, grown.once p place.0.0 k m by_name child)
+        by : (o : Option ℕ) → position (λ e. e.1 == m) x.children ≡ o → (j : ℕ) (d : List ℕ × ℕ) → slice_get x.children j ≡ Some (d.0, m)
+            → (i : ℕ) × (e : List ℕ × ℕ) × (place_of t p m ≡ Some i) × (slice_get x.children i ≡ Some e) × (e.0 ≡ k)
+        by None is j d there =
+            let all = none_passes (λ e. e.1 == m) x.children is in
+            absurd (none_at x.children j (d.0, m) m all there (eq-eqb m m refl))
+        by (Some i) is j d there =
+            let place = place_is x.children m i d is in
+            let distinct = subst (λ (es : List (List ℕ × ℕ)). IsDistinct is_same_name (keys_of es)) (ap children_in at) (grown.names p) in
+            let by_name : named t p place.0.0 ≡ Some m = ap (named_in place.0.0) at ∙ lookup_from_place nat_list_eq_equiv x.children i place.0.0 place.0.1 distinct place.1 ∙ ap Some place.2 in
+            (i, place.0, ap (option_and_then (λ y. position (λ e. e.1 == m) y.children)) at ∙ is, place.1, grown.once p place.0.0 k m by_name child)
 
   apart_from_child : (p m : ℕ) (k : List ℕ) → named t p k ≡ Some m → p ≡ m → ⊥
   apart_from_child p m k child e =
@@ -175,8 +170,8 @@ module _ (t : Tree (List ℕ) Seen) (grown : IsGrown t) where
     more_place =
         ⊎_elim
         (λ e. let same : x ≡ from_node.0 = inner x from_node.0 (sym at ∙ ap (node t) (sym e) ∙ from_node.1) in
-          let kept = kept_put nat_list_eq_equiv tk n x.children from_place.0 from_place.1 (ap (λ (y : Node (List ℕ) Seen). slice_get y.children from_place.0) same ∙ from_place.3) in
-          (looks.with_link t tp tk n x at, kept.0, ap (node more) e ∙ looks.node_linked t tp tk n x at, kept.1, kept.2 ∙ from_place.4))
+        let kept = kept_put nat_list_eq_equiv tk n x.children from_place.0 from_place.1 (ap (λ (y : Node (List ℕ) Seen). slice_get y.children from_place.0) same ∙ from_place.3) in
+        (looks.with_link t tp tk n x at, kept.0, ap (node more) e ∙ looks.node_linked t tp tk n x at, kept.1, kept.2 ∙ from_place.4))
         (λ differ. (from_node.0, from_place.1, looks.node_unlinked t tp tk n x at fp differ ∙ from_node.1, from_place.3, from_place.4))
         (cases_eq fp tp)
 
@@ -214,6 +209,7 @@ module _ (t : Tree (List ℕ) Seen) (grown : IsGrown t) where
           isnt_in : (o : Option ℕ) → (o ≡ Some n → ⊥) → option_map_or (λ m. m == n) o false ≡ false
           isnt_in None apart = refl
           isnt_in (Some o) apart = ⊎_elim (λ e. absurd (apart (ap Some (eqb-true o n e)))) (λ e. e) (cases_Bool (o == n))
+
           isnt_own : is_child is_same_name t tp tk n ≡ false
           isnt_own = ap (λ o. option_map_or (λ m. m == n) o false) old_is ∙ isnt_in old other
 

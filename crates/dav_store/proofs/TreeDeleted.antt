@@ -1,5 +1,5 @@
 -- What stands at each path after a node without children was deleted.
-use Rattle.std.proofs.Common.{◌≡◌, ℕ, Bool, true, false, cond, List, [], ◌∷◌, ◌++◌, Option, Some, None, refl, sym, ap, subst, ◌∙◌, ⊎_elim}
+use Rattle.std.proofs.Common.{◌≡◌, ℕ, true, false, cond, List, [], ◌∷◌, ◌++◌, Option, Some, None, refl, sym, ap, ◌∙◌, ⊎_elim}
 use Rattle.std.specs.Option.{option_and_then, IsSome, is_some}
 use Rattle.std.proofs.lemmas.Bool.{cases_eq}
 use Rattle.dav_core.specs.Path.{Path, rest_after, is_at_or_under}
@@ -10,7 +10,7 @@ use Rattle.dav_store.specs.Placed.{named, found, stands, IsChild, IsGrown}
 use Rattle.dav_store.proofs.Walks.{inner}
 use Rattle.dav_store.proofs.Placing.{one_at}
 use Rattle.dav_store.proofs.TreeLooks.{IsOnce, cases_seat}
-use Rattle.dav_store.proofs.TreePaths.{some_is, then_same, not_longer, no_rest_from, found_there, found-push, found-below, none-below, leaf_below, one_seat, outside, goes_by}
+use Rattle.dav_store.proofs.TreePaths.{then_same, not_longer, no_rest_from, found-push, found-below, none-below, leaf_below, one_seat, outside, goes_by}
 
 -- u is t without the node m, the child under the name k of p
 pub record IsDeleted (t u : Tree (List ℕ) Seen) (p : ℕ) (k : List ℕ) (m : ℕ) : Type 0 where

@@ -1,10 +1,10 @@
 -- What a tree looks like after one step: its values, its nodes' parents, and its children by their names.
-use Rattle.std.proofs.Common.{◌≡◌, ℕ, ◌+◌, ◌<◌, Bool, true, false, cond, List, [], ◌∷◌, slice_get, Option, Some, None, refl, sym, ap, subst, ◌∙◌, arith, ⊎_elim, inl, inr}
+use Rattle.std.proofs.Common.{◌≡◌, ℕ, ◌+◌, ◌<◌, true, cond, List, [], slice_get, Option, Some, None, refl, sym, ap, subst, ◌∙◌, ⊎_elim, inl, inr}
 use Rattle.std.specs.Prelude.{◌⊎◌}
 use Rattle.std.specs.Option.{option_map, option_map_or, option_and_then, IsSome, is_some}
 use Rattle.std.specs.Ordering.{nat_cmp, eq_by_cmp}
 use Rattle.std.specs.Cmp.{IsEquivalence, eq_by_cmp_equiv, nat_cmp_total}
-use Rattle.std.specs.BTreeMap.{is_at, insert_entry}
+use Rattle.std.specs.BTreeMap.{is_at}
 use Rattle.std.specs.Map.{lookup, keys_of}
 use Rattle.std.specs.List.{IsDistinct}
 use Rattle.std.proofs.lemmas.Bool.{cases_Bool, cases_eq}
@@ -13,7 +13,7 @@ use Rattle.std.proofs.lemmas.Map.{lookup-set_value, lookup-remove_entry, keys-se
 use Rattle.indexmap.specs.IndexMap.{insert_entry as put_key}
 use Rattle.dav_store.specs.Tree.{Tree, Node, node, value_of, parent_of, children_of, with_node, with_value, without, without_place, grown, leaf, linked, unlinked_at, seated, NoneAbove}
 use Rattle.dav_store.specs.Placed.{is_same_name, named}
-use Rattle.dav_store.proofs.Placing.{number_is, number-itself, other_number, name_is, name-itself, other_name}
+use Rattle.dav_store.proofs.Placing.{number-itself, other_number, name_is, name-itself, other_name}
 use Rattle.dav_store.proofs.Entering.{lookup_put, distinct_put, distinct_out, gone_out, others_out, lookup_came, distinct_came, distinct_left}
 
 pub same_laws : IsEquivalence (eq_by_cmp nat_cmp)
@@ -113,8 +113,8 @@ module _ {D : Type 0} where
     others_linked q l apart =
         ⊎_elim
         (λ e. ap (λ n. named (linked is_same_name t p k m) n l) e ∙ ap (named_in l) node_linked
-          ∙ lookup_put nat_list_eq_equiv k l m x.children ∙ ap (λ b. cond b (Some m) (lookup (is_same_name l) x.children)) (other_name l k (λ s. apart (e, s)))
-          ∙ sym (ap (λ n. named t n l) e ∙ ap (named_in l) at))
+        ∙ lookup_put nat_list_eq_equiv k l m x.children ∙ ap (λ b. cond b (Some m) (lookup (is_same_name l) x.children)) (other_name l k (λ s. apart (e, s)))
+        ∙ sym (ap (λ n. named t n l) e ∙ ap (named_in l) at))
         (λ differ. ap (named_in l) (node_unlinked q differ))
         (cases_eq q p)
 
@@ -151,8 +151,8 @@ module _ {D : Type 0} where
     others_left q l apart =
         ⊎_elim
         (λ s. ap (λ n. named (unlinked_at t p (Some i)) n l) s ∙ ap (named_in l) node_out
-          ∙ others_out nat_list_eq_equiv x.children i e place distinct_in l (other_name l e.0 (λ same. apart (s, same)))
-          ∙ sym (ap (λ n. named t n l) s ∙ ap (named_in l) at))
+        ∙ others_out nat_list_eq_equiv x.children i e place distinct_in l (other_name l e.0 (λ same. apart (s, same)))
+        ∙ sym (ap (λ n. named t n l) s ∙ ap (named_in l) at))
         (λ differ. ap (named_in l) (ap (λ u. node u q) out_is ∙ node_apart t p without_link q (ap is_some at) differ))
         (cases_eq q p)
 
@@ -218,7 +218,7 @@ module _ {D : Type 0} where
     none_valued none = λ q above.
         ⊎_elim
         (λ e. let low : t.last < n = subst (λ (a : ℕ). t.last < a) e (subst (λ (l : ℕ). l < q) last_valued above) in
-          let clash : None ≡ Some x = sym (none n low) ∙ at in cc)
+        let clash : None ≡ Some x = sym (none n low) ∙ at in cc)
         (λ apart. ap (λ u. node u q) valued_is ∙ node_apart t n valued q (ap is_some at) apart ∙ none q (subst (λ (l : ℕ). l < q) last_valued above))
         (cases_eq q n)
 

@@ -1,9 +1,9 @@
 -- What stands at each path after a node was moved.
-use Rattle.std.proofs.Common.{◌≡◌, ℕ, Bool, true, false, cond, List, [], ◌∷◌, ◌++◌, Option, Some, None, refl, sym, ap, subst, ◌∙◌, ⊎_elim, inl, inr, append_assoc}
+use Rattle.std.proofs.Common.{◌≡◌, ℕ, true, false, cond, List, [], ◌∷◌, ◌++◌, Option, Some, None, refl, sym, ap, subst, ◌∙◌, ⊎_elim, inl, inr, append_assoc}
 use Rattle.std.specs.Prelude.{◌⊎◌}
 use Rattle.std.specs.Option.{option_and_then, option_or, IsSome, is_some}
 use Rattle.std.proofs.lemmas.Bool.{cases_eq}
-use Rattle.dav_core.specs.Path.{Path, rest_after, is_at_or_under, IsSegment}
+use Rattle.dav_core.specs.Path.{Path, rest_after, IsSegment}
 use Rattle.dav_core.specs.World.{Node as Seen, is_folder_node}
 use Rattle.dav_core.proofs.Theorems.{from_rest}
 use Rattle.dav_store.specs.Tree.{Tree, value_of, parent_of, NoneAbove, root_id}
@@ -12,7 +12,7 @@ use Rattle.dav_store.specs.Placed.{named, found, stands, IsChild, IsGrown}
 use Rattle.dav_store.proofs.Walks.{inner, walk_same}
 use Rattle.dav_store.proofs.Placing.{one_at}
 use Rattle.dav_store.proofs.TreeLooks.{IsOnce, cases_seat}
-use Rattle.dav_store.proofs.TreePaths.{some_is, then_same, not_longer, no_rest_from, found_there, found-push, found-below, none-below, leaf_below, one_seat, outside, goes_by}
+use Rattle.dav_store.proofs.TreePaths.{then_same, not_longer, no_rest_from, found-push, found-below, none-below, leaf_below, one_seat, outside, goes_by}
 
 -- u is t with the node n, the child under fk of fp, under tk of tp, in the place of the old one that may be there
 pub record IsMoved (t u : Tree (List ℕ) Seen) (n fp : ℕ) (fk : List ℕ) (tp : ℕ) (tk : List ℕ) (old : Option ℕ) : Type 0 where
@@ -117,10 +117,10 @@ module _ (t : Tree (List ℕ) Seen) (grown : IsGrown t) (u : Tree (List ℕ) See
       ⊎_elim
       (λ same. inl (same.0, same.1, inner n x (sym moved.here ∙ (λ i. named u (sym same.0 i) (sym same.1 i)) ∙ e)))
       (λ other. ⊎_elim
-        (λ same. let clash : None ≡ Some x = sym moved.gone ∙ (λ i. named u (sym same.0 i) (sym same.1 i)) ∙ e in cc)
-        (λ differ. let was : named t m l ≡ Some x = sym (moved.others m l other differ) ∙ e in
-          inr (was, (λ is. differ (one_seat t grown m fp l fk n (was ∙ ap Some is) child)), (λ is. other (one_seat t grown m tp l tk x was (old_is ∙ is)))))
-        (cases_seat m fp l fk))
+      (λ same. let clash : None ≡ Some x = sym moved.gone ∙ (λ i. named u (sym same.0 i) (sym same.1 i)) ∙ e in cc)
+      (λ differ. let was : named t m l ≡ Some x = sym (moved.others m l other differ) ∙ e in
+      inr (was, (λ is. differ (one_seat t grown m fp l fk n (was ∙ ap Some is) child)), (λ is. other (one_seat t grown m tp l tk x was (old_is ∙ is)))))
+      (cases_seat m fp l fk))
       (cases_seat m tp l tk)
 
   child_new : (m : ℕ) (l : List ℕ) (x : ℕ) → m ≡ tp → l ≡ tk → n ≡ x → IsChild u m l x

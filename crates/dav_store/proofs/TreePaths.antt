@@ -1,12 +1,12 @@
 -- What a walk by names finds after some children of a tree changed.
-use Rattle.std.proofs.Common.{◌≡◌, ℕ, ◌+◌, Bool, true, false, cond, List, [], ◌∷◌, ◌++◌, length, Option, Some, None, refl, sym, ap, subst, ◌∙◌, arith, ⊎_elim, append_assoc, length-append, reverse}
+use Rattle.std.proofs.Common.{◌≡◌, ℕ, Bool, true, false, List, [], ◌∷◌, ◌++◌, length, Option, Some, None, refl, sym, ap, ◌∙◌, arith, append_assoc, length-append, reverse}
 use Rattle.std.specs.Option.{option_and_then, IsSome, is_some}
-use Rattle.dav_core.specs.Path.{Path, rest_after, is_at_or_under, is_same_path}
+use Rattle.dav_core.specs.Path.{Path, rest_after, is_same_path}
 use Rattle.dav_core.specs.World.{Node as Seen}
-use Rattle.dav_core.proofs.Theorems.{rest_after-append, from_rest, same_path}
-use Rattle.dav_store.specs.Tree.{Tree, value_of, parent_of}
+use Rattle.dav_core.proofs.Theorems.{rest_after-append, same_path}
+use Rattle.dav_store.specs.Tree.{Tree, value_of}
 use Rattle.dav_store.specs.Walks.{walk, reach}
-use Rattle.dav_store.specs.Placed.{named, found, stands, IsGrown}
+use Rattle.dav_store.specs.Placed.{named, found, IsGrown}
 use Rattle.dav_store.proofs.Walks.{walk-append, walk-push, walk_same, inner, reach-reverse, before}
 use Rattle.dav_store.proofs.Placing.{one_at, root_there}
 
@@ -40,6 +40,7 @@ differs p q none = by (is_same_path q p) refl where
   empty : (r : Path) → r ≡ r ++ []
   empty [] = refl
   empty (x ∷ r) = ap (λ y. x ∷ y) (empty r)
+
   by : (b : Bool) → is_same_path q p ≡ b → b ≡ false
   by true is = absurd (no_rest_from p q none [] (same_path q p is ∙ empty p))
   by false is = refl

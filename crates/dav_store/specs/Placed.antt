@@ -7,9 +7,9 @@ use Rattle.std.specs.List.{IsDistinct}
 use Rattle.std.specs.Map.{lookup, keys_of}
 use Rattle.std.specs.FinMap.{put}
 use Rattle.dav_core.specs.Path.{Path, path_cmp, IsSegment}
-use Rattle.dav_core.specs.World.{Node as Seen, Nodes, is_folder_node}
+use Rattle.dav_core.specs.World.{Node as Seen, is_folder_node}
 use Rattle.dav_store.specs.Tree.{Tree, Node, node, value_of, parent_of, children_of, child, root_id, NoneAbove}
-use Rattle.dav_store.specs.Walks.{reach, walk, climb}
+use Rattle.dav_store.specs.Walks.{walk, climb}
 
 abbrev pub is_same_name : List ℕ → List ℕ → Bool
 is_same_name = pointwise nat_eq

@@ -1,5 +1,5 @@
 -- Walks down a tree of numbered nodes, and climbs up it.
-use Rattle.std.specs.Prelude.{◌≡◌, ℕ, zero, suc, List, [], ◌∷◌, Option, None, Some}
+use Rattle.std.specs.Prelude.{ℕ, zero, suc, List, [], ◌∷◌, Option, None, Some}
 use Rattle.std.specs.Option.{option_and_then, option_map}
 
 module _ {K : Type 0} (child : ℕ → K → Option ℕ) where

@@ -198,6 +198,7 @@ impl MemFs {
     fn put_copy(&mut self, alloc: Global, to: &DavPath, copy: Node, now: u64) -> FsResult<()>
         requires now { now ≤ last_moment }
         requires next { self.old.world.next < last_number }
+        requires made { copy.made ≡ self.old.world.next }
         requires file { is_folder_kind copy.kind ≡ false }
         requires free { is_folder self.old.world (names to.now) ≡ false }
         requires folder { is_folder self.old.world (parent_of (names to.now)) ≡ true }

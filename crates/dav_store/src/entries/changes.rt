@@ -44,9 +44,8 @@ pub fn empty_at(entries: &mut Entries, path: &DavPath, number: u64, now: u64)
 pub fn copy_over(entries: &mut Entries, path: &DavPath, copy: Node)
     requires file { is_folder_node (find path_cmp (names path.now) entries.old) ≡ false }
     requires copied { is_folder_kind copy.kind ≡ false }
-    ensures { (source : Seen) (number now : ℕ) → copy
-        ≡ record (fresh number source.kind now) { properties = source.properties } → entries.new
-        ≡ adjust (names path.now) (copied_over source number now) entries.old }
+    ensures { entries.new
+        ≡ adjust (names path.now) (λ n. record copy { made = n.made }) entries.old }
 {
     if let Some(id) = finding::find(&entries.tree, path).at {
         if let Ok(node) = entries.tree.get_node_mut(id) {
@@ -106,7 +105,8 @@ pub fn add_node(
     node: Node,
     now: u64,
 ) -> Result<(), NoMemory>
-    requires folder { is_folder_node (find path_cmp (parent_of (names path.now)) entries.old) ≡ true }
+    requires folder { is_folder_node
+        (find path_cmp (parent_of (names path.now)) entries.old) ≡ true }
     requires free { find path_cmp (names path.now) entries.old ≡ None }
     requires new { AreMadeBefore node.made entries.old }
     requires now { now ≤ last_moment }
@@ -120,13 +120,9 @@ pub fn add_node(
 }
 
 // Puts a new node at a path. All room is made before anything changes.
-fn put_new(
-    alloc: Global,
-    entries: &mut Entries,
-    path: &DavPath,
-    node: Node,
-) -> Result<(), NoMemory>
-    requires folder { is_folder_node (find path_cmp (parent_of (names path.now)) entries.old) ≡ true }
+fn put_new(alloc: Global, entries: &mut Entries, path: &DavPath, node: Node) -> Result<(), NoMemory>
+    requires folder { is_folder_node
+        (find path_cmp (parent_of (names path.now)) entries.old) ≡ true }
     requires free { find path_cmp (names path.now) entries.old ≡ None }
     requires new { AreMadeBefore node.made entries.old }
     ensures ok { OnOk result (entries.new ≡ put path_cmp (names path.now) node entries.old) }

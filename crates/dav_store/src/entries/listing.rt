@@ -60,11 +60,7 @@ fn members_among(
 }
 
 /// The names of what is directly below a path, and whether each is a folder.
-pub fn list(
-    alloc: Global,
-    entries: &Entries,
-    path: &DavPath,
-) -> Result<Vec<(Name, bool)>, NoMemory>
+pub fn list(alloc: Global, entries: &Entries, path: &DavPath) -> Result<Vec<(Name, bool)>, NoMemory>
     ensures { IfOk result (λ list. list.items ≡ members (names path.now) entries.now) }
 {
     let Some(id) = finding::find(&entries.tree, path).at else {

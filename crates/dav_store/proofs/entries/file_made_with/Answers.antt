@@ -1,4 +1,4 @@
-use Rattle.std.proofs.Common.{Bool, cond, None, Some, sym, ap, ◌∙◌}
+use Rattle.std.proofs.Common.{cond, None, Some, sym, ap, ◌∙◌}
 use Rattle.dav_store.proofs.KeptCalls.{file_of_map}
 use Rattle.dav_store.proofs.MadeMaps.{if_file}
 use Rattle.dav_store.proofs.entries.file_made_with.Goals as goal

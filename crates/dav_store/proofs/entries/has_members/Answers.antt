@@ -1,4 +1,4 @@
-use Rattle.std.proofs.Common.{sym, ap, ◌∙◌}
+use Rattle.std.proofs.Common.{sym, ◌∙◌}
 use Rattle.dav_core.specs.Path.{names}
 use Rattle.dav_store.proofs.EntryLemmas.{members_below, no_members}
 use Rattle.dav_store.proofs.entries.has_members.Goals as goal

@@ -1,9 +1,7 @@
-use Rattle.std.proofs.Common.{refl, sym, ap, ◌∙◌, ◌≡◌}
-use Rattle.dav_core.specs.Path.{names, parent_of}
-use Rattle.dav_core.specs.World.{Node as Seen, modified_at, is_folder_kind}
-use Rattle.dav_core.specs.Calls.{emptied, repatched, copied_over}
-use Rattle.dav_core.specs.Property.{Properties, patched}
-use Rattle.dav_store.proofs.EntryLemmas.{kept_valued, view_valued, unchanged_none, unchanged_lacking, file_there, value_some}
+use Rattle.std.proofs.Common.{sym, ap, ◌∙◌}
+use Rattle.dav_core.specs.Path.{names}
+use Rattle.dav_core.specs.World.{Node as Seen, is_folder_kind}
+use Rattle.dav_store.proofs.EntryLemmas.{kept_valued, view_valued, unchanged_none, unchanged_lacking, file_there}
 use Rattle.dav_store.proofs.entries.changes.copy_over.Goals as goal
 
 pub invariant_of-entries : goal.invariant_of-entries
@@ -12,12 +10,12 @@ invariant_of-entries c =
     (ap (λ (n : Seen). is_folder_kind n.kind) c.become_like.ensures ∙ c.requires.copied ∙ sym (file_there c.entries.inside.tree c.entries.invariant.grown c.args.entries.now c.entries.view_is (names c.args.path.now) c.find.result.at c.find.ensures.at c.in-Some.id c.in-Some.is c.in-Ok.node.now c.in-Ok.ensures.value c.requires.file)) (ap (λ (n : Seen). n.made) c.become_like.ensures)
 
 pub returns-in-Ok : goal.returns-in-Ok
-returns-in-Ok c source number now is =
+returns-in-Ok c =
     view_valued c.entries.inside.tree c.entries.inside.made c.entries.invariant (names c.args.path.now) c.find.result.at c.find.ensures.at c.in-Some.id c.in-Some.is c.in-Ok.node.now c.become_like.new.self c.in-Ok.ensures.value
-    (ap (λ (n : Seen). is_folder_kind n.kind) c.become_like.ensures ∙ c.requires.copied ∙ sym (file_there c.entries.inside.tree c.entries.invariant.grown c.args.entries.now c.entries.view_is (names c.args.path.now) c.find.result.at c.find.ensures.at c.in-Some.id c.in-Some.is c.in-Ok.node.now c.in-Ok.ensures.value c.requires.file)) c.args.entries.now c.entries.view_is (copied_over source number now) (c.become_like.ensures ∙ ap (λ (o : Seen). record o { made = c.in-Ok.node.now.made }) is)
+    (ap (λ (n : Seen). is_folder_kind n.kind) c.become_like.ensures ∙ c.requires.copied ∙ sym (file_there c.entries.inside.tree c.entries.invariant.grown c.args.entries.now c.entries.view_is (names c.args.path.now) c.find.result.at c.find.ensures.at c.in-Some.id c.in-Some.is c.in-Ok.node.now c.in-Ok.ensures.value c.requires.file)) c.args.entries.now c.entries.view_is (λ n. record c.args.copy { made = n.made }) c.become_like.ensures
 
 pub returns-in_default-get_node_mut : goal.returns-in_default-get_node_mut
-returns-in_default-get_node_mut c source number now is = c.entries.view_is ∙ unchanged_lacking c.entries.inside.tree c.entries.inside.made c.entries.invariant (names c.args.path.now) c.find.result.at c.find.ensures.at c.args.entries.now c.entries.view_is (copied_over source number now) c.in-Some.id c.in-Some.is c.in_default-get_node_mut.ensures.value
+returns-in_default-get_node_mut c = c.entries.view_is ∙ unchanged_lacking c.entries.inside.tree c.entries.inside.made c.entries.invariant (names c.args.path.now) c.find.result.at c.find.ensures.at c.args.entries.now c.entries.view_is (λ n. record c.args.copy { made = n.made }) c.in-Some.id c.in-Some.is c.in_default-get_node_mut.ensures.value
 
 pub returns-in_default : goal.returns-in_default
-returns-in_default c source number now is = unchanged_none c.entries.inside.tree c.entries.inside.made c.entries.invariant (names c.args.path.now) c.find.result.at c.find.ensures.at c.args.entries.now c.entries.view_is (copied_over source number now) c.in_default.is
+returns-in_default c = unchanged_none c.entries.inside.tree c.entries.inside.made c.entries.invariant (names c.args.path.now) c.find.result.at c.find.ensures.at c.args.entries.now c.entries.view_is (λ n. record c.args.copy { made = n.made }) c.in_default.is

@@ -1,9 +1,8 @@
-use Rattle.std.proofs.Common.{refl, sym, ap, ◌∙◌, ◌≡◌}
-use Rattle.dav_core.specs.Path.{names, parent_of}
-use Rattle.dav_core.specs.World.{Node as Seen, modified_at, is_folder_kind}
-use Rattle.dav_core.specs.Calls.{emptied, repatched, copied_over}
-use Rattle.dav_core.specs.Property.{Properties, patched}
-use Rattle.dav_store.proofs.EntryLemmas.{kept_valued, view_valued, unchanged_none, unchanged_lacking, file_there, value_some}
+use Rattle.std.proofs.Common.{sym, ap, ◌∙◌}
+use Rattle.dav_core.specs.Path.{names}
+use Rattle.dav_core.specs.World.{Node as Seen, is_folder_kind}
+use Rattle.dav_core.specs.Calls.{emptied}
+use Rattle.dav_store.proofs.EntryLemmas.{kept_valued, view_valued, unchanged_none, unchanged_lacking, file_there}
 use Rattle.dav_store.proofs.entries.changes.empty_at.Goals as goal
 
 pub invariant_of-entries : goal.invariant_of-entries

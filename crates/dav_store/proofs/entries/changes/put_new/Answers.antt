@@ -1,10 +1,10 @@
 use Rattle.std.proofs.Common.{◌<◌, nat_eq, cond, Some, Ok, refl, arith, sym, ap, subst, ◌∙◌}
-use Rattle.std.specs.HashMap.{get, spare}
-use Rattle.dav_core.specs.Path.{names, parent_of, IsSegment}
-use Rattle.dav_store.proofs.NameLemmas.{last_name_is, last_is_segment}
+use Rattle.std.specs.HashMap.{spare}
+use Rattle.dav_core.specs.Path.{names}
+use Rattle.dav_store.proofs.NameLemmas.{named_last}
 use Rattle.dav_store.specs.Entries.{IsKept}
 use Rattle.dav_store.specs.Placed.{placed, bare}
-use Rattle.dav_store.proofs.KeptCalls.{kept_reordered, lacking_new, answered_new, kept_put, view_put, cut_here, on_ok, unmade}
+use Rattle.dav_store.proofs.KeptCalls.{kept_reordered, lacking_new, answered_new, kept_put, view_put, below_the_root, on_ok, unmade}
 use Rattle.dav_store.proofs.entries.changes.put_new.Goals as goal
 
 pub invariant_of-entries : goal.invariant_of-entries
@@ -22,20 +22,19 @@ returns-in_default-add_child-clause-err c =
 pub invariant_of-entries-2 : goal.invariant_of-entries-2
 invariant_of-entries-2 c =
     let done = answered_new _ _ _ c.in-Ok.id _ c.entries.inside.tree c.add_child.new.self (Ok c.in-Ok.id) refl c.in-Ok.ensures in
+    let below = below_the_root c.entries.inside.tree c.entries.inside.made c.entries.invariant c.args.entries.now c.entries.view_is (names c.args.path.now) c.find.result.above c.find.ensures.above c.in-Some.folder c.in-Some.is c.requires.free c.requires.folder in
+    let named = named_last c.args.path.now.bytes c.in_ok-name.name.items below (c.in_ok-name.ensures.items ∙ c.file_name_bytes.ensures) in
     let room : 0 < spare c.reserve.new.self = omega (arith, c.in_ok-reserve.ensures.ok) in
     let updates = on_ok c.insert.result _ (c.insert.ensures.succeeds room) c.insert.ensures.updates in
     subst (λ u. IsKept u c.insert.new.self) (sym done.0)
-    (kept_put c.entries.inside.tree c.entries.inside.made c.entries.invariant c.args.entries.now c.entries.view_is (names c.args.path.now) c.find.result.above c.find.ensures.above c.in-Some.folder c.in-Some.is c.requires.free c.requires.folder c.in_ok-name.name c.args.node
-    (c.in_ok-name.ensures.items ∙ c.file_name_bytes.ensures ∙ last_name_is c.args.path.now.bytes (parent_of (names c.args.path.now)) (cut_here c.entries.inside.tree c.entries.inside.made c.entries.invariant c.args.entries.now c.entries.view_is (names c.args.path.now) c.find.result.above c.find.ensures.above c.in-Some.folder c.in-Some.is c.requires.free c.requires.folder).0 (cut_here c.entries.inside.tree c.entries.inside.made c.entries.invariant c.args.entries.now c.entries.view_is (names c.args.path.now) c.find.result.above c.find.ensures.above c.in-Some.folder c.in-Some.is c.requires.free c.requires.folder).1)
-    (subst IsSegment (sym (c.in_ok-name.ensures.items ∙ c.file_name_bytes.ensures ∙ last_name_is c.args.path.now.bytes (parent_of (names c.args.path.now)) (cut_here c.entries.inside.tree c.entries.inside.made c.entries.invariant c.args.entries.now c.entries.view_is (names c.args.path.now) c.find.result.above c.find.ensures.above c.in-Some.folder c.in-Some.is c.requires.free c.requires.folder).0 (cut_here c.entries.inside.tree c.entries.inside.made c.entries.invariant c.args.entries.now c.entries.view_is (names c.args.path.now) c.find.result.above c.find.ensures.above c.in-Some.folder c.in-Some.is c.requires.free c.requires.folder).1)) (last_is_segment c.args.path.now.bytes (parent_of (names c.args.path.now)) (cut_here c.entries.inside.tree c.entries.inside.made c.entries.invariant c.args.entries.now c.entries.view_is (names c.args.path.now) c.find.result.above c.find.ensures.above c.in-Some.folder c.in-Some.is c.requires.free c.requires.folder).0 (cut_here c.entries.inside.tree c.entries.inside.made c.entries.invariant c.args.entries.now c.entries.view_is (names c.args.path.now) c.find.result.above c.find.ensures.above c.in-Some.folder c.in-Some.is c.requires.free c.requires.folder).1))
-    c.insert.new.self
+    (kept_put c.entries.inside.tree c.entries.inside.made c.entries.invariant c.args.entries.now c.entries.view_is (names c.args.path.now) c.find.result.above c.find.ensures.above c.in-Some.folder c.in-Some.is c.requires.free c.requires.folder c.in_ok-name.name c.args.node named.0 named.1 c.insert.new.self
     (unmade c.entries.inside.tree c.entries.inside.made c.entries.invariant c.args.entries.now c.entries.view_is c.args.node.made c.requires.new)
     (λ n. updates.0 n ∙ (λ i. cond (nat_eq (c.creation_number-made.ensures i) n) (Some (done.1 i)) (c.reserve.ensures.entries.2 n i))))
 
 pub returns-clause-ok : goal.returns-clause-ok
 returns-clause-ok c =
     let done = answered_new _ _ _ c.in-Ok.id _ c.entries.inside.tree c.add_child.new.self (Ok c.in-Ok.id) refl c.in-Ok.ensures in
+    let below = below_the_root c.entries.inside.tree c.entries.inside.made c.entries.invariant c.args.entries.now c.entries.view_is (names c.args.path.now) c.find.result.above c.find.ensures.above c.in-Some.folder c.in-Some.is c.requires.free c.requires.folder in
+    let named = named_last c.args.path.now.bytes c.in_ok-name.name.items below (c.in_ok-name.ensures.items ∙ c.file_name_bytes.ensures) in
     ap (λ u. placed (bare u)) done.0
-    ∙ view_put c.entries.inside.tree c.entries.inside.made c.entries.invariant c.args.entries.now c.entries.view_is (names c.args.path.now) c.find.result.above c.find.ensures.above c.in-Some.folder c.in-Some.is c.requires.free c.requires.folder c.in_ok-name.name c.args.node
-    (c.in_ok-name.ensures.items ∙ c.file_name_bytes.ensures ∙ last_name_is c.args.path.now.bytes (parent_of (names c.args.path.now)) (cut_here c.entries.inside.tree c.entries.inside.made c.entries.invariant c.args.entries.now c.entries.view_is (names c.args.path.now) c.find.result.above c.find.ensures.above c.in-Some.folder c.in-Some.is c.requires.free c.requires.folder).0 (cut_here c.entries.inside.tree c.entries.inside.made c.entries.invariant c.args.entries.now c.entries.view_is (names c.args.path.now) c.find.result.above c.find.ensures.above c.in-Some.folder c.in-Some.is c.requires.free c.requires.folder).1)
-    (subst IsSegment (sym (c.in_ok-name.ensures.items ∙ c.file_name_bytes.ensures ∙ last_name_is c.args.path.now.bytes (parent_of (names c.args.path.now)) (cut_here c.entries.inside.tree c.entries.inside.made c.entries.invariant c.args.entries.now c.entries.view_is (names c.args.path.now) c.find.result.above c.find.ensures.above c.in-Some.folder c.in-Some.is c.requires.free c.requires.folder).0 (cut_here c.entries.inside.tree c.entries.inside.made c.entries.invariant c.args.entries.now c.entries.view_is (names c.args.path.now) c.find.result.above c.find.ensures.above c.in-Some.folder c.in-Some.is c.requires.free c.requires.folder).1)) (last_is_segment c.args.path.now.bytes (parent_of (names c.args.path.now)) (cut_here c.entries.inside.tree c.entries.inside.made c.entries.invariant c.args.entries.now c.entries.view_is (names c.args.path.now) c.find.result.above c.find.ensures.above c.in-Some.folder c.in-Some.is c.requires.free c.requires.folder).0 (cut_here c.entries.inside.tree c.entries.inside.made c.entries.invariant c.args.entries.now c.entries.view_is (names c.args.path.now) c.find.result.above c.find.ensures.above c.in-Some.folder c.in-Some.is c.requires.free c.requires.folder).1))
+    ∙ view_put c.entries.inside.tree c.entries.inside.made c.entries.invariant c.args.entries.now c.entries.view_is (names c.args.path.now) c.find.result.above c.find.ensures.above c.in-Some.folder c.in-Some.is c.requires.free c.requires.folder c.in_ok-name.name c.args.node named.0 named.1

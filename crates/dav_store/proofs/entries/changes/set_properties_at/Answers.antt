@@ -1,10 +1,10 @@
-use Rattle.std.proofs.Common.{refl, sym, ap, ◌∙◌, ◌≡◌}
-use Rattle.dav_core.specs.Path.{names, parent_of}
-use Rattle.dav_core.specs.World.{Node as Seen, modified_at, is_folder_kind}
-use Rattle.dav_core.specs.Calls.{emptied, repatched, copied_over}
+use Rattle.std.proofs.Common.{sym, ap, ◌∙◌}
+use Rattle.dav_core.specs.Path.{names}
+use Rattle.dav_core.specs.World.{Node as Seen, is_folder_kind}
+use Rattle.dav_core.specs.Calls.{repatched}
 use Rattle.dav_core.specs.Property.{Properties, patched}
 use Rattle.dav_store.proofs.Walks.{inner}
-use Rattle.dav_store.proofs.EntryLemmas.{kept_valued, view_valued, unchanged_none, unchanged_lacking, file_there, value_some}
+use Rattle.dav_store.proofs.EntryLemmas.{kept_valued, view_valued, unchanged_none, unchanged_lacking, value_some}
 use Rattle.dav_store.proofs.entries.changes.set_properties_at.Goals as goal
 
 pub invariant_of-entries : goal.invariant_of-entries

@@ -1,4 +1,4 @@
-use Rattle.std.proofs.Common.{IfOk, Result, Ok, Err, Vec, List, ℕ, Bool, ◌≡◌, map, ◌∙◌}
+use Rattle.std.proofs.Common.{◌∙◌}
 use Rattle.dav_core.specs.Path.{names}
 use Rattle.dav_store.proofs.ListedMembers.{none_listed, segments_listed, members_listed, then_listed}
 use Rattle.dav_store.proofs.entries.listing.list.Goals as goal

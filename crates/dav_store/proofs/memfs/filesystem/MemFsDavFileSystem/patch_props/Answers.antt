@@ -1,8 +1,11 @@
-use Rattle.std.proofs.Common.{arith, map}
+use Rattle.std.proofs.Common.{refl, ◌≡◌, Some, ap, ◌∙◌, arith, map}
 use Rattle.std.proofs.lemmas.Grind.{common_steps}
-use Rattle.dav_core.specs.Path.{names}
-use Rattle.dav_core.specs.Property.{patch_of}
+use Rattle.dav_core.specs.Path.{names, path_cmp}
+use Rattle.dav_core.specs.Property.{patch_of, patched}
 use Rattle.dav_store.proofs.AskingLemmas.{asks_patch_props}
+use Rattle.std.specs.FinMap.{find}
+use Rattle.dav_core.specs.Calls.{repatched}
+use Rattle.dav_store.proofs.MadeBefore.{before_adjusted}
 use Rattle.dav_store.proofs.memfs.filesystem.MemFsDavFileSystem.patch_props.Goals as goal
 
 pub returns-in_default : goal.returns-in_default
@@ -13,3 +16,10 @@ returns-in_default-properties_after c = asks_patch_props (names c.args.path.now)
 
 pub returns : goal.returns
 returns c = asks_patch_props (names c.args.path.now) (map patch_of c.args.patches.items) c.args.self.now _ _ (grind (arith, common_steps))
+
+pub invariant_of-self-2 : goal.invariant_of-self-2
+invariant_of-self-2 c =
+    let there : find path_cmp (names c.args.path.now) c.self.inside.entries ≡ Some c.in-Some.node.now = grind (arith, common_steps) in
+    let patched_is = c.in-Ok.ensures.0 ∙ ap (patched (map patch_of c.args.patches.items)) c.properties.ensures in
+    before_adjusted c.self.inside.next (names c.args.path.now) (repatched (map patch_of c.args.patches.items)) c.self.inside.entries c.set_properties_at.new.entries (λ v. refl)
+    (c.set_properties_at.ensures c.in-Some.node.now (map patch_of c.args.patches.items) there patched_is) c.self.invariant

@@ -1,7 +1,9 @@
-use Rattle.std.proofs.Common.{arith}
+use Rattle.std.proofs.Common.{sym, subst, arith}
 use Rattle.std.proofs.lemmas.Grind.{common_steps}
 use Rattle.dav_core.specs.Path.{names}
 use Rattle.dav_store.proofs.AskingLemmas.{asks_remove_dir}
+use Rattle.dav_store.specs.Makings.{AreMadeBefore}
+use Rattle.dav_store.proofs.MadeBefore.{before_pruned, before_touched}
 use Rattle.dav_store.proofs.memfs.filesystem.MemFsDavFileSystem.remove_dir.Goals as goal
 
 pub returns-then-is_root : goal.returns-then-is_root
@@ -18,3 +20,8 @@ returns-then-has_members c = asks_remove_dir (names c.args.path.now) c.args.now 
 
 pub returns : goal.returns
 returns c = asks_remove_dir (names c.args.path.now) c.args.now c.args.self.now _ _ (grind (arith, common_steps))
+
+pub invariant_of-self : goal.invariant_of-self
+invariant_of-self c =
+    before_touched c.self.inside.next (names c.args.path.now) c.args.now c.prune.new.entries c.touch_folder.new.entries c.touch_folder.ensures
+    (subst (AreMadeBefore c.self.inside.next) (sym c.prune.ensures) (before_pruned c.self.inside.next (names c.args.path.now) c.self.inside.entries c.self.invariant))

@@ -1,9 +1,11 @@
-use Rattle.std.proofs.Common.{◌≡◌, true, false, List, [], ◌∷◌, ◌++◌, Option, None, Some, refl, sym, ap, ◌∙◌, append-nil, arith}
+use Rattle.std.proofs.Common.{subst, ◌≡◌, true, false, [], ◌∷◌, Option, None, Some, refl, sym, ap, ◌∙◌, append-nil, arith}
 use Rattle.std.specs.Option.{is_some}
 use Rattle.std.proofs.lemmas.Grind.{common_steps}
 use Rattle.dav_core.specs.Path.{Path, names, rest_after, is_same_path, has_names}
 use Rattle.dav_core.proofs.Theorems.{from_rest, path-itself}
 use Rattle.dav_store.proofs.AskingLemmas.{asks_rename}
+use Rattle.dav_store.specs.Makings.{AreMadeBefore}
+use Rattle.dav_store.proofs.MadeBefore.{before_moved, before_touched}
 use Rattle.dav_store.proofs.memfs.filesystem.MemFsDavFileSystem.rename.Goals as goal
 
 -- a path that isn't another, nor under it, isn't at or under it
@@ -38,3 +40,9 @@ returns-in-Err c = asks_rename (names c.args.from.now) (names c.args.to.now) c.a
 
 pub returns : goal.returns
 returns c = asks_rename (names c.args.from.now) (names c.args.to.now) c.args.now c.args.self.now _ _ (grind (arith, common_steps))
+
+pub invariant_of-self-2 : goal.invariant_of-self-2
+invariant_of-self-2 c =
+    let moved = subst (AreMadeBefore c.self.inside.next) (sym c.in_default.ensures.ok) (before_moved c.self.inside.next (names c.args.from.now) (names c.args.to.now) c.self.inside.entries c.self.invariant) in
+    let changed = before_touched c.self.inside.next (names c.args.to.now) c.args.now c.move_nodes.new.entries c.touch_folder.new.entries c.touch_folder.ensures moved in
+    before_touched c.self.inside.next (names c.args.from.now) c.args.now c.touch_folder.new.entries c.touch_folder-2.new.entries c.touch_folder-2.ensures changed
