@@ -46,8 +46,8 @@ use Rattle.dav_server.specs.Get.{is_get, show, show_or_tell, judged, get}
 use Rattle.dav_server.specs.Head.{Request, IsHead}
 use Rattle.dav_server.specs.Headers.{headers_of}
 use Rattle.dav_server.specs.Holder.{IsFor}
-use Rattle.dav_server.specs.HrefLaws.{IsServed, TellsOf, IsAbout, at_target, at_destination, RepliesLeadBack}
-use Rattle.dav_server.specs.Machine.{Settings, Asked, client, PlanOf, gets, heads, puts, patches, makes, deletes, copies, moves, offers, finds_properties, sets_properties, locks, releases, MeansOf, not_allowed, no_path, no_body, method, Means, no_head, no_method, known, steps}
+use Rattle.dav_server.specs.HrefLaws.{IsServed, TellsOf, IsAbout, at_target, at_destination, TellsOfOne, RepliesLeadBack}
+use Rattle.dav_server.specs.Machine.{Settings, Asked, client, PlanOf, gets, heads, puts, patches, makes, deletes, copies, moves, offers, finds_properties, sets_properties, locks, releases, MeansOf, not_allowed, no_path, no_body, method, Means, no_head, no_method, known, Steps, steps}
 use Rattle.dav_server.specs.Method.{GivesServed}
 use Rattle.dav_server.specs.Setup.{IsPrefix}
 use Rattle.dav_server.specs.Target.{BeginsWithSlash, TargetNames, server, path}
@@ -369,3 +369,8 @@ module _ (s : Settings) (x : Asked) (fits : IsPrefix s.prefix) (small : x.moment
 pub replies_lead_back : RepliesLeadBack
 replies_lead_back s x old new ls ms reply fits world small (steps plan outcome means ran) =
     by_outcome s.prefix fits (IsAbout s x) outcome (means_planned s x fits small means (means_proper small means) world ran)
+
+-- the same of a step
+pub step_leads_back : (s : Settings) (x : Asked) (old new : StoreState) (ls ms : Locks) (reply : Response) → Steps s x old ls reply new ms
+    → IsPrefix s.prefix → IsWorld old.world → x.moment ≤ last_moment → All (TellsOfOne s x) (responses_in reply.body)
+step_leads_back s x old new ls ms reply step fits world small = replies_lead_back s x old new ls ms reply fits world small step

@@ -162,7 +162,7 @@ standing_is_needed = (
 -- ---- what an exclusive lock covers
 
 -- the folder is made, in the world before it
-covered_changes : (h : Lock) → covers h (a ∷ []) ≡ true → ¬ Spared (covers h) before after
+pub covered_changes : (h : Lock) → covers h (a ∷ []) ≡ true → ¬ Spared (covers h) before after
 covered_changes h within spared = let e : option_map content_of (node_at before (a ∷ [])) ≡ option_map content_of (node_at after (a ∷ [])) = spared.same (a ∷ []) within in cc
 
 -- A request that names the lock as its principal changes what the lock covers.

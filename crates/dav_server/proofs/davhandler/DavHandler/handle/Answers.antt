@@ -1,6 +1,6 @@
 use Rattle.std.proofs.lemmas.Result.{IfOk-weaker}
 use Rattle.dav_server.proofs.EachRequestLemmas.{safe_leaves, create_only_leaves, refused_status_leaves}
-use Rattle.dav_server.proofs.HrefReplies.{replies_lead_back}
+use Rattle.dav_server.proofs.HrefReplies.{step_leads_back}
 use Rattle.dav_server.proofs.StepLemmas.{served_ok, served_err, served_cut, any_err}
 use Rattle.dav_server.proofs.davhandler.DavHandler.handle.Goals as goal
 
@@ -32,7 +32,7 @@ pub returns-in-Err-clause-refused : goal.returns-in-Err-clause-refused
 returns-in-Err-clause-refused g c = IfOk-weaker _ _ _ (λ reply r. refused_status_leaves _ _ _ _ reply (served_err c.in-Err.ensures.serves r.0 r.1)) c.refuse.ensures
 
 pub returns-in-Ok-clause-hrefs : goal.returns-in-Ok-clause-hrefs
-returns-in-Ok-clause-hrefs g c fits world small = replies_lead_back _ _ _ _ _ _ _ fits world small (served_ok c.in-Ok.ensures.serves)
+returns-in-Ok-clause-hrefs g c = step_leads_back _ _ _ _ _ _ _ (served_ok c.in-Ok.ensures.serves)
 
 pub returns-in-Err-clause-hrefs : goal.returns-in-Err-clause-hrefs
-returns-in-Err-clause-hrefs g c = IfOk-weaker _ _ _ (λ reply r fits world small. replies_lead_back _ _ _ _ _ _ reply fits world small (served_err c.in-Err.ensures.serves r.0 r.1)) c.refuse.ensures
+returns-in-Err-clause-hrefs g c = IfOk-weaker _ _ _ (λ reply r. step_leads_back _ _ _ _ _ _ reply (served_err c.in-Err.ensures.serves r.0 r.1)) c.refuse.ensures
