@@ -8,7 +8,7 @@ ghost use Rattle.std.specs.Result.{result_ok};
 ghost use Rattle.std.specs.Borrow.{sem};
 ghost use Rattle.std.specs.Option.{ok_or, option_copied_mut};
 ghost use Rattle.std.specs.List.{AllZip};
-ghost use Rattle.dav_store.specs.Tree.{single, node, child, child_of_bytes, value_of, children_of, IsListedAs, delete_refusal, deleted, add_refusal, added, move_refusal, moved, Does, DoesOrLacks};
+ghost use Rattle.dav_store.specs.Tree.{IsRooted, single, node, child, child_of_bytes, value_of, children_of, IsListedAs, delete_refusal, deleted, subtree_refusal, subtree_deleted, add_refusal, added, move_refusal, moved, Does, DoesOrLacks};
 ghost use Rattle.dav_core.specs.declared.errors.FsError.TheVariants.{NotFound as Missing, InsufficientStorage as Lacking};
 
 pub mod children;
@@ -34,13 +34,15 @@ pub struct Tree<K: Eq + Hash, D> {
 }
 
 impl<K: Eq + Hash, D> Model for Tree<K, D> {
-    ghost use Rattle.dav_store.specs.Tree.{Tree as Seen, coded_tree};
+    ghost use Rattle.dav_store.specs.Tree.{Tree as Seen, coded_tree, IsRooted};
 
     ghost Value = { Seen K D };
 
     ghost coded = { coded_tree K.code D.code };
 
     ghost view = { λ t. t.nodes };
+
+    ghost invariant = { λ t. IsRooted {K = K} {D = D} t.nodes };
 }
 
 impl<K: Eq + Hash + Clone + Drop, D: Clone + Drop> Clone for Tree<K, D> {
@@ -168,9 +170,24 @@ impl<K: Eq + Hash + Drop, D: Drop> Tree<K, D> {
         if n.has_children() {
             return Err(FsError::Exists);
         }
-        self.nodes.unlink(id);
-        self.nodes.remove(id);
+        self.nodes.delete(id);
         Ok(())
+    }
+
+    /// Deletes a node with all that is below it. `NotFound` where there is none, `Forbidden` for the root. Takes no
+    /// memory, and time for each node that goes.
+    pub fn delete_subtree(&mut self, id: u64) -> FsResult<()>
+        ensures { Does (subtree_refusal self.old id) tt (subtree_deleted self.old id)
+            result self.old self.new }
+    {
+        if self.nodes.node(id).is_none() {
+            Err(FsError::NotFound)
+        } else if id == ROOT_ID {
+            Err(FsError::Forbidden)
+        } else {
+            self.nodes.delete_below(id);
+            Ok(())
+        }
     }
 
     // Why a node isn't moved.
@@ -206,6 +223,15 @@ impl<K: Eq + Hash + Drop, D: Drop> Tree<K, D> {
             Ok(()) => Ok(()),
             Err(_) => Err(FsError::InsufficientStorage),
         }
+    }
+}
+
+impl<K: Eq + Hash, D> Tree<K, D> {
+    // Sees what holds of every tree.
+    pub(crate) fn see_rooted(&self)
+        ensures { IsRooted self.now }
+    {
+        let _nodes = &self.nodes;
     }
 }
 

@@ -5,7 +5,7 @@ ghost use Rattle.std.specs.Map.{lookup};
 ghost use Rattle.std.specs.List.{AllZip};
 ghost use Rattle.std.specs.Cmp.Lexicographic.{pointwise};
 ghost use Rattle.indexmap.specs.IndexMap.{insert_entry};
-ghost use Rattle.dav_store.specs.Tree.{leaf, has_some, without_place, IsListedAs};
+ghost use Rattle.dav_store.specs.Tree.{leaf, has_some, first_number, without_place, IsListedAs};
 
 use indexmap::IndexMap;
 use std::alloc::{AllocError, Global};
@@ -92,6 +92,16 @@ impl<K: Eq + Hash, D> Node<K, D> {
         ensures { result ≡ has_some self.now.children }
     {
         !self.children.is_empty()
+    }
+
+    // The number of its first child.
+    pub(crate) fn first(&self) -> Option<u64>
+        ensures { result ≡ first_number self.now.children }
+    {
+        match self.children.get_index(0) {
+            Some((_, number)) => Some(*number),
+            None => None,
+        }
     }
 
     // The place of the child of a number.
