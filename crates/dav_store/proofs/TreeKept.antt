@@ -26,7 +26,7 @@ looked_up_step : {K : Type 0} (o : ℕ) (e : K × ℕ) (es : List (K × ℕ)) (b
 looked_up_step o e es true rest h ih = let is : one_if e.1 o ≡ 1 = ap (λ b. if b then 1 else 0) (eq-eqb e.1 o (same_number e.1 o h)) in omega (arith, is, times-cons o e es)
 looked_up_step o e es false rest h ih = omega (arith, ih h, times-cons o e es)
 
-looked_up : {K : Type 0} (test : K → Bool) (o : ℕ) (es : List (K × ℕ)) → lookup test es ≡ Some o → 0 < times o es
+pub looked_up : {K : Type 0} (test : K → Bool) (o : ℕ) (es : List (K × ℕ)) → lookup test es ≡ Some o → 0 < times o es
 looked_up test o [] h = absurd (let h : None ≡ Some o = h in cc)
 looked_up test o (e ∷ es) h = looked_up_step o e es (test e.0) (lookup test es) h (looked_up test o es)
 
@@ -87,7 +87,7 @@ module _ {K D : Type 0} where
     at : (m : ℕ) → times_listed v p m + times_old old m ≡ times_listed t p m + one_if n m
 
   module _ (eq : K → K → Bool) where
-    child_at : (t : Tree K D) (p : ℕ) (k : K) (x : Node K D) → node t p ≡ Some x → child eq t p k ≡ lookup (eq k) x.children
+    pub child_at : (t : Tree K D) (p : ℕ) (k : K) (x : Node K D) → node t p ≡ Some x → child eq t p k ≡ lookup (eq k) x.children
     child_at t p k x is = ap (λ o. option_and_then (λ z. lookup (eq k) z.children) o) is
 
     linked_at : (t : Tree K D) (p n : ℕ) (k : K) (x : Node K D) → node t p ≡ Some x → linked eq t p k n ≡ with_node t p (record x { children = put_key eq x.children k n })

@@ -44,6 +44,10 @@ module _ {K : Type 0} where
   first_number [] = None
   first_number (e ∷ es) = Some e.1
 
+  -- whether a number is found among the children under some key
+  abbrev pub IsFoundUnderKey : (K → K → Bool) → List (K × ℕ) → ℕ → Type 0
+  IsFoundUnderKey eq es n = (k : K) × (lookup (eq k) es ≡ Some n)
+
   -- the children without the one at a place, which the last takes
   abbrev pub without_place : ℕ → List (K × ℕ) → List (K × ℕ)
   without_place i es = option_map_or (λ e. swap_remove es i e) (slice_get es i) es

@@ -30,6 +30,17 @@ module _ {K D : Type 0} where
       (p : ℕ) (k : K) (n : ℕ) → child eq t p k ≡ Some n
       → IsSome (node t n) × (n ≢ root_id) × (parent_of t n ≡ p)
 
+  -- a node but the root is the child of a node under a key
+  abbrev pub IsFound : (K → K → Bool) → Tree K D → ℕ → Type 0
+  IsFound eq t n =
+      IsSome (node t n) → n ≢ root_id → (p : ℕ) × (k : K) × (child eq t p k ≡ Some n)
+
+  -- a node is the child of one node, under one key
+  abbrev pub IsFoundOnce : (K → K → Bool) → Tree K D → ℕ → Type 0
+  IsFoundOnce eq t n =
+      (p q : ℕ) (k l : K) → child eq t p k ≡ Some n → child eq t q l ≡ Some n
+      → (p ≡ q) × (eq k l ≡ true)
+
   -- steps to the parent lead from each node to the root
   abbrev pub ClimbsToTheRoot : Tree K D → Type 0
   ClimbsToTheRoot t = (n : ℕ) → IsSome (node t n) → is_at_or_below t root_id n ≡ true

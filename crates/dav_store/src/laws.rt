@@ -1,6 +1,6 @@
 //! Laws of the stores in memory. Each function does nothing: its contract is a theorem on the definitions.
 ghost use Rattle.dav_store.specs.Laws.{RefusesNothing, MemoryComesLast, NeverRunsShort};
-ghost use Rattle.dav_store.specs.TreeLaws.{BeginsAtTheRoot, AddsTheNextNumber, KeepsNumbers, KeepsNumbersBelow, ClimbsFarEnough, HasOnePlaceEach, FindsChildren, ClimbsToTheRoot};
+ghost use Rattle.dav_store.specs.TreeLaws.{BeginsAtTheRoot, AddsTheNextNumber, KeepsNumbers, KeepsNumbersBelow, ClimbsFarEnough, HasOnePlaceEach, FindsChildren, IsFound, IsFoundOnce, ClimbsToTheRoot};
 
 use crate::memfs::MemFs;
 use crate::tree::Tree;
@@ -37,6 +37,15 @@ pub fn each_node_has_one_place<K: Eq + Hash, D>(tree: &Tree<K, D>)
     ensures reached { ClimbsToTheRoot tree.now }
 {
     tree.see_rooted();
+}
+
+/// In every tree each node but the root is the child of exactly one node under exactly one key.
+pub fn each_node_has_one_key<K: Eq + Hash + Drop, D: Drop>(tree: &Tree<K, D>, id: u64)
+    ensures found { IsFound K.eq tree.now id }
+    ensures once { IsFoundOnce K.eq tree.now id }
+{
+    tree.see_rooted();
+    tree.see_key(id);
 }
 
 /// What is found by climbing as many steps as a tree has nodes is all that is at or below a node: where any number of

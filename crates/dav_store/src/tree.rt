@@ -3,12 +3,12 @@
 //! The root has the number 1, and each new node takes the next number; no number is used twice. A call that is refused
 //! changes nothing.
 ghost use Rattle.dav_core.specs.Numbers.{max_u64};
-ghost use Rattle.std.specs.Prelude.{◌≡◌, ◌+◌, ◌<◌, true, is_none, option_copied, IfOk, IfErr, IfNone, IfSome};
+ghost use Rattle.std.specs.Prelude.{◌≡◌, ◌+◌, ◌<◌, true, is_none, option_copied, IfOk, IfErr, IfNone, IfSome, OnSome};
 ghost use Rattle.std.specs.Result.{result_ok};
 ghost use Rattle.std.specs.Borrow.{sem};
 ghost use Rattle.std.specs.Option.{ok_or, option_copied_mut};
 ghost use Rattle.std.specs.List.{AllZip};
-ghost use Rattle.dav_store.specs.Tree.{IsRooted, single, node, child, child_of_bytes, value_of, children_of, IsListedAs, delete_refusal, deleted, subtree_refusal, subtree_deleted, add_refusal, added, move_refusal, moved, Does, DoesOrLacks};
+ghost use Rattle.dav_store.specs.Tree.{IsRooted, IsFoundUnderKey, place_of, parent_of, single, node, child, child_of_bytes, value_of, children_of, IsListedAs, delete_refusal, deleted, subtree_refusal, subtree_deleted, add_refusal, added, move_refusal, moved, Does, DoesOrLacks};
 ghost use Rattle.dav_core.specs.declared.errors.FsError.TheVariants.{NotFound as Missing, InsufficientStorage as Lacking};
 
 pub mod children;
@@ -232,6 +232,20 @@ impl<K: Eq + Hash, D> Tree<K, D> {
         ensures { IsRooted self.now }
     {
         let _nodes = &self.nodes;
+    }
+}
+
+impl<K: Eq + Hash + Drop, D: Drop> Tree<K, D> {
+    // Sees that a node that stands among the children of its parent is found there under a key.
+    pub(crate) fn see_key(&self, id: u64)
+        ensures { OnSome (place_of self.now (parent_of self.now id) id)
+            (IsFoundUnderKey K.eq (children_of self.now (parent_of self.now id)) id) }
+    {
+        if let Some(n) = self.nodes.node(id) {
+            if let Some(p) = self.nodes.node(n.parent()) {
+                p.see_key(id);
+            }
+        }
     }
 }
 
