@@ -12,6 +12,13 @@ pub mod TreeLists
 pub mod TreeSteps
 pub mod TreeNumbers
 pub mod TreeClimbs
+pub mod TreeForest
+pub mod TreeNodes
+pub mod TreeHangs
+pub mod TreePlaces
+pub mod TreeKept
+pub mod TreeBelow
+pub mod TreeOnce
 pub mod Walks
 pub mod Placing
 pub mod Entering

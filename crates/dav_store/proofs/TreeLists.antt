@@ -13,7 +13,7 @@ take_suc [] i x e = cc
 take_suc (y ∷ ys) zero x e = ap (λ z. z ∷ []) (inner y x e)
 take_suc (y ∷ ys) (suc i) x e = ap (λ zs. y ∷ zs) (take_suc ys i x e)
 
-after_one : (i : ℕ) → i + 1 ≡ suc i
+pub after_one : (i : ℕ) → i + 1 ≡ suc i
 after_one i = omega arith
 
 pub listed_more : {A B : Type 0} (R : A → B → Type 0) (xs : List A) (ys : List B) (i : ℕ) (x : A) (y : B) → slice_get xs i ≡ Some x → AllZip R (take i xs) ys → R x y → AllZip R (take (i + 1) xs) (ys ++ y ∷ [])

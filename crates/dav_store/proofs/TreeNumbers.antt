@@ -63,7 +63,7 @@ module _ {K D : Type 0} where
   old_removed : (t : Tree K D) (old : Option ℕ) → HandsOutNone t (without_old old t)
   old_removed t old = if_there old (λ n. without t n) t (removed t)
 
-  child_removed : (t : Tree K D) (parent : ℕ) (place : Option ℕ) → HandsOutNone t (unlinked_at t parent place)
+  pub child_removed : (t : Tree K D) (parent : ℕ) (place : Option ℕ) → HandsOutNone t (unlinked_at t parent place)
   child_removed t parent None = same_tree t
   child_removed t parent (Some i) =
       if_there (node t parent) (λ x. with_node t parent (record x { children = without_place i x.children })) t (λ x. changed t parent (record x { children = without_place i x.children }))
@@ -94,7 +94,7 @@ module _ {K D : Type 0} where
   hands_out_none_moved : (eq : K → K → Bool) (t : Tree K D) (n parent : ℕ) (k : K) → HandsOutNone t (moved eq t n parent k)
   hands_out_none_moved eq t n parent k = stays_or_not t (moved_over eq t n parent k) (is_child eq t parent k n) (over eq t n parent k)
 
-  still_none_above : (t u : Tree K D) → HandsOutNone t u → NoneAbove t → NoneAbove u
+  pub still_none_above : (t u : Tree K D) → HandsOutNone t u → NoneAbove t → NoneAbove u
   still_none_above t u h none = λ n above. h.1 n (none n (subst (λ l. l < n) h.0 above))
 
   next_grown : (t : Tree K D) (parent : ℕ) (value : D) → HandsOutNext t (grown t parent value)

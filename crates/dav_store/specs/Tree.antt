@@ -1,12 +1,13 @@
 -- Trees of numbered nodes: what contracts see of them, and what each call refuses and makes.
-use Rattle.std.specs.Prelude.{◌≡◌, ℕ, zero, suc, ◌+◌, ◌-◌, nat_eq, ◌<◌, ◌==◌, Bool, true, false, not, if◌then◌else◌, ◌||◌, List, [], ◌∷◌, length, position, swap_remove, slice_get, Option, None, Some, is_none, Result, Ok, Err, ◌⊎◌, refl}
-use Rattle.std.specs.Option.{option_or, option_and_then, option_map, option_map_or}
+use Rattle.std.specs.Prelude.{◌≡◌, ℕ, zero, suc, ◌+◌, ◌-◌, nat_eq, ◌<◌, ◌==◌, Bool, true, false, not, if◌then◌else◌, ◌||◌, List, [], ◌∷◌, length, position, swap_remove, slice_get, filter, count_by, Option, None, Some, is_none, Result, Ok, Err, ◌⊎◌, refl}
+use Rattle.std.specs.Option.{option_or, option_and_then, option_map, option_map_or, IsSome}
 use Rattle.std.specs.Ordering.{nat_cmp}
 use Rattle.std.specs.BTreeMap.{is_at, insert_entry}
 use Rattle.std.specs.Cmp.Lexicographic.{pointwise}
 use Rattle.std.specs.declared.vec.Vec.{Vec}
 use Rattle.std.specs.List.{AllZip}
-use Rattle.std.specs.Map.{lookup, set_value, remove_entry}
+use Rattle.std.specs.List.Sorted.{IsStrictlySortedBy}
+use Rattle.std.specs.Map.{keys_of, lookup, set_value, remove_entry}
 use Rattle.std.specs.Coded.{Coded, code_by, coded×, coded_list, coded_ℕ}
 use Rattle.indexmap.specs.IndexMap.{insert_entry as put_key}
 use Rattle.dav_core.specs.Numbers.{max_u64}
@@ -37,6 +38,15 @@ module _ {K : Type 0} where
   abbrev pub has_some : List (K × ℕ) → Bool
   has_some [] = false
   has_some (e ∷ es) = true
+
+  -- the number of the first child
+  abbrev pub first_number : List (K × ℕ) → Option ℕ
+  first_number [] = None
+  first_number (e ∷ es) = Some e.1
+
+  -- whether a number is found among the children under some key
+  abbrev pub IsFoundUnderKey : (K → K → Bool) → List (K × ℕ) → ℕ → Type 0
+  IsFoundUnderKey eq es n = (k : K) × (lookup (eq k) es ≡ Some n)
 
   -- the children without the one at a place, which the last takes
   abbrev pub without_place : ℕ → List (K × ℕ) → List (K × ℕ)
@@ -71,6 +81,10 @@ module _ {K D : Type 0} where
   -- the keys and numbers of the children of a node
   abbrev pub children_of : Tree K D → ℕ → List (K × ℕ)
   children_of t n = option_map_or (λ x. x.children) (node t n) []
+
+  -- the number of the first child of a node
+  abbrev pub first_child : Tree K D → ℕ → Option ℕ
+  first_child t n = option_and_then (λ x. first_number x.children) (node t n)
 
   -- whether a node has children
   abbrev pub has_children : Tree K D → ℕ → Bool
@@ -160,6 +174,38 @@ module _ {K D : Type 0} where
   -- the tree without a node that has no children
   abbrev pub deleted : Tree K D → ℕ → Tree K D
   deleted t n = without (unlinked t n) n
+
+  -- why a node isn't deleted with all that is below it; `None` where it is
+  abbrev pub subtree_refusal : Tree K D → ℕ → Option FsError
+  subtree_refusal t n =
+      if is_none (node t n) then Some NotFound
+      else if n == root_id then Some Forbidden
+      else None
+
+  -- the nodes that aren't at or below n, each with its parent, value and children, but for n, which
+  -- is no child of its parent any more
+  abbrev pub subtree_deleted : Tree K D → ℕ → Tree K D
+  subtree_deleted t n =
+      record t { nodes = filter (λ e. not (is_at_or_below t n e.0)) (unlinked t n).nodes }
+
+  -- how often a node stands among the children of another
+  abbrev pub times_listed : Tree K D → ℕ → ℕ → ℕ
+  times_listed t parent n = count_by (λ e. e.1 == n) (children_of t parent)
+
+  -- whether a node has this parent
+  abbrev pub has_parent : Tree K D → ℕ → ℕ → Bool
+  has_parent t n parent = option_map_or (λ x. x.parent == parent) (node t n) false
+
+  -- What holds of every tree that calls make: the nodes are in order of their numbers, of which none
+  -- is 0, and the root has no parent; each other node stands once among the children of its parent
+  -- and never among those of another; and steps to the parent lead from each node to the root.
+  pub record IsRooted (t : Tree K D) : Type 0 where
+    pub in_order : IsStrictlySortedBy nat_cmp (keys_of t.nodes)
+    pub none : node t 0 ≡ None
+    pub root : option_map (λ x. x.parent) (node t root_id) ≡ Some 0
+    pub once : (parent n : ℕ) → 0 < parent
+        → times_listed t parent n ≡ (if has_parent t n parent then 1 else 0)
+    pub reached : (n : ℕ) → IsSome (node t n) → is_at_or_below t root_id n ≡ true
 
   -- what follows is about keys that are compared by `eq`
   module _ (eq : K → K → Bool) where

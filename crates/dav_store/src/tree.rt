@@ -3,12 +3,12 @@
 //! The root has the number 1, and each new node takes the next number; no number is used twice. A call that is refused
 //! changes nothing.
 ghost use Rattle.dav_core.specs.Numbers.{max_u64};
-ghost use Rattle.std.specs.Prelude.{◌≡◌, ◌+◌, ◌<◌, true, is_none, option_copied, IfOk, IfErr, IfNone, IfSome};
+ghost use Rattle.std.specs.Prelude.{◌≡◌, ◌+◌, ◌<◌, true, is_none, option_copied, IfOk, IfErr, IfNone, IfSome, OnSome};
 ghost use Rattle.std.specs.Result.{result_ok};
 ghost use Rattle.std.specs.Borrow.{sem};
 ghost use Rattle.std.specs.Option.{ok_or, option_copied_mut};
 ghost use Rattle.std.specs.List.{AllZip};
-ghost use Rattle.dav_store.specs.Tree.{single, node, child, child_of_bytes, value_of, children_of, has_children, IsListedAs, delete_refusal, deleted, add_refusal, added, move_refusal, moved, Does, DoesOrLacks};
+ghost use Rattle.dav_store.specs.Tree.{IsRooted, IsFoundUnderKey, place_of, parent_of, single, node, child, child_of_bytes, value_of, children_of, has_children, IsListedAs, delete_refusal, deleted, subtree_refusal, subtree_deleted, add_refusal, added, move_refusal, moved, Does, DoesOrLacks};
 ghost use Rattle.dav_core.specs.declared.errors.FsError.TheVariants.{NotFound as Missing, InsufficientStorage as Lacking};
 
 pub mod children;
@@ -34,13 +34,15 @@ pub struct Tree<K: Eq + Hash, D> {
 }
 
 impl<K: Eq + Hash, D> Model for Tree<K, D> {
-    ghost use Rattle.dav_store.specs.Tree.{Tree as Seen, coded_tree};
+    ghost use Rattle.dav_store.specs.Tree.{Tree as Seen, coded_tree, IsRooted};
 
     ghost Value = { Seen K D };
 
     ghost coded = { coded_tree K.code D.code };
 
     ghost view = { λ t. t.nodes };
+
+    ghost invariant = { λ t. IsRooted {K = K} {D = D} t.nodes };
 }
 
 impl<K: Eq + Hash + Clone + Drop, D: Clone + Drop> Clone for Tree<K, D> {
@@ -175,9 +177,24 @@ impl<K: Eq + Hash + Drop, D: Drop> Tree<K, D> {
         if n.has_children() {
             return Err(FsError::Exists);
         }
-        self.nodes.unlink(id);
-        self.nodes.remove(id);
+        self.nodes.delete(id);
         Ok(())
+    }
+
+    /// Deletes a node with all that is below it. `NotFound` where there is none, `Forbidden` for the root. Takes no
+    /// memory, and time for each node that goes.
+    pub fn delete_subtree(&mut self, id: u64) -> FsResult<()>
+        ensures { Does (subtree_refusal self.old id) tt (subtree_deleted self.old id)
+            result self.old self.new }
+    {
+        if self.nodes.node(id).is_none() {
+            Err(FsError::NotFound)
+        } else if id == ROOT_ID {
+            Err(FsError::Forbidden)
+        } else {
+            self.nodes.delete_below(id);
+            Ok(())
+        }
     }
 
     // Why a node isn't moved.
@@ -212,6 +229,29 @@ impl<K: Eq + Hash + Drop, D: Drop> Tree<K, D> {
         match self.nodes.move_to(id, parent, key) {
             Ok(()) => Ok(()),
             Err(_) => Err(FsError::InsufficientStorage),
+        }
+    }
+}
+
+impl<K: Eq + Hash, D> Tree<K, D> {
+    // Sees what holds of every tree.
+    pub(crate) fn see_rooted(&self)
+        ensures { IsRooted self.now }
+    {
+        let _nodes = &self.nodes;
+    }
+}
+
+impl<K: Eq + Hash + Drop, D: Drop> Tree<K, D> {
+    // Sees that a node that stands among the children of its parent is found there under a key.
+    pub(crate) fn see_key(&self, id: u64)
+        ensures { OnSome (place_of self.now (parent_of self.now id) id)
+            (IsFoundUnderKey K.eq (children_of self.now (parent_of self.now id)) id) }
+    {
+        if let Some(n) = self.nodes.node(id) {
+            if let Some(p) = self.nodes.node(n.parent()) {
+                p.see_key(id);
+            }
         }
     }
 }

@@ -1,11 +1,11 @@
 //! One node of a tree.
-ghost use Rattle.std.specs.Prelude.{◌≡◌, ◌==◌, position, IfOk, IfErr, OnOk, OnErr, nat_eq};
+ghost use Rattle.std.specs.Prelude.{◌≡◌, ◌==◌, position, IfOk, IfErr, OnOk, OnErr, OnSome, nat_eq};
 ghost use Rattle.std.specs.Borrow.{sem};
 ghost use Rattle.std.specs.Map.{lookup};
 ghost use Rattle.std.specs.List.{AllZip};
 ghost use Rattle.std.specs.Cmp.Lexicographic.{pointwise};
 ghost use Rattle.indexmap.specs.IndexMap.{insert_entry};
-ghost use Rattle.dav_store.specs.Tree.{leaf, has_some, without_place, IsListedAs};
+ghost use Rattle.dav_store.specs.Tree.{leaf, has_some, IsFoundUnderKey, first_number, without_place, IsListedAs};
 
 use indexmap::IndexMap;
 use std::alloc::{AllocError, Global};
@@ -94,6 +94,16 @@ impl<K: Eq + Hash, D> Node<K, D> {
         !self.children.is_empty()
     }
 
+    // The number of its first child.
+    pub(crate) fn first(&self) -> Option<u64>
+        ensures { result ≡ first_number self.now.children }
+    {
+        match self.children.get_index(0) {
+            Some((_, number)) => Some(*number),
+            None => None,
+        }
+    }
+
     // The place of the child of a number.
     pub(crate) fn place(&self, number: u64) -> Option<usize>
         ensures { result ≡ position (λ e. e.1 == number) self.now.children }
@@ -120,6 +130,16 @@ impl<K: Eq + Hash, D> Node<K, D> {
 }
 
 impl<K: Eq + Hash + Drop, D> Node<K, D> {
+    // Sees that a child of a number is found under a key.
+    pub(crate) fn see_key(&self, number: u64)
+        ensures { OnSome (position (λ e. e.1 == number) self.now.children)
+            (IsFoundUnderKey K.eq self.now.children number) }
+    {
+        if let Some(i) = self.place(number) {
+            let _entry = self.children.get_index(i);
+        }
+    }
+
     // Makes room for one child more, which nobody sees.
     pub(crate) fn reserve(&mut self) -> Result<(), AllocError>
         ensures { self.new ≡ self.old }

@@ -1,11 +1,11 @@
 //! The nodes of a tree, and the steps that its calls are made of.
-ghost use Rattle.std.specs.Prelude.{◌≡◌, ◌+◌, ◌<◌, option_copied, None, is_none, true, IfOk, IfErr, OnOk, OnErr};
+ghost use Rattle.std.specs.Prelude.{◌≡◌, ◌≢◌, ◌+◌, ◌<◌, option_copied, None, is_none, true, false, IfOk, IfErr, OnOk, OnErr};
 ghost use Rattle.std.specs.Borrow.{sem};
-ghost use Rattle.std.specs.Option.{option_copied_mut};
+ghost use Rattle.std.specs.Option.{option_copied_mut, IsSome};
 ghost use Rattle.std.specs.Result.{result_ok};
 ghost use Rattle.dav_core.specs.Numbers.{max_u64};
 ghost use Rattle.dav_core.specs.declared.errors.FsError.TheVariants.{NotFound as Missing};
-ghost use Rattle.dav_store.specs.Tree.{single, node, value_of, child, is_child, has_children, linked, without, without_old, grown, shrunk, parent_of, place_of, unlinked_at, unlinked, seated, added, is_at_or_below, key_refusal, moved_over, moved};
+ghost use Rattle.dav_store.specs.Tree.{IsRooted, root_id, single, node, value_of, first_child, child, is_child, has_children, linked, without, without_old, grown, shrunk, parent_of, place_of, unlinked_at, unlinked, deleted, subtree_deleted, seated, added, is_at_or_below, key_refusal, moved_over, moved};
 
 use super::ROOT_ID;
 use super::node::Node;
@@ -98,6 +98,16 @@ impl<K: Eq + Hash + Drop, D: Drop> Nodes<K, D> {
         }
     }
 
+    // The number of a node's first child.
+    fn first_child(&self, id: u64) -> Option<u64>
+        ensures { result ≡ first_child self.now id }
+    {
+        match self.node(id) {
+            Some(n) => n.first(),
+            None => None,
+        }
+    }
+
     // The number of the child under a key.
     pub fn child(&self, parent: u64, key: &K) -> Option<u64>
         ensures { result ≡ child K.eq self.now parent key.now }
@@ -154,6 +164,23 @@ impl<K: Eq + Hash + Drop, D: Drop> Nodes<K, D> {
             }
         }
         false
+    }
+
+    // A node without children at or below another: the first child of its first child, and so on.
+    fn lowest(&self, top: u64) -> u64
+        requires rooted { IsRooted self.now }
+        requires there { IsSome (node self.now top) }
+        ensures below { is_at_or_below self.now top result ≡ true }
+        ensures bare { has_children self.now result ≡ false }
+    {
+        let mut at = top;
+        for _ in 0..self.by_number.len() {
+            match self.first_child(at) {
+                Some(child) => at = child,
+                None => return at,
+            }
+        }
+        at
     }
 
     // Why a key isn't free for a node.
@@ -230,6 +257,31 @@ impl<K: Eq + Hash + Drop, D: Drop> Nodes<K, D> {
         let _ = self.by_number.remove(&id);
     }
 
+    // A node that has no children goes.
+    pub fn delete(&mut self, id: u64)
+        ensures { self.new ≡ deleted self.old id }
+    {
+        self.unlink(id);
+        self.remove(id);
+    }
+
+    // A node goes with all that is below it, from below.
+    pub fn delete_below(&mut self, id: u64)
+        requires rooted { IsRooted self.old }
+        requires there { IsSome (node self.old id) }
+        requires other { id ≢ root_id }
+        ensures left { self.new ≡ subtree_deleted self.old id }
+        ensures rooted { IsRooted self.new }
+    {
+        let mut leaf = self.lowest(id);
+        while leaf != id {
+            let parent = self.parent(leaf);
+            self.delete(leaf);
+            leaf = self.lowest(parent);
+        }
+        self.delete(id);
+    }
+
     // The node that was in a place goes.
     pub fn remove_old(&mut self, old: Option<u64>)
         ensures { self.new ≡ without_old old self.old }
@@ -268,6 +320,7 @@ impl<K: Eq + Hash + Drop, D: Drop> Nodes<K, D> {
         ensures ok { IfOk result (λ id. id ≡ self.old.last + 1) }
         ensures added { OnOk result (self.new ≡ added K.eq self.old parent key value) }
         ensures err { OnErr result (self.new ≡ self.old) }
+        ensures fresh { node self.old (self.old.last + 1) ≡ None }
     {
         let old = self.child(parent, &key);
         let id = self.last + 1;

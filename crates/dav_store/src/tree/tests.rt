@@ -61,6 +61,52 @@ move 3 4 x -> Forbidden
 move 4 1 d over -> ok
 children 1 -> b3 d4
 move 4 1 d -> ok
+# a chain goes from its top, and no number comes again
+add 1 a -> 2
+add 2 b -> 3
+add 3 c -> 4
+add 4 d -> 5
+subtree 3 -> ok
+children 2 ->
+children 3 -> NotFound
+get 3 c -> NotFound
+children 5 -> NotFound
+subtree 3 -> NotFound
+delete 5 -> NotFound
+add 4 e -> NotFound
+add 2 b -> 6
+children 2 -> b6
+subtree 2 -> ok
+children 1 ->
+add 1 a -> 7
+# a wide node goes with all below it, and nothing else does
+add 1 a -> 2
+add 1 b -> 3
+add 1 c -> 4
+add 3 d -> 5
+add 3 e -> 6
+add 3 f -> 7
+add 6 g -> 8
+add 2 h -> 9
+move 9 6 i -> ok
+move 4 9 j -> ok
+move 7 2 k -> ok
+subtree 3 -> ok
+children 1 -> a2
+children 2 -> k7
+children 4 -> NotFound
+children 9 -> NotFound
+subtree 7 -> ok
+children 2 ->
+add 1 b -> 10
+# the root and what isn't there
+subtree 1 -> Forbidden
+subtree 2 -> NotFound
+add 1 a -> 2
+subtree 1 -> Forbidden
+subtree 3 -> NotFound
+subtree 0 -> NotFound
+children 1 -> a2
 "##;
 
 // A row: the name of a call, two numbers or a number and a key, and what is left.
@@ -135,6 +181,7 @@ fn play(alloc: Global, tree: &mut Names, row: Row<'_>) -> Result<String, Fail> {
         }
         "get" => number_text(alloc, tree.get_child_bytes(id, second.as_bytes())),
         "delete" => outcome(alloc, tree.delete_node(id)),
+        "subtree" => outcome(alloc, tree.delete_subtree(id)),
         "move" => {
             let name = key(alloc, third)?;
             outcome(
@@ -181,5 +228,24 @@ fn values_are_those_given(rt: HostRuntime) -> Result<(), Fail> {
     assert!(rt; tree.get_node_mut(3).is_err());
     same(&rt, &again.get_node(2).copied(), &Ok(8));
     same(&rt, &again.get_child_bytes(ROOT_ID, b"a"), &Ok(2));
+    Ok(())
+}
+
+#[test]
+fn deep_subtrees_go(rt: HostRuntime) -> Result<(), Fail> {
+    let alloc = rt.alloc();
+    let mut tree: Names = Tree::new(alloc, 0)?;
+    let mut at = ROOT_ID;
+    for _ in 0..500 {
+        let added = tree.add_child(alloc, at, key(alloc, "a")?, at, false);
+        at = added.unwrap_or(0);
+    }
+    same(&rt, &at, &501);
+    same(&rt, &tree.delete_subtree(3), &Ok(()));
+    same(&rt, &tree.get_node(2).copied(), &Ok(1));
+    same(&rt, &tree.get_node(3).copied(), &Err(FsError::NotFound));
+    same(&rt, &tree.get_node(501).copied(), &Err(FsError::NotFound));
+    let added = tree.add_child(alloc, 2, key(alloc, "a")?, 5, false);
+    same(&rt, &added, &Ok(502));
     Ok(())
 }
