@@ -1,4 +1,4 @@
-//! Laws of the stores in memory. Each function does nothing: its contract is a theorem on the definitions.
+//! Laws of the stores in memory. The contract of each function is a theorem; its body changes nothing.
 ghost use Rattle.dav_store.specs.Laws.{RefusesNothing, MemoryComesLast, NeverRunsShort};
 ghost use Rattle.dav_store.specs.TreeLaws.{BeginsAtTheRoot, AddsTheNextNumber, KeepsNumbers, KeepsNumbersBelow, ClimbsFarEnough, HasOnePlaceEach, FindsChildren, IsFound, IsFoundOnce, ClimbsToTheRoot};
 
