@@ -1,12 +1,11 @@
 -- What a run promises of each of its requests.
-use Rattle.std.proofs.Common.{◌≡◌, ◌++◌, ◌≤◌, ℕ, List, ◌∷◌, Some, ap, subst, ◌∙◌}
-use Rattle.dav_core.specs.Asking.{StoreState}
-use Rattle.dav_core.specs.Path.{PathText, names}
-use Rattle.dav_core.specs.World.{World, Node, node_at, last_moment}
-use Rattle.dav_engine.specs.Plan.{Locks, ServerState}
+use Rattle.std.proofs.Common.{◌++◌, ◌≤◌, List, ◌∷◌, ap, subst, ◌∙◌}
+use Rattle.dav_core.specs.Path.{names}
+use Rattle.dav_core.specs.World.{World, node_at, last_moment}
+use Rattle.dav_engine.specs.Plan.{ServerState}
 use Rattle.dav_engine.specs.Response.{Response}
 use Rattle.dav_headers.specs.ETag.{tag_text}
-use Rattle.dav_server.specs.EachRequest.{RunStep, ReadsLeaveAll, NotModifiedTells, LosesNoUpdate, OnlyCreates, RefusalsLeaveAll}
+use Rattle.dav_server.specs.EachRequest.{ReadsLeaveAll, NotModifiedTells, LosesNoUpdate, OnlyCreates, RefusalsLeaveAll}
 use Rattle.dav_server.specs.Leaving.{SameContent, SafeLeaves, CreateOnlyLeaves, RefusedStatusLeaves}
 use Rattle.dav_server.specs.Machine.{Asked, Settings, Steps}
 use Rattle.dav_server.specs.Run.{Turn, begun}

@@ -1,5 +1,5 @@
 -- What statuses a PROPFIND results in.
-use Rattle.std.proofs.Common.{◌≢◌, ◌&&◌, ◌++◌, Bool, true, false, List, Option, Some, None, Ok, arith}
+use Rattle.std.proofs.Common.{◌&&◌, ◌++◌, Bool, true, false, List, Option, Some, None, Ok, arith}
 use Rattle.dav_core.specs.declared.errors.DavError.TheVariants as dav
 use Rattle.dav_core.specs.declared.fs.DavMetaData.{DavMetaData}
 use Rattle.dav_core.specs.Path.{PathText}

@@ -1,5 +1,5 @@
 -- What runs from no locks promise: no request hands in the token of a lock that stands.
-use Rattle.std.proofs.Common.{◌≡◌, ◌≢◌, ◌++◌, ℕ, List, [], ◌∷◌, All, Some, sym, ap, subst, ◌∙◌}
+use Rattle.std.proofs.Common.{◌≡◌, ◌≢◌, ◌++◌, ℕ, List, [], ◌∷◌, All, Some, ap, subst}
 use Rattle.std.proofs.lemmas.List.Elements.{All-contains, All-head, All-tail}
 use Rattle.dav_core.specs.Asking.{StoreState}
 use Rattle.dav_core.specs.Locks.{Lock}

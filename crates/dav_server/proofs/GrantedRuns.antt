@@ -1,17 +1,16 @@
 -- Isolation in a run from no locks, from the grant on.
-use Rattle.std.proofs.Common.{◌≡◌, ◌≢◌, ◌++◌, ◌<◌, ℕ, suc, true, List, [], ◌∷◌, length, All, AllPairs, Contains, Option, Some, None, refl, sym, ap, subst, ◌∙◌, append-nil, ◌≤◌, arith}
+use Rattle.std.proofs.Common.{◌≡◌, ◌≢◌, ◌++◌, ℕ, suc, true, List, [], ◌∷◌, All, AllPairs, Option, Some, None, refl, sym, ap, subst, ◌∙◌, append-nil, ◌≤◌, arith}
 use Rattle.std.proofs.lemmas.List.Elements.{All-contains, All-cons, All-head, All-tail, All-weaker, Contains-append_right}
 use Rattle.std.specs.Option.{is_some}
-use Rattle.dav_core.specs.Asking.{StoreState}
 use Rattle.dav_core.specs.Locks.{Lock}
 use Rattle.dav_core.specs.LockLaws.{CoveringAreShared}
-use Rattle.dav_core.specs.World.{World, Node, node_at, is_folder, is_folder_node, last_moment, IsWorld}
+use Rattle.dav_core.specs.World.{World, Node, node_at, is_folder_node, last_moment}
 use Rattle.dav_core.proofs.Theorems.{none_are_shared}
 use Rattle.dav_engine.specs.Guard.{folder_of, Guarded}
 use Rattle.dav_engine.specs.Plan.{Locks}
 use Rattle.dav_engine.specs.Response.{Response}
 use Rattle.dav_engine.proofs.Theorems.{changes_keep_shared, shared_guards, folders_are_above}
-use Rattle.dav_server.specs.Isolation.{AreLoaded, NoneHandsIn, TokensDiffer, Grants, IsIsolatedFromGrants}
+use Rattle.dav_server.specs.Isolation.{AreLoaded, NoneHandsIn, TokensDiffer, IsIsolatedFromGrants}
 use Rattle.dav_server.specs.LockLists.{IsHandedIn}
 use Rattle.dav_server.specs.Machine.{client}
 use Rattle.dav_server.specs.Run.{Turn, begun, Runs}

@@ -49,7 +49,9 @@ pub mod NeededTokens
 pub mod NeededForHeadline
 pub mod NeededGrants
 pub mod NeededGuards
+pub mod OneStep
 pub mod WrongSteps
 pub mod WrongUpdates
 pub mod NeededBeginning
 pub mod NeededMoments
+pub mod Theorems

@@ -1,10 +1,9 @@
 -- Premises of the headline from the grant on that are needed: runs from an empty server that break one of them, and of which
 -- isolation isn't true.
-use Rattle.std.proofs.Common.{◌≡◌, ◌≤◌, ℕ, true, false, List, [], ◌∷◌, length, codes, append-nil, Some, None, Ok, Err, refl, sym, arith}
+use Rattle.std.proofs.Common.{◌≡◌, ◌≤◌, true, false, List, [], ◌∷◌, length, codes, append-nil, Some, None, Ok, Err, refl, sym, arith}
 use Rattle.std.proofs.lemmas.List.Elements.{All-nil}
 use Rattle.httparse.specs.Grammar.{IsField, is_token_byte, print_request}
 use Rattle.dav_core.specs.declared.errors.FsError.TheVariants.{NotFound, Exists, GeneralFailure, InsufficientStorage}
-use Rattle.dav_core.specs.declared.errors.DavError.TheVariants as dav
 use Rattle.dav_core.specs.declared.fs.DavMetaData.{DavMetaData}
 use Rattle.dav_core.specs.declared.method.DavMethod.TheVariants.{MkCol, Lock as LockMethod}
 use Rattle.dav_core.specs.Asking.{meaning, Asks, Answered, asked, ran_short, Metadata, CreateDir}
@@ -18,9 +17,8 @@ use Rattle.dav_engine.specs.Lock.{granted_reply, is_lock, lock as lock_plan}
 use Rattle.dav_engine.specs.LockHeaders.{AreLockHeaders}
 use Rattle.dav_engine.specs.Method.{MethodPlan}
 use Rattle.dav_engine.specs.Mkcol.{create_error, made}
-use Rattle.dav_engine.specs.Plan.{Locks, ServerState, Ran, ran_done, ran_ask, ran_look, ran_keep}
+use Rattle.dav_engine.specs.Plan.{Locks, Ran, ran_done, ran_ask, ran_look, ran_keep}
 use Rattle.dav_engine.specs.Response.{Response, reply_to}
-use Rattle.dav_engine.proofs.Theorems.{ran_plain}
 use Rattle.dav_server.specs.EachRequest.{RunStep}
 use Rattle.dav_server.specs.Head.{IsHead, request_of_head}
 use Rattle.dav_server.specs.Headers.{headers_of}

@@ -1,31 +1,30 @@
 -- That no request hands in the guard's token is needed: a run in which one does, and of which isolation isn't true.
-use Rattle.std.proofs.Common.{◌≡◌, ◌≢◌, ◌≤◌, ◌<◌, ◌++◌, ℕ, true, false, List, [], ◌∷◌, length, get_or, codes, append-nil, All, Some, None, Ok, Err, inl, inr, refl, sym, ap, subst, arith}
+use Rattle.std.proofs.Common.{◌≡◌, ◌≤◌, ℕ, true, false, List, [], ◌∷◌, length, codes, append-nil, Some, None, Ok, Err, inl, inr, refl, sym, ap, subst, arith}
 use Rattle.std.proofs.lemmas.List.Elements.{All-nil, All-cons}
 use Rattle.std.proofs.lemmas.List.Sums.{AllPass-from_list_all}
 use Rattle.std.specs.Str.{IsUtf8}
 use Rattle.http_header.specs.HeaderMap.{get, get_all}
 use Rattle.percent_encoding.specs.Percent.{percent_decode}
-use Rattle.httparse.specs.Grammar.{Field, IsField, RequestHead, crlf, is_token_byte, is_value_byte, print_request, trim_ows}
+use Rattle.httparse.specs.Grammar.{Field, IsField, crlf, is_token_byte, is_value_byte, print_request, trim_ows}
 use Rattle.dav_core.specs.declared.errors.DavError.TheVariants as dav
 use Rattle.dav_core.specs.declared.fs.DavMetaData.{DavMetaData}
 use Rattle.dav_core.specs.declared.method.DavMethod.TheVariants.{Lock as LockMethod, Unlock}
 use Rattle.dav_core.specs.Asking.{meaning, Answered, asked, Metadata}
 use Rattle.dav_core.specs.Locks.{Lock}
-use Rattle.dav_core.specs.Path.{Path, PathText, at_start}
+use Rattle.dav_core.specs.Path.{PathText, at_start}
 use Rattle.dav_core.specs.Target.{nothing, blank, NamesPath, IsTextByte}
-use Rattle.dav_headers.specs.Depth.{IsDepth}
 use Rattle.dav_headers.specs.declared.depth.Depth.TheVariants.{Zero}
 use Rattle.dav_engine.specs.declared.request.Body.TheVariants as body
 use Rattle.dav_engine.specs.Alongside.{AsksWithNumbers}
 use Rattle.dav_engine.specs.Folder.{location_found}
-use Rattle.dav_engine.specs.Guard.{Guarded, Stands, guards_here, no_others, listed_here, listed_later}
+use Rattle.dav_engine.specs.Guard.{Guarded, guards_here, no_others, listed_here}
 use Rattle.dav_engine.specs.Headers.{text_in}
 use Rattle.dav_engine.specs.Lock.{granted_reply, is_lock, lock as lock_plan}
 use Rattle.dav_engine.specs.LockHeaders.{LockHeaders, AreLockHeaders}
 use Rattle.dav_engine.specs.LockToken.{SaysLockToken, IsAngle}
 use Rattle.dav_engine.specs.Method.{MethodPlan}
 use Rattle.dav_engine.specs.Plan.{Locks, Ran, ran_done, ran_ask, ran_look, ran_keep}
-use Rattle.dav_engine.specs.Response.{Response, error_reply, reply_to}
+use Rattle.dav_engine.specs.Response.{Response, error_reply}
 use Rattle.dav_engine.specs.Unlock.{unlock, unlocked_reply, is_unlock}
 use Rattle.dav_engine.proofs.Theorems.{last_is, ran_plain}
 use Rattle.dav_server.specs.Head.{Request, IsHead, request_of_head}

@@ -1,12 +1,12 @@
 -- One text names one path, as a target and as Destination.
-use Rattle.std.proofs.Common.{◌≡◌, ◌≢◌, ℕ, arith, Bool, true, false, List, [], ◌∷◌, ◌++◌, All, Option, Some, Result, Ok, Err, inl, inr, refl, sym, ap, subst, ◌∙◌}
+use Rattle.std.proofs.Common.{◌≡◌, ◌≢◌, ℕ, arith, List, [], ◌∷◌, All, Option, Some, Result, Ok, Err, inl, inr, refl, sym, ap, subst, ◌∙◌}
 use Rattle.std.specs.Prelude.{IsSomeAnd}
 use Rattle.http_header.specs.FieldValue.{FieldValue}
 use Rattle.dav_core.specs.declared.errors.ParseError.{ParseError}
 use Rattle.dav_core.specs.declared.errors.ParseError.TheVariants as parse
 use Rattle.dav_core.specs.declared.errors.DavError.{DavError}
 use Rattle.dav_core.specs.declared.method.DavMethod.{DavMethod}
-use Rattle.dav_core.specs.Path.{Path, PathText, IsName, joined, path_bytes, star, without_slash, IsCut, at_start, at_slash, at_end, HasNoCut}
+use Rattle.dav_core.specs.Path.{Path, PathText, IsName, joined, star, without_slash, IsCut, at_start, at_slash, at_end, HasNoCut}
 use Rattle.dav_core.specs.Status.{path_error}
 use Rattle.dav_core.specs.Target.{Reads, IsRefused}
 use Rattle.dav_core.proofs.Theorems.{Leaves-names}

@@ -1,6 +1,5 @@
 -- What statuses a PROPPATCH results in.
-use Rattle.std.proofs.Common.{◌≡◌, ◌≢◌, ℕ, Bool, true, false, List, [], ◌∷◌, Option, Some, None, Result, Ok, Err, refl, arith}
-use Rattle.std.specs.Bool.{⊤}
+use Rattle.std.proofs.Common.{◌≢◌, ℕ, Bool, true, false, List, [], ◌∷◌, Option, Some, None, Result, Ok, refl, arith}
 use Rattle.dav_core.specs.declared.errors.FsError.{FsError}
 use Rattle.dav_core.specs.declared.errors.DavError.{DavError}
 use Rattle.dav_core.specs.declared.errors.DavError.TheVariants as dav
@@ -11,11 +10,11 @@ use Rattle.dav_engine.specs.declared.request.Body.{Body}
 use Rattle.dav_engine.specs.Client.{Client, requester}
 use Rattle.dav_engine.specs.Conditions.{Conditions, guarded}
 use Rattle.dav_engine.specs.Folder.{closed, location_found}
-use Rattle.dav_engine.specs.Method.{MethodPlan, ◌>>=◌, require_free, required, refused_as, gives}
+use Rattle.dav_engine.specs.Method.{◌>>=◌, require_free, required, refused_as, gives}
 use Rattle.dav_engine.specs.Properties.{has_properties}
-use Rattle.dav_engine.specs.Proppatch.{Change, changes_in, answered_at_once, to_store, has_refused, store_changes, change_all, proppatch_reply, patch_properties, proppatch_found, proppatch}
-use Rattle.dav_engine.specs.Response.{Response, Header, reply_to}
-use Rattle.dav_server.proofs.PlanStatuses.{Outcome, Any, Ends, ends_done, ends_ask, ends_look, ends_bind, ends_then, IsOther, AnswersOther, store_other, ends_guarded, ends_free}
+use Rattle.dav_engine.specs.Proppatch.{Change, changes_in, answered_at_once, to_store, has_refused, store_changes, change_all, proppatch_reply, patch_properties, proppatch}
+use Rattle.dav_engine.specs.Response.{Response, Header}
+use Rattle.dav_server.proofs.PlanStatuses.{Outcome, Any, Ends, ends_done, ends_ask, ends_bind, ends_then, IsOther, AnswersOther, store_other, ends_guarded, ends_free}
 
 -- ---- PROPPATCH
 

@@ -8,7 +8,6 @@ use Rattle.dav_core.specs.declared.method.DavMethod.{DavMethod}
 use Rattle.dav_core.specs.declared.method.DavMethod.TheVariants.{Get, Head, Put, Patch, Copy, Move, PropPatch, Lock as LockMethod}
 use Rattle.std.specs.Bool.{⊤}
 use Rattle.dav_core.specs.Asking.{Call, Open, CreateDir, Write, meaning, StoreState, Asks as Asking}
-use Rattle.dav_core.specs.declared.fs.DavMetaData.{DavMetaData}
 use Rattle.dav_core.specs.Handle.{Handle, Opening}
 use Rattle.dav_core.specs.Locks.{Lock, unlocked}
 use Rattle.dav_core.specs.Path.{Path, PathText, names}

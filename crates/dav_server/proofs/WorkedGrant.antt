@@ -1,8 +1,7 @@
 -- A worked run from no locks: a folder is made and locked, another client is refused at it, and its holder is answered as if alone.
-use Rattle.std.proofs.Common.{◌≡◌, ◌≢◌, ◌≤◌, ◌<◌, ℕ, true, false, List, [], ◌∷◌, length, codes, Some, None, Ok, Err, All, AllPairs, refl, sym, ap, subst, ◌∙◌, append-nil, arith}
+use Rattle.std.proofs.Common.{◌≡◌, ◌≢◌, ◌≤◌, ℕ, true, false, List, [], ◌∷◌, length, codes, Some, None, Ok, Err, All, refl, sym, ◌∙◌, append-nil, arith}
 use Rattle.std.proofs.lemmas.List.Elements.{All-nil, All-cons}
 use Rattle.std.proofs.lemmas.List.Kept.{AllPairs-cons}
-use Rattle.http_header.specs.FieldValue.{FieldValue}
 use Rattle.httparse.specs.Grammar.{IsField, is_token_byte, print_request}
 use Rattle.dav_core.specs.declared.errors.FsError.TheVariants.{NotFound, Exists, GeneralFailure}
 use Rattle.dav_core.specs.declared.errors.DavError.TheVariants as dav
@@ -11,7 +10,6 @@ use Rattle.dav_core.specs.declared.method.DavMethod.TheVariants.{MkCol, Lock as 
 use Rattle.dav_core.specs.Asking.{meaning, Asks, Answered, asked, Metadata, CreateDir}
 use Rattle.dav_core.specs.Element.{ElementTree, element, trees}
 use Rattle.dav_core.specs.Locks.{Lock}
-use Rattle.dav_core.specs.Path.{PathText}
 use Rattle.dav_core.proofs.Theorems.{empty_is_world}
 use Rattle.dav_headers.specs.Depth.{IsDepth}
 use Rattle.dav_headers.specs.IfLaws.{asks_for}
@@ -21,8 +19,7 @@ use Rattle.dav_headers.specs.declared.timeout.DavTimeout.{DavTimeout}
 use Rattle.dav_engine.specs.declared.request.Body.TheVariants as body
 use Rattle.dav_engine.specs.Alongside.{AsksWithNumbers}
 use Rattle.dav_engine.specs.AlongsidePlans.{SubmitsAlone}
-use Rattle.dav_engine.specs.Conditions.{Conditions}
-use Rattle.dav_engine.specs.Folder.{location_found, path_found}
+use Rattle.dav_engine.specs.Folder.{location_found}
 use Rattle.dav_engine.specs.Guard.{Stands, listed_here, a_list, no_list}
 use Rattle.dav_engine.specs.Lock.{granted_reply, is_lock, lock as lock_plan}
 use Rattle.dav_engine.specs.LockHeaders.{LockHeaders, AreLockHeaders}
@@ -33,14 +30,14 @@ use Rattle.dav_engine.specs.Response.{Response, error_reply, reply_to}
 use Rattle.dav_server.specs.Head.{IsHead, request_of_head}
 use Rattle.dav_server.specs.Headers.{headers_of}
 use Rattle.dav_server.specs.Holder.{IsHolderRequest, acts}
-use Rattle.dav_server.specs.Isolation.{AreLoaded, RunsUnder, under_none, under_more, Alone, alone_none, alone_other, alone_own, AreAlone, TokensDiffer, Grants}
-use Rattle.dav_server.specs.Machine.{Asked, client, Means, known, method, locks, steps, Steps}
+use Rattle.dav_server.specs.Isolation.{AreLoaded, RunsUnder, under_none, under_more, Alone, alone_none, alone_other, alone_own, AreAlone, TokensDiffer}
+use Rattle.dav_server.specs.Machine.{Asked, client, Means, known, method, locks, steps}
 use Rattle.dav_server.specs.Naming.{by_if, NamesLock}
-use Rattle.dav_server.specs.Run.{Turn, Runs, no_more, one_more}
+use Rattle.dav_server.specs.Run.{Turn, no_more, one_more}
 use Rattle.dav_server.specs.Server.{Server}
 use Rattle.dav_server.specs.TagLaws.{AreShowable}
 use Rattle.dav_server.proofs.GrantedRuns.{is_isolated_from_grants}
-use Rattle.dav_server.proofs.WorkedRun.{a, token, slash_a, at_a, head_of, head_with_method, text_a, target_a, target_at_a, stranger, holder, turn_with, settings, no_tags, no_if, no_conditions, own_conditions, own_list, stranger_says, holder_fields, holder_request, own_head, own_if, own_says, stranger_unnamed, plan_with, stranger_means, holder_means, before, after, holding, missing, makes_a, some_number, Showable, Loaded}
+use Rattle.dav_server.proofs.WorkedRun.{a, token, slash_a, at_a, head_of, head_with_method, text_a, target_a, target_at_a, stranger, holder, turn_with, settings, no_conditions, own_conditions, own_list, stranger_says, holder_fields, holder_request, own_head, own_if, own_says, stranger_unnamed, plan_with, stranger_means, holder_means, before, after, holding, missing, makes_a, Showable, Loaded}
 
 -- ---- LOCK /a with a body, of infinite depth, by a client that isn't known, and with a token
 

@@ -3,56 +3,52 @@
 use Rattle.std.proofs.Common.{◌≡◌, ◌≢◌, ◌++◌, ◌<◌, ◌≤◌, ℕ, false, true≢false, List, [], ◌∷◌, length, get_or, codes, Some, None, Ok, inl, inr, refl, sym, ap, subst, ◌∙◌, append-nil, arith}
 use Rattle.std.proofs.lemmas.List.Elements.{All-nil, All-cons, All-contains}
 use Rattle.std.proofs.lemmas.List.Sums.{AllPass-from_list_all}
-use Rattle.http_header.specs.FieldValue.{FieldValue, plain_value}
+use Rattle.http_header.specs.FieldValue.{plain_value}
 use Rattle.http_header.specs.HeaderMap.{get_all}
 use Rattle.http_header.specs.Token.{is_visible_or_blank}
 use Rattle.httparse.specs.Grammar.{Field, IsField, crlf, is_token_byte, is_value_byte, print_request, trim_ows}
 use Rattle.dav_core.specs.declared.fs.DavMetaData.{DavMetaData}
-use Rattle.dav_core.specs.declared.method.DavMethod.{DavMethod}
-use Rattle.dav_core.specs.declared.method.DavMethod.TheVariants.{Get, Put, Patch, MkCol, Lock as LockMethod}
+use Rattle.dav_core.specs.declared.method.DavMethod.TheVariants.{Get, Put, MkCol, Lock as LockMethod}
 use Rattle.dav_core.specs.Asking.{meaning, Asks, Answered, asked, Metadata, CreateDir, Open}
 use Rattle.dav_core.specs.Calls.{emptied}
 use Rattle.dav_core.specs.Element.{ElementTree}
 use Rattle.dav_core.specs.Handle.{opened}
 use Rattle.dav_core.specs.LockLaws.{CoveringAreShared}
-use Rattle.dav_core.specs.Locks.{Lock, covers}
+use Rattle.dav_core.specs.Locks.{Lock}
 use Rattle.dav_core.specs.Path.{PathText, star}
 use Rattle.dav_core.specs.Target.{Reads}
 use Rattle.dav_core.specs.UrlText.{url_text}
 use Rattle.dav_core.specs.World.{World, Node, File, adjust}
 use Rattle.dav_headers.specs.ETag.{EntityTag, IsUnquoted}
-use Rattle.dav_headers.specs.ETagList.{IsTagList, tags, star as every_tag}
+use Rattle.dav_headers.specs.ETagList as list
+use Rattle.dav_headers.specs.ETagList.{IsTagList}
 use Rattle.dav_engine.specs.declared.request.Body.TheVariants as body
 use Rattle.dav_engine.specs.AnswerParts.{children_named}
-use Rattle.dav_engine.specs.Guard.{Stands, listed_here}
+use Rattle.dav_engine.specs.declared.reply.ReplyBody.TheVariants as reply
+use Rattle.dav_engine.specs.Guard.{Stands, listed_here, listed_later}
 use Rattle.dav_engine.specs.Lock.{granted_reply}
 use Rattle.dav_engine.specs.Method.{MethodPlan, ◌>>=◌, ask_for, ask_or, change_locks, gives}
 use Rattle.dav_engine.specs.Mkcol.{create_error, made}
 use Rattle.dav_engine.specs.Multistatus.{dav_text, response_for}
 use Rattle.dav_engine.specs.Plan.{Locks, ServerState, Ran, ran_done, ran_ask, ran_look, ran_keep}
 use Rattle.dav_engine.specs.Response.{Response}
-use Rattle.dav_engine.specs.Sparing.{Spared}
 use Rattle.dav_engine.specs.Unlock.{unlocked_reply}
 use Rattle.dav_engine.proofs.Theorems.{unprefixed_leads_nowhere}
-use Rattle.dav_server.specs.EachRequest.{HoldsBytes, UnmodifiedFinds, UpdateFinds}
+use Rattle.dav_server.specs.EachRequest.{HoldsBytes}
 use Rattle.dav_server.specs.Get.{not_modified}
 use Rattle.dav_server.specs.Head.{Request, IsHead, request_of_head}
 use Rattle.dav_server.specs.Headers.{headers_of}
 use Rattle.dav_server.specs.HrefLaws.{TellsOf}
-use Rattle.dav_server.specs.Leaving.{SafeLeaves, CreateOnlyLeaves, RefusedStatusLeaves}
 use Rattle.dav_server.specs.Machine.{Asked}
-use Rattle.dav_server.specs.Method.{GivesServed}
-use Rattle.dav_server.specs.Naming.{NamesLock}
 use Rattle.dav_server.specs.Run.{Turn}
-use Rattle.dav_server.specs.TagLaws.{is_safe, ShownIn, LacksTag}
+use Rattle.dav_server.specs.TagLaws.{ShownIn, LacksTag}
 use Rattle.dav_server.specs.Target.{TargetNames, server, path}
 use Rattle.dav_server.specs.UpdateLaws.{IsSuccess, UpdatesIf}
-use Rattle.dav_server.proofs.HeadLemmas.{one_head}
-use Rattle.dav_server.proofs.MeansWorld.{asks_one}
 use Rattle.dav_server.proofs.NeededForHeadline.{state, covered_changes}
 use Rattle.dav_server.proofs.WorkedGrant.{locker, lock_head, none}
-use Rattle.dav_server.proofs.WorkedRun.{a, slash_a, at_a, lock, head_of, head_with_method, head_with, text_a, target_at_a, stranger, stranger_head, no_tags, other_names, turn_with, settings, before, after, holding, one_lock, makes_a}
-use Rattle.dav_server.proofs.WrongSteps.{getter, is_get, emptying, filled, one_tag, tagged, shows}
+use Rattle.dav_server.proofs.WorkedRun.{a, slash_a, at_a, lock, head_of, head_with_method, text_a, target_at_a, stranger, stranger_head, other_names, turn_with, settings, before, after, holding, one_lock, makes_a}
+use Rattle.dav_server.proofs.OneStep.{Step, Clause, reading, created, refused, unmodified, updated, passed, kept, shared, tags, Keeps, BreaksOnly, same_world, stand, as_shared, none_passed, unsafe, no_creation, no_star, answered, no_304, no_success, ShowsOnly, shows_nothing, one_text, first_step, untold, shows_once, no_tag}
+use Rattle.dav_server.proofs.WrongSteps.{getter, is_get, stranger_request, emptying, filled, one_tag, tagged, shows}
 
 -- ---- a file that another client has changed
 
@@ -97,7 +93,7 @@ first_tag = record { weak = false; tag = 49 ∷ [] }
 unquoted : IsUnquoted (49 ∷ [])
 unquoted contains = All-contains (λ (b : ℕ). b ≢ 34) (49 ∷ []) 34 (All-cons (λ (b : ℕ). b ≢ 34) 49 [] (λ e. omega (arith, e)) (All-nil (λ (b : ℕ). b ≢ 34))) contains refl
 
-says_tag : IsTagList (plain_value one_tag ∷ []) (tags (first_tag ∷ []))
+says_tag : IsTagList (plain_value one_tag ∷ []) (list.tags (first_tag ∷ []))
 says_tag = (
   omega arith,
   (
@@ -107,34 +103,22 @@ says_tag = (
   ),
 )
 
--- ---- what is asked of one request besides
+-- ---- the first byte alone is shown
 
--- a step is as the clauses `reading`, `created` and `refused` ask
-pub record IsAsAsked (x : Asked) (reply : Response) (was now : ServerState) : Type 0 where
-  pub reading : SafeLeaves x was now
-  pub created : CreateOnlyLeaves settings x reply was now
-  pub refused : RefusedStatusLeaves x reply was now
+told_only : ShowsOnly (49 ∷ []) (turn_with getter, tagged (49 ∷ []))
+told_only tag others shows = let e : reply.Bytes (49 ∷ []) ≡ reply.Bytes others = shows.bytes_are in cc
 
--- one that changes nothing, and isn't answered with success
-quiet : (x : Asked) (reply : Response) (was : ServerState) → ¬ IsSuccess reply.status → IsAsAsked x reply was was
-quiet x reply was failed = record { reading = λ safe. (refl, refl); created = λ p n is there. ((refl, refl), failed); refused = λ refused fresh. (refl, refl) }
+-- a step after those two replies, which shows nothing
+abbrev pub after_them : Asked → Response → ServerState → ServerState → Step
+after_them x reply was now = record { turns = earlier; replies = answers; asked = x; reply = reply; was = was; now = now }
 
-module _ (x : Asked) (r : Request) (m : DavMethod) (head : IsHead x.head r) (served : GivesServed r.method (Ok m)) (reply : Response) (was now : ServerState) where
-  unsafe : is_safe m ≡ false → SafeLeaves x was now
-  unsafe is (n, asks, safe) = absurd (true≢false (sym safe ∙ ap is_safe (sym (asks_one x n asks head served)) ∙ is))
-
-  no_creation : m ≢ Put → m ≢ Patch → CreateOnlyLeaves settings x reply was now
-  no_creation no_put no_patch p n (q, k, also, has, inl writes, named, says) there = absurd (no_put (asks_one x k (q, also, has) head served ∙ writes))
-  no_creation no_put no_patch p n (q, k, also, has, inr writes, named, says) there = absurd (no_patch (asks_one x k (q, also, has) head served ∙ writes))
-
-  no_star : get_all (headers_of r.fields) (codes "if-none-match") ≡ [] → CreateOnlyLeaves settings x reply was now
-  no_star empty p n (q, k, also, has, writes, named, says) there =
-      let same : q ≡ r = one_head x.head q r also head in
-      absurd (no_tags every_tag (subst (λ (values : List FieldValue). IsTagList values every_tag) (ap (λ (z : Request). get_all (headers_of z.fields) (codes "if-none-match")) same ∙ empty) says))
-
-  answered : reply.status ≢ 412 → reply.status ≢ 423 → RefusedStatusLeaves x reply was now
-  answered one other (inl is) fresh = absurd (one is)
-  answered one other (inr is) fresh = absurd (other is)
+one_text_then : (x : Asked) (reply : Response) (was now : ServerState) → reply.status ≢ 200 → Keeps tags (after_them x reply was now)
+one_text_then x reply was now other =
+    let P : Turn × Response → Type 0 = ShowsOnly (49 ∷ []) in
+    one_text (earlier ++ turn_with x ∷ []) (answers ++ reply ∷ []) (49 ∷ [])
+    (All-cons P (turn_with getter, tagged (49 ∷ [])) ((turn_with changer, unlocked_reply []) ∷ (turn_with x, reply) ∷ []) told_only
+    (All-cons P (turn_with changer, unlocked_reply []) ((turn_with x, reply) ∷ []) (shows_nothing (49 ∷ []) (turn_with changer) (unlocked_reply []) (λ e. omega (arith, e)))
+    (All-cons P (turn_with x, reply) [] (shows_nothing (49 ∷ []) (turn_with x) reply other) (All-nil P))))
 
 -- ---- a 304 that is false
 
@@ -169,7 +153,7 @@ recheck_head =
     subst (IsHead rechecker.head) (ap (λ f. record { method = codes "GET"; target = slash_a; fields = f }) none_match_fields_are)
     (recheck_short, head_of (codes "GET") slash_a (none_match_field ∷ []), (head_with_method (codes "GET") slash_a (none_match_field ∷ []) (omega arith) refl (omega arith) refl text_a (All-cons IsField none_match_field [] is_none_match_field (All-nil IsField)), sym (append-nil _)), omega arith, refl)
 
-says_none_match : IsTagList (get_all (headers_of none_match_fields) (codes "if-none-match")) (tags (first_tag ∷ []))
+says_none_match : IsTagList (get_all (headers_of none_match_fields) (codes "if-none-match")) (list.tags (first_tag ∷ []))
 says_none_match = says_tag
 
 lacks_first : LacksTag settings rechecker at_a first_tag
@@ -191,17 +175,27 @@ finds_other = record { as_asked = refl; refusals = refl; short = refl }
 not_modified_fails : ¬ IsSuccess 304
 not_modified_fails good = let small : 304 < 300 = good.1 in omega (arith, small)
 
--- it is false, and all else that is asked of one request is so
-pub uncompared_304_is_false :
-    Ran Asks never_compares (holding rewritten) none (Ok (not_modified found_other)) (holding rewritten) none
-    × ¬ UnmodifiedFinds settings (earlier ++ turn_with rechecker ∷ []) (answers ++ not_modified found_other ∷ []) rechecker (not_modified found_other) (state (holding rewritten) none)
-    × UpdateFinds settings earlier answers rechecker (not_modified found_other) (state (holding rewritten) none)
-    × IsAsAsked rechecker (not_modified found_other) (state (holding rewritten) none) (state (holding rewritten) none)
+abbrev pub unmodified_step : Step
+unmodified_step = after_them rechecker (not_modified found_other) (state (holding rewritten) none) (state (holding rewritten) none)
+
+all_but_unmodified : (d : Clause) → d ≢ unmodified → Keeps d unmodified_step
+all_but_unmodified reading other = λ safe. (refl, refl)
+all_but_unmodified created other = λ p n is there. ((refl, refl), not_modified_fails)
+all_but_unmodified refused other = λ is fresh. (refl, refl)
+all_but_unmodified unmodified other = absurd (other refl)
+all_but_unmodified updated other = no_success unmodified_step not_modified_fails
+all_but_unmodified passed other = none_passed unmodified_step refl
+all_but_unmodified kept other = stand unmodified_step refl
+all_but_unmodified shared other = as_shared unmodified_step refl
+all_but_unmodified tags other = one_text_then rechecker (not_modified found_other) unmodified_step.was unmodified_step.now (λ e. omega (arith, e))
+
+pub uncompared_304_is_false : Ran Asks never_compares (holding rewritten) none (Ok (not_modified found_other)) (holding rewritten) none × BreaksOnly unmodified unmodified_step
 uncompared_304_is_false = (
   ran_ask {c = Metadata (a ∷ [])} {answer = Ok found_other} (asked finds_other) ran_done,
-  λ finds. first_byte_is_gone (finds at_a first_tag (49 ∷ []) refl lacks_first (shown_first (turn_with rechecker ∷ []) (not_modified found_other ∷ []))),
-  λ p tag bytes told updates good. absurd (not_modified_fails good),
-  quiet rechecker (not_modified found_other) (state (holding rewritten) none) not_modified_fails,
+  record {
+    broken = λ finds. first_byte_is_gone (finds at_a first_tag (49 ∷ []) refl lacks_first (shown_first (turn_with rechecker ∷ []) (not_modified found_other ∷ [])));
+    others = all_but_unmodified;
+  },
 )
 
 -- ---- an update that is lost
@@ -237,7 +231,7 @@ update_head =
     subst (IsHead updater.head) (ap (λ f. record { method = codes "PUT"; target = slash_a; fields = f }) match_fields_are)
     (update_short, head_of (codes "PUT") slash_a (match_field ∷ []), (head_with_method (codes "PUT") slash_a (match_field ∷ []) (omega arith) refl (omega arith) refl text_a (All-cons IsField match_field [] is_match_field (All-nil IsField)), sym (append-nil _)), omega arith, refl)
 
-says_match : IsTagList (get_all (headers_of match_fields) (codes "if-match")) (tags (first_tag ∷ []))
+says_match : IsTagList (get_all (headers_of match_fields) (codes "if-match")) (list.tags (first_tag ∷ []))
 says_match = says_tag
 
 updates_first : UpdatesIf settings updater at_a first_tag
@@ -257,20 +251,27 @@ empties_other : Answered (Open (a ∷ []) emptying 1) (holding rewritten) (Ok (o
 unfolding meaning
 empties_other = record { as_asked = refl; refusals = refl; short = refl }
 
--- what the other client stored is lost, and all else that is asked of one request is so
-pub unconditional_put_loses_an_update :
-    Ran Asks puts_over (holding rewritten) none (Ok (unlocked_reply [])) (holding overwritten) none
-    × ¬ UpdateFinds settings earlier answers updater (unlocked_reply []) (state (holding rewritten) none)
-    × UnmodifiedFinds settings (earlier ++ turn_with updater ∷ []) (answers ++ unlocked_reply [] ∷ []) updater (unlocked_reply []) (state (holding rewritten) none)
-    × IsAsAsked updater (unlocked_reply []) (state (holding rewritten) none) (state (holding overwritten) none)
+abbrev pub losing : Step
+losing = after_them updater (unlocked_reply []) (state (holding rewritten) none) (state (holding overwritten) none)
+
+all_but_updated : (d : Clause) → d ≢ updated → Keeps d losing
+all_but_updated reading other = unsafe losing update_request Put update_head (tt, refl) refl
+all_but_updated created other = no_star losing update_request Put update_head (tt, refl) refl
+all_but_updated refused other = answered losing (λ e. omega (arith, e)) (λ e. omega (arith, e))
+all_but_updated unmodified other = no_304 losing (λ e. omega (arith, e))
+all_but_updated updated other = absurd (other refl)
+all_but_updated passed other = none_passed losing refl
+all_but_updated kept other = stand losing refl
+all_but_updated shared other = as_shared losing refl
+all_but_updated tags other = one_text_then updater (unlocked_reply []) losing.was losing.now (λ e. omega (arith, e))
+
+-- what the other client stored is lost
+pub unconditional_put_loses_an_update : Ran Asks puts_over (holding rewritten) none (Ok (unlocked_reply [])) (holding overwritten) none × BreaksOnly updated losing
 unconditional_put_loses_an_update = (
   ran_ask {c = Open (a ∷ []) emptying 1} {answer = Ok (opened 1 emptying)} (asked empties_other) ran_done,
-  λ finds. first_byte_is_gone (finds at_a first_tag (49 ∷ []) (inl (shown_first [] [])) updates_first (omega arith, omega arith)),
-  λ p tag bytes is lacks shown. absurd (omega (arith, is)),
   record {
-    reading = unsafe updater update_request Put update_head (tt, refl) (unlocked_reply []) (state (holding rewritten) none) (state (holding overwritten) none) refl;
-    created = no_star updater update_request Put update_head (tt, refl) (unlocked_reply []) (state (holding rewritten) none) (state (holding overwritten) none) refl;
-    refused = answered updater update_request Put update_head (tt, refl) (unlocked_reply []) (state (holding rewritten) none) (state (holding overwritten) none) (λ e. omega (arith, e)) (λ e. omega (arith, e));
+    broken = λ finds. first_byte_is_gone (finds at_a first_tag (49 ∷ []) (inl (shown_first [] [])) updates_first (omega arith, omega arith));
+    others = all_but_updated;
   },
 )
 
@@ -282,22 +283,25 @@ makes_unasked = do
   _ ← ask_or create_error (CreateDir (a ∷ []) 1)
   gives (made at_a)
 
--- the lock is passed, and all else that is asked of one request is so; the lock stands as before
-pub unasked_folder_passes_a_lock :
-    Ran Asks makes_unasked (holding before) one_lock (Ok (made at_a)) (holding after) one_lock
-    × (lock.shared ≡ false) × Stands lock one_lock × ¬ NamesLock lock stranger × ¬ Spared (covers lock) before after
-    × IsAsAsked stranger (made at_a) (state (holding before) one_lock) (state (holding after) one_lock)
+abbrev pub passing : Step
+passing = first_step stranger (made at_a) (state (holding before) one_lock) (state (holding after) one_lock)
+
+all_but_passed : (d : Clause) → d ≢ passed → Keeps d passing
+all_but_passed reading other = unsafe passing stranger_request MkCol stranger_head (tt, refl) refl
+all_but_passed created other = no_creation passing stranger_request MkCol stranger_head (tt, refl) (λ e. cc) (λ e. cc)
+all_but_passed refused other = answered passing (λ e. omega (arith, e)) (λ e. omega (arith, e))
+all_but_passed unmodified other = no_304 passing (λ e. omega (arith, e))
+all_but_passed updated other = untold stranger (made at_a) passing.was passing.now
+all_but_passed passed other = absurd (other refl)
+all_but_passed kept other = stand passing refl
+all_but_passed shared other = as_shared passing refl
+all_but_passed tags other = no_tag stranger (made at_a) passing.was passing.now (λ e. omega (arith, e))
+
+-- the lock stands, as before, and what it covers has changed
+pub unasked_folder_passes_a_lock : Ran Asks makes_unasked (holding before) one_lock (Ok (made at_a)) (holding after) one_lock × BreaksOnly passed passing
 unasked_folder_passes_a_lock = (
   ran_ask {c = CreateDir (a ∷ []) 1} {answer = Ok tt} (asked makes_a) ran_done,
-  refl,
-  listed_here refl,
-  other_names,
-  covered_changes lock refl,
-  record {
-    reading = unsafe stranger (request_of_head (head_with [])) MkCol stranger_head (tt, refl) (made at_a) (state (holding before) one_lock) (state (holding after) one_lock) refl;
-    created = no_creation stranger (request_of_head (head_with [])) MkCol stranger_head (tt, refl) (made at_a) (state (holding before) one_lock) (state (holding after) one_lock) (λ e. cc) (λ e. cc);
-    refused = answered stranger (request_of_head (head_with [])) MkCol stranger_head (tt, refl) (made at_a) (state (holding before) one_lock) (state (holding after) one_lock) (λ e. omega (arith, e)) (λ e. omega (arith, e));
-  },
+  record { broken = λ spares. covered_changes lock refl (spares lock refl (listed_here refl) other_names (λ e. cc)); others = all_but_passed },
 )
 
 -- ---- an exclusive lock beside another one
@@ -322,20 +326,37 @@ other_locker = record locker { principal = Some (98 ∷ []); token = Some (117 �
 one_is_shared : CoveringAreShared (lock ∷ [])
 one_is_shared i j d less small = absurd (omega (arith, less, small))
 
--- two exclusive locks cover the path, and all else that is asked of one request is so; the first stands as before
-pub unasked_grant_shares_no_path :
-    Ran Asks grants_unasked (holding before) one_lock (Ok (granted_reply false [] other_lock)) (holding before) two_locks
-    × CoveringAreShared (lock ∷ []) × ¬ CoveringAreShared (lock ∷ other_lock ∷ []) × Stands lock two_locks
-    × IsAsAsked other_locker (granted_reply false [] other_lock) (state (holding before) one_lock) (state (holding before) two_locks)
+abbrev pub sharing : Step
+sharing = first_step other_locker (granted_reply false [] other_lock) (state (holding before) one_lock) (state (holding before) two_locks)
+
+still_stands : (h : Lock) → Stands h one_lock → Stands h two_locks
+still_stands h (listed_here same) = listed_here same
+still_stands h (listed_later out) = elim out [ ]
+
+shows_tree : ShowsOnly [] (turn_with other_locker, granted_reply false [] other_lock)
+shows_tree tag others shows = absurd (let e : (granted_reply false [] other_lock).body ≡ reply.Bytes others = shows.bytes_are in cc)
+
+abbrev lock_request : Request
+lock_request = request_of_head (head_of (codes "LOCK") slash_a [])
+
+all_but_shared : (d : Clause) → d ≢ shared → Keeps d sharing
+all_but_shared reading other = unsafe sharing lock_request LockMethod lock_head (tt, refl) refl
+all_but_shared created other = no_creation sharing lock_request LockMethod lock_head (tt, refl) (λ e. cc) (λ e. cc)
+all_but_shared refused other = answered sharing (λ e. omega (arith, e)) (λ e. omega (arith, e))
+all_but_shared unmodified other = no_304 sharing (λ e. omega (arith, e))
+all_but_shared updated other = untold other_locker (granted_reply false [] other_lock) sharing.was sharing.now
+all_but_shared passed other = λ h alone is unnamed fresh. same_world h before
+all_but_shared kept other = λ h is unnamed fresh. still_stands h is
+all_but_shared shared other = absurd (other refl)
+all_but_shared tags other = shows_once other_locker (granted_reply false [] other_lock) sharing.was sharing.now shows_tree
+
+-- two exclusive locks cover the path
+pub unasked_grant_shares_no_path : Ran Asks grants_unasked (holding before) one_lock (Ok (granted_reply false [] other_lock)) (holding before) two_locks × BreaksOnly shared sharing
 unasked_grant_shares_no_path = (
   ran_look (ran_keep ran_done),
-  one_is_shared,
-  λ shared. true≢false (sym (shared 0 1 lock (omega arith) (omega arith) (a ∷ []) refl refl).0),
-  listed_here refl,
   record {
-    reading = unsafe other_locker (request_of_head (head_of (codes "LOCK") slash_a [])) LockMethod lock_head (tt, refl) (granted_reply false [] other_lock) (state (holding before) one_lock) (state (holding before) two_locks) refl;
-    created = no_creation other_locker (request_of_head (head_of (codes "LOCK") slash_a [])) LockMethod lock_head (tt, refl) (granted_reply false [] other_lock) (state (holding before) one_lock) (state (holding before) two_locks) (λ e. cc) (λ e. cc);
-    refused = answered other_locker (request_of_head (head_of (codes "LOCK") slash_a [])) LockMethod lock_head (tt, refl) (granted_reply false [] other_lock) (state (holding before) one_lock) (state (holding before) two_locks) (λ e. omega (arith, e)) (λ e. omega (arith, e));
+    broken = λ shares. true≢false (sym (shares (lock ∷ []) (lock ∷ other_lock ∷ []) refl refl one_is_shared 0 1 lock (omega arith) (omega arith) (a ∷ []) refl refl).0);
+    others = all_but_shared;
   },
 )
 

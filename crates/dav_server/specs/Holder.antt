@@ -1,5 +1,5 @@
 -- The requests of a lock's holder (RFC 4918, section 7).
-use Rattle.std.specs.Prelude.{◌≡◌, ℕ, ⊤, List, [], codes, Ok}
+use Rattle.std.specs.Prelude.{◌≡◌, ⊤, [], codes, Ok}
 use Rattle.http_header.specs.HeaderMap.{get_all}
 use Rattle.dav_core.specs.declared.method.DavMethod.{DavMethod}
 use Rattle.dav_core.specs.declared.method.DavMethod.TheVariants.{Head, Get, Put, Patch, Options, PropFind, PropPatch, MkCol, Copy, Move, Delete, Lock as LockMethod, Unlock}

@@ -1,5 +1,5 @@
 -- Paths whose numbers or lengths differ, without a look at their names.
-use Rattle.std.proofs.Common.{◌≡◌, ◌≢◌, ◌≤◌, ◌||◌, ℕ, Bool, true, false, [], ◌∷◌, ◌++◌, length, length-append, append-nil, Option, Some, None, refl, sym, ap, subst, ◌∙◌, arith}
+use Rattle.std.proofs.Common.{◌≡◌, ◌≢◌, ◌≤◌, ◌||◌, Bool, true, false, [], ◌∷◌, ◌++◌, length, length-append, append-nil, Option, Some, None, refl, sym, ap, subst, ◌∙◌, arith}
 use Rattle.std.specs.Option.{is_some}
 use Rattle.dav_core.specs.Path.{Path, is_same_path, is_under, is_at_or_under, rest_after, has_names}
 use Rattle.dav_core.proofs.Theorems.{same_path, path-itself, from_rest, rest_after-append}

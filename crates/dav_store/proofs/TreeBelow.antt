@@ -1,7 +1,7 @@
 -- The nodes at or below one, and a tree without them.
-use Rattle.std.proofs.Common.{◌≡◌, ◌≢◌, ◌+◌, ◌<◌, ◌≤◌, ℕ, zero, suc, List, [], ◌∷◌, length, map, Option, Some, None, Bool, true, false, cond, not, refl, sym, ap, subst, ◌∙◌, arith, ⊎_elim, inl, inr}
-use Rattle.std.specs.Prelude.{◌==◌, if◌then◌else◌, position, filter}
-use Rattle.std.specs.Option.{option_map, option_map_or, option_and_then, is_some, IsSome}
+use Rattle.std.proofs.Common.{◌≡◌, ◌≢◌, ◌+◌, ◌<◌, ℕ, suc, List, [], ◌∷◌, length, Option, Some, None, Bool, true, false, cond, not, refl, sym, ap, subst, ◌∙◌, arith, ⊎_elim}
+use Rattle.std.specs.Prelude.{◌==◌, position, filter}
+use Rattle.std.specs.Option.{option_map_or, option_and_then, is_some, IsSome}
 use Rattle.std.specs.Ordering.{nat_cmp, is_eq, ordering_reverse}
 use Rattle.std.specs.declared.cmp.Ordering.{Ordering}
 use Rattle.std.specs.declared.cmp.Ordering.TheVariants.{Less, Equal, Greater}
@@ -13,14 +13,14 @@ use Rattle.std.proofs.lemmas.Map.{lookup-none, length-set_value}
 use Rattle.std.proofs.lemmas.Map.Entries.{lookup-filter-keys, lookup_head, lookup_tail, none_past_head, none_below_head}
 use Rattle.std.proofs.lemmas.Map.Keys.{IsDistinct-from_sorted, sorted_tail}
 use Rattle.std.proofs.lemmas.List.Kept.{IsStrictlySortedBy-filter}
-use Rattle.dav_store.specs.Tree.{Tree, Node, IsRooted, node, with_node, without, without_place, first_number, first_child, has_children, times_listed, parent_of, place_of, unlinked_at, unlinked, deleted, subtree_deleted, is_within, is_at_or_below}
+use Rattle.dav_store.specs.Tree.{Tree, Node, IsRooted, node, with_node, without_place, first_number, first_child, has_children, times_listed, parent_of, place_of, unlinked_at, unlinked, deleted, subtree_deleted, is_within, is_at_or_below}
 use Rattle.dav_store.proofs.TreeLists.{after_one}
 use Rattle.dav_store.proofs.TreeSteps.{step_up}
 use Rattle.dav_store.proofs.TreeClimbs.{climbs_far_enough}
-use Rattle.dav_store.proofs.TreeForest.{Comes, here, above, Hangs, Drops, same_number, no_number, from_nowhere, comes_on, leaf_alone, no_parent, not_zero, no_loop, comes_after_drop, comes_before_drop}
+use Rattle.dav_store.proofs.TreeForest.{Comes, here, above, Hangs, Drops, same_number, from_nowhere, comes_on, leaf_alone, no_parent, not_zero, no_loop, comes_after_drop, comes_before_drop}
 use Rattle.dav_store.proofs.TreeNodes.{same, same_is, same_yes, same_no, times, times-cons, one_if, order-taken}
-use Rattle.dav_store.proofs.TreeHangs.{IsInOrder, up, has_up, node_up, is_there, hangs, comes_within, below_comes, comes_below, set_here, set_there, gone_here, gone_there, bare_node, Listed, where_listed, Unlinks, unlinks, drops_deleted, rooted_deleted, one_self}
-use Rattle.dav_store.proofs.TreeKept.{hit_some, times_at}
+use Rattle.dav_store.proofs.TreeHangs.{IsInOrder, up, has_up, node_up, is_there, hangs, comes_within, below_comes, comes_below, set_here, set_there, gone_here, gone_there, bare_node, Listed, where_listed, unlinks, drops_deleted, rooted_deleted, one_self}
+use Rattle.dav_store.proofs.TreeKept.{hit_some}
 
 -- ---- lists
 filter_step : {X : Type 0} (e : ℕ × X) (es : List (ℕ × X)) (ks : List ℕ) (b : Bool) → keys_of es ≡ ks → keys_of (cond b (e ∷ es) es) ≡ cond b (e.0 ∷ ks) ks

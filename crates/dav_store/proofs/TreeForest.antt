@@ -61,9 +61,6 @@ module _ {up : ℕ → Option ℕ} {listed : ℕ → ℕ → ℕ} (h : Hangs up 
   pub not_zero : (n p : ℕ) → up n ≡ Some p → 0 < n
   not_zero n p is = positive n (λ e. no_number (up 0) p h.none (ap up (sym e) ∙ is))
 
-  at_zero : {n : ℕ} → up n ≡ None → Comes up n 0 → (0 ≡ n → ⊥) → ⊥
-  at_zero none c ne = absurd (ne (from_nowhere h.none c))
-
   not_from_root : (n p a : ℕ) → a ≡ 1 → up a ≡ Some p → Comes up n p → 0 < n → ⊥
   not_from_root n p a e is c pos =
       let zero : p ≡ 0 = same_number p 0 (sym is ∙ ap up e ∙ h.root) in

@@ -1,15 +1,15 @@
 -- Where the nodes of a tree hang after each call.
-use Rattle.std.proofs.Common.{◌≡◌, ◌≢◌, ◌+◌, ◌<◌, ◌≤◌, ℕ, zero, suc, List, [], ◌∷◌, length, Option, Some, None, Bool, true, false, cond, refl, sym, ap, subst, ◌∙◌, arith, ⊎_elim, inl, inr}
+use Rattle.std.proofs.Common.{◌≡◌, ◌≢◌, ◌+◌, ◌<◌, ℕ, zero, suc, List, [], ◌∷◌, length, Option, Some, None, Bool, true, false, cond, refl, sym, ap, subst, ◌∙◌, arith, ⊎_elim}
 use Rattle.std.specs.Prelude.{◌==◌, if◌then◌else◌, position, slice_get}
 use Rattle.std.specs.Option.{option_map, option_map_or, option_and_then, is_some, IsSome}
 use Rattle.std.specs.Ordering.{nat_cmp}
 use Rattle.std.specs.Map.{keys_of}
 use Rattle.std.specs.List.Sorted.{IsStrictlySortedBy}
 use Rattle.std.proofs.lemmas.Bool.{cases_Bool, cases_eq, eqb-true, eq-eqb, ne_eqb}
-use Rattle.dav_store.specs.Tree.{Tree, Node, IsRooted, node, with_node, without, without_place, children_of, has_children, has_some, times_listed, is_within, is_at_or_below, parent_of, place_of, unlinked_at, unlinked, deleted}
+use Rattle.dav_store.specs.Tree.{Tree, Node, IsRooted, node, with_node, without, without_place, has_children, has_some, times_listed, is_within, is_at_or_below, parent_of, place_of, unlinked_at, unlinked, deleted}
 use Rattle.dav_store.proofs.TreeSteps.{step_up, at_top}
 use Rattle.dav_store.proofs.TreeClimbs.{climbs_far_enough}
-use Rattle.dav_store.proofs.TreeForest.{Comes, here, above, Hangs, Drops, hit, hit_is, hit_other, same_number, no_number, hangs_after_drop, parent_there, not_zero}
+use Rattle.dav_store.proofs.TreeForest.{Comes, here, above, Hangs, Drops, hit, hit_is, hit_other, same_number, hangs_after_drop, parent_there, not_zero}
 use Rattle.dav_store.proofs.TreeNodes.{same, same_yes, same_no, lookup-written, lookup-taken, order-taken, order-written, times, one_if, times-without_place, found}
 
 pub one_other : (n m : ℕ) → m ≢ n → one_if n m ≡ 0

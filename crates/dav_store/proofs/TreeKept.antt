@@ -1,20 +1,20 @@
 -- What holds of every tree holds after each call.
-use Rattle.std.proofs.Common.{◌≡◌, ◌≢◌, ◌+◌, ◌<◌, ◌≤◌, ℕ, zero, suc, List, [], ◌∷◌, length, Option, Some, None, Bool, true, false, cond, refl, sym, ap, subst, ◌∙◌, arith, ⊎_elim, inl, inr, add-zero}
+use Rattle.std.proofs.Common.{◌≡◌, ◌≢◌, ◌+◌, ◌<◌, ℕ, zero, List, [], ◌∷◌, Option, Some, None, Bool, true, false, cond, refl, sym, ap, subst, ◌∙◌, arith, ⊎_elim}
 use Rattle.std.specs.Prelude.{◌==◌, ◌||◌, not, if◌then◌else◌, is_none, slice_get}
-use Rattle.std.specs.Option.{option_or, option_map, option_map_or, option_and_then, is_some, IsSome}
+use Rattle.std.specs.Option.{option_or, option_map, option_map_or, option_and_then, IsSome}
 use Rattle.dav_core.specs.Numbers.{max_u64}
 use Rattle.std.specs.Ordering.{nat_cmp}
 use Rattle.std.specs.Map.{lookup, keys_of}
 use Rattle.std.specs.List.{AllZip}
 use Rattle.std.specs.List.Sorted.{IsStrictlySortedBy}
-use Rattle.std.proofs.lemmas.Bool.{cases_Bool, cases_eq, eqb-true, eqb-false, eq-eqb, ne_eqb, or_parts}
+use Rattle.std.proofs.lemmas.Bool.{cases_Bool, cases_eq, eqb-false, eq-eqb, ne_eqb, or_parts}
 use Rattle.indexmap.specs.IndexMap.{insert_entry as put_key}
 use Rattle.dav_core.specs.declared.errors.FsError.{FsError}
 use Rattle.dav_core.specs.declared.errors.FsError.TheVariants.{NotFound, Exists, Forbidden, GeneralFailure}
-use Rattle.dav_store.specs.Tree.{Tree, Node, IsRooted, IsListedAs, IsCloneOfNode, IsCloneOfTree, NoneAbove, node, with_node, with_value, without, without_old, children_of, has_children, times_listed, parent_of, place_of, unlinked_at, linked, seated, child, is_child, is_at_or_below, moved_over, moved, root_id, delete_refusal, add_refusal, move_refusal, leaf, grown, added, single, key_refusal}
-use Rattle.dav_store.proofs.TreeForest.{Comes, here, above, Hangs, hit, hit_is, hit_other, same_number, no_number, leaf_alone, no_parent, not_zero, parent_there}
+use Rattle.dav_store.specs.Tree.{Tree, Node, IsRooted, IsListedAs, IsCloneOfNode, IsCloneOfTree, node, with_node, with_value, has_children, times_listed, parent_of, place_of, unlinked_at, linked, seated, child, is_child, is_at_or_below, moved_over, moved, root_id, add_refusal, move_refusal, leaf, grown, added, single, key_refusal}
+use Rattle.dav_store.proofs.TreeForest.{here, Hangs, hit, hit_is, hit_other, same_number, no_number, leaf_alone, no_parent, not_zero, parent_there}
 use Rattle.dav_store.proofs.TreeNodes.{same, same_yes, same_no, same_is, lookup-put, order-written, order-put, times, times-cons, one_if, times-put_key, place-put_key}
-use Rattle.dav_store.proofs.TreeHangs.{IsInOrder, up, has_up, comes_below, node_up, is_there, hangs, rooted, set_here, set_there, with_children, Listed, where_listed, Unlinks, unlinks_at, unlisted_elsewhere, unlisted_zero, one_other, one_self}
+use Rattle.dav_store.proofs.TreeHangs.{IsInOrder, up, has_up, comes_below, node_up, hangs, rooted, set_here, set_there, Listed, where_listed, Unlinks, unlinks_at, unlisted_elsewhere, unlisted_zero, one_other, one_self}
 use Rattle.dav_store.proofs.TreePlaces.{part, part_yes, part_no, part_zero, times_old, Placed, OldIs, rooted_placed}
 
 pub hit_some : (o : Option ℕ) (p : ℕ) → 0 < hit o p → o ≡ Some p

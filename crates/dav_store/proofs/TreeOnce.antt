@@ -1,5 +1,5 @@
 -- That each node has one place, and what deleting below a node leaves of the numbers.
-use Rattle.std.proofs.Common.{◌≡◌, ◌≢◌, ◌+◌, ◌<◌, ℕ, List, [], ◌∷◌, Option, Some, None, Bool, true, false, cond, not, refl, sym, ap, subst, ◌∙◌, arith}
+use Rattle.std.proofs.Common.{◌≡◌, ◌<◌, ℕ, List, [], ◌∷◌, Option, Some, None, Bool, true, false, cond, not, refl, sym, ap, subst, ◌∙◌, arith}
 use Rattle.std.specs.Option.{option_map, option_map_or, option_and_then, is_some, IsSome}
 use Rattle.std.specs.Map.{lookup}
 use Rattle.std.specs.Prelude.{◌==◌, IfSome, OnSome, position, slice_get, get_or}
@@ -9,11 +9,11 @@ use Rattle.std.proofs.lemmas.Bool.{eqb-true}
 use Rattle.std.proofs.lemmas.List.Quantifiers.{position-Some}
 use Rattle.std.proofs.lemmas.Option.{slice_get-get_or, get_or_from_slice_get}
 use Rattle.std.specs.Cmp.{IsEquivalence}
-use Rattle.dav_store.specs.Tree.{Tree, Node, IsRooted, IsFoundUnderKey, NoneAbove, node, child, children_of, parent_of, place_of, times_listed, unlinked, subtree_deleted, is_at_or_below}
+use Rattle.dav_store.specs.Tree.{Tree, Node, IsRooted, IsFoundUnderKey, node, child, children_of, parent_of, place_of, times_listed, unlinked, subtree_deleted, is_at_or_below}
 use Rattle.dav_store.specs.TreeLaws.{HandsOutNone, HasOnePlaceEach, FindsChildren, IsFound, IsFoundOnce, ClimbsToTheRoot, KeepsNumbersBelow}
-use Rattle.dav_store.proofs.TreeForest.{Hangs, hit_is, same_number, no_number, parent_there}
+use Rattle.dav_store.proofs.TreeForest.{hit_is, same_number, no_number, parent_there}
 use Rattle.dav_store.proofs.TreeNumbers.{child_removed, still_none_above}
-use Rattle.dav_store.proofs.TreeHangs.{up, has_up, node_up, is_there, hangs, Listed, where_listed, unlisted_elsewhere, one_self}
+use Rattle.dav_store.proofs.TreeHangs.{up, has_up, node_up, is_there, hangs, where_listed, unlisted_elsewhere, one_self}
 use Rattle.dav_store.proofs.TreeNodes.{times, times-cons, one_if}
 use Rattle.dav_store.proofs.TreeKept.{looked_up, times_at, child_at, old_up}
 use Rattle.dav_store.proofs.TreeBelow.{node_left, none_either}

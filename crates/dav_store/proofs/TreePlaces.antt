@@ -1,14 +1,12 @@
 -- Trees in which a node takes a place: what holds of each tree still holds.
-use Rattle.std.proofs.Common.{◌≡◌, ◌≢◌, ◌+◌, ◌<◌, ◌≤◌, ℕ, zero, suc, List, [], ◌∷◌, length, Option, Some, None, Bool, true, false, cond, refl, sym, ap, subst, ◌∙◌, arith, ⊎_elim, inl, inr, add-zero}
-use Rattle.std.specs.Prelude.{◌==◌, ◌||◌, not, if◌then◌else◌, is_none, slice_get}
-use Rattle.std.specs.Option.{option_map, option_map_or, option_and_then, is_some, IsSome}
-use Rattle.std.specs.Map.{lookup}
-use Rattle.std.proofs.lemmas.Bool.{cases_Bool, cases_eq, eqb-true, eq-eqb, ne_eqb}
-use Rattle.indexmap.specs.IndexMap.{insert_entry as put_key}
-use Rattle.dav_store.specs.Tree.{Tree, Node, IsRooted, node, with_node, without, without_old, children_of, has_children, times_listed, parent_of, place_of, unlinked_at, linked, seated, child, is_child, moved_over, leaf, grown}
-use Rattle.dav_store.proofs.TreeForest.{Comes, here, above, Hangs, Puts, hit, hit_is, hit_other, same_number, no_number, hangs_after_put, no_loop, not_zero, parent_there}
-use Rattle.dav_store.proofs.TreeNodes.{same, same_yes, same_no, lookup-put, order-taken, order-written, order-put, times, times-cons, one_if, times-put_key, place-put_key}
-use Rattle.dav_store.proofs.TreeHangs.{IsInOrder, up, has_up, node_up, is_there, hangs, rooted, set_here, set_there, gone_here, gone_there, with_children, bare_node, Listed, where_listed, Unlinks, unlinks_at, unlisted_elsewhere, one_other, one_self}
+use Rattle.std.proofs.Common.{◌≡◌, ◌≢◌, ◌+◌, ◌<◌, ℕ, zero, [], Option, Some, None, Bool, true, false, cond, refl, sym, ap, ◌∙◌, arith, ⊎_elim}
+use Rattle.std.specs.Prelude.{◌==◌, if◌then◌else◌}
+use Rattle.std.specs.Option.{option_map, option_map_or}
+use Rattle.std.proofs.lemmas.Bool.{cases_eq, eqb-true, eq-eqb, ne_eqb}
+use Rattle.dav_store.specs.Tree.{Tree, IsRooted, node, without, without_old, has_children, times_listed}
+use Rattle.dav_store.proofs.TreeForest.{Comes, here, Hangs, Puts, hit, hit_is, same_number, no_number, hangs_after_put, no_loop, not_zero}
+use Rattle.dav_store.proofs.TreeNodes.{same, order-taken, times, one_if}
+use Rattle.dav_store.proofs.TreeHangs.{IsInOrder, up, rooted, gone_here, gone_there, bare_node, unlisted_elsewhere, one_other, one_self}
 
 -- a number that counts where two are the same
 abbrev pub part : ℕ → ℕ → ℕ → ℕ

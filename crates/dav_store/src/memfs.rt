@@ -9,6 +9,8 @@ ghost use Rattle.dav_core.specs.Property.{patched, patch_of, without_xml, patche
 
 mod filesystem;
 #[cfg(test)]
+mod listed;
+#[cfg(test)]
 mod tests;
 
 use crate::entries::{self, Entries, changes, listing};

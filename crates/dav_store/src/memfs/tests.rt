@@ -162,16 +162,16 @@ link / -> folder, number 0, created 0, modified 0
 
 // The store that rows are played on, with one open file and the entries that were listed last.
 #[derive(Drop)]
-struct Played<F: DavFileSystem> {
+pub(super) struct Played<F: DavFileSystem> {
     fs: F,
     file: Option<F::File>,
     entries: Vec<F::Entry>,
 }
 
 // A row: the name of a call and its arguments.
-type Row<'a> = [&'a str; 4];
+pub(super) type Row<'a> = [&'a str; 4];
 
-fn row(line: &str) -> Row<'_> {
+pub(super) fn row(line: &str) -> Row<'_> {
     let (call, rest) = line.split_once(' ').unwrap_or((line, ""));
     let (first, rest) = rest.split_once(' ').unwrap_or((rest, ""));
     let (second, third) = rest.split_once(' ').unwrap_or((rest, ""));
@@ -179,7 +179,7 @@ fn row(line: &str) -> Row<'_> {
 }
 
 // An owned text; no row expects the error for memory.
-fn text(alloc: Global, text: &str) -> FsResult<String> {
+pub(super) fn text(alloc: Global, text: &str) -> FsResult<String> {
     String::from_str(alloc, text).map_err(|_| FsError::InsufficientStorage)
 }
 
@@ -187,7 +187,7 @@ fn path(alloc: Global, text: &str) -> FsResult<DavPath> {
     DavPath::new(alloc, text).map_err(|_| FsError::PathTooLong)
 }
 
-fn moment(text: &str) -> u64
+pub(super) fn moment(text: &str) -> u64
     ensures { result < 1000 }
 {
     match text.parse::<u64>() {
@@ -210,7 +210,7 @@ fn options(words: &str) -> OpenOptions {
 }
 
 // The metadata of a file or folder, as text.
-fn shown(alloc: Global, found: &DavMetaData) -> FsResult<String> {
+pub(super) fn shown(alloc: Global, found: &DavMetaData) -> FsResult<String> {
     let number = found.number.unwrap_or(u64::MAX);
     let (created, modified) = (found.created, found.modified);
     let text = if found.dir {
@@ -243,7 +243,7 @@ fn readable(alloc: Global, bytes: &[u8]) -> FsResult<String> {
 
 impl<F: DavFileSystem> Played<F> {
     // Makes the call of a row, and returns its answer as text.
-    fn play(&mut self, alloc: Global, row: Row<'_>) -> FsResult<String> {
+    pub(super) fn play(&mut self, alloc: Global, row: Row<'_>) -> FsResult<String> {
         match row[0] {
             "mkdir" | "rmdir" | "remove" | "rename" | "copy" => self.change(alloc, row),
             "open" | "told" | "flush" | "seek" => self.handle(alloc, row),
@@ -466,7 +466,7 @@ fn answered(alloc: Global, status: StatusCode, property: &DavProp) -> FsResult<S
 }
 
 // A new store, whose next change takes this number.
-fn begun(alloc: Global, next: u64) -> Result<Played<MemFs>, Fail> {
+pub(super) fn begun(alloc: Global, next: u64) -> Result<Played<MemFs>, Fail> {
     Ok(Played {
         fs: MemFs::new_at(alloc, next)?,
         file: None,

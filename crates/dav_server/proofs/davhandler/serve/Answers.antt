@@ -3,9 +3,9 @@ use Rattle.dav_engine.specs.AtWork.{PutOf, MkcolOf, DeleteOf, CopyMoveOf, Option
 use Rattle.dav_engine.specs.CopyMove.{IsCopyMove}
 use Rattle.dav_engine.specs.Put.{IsPut}
 use Rattle.dav_server.specs.Get.{IsGet, GetOf}
-use Rattle.dav_server.specs.Machine.{client, gets, heads, puts, patches, makes, deletes, copies, moves, offers, finds_properties, sets_properties, locks, releases}
+use Rattle.dav_server.specs.Machine.{client, gets, heads, puts, patches, makes, deletes, copies, moves, finds_properties, sets_properties, locks, releases}
 use Rattle.dav_server.proofs.MethodLemmas.{offered_plan}
-use Rattle.dav_server.proofs.StepLemmas.{serves_as, serves_asked, serves_by, serves_held, serves_set, serves_error, plan_at}
+use Rattle.dav_server.proofs.StepLemmas.{serves_as, serves_asked, serves_by, serves_held, serves_set, plan_at}
 use Rattle.dav_server.proofs.davhandler.serve.Goals as goal
 
 pub returns-in-Get-clause-serves : goal.returns-in-Get-clause-serves

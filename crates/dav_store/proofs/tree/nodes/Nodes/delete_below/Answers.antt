@@ -2,7 +2,7 @@ use Rattle.std.proofs.Common.{◌≡◌, ◌<◌, true, length, ap, sym, subst, 
 use Rattle.std.specs.Option.{IsSome}
 use Rattle.dav_store.specs.Tree.{IsRooted, node, has_children, is_at_or_below, deleted, subtree_deleted}
 use Rattle.dav_store.proofs.TreeHangs.{rooted_deleted}
-use Rattle.dav_store.proofs.TreeBelow.{Shrinks, shrinks, last_goes, below_on}
+use Rattle.dav_store.proofs.TreeBelow.{shrinks, last_goes, below_on}
 use Rattle.dav_store.proofs.tree.nodes.Nodes.delete_below.Goals as goal
 
 -- src/tree/nodes.rt

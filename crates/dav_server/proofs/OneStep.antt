@@ -1,0 +1,155 @@
+-- What the clauses of a run ask of one step, and steps that keep all of them but one.
+use Rattle.std.proofs.Common.{◌≡◌, ◌≢◌, ◌++◌, ℕ, true, false, true≢false, List, [], ◌∷◌, All, Contains, codes, Some, Ok, inl, inr, refl, sym, ap, subst, ◌∙◌}
+use Rattle.std.proofs.lemmas.List.Elements.{All-nil, All-cons, All-contains}
+use Rattle.std.specs.List.{zip}
+use Rattle.http_header.specs.FieldValue.{FieldValue}
+use Rattle.http_header.specs.HeaderMap.{get_all}
+use Rattle.dav_core.specs.declared.method.DavMethod.{DavMethod}
+use Rattle.dav_core.specs.declared.method.DavMethod.TheVariants.{Put, Patch}
+use Rattle.dav_core.specs.LockLaws.{CoveringAreShared}
+use Rattle.dav_core.specs.Locks.{Lock, covers}
+use Rattle.dav_core.specs.World.{World}
+use Rattle.dav_headers.specs.ETagList.{IsTagList, star as every_tag}
+use Rattle.dav_engine.specs.Guard.{Stands}
+use Rattle.dav_engine.specs.Plan.{ServerState}
+use Rattle.dav_engine.specs.Response.{Response}
+use Rattle.dav_engine.specs.Sparing.{Spared}
+use Rattle.dav_server.specs.EachRequest.{UnmodifiedFinds, UpdateFinds}
+use Rattle.dav_server.specs.Head.{Request, IsHead}
+use Rattle.dav_server.specs.Headers.{headers_of}
+use Rattle.dav_server.specs.Leaving.{SafeLeaves, CreateOnlyLeaves, RefusedStatusLeaves}
+use Rattle.dav_server.specs.Machine.{Asked}
+use Rattle.dav_server.specs.Method.{GivesServed}
+use Rattle.dav_server.specs.Naming.{NamesToken, NamesLock}
+use Rattle.dav_server.specs.Run.{Turn}
+use Rattle.dav_server.specs.TagLaws.{is_safe, Shows, EqualTagsShowEqualBytes}
+use Rattle.dav_server.specs.UpdateLaws.{is_update, IsSuccess}
+use Rattle.dav_server.proofs.HeadLemmas.{one_head}
+use Rattle.dav_server.proofs.MeansWorld.{asks_one}
+use Rattle.dav_server.proofs.WorkedRun.{turn_with, settings, no_tags}
+
+-- a request, the turns before it with their replies, its own reply, and the server before it and after it
+pub record Step : Type 0 where
+  pub turns : List Turn
+  pub replies : List Response
+  pub asked : Asked
+  pub reply : Response
+  pub was : ServerState
+  pub now : ServerState
+
+-- the clauses of a run that ask something of each step, under the names that they have in the contract of a run
+pub data Clause : Type 0 where
+  reading : Clause
+  created : Clause
+  refused : Clause
+  unmodified : Clause
+  updated : Clause
+  passed : Clause
+  kept : Clause
+  shared : Clause
+  tags : Clause
+
+-- what each of them asks of a step
+abbrev pub Keeps : Clause → Step → Type 0
+Keeps reading s = SafeLeaves s.asked s.was s.now
+Keeps created s = CreateOnlyLeaves settings s.asked s.reply s.was s.now
+Keeps refused s = RefusedStatusLeaves s.asked s.reply s.was s.now
+Keeps unmodified s = UnmodifiedFinds settings (s.turns ++ turn_with s.asked ∷ []) (s.replies ++ s.reply ∷ []) s.asked s.reply s.was
+Keeps updated s = UpdateFinds settings s.turns s.replies s.asked s.reply s.was
+Keeps passed s = (h : Lock) → h.shared ≡ false → Stands h s.was.locks → ¬ NamesLock h s.asked → s.asked.token ≢ Some h.token → Spared (covers h) s.was.store.world s.now.store.world
+Keeps kept s = (h : Lock) → Stands h s.was.locks → ¬ NamesToken s.asked h.token → s.asked.token ≢ Some h.token → Stands h s.now.locks
+Keeps shared s = (ls ms : List Lock) → s.was.locks ≡ Some ls → s.now.locks ≡ Some ms → CoveringAreShared ls → CoveringAreShared ms
+Keeps tags s = EqualTagsShowEqualBytes (s.turns ++ turn_with s.asked ∷ []) (s.replies ++ s.reply ∷ [])
+
+-- a step that keeps all of them
+abbrev pub KeepsAll : Step → Type 0
+KeepsAll s = (d : Clause) → Keeps d s
+
+-- one that breaks this clause, and keeps all others
+pub record BreaksOnly (c : Clause) (s : Step) : Type 0 where
+  pub broken : ¬ Keeps c s
+  pub others : (d : Clause) → d ≢ c → Keeps d s
+
+-- ---- what changes nothing
+
+pub same_world : (h : Lock) (w : World) → Spared (covers h) w w
+same_world h w = record { same = λ q within. refl; above = λ p q under within is. is }
+
+-- where the list of locks stays, locks stand, and are shared as before
+pub stand : (s : Step) → s.now.locks ≡ s.was.locks → Keeps kept s
+stand s same h is unnamed fresh = subst (Stands h) (sym same) is
+
+pub some_list : {ls ms : List Lock} → Some ls ≡ Some ms → ls ≡ ms
+some_list is = cc
+
+pub as_shared : (s : Step) → s.now.locks ≡ s.was.locks → Keeps shared s
+as_shared s same ls ms were are shares = subst CoveringAreShared (some_list (sym were ∙ sym same ∙ are)) shares
+
+-- where no lock stands, none is passed
+pub none_passed : (s : Step) → s.was.locks ≡ Some [] → Keeps passed s
+none_passed s none h alone is unnamed fresh = let on : Stands h (Some []) = subst (Stands h) none is in elim on [ ]
+
+-- ---- what is asked of other requests
+
+-- a request of this method, with this head
+module _ (s : Step) (r : Request) (m : DavMethod) (head : IsHead s.asked.head r) (served : GivesServed r.method (Ok m)) where
+  pub unsafe : is_safe m ≡ false → Keeps reading s
+  unsafe is (n, asks, safe) = absurd (true≢false (sym safe ∙ ap is_safe (sym (asks_one s.asked n asks head served)) ∙ is))
+
+  pub no_creation : m ≢ Put → m ≢ Patch → Keeps created s
+  no_creation no_put no_patch p n (q, k, also, has, inl writes, named, says) there = absurd (no_put (asks_one s.asked k (q, also, has) head served ∙ writes))
+  no_creation no_put no_patch p n (q, k, also, has, inr writes, named, says) there = absurd (no_patch (asks_one s.asked k (q, also, has) head served ∙ writes))
+
+  pub no_star : get_all (headers_of r.fields) (codes "if-none-match") ≡ [] → Keeps created s
+  no_star empty p n (q, k, also, has, writes, named, says) there =
+      let same : q ≡ r = one_head s.asked.head q r also head in
+      absurd (no_tags every_tag (subst (λ (values : List FieldValue). IsTagList values every_tag) (ap (λ (z : Request). get_all (headers_of z.fields) (codes "if-none-match")) same ∙ empty) says))
+
+pub answered : (s : Step) → s.reply.status ≢ 412 → s.reply.status ≢ 423 → Keeps refused s
+answered s one other (inl is) fresh = absurd (one is)
+answered s one other (inr is) fresh = absurd (other is)
+
+pub no_304 : (s : Step) → s.reply.status ≢ 304 → Keeps unmodified s
+no_304 s other p tag bytes is lacks shown = absurd (other is)
+
+-- ---- what was told
+
+nothing : {X : Type 0} (x : X) → ¬ Contains [] x
+nothing x is = All-contains (λ y. ⊥) [] x (All-nil (λ y. ⊥)) is
+
+-- one that fails, or that asks for no update, finds no bytes
+pub no_success : (s : Step) → ¬ IsSuccess s.reply.status → Keeps updated s
+no_success s fails p tag bytes told updates good = absurd (fails good)
+
+pub no_update : (s : Step) (r : Request) (m : DavMethod) → IsHead s.asked.head r → GivesServed r.method (Ok m) → is_update m ≡ false → Keeps updated s
+no_update s r m head served is p tag bytes told (q, n, also, has, updates, named, asks) good =
+    absurd (true≢false (sym updates ∙ ap is_update (sym (asks_one s.asked n (q, also, has) head served)) ∙ is))
+
+-- all replies that show bytes show these
+abbrev pub ShowsOnly : List ℕ → Turn × Response → Type 0
+ShowsOnly bytes e = (tag others : List ℕ) → Shows tag others e.1 → others ≡ bytes
+
+pub shows_nothing : (bytes : List ℕ) (t : Turn) (reply : Response) → reply.status ≢ 200 → ShowsOnly bytes (t, reply)
+shows_nothing bytes t reply other tag others shows = absurd (other shows.status)
+
+pub one_text : (ts : List Turn) (replies : List Response) (bytes : List ℕ) → All (ShowsOnly bytes) (zip ts replies) → EqualTagsShowEqualBytes ts replies
+one_text ts replies bytes all tag b c (t, r, has, get, shows) (u, q, also, got, shown) =
+    All-contains (ShowsOnly bytes) (zip ts replies) (t, r) all has tag b shows
+    ∙ sym (All-contains (ShowsOnly bytes) (zip ts replies) (u, q) all also tag c shown)
+
+-- ---- a first request
+
+abbrev pub first_step : Asked → Response → ServerState → ServerState → Step
+first_step x reply was now = record { turns = []; replies = []; asked = x; reply = reply; was = was; now = now }
+
+module _ (x : Asked) (reply : Response) (was now : ServerState) where
+  -- nothing was told before it
+  pub untold : Keeps updated (first_step x reply was now)
+  untold p tag bytes (inl (t, r, has, get, shows)) updates good = absurd (nothing (t, r) has)
+  untold p tag bytes (inr (t, r, has, puts, tells)) updates good = absurd (nothing (t, r) has)
+
+  pub shows_once : ShowsOnly [] (turn_with x, reply) → Keeps tags (first_step x reply was now)
+  shows_once only = one_text (turn_with x ∷ []) (reply ∷ []) [] (All-cons (ShowsOnly []) (turn_with x, reply) [] only (All-nil (ShowsOnly [])))
+
+  pub no_tag : reply.status ≢ 200 → Keeps tags (first_step x reply was now)
+  no_tag other = shows_once (shows_nothing [] (turn_with x) reply other)
