@@ -1,16 +1,14 @@
--- A reply as JSON has no fraction, so its text is known.
-use Rattle.std.proofs.Common.{◌≡◌, List, [], ◌∷◌, Bool, true, false, true≢false, refl, Ordering, Less, Equal, Greater, nat_cmp}
+-- The text of a reply, by the texts of its parts.
+use Rattle.std.proofs.Common.{◌≡◌, ◌++◌, List, [], ◌∷◌, Bool, true, false, true≢false, codes, decimal, Result, Ok, Err, IfOk, refl, sym, ap, ◌∙◌, append_assoc, Ordering, Less, Equal, Greater, nat_cmp}
 use Rattle.std.specs.Cmp.Lexicographic.{slice_cmp}
 use Rattle.std.specs.Ordering.{match_ordering}
 use Rattle.std.specs.Prelude.{ℕ, ◌||◌}
 use Rattle.std.specs.Str.Lossy.{utf8_lossy}
+use Rattle.json.specs.Print.{escape_byte}
 use Rattle.serde_json.specs.Data.{string, Members, no_members, member, put}
-use Rattle.serde_json.specs.Written.{has_float, members_have_float}
-use Rattle.dav_run.specs.Print.{headers_over, body_data, reply_data}
+use Rattle.serde_json.specs.Written.{compact_text, has_float, members_have_float, members_text}
+use Rattle.dav_run.specs.Print.{body_data, headers_data, headers_over, line_of, rest_members}
 use Rattle.dav_engine.specs.Response.{Response, Header}
-use Rattle.dav_engine.specs.declared.reply.ReplyBody.{ReplyBody}
-use Rattle.dav_engine.specs.declared.reply.ReplyBody.TheVariants.{Nothing, Bytes, Tree}
-use Rattle.dav_run.proofs.TreeLemmas.{tree_body_plain}
 
 neither : (a b : Bool) → (a || b) ≡ false → (a ≡ false) × (b ≡ false)
 neither false b h = (refl, h)
@@ -38,13 +36,33 @@ headers_plain : (hs : List Header) (found : Members) → members_have_float foun
 headers_plain [] found h = h
 headers_plain (x ∷ hs) found h = headers_plain hs (put x.0 (string (utf8_lossy x.1)) found) (text_put x.0 (utf8_lossy x.1) found h)
 
-body_plain : (b : ReplyBody) → has_float (body_data b) ≡ false
-body_plain Nothing = refl
-body_plain (Bytes bytes) = refl
-body_plain (Tree tree) = tree_body_plain tree
+-- the headers as JSON have no fraction
+pub no_fraction : (r : Response) → has_float (headers_data r.headers) ≡ false
+no_fraction r = headers_plain r.headers no_members refl
 
--- a reply's JSON has no fraction
-pub reply_plain : (r : Response) → has_float (reply_data r) ≡ false
-reply_plain r =
-    both (has_float (body_data r.body)) _ (body_plain r.body)
-    (both (members_have_float (headers_over r.headers no_members)) _ (headers_plain r.headers no_members refl) refl)
+-- what follows the body, by the text of the headers
+pub rest_of : (r : Response) (headers : List ℕ) → headers ≡ compact_text (headers_data r.headers)
+    → codes ",\"headers\":" ++ (headers ++ (codes ",\"status\":" ++ (decimal r.status ++ codes "}\n"))) ≡ members_text true (rest_members r) ++ 10 ∷ []
+unfolding escape_byte
+rest_of r headers is =
+    let status = decimal r.status in
+    let texts = compact_text (headers_data r.headers) in
+    ap (λ (s : List ℕ). codes ",\"headers\":" ++ (s ++ (codes ",\"status\":" ++ (status ++ codes "}\n")))) is
+    ∙ ap (λ (s : List ℕ). codes ",\"headers\":" ++ (texts ++ (codes ",\"status\":" ++ s))) (sym (append_assoc status (125 ∷ []) (10 ∷ [])))
+    ∙ ap (λ (s : List ℕ). codes ",\"headers\":" ++ s) (sym (append_assoc texts (codes ",\"status\":" ++ (status ++ 125 ∷ [])) (10 ∷ [])))
+
+-- the beginning with the body, and what follows it
+pub whole_line : (r : Response) (begun rest : List ℕ) → begun ≡ codes "{\"body\":" ++ compact_text (body_data r.body) → rest ≡ members_text true (rest_members r) ++ 10 ∷ []
+    → begun ++ rest ≡ line_of r
+unfolding escape_byte
+whole_line r begun rest is same =
+    let body = compact_text (body_data r.body) in
+    let more = members_text true (rest_members r) in
+    ap (λ (s : List ℕ). s ++ rest) is
+    ∙ ap (λ (s : List ℕ). (codes "{\"body\":" ++ body) ++ s) same
+    ∙ ap (λ (s : List ℕ). codes "{\"body\":" ++ s) (sym (append_assoc body more (10 ∷ [])))
+
+-- a text that was made is an equal one
+pub written : {S E : Type 0} (seen : S → List ℕ) (result : Result S E) (a b : List ℕ) → a ≡ b → IfOk result (λ s. seen s ≡ a) → IfOk result (λ s. seen s ≡ b)
+written seen (Ok s) a b same is = is ∙ same
+written seen (Err e) a b same is = tt

@@ -1,6 +1,7 @@
 -- From the bytes of a script to the lines that are written.
 use Rattle.std.proofs.Common.{◌≡◌, ℕ, zero, suc, inl, inr, List, [], ◌∷◌, ◌++◌, take, drop, Option, Some, None, Result, Ok, Err, OnOk, IfSome, IsSomeAnd, refl, sym, ap, subst, ◌∙◌, append_assoc, append-nil}
 use Rattle.std.specs.Prelude.{◌⊎◌}
+use Rattle.std.proofs.lemmas.Grind.{flat_map-append}
 use Rattle.std.proofs.lemmas.List.{take-append-drop}
 use Rattle.std.specs.Io.KnownBytes.{Appends}
 use Rattle.serde_json.specs.Data.{Data}
@@ -12,9 +13,11 @@ use Rattle.dav_server.specs.Machine.{Settings}
 use Rattle.dav_server.specs.Run.{Turn, Runs, no_more, one_more}
 use Rattle.dav_server.specs.Server.{Server, AnswersAll, AnswersSome}
 use Rattle.dav_server.specs.Setup.{IsPrefix}
+use Rattle.dav_server.proofs.Theorems.{runs_join}
 use Rattle.dav_run.specs.declared.play.Fault.{Fault}
 use Rattle.dav_run.specs.Script as script
 use Rattle.dav_run.specs.Script.{ScriptContent, IsShort, IsScript, IsScriptValue}
+use Rattle.dav_run.specs.Print.{line_of, lines_of}
 use Rattle.dav_run.specs.Play.{Plays, PlaysSome, IsPlayable, RunsSome, AreReplies, AreFirstReplies, AreAloneReplies, AreFirstAloneReplies, Follows}
 
 -- ---- a script has one prefix
@@ -163,3 +166,28 @@ module _ (o : Option (List ℕ)) (s : ScriptContent) (read : IfSome o (λ text. 
 pub none_played : (o : Option (List ℕ)) (a : Option (List ℕ)) → IfSome o (λ text. (lines : List ℕ) × PlaysSome text lines × Appends a a lines)
 none_played None a = tt
 none_played (Some text) a = ([], inl refl, appends_nothing a)
+
+-- ---- one step after another
+
+-- a run, and one from what it left
+pub joined : {old mid : Server} {ts us : List Turn} {before after : List Response} (new : Server) → mid.settings ≡ old.settings
+    → AnswersAll old ts before mid → AnswersAll mid us after new → AnswersAll old (ts ++ us) (before ++ after) new
+joined {old} {mid} {ts} {us} {before} {after} new same one two =
+    runs_join old.settings ts us old.state.store mid.state.store new.state.store old.state.locks mid.state.locks new.state.locks before after one
+    (subst (λ (s : Settings). Runs s us mid.state.store mid.state.locks after new.state.store new.state.locks) same two)
+
+-- the same, where memory ran out in the second; the rest was to come
+pub some_joined : {old mid : Server} {all ts us : List Turn} {before after : List Response} (rest : List Turn) → mid.settings ≡ old.settings → all ≡ (ts ++ us) ++ rest
+    → AnswersAll old ts before mid → RunsSome mid us after → RunsSome old all (before ++ after)
+some_joined {old} {mid} {all} {ts} {us} {before} {after} rest same parts one (first, more, left, split, run) =
+    let end : ServerState = left.state in (
+      ts ++ first,
+      more ++ rest,
+      record { settings = old.settings; state = end },
+      parts ∙ ap (λ (l : List Turn). (ts ++ l) ++ rest) split ∙ ap (λ (l : List Turn). l ++ rest) (sym (append_assoc ts first more)) ∙ append_assoc (ts ++ first) more rest,
+      joined left same one run,
+    )
+
+-- the lines of some replies, and then those of others
+pub more_written : (a b c : Option (List ℕ)) (rs ss : List Response) → Appends a b (lines_of rs) → Appends b c (lines_of ss) → Appends a c (lines_of (rs ++ ss))
+more_written a b c rs ss p q = subst (Appends a c) (sym (flat_map-append line_of rs ss)) (appends_both a b c (lines_of rs) (lines_of ss) p q)

@@ -25,13 +25,15 @@ headers_over (h ∷ more) found = headers_over more (put h.0 (string (utf8_lossy
 abbrev pub headers_data : List Header → Data
 headers_data headers = object (headers_over headers no_members)
 
+-- what a reply has besides its body
+abbrev pub rest_members : Response → Members
+rest_members r =
+    member (codes "headers") (headers_data r.headers)
+    (member (codes "status") (number (unsigned r.status)) no_members)
+
 -- a reply as an object
 abbrev pub reply_data : Response → Data
-reply_data r =
-    object
-    (member (codes "body") (body_data r.body)
-    (member (codes "headers") (headers_data r.headers)
-    (member (codes "status") (number (unsigned r.status)) no_members)))
+reply_data r = object (member (codes "body") (body_data r.body) (rest_members r))
 
 -- the line of a reply: its JSON text without white space, and a newline
 abbrev pub line_of : Response → List ℕ

@@ -1,7 +1,11 @@
 -- An element tree as JSON (RFC 8259).
-use Rattle.std.specs.Prelude.{ℕ, List, map, codes, Option, Some, None}
+use Rattle.std.specs.Prelude.{◌≡◌, ◌++◌, ℕ, List, map, codes, Option, Some, None}
+use Rattle.json.specs.Token.{Token}
+use Rattle.json.specs.Tree.{json_tokens}
+use Rattle.json.specs.Written.{Written}
 use Rattle.serde_json.specs.Data.{Data, null, string, array, object, Items, no_items, item, no_members, member}
 use Rattle.serde_json.specs.View.{items_of}
+use Rattle.serde_json.specs.Written.{outline}
 use Rattle.dav_core.specs.Element.{ElementTree, element, text, ElementTrees, no_trees, tree_then}
 
 -- a text, or null where there is none
@@ -33,3 +37,14 @@ abbrev mutual
 -- a body that is a tree, as an object with the one member `element`
 abbrev pub tree_body : ElementTree → Data
 tree_body tree = object (member (codes "element") (tree_data tree) no_members)
+
+-- ---- written a token at a time
+
+-- the tokens of a value
+abbrev pub tokens_of : Data → List Token
+tokens_of d = json_tokens (outline d)
+
+-- these tokens were written, after what was there
+pub record Adds (old new : Written) (tokens : List Token) : Type 0 where
+  pub before : new.before ≡ old.before
+  pub added : new.tokens ≡ old.tokens ++ tokens

@@ -209,13 +209,38 @@ fn play_alone<W: Write>(
     play_steps(&mut handler, alloc, own, writer)
 }
 
-// Plays requests on a server, and writes the replies.
+// Plays requests on a server, one after another. The reply to each is written before the next is played, so that only one
+// is held at a time.
 fn play_steps<W: Write>(
     handler: &mut DavHandler<Refusing<MemFs>, MemLs>,
     alloc: Global,
     steps: Vec<Step<'_>>,
     writer: &mut W,
 ) -> Result<(), Fault>
+    ensures played { OnOk result ((replies : List Response)
+        × AnswersAll handler.old.server steps.entry.items replies handler.new.server
+        × Appends (W.contents writer.old) (W.contents writer.new) (lines_of replies)) }
+    ensures err { IfErr result (λ e. e ≢ NotScript) }
+    ensures short { IsErrOf result Memory → (replies : List Response)
+        × RunsSome handler.old.server steps.entry.items replies
+        × Appends (W.contents writer.old) (W.contents writer.new) (lines_of replies) }
+{
+    for step in steps {
+        let mut one = Vec::new(alloc);
+        one.push(step)?;
+        play_together(handler, alloc, one, writer)?;
+    }
+    Ok(())
+}
+
+// Plays requests on a server, and writes their replies.
+fn play_together<W: Write>(
+    handler: &mut DavHandler<Refusing<MemFs>, MemLs>,
+    alloc: Global,
+    steps: Vec<Step<'_>>,
+    writer: &mut W,
+) -> Result<(), Fault>
+    ensures same { handler.new.server.settings ≡ handler.old.server.settings }
     ensures played { OnOk result ((replies : List Response)
         × AnswersAll handler.old.server steps.entry.items replies handler.new.server
         × Appends (W.contents writer.old) (W.contents writer.new) (lines_of replies)) }
@@ -406,7 +431,7 @@ fn write_replies<W: Write>(alloc: Global, replies: &[Reply], writer: &mut W) -> 
 {
     for reply in replies {
         let line = reply_line(alloc, reply)?;
-        writer.write_all(line.as_bytes())?;
+        writer.write_all(&line)?;
         writer.flush()?;
     }
     Ok(())

@@ -1,13 +1,15 @@
 //! Replies as JSON.
-ghost use Rattle.std.specs.Prelude.{◌≡◌, ◌∷◌, ◌++◌, [], false, IfOk, string_bytes};
-ghost use Rattle.serde_json.specs.Written.{compact_text, has_float};
+ghost use Rattle.std.specs.Prelude.{◌≡◌, ◌++◌, ◌∷◌, [], codes, true, IfOk, OnOk, string_bytes};
+ghost use Rattle.serde_json.specs.Written.{compact_text, members_text};
 ghost use Rattle.serde_json.specs.View.{view};
 ghost use Rattle.dav_engine.specs.Response.{headers_in};
-ghost use Rattle.dav_run.specs.Print.{body_data, headers_data, reply_data, line_of, place_data, place_line};
+ghost use Rattle.dav_run.specs.Print.{body_data, headers_data, rest_members, line_of, place_data, place_line};
+ghost use Rattle.dav_run.specs.TreeData.{Adds, tokens_of};
 
-use crate::tree::tree_value;
+use crate::tree::write_tree;
 use dav_engine::{Reply, ReplyBody};
 use http_header::HeaderMap;
+use json::Writer;
 use serde_json::{Map, Value, json};
 use std::alloc::{AllocError, Global};
 
@@ -15,11 +17,12 @@ use std::alloc::{AllocError, Global};
 /// or the lower-case hexadecimal digits of its bytes as the member `hex`, or the tree as the member `element`. The
 /// headers are an object, in byte order of their names: of a name with several values the last one counts, and what
 /// isn't UTF-8 is printed as U+FFFD.
-#[tactic(auto, using(crate::proofs::Headers::reply_plain))]
-pub fn reply_line(alloc: Global, reply: &Reply) -> Result<String, AllocError>
-    ensures { IfOk result (λ line. string_bytes line ≡ line_of reply.now) }
+pub fn reply_line(alloc: Global, reply: &Reply) -> Result<Vec<u8>, AllocError>
+    ensures { IfOk result (λ line. line.items ≡ line_of reply.now) }
 {
-    value_line(alloc, &reply_value(alloc, reply)?)
+    let mut line = body_text(alloc, &reply.body)?;
+    line.extend_from_slice(rest_text(alloc, reply)?.as_bytes())?;
+    Ok(line)
 }
 
 /// The line before the replies of a run alone: an object with the member `alone`, the place of a request counted from 0,
@@ -27,15 +30,7 @@ pub fn reply_line(alloc: Global, reply: &Reply) -> Result<String, AllocError>
 pub fn alone_line(alloc: Global, place: usize) -> Result<String, AllocError>
     ensures { IfOk result (λ line. string_bytes line ≡ place_line place) }
 {
-    value_line(alloc, &place_value(alloc, place)?)
-}
-
-// The line of a value: its JSON text without white space, and a newline.
-fn value_line(alloc: Global, value: &Value) -> Result<String, AllocError>
-    ensures { IfOk result (λ line. has_float (view value.now) ≡ false
-        → string_bytes line ≡ compact_text (view value.now) ++ 10 ∷ []) }
-{
-    let mut line = value.to_string(alloc)?;
+    let mut line = place_value(alloc, place)?.to_string(alloc)?;
     line.push('\n')?;
     Ok(line)
 }
@@ -47,31 +42,48 @@ fn place_value(alloc: Global, place: usize) -> Result<Value, AllocError>
     json!(in alloc; {"alone": place})
 }
 
-// A reply as an object.
-fn reply_value(alloc: Global, reply: &Reply) -> Result<Value, AllocError>
-    ensures { IfOk result (λ value. view value ≡ reply_data reply.now) }
+// The beginning of a reply's object, up to the end of the body. Its text is written once.
+fn body_text(alloc: Global, body: &ReplyBody) -> Result<Vec<u8>, AllocError>
+    ensures { IfOk result (λ bytes.
+        bytes.items ≡ codes "{\"body\":" ++ compact_text (body_data body.now)) }
 {
-    let body = body_value(alloc, &reply.body)?;
-    let headers = headers_value(alloc, &reply.headers)?;
-    let status = reply.status.as_u16();
-    json!(in alloc; {"body": body, "headers": headers, "status": status})
+    let mut text = Vec::new(alloc);
+    text.extend_from_slice("{\"body\":".as_bytes())?;
+    let mut out = Writer::new(text);
+    write_body(&mut out, alloc, body)?;
+    Ok(out.into_inner())
 }
 
 // A body as JSON.
-fn body_value(alloc: Global, body: &ReplyBody) -> Result<Value, AllocError>
-    ensures { IfOk result (λ value. view value ≡ body_data body.now) }
+fn write_body(out: &mut Writer, alloc: Global, body: &ReplyBody) -> Result<(), AllocError>
+    ensures { OnOk result (Adds out.old out.new (tokens_of (body_data body.now))) }
 {
     match body {
-        ReplyBody::Nothing => Ok(Value::Null),
+        ReplyBody::Nothing => out.null(),
         ReplyBody::Bytes(bytes) => {
             let digits = hex::encode(alloc, bytes.as_slice())?;
-            json!(in alloc; {"hex": digits})
+            out.begin_object()?;
+            out.key("hex")?;
+            out.string(&digits)?;
+            out.end_object()
         }
         ReplyBody::Tree(tree) => {
-            let element = tree_value(alloc, tree)?;
-            json!(in alloc; {"element": element})
+            out.begin_object()?;
+            out.key("element")?;
+            write_tree(out, tree)?;
+            out.end_object()
         }
     }
+}
+
+// What follows the body in the line of a reply.
+fn rest_text(alloc: Global, reply: &Reply) -> Result<String, AllocError>
+    ensures { IfOk result (λ text.
+        string_bytes text ≡ members_text true (rest_members reply.now) ++ 10 ∷ []) }
+{
+    let headers = headers_value(alloc, &reply.headers)?.to_string(alloc)?;
+    let status = reply.status.as_u16();
+    format!(in alloc; ",\"headers\":{headers},\"status\":{status}}}\n")
 }
 
 // The headers as JSON.

@@ -1,26 +1,40 @@
-use Rattle.std.proofs.Common.{List, take, Err, ap, subst}
+use Rattle.std.proofs.Common.{◌≡◌, ◌∙◌, ◌++◌, ◌∷◌, List, [], Err, refl, sym, ap, subst}
 use Rattle.std.proofs.lemmas.Result.{err_from_is_err_and}
-use Rattle.std.specs.Io.KnownBytes.{Appends}
 use Rattle.dav_engine.specs.Response.{Response}
-use Rattle.dav_run.specs.Print.{lines_of}
-use Rattle.dav_run.proofs.Played.{same_error, some_of_all, some_of_part, some_taken}
+use Rattle.dav_server.specs.Run.{Turn, no_more}
+use Rattle.dav_server.specs.Server.{AnswersAll}
+use Rattle.dav_server.proofs.Theorems.{rest_after_one}
+use Rattle.dav_run.specs.Play.{RunsSome}
+use Rattle.dav_run.proofs.Played.{appends_nothing, joined, some_joined, more_written, same_error}
 use Rattle.dav_run.proofs.play.play_steps.Goals as goal
 
-pub returns-in-Ok-clause-short : goal.returns-in-Ok-clause-short
-returns-in-Ok-clause-short g c = λ is.
-    let short = c.write_replies.ensures.short is in
-    let wrote = subst (λ (l : List Response). Appends (g.W.Write.contents c.args.writer.now) (g.W.Write.contents c.write_replies.new.writer) (lines_of (take short.0 l))) c.deref.ensures.value short.1 in
-    (take short.0 c.in-Ok.replies.items, some_taken short.0 (some_of_all c.run_refused.new.handler.server c.in-Ok.ensures.run), wrote)
+pub loop-step-init : goal.loop-step-init
+loop-step-init g c = (refl, ([], no_more, appends_nothing (g.W.Write.contents c.args.writer.now)), sym c.into_iter-step-iterator.ensures.into_iter_gives.0)
 
-pub returns-in_err-write_replies-in-Err-clause-short : goal.returns-in_err-write_replies-in-Err-clause-short
-returns-in_err-write_replies-in-Err-clause-short g c =
-    let p = err_from_is_err_and c.from_residual.result c.from_residual.ensures.1 in
+pub loop-step-preserved : goal.loop-step-preserved
+loop-step-preserved g c =
+    let (replies, ran, wrote) = c.loop-step.invariant.1 in
+    let (more, ran_more, wrote_more) = c.in_ok-play_together.ensures.played in
+    let one : c.push.new.self.items ≡ c.in-Some.step ∷ [] = c.in_ok-push.ensures.items ∙ ap (λ (l : List Turn). l ++ c.in-Some.step ∷ []) c.new-one.ensures.items in
+    let next = subst (λ (l : List Turn). AnswersAll c.loop-step.handler.server l more c.play_together.new.handler.server) one ran_more in (
+      c.in_ok-play_together.ensures.same ∙ c.loop-step.invariant.0,
+      (
+        replies ++ more,
+        joined c.play_together.new.handler.server c.loop-step.invariant.0 ran next,
+        more_written (g.W.Write.contents c.args.writer.now) (g.W.Write.contents c.loop-step.writer) (g.W.Write.contents c.play_together.new.writer) replies more wrote wrote_more,
+      ),
+      rest_after_one _ _ _ _ _ c.loop-step.invariant.2 c.in-Some.ensures.steps.0,
+    )
+
+pub returns-in_err-play_together-clause-short : goal.returns-in_err-play_together-clause-short
+returns-in_err-play_together-clause-short g c =
+    let p = err_from_is_err_and c.from_residual-in_err-play_together.result c.from_residual-in_err-play_together.ensures.1 in
     rw (p.1, p.2) (λ is.
-    let short = c.in_err-write_replies-in-Err.ensures.short (ap Err (same_error is)) in
-    let wrote = subst (λ (l : List Response). Appends (g.W.Write.contents c.args.writer.now) (g.W.Write.contents c.write_replies-in-Err.new.writer) (lines_of (take short.0 l))) c.deref-in-Err.ensures.value short.1 in
-    (take short.0 c.in-Err.fault.replies.items, some_taken short.0 (some_of_part c.run_refused.new.handler.server c.in-Err.ensures.fault), wrote))
-
-pub returns-in_ok-write_replies-in-Err-clause-short : goal.returns-in_ok-write_replies-in-Err-clause-short
-returns-in_ok-write_replies-in-Err-clause-short g c = λ is.
-    let wrote = subst (λ (l : List Response). Appends (g.W.Write.contents c.args.writer.now) (g.W.Write.contents c.write_replies-in-Err.new.writer) (lines_of l)) c.deref-in-Err.ensures.value c.in_ok-write_replies-in-Err.ensures.written in
-    (c.in-Err.fault.replies.items, some_of_part c.run_refused.new.handler.server c.in-Err.ensures.fault, wrote)
+    let (replies, ran, wrote) = c.loop-step.invariant.1 in
+    let (more, ran_more, wrote_more) = c.in_err-play_together.ensures.short (ap Err (same_error is)) in
+    let one : c.push.new.self.items ≡ c.in-Some.step ∷ [] = c.in_ok-push.ensures.items ∙ ap (λ (l : List Turn). l ++ c.in-Some.step ∷ []) c.new-one.ensures.items in
+    let next = subst (λ (l : List Turn). RunsSome c.loop-step.handler.server l more) one ran_more in (
+      replies ++ more,
+      some_joined c.next.new.self.rest.items c.loop-step.invariant.0 (rest_after_one _ _ _ _ _ c.loop-step.invariant.2 c.in-Some.ensures.steps.0) ran next,
+      more_written (g.W.Write.contents c.args.writer.now) (g.W.Write.contents c.loop-step.writer) (g.W.Write.contents c.play_together.new.writer) replies more wrote wrote_more,
+    ))

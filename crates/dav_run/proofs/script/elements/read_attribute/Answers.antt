@@ -1,4 +1,4 @@
-use Rattle.std.proofs.Common.{arith, ◌≡◌, ◌∙◌, ◌∷◌, [], ℕ, List, length, subst, sym}
+use Rattle.std.proofs.Common.{arith, ◌≡◌, ◌∷◌, [], ℕ, List, length, subst, sym}
 use Rattle.std.specs.Prelude.{Option, IsSomeAnd, string_bytes}
 use Rattle.serde_json.specs.Data.{Items}
 use Rattle.serde_json.specs.View.{items_view}
