@@ -1,7 +1,7 @@
 -- A holder's COPY or MOVE goes side by side with itself.
 use Rattle.std.proofs.Common.{◌≡◌, ◌≢◌, ℕ, ◌++◌, ◌||◌, zero, suc, Bool, true, false, true≢false, not, if◌then◌else◌, List, [], ◌∷◌, codes, append_assoc, append-nil, Option, Some, None, Result, Ok, Err, refl, sym, ap, subst, ◌∙◌}
 use Rattle.std.specs.Bool.{⊤}
-use Rattle.std.specs.Option.{is_some, unwrap_or}
+use Rattle.std.specs.Option.{unwrap_or}
 use Rattle.std.specs.Result.{is_ok, result_ok}
 use Rattle.http_header.specs.HeaderMap.{get_all}
 use Rattle.dav_core.specs.declared.errors.FsError.{FsError}
@@ -14,9 +14,9 @@ use Rattle.dav_core.specs.Locks.{Lock}
 use Rattle.dav_core.specs.Path.{Path, PathText, star, names, names_in, is_at_or_under, is_under, parent_of, are_equal}
 use Rattle.dav_core.proofs.Theorems.{parent-append, shape}
 use Rattle.dav_engine.specs.Alongside.{SameResult, SameMetadata, BothOpen, Alongside, side_ok, side_err, side_asks, side_above, side_look, side_keep, side_last, SameAnswers}
-use Rattle.dav_engine.specs.AlongsidePlans.{GoesAlong, CopyMoveGoesAlong}
+use Rattle.dav_engine.specs.AlongsidePlans.{CopyMoveGoesAlong}
 use Rattle.dav_engine.specs.Client.{Client, requester}
-use Rattle.dav_engine.specs.Conditions.{Conditions, Addressed, guarded}
+use Rattle.dav_engine.specs.Conditions.{Conditions, Addressed}
 use Rattle.dav_engine.specs.Copying.{CopyFault, refused_at, CopyWalk, copy_seen, copy_members, copy_listed, copy_inside, alone_faults, copy_kind, copy_looked, copy}
 use Rattle.dav_engine.specs.CopyMove.{CopyHeaders, DestinationNames, is_move, copy_depth, destination_found, source_free, copy_free, copy_allowed, is_replaced, clearing, drop_if, drop_if_moved, copied_status, copy_reply, bringing, bring_if_clear, copy_found, copy_or_move, is_copy_move}
 use Rattle.dav_engine.specs.Folder.{closed, child_of, room_at, is_folder_found}
@@ -24,8 +24,7 @@ use Rattle.dav_engine.specs.Guard.{folder_of, IsGuard, SubmitOnly}
 use Rattle.dav_engine.specs.Method.{MethodPlan, then as followed_by, ◌>>=◌, require, require_free, gives, refused_as}
 use Rattle.dav_engine.specs.Plan.{Done, Ask}
 use Rattle.dav_engine.specs.Response.{Response}
-use Rattle.dav_engine.specs.Removal.{Fault, report_of, removal}
-use Rattle.dav_engine.specs.Multistatus.{multi_reply}
+use Rattle.dav_engine.specs.Removal.{Fault, removal}
 use Rattle.dav_engine.proofs.AlongsideDelete.{SidePart, IsIn, member_in, side_removal, gone, guards_still, at_folder}
 use Rattle.dav_engine.proofs.AlongsidePlans.{AtBoth, AreTold, told_results, found_same, holders, in_reach, only_lists, side_bind, side_then, side_require, side_guarded, side_free}
 use Rattle.dav_engine.proofs.BesideLemmas.{parent_below}

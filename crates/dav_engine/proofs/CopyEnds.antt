@@ -1,5 +1,5 @@
 -- A COPY or MOVE that an error ends leaves all as it was.
-use Rattle.std.proofs.Common.{◌≡◌, ℕ, zero, suc, if◌then◌else◌, Bool, true, false, List, [], ◌∷◌, map, Option, Some, None, Result, Ok, Err, refl, sym, ap, ◌∙◌}
+use Rattle.std.proofs.Common.{◌≡◌, ℕ, zero, suc, if◌then◌else◌, Bool, true, false, List, [], ◌∷◌, map, Option, Some, None, Result, Ok, Err, ap, ◌∙◌}
 use Rattle.std.specs.Prelude.{⊤}
 use Rattle.dav_core.specs.declared.errors.FsError.{FsError}
 use Rattle.dav_core.specs.declared.errors.DavError.{DavError}
@@ -13,13 +13,12 @@ use Rattle.dav_core.specs.World.{World}
 use Rattle.dav_engine.specs.Client.{Client}
 use Rattle.dav_engine.specs.Copying.{CopyFault, CopyWalk, copy_report, copy, copy_looked, copy_kind, copy_inside, copy_listed, copy_members, copy_seen, renaming}
 use Rattle.dav_engine.specs.CopyLaws.{RefusedCopyMoveLeavesAll}
-use Rattle.dav_engine.specs.CopyMove.{CopyHeaders, is_move, copy_depth, copy_allowed, is_replaced, clearing, drop_if, drop_if_moved, brought, copied_status, copy_reply, bringing, bring_if_clear, copy_found}
+use Rattle.dav_engine.specs.CopyMove.{CopyHeaders, is_move, copy_depth, copy_allowed, is_replaced, clearing, drop_if, drop_if_moved, brought, copied_status, copy_reply, bring_if_clear, copy_found}
 use Rattle.dav_engine.specs.Folder.{closed, child_of, room_at, is_folder_found}
 use Rattle.dav_engine.specs.Method.{MethodPlan, then as followed_by, ◌>>=◌, refused_as, ask_for, gives, set_by}
 use Rattle.dav_engine.specs.Multistatus.{PathStatus, multi_reply}
 use Rattle.dav_engine.specs.Plan.{Done, Locks, Ran}
 use Rattle.dav_engine.specs.Removal.{Fault, report_of, removal}
-use Rattle.dav_engine.specs.Response.{Response}
 use Rattle.dav_engine.proofs.CallWorlds.{did, did_leave}
 use Rattle.dav_engine.proofs.CopyWorld.{only_copy_allowed}
 use Rattle.dav_engine.proofs.DeletedWorlds.{gives_errors}

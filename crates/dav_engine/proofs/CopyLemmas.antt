@@ -1,5 +1,5 @@
 -- How code follows a copy.
-use Rattle.std.proofs.Common.{◌≡◌, ◌≢◌, ℕ, ◌<◌, ◌-◌, ◌+◌, ◌*◌, ◌≤◌, ◌^◌, arith, not, suc, Bool, true, false, List, [], ◌∷◌, ◌++◌, map, length, Option, Some, None, Result, Ok, Err, refl, sym, ap, subst, ◌∙◌, append_assoc, if◌then◌else◌}
+use Rattle.std.proofs.Common.{◌≡◌, ◌≢◌, ℕ, ◌<◌, ◌-◌, ◌+◌, ◌*◌, ◌^◌, arith, not, Bool, true, false, List, [], ◌∷◌, ◌++◌, map, length, Option, Some, None, Result, Ok, Err, refl, sym, ap, subst, ◌∙◌, append_assoc, if◌then◌else◌}
 use Rattle.std.proofs.lemmas.List.{append-nil}
 use Rattle.std.specs.List.{last_or}
 use Rattle.std.specs.Option.{option_map, option_or}
@@ -9,14 +9,13 @@ use Rattle.dav_core.specs.declared.fs.DavMetaData.{DavMetaData}
 use Rattle.dav_core.specs.Asking.{Call, Answer, StoreState, Asks, Metadata, ReadDir, EntryMetadata, CreateDir, Copy, Rename}
 use Rattle.dav_core.specs.Path.{PathText, IsSegment, star, names, are_equal}
 use Rattle.dav_engine.specs.Copied.{Copied, copied}
-use Rattle.dav_engine.specs.Copying.{CopyFault, copy_report, last_refusal, refused_at, copy_file, CopyWalk, copy_seen, copy_members, copy_inside, alone_faults, copy_alone, copy_folder, copy_kind, copy_looked, copy, copying, renaming}
+use Rattle.dav_engine.specs.Copying.{CopyFault, copy_report, last_refusal, refused_at, copy_file, CopyWalk, copy_members, alone_faults, copy_alone, copy_folder, copy_kind, copy_looked, copy, copying, renaming}
 use Rattle.dav_engine.specs.CopyView.{copy_below}
 use Rattle.dav_engine.specs.Folder.{child_of, room_at}
 use Rattle.dav_engine.specs.Method.{MethodPlan, gives}
 use Rattle.dav_engine.specs.Multistatus.{PathStatus}
-use Rattle.dav_engine.specs.Plan.{Done, Ask, Locks, Ran, ran_done, ran_ask}
+use Rattle.dav_engine.specs.Plan.{Done, Ask, ran_done, ran_ask}
 use Rattle.dav_engine.specs.Walked.{StoppedIn}
-use Rattle.dav_engine.proofs.ChildLemmas.{slash_is_path}
 use Rattle.dav_engine.proofs.CutPlans.{cut_first, cut_ask, cut_bind, cut_in}
 use Rattle.dav_engine.proofs.Following.{ran_bind}
 use Rattle.dav_engine.proofs.RemovalLemmas.{stopped_behind}

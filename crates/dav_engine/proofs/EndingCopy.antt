@@ -1,15 +1,14 @@
 -- A COPY or MOVE keeps the locks that its client doesn't hold.
-use Rattle.std.proofs.Common.{◌≡◌, not, true≢false, if◌then◌else◌, Bool, true, false, List, [], ◌∷◌, ℕ, Option, Some, None, Result, Ok, Err, refl, sym}
-use Rattle.std.specs.Bool.{⊤}
+use Rattle.std.proofs.Common.{◌≡◌, not, true≢false, if◌then◌else◌, Bool, true, false, List, [], ◌∷◌, ℕ, Option, Some, Ok, refl, sym}
 use Rattle.dav_core.specs.declared.errors.DavError.TheVariants as dav
 use Rattle.dav_core.specs.declared.fs.DavMetaData.{DavMetaData}
 use Rattle.dav_core.specs.declared.method.DavMethod.{DavMethod}
 use Rattle.dav_core.specs.Locks.{Lock, is_held}
 use Rattle.dav_core.specs.Path.{PathText, names, is_at_or_under}
 use Rattle.dav_engine.specs.Client.{Client, requester}
-use Rattle.dav_engine.specs.Conditions.{Conditions, submitted, guarded}
+use Rattle.dav_engine.specs.Conditions.{Conditions, submitted}
 use Rattle.dav_engine.specs.Copying.{CopyFault, renaming}
-use Rattle.dav_engine.specs.CopyMove.{CopyHeaders, is_move, copy_depth, destination_found, source_free, copy_free, copy_allowed, is_replaced, clearing, drop_if, drop_if_moved, brought, bringing, bring_if_clear, copy_found, is_copy_move}
+use Rattle.dav_engine.specs.CopyMove.{CopyHeaders, is_move, copy_depth, source_free, copy_free, copy_allowed, is_replaced, clearing, drop_if, drop_if_moved, brought, bring_if_clear, copy_found, is_copy_move}
 use Rattle.dav_engine.specs.Ending.{KeepsLock, keeps_done, keeps_ask, keeps_look, keeps_list, CopyMoveKeepsLocks}
 use Rattle.dav_engine.specs.Folder.{closed, room_at, is_folder_found}
 use Rattle.dav_engine.specs.Guard.{IsListed}

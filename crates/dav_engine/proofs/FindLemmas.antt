@@ -15,13 +15,13 @@ use Rattle.dav_engine.specs.Follows.{as_is, Follows, followed, gave_up}
 use Rattle.dav_engine.specs.Giving.{GivesWith, StopsWith}
 use Rattle.dav_engine.specs.Headers.{Headers}
 use Rattle.dav_engine.specs.Method.{MethodPlan, ◌>>=◌, gives, required}
-use Rattle.dav_engine.specs.Plan.{Plan, Done, Ask, Look, Keep, Locks, Ran, ran_done, Cut}
+use Rattle.dav_engine.specs.Plan.{Done, Ask, Look, Keep, Locks, Ran, ran_done, Cut}
 use Rattle.dav_engine.specs.Propfind.{FindHeaders, Query, Responses, query_in, tell_itself, tell_below, tells_itself, tells_members, is_infinite, is_served_depth, finite_depth, propfind_reply, propfind_found, propfind_if, propfind}
-use Rattle.dav_engine.specs.Properties.{Writer, writer, QuotaKnown, WithQuota, properties_of}
+use Rattle.dav_engine.specs.Properties.{Writer, writer, WithQuota, properties_of}
 use Rattle.dav_engine.specs.Response.{Response, Header}
 use Rattle.dav_engine.specs.Writing.{Writing, started, Tells, alone}
 use Rattle.dav_engine.proofs.CutPlans.{cut_first, cut_bind, cut_in}
-use Rattle.dav_engine.proofs.Following.{ran_at, ran_bind, follows_ask, follows_done, follows_up_to}
+use Rattle.dav_engine.proofs.Following.{ran_at, ran_bind, follows_ask, follows_done}
 use Rattle.dav_engine.proofs.GuardLemmas.{follows_ok, follows_fails}
 use Rattle.dav_engine.proofs.TellLemmas.{more_and_more, nothing_told, same_writer}
 

@@ -81,6 +81,7 @@ pub mod LockSparing
 pub mod GuardChanges
 pub mod AlongsideLock
 pub mod LockWorlds
+pub mod LookWorlds
 pub mod NumberLemmas
 pub mod WrongPlans
 pub mod GrantLemmas

@@ -17,14 +17,14 @@ use Rattle.dav_engine.specs.Conditions.{Conditions}
 use Rattle.dav_engine.specs.Delete.{whole_depth, drop_if_gone, delete_reply, delete_found, is_delete}
 use Rattle.dav_engine.specs.Folder.{closed, location_found}
 use Rattle.dav_engine.specs.Guard.{OnList}
-use Rattle.dav_engine.specs.ListChanges.{IsChange, grants, refreshes, unlocks, drops, AreChanges, no_change, a_change, ChangesList, changes_done, changes_ask, changes_look, changes_list, ListsAreChanged, ListsAreChangedCut, ChangesKeepShared, HaveTokens, ChangesBringTokens, ReadingChangesList, PutChangesList, MkcolChangesList, DeleteChangesList, UnlockChangesList}
+use Rattle.dav_engine.specs.ListChanges.{IsChange, grants, refreshes, unlocks, drops, AreChanges, no_change, a_change, ChangesList, changes_done, changes_ask, changes_look, changes_list, ListsAreChanged, ListsAreChangedCut, ChangesKeepShared, ChangesBringTokens, ReadingChangesList, PutChangesList, MkcolChangesList, DeleteChangesList, UnlockChangesList}
 use Rattle.dav_engine.specs.Method.{MethodPlan, then as followed_by, ◌>>=◌, gives, refused_as, ask_for}
 use Rattle.dav_engine.specs.Mkcol.{mkcol, create_error, is_mkcol}
 use Rattle.dav_engine.specs.Plan.{Plan, Done, CallStep, Locks, Ran, ran_done, ran_ask, ran_look, ran_keep, Refused, refused_done, refused_ask, refused_look, refused_keep, RanUpTo, up_to_here, up_to_ask, up_to_look, up_to_keep}
 use Rattle.dav_engine.specs.Put.{PutHeaders, put_opening, open_error, unsatisfiable, sought, store, put_body, bytes_of_body, is_put}
 use Rattle.dav_engine.specs.Removal.{Fault}
 use Rattle.dav_engine.specs.Response.{Response}
-use Rattle.dav_engine.specs.Unlock.{keep_left, end_lock, unlocked_reply, unlock, is_unlock}
+use Rattle.dav_engine.specs.Unlock.{keep_left, unlocked_reply, unlock, is_unlock}
 use Rattle.dav_engine.specs.WorldLaws.{IsReading, reads_done, reads_ask, reads_look}
 use Rattle.dav_engine.proofs.DeleteWorld.{only_delete_allowed, only_removal}
 use Rattle.dav_engine.proofs.PutWorld.{only_put_allowed, only_mkcol_allowed}

@@ -1,8 +1,6 @@
 -- How a LOCK changes the list of locks.
-use Rattle.std.proofs.Common.{◌≡◌, ◌≢◌, ◌++◌, ◌&&◌, ◌||◌, ℕ, Bool, true, false, true≢false, not, cond, if◌then◌else◌, List, [], ◌∷◌, Option, Some, None, Result, Ok, Err, refl, sym, ap, subst, ◌∙◌}
-use Rattle.std.proofs.lemmas.Bool.{or_parts}
+use Rattle.std.proofs.Common.{◌≡◌, ◌++◌, ℕ, Bool, true, false, if◌then◌else◌, List, [], ◌∷◌, Option, Some, None, Result, Ok, Err, refl, sym, ap, ◌∙◌}
 use Rattle.std.specs.Bool.{⊤}
-use Rattle.std.specs.List.{list_any}
 use Rattle.std.specs.Option.{is_some, option_map, unwrap_or}
 use Rattle.std.specs.Result.{result_ok}
 use Rattle.dav_core.specs.declared.errors.FsError.{FsError}
@@ -16,17 +14,17 @@ use Rattle.dav_core.specs.Locks.{Lock, is_grantable, named_lock, refreshed, refr
 use Rattle.dav_core.specs.Path.{Path, PathText, names}
 use Rattle.dav_core.proofs.Theorems.{granted_can_be_unlocked}
 use Rattle.dav_engine.specs.declared.request.Body.{Body}
-use Rattle.dav_engine.specs.Client.{Client, requester}
+use Rattle.dav_engine.specs.Client.{Client}
 use Rattle.dav_engine.specs.Delete.{whole_depth}
 use Rattle.dav_engine.specs.Folder.{path_found, location_found}
 use Rattle.dav_engine.specs.ListChanges.{grants, refreshes, unlocks, ChangesList, changes_done, changes_ask, changes_look, changes_list, LockChangesList}
-use Rattle.dav_engine.specs.Lock.{keep_refreshed, lock_again, lock_of, asked_lock, empty_opening, empty_error, made_or_back, make_empty, granted_reply, lock_new, is_absent, lock, is_lock}
+use Rattle.dav_engine.specs.Lock.{keep_refreshed, lock_again, lock_of, asked_lock, empty_opening, empty_error, made_or_back, make_empty, granted_reply, lock_new, is_absent, is_lock}
 use Rattle.dav_engine.specs.LockHeaders.{LockHeaders, refreshed_for}
 use Rattle.dav_engine.specs.LockInfo.{LockInfo, lock_info}
-use Rattle.dav_engine.specs.Method.{MethodPlan, then as followed_by, ◌>>=◌, require_free, required, unless_status, gives, fails}
-use Rattle.dav_engine.specs.Plan.{Plan, Done, Ask, Look, Keep, Locks}
+use Rattle.dav_engine.specs.Method.{MethodPlan, then as followed_by, ◌>>=◌, required, unless_status, gives, fails}
+use Rattle.dav_engine.specs.Plan.{Done, Ask, Look, Keep, Locks}
 use Rattle.dav_engine.specs.Response.{Header, Response}
-use Rattle.dav_engine.proofs.ListChangeLemmas.{changes_only, changes_then, changes_bind}
+use Rattle.dav_engine.proofs.ListChangeLemmas.{changes_only, changes_bind}
 use Rattle.dav_engine.proofs.LockPlans.{only_token}
 use Rattle.dav_engine.proofs.PutWorld.{IsLook, only_conditions}
 use Rattle.dav_engine.proofs.WorldPlans.{Only, only_done, only_ask, only_look}

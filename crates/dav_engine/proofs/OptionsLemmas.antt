@@ -1,5 +1,5 @@
 -- What an OPTIONS does: it only reads, it is followed by its code, and it goes along with itself.
-use Rattle.std.proofs.Common.{◌≡◌, ◌++◌, ℕ, Bool, List, [], ◌∷◌, map, Option, Some, None, Result, Ok, Err, true, refl, sym, ap, subst, ◌∙◌}
+use Rattle.std.proofs.Common.{◌≡◌, ◌++◌, ℕ, Bool, List, [], ◌∷◌, map, Option, Some, Result, Ok, Err, true, refl, sym, ap, ◌∙◌}
 use Rattle.std.specs.List.{flat_map, join_by}
 use Rattle.std.specs.Prelude.{IfOk}
 use Rattle.std.specs.Result.{result_ok}
@@ -9,19 +9,17 @@ use Rattle.dav_core.specs.declared.errors.DavError.TheVariants as dav
 use Rattle.dav_core.specs.declared.fs.DavMetaData.{DavMetaData}
 use Rattle.dav_core.specs.declared.method.DavMethod.{DavMethod}
 use Rattle.dav_core.specs.Asking.{StoreState, Asks, Metadata}
-use Rattle.dav_core.specs.Locks.{Lock}
 use Rattle.dav_core.specs.Method.{method_name}
-use Rattle.dav_core.specs.Path.{Path, PathText, names}
-use Rattle.dav_engine.specs.Alongside.{SameResult, SameMetadata, side_asks, side_look, side_ok, SameAnswers}
-use Rattle.dav_engine.specs.AlongsidePlans.{GoesAlong, OptionsGoesAlong}
+use Rattle.dav_core.specs.Path.{PathText, names}
+use Rattle.dav_engine.specs.Alongside.{SameResult, SameMetadata, side_asks, side_look, side_ok}
+use Rattle.dav_engine.specs.AlongsidePlans.{OptionsGoesAlong}
 use Rattle.dav_engine.specs.AnswerParts.{answers_of}
 use Rattle.dav_engine.specs.Follows.{as_is, Follows}
-use Rattle.dav_engine.specs.Guard.{IsInReach}
 use Rattle.dav_engine.specs.Method.{has_locks}
-use Rattle.dav_engine.specs.Options.{methods_for, offered, listed, options_reply, options}
+use Rattle.dav_engine.specs.Options.{methods_for, offered, options_reply, options}
 use Rattle.dav_engine.specs.Plan.{Locks}
 use Rattle.dav_engine.specs.Response.{Response}
-use Rattle.dav_engine.specs.WorldLaws.{IsReading, reads_done, reads_ask, reads_look, IsProperPlan, proper_done, proper_ask, proper_look, OptionsOnlyReads}
+use Rattle.dav_engine.specs.WorldLaws.{reads_done, reads_ask, reads_look, IsProperPlan, proper_done, proper_ask, proper_look, OptionsOnlyReads}
 use Rattle.dav_engine.proofs.AlongsidePlans.{in_reach}
 use Rattle.dav_engine.proofs.Following.{follows_done, follows_ask, follows_up_to}
 use Rattle.dav_engine.proofs.GuardLemmas.{follows_look}

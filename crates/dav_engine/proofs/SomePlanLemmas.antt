@@ -1,5 +1,5 @@
 -- No PUT, PATCH, MKCOL, DELETE, COPY, MOVE, LOCK, UNLOCK, PROPFIND or PROPPATCH is without a plan, since a header decodes or doesn't.
-use Rattle.std.proofs.Common.{◌≡◌, ℕ, List, inl, inr, Option, Some, None, Result, Ok, Err, refl}
+use Rattle.std.proofs.Common.{ℕ, List, inl, inr, Option, Some, None, Result, Ok, refl}
 use Rattle.std.specs.Option.{is_some, option_or}
 use Rattle.std.specs.Prelude.{codes}
 use Rattle.http_header.specs.FieldValue.{FieldValue}

@@ -9,20 +9,20 @@ use Rattle.dav_core.specs.declared.errors.DavError.TheVariants as dav
 use Rattle.dav_core.specs.declared.fs.DavMetaData.{DavMetaData}
 use Rattle.dav_core.specs.declared.method.DavMethod.{DavMethod}
 use Rattle.dav_core.specs.Asking.{Metadata, ReadDir, EntryMetadata, CreateDir, Copy, Rename}
-use Rattle.dav_core.specs.Locks.{Lock, covers, is_held, is_free_for, deleted}
+use Rattle.dav_core.specs.Locks.{Lock, covers, is_free_for, deleted}
 use Rattle.dav_core.specs.Path.{Path, PathText, star, names, names_in, is_at_or_under, are_equal, parent_of}
 use Rattle.dav_engine.specs.Client.{Client, requester}
 use Rattle.dav_engine.specs.Conditions.{Conditions, submitted}
 use Rattle.dav_engine.specs.Copying.{CopyFault, CopyWalk, copy_seen, copy_members, copy_listed, copy_inside, copy_kind, copy_looked, copy, renaming}
-use Rattle.dav_engine.specs.CopyMove.{CopyHeaders, DestinationNames, is_move, copy_depth, destination_found, source_free, copy_free, copy_allowed, is_replaced, clearing, drop_if, drop_if_moved, brought, copy_reply, bringing, bring_if_clear, copy_found, copy_or_move, is_copy_move}
+use Rattle.dav_engine.specs.CopyMove.{CopyHeaders, DestinationNames, is_move, copy_depth, destination_found, source_free, copy_free, is_replaced, clearing, drop_if, drop_if_moved, brought, copy_reply, bring_if_clear, copy_found, copy_or_move, is_copy_move}
 use Rattle.dav_engine.specs.Folder.{closed, child_of, room_at, is_folder_found}
 use Rattle.dav_engine.specs.Guard.{folder_of, IsListed, Guards, StillGuards}
-use Rattle.dav_engine.specs.Method.{MethodPlan, ◌>>=◌, require, require_free, is_open, refused_as, ask_for, gives}
+use Rattle.dav_engine.specs.Method.{MethodPlan, ◌>>=◌, require, require_free, is_open, refused_as, gives}
 use Rattle.dav_engine.specs.Plan.{Done}
 use Rattle.dav_engine.specs.Removal.{Fault, removal}
 use Rattle.dav_engine.specs.Sparing.{NoneUnder, Anything, AnyList, Sparing, spares_ok, spares_err, spares_reads, spares_call, spares_look, spares_keep}
 use Rattle.dav_engine.specs.SparingPlans.{CopyMoveSpares}
-use Rattle.dav_engine.proofs.ChildLemmas.{closed_is_path, slash_is_path, names_member}
+use Rattle.dav_engine.proofs.ChildLemmas.{slash_is_path, names_member}
 use Rattle.dav_engine.proofs.CopyHeaderLemmas.{place_by, plain_other}
 use Rattle.dav_engine.proofs.EndingDelete.{still_listed}
 use Rattle.dav_engine.proofs.FaultLemmas.{at_path, below_trans}

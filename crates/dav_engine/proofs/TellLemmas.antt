@@ -1,9 +1,8 @@
 -- How code tells what is below a folder.
-use Rattle.std.proofs.Common.{◌≡◌, ◌≢◌, ◌-◌, ◌<◌, ◌^◌, ◌&&◌, inl, ℕ, suc, Bool, true, false, List, [], ◌∷◌, ◌++◌, length, Result, Ok, Err, refl, sym, ap, subst, ◌∙◌, append_assoc}
+use Rattle.std.proofs.Common.{◌≡◌, ◌-◌, ◌<◌, ◌^◌, ◌&&◌, inl, ℕ, suc, Bool, true, false, List, [], ◌∷◌, ◌++◌, length, Result, Ok, Err, refl, sym, ap, subst, ◌∙◌, append_assoc}
 use Rattle.std.proofs.lemmas.List.{append-nil}
 use Rattle.std.specs.Prelude.{OnOk}
 use Rattle.dav_core.specs.declared.errors.FsError.{FsError}
-use Rattle.dav_core.specs.declared.errors.DavError.{DavError}
 use Rattle.dav_core.specs.declared.fs.DavMetaData.{DavMetaData}
 use Rattle.dav_core.specs.Asking.{StoreState, Asks, ReadDir, EntryMetadata}
 use Rattle.dav_core.specs.Element.{ElementTree}
@@ -13,8 +12,8 @@ use Rattle.dav_engine.specs.Folder.{child_of, room_at}
 use Rattle.dav_engine.specs.Follows.{as_is}
 use Rattle.dav_engine.specs.Giving.{GivesWith, StopsWith}
 use Rattle.dav_engine.specs.Method.{MethodPlan, ◌>>=◌, gives}
-use Rattle.dav_engine.specs.Plan.{Plan, Done, CallStep, Locks, Ran, ran_done, ran_ask, ran_look, ran_keep, RanUpTo, up_to_here, up_to_ask, up_to_look, up_to_keep, Cut}
-use Rattle.dav_engine.specs.Propfind.{Responses, tell_below, tell_members, tell_found}
+use Rattle.dav_engine.specs.Plan.{Plan, Done, CallStep, Locks, Ran, ran_done, ran_ask, ran_look, ran_keep, RanUpTo, up_to_here, up_to_ask, up_to_look, up_to_keep}
+use Rattle.dav_engine.specs.Propfind.{Responses, tell_below, tell_members}
 use Rattle.dav_engine.specs.Properties.{Writer, QuotaKnown, WithQuota, properties_of}
 use Rattle.dav_engine.specs.Writing.{Writing, Tells, alone}
 use Rattle.dav_engine.proofs.CutPlans.{cut_first, cut_ask, cut_bind, cut_in}

@@ -32,6 +32,10 @@ pub record StaysLent {F A B L : Type 0} (old new : DavInner F A B L) : Type 0 wh
   pub allow : new.allow ≡ old.allow
   pub caller : new.caller ≡ old.caller
 
+-- the files of the store that it borrows are as before
+abbrev pub KeepsWorld : {F A B L : Type 0} → DavInner F A B L → DavInner F A B L → Type 0
+KeepsWorld old new = new.backend.now.state.store.world ≡ old.backend.now.state.store.world
+
 -- the request was answered by a plan of this kind for its caller, on the state that it borrows
 abbrev pub ServesFrom : {F A B L : Type 0} → (Client → MethodPlan Response → Type 0) → DavInner F A B L → Result Response DavError → DavInner F A B L → Type 0
 ServesFrom kind old result new = Serves (kind old.caller.now) old.backend.now.state result new.backend.now.state

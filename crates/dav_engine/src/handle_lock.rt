@@ -9,7 +9,7 @@ ghost use Rattle.dav_core.specs.Metadata.{opening_of};
 ghost use Rattle.dav_core.specs.Numbers.{max_u64};
 ghost use Rattle.dav_core.specs.Path.{names};
 ghost use Rattle.dav_core.specs.World.{last_moment};
-ghost use Rattle.dav_engine.specs.AtWork.{KeepsLent, StaysLent, FollowsOn, ServesFrom, LockOf};
+ghost use Rattle.dav_engine.specs.AtWork.{KeepsLent, StaysLent, KeepsWorld, FollowsOn, ServesFrom, LockOf};
 ghost use Rattle.dav_engine.specs.ConditionView.{texts_of};
 ghost use Rattle.dav_engine.specs.Folder.{location_found};
 ghost use Rattle.dav_engine.specs.Follows.{as_is, Sets, viewed};
@@ -333,6 +333,7 @@ impl<'a, 'b, 'c, F: DavFileSystem, L: DavLockSystem> DavInner<'a, 'b, 'c, F, L> 
         ensures plan { FollowsOn as_is (λ who. spec.lock_again headers.now path.now
             (location_found (option_copied found.entry) request.now.path) who)
             self.old result self.new }
+        ensures world { KeepsWorld self.old self.new }
     {
         let token = self.token_to_refresh(alloc, headers, path)?;
         let timeout = headers.refreshed_for();
@@ -393,6 +394,7 @@ impl<'a, 'b, 'c, F: DavFileSystem, L: DavLockSystem> DavInner<'a, 'b, 'c, F, L> 
             (location_found (option_copied found.entry) request.now.path) body.now who
             (option_copied found.entry)) self.old result self.new }
         ensures memory { IsErrOf result DavError.Memory → KeepsLent self.old self.new }
+        ensures world { IsErrOf result DavError.Memory → KeepsWorld self.old self.new }
     {
         let lock = self.asked_lock(alloc, headers, path, body, found)?;
         let reply = granted_reply(alloc, &request.path, found, &lock)?;
@@ -430,6 +432,7 @@ impl<'a, 'b, 'c, F: DavFileSystem, L: DavLockSystem> DavInner<'a, 'b, 'c, F, L> 
             body.now who (option_copied found.entry)) self.old result self.new }
         ensures memory { IsErrOf result DavError.Memory
             → is_absent body.now ≡ false → KeepsLent self.old self.new }
+        ensures world { IsErrOf result DavError.Memory → KeepsWorld self.old self.new }
     {
         let path = closed(&request.path, is_folder_found(found))?;
         if is_absent(body) {
@@ -454,7 +457,7 @@ impl<'a, 'b, 'c, F: DavFileSystem, L: DavLockSystem> DavInner<'a, 'b, 'c, F, L> 
     /// against the client that has only this token, and where no lock at the path or above it has it. The lock then lasts ten
     /// minutes at most, or without an end where Timeout doesn't say otherwise.
     ///
-    /// `Memory` where memory runs out; a new lock then isn't granted.
+    /// `Memory` where memory runs out: the store's files are then as they were, and a new lock isn't granted.
     pub fn handle_lock(
         &mut self,
         alloc: Global,
@@ -466,6 +469,7 @@ impl<'a, 'b, 'c, F: DavFileSystem, L: DavLockSystem> DavInner<'a, 'b, 'c, F, L> 
         ensures serves { ServesFrom (LockOf request.now body.now) self.old result self.new }
         ensures memory { IsErrOf result DavError.Memory
             → is_absent body.now ≡ false → KeepsLent self.old self.new }
+        ensures world { IsErrOf result DavError.Memory → KeepsWorld self.old self.new }
     {
         let headers = LockHeaders::decode(alloc, request)?;
         let backend = &mut *self.backend;

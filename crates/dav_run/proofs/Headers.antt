@@ -1,5 +1,5 @@
 -- The text of a reply, by the texts of its parts.
-use Rattle.std.proofs.Common.{◌≡◌, ◌++◌, List, [], ◌∷◌, Bool, true, false, true≢false, codes, decimal, Result, Ok, Err, IfOk, refl, sym, ap, ◌∙◌, append_assoc, Ordering, Less, Equal, Greater, nat_cmp}
+use Rattle.std.proofs.Common.{◌≡◌, ◌++◌, List, [], ◌∷◌, Bool, true, false, true≢false, codes, decimal, refl, sym, ap, ◌∙◌, append_assoc, Ordering, Less, Equal, Greater, nat_cmp}
 use Rattle.std.specs.Cmp.Lexicographic.{slice_cmp}
 use Rattle.std.specs.Ordering.{match_ordering}
 use Rattle.std.specs.Prelude.{ℕ, ◌||◌}
@@ -61,8 +61,3 @@ whole_line r begun rest is same =
     ap (λ (s : List ℕ). s ++ rest) is
     ∙ ap (λ (s : List ℕ). (codes "{\"body\":" ++ body) ++ s) same
     ∙ ap (λ (s : List ℕ). codes "{\"body\":" ++ s) (sym (append_assoc body more (10 ∷ [])))
-
--- a text that was made is an equal one
-pub written : {S E : Type 0} (seen : S → List ℕ) (result : Result S E) (a b : List ℕ) → a ≡ b → IfOk result (λ s. seen s ≡ a) → IfOk result (λ s. seen s ≡ b)
-written seen (Ok s) a b same is = is ∙ same
-written seen (Err e) a b same is = tt

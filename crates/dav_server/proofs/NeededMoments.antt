@@ -1,5 +1,5 @@
 -- That moments can be written is needed for a world to stay one: a run at a later moment, which leaves none.
-use Rattle.std.proofs.Common.{◌≤◌, [], ◌∷◌, None, Ok, Err, refl, arith}
+use Rattle.std.proofs.Common.{◌≤◌, [], ◌∷◌, Ok, Err, refl, arith}
 use Rattle.dav_core.specs.declared.errors.FsError.TheVariants.{NotFound}
 use Rattle.dav_core.specs.declared.method.DavMethod.TheVariants.{MkCol}
 use Rattle.dav_core.specs.Asking.{meaning, Asks, Answered, asked, Metadata, CreateDir}

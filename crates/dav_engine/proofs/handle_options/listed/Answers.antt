@@ -1,4 +1,4 @@
-use Rattle.std.proofs.Common.{codes, Ok, Err, ap, ◌∙◌}
+use Rattle.std.proofs.Common.{codes, ap, ◌∙◌}
 use Rattle.std.specs.List.{join_by}
 use Rattle.http_header.specs.FieldValue.{plain_value}
 use Rattle.dav_engine.specs.Options.{offered}

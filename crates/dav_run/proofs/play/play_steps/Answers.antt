@@ -1,6 +1,5 @@
 use Rattle.std.proofs.Common.{◌≡◌, ◌∙◌, ◌++◌, ◌∷◌, List, [], Err, refl, sym, ap, subst}
 use Rattle.std.proofs.lemmas.Result.{err_from_is_err_and}
-use Rattle.dav_engine.specs.Response.{Response}
 use Rattle.dav_server.specs.Run.{Turn, no_more}
 use Rattle.dav_server.specs.Server.{AnswersAll}
 use Rattle.dav_server.proofs.Theorems.{rest_after_one}

@@ -4,6 +4,8 @@ use Rattle.std.proofs.lemmas.Result.{err_from_is_err_and}
 use Rattle.dav_core.specs.Path.{names}
 use Rattle.dav_engine.specs.Folder.{location_found}
 use Rattle.dav_engine.proofs.LockLemmas.{refresh_as, again_ends, again_refused, again_short, again_done}
+use Rattle.dav_engine.proofs.LockPlans.{only_token}
+use Rattle.dav_engine.proofs.LookWorlds.{looks_keep_world}
 use Rattle.dav_engine.proofs.ModelLemmas.{follows_to, follows_store, sets_for}
 use Rattle.dav_engine.proofs.davinner.DavInner.lock_again.Goals as goal
 
@@ -41,3 +43,22 @@ returns-clause-plan g c =
     let now = ap (λ w. w.moment) c.caller.view_is ∙ ap (λ k. k.now.moment) lent.caller in
     let two = refresh_as (names c.args.path.now) c.deref.ensures c.refreshed_for-timeout.ensures now (sets_for held c.in_ok-lock.ensures.sets) in
     (again_done c.args.headers.now c.args.path.now (location_found (option_copied c.args.found) c.args.request.now.path) c.args.self.now.caller.now c.in_ok-token.token one _ two _ c.in_ok-refreshed_reply.ensures)
+
+pub returns-in_err-token-clause-world : goal.returns-in_err-token-clause-world
+returns-in_err-token-clause-world g c =
+    looks_keep_world (only_token c.args.headers.now (names c.args.path.now) c.args.self.now.caller.now) c.in_err-token.ensures.plan
+
+pub returns-in_err-lock-clause-world : goal.returns-in_err-lock-clause-world
+returns-in_err-lock-clause-world g c =
+    ap (λ b. b.state.store.world) c.backend.view_is
+    ∙ looks_keep_world (only_token c.args.headers.now (names c.args.path.now) c.args.self.now.caller.now) c.in_ok-token.ensures.plan
+
+pub returns-in_err-refreshed_reply-clause-world : goal.returns-in_err-refreshed_reply-clause-world
+returns-in_err-refreshed_reply-clause-world g c =
+    ap (λ b. b.state.store.world) c.backend.view_is
+    ∙ looks_keep_world (only_token c.args.headers.now (names c.args.path.now) c.args.self.now.caller.now) c.in_ok-token.ensures.plan
+
+pub returns-clause-world : goal.returns-clause-world
+returns-clause-world g c =
+    ap (λ b. b.state.store.world) c.backend.view_is
+    ∙ looks_keep_world (only_token c.args.headers.now (names c.args.path.now) c.args.self.now.caller.now) c.in_ok-token.ensures.plan

@@ -7,6 +7,8 @@ use Rattle.dav_engine.specs.Folder.{location_found}
 use Rattle.dav_engine.specs.Lock.{empty_opening}
 use Rattle.dav_engine.specs.LockHeaders.{LockHeaders}
 use Rattle.dav_engine.proofs.GrantFollows.{new_ends, new_short, new_refused, new_there, new_unmade, new_made, opens_as, some_copied}
+use Rattle.dav_engine.proofs.LockPlans.{only_asked}
+use Rattle.dav_engine.proofs.LookWorlds.{looks_keep_world}
 use Rattle.dav_engine.proofs.ModelLemmas.{follows_to, follows_store, sets_for}
 use Rattle.dav_engine.proofs.davinner.DavInner.lock_new.Goals as goal
 
@@ -65,3 +67,16 @@ returns-clause-plan g c =
     let none = some_copied c.args.found ∙ sym c.is_some.ensures ∙ c.if-is_some.false in
     let run = opens_as (names c.args.path.now) how token now c.in_ok-open_empty.ensures.ran in
     new_made c.args.headers.now c.args.path.now (location_found (option_copied c.args.found) c.args.request.now.path) c.args.body.now c.args.self.now.caller.now (option_copied c.args.found) c.in_ok-lock.lock one two _ none run c.in_ok-reply.ensures
+
+pub returns-in_err-lock-clause-world : goal.returns-in_err-lock-clause-world
+returns-in_err-lock-clause-world g c memory =
+    looks_keep_world (only_asked c.args.headers.now c.args.path.now c.args.body.now c.args.self.now.caller.now (option_copied c.args.found)) c.in_err-lock.ensures.plan
+
+pub returns-in_err-reply-clause-world : goal.returns-in_err-reply-clause-world
+returns-in_err-reply-clause-world g c memory =
+    looks_keep_world (only_asked c.args.headers.now c.args.path.now c.args.body.now c.args.self.now.caller.now (option_copied c.args.found)) c.in_ok-lock.ensures.plan
+
+pub returns-in_err-grant-clause-world : goal.returns-in_err-grant-clause-world
+returns-in_err-grant-clause-world g c memory =
+    ap (λ b. b.state.store.world) c.backend.view_is
+    ∙ looks_keep_world (only_asked c.args.headers.now c.args.path.now c.args.body.now c.args.self.now.caller.now (option_copied c.args.found)) c.in_ok-lock.ensures.plan

@@ -1,4 +1,4 @@
-use Rattle.std.proofs.Common.{◌≡◌, ◌++◌, ◌∷◌, [], List, ℕ, arith, ap, sym, ◌∙◌, map}
+use Rattle.std.proofs.Common.{◌≡◌, ◌++◌, ◌∷◌, [], arith, ap, sym, ◌∙◌, map}
 use Rattle.std.proofs.lemmas.List.{map_push}
 use Rattle.dav_headers.specs.IfParts.{part_view}
 use Rattle.dav_headers.specs.IfTokens.{Spells}

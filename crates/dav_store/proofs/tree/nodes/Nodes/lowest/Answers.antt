@@ -1,5 +1,4 @@
 use Rattle.std.proofs.Common.{◌≡◌, suc, length, arith, ap, sym, ◌∙◌}
-use Rattle.dav_store.specs.Tree.{first_child}
 use Rattle.dav_store.proofs.TreeClimbs.{climbs_far_enough}
 use Rattle.dav_store.proofs.TreeBelow.{deeper, too_far}
 use Rattle.dav_store.proofs.tree.nodes.Nodes.lowest.Goals as goal
