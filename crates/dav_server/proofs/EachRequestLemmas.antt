@@ -1,17 +1,19 @@
 -- What a run promises of each of its requests.
-use Rattle.std.proofs.Common.{◌++◌, ◌≤◌, List, ◌∷◌, ap, subst, ◌∙◌}
+use Rattle.std.proofs.Common.{◌++◌, ◌≤◌, List, ◌∷◌, ap, sym, subst, ◌∙◌}
+use Rattle.std.proofs.lemmas.List.Elements.{All-head}
 use Rattle.dav_core.specs.Path.{names}
-use Rattle.dav_core.specs.World.{World, node_at, last_moment}
+use Rattle.dav_core.specs.World.{World, IsWorld, node_at, last_moment}
 use Rattle.dav_engine.specs.Plan.{ServerState}
 use Rattle.dav_engine.specs.Response.{Response}
 use Rattle.dav_headers.specs.ETag.{tag_text}
-use Rattle.dav_server.specs.EachRequest.{ReadsLeaveAll, NotModifiedTells, LosesNoUpdate, OnlyCreates, RefusalsLeaveAll}
+use Rattle.dav_server.specs.EachRequest.{ReadsLeaveAll, NotModifiedTells, LosesNoUpdate, OnlyCreates, RefusalsLeaveAll, HrefsLeadBack}
 use Rattle.dav_server.specs.Leaving.{SameContent, SafeLeaves, CreateOnlyLeaves, RefusedStatusLeaves}
 use Rattle.dav_server.specs.Machine.{Asked, Settings, Steps}
 use Rattle.dav_server.specs.Run.{Turn, begun}
 use Rattle.dav_server.specs.Server.{Server}
 use Rattle.dav_server.specs.TagLaws.{AreShowable, ShownIn}
-use Rattle.dav_server.proofs.MeansWorld.{begun_world, all_front, reads_leave_all}
+use Rattle.dav_server.proofs.HrefReplies.{step_leads_back}
+use Rattle.dav_server.proofs.MeansWorld.{begun_world, all_front, all_back, reads_leave_all, runs_keep_worlds}
 use Rattle.dav_server.proofs.NoLostUpdate.{no_lost_update}
 use Rattle.dav_server.proofs.NotModified.{not_modified_is_true}
 use Rattle.dav_server.proofs.RefusedLemmas.{refused_leaves}
@@ -69,3 +71,12 @@ not_modified_tells old ts replies small u new ms world later p tag bytes is lack
     subst (λ (l : List Response). ShownIn (u.front ++ u.turn ∷ u.back) l text bytes) u.replies_are by_turns in
     not_modified_is_true old.settings u.front u.back u.turn old.state.store u.was.store u.now.store new old.state.locks u.was.locks u.now.locks ms
     u.before u.after u.reply p tag bytes world all u.earlier u.stepped later is lacks here
+
+pub hrefs_lead_back : (old : Server) (ts : List Turn) (replies : List Response) → AreShowable ts → HrefsLeadBack old ts replies
+hrefs_lead_back old ts replies small u fits world =
+    let all : AreShowable (u.front ++ u.turn ∷ u.back) = subst AreShowable u.turns_are small in
+    let first : AreShowable u.front = all_front (λ t. t.asked.moment ≤ last_moment) u.front (u.turn ∷ u.back) all in
+    let later : AreShowable (u.turn ∷ u.back) = all_back (λ t. t.asked.moment ≤ last_moment) u.front (u.turn ∷ u.back) all in
+    let kept = runs_keep_worlds old.settings u.front old.state.store u.was.store old.state.locks u.was.locks u.before world first u.earlier in
+    step_leads_back old.settings u.turn.asked (begun u.turn.refusals u.was.store) u.now.store u.was.locks u.now.locks u.reply u.stepped
+    fits (subst IsWorld (sym (begun_world u.turn.refusals u.was.store)) kept) (All-head (λ t. t.asked.moment ≤ last_moment) u.turn u.back later)

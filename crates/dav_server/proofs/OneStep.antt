@@ -12,11 +12,13 @@ use Rattle.dav_core.specs.World.{World}
 use Rattle.dav_headers.specs.ETagList.{IsTagList, star as every_tag}
 use Rattle.dav_engine.specs.Guard.{Stands}
 use Rattle.dav_engine.specs.Plan.{ServerState}
+use Rattle.dav_engine.specs.PropfindLaws.{responses_in}
 use Rattle.dav_engine.specs.Response.{Response}
 use Rattle.dav_engine.specs.Sparing.{Spared}
 use Rattle.dav_server.specs.EachRequest.{UnmodifiedFinds, UpdateFinds}
 use Rattle.dav_server.specs.Head.{Request, IsHead}
 use Rattle.dav_server.specs.Headers.{headers_of}
+use Rattle.dav_server.specs.HrefLaws.{TellsOfOne}
 use Rattle.dav_server.specs.Leaving.{SafeLeaves, CreateOnlyLeaves, RefusedStatusLeaves}
 use Rattle.dav_server.specs.Machine.{Asked}
 use Rattle.dav_server.specs.Method.{GivesServed}
@@ -48,6 +50,7 @@ pub data Clause : Type 0 where
   kept : Clause
   shared : Clause
   tags : Clause
+  hrefs : Clause
 
 -- what each of them asks of a step
 abbrev pub Keeps : Clause → Step → Type 0
@@ -60,6 +63,7 @@ Keeps passed s = (h : Lock) → h.shared ≡ false → Stands h s.was.locks → 
 Keeps kept s = (h : Lock) → Stands h s.was.locks → ¬ NamesToken s.asked h.token → s.asked.token ≢ Some h.token → Stands h s.now.locks
 Keeps shared s = (ls ms : List Lock) → s.was.locks ≡ Some ls → s.now.locks ≡ Some ms → CoveringAreShared ls → CoveringAreShared ms
 Keeps tags s = EqualTagsShowEqualBytes (s.turns ++ turn_with s.asked ∷ []) (s.replies ++ s.reply ∷ [])
+Keeps hrefs s = All (TellsOfOne settings s.asked) (responses_in s.reply.body)
 
 -- a step that keeps all of them
 abbrev pub KeepsAll : Step → Type 0
@@ -84,6 +88,10 @@ some_list is = cc
 
 pub as_shared : (s : Step) → s.now.locks ≡ s.was.locks → Keeps shared s
 as_shared s same ls ms were are shares = subst CoveringAreShared (some_list (sym were ∙ sym same ∙ are)) shares
+
+-- a reply that is no multistatus has no hrefs
+pub no_hrefs : (s : Step) → responses_in s.reply.body ≡ [] → Keeps hrefs s
+no_hrefs s none = subst (All (TellsOfOne settings s.asked)) (sym none) (All-nil (TellsOfOne settings s.asked))
 
 -- where no lock stands, none is passed
 pub none_passed : (s : Step) → s.was.locks ≡ Some [] → Keeps passed s

@@ -1,14 +1,14 @@
 -- More steps that aren't the machine's: a false 304, a lost update, a lock that is passed, and an exclusive lock beside another one; and an href
 -- that leads nowhere.
 use Rattle.std.proofs.Common.{◌≡◌, ◌≢◌, ◌++◌, ◌<◌, ◌≤◌, ℕ, false, true≢false, List, [], ◌∷◌, length, get_or, codes, Some, None, Ok, inl, inr, refl, sym, ap, subst, ◌∙◌, append-nil, arith}
-use Rattle.std.proofs.lemmas.List.Elements.{All-nil, All-cons, All-contains}
+use Rattle.std.proofs.lemmas.List.Elements.{All-nil, All-cons, All-head, All-contains}
 use Rattle.std.proofs.lemmas.List.Sums.{AllPass-from_list_all}
 use Rattle.http_header.specs.FieldValue.{plain_value}
 use Rattle.http_header.specs.HeaderMap.{get_all}
 use Rattle.http_header.specs.Token.{is_visible_or_blank}
 use Rattle.httparse.specs.Grammar.{Field, IsField, crlf, is_token_byte, is_value_byte, print_request, trim_ows}
 use Rattle.dav_core.specs.declared.fs.DavMetaData.{DavMetaData}
-use Rattle.dav_core.specs.declared.method.DavMethod.TheVariants.{Get, Put, MkCol, Lock as LockMethod}
+use Rattle.dav_core.specs.declared.method.DavMethod.TheVariants.{Get, Put, MkCol, Delete, Lock as LockMethod}
 use Rattle.dav_core.specs.Asking.{meaning, Asks, Answered, asked, Metadata, CreateDir, Open}
 use Rattle.dav_core.specs.Calls.{emptied}
 use Rattle.dav_core.specs.Element.{ElementTree}
@@ -29,7 +29,7 @@ use Rattle.dav_engine.specs.Guard.{Stands, listed_here, listed_later}
 use Rattle.dav_engine.specs.Lock.{granted_reply}
 use Rattle.dav_engine.specs.Method.{MethodPlan, ◌>>=◌, ask_for, ask_or, change_locks, gives}
 use Rattle.dav_engine.specs.Mkcol.{create_error, made}
-use Rattle.dav_engine.specs.Multistatus.{dav_text, response_for}
+use Rattle.dav_engine.specs.Multistatus.{dav_element, dav_text, response_for}
 use Rattle.dav_engine.specs.Plan.{Locks, ServerState, Ran, ran_done, ran_ask, ran_look, ran_keep}
 use Rattle.dav_engine.specs.Response.{Response}
 use Rattle.dav_engine.specs.Unlock.{unlocked_reply}
@@ -38,7 +38,7 @@ use Rattle.dav_server.specs.EachRequest.{HoldsBytes}
 use Rattle.dav_server.specs.Get.{not_modified}
 use Rattle.dav_server.specs.Head.{Request, IsHead, request_of_head}
 use Rattle.dav_server.specs.Headers.{headers_of}
-use Rattle.dav_server.specs.HrefLaws.{TellsOf}
+use Rattle.dav_server.specs.HrefLaws.{TellsOf, TellsOfOne}
 use Rattle.dav_server.specs.Machine.{Asked}
 use Rattle.dav_server.specs.Run.{Turn}
 use Rattle.dav_server.specs.TagLaws.{ShownIn, LacksTag}
@@ -47,8 +47,8 @@ use Rattle.dav_server.specs.UpdateLaws.{IsSuccess, UpdatesIf}
 use Rattle.dav_server.proofs.NeededForHeadline.{state, covered_changes}
 use Rattle.dav_server.proofs.WorkedGrant.{locker, lock_head, none}
 use Rattle.dav_server.proofs.WorkedRun.{a, slash_a, at_a, lock, head_of, head_with_method, text_a, target_at_a, stranger, stranger_head, other_names, turn_with, settings, before, after, holding, one_lock, makes_a}
-use Rattle.dav_server.proofs.OneStep.{Step, Clause, reading, created, refused, unmodified, updated, passed, kept, shared, tags, Keeps, BreaksOnly, same_world, stand, as_shared, none_passed, unsafe, no_creation, no_star, answered, no_304, no_success, ShowsOnly, shows_nothing, one_text, first_step, untold, shows_once, no_tag}
-use Rattle.dav_server.proofs.WrongSteps.{getter, is_get, stranger_request, emptying, filled, one_tag, tagged, shows}
+use Rattle.dav_server.proofs.OneStep.{Step, Clause, reading, created, refused, unmodified, updated, passed, kept, shared, tags, hrefs, Keeps, BreaksOnly, same_world, stand, as_shared, none_passed, unsafe, no_creation, no_star, answered, no_304, no_hrefs, no_success, ShowsOnly, shows_nothing, one_text, first_step, untold, shows_once, no_tag}
+use Rattle.dav_server.proofs.WrongSteps.{remover, remove_request, remove_head, getter, is_get, stranger_request, emptying, filled, one_tag, tagged, shows}
 
 -- ---- a file that another client has changed
 
@@ -188,6 +188,7 @@ all_but_unmodified passed other = none_passed unmodified_step refl
 all_but_unmodified kept other = stand unmodified_step refl
 all_but_unmodified shared other = as_shared unmodified_step refl
 all_but_unmodified tags other = one_text_then rechecker (not_modified found_other) unmodified_step.was unmodified_step.now (λ e. omega (arith, e))
+all_but_unmodified hrefs other = no_hrefs unmodified_step refl
 
 pub uncompared_304_is_false : Ran Asks never_compares (holding rewritten) none (Ok (not_modified found_other)) (holding rewritten) none × BreaksOnly unmodified unmodified_step
 uncompared_304_is_false = (
@@ -264,6 +265,7 @@ all_but_updated passed other = none_passed losing refl
 all_but_updated kept other = stand losing refl
 all_but_updated shared other = as_shared losing refl
 all_but_updated tags other = one_text_then updater (unlocked_reply []) losing.was losing.now (λ e. omega (arith, e))
+all_but_updated hrefs other = no_hrefs losing refl
 
 -- what the other client stored is lost
 pub unconditional_put_loses_an_update : Ran Asks puts_over (holding rewritten) none (Ok (unlocked_reply [])) (holding overwritten) none × BreaksOnly updated losing
@@ -296,6 +298,7 @@ all_but_passed passed other = absurd (other refl)
 all_but_passed kept other = stand passing refl
 all_but_passed shared other = as_shared passing refl
 all_but_passed tags other = no_tag stranger (made at_a) passing.was passing.now (λ e. omega (arith, e))
+all_but_passed hrefs other = no_hrefs passing refl
 
 -- the lock stands, as before, and what it covers has changed
 pub unasked_folder_passes_a_lock : Ran Asks makes_unasked (holding before) one_lock (Ok (made at_a)) (holding after) one_lock × BreaksOnly passed passing
@@ -349,6 +352,7 @@ all_but_shared passed other = λ h alone is unnamed fresh. same_world h before
 all_but_shared kept other = λ h is unnamed fresh. still_stands h is
 all_but_shared shared other = absurd (other refl)
 all_but_shared tags other = shows_once other_locker (granted_reply false [] other_lock) sharing.was sharing.now shows_tree
+all_but_shared hrefs other = no_hrefs sharing refl
 
 -- two exclusive locks cover the path
 pub unasked_grant_shares_no_path : Ran Asks grants_unasked (holding before) one_lock (Ok (granted_reply false [] other_lock)) (holding before) two_locks × BreaksOnly shared sharing
@@ -381,3 +385,40 @@ href_text text is = cc
 
 pub unprefixed_href_tells_of_nothing : (p : PathText) → ¬ TellsOf (codes "/d") p unprefixed
 unprefixed_href_tells_of_nothing p tells = leads_nowhere tells.text p (href_text tells.text tells.hrefs) (tells.leads Get)
+
+-- a DELETE is answered with a response that says nothing of its path
+abbrev pub bare_response : ElementTree
+bare_response = dav_element (codes "response") []
+
+abbrev pub barely_told : Response
+barely_told = record { status = 207; headers = []; body = reply.Tree (dav_element (codes "multistatus") (bare_response ∷ [])) }
+
+abbrev pub tells_barely : MethodPlan Response
+tells_barely = gives barely_told
+
+abbrev pub barely : Step
+barely = first_step remover barely_told (state (holding before) one_lock) (state (holding before) one_lock)
+
+no_href : (text : List ℕ) → ¬ (children_named (codes "href") bare_response ≡ dav_text (codes "href") text ∷ [])
+no_href text is = cc
+
+tells_of_none : ¬ TellsOfOne settings remover bare_response
+tells_of_none (q, about, tells) = no_href tells.text tells.hrefs
+
+all_but_hrefs : (d : Clause) → d ≢ hrefs → Keeps d barely
+all_but_hrefs reading other = λ safe. (refl, refl)
+all_but_hrefs created other = no_creation barely remove_request Delete remove_head (tt, refl) (λ e. cc) (λ e. cc)
+all_but_hrefs refused other = answered barely (λ e. omega (arith, e)) (λ e. omega (arith, e))
+all_but_hrefs unmodified other = no_304 barely (λ e. omega (arith, e))
+all_but_hrefs updated other = untold remover barely_told barely.was barely.now
+all_but_hrefs passed other = λ h alone is unnamed fresh. same_world h before
+all_but_hrefs kept other = stand barely refl
+all_but_hrefs shared other = as_shared barely refl
+all_but_hrefs tags other = no_tag remover barely_told barely.was barely.now (λ e. omega (arith, e))
+all_but_hrefs hrefs other = absurd (other refl)
+
+pub bare_response_tells_of_nothing : Ran Asks tells_barely (holding before) one_lock (Ok barely_told) (holding before) one_lock × BreaksOnly hrefs barely
+bare_response_tells_of_nothing = (
+  ran_done,
+  record { broken = λ leads. tells_of_none (All-head (TellsOfOne settings remover) bare_response [] leads); others = all_but_hrefs },
+)

@@ -1,15 +1,18 @@
--- What a run promises of each of its requests (RFC 9110, sections 9.2.1, 13.1 and 15.4.5; RFC 4918, sections 7 and 10.4).
-use Rattle.std.specs.Prelude.{◌≡◌, ◌++◌, ℕ, List, ◌∷◌, Some}
+-- What a run promises of each of its requests (RFC 9110, sections 9.2.1, 13.1 and 15.4.5; RFC 4918, sections 7, 8.3 and 10.4).
+use Rattle.std.specs.Prelude.{◌≡◌, ◌++◌, ℕ, List, ◌∷◌, All, Some}
 use Rattle.dav_core.specs.Asking.{StoreState}
 use Rattle.dav_core.specs.Path.{PathText, names}
 use Rattle.dav_core.specs.World.{Node, File, node_at, IsWorld}
 use Rattle.dav_headers.specs.ETag.{EntityTag, tag_text}
 use Rattle.dav_engine.specs.Plan.{Locks, ServerState}
+use Rattle.dav_engine.specs.PropfindLaws.{responses_in}
 use Rattle.dav_engine.specs.Response.{Response}
+use Rattle.dav_server.specs.HrefLaws.{TellsOfOne}
 use Rattle.dav_server.specs.Leaving.{SafeLeaves, CreateOnlyLeaves, RefusedStatusLeaves}
 use Rattle.dav_server.specs.Machine.{Asked, Settings, Steps}
 use Rattle.dav_server.specs.Run.{Turn, begun, Runs}
 use Rattle.dav_server.specs.Server.{Server}
+use Rattle.dav_server.specs.Setup.{IsPrefix}
 use Rattle.dav_server.specs.TagLaws.{ShownIn, LacksTag}
 use Rattle.dav_server.specs.UpdateLaws.{ToldIn, UpdatesIf, IsSuccess}
 
@@ -72,3 +75,10 @@ OnlyCreates old ts replies = (u : RunStep old ts replies) → CreateOnlyLeaves o
 -- Each request that is answered 412 or 423 leaves the world and the list of locks.
 abbrev pub RefusalsLeaveAll : Server → List Turn → List Response → Type 0
 RefusalsLeaveAll old ts replies = (u : RunStep old ts replies) → RefusedStatusLeaves u.turn.asked u.reply u.was u.now
+
+-- Hrefs lead back: where the server's prefix is one and the run begins with a world, each response of a multistatus tells of a path that
+-- its request is about, by an href that leads to this path.
+abbrev pub HrefsLeadBack : Server → List Turn → List Response → Type 0
+HrefsLeadBack old ts replies =
+    (u : RunStep old ts replies) → IsPrefix old.settings.prefix → IsWorld old.state.store.world
+    → All (TellsOfOne old.settings u.turn.asked) (responses_in u.reply.body)

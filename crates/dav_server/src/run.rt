@@ -3,7 +3,7 @@ ghost use Rattle.std.specs.Option.{is_some};
 ghost use Rattle.std.specs.Prelude.{◌≡◌, ◌<◌, ◌≤◌, ◌++◌, ◌∷◌, [], true, vec_len, IfOk, IfErr, OnOk, OnErr};
 ghost use Rattle.std.specs.Vec.{vec_capacity};
 ghost use Rattle.dav_core.specs.World.{last_moment};
-ghost use Rattle.dav_server.specs.EachRequest.{LosesNoUpdate, NotModifiedTells, OnlyCreates, ReadsLeaveAll, RefusalsLeaveAll};
+ghost use Rattle.dav_server.specs.EachRequest.{HrefsLeadBack, LosesNoUpdate, NotModifiedTells, OnlyCreates, ReadsLeaveAll, RefusalsLeaveAll};
 ghost use Rattle.dav_server.specs.Ending.{EndsNoLock};
 ghost use Rattle.dav_server.specs.FromNone.{EndsNoLockFromNone, PassesNoLockFromNone};
 ghost use Rattle.dav_server.specs.Headline.{FromAnEmptyServer};
@@ -102,7 +102,8 @@ impl<F: DavFileSystem, L: DavLockSystem> DavHandler<F, L> {
     /// lock's token as the lock's principal, nor ends a lock whose token it doesn't name; a request that hands in the lock's
     /// token for a lock of its own aside. Locks that cover one path stay shared. Requests that only read change nothing, nor do
     /// those that are answered 412 or 423 (a LOCK, where no lock has its token); a 304 is true; no update on condition of a tag
-    /// is lost; and what is there is kept under If-None-Match `*` (RFC 9110, sections 9.2.1 and 13.1).
+    /// is lost; what is there is kept under If-None-Match `*` (RFC 9110, sections 9.2.1 and 13.1); and each href of a multistatus leads
+    /// back to the path that its response tells of (RFC 4918, section 8.3).
     ///
     /// `RunFault` where memory ran out outside the store, with the replies that were given before; they are those of a run
     /// of the machine, and of the next request at most the first calls of the store were made, each of them whole.
@@ -128,6 +129,8 @@ impl<F: DavFileSystem, L: DavLockSystem> DavHandler<F, L> {
             OnlyCreates self.old.server (turns exchanges.now) replies.items) }
         ensures refused { IfOk result (λ replies.
             RefusalsLeaveAll self.old.server (turns exchanges.now) replies.items) }
+        ensures hrefs { IfOk result (λ replies.
+            HrefsLeadBack self.old.server (turns exchanges.now) replies.items) }
         ensures fault { IfErr result (λ fault.
             AnswersSome self.old.server (turns exchanges.now) fault.replies.items self.new.server) }
     {
@@ -174,7 +177,8 @@ fn answer_step(
 /// the lock was granted and that the tokens which are handed in differ. And then nothing that an exclusive lock covers changes,
 /// and no lock ends, unless the request names its token. All this in one piece, from an empty server on, is the clause `headline`.
 /// Requests that only read change nothing, nor do those that are answered 412 or 423 (a LOCK, where no lock has its token); a 304
-/// is true; no update on condition of a tag is lost; and what is there is kept under If-None-Match `*`.
+/// is true; no update on condition of a tag is lost; what is there is kept under If-None-Match `*`; and each href of a multistatus
+/// leads back to the path that its response tells of.
 ///
 /// `RunFault` where memory ran out outside the store, with the replies that were given before; they are those of a run of
 /// the machine, and of the next request at most the first calls of the store were made, each of them whole.
@@ -212,6 +216,8 @@ pub fn run_refused(
         OnlyCreates handler.old.server steps.entry.items replies.items) }
     ensures refused { IfOk result (λ replies.
         RefusalsLeaveAll handler.old.server steps.entry.items replies.items) }
+    ensures hrefs { IfOk result (λ replies.
+        HrefsLeadBack handler.old.server steps.entry.items replies.items) }
     ensures headline { IfOk result (λ replies. FromAnEmptyServer
         handler.old.server steps.entry.items replies.items handler.new.server) }
     ensures fault { IfErr result (λ fault.

@@ -2,7 +2,7 @@ use Rattle.std.proofs.Common.{◌∙◌, [], refl, sym}
 use Rattle.dav_server.specs.Run.{no_more}
 use Rattle.dav_server.proofs.RunLemmas.{run_added, steps_at, cut_at, ran_to, ran_for, rest_after_one, turns_of}
 use Rattle.dav_server.proofs.IsolationLemmas.{is_isolated, none_loaded, loaded_more, loaded_for}
-use Rattle.dav_server.proofs.EachRequestLemmas.{reads_leave, only_creates, refusals_leave, loses_no_update, not_modified_tells}
+use Rattle.dav_server.proofs.EachRequestLemmas.{reads_leave, only_creates, refusals_leave, loses_no_update, not_modified_tells, hrefs_lead_back}
 use Rattle.dav_server.proofs.EndingLemmas.{ends_no_lock}
 use Rattle.dav_server.proofs.FromNoneLemmas.{passes_no_lock_from_none, ends_no_lock_from_none}
 use Rattle.dav_server.proofs.GrantedRuns.{is_isolated_from_grants}
@@ -96,6 +96,12 @@ returns-clause-updated c =
     let rest = c.loop-step.step-iterator.rest in
     let whole = all_yielded c.args.steps.items c.loop-step.yielded rest.items rest.len c.loop-step.invariant.3 rest.ok.0 c.in-None.ensures.steps.0 in
     loses_no_update _ c.args.steps.items _ (showable_for whole c.loop-step.invariant.2)
+
+pub returns-clause-hrefs : goal.returns-clause-hrefs
+returns-clause-hrefs c =
+    let rest = c.loop-step.step-iterator.rest in
+    let whole = all_yielded c.args.steps.items c.loop-step.yielded rest.items rest.len c.loop-step.invariant.3 rest.ok.0 c.in-None.ensures.steps.0 in
+    hrefs_lead_back _ c.args.steps.items _ (showable_for whole c.loop-step.invariant.2)
 
 pub returns-clause-headline : goal.returns-clause-headline
 returns-clause-headline c =

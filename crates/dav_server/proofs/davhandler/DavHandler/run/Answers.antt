@@ -2,7 +2,7 @@ use Rattle.std.proofs.Common.{◌∙◌, [], ◌+◌, map, take, drop, refl}
 use Rattle.dav_server.specs.Run.{no_more}
 use Rattle.dav_server.specs.Server.{turn_of}
 use Rattle.dav_server.proofs.RunLemmas.{run_further, parts_of, steps_at, cut_at, ran_to}
-use Rattle.dav_server.proofs.EachRequestLemmas.{reads_leave, only_creates, refusals_leave, loses_no_update, not_modified_tells}
+use Rattle.dav_server.proofs.EachRequestLemmas.{reads_leave, only_creates, refusals_leave, loses_no_update, not_modified_tells, hrefs_lead_back}
 use Rattle.dav_server.proofs.EndingLemmas.{ends_no_lock}
 use Rattle.dav_server.proofs.ListLemmas.{shares_locks}
 use Rattle.dav_server.proofs.StrangerLemmas.{passes_no_lock}
@@ -67,4 +67,9 @@ returns-clause-unmodified g c =
 pub returns-clause-updated : goal.returns-clause-updated
 returns-clause-updated g c =
     loses_no_update _ (map turn_of c.args.exchanges.now) _
+    (showable_all c.args.exchanges.now c.loop-exchange.exchange-index c.loop-exchange-test.false c.loop-exchange.invariant.2)
+
+pub returns-clause-hrefs : goal.returns-clause-hrefs
+returns-clause-hrefs g c =
+    hrefs_lead_back _ (map turn_of c.args.exchanges.now) _
     (showable_all c.args.exchanges.now c.loop-exchange.exchange-index c.loop-exchange-test.false c.loop-exchange.invariant.2)
