@@ -1,6 +1,6 @@
 //! COPY and MOVE by calls of the engine, over a store in memory that refuses calls by a list. What is expected was worked out by
 //! hand from RFC 4918, sections 9.8 and 9.9.
-use super::engine_calls::{EngineRequest, request_of};
+use super::engine_calls::{Engine, EngineRequest, nobody, request_of};
 use super::tests::{lock_for_anna, shown};
 use super::*;
 use crate::refusing::Refusing;
@@ -249,12 +249,6 @@ delete_items 1 /d -> ok
 at /d -> nothing
 "##;
 
-// Plays requests and calls on a store and locks.
-#[derive(Drop)]
-struct Copier {
-    backend: Backend<Refusing<MemFs>, MemLs>,
-}
-
 // The depth of this text.
 fn depth_of(text: &'static str) -> Result<Depth, NoRow> {
     match text {
@@ -285,31 +279,7 @@ fn outcome_text(alloc: Global, outcome: DavResult<()>, errors: MultiError) -> Re
     }
 }
 
-impl Copier {
-    // A call of the handler.
-    fn handle(&mut self, alloc: Global, asked: &EngineRequest) -> DavResult<Reply> {
-        let caller = Caller {
-            principal: None,
-            moment: 1,
-            token: Some("urn:t:1"),
-        };
-        let mut inner = DavInner {
-            backend: &mut self.backend,
-            allow: DavMethodSet::all(),
-            caller: &caller,
-        };
-        let request = &asked.request;
-        if request.path.is_star() {
-            return Err(DavError::Status(StatusCode::FORBIDDEN));
-        }
-        match request.method {
-            DavMethod::Put => inner.handle_put(alloc, request, &asked.body),
-            DavMethod::MkCol => inner.handle_mkcol(alloc, request, &asked.body),
-            DavMethod::Lock => inner.handle_lock(alloc, request, &asked.body),
-            _ => inner.handle_copymove(alloc, request, &asked.body),
-        }
-    }
-
+impl<F: DavFileSystem + Drop, L: DavLockSystem + Drop> Engine<F, L> {
     // The reply to a request as text: of a COPY or MOVE all of it, else its status.
     fn replied(&mut self, alloc: Global, asked: &EngineRequest) -> Result<String, Fail> {
         match self.handle(alloc, asked) {
@@ -322,7 +292,7 @@ impl Copier {
     }
 
     // What is at a path, as text.
-    fn found(&mut self, alloc: Global, path: &DavPath) -> Result<String, Fail> {
+    fn content(&mut self, alloc: Global, path: &DavPath) -> Result<String, Fail> {
         let fs = &mut self.backend.fs;
         match fs.metadata(path) {
             Err(_) => Ok(String::from_str(alloc, "nothing")?),
@@ -365,15 +335,11 @@ impl Copier {
         if source.is_star() {
             return Err(NoRow(text))?;
         }
-        let caller = Caller {
-            principal: None,
-            moment: 1,
-            token: None,
-        };
+        let caller = &nobody(source);
         let mut inner = DavInner {
             backend: &mut self.backend,
             allow: DavMethodSet::all(),
-            caller: &caller,
+            caller,
         };
         let mut errors = MultiError::new(Vec::new(alloc));
         let outcome = inner.do_copy(alloc, source, top, to, depth, &mut errors);
@@ -389,15 +355,11 @@ impl Copier {
             return Err(NoRow(text))?;
         }
         let meta = self.backend.fs.metadata(&path)?;
-        let caller = Caller {
-            principal: None,
-            moment: 1,
-            token: None,
-        };
+        let caller = &nobody(&path);
         let mut inner = DavInner {
             backend: &mut self.backend,
             allow: DavMethodSet::all(),
-            caller: &caller,
+            caller,
         };
         let mut errors = MultiError::new(Vec::new(alloc));
         let outcome = inner.delete_items(alloc, &mut errors, depth, &meta, &path);
@@ -410,15 +372,11 @@ impl Copier {
         let [source, to] = paths.as_slice() else {
             return Err(NoRow(text))?;
         };
-        let caller = Caller {
-            principal: None,
-            moment: 1,
-            token: None,
-        };
+        let caller = &nobody(source);
         let mut inner = DavInner {
             backend: &mut self.backend,
             allow: DavMethodSet::all(),
-            caller: &caller,
+            caller,
         };
         let mut errors = MultiError::new(Vec::new(alloc));
         let outcome = inner.do_move(alloc, source, to, &mut errors);
@@ -434,23 +392,18 @@ impl Copier {
         question: &'static str,
     ) -> Result<String, Fail> {
         match word {
-            "at" => self.found(alloc, &DavPath::new(alloc, rest)?),
+            "at" => self.content(alloc, &DavPath::new(alloc, rest)?),
             "tag" => self.tag(alloc, &DavPath::new(alloc, rest)?),
             "locks" => self.locks(alloc, &DavPath::new(alloc, rest)?),
             "do_copy" => self.copy(alloc, rest),
             "do_move" => self.move_by_itself(alloc, rest),
             "delete_items" => self.remove(alloc, rest),
-            "refuse" => {
-                let refusals = refusals_of(alloc, rest)?;
-                self.backend.fs.load(refusals);
-                Ok(String::from_str(alloc, "next")?)
-            }
             _ => self.replied(alloc, &request_of(alloc, question)?),
         }
     }
 }
 
-impl Player for Copier {
+impl Player for Engine<Refusing<MemFs>, MemLs> {
     fn begin(&mut self, alloc: Global) -> Result<(), Fail> {
         let backend = &mut self.backend;
         backend.fs = Refusing::new(MemFs::new(alloc)?);
@@ -464,6 +417,11 @@ impl Player for Copier {
             return lock_for_anna(alloc, &mut backend.ls, path);
         }
         let (word, rest) = question.split_once(' ').ok_or(NoRow(question))?;
+        if word == "refuse" {
+            let refusals = refusals_of(alloc, rest)?;
+            self.backend.fs.load(refusals);
+            return Ok(Vec::from_slice(alloc, b"next")?);
+        }
         Ok(self.asked(alloc, word, rest, question)?.into_bytes())
     }
 }
@@ -473,5 +431,5 @@ fn copies_and_moves(rt: HostRuntime) -> Result<(), Fail> {
     let fs = Refusing::new(MemFs::new(rt.alloc())?);
     let ls = Some(MemLs::new(rt.alloc())?);
     let backend = Backend { fs, ls };
-    play_rows(&rt, &mut Copier { backend }, COPIES)
+    play_rows(&rt, &mut Engine { backend }, COPIES)
 }

@@ -1,5 +1,8 @@
 //! Each call of the engine by itself, over a store and locks in memory. What is expected was worked out by hand from RFC
 //! 9110 and RFC 4918.
+ghost use Rattle.std.specs.Prelude.{◌≤◌};
+ghost use Rattle.dav_core.specs.World.{last_moment};
+
 use super::tests::{lock_for_anna, shown};
 use super::*;
 use crate::rows::{NoRow, Player, play_rows};
@@ -35,6 +38,14 @@ handle_put | PUT /n | bytes x -> 204\naccept-ranges: bytes\netag: "3"\nlast-modi
 handle_lock | LOCK /n | depth: 1 | lockinfo exclusive -> error 400
 handle_lock | LOCK /n | lockinfo none -> error 400
 handle_lock | LOCK /n | if-match: * | lockinfo shared -> error 412
+# a property is stored and told, a path is asked what may be done there, and a file is removed
+handle_options | OPTIONS /f -> 200\ndav: 1,2,3,sabredav-partialupdate\nms-author-via: DAV\ncontent-length: 0\nallow: OPTIONS,MKCOL,PUT,LOCK\n
+handle_put | PUT /f | bytes x -> 201\naccept-ranges: bytes\ncontent-length: 0\netag: "2"\nlast-modified: Thu, 01 Jan 1970 00:00:01 GMT\n
+handle_proppatch | PROPPATCH /f | sets a -> 207\ncontent-type: application/xml; charset=utf-8\n\n /f\n
+handle_propfind | PROPFIND /f | depth: 0 -> 207\ncache-control: no-cache\npragma: no-cache\ncontent-type: application/xml; charset=utf-8\n\n /f\n
+handle_delete | DELETE /f | depth: 1 -> error 400
+handle_delete | DELETE /f -> 204\n
+handle_delete | DELETE /f -> error 404
 # conditions of the file /f with the tag "2", and of nothing; the last ones under a lock
 handle_put | PUT /f | bytes x -> 201\naccept-ranges: bytes\ncontent-length: 0\netag: "2"\nlast-modified: Thu, 01 Jan 1970 00:00:01 GMT\n
 http_if_match | GET /f | if-none-match: "2" -> 304
@@ -74,6 +85,15 @@ fn lock_info(alloc: Global, scope: &str) -> Result<Element, NoMemory> {
     Ok(info)
 }
 
+// What asks for a property to be set, without anything in it.
+fn update(alloc: Global, name: &str) -> Result<Element, NoMemory> {
+    let mut set = Element::new(alloc, "set")?;
+    set.push_element(around(alloc, "prop", name)?)?;
+    let mut update = Element::new(alloc, "propertyupdate")?;
+    update.push_element(set)?;
+    Ok(update)
+}
+
 // The request of a row, without the call.
 pub(super) fn request_of(alloc: Global, text: &'static str) -> Result<EngineRequest, Fail> {
     let mut parts = text.split(" | ");
@@ -90,6 +110,8 @@ pub(super) fn request_of(alloc: Global, text: &'static str) -> Result<EngineRequ
             body = Body::Bytes(Bytes::from_static(bytes.as_bytes()));
         } else if let Some(scope) = part.strip_prefix("lockinfo ") {
             body = Body::Tree(lock_info(alloc, scope)?);
+        } else if let Some(name) = part.strip_prefix("sets ") {
+            body = Body::Tree(update(alloc, name)?);
         } else if let Some(prefix) = part.strip_prefix("prefix ") {
             path.set_prefix(prefix)?;
         } else {
@@ -114,41 +136,54 @@ fn status_text(alloc: Global, status: Option<StatusCode>) -> Result<String, Fail
     }
 }
 
-// Plays calls of the engine on a store and locks.
-#[derive(Drop)]
-struct Engine {
-    backend: Backend<MemFs, MemLs>,
+// Who makes a request for a path.
+pub(super) fn nobody<'c>(_path: &'c DavPath) -> Caller<'c>
+    ensures { result.moment ≤ last_moment }
+{
+    Caller {
+        principal: None,
+        moment: 1,
+        token: Some("urn:t:1"),
+    }
 }
 
-impl Engine {
-    // A call of the handler.
-    fn handle(&mut self, alloc: Global, call: &str, asked: &EngineRequest) -> DavResult<Reply> {
-        let caller = Caller {
-            principal: None,
-            moment: 1,
-            token: Some("urn:t:1"),
-        };
+/// A store and locks, on which calls of the engine are made. What calls the engine is proved for any store and locks: for those in memory
+/// it would cost a multiple.
+#[derive(Drop)]
+pub(super) struct Engine<F: DavFileSystem + Drop, L: DavLockSystem + Drop> {
+    pub(super) backend: Backend<F, L>,
+}
+
+impl<F: DavFileSystem + Drop, L: DavLockSystem + Drop> Engine<F, L> {
+    /// The reply of a request's method.
+    pub(super) fn handle(&mut self, alloc: Global, asked: &EngineRequest) -> DavResult<Reply> {
+        let request = &asked.request;
+        let body = &asked.body;
+        let caller = &nobody(&request.path);
         let mut inner = DavInner {
             backend: &mut self.backend,
             allow: DavMethodSet::all(),
-            caller: &caller,
+            caller,
         };
-        match call {
-            "handle_put" => inner.handle_put(alloc, &asked.request, &asked.body),
-            "handle_lock" => inner.handle_lock(alloc, &asked.request, &asked.body),
-            "handle_unlock" => inner.handle_unlock(alloc, &asked.request, &asked.body),
-            _ => inner.handle_mkcol(alloc, &asked.request, &asked.body),
+        if request.path.is_star() {
+            return Err(DavError::Status(StatusCode::FORBIDDEN));
+        }
+        match request.method {
+            DavMethod::Put | DavMethod::Patch => inner.handle_put(alloc, request, body),
+            DavMethod::MkCol => inner.handle_mkcol(alloc, request, body),
+            DavMethod::Delete => inner.handle_delete(alloc, request, body),
+            DavMethod::Copy | DavMethod::Move => inner.handle_copymove(alloc, request, body),
+            DavMethod::Lock => inner.handle_lock(alloc, request, body),
+            DavMethod::Unlock => inner.handle_unlock(alloc, request, body),
+            DavMethod::PropFind => inner.handle_propfind(alloc, request, body),
+            DavMethod::PropPatch => inner.handle_proppatch(alloc, request, body),
+            _ => inner.handle_options(alloc, request, body),
         }
     }
 
     // What a call of the handler returns, as text.
-    fn handled(
-        &mut self,
-        alloc: Global,
-        call: &str,
-        asked: &EngineRequest,
-    ) -> Result<String, Fail> {
-        match self.handle(alloc, call, asked) {
+    fn handled(&mut self, alloc: Global, asked: &EngineRequest) -> Result<String, Fail> {
+        match self.handle(alloc, asked) {
             Ok(reply) => shown(alloc, &reply),
             Err(error) => Ok(format!(in alloc; "error {}", error.statuscode().as_u16())?),
         }
@@ -191,17 +226,9 @@ impl Engine {
     }
 
     // What a call returns, as text.
-    fn call(
-        &mut self,
-        alloc: Global,
-        call: &'static str,
-        asked: &EngineRequest,
-    ) -> Result<String, Fail> {
+    fn call(&mut self, alloc: Global, call: &str, asked: &EngineRequest) -> Result<String, Fail> {
         let request = &asked.request;
         match call {
-            "handle_put" | "handle_mkcol" | "handle_lock" | "handle_unlock" => {
-                self.handled(alloc, call, asked)
-            }
             "http_if_match" => {
                 let found = self.found(request);
                 status_text(alloc, http_if_match(alloc, request, found.as_ref())?)
@@ -209,12 +236,12 @@ impl Engine {
             "dav_if_match" => self.holds(alloc, request),
             "if_match" => self.status(alloc, request),
             "if_match_get_tokens" => self.tokens(alloc, request),
-            _ => Err(NoRow(call))?,
+            _ => self.handled(alloc, asked),
         }
     }
 }
 
-impl Player for Engine {
+impl Player for Engine<MemFs, MemLs> {
     fn begin(&mut self, alloc: Global) -> Result<(), Fail> {
         let backend = &mut self.backend;
         backend.fs = MemFs::new(alloc)?;

@@ -114,11 +114,11 @@ fn told(alloc: Global, reply: &Reply, tree: &Element) -> Result<String, Fail> {
 
 // Writes properties of what is in a store.
 #[derive(Drop)]
-struct Written {
-    fs: MemFs,
+struct Written<F: DavFileSystem + Drop, L: DavLockSystem + Drop> {
+    backend: Backend<F, L>,
 }
 
-impl Written {
+impl<F: DavFileSystem + Drop, L: DavLockSystem + Drop> Written<F, L> {
     // Does what a part of a row says.
     fn write(
         &mut self,
@@ -136,15 +136,16 @@ impl Written {
                 Ok(writer.write_propresponse(alloc, &path, group(alloc, status, name)?)?)
             }
             _ => {
-                let meta = self.fs.metadata(&path)?;
-                let ls: Option<&MemLs> = None;
-                Ok(writer.write_props(alloc, &mut self.fs, ls, &path, &meta)?)
+                let backend = &mut self.backend;
+                let meta = backend.fs.metadata(&path)?;
+                let ls = backend.ls.as_ref();
+                Ok(writer.write_props(alloc, &mut backend.fs, ls, &path, &meta)?)
             }
         }
     }
 }
 
-impl Player for Written {
+impl Player for Written<MemFs, MemLs> {
     fn begin(&mut self, _alloc: Global) -> Result<(), Fail> {
         Ok(())
     }
@@ -165,18 +166,17 @@ impl Player for Written {
     }
 }
 
-// A store with a file of one byte at /f.
-fn store_of_a_file(alloc: Global) -> Result<MemFs, Fail> {
-    let mut server = tests::new_server(alloc)?;
+// A store with a file of one byte at /f, and no locks.
+fn store_of_a_file(alloc: Global) -> Result<Backend<MemFs, MemLs>, Fail> {
+    let mut server = tests::lockless_server(alloc)?;
     let head = b"PUT /f HTTP/1.1\r\n\r\n";
     let exchange = Exchange::new(head, Body::Bytes(Bytes::from_static(b"x")), None, 1, None)?;
     let _ = server.handle(alloc, &exchange)?;
-    let backend = server.backend;
-    Ok(backend.fs)
+    Ok(server.backend)
 }
 
 #[test]
 fn writes_properties(rt: HostRuntime) -> Result<(), Fail> {
-    let fs = store_of_a_file(rt.alloc())?;
-    play_rows(&rt, &mut Written { fs }, WRITTEN)
+    let backend = store_of_a_file(rt.alloc())?;
+    play_rows(&rt, &mut Written { backend }, WRITTEN)
 }

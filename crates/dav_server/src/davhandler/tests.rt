@@ -215,11 +215,11 @@ fn body_of(alloc: Global, kind: &'static str, text: &'static str) -> Result<Body
 
 // Plays requests.
 #[derive(Drop)]
-struct Requests {
-    server: DavHandler<MemFs, MemLs>,
+struct Requests<F: DavFileSystem + Drop, L: DavLockSystem + Drop> {
+    server: DavHandler<F, L>,
 }
 
-impl Requests {
+impl<F: DavFileSystem + Drop, L: DavLockSystem + Drop> Requests<F, L> {
     // The reply to a request, in one text.
     fn reply(&mut self, alloc: Global, request: &'static str) -> Result<String, Fail> {
         let mut parts = request.split(" | ");
@@ -239,7 +239,7 @@ impl Requests {
     }
 }
 
-impl Player for Requests {
+impl Player for Requests<MemFs, MemLs> {
     fn begin(&mut self, alloc: Global) -> Result<(), Fail> {
         self.server = new_server(alloc)?;
         Ok(())

@@ -77,12 +77,12 @@ fn refusals_of(alloc: Global, words: &str) -> Result<Vec<Option<FsError>>, Alloc
 
 // Calls a store, and keeps the file that it opened.
 #[derive(Drop)]
-struct Calls {
-    fs: Refusing<MemFs>,
-    file: Option<<MemFs as DavFileSystem>::File>,
+struct Calls<F: DavFileSystem + Drop> {
+    fs: Refusing<F>,
+    file: Option<F::File>,
 }
 
-impl Calls {
+impl<F: DavFileSystem + Drop> Calls<F> {
     // Makes a folder.
     fn create_dir(&mut self, alloc: Global, path: &DavPath) -> FsResult<Answer> {
         self.fs.create_dir(alloc, path, 1)?;
@@ -147,7 +147,7 @@ impl Calls {
     }
 }
 
-impl Player for Calls {
+impl Player for Calls<MemFs> {
     fn begin(&mut self, alloc: Global) -> Result<(), Fail> {
         self.fs = Refusing::new(MemFs::new(alloc)?);
         self.file = None;

@@ -390,11 +390,11 @@ fn header_lines(alloc: Global, texts: &str) -> Result<String, NoMemory> {
 
 // A server of a new store, and what it is asked.
 #[derive(Drop)]
-struct Asked {
-    server: DavHandler<Refusing<MemFs>, MemLs>,
+struct Asked<F: DavFileSystem + Drop, L: DavLockSystem + Drop> {
+    server: DavHandler<F, L>,
 }
 
-impl Asked {
+impl<F: DavFileSystem + Drop, L: DavLockSystem + Drop> Asked<F, L> {
     // The reply to a request of anna's for the file /f, with more headers.
     fn ask(&mut self, alloc: Global, method: &str, lines: &str, body: Body) -> Result<Reply, Fail> {
         let head = format!(in alloc; "{method} /f HTTP/1.1\r\n{lines}\r\n")?;
@@ -412,16 +412,6 @@ impl Asked {
         )?;
         let update = Body::Tree(around(alloc, "propertyupdate", change)?);
         property_status(alloc, &self.ask(alloc, "PROPPATCH", "", update)?)
-    }
-
-    // The same where the store keeps properties, and where it refuses to tell.
-    fn changes(&mut self, alloc: Global, action: &str, text: &'static str) -> Result<String, Fail> {
-        self.ask(alloc, "PUT", "", Body::None)?;
-        let kept = self.change(alloc, action, text)?;
-        let refusals = vec![in alloc; None, Some(FsError::Forbidden)]?;
-        self.server.backend.fs.load(refusals);
-        let unkept = self.change(alloc, action, text)?;
-        Ok(format!(in alloc; "{kept} {unkept}")?)
     }
 
     // The names that the reply to an update of the file's properties tells.
@@ -484,7 +474,19 @@ impl Asked {
     }
 }
 
-impl Player for Asked {
+impl Asked<Refusing<MemFs>, MemLs> {
+    // The status of such a change where the store keeps properties, and where it refuses to tell.
+    fn changes(&mut self, alloc: Global, action: &str, text: &'static str) -> Result<String, Fail> {
+        self.ask(alloc, "PUT", "", Body::None)?;
+        let kept = self.change(alloc, action, text)?;
+        let refusals = vec![in alloc; None, Some(FsError::Forbidden)]?;
+        self.server.backend.fs.load(refusals);
+        let unkept = self.change(alloc, action, text)?;
+        Ok(format!(in alloc; "{kept} {unkept}")?)
+    }
+}
+
+impl Player for Asked<Refusing<MemFs>, MemLs> {
     fn begin(&mut self, _alloc: Global) -> Result<(), Fail> {
         Ok(())
     }

@@ -1,7 +1,7 @@
 //! Copies and moves of which each call of the store is refused in turn. What is expected was worked out by hand from RFC 4918,
 //! sections 9.8 and 9.9.
 use super::removals::{BUILDING, add_left, refusals_of, step};
-use super::tests::{exchange, refusing_server};
+use super::tests::{exchange, replies_to};
 use super::*;
 use crate::davhandler::tests::shown;
 use crate::rows::{NoRow, Player, play_rows};
@@ -253,8 +253,7 @@ impl Player for Copies {
         for (_, head) in ASKING {
             steps.push(step(alloc, head)?)?;
         }
-        let mut server = refusing_server(alloc)?;
-        let replies = run_refused(&mut server, alloc, steps).map_err(|_| NoMemory)?;
+        let replies = replies_to(alloc, steps)?;
         let Some([reply, rest @ ..]) = replies.get(count..) else {
             return Err(NoRow(question))?;
         };

@@ -1,7 +1,7 @@
 //! A PROPFIND of which each call of the store is refused in turn. What is expected was worked out by hand from RFC 4918, sections
 //! 4.4 and 9.1.
 use super::removals::{refusals_of, step};
-use super::tests::refusing_server;
+use super::tests::replies_to;
 use super::*;
 use crate::rows::{NoRow, Player, play_rows};
 use dav_core::element::Element;
@@ -187,9 +187,8 @@ impl Player for Findings {
     }
 
     fn answer(&mut self, alloc: Global, question: &'static str) -> Result<Vec<u8>, Fail> {
-        let mut server = refusing_server(alloc)?;
         let steps = steps(alloc, refusals_of(alloc, question)?)?;
-        let replies = run_refused(&mut server, alloc, steps).map_err(|_| NoMemory)?;
+        let replies = replies_to(alloc, steps)?;
         let reply = replies.last().ok_or(NoRow(question))?;
         Ok(found(alloc, reply)?.into_bytes())
     }

@@ -1,6 +1,6 @@
 //! A removal of which each call of the store is refused in turn. What is expected was worked out by hand from RFC 4918, section
 //! 9.6.1.
-use super::tests::{exchange, refusing_server};
+use super::tests::{exchange, replies_to};
 use super::*;
 use crate::davhandler::tests::shown;
 use crate::exchange::BadMoment;
@@ -153,9 +153,8 @@ impl Player for Removals {
     }
 
     fn answer(&mut self, alloc: Global, question: &'static str) -> Result<Vec<u8>, Fail> {
-        let mut server = refusing_server(alloc)?;
         let steps = steps(alloc, refusals_of(alloc, question)?)?;
-        let replies = run_refused(&mut server, alloc, steps).map_err(|_| NoMemory)?;
+        let replies = replies_to(alloc, steps)?;
         let Some([reply, rest @ ..]) = replies.get(BUILDING.len()..) else {
             return Err(NoRow(question))?;
         };

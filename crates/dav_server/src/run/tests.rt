@@ -33,6 +33,15 @@ pub(super) fn refusing_server(alloc: Global) -> Result<DavHandler<Refusing<MemFs
     Ok(DavHandler::new(alloc, "", DavMethodSet::all(), fs, Some(ls))?)
 }
 
+/// The replies of such a server to a run.
+pub(super) fn replies_to(alloc: Global, steps: Vec<Step<'_>>) -> Result<Vec<Reply>, Fail> {
+    let mut server = refusing_server(alloc)?;
+    match run_refused(&mut server, alloc, steps) {
+        Ok(replies) => Ok(replies),
+        Err(_) => Err(NoMemory)?,
+    }
+}
+
 // All replies, one after another.
 fn all_shown(alloc: Global, replies: &[Reply]) -> Result<String, Fail> {
     let mut all = String::new(alloc);
@@ -123,8 +132,7 @@ fn keeps_what_a_refused_write_left(rt: HostRuntime) -> Result<(), Fail> {
         Some(FsError::Forbidden),
     ]?;
     let steps = steps(rt.alloc(), refusals)?;
-    let mut server = refusing_server(rt.alloc())?;
-    let replies = run_refused(&mut server, rt.alloc(), steps).map_err(|_| NoMemory)?;
+    let replies = replies_to(rt.alloc(), steps)?;
     same(&rt, &all_shown(rt.alloc(), &replies)?.as_str(), &CUT_SHORT);
     Ok(())
 }
