@@ -313,6 +313,7 @@ fn server_of(alloc: Global, script: &Script) -> Result<DavHandler<Refusing<MemFs
     ensures state { IfOk result (λ h.
         h.server.state ≡ new_state (script_content script.now)) }
     ensures bad { IsErrOf result NotScript → ¬ IsPrefix (script_content script.now).prefix }
+    ensures err { IfErr result (λ e. e ≢ Io) }
 {
     let fs = Refusing::new(MemFs::new_at(alloc, script.next)?);
     let ls = locks_of(alloc, script.locks)?;

@@ -128,6 +128,21 @@ pub(super) fn request_of(alloc: Global, text: &'static str) -> Result<EngineRequ
     Ok(EngineRequest { request, body })
 }
 
+// The call that answers the requests of a method.
+fn handler_of(method: DavMethod) -> &'static str {
+    match method {
+        DavMethod::Put | DavMethod::Patch => "handle_put",
+        DavMethod::MkCol => "handle_mkcol",
+        DavMethod::Delete => "handle_delete",
+        DavMethod::Copy | DavMethod::Move => "handle_copymove",
+        DavMethod::Lock => "handle_lock",
+        DavMethod::Unlock => "handle_unlock",
+        DavMethod::PropFind => "handle_propfind",
+        DavMethod::PropPatch => "handle_proppatch",
+        _ => "handle_options",
+    }
+}
+
 // A status that conditions answer, as text.
 fn status_text(alloc: Global, status: Option<StatusCode>) -> Result<String, Fail> {
     match status {
@@ -226,7 +241,12 @@ impl<F: DavFileSystem + Drop, L: DavLockSystem + Drop> Engine<F, L> {
     }
 
     // What a call returns, as text.
-    fn call(&mut self, alloc: Global, call: &str, asked: &EngineRequest) -> Result<String, Fail> {
+    fn call(
+        &mut self,
+        alloc: Global,
+        call: &'static str,
+        asked: &EngineRequest,
+    ) -> Result<String, Fail> {
         let request = &asked.request;
         match call {
             "http_if_match" => {
@@ -236,7 +256,8 @@ impl<F: DavFileSystem + Drop, L: DavLockSystem + Drop> Engine<F, L> {
             "dav_if_match" => self.holds(alloc, request),
             "if_match" => self.status(alloc, request),
             "if_match_get_tokens" => self.tokens(alloc, request),
-            _ => self.handled(alloc, asked),
+            _ if call == handler_of(request.method) => self.handled(alloc, asked),
+            _ => Err(NoRow(call).into()),
         }
     }
 }
