@@ -261,17 +261,17 @@ record Named (prefix : List ℕ) (p : PathText) : Type 0 where
   target : IsTarget prefix text p
   served : IsServed prefix p
 
-named_by : {prefix target : List ℕ} {m : DavMethod} {p : PathText} → m ≢ Options → TargetNames prefix m target (Ok p) → Named prefix p
+pub named_by : {prefix target : List ℕ} {m : DavMethod} {p : PathText} → m ≢ Options → TargetNames prefix m target (Ok p) → Named prefix p
 named_by other (server is options) = absurd (other options)
 named_by {prefix} {target} {p = p} other (path {text} {bytes} has reads cut) =
     let apart : text ≢ star = text_no_star target text has in
     record { text = text; target = (apart, (bytes, reads, cut)); served = read_served prefix text bytes p apart reads cut }
 
-server_prefix : (prefix : List ℕ) → IsPrefix prefix → IsServerPrefix prefix
+pub server_prefix : (prefix : List ℕ) → IsPrefix prefix → IsServerPrefix prefix
 server_prefix prefix (inl empty) = inl empty
 server_prefix prefix (inr (slash, reads)) = inr (slash_no_star prefix slash, reads)
 
-begins : (text bytes : List ℕ) → text ≢ star → Reads text bytes → BeginsWithSlash text
+pub begins : (text bytes : List ℕ) → text ≢ star → Reads text bytes → BeginsWithSlash text
 begins text bytes other (inl (is, same)) = absurd (other is)
 begins text bytes other (inr (ns, c, named, is)) = named.rooted.rooted
 

@@ -22,11 +22,14 @@ pub mod HrefLemmas
 pub mod TellWalks
 pub mod HrefReplies
 pub mod NotModified
+pub mod ListingLemmas
+pub mod CutSteps
 pub mod HeldConditions
 pub mod StoredBytes
 pub mod NoLostUpdate
 pub mod WriteLemmas
 pub mod ErrorLemmas
+pub mod UngrantedLemmas
 pub mod RefusedLemmas
 pub mod TurnLemmas
 pub mod StrangerLemmas

@@ -1,11 +1,11 @@
 -- What the plans of requests do to worlds.
-use Rattle.std.proofs.Common.{◌≡◌, ℕ, ◌<◌, ◌≤◌, Bool, true, true≢false, List, [], ◌∷◌, ◌++◌, map, All, Option, Some, None, Ok, inl, inr, refl, sym, ap, subst, ◌∙◌, ◌≢◌, length, length-append, get_or, arith}
+use Rattle.std.proofs.Common.{◌≡◌, ℕ, ◌<◌, ◌≤◌, Bool, true, true≢false, List, [], ◌∷◌, ◌++◌, map, All, Option, Some, None, Ok, Err, inl, inr, refl, sym, ap, subst, ◌∙◌, ◌≢◌, length, length-append, get_or, arith}
 use Rattle.std.proofs.lemmas.List.Elements.{All-nil, All-cons, All-head, All-tail}
 use Rattle.std.specs.Char.{to_ascii_lowercase}
 use Rattle.dav_core.specs.declared.errors.FsError.{FsError}
 use Rattle.dav_core.specs.declared.method.DavMethod.{DavMethod}
 use Rattle.dav_core.specs.declared.method.DavMethod.TheVariants.{Get, Head, Put, Patch, Options, Copy, Move}
-use Rattle.dav_core.specs.Asking.{StoreState}
+use Rattle.dav_core.specs.Asking.{StoreState, Asks}
 use Rattle.dav_core.specs.CallLaws.{IsStorable}
 use Rattle.dav_core.specs.Path.{Path, PathText, IsName, names, names_of, path_bytes, IsCut, at_start, at_slash, at_end, without_slash, star}
 use Rattle.dav_core.specs.Target.{Reads}
@@ -15,10 +15,10 @@ use Rattle.dav_engine.specs.declared.request.Body.{Body}
 use Rattle.dav_engine.specs.Client.{Client}
 use Rattle.dav_engine.specs.Headers.{Headers}
 use Rattle.dav_engine.specs.Method.{MethodPlan}
-use Rattle.dav_engine.specs.Plan.{Locks}
+use Rattle.dav_engine.specs.Plan.{Plan, Locks, RanUpTo, up_to_here, up_to_ask, up_to_look, up_to_keep, Refused, refused_done, refused_ask, refused_look, refused_keep, Cut}
 use Rattle.dav_engine.specs.Response.{Response}
-use Rattle.dav_engine.specs.WorldLaws.{IsReading, reads_done, IsProperPlan, proper_done}
-use Rattle.dav_engine.proofs.Theorems.{Kept, kept_same, kept_on, put_is_proper, mkcol_is_proper, copymove_is_proper, delete_is_proper, lock_is_proper, options_is_proper, options_only_reads, unlock_is_proper, reading_leaves, proper_keeps, propfind_is_proper, propfind_only_reads, proppatch_is_proper}
+use Rattle.dav_engine.specs.WorldLaws.{IsReading, reads_done, reads_ask, reads_look, IsProperPlan, proper_done}
+use Rattle.dav_engine.proofs.Theorems.{did, did_leave, Kept, kept_same, kept_on, put_is_proper, mkcol_is_proper, copymove_is_proper, delete_is_proper, lock_is_proper, options_is_proper, options_only_reads, unlock_is_proper, reading_leaves, proper_keeps, propfind_is_proper, propfind_only_reads, proppatch_is_proper}
 use Rattle.dav_server.specs.Get.{IsGet, is_get}
 use Rattle.dav_server.specs.Head.{Request, IsHead}
 use Rattle.dav_server.specs.Machine.{Settings, Asked, PlanOf, gets, heads, puts, patches, makes, deletes, copies, moves, offers, finds_properties, sets_properties, locks, releases, MeansOf, not_allowed, no_path, no_body, method, Means, no_head, no_method, known, Steps, steps}
@@ -118,7 +118,7 @@ pub begun_short : (refusals : Option (List (Option FsError))) (old : StoreState)
 begun_short None old = refl
 begun_short (Some list) old = refl
 
-step_keeps : {s : Settings} {x : Asked} {old new : StoreState} {ls ms : Locks} {reply : Response} → x.moment ≤ last_moment → IsWorld old.world → Steps s x old ls reply new ms → Kept old.world new.world
+pub step_keeps : {s : Settings} {x : Asked} {old new : StoreState} {ls ms : Locks} {reply : Response} → x.moment ≤ last_moment → IsWorld old.world → Steps s x old ls reply new ms → Kept old.world new.world
 step_keeps small world (steps plan outcome means ran) = proper_keeps (means_proper small means) world ran
 
 -- a turn keeps worlds, their numbers, and what is remembered of these
@@ -169,10 +169,30 @@ of_reads is (no_path e has none) = reads_done
 of_reads is (no_body p e has named bad) = reads_done
 of_reads is (method p body has named good plan) = plan_reads is plan
 
-means_reads : {s : Settings} (x : Asked) (m : DavMethod) {plan : MethodPlan Response} → HasMethod m x → is_safe m ≡ true → Means s x plan → IsReading plan
+pub means_reads : {s : Settings} (x : Asked) (m : DavMethod) {plan : MethodPlan Response} → HasMethod m x → is_safe m ≡ true → Means s x plan → IsReading plan
 means_reads x m asks is (no_head out) = reads_done
 means_reads x m asks is (no_method r e head gives) = reads_done
 means_reads x m asks is (known r n head gives means) = of_reads (ap is_safe (asks_one x m asks head gives) ∙ is) means
+
+-- the first calls of a plan that only reads leave the world and the list, and the rest of it only reads
+reads_up_to : {A : Type 0} {plan rest : Plan A} {old new : StoreState} {ls ms : Locks} → IsReading plan → RanUpTo Asks plan old ls rest new ms → (new.world ≡ old.world) × (ms ≡ ls) × IsReading rest
+reads_up_to is up_to_here = (refl, refl, is)
+reads_up_to (reads_ask only more) (up_to_ask {c} {old = old} {mid} {answer = answer} one later) =
+    let (world, list, rest) = reads_up_to (more answer) later in
+    (world ∙ did_leave c old.world mid.world answer only (did one), list, rest)
+reads_up_to (reads_look more) (up_to_look {ls = ls} later) = reads_up_to (more ls) later
+
+-- it leaves the list too where each of its calls is refused
+reads_refused : {A : Type 0} {plan : Plan A} {ls ms : Locks} {a : A} → IsReading plan → Refused plan ls a ms → ms ≡ ls
+reads_refused reads_done refused_done = refl
+reads_refused (reads_ask only more) (refused_ask e later) = reads_refused (more (Err e)) later
+reads_refused (reads_look more) (refused_look {ls = ls} later) = reads_refused (more ls) later
+
+-- so where memory runs out in such a plan nothing has changed
+pub cut_reads : {A : Type 0} {plan : Plan A} {old new : StoreState} {ls ms : Locks} → IsReading plan → Cut Asks ls plan old ls new ms → (new.world ≡ old.world) × (ms ≡ ls)
+cut_reads is some =
+    let (world, list, rest) = reads_up_to is some.ran in
+    (world, elim some.list [ inl same ↦ same | inr ended ↦ let (a, later) = ended in reads_refused rest later ∙ list ])
 
 pub reads_leave_all : ReadingLeaves
 reads_leave_all s x old new ls ms reply m asks is (steps plan outcome means ran) = reading_leaves (means_reads x m asks is means) ran

@@ -182,7 +182,7 @@ plan_304 {p = p} {who = who} tag outcome says (deletes (is_delete h are)) ran is
 plan_304 {headers = headers} {p} {who = who} tag outcome says (copies (is_copy_move h are)) ran is = absurd (other_status outcome (ran_ends (ends_copymove Copy headers h p who refl are) ran) is)
 plan_304 {headers = headers} {p} {who = who} tag outcome says (moves (is_copy_move h are)) ran is = absurd (other_status outcome (ran_ends (ends_copymove Move headers h p who refl are) ran) is)
 plan_304 {allowed} {p = p} tag outcome says offers ran is = absurd (other_status outcome (ran_ends (ends_options allowed p) ran) is)
-plan_304 {headers = headers} {p} {given} {who} tag outcome says (finds_properties (is_propfind h are)) ran is = absurd (other_status outcome (ran_ends (ends_propfind h headers given who p) ran) is)
+plan_304 {headers = headers} {p} {given} {who} tag outcome says (finds_properties (is_propfind h are)) ran is = absurd (other_status outcome (ran_ends (ends_other (ends_propfind h headers given who p)) ran) is)
 plan_304 {p = p} {given} {who} tag outcome says (sets_properties (is_proppatch c are)) ran is = absurd (other_status outcome (ran_ends (ends_proppatch c p given who) ran) is)
 plan_304 {p = p} {given} {who} tag outcome says (locks (is_lock h are)) ran is = absurd (other_status outcome (ran_ends (ends_lock h p given who) ran) is)
 plan_304 {p = p} tag outcome says (releases (is_unlock token said)) ran is = absurd (other_status outcome (ran_ends (ends_unlock token p) ran) is)

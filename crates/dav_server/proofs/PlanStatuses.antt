@@ -44,7 +44,7 @@ use Rattle.dav_engine.specs.Folder.{closed as folder_path, child_of, room_at, is
 use Rattle.dav_engine.specs.Mkcol.{mkcol, create_error}
 use Rattle.dav_engine.specs.Multistatus.{PathStatus, status_reply, multistatus_reply, multi_reply}
 use Rattle.dav_engine.specs.Options.{options}
-use Rattle.dav_engine.specs.Plan.{Done, Ask, Look, Keep, Locks, Ran, ran_done, ran_ask, ran_look, ran_keep}
+use Rattle.dav_engine.specs.Plan.{CallStep, Done, Ask, Look, Keep, Locks, Ran, ran_done, ran_ask, ran_look, ran_keep}
 use Rattle.dav_engine.specs.Put.{PutHeaders, from_end, update_from, update_at, updates, written_by, placed, bounded, bounded_by, writing_of, open_error, put_opening, sought, written, is_announced, unsatisfiable, spans, store, put_allowed, put_body}
 use Rattle.dav_engine.specs.Removal.{Fault, report_of}
 use Rattle.dav_engine.specs.Response.{Response, Header, reply_to}
@@ -66,8 +66,8 @@ pub data Ends (E : DavError → Type 0) {A : Type 0} (P : A → Type 0) : Method
   ends_look : {go : Locks → MethodPlan A} → ((ls : Locks) → Ends E P (go ls)) → Ends E P (Look go)
   ends_keep : {locks : List Lock} {rest : MethodPlan A} → Ends E P rest → Ends E P (Keep locks rest)
 
-pub ran_ends : {E : DavError → Type 0} {A : Type 0} {P : A → Type 0} {plan : MethodPlan A} {old new : StoreState} {ls ms : Locks} {outcome : Result A DavError}
-    → Ends E P plan → Ran Asks plan old ls outcome new ms → Outcome E P outcome
+pub ran_ends : {step : CallStep} {E : DavError → Type 0} {A : Type 0} {P : A → Type 0} {plan : MethodPlan A} {old new : StoreState} {ls ms : Locks} {outcome : Result A DavError}
+    → Ends E P plan → Ran step plan old ls outcome new ms → Outcome E P outcome
 ran_ends (ends_done is) ran_done = is
 ran_ends (ends_ask more) (ran_ask {answer = answer} one rest) = ran_ends (more answer) rest
 ran_ends (ends_look more) (ran_look {ls = ls} rest) = ran_ends (more ls) rest

@@ -1,25 +1,27 @@
 -- Hrefs lead back: each of a multistatus, as the target of a request, names the path that it tells of (RFC 4918, sections 8.3 and 14.7).
-use Rattle.std.specs.Prelude.{◌≡◌, ◌≢◌, ◌⊎◌, ℕ, ◌≤◌, Bool, true, List, [], ◌∷◌, All, map, codes, Ok}
+use Rattle.std.specs.Prelude.{◌≡◌, ◌≢◌, ◌⊎◌, ℕ, ◌<◌, ◌≤◌, ◌^◌, Bool, true, List, [], ◌∷◌, All, length, map, codes, Ok}
 use Rattle.http_header.specs.HeaderMap.{get_all}
 use Rattle.dav_core.specs.declared.method.DavMethod.{DavMethod}
-use Rattle.dav_core.specs.declared.method.DavMethod.TheVariants.{Copy, Move}
+use Rattle.dav_core.specs.declared.method.DavMethod.TheVariants.{PropFind, Copy, Move}
 use Rattle.dav_core.specs.Asking.{StoreState}
 use Rattle.dav_core.specs.CallLaws.{IsStorable}
 use Rattle.dav_core.specs.Element.{ElementTree}
 use Rattle.dav_core.specs.Path.{PathText, names, star, path_bytes, full_bytes, without_slash, is_at_or_under}
 use Rattle.dav_core.specs.UrlText.{path_text}
 use Rattle.dav_core.specs.World.{IsWorld, last_moment}
+use Rattle.dav_headers.specs.Depth.{IsDepth}
+use Rattle.dav_headers.specs.declared.depth.Depth.TheVariants.{One}
 use Rattle.dav_engine.specs.AnswerParts.{children_named}
 use Rattle.dav_engine.specs.CopyMove.{DestinationNames}
 use Rattle.dav_engine.specs.Multistatus.{PathStatus, dav_text, multistatus_reply}
 use Rattle.dav_engine.specs.Plan.{Locks}
 use Rattle.dav_engine.specs.Properties.{Group, property_response}
-use Rattle.dav_engine.specs.PropfindLaws.{responses_in}
+use Rattle.dav_engine.specs.PropfindLaws.{AsksListing, path_in, member_paths, responses_in}
 use Rattle.dav_engine.specs.Response.{Response}
 use Rattle.dav_server.specs.Head.{Request}
 use Rattle.dav_server.specs.Headers.{headers_of}
 use Rattle.dav_server.specs.Holder.{IsFor}
-use Rattle.dav_server.specs.Machine.{Asked, Settings, Steps}
+use Rattle.dav_server.specs.Machine.{Asked, Settings, StepsBy, Steps}
 use Rattle.dav_server.specs.Server.{Server}
 use Rattle.dav_server.specs.Setup.{IsPrefix}
 use Rattle.dav_server.specs.Target.{TargetNames}
@@ -96,3 +98,15 @@ RepliesLeadBack =
 abbrev pub ReplyLeadsBack : Server → Asked → Response → Type 0
 ReplyLeadsBack old x reply =
     IsPrefix old.settings.prefix → IsWorld old.state.store.world → x.moment ≤ last_moment → All (TellsOfOne old.settings x) (responses_in reply.body)
+
+-- ---- the members of a folder
+
+-- A PROPFIND of Depth 1 that is answered 207 tells of its target, and then of each member of it, once and in order, where the store
+-- refuses neither to list nor to tell of what it listed, and the target has fewer than 2^64 names (RFC 4918, sections 9.1 and 10.2).
+abbrev pub ListingsTellMembers : Type 0
+ListingsTellMembers =
+    (s : Settings) (x : Asked) (r : Request) (p : PathText) (old new : StoreState) (ls ms : Locks) (reply : Response)
+    → IsPrefix s.prefix → IsWorld old.world → IsFor s x r PropFind p
+    → IsDepth (get_all (headers_of r.fields) (codes "depth")) One → length (names p) < 2 ^ 64
+    → StepsBy AsksListing s x old ls reply new ms → reply.status ≡ 207
+    → TellOf s.prefix (path_in old.world p ∷ member_paths old.world (path_in old.world p)) (responses_in reply.body)

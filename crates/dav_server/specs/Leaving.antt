@@ -1,19 +1,20 @@
 -- What requests leave as it was: those that read, those that only create, those that are refused, and those that end in an error
 -- (RFC 9110, sections 9.2.1, 13.1.2 and 13.2.1; RFC 4918, sections 7 and 9.1).
-use Rattle.std.specs.Prelude.{◌≡◌, ◌⊎◌, true, Some, Err}
+use Rattle.std.specs.Prelude.{◌≡◌, ◌≢◌, ◌⊎◌, true, Some, Ok, Err}
 use Rattle.dav_core.specs.declared.errors.DavError.{DavError}
 use Rattle.dav_core.specs.declared.errors.DavError.TheVariants as dav
 use Rattle.dav_core.specs.declared.errors.FsError.{FsError}
 use Rattle.dav_core.specs.declared.method.DavMethod.{DavMethod}
-use Rattle.dav_core.specs.declared.method.DavMethod.TheVariants.{Put, Patch}
+use Rattle.dav_core.specs.declared.method.DavMethod.TheVariants.{Put, Patch, Lock as LockMethod}
 use Rattle.dav_core.specs.Asking.{StoreState, Asks}
 use Rattle.dav_core.specs.Path.{PathText, names}
 use Rattle.dav_core.specs.World.{Node, node_at}
+use Rattle.dav_engine.specs.declared.request.Body.TheVariants as body
 use Rattle.dav_engine.specs.Method.{MethodPlan}
 use Rattle.dav_engine.specs.Plan.{Locks, Ran, ServerState}
 use Rattle.dav_engine.specs.Put.{unsatisfiable}
 use Rattle.dav_engine.specs.Response.{Response}
-use Rattle.dav_server.specs.Machine.{Asked, Settings, Means, Steps}
+use Rattle.dav_server.specs.Machine.{Asked, Settings, Means, Steps, body_for, taken_by}
 use Rattle.dav_server.specs.TagLaws.{HasMethod, is_safe}
 use Rattle.dav_server.specs.UpdateLaws.{IsSuccess}
 use Rattle.dav_server.specs.WriteLaws.{IsCreateOnly, IsRefusedStatus, IsLockRequest, HandsInUnused}
@@ -65,3 +66,15 @@ CreateOnlyLeaves s x reply was now =
 abbrev pub RefusedStatusLeaves : Asked → Response → ServerState → ServerState → Type 0
 RefusedStatusLeaves x reply was now =
     IsRefusedStatus reply.status → (IsLockRequest x → HandsInUnused x was.locks) → SameContent was now
+
+-- a LOCK with this body asks for a new lock; without a body it refreshes one
+abbrev pub HasLockBody : Asked → Type 0
+HasLockBody x = body_for (taken_by LockMethod) x.body ≢ Ok body.None
+
+-- the request is a LOCK that asks for a new lock
+abbrev pub AsksForLock : Asked → Type 0
+AsksForLock x = IsLockRequest x × HasLockBody x
+
+-- A LOCK that asks for a new lock leaves them, where no lock of the list has the token that it hands in.
+abbrev pub GrantsNothing : Asked → ServerState → ServerState → Type 0
+GrantsNothing x was now = AsksForLock x → HandsInUnused x was.locks → SameContent was now

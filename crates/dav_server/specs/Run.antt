@@ -1,11 +1,12 @@
 -- Runs of the machine.
-use Rattle.std.specs.Prelude.{◌≡◌, ◌≢◌, ◌++◌, false, List, [], ◌∷◌, All, Option, Some, None}
+use Rattle.std.specs.Prelude.{◌≡◌, ◌≢◌, ◌⊎◌, ◌++◌, false, List, [], ◌∷◌, All, Option, Some, None}
 use Rattle.dav_core.specs.declared.errors.FsError.{FsError}
 use Rattle.dav_core.specs.Asking.{StoreState, Asks}
 use Rattle.dav_engine.specs.Method.{MethodPlan}
 use Rattle.dav_engine.specs.Plan.{Locks, CallStep}
+use Rattle.dav_engine.specs.PlanLaws.{ample}
 use Rattle.dav_engine.specs.Response.{Response}
-use Rattle.dav_server.specs.Machine.{Asked, Settings, Means, StepsBy, StepCutBy}
+use Rattle.dav_server.specs.Machine.{Asked, Settings, Means, StepsBy, Steps, StepCutBy, StepCut}
 
 -- A turn: a request, and where there is one the list of the store's calls that are refused from then on.
 pub record Turn : Type 0 where
@@ -66,6 +67,16 @@ abbrev pub ShortnessIsKept : Type 0
 ShortnessIsKept =
     (s : Settings) (ts : List Turn) (old new : StoreState) (ls ms : Locks) (replies : List Response)
     → Runs s ts old ls replies new ms → new.short ≡ false → old.short ≡ false
+
+-- A step in which memory runs out has changed nothing; or it leaves the store as a step with memory enough does under some list of
+-- refusals, and the list of locks as that step does, or as it was before the request.
+abbrev pub CutsAreLikeSteps : Type 0
+CutsAreLikeSteps =
+    (s : Settings) (x : Asked) (old new : StoreState) (ls ms : Locks)
+    → StepCut s x old ls new ms
+    → ((new ≡ old) × (ms ≡ ls))
+    ⊎ ((refusals : List (Option FsError)) × (reply : Response) × (ks : Locks)
+    × Steps s x (ample old.world refusals) ls reply (ample new.world []) ks × ((ms ≡ ls) ⊎ (ms ≡ ks)))
 
 -- a request that results in a plan
 abbrev pub HasPlan : Settings → Turn → Type 0

@@ -14,9 +14,9 @@ use Rattle.dav_engine.specs.Plan.{Locks}
 use Rattle.dav_engine.specs.Response.{Response}
 use Rattle.dav_server.specs.Head.{Request, IsHead}
 use Rattle.dav_server.specs.Headers.{headers_of}
-use Rattle.dav_server.specs.Machine.{Asked, Settings, Steps}
+use Rattle.dav_server.specs.Machine.{Asked, Settings, Steps, StepCut}
 use Rattle.dav_server.specs.Method.{GivesServed}
-use Rattle.dav_server.specs.Run.{Turn, begun, Runs}
+use Rattle.dav_server.specs.Run.{Turn, begun, Runs, RanInPart}
 use Rattle.dav_server.specs.Target.{TargetNames}
 
 -- the head of a request names this method
@@ -81,8 +81,20 @@ ReadingLeaves =
     (s : Settings) (x : Asked) (old new : StoreState) (ls ms : Locks) (reply : Response) (m : DavMethod)
     → HasMethod m x → is_safe m ≡ true → Steps s x old ls reply new ms → (new.world ≡ old.world) × (ms ≡ ls)
 
+-- So do they where memory runs out.
+abbrev pub ReadingLeavesCut : Type 0
+ReadingLeavesCut =
+    (s : Settings) (x : Asked) (old new : StoreState) (ls ms : Locks) (m : DavMethod)
+    → HasMethod m x → is_safe m ≡ true → StepCut s x old ls new ms → (new.world ≡ old.world) × (ms ≡ ls)
+
 -- A run that begins with a world ends with one (RFC 4918, section 5.1).
 abbrev pub RunsKeepWorlds : Type 0
 RunsKeepWorlds =
     (s : Settings) (ts : List Turn) (old new : StoreState) (ls ms : Locks) (replies : List Response)
     → IsWorld old.world → AreShowable ts → Runs s ts old ls replies new ms → IsWorld new.world
+
+-- So does one in which memory runs out.
+abbrev pub RunsKeepWorldsCut : Type 0
+RunsKeepWorldsCut =
+    (s : Settings) (ts : List Turn) (old new : StoreState) (ls ms : Locks) (replies : List Response)
+    → IsWorld old.world → AreShowable ts → RanInPart s ts old ls replies new ms → IsWorld new.world

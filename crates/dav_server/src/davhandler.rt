@@ -1,5 +1,5 @@
 //! The handler: from a request to its reply (RFC 9110; RFC 4918).
-ghost use Rattle.std.specs.Prelude.{◌≡◌, ◌≢◌, ◌≤◌, ◌↔◌, ◌⊎◌, [], IsTrue, Ok, IfOk, OnOk, OnErr};
+ghost use Rattle.std.specs.Prelude.{◌≡◌, ◌≢◌, ◌≤◌, ◌↔◌, ◌⊎◌, [], false, IsTrue, Ok, IfOk, OnOk, OnErr};
 ghost use Rattle.dav_core.specs.Method.{Has};
 ghost use Rattle.dav_core.specs.Path.{star};
 ghost use Rattle.std.specs.Option.{option_map, option_copied};
@@ -8,10 +8,11 @@ ghost use Rattle.dav_engine.specs.Follows.{Serves};
 ghost use Rattle.dav_core.specs.World.{last_moment};
 ghost use Rattle.dav_engine.specs.AtWork.{MkcolOf, DeleteOf, PutOf, CopyMoveOf, OptionsOf, LockOf, UnlockOf};
 ghost use Rattle.dav_engine.specs.ConditionView.{locks_in};
+ghost use Rattle.dav_engine.specs.Lock.{is_absent};
 ghost use Rattle.dav_server.specs.Get.{GetOf};
 ghost use Rattle.dav_engine.specs.Response.{error_reply};
 ghost use Rattle.dav_server.specs.HrefLaws.{ReplyLeadsBack};
-ghost use Rattle.dav_server.specs.Leaving.{CreateOnlyLeaves, RefusedStatusLeaves, SafeLeaves};
+ghost use Rattle.dav_server.specs.Leaving.{SameContent, SafeLeaves, CreateOnlyLeaves, RefusedStatusLeaves, HasLockBody, AsksForLock, GrantsNothing};
 ghost use Rattle.dav_server.specs.Machine.{client, PlanOf, Means, MeansOf};
 ghost use Rattle.dav_server.specs.Method.{IsServed};
 ghost use Rattle.dav_server.specs.Server.{Answers, StopsIn};
@@ -235,6 +236,9 @@ fn serve<F: DavFileSystem, L: DavLockSystem>(
     ensures serves { Serves (PlanOf handler.old.server.settings.allowed request.now.headers
         request.now.path body.now (client exchange.now) request.now.method)
         handler.old.server.state result handler.new.server.state }
+    ensures ungranted { IsErrOf result Memory
+        → request.now.method ≡ DavMethod.Lock → is_absent body.now ≡ false
+        → SameContent handler.old.server.state handler.new.server.state }
 {
     let caller = &caller_of(exchange);
     let now = exchange.moment.seconds;
@@ -268,6 +272,9 @@ fn answer_method<F: DavFileSystem, L: DavLockSystem>(
     ensures same { handler.new.server.settings ≡ handler.old.server.settings }
     ensures serves { Serves (MeansOf handler.old.server.settings exchange.now view.now method)
         handler.old.server.state result handler.new.server.state }
+    ensures ungranted { IsErrOf result Memory
+        → method ≡ DavMethod.Lock → HasLockBody exchange.now
+        → SameContent handler.old.server.state handler.new.server.state }
 {
     if !handler.allowed.contains(method) {
         return Err(DavError::StatusClose(StatusCode::METHOD_NOT_ALLOWED));
@@ -292,6 +299,9 @@ fn answer<F: DavFileSystem, L: DavLockSystem>(
     ensures same { handler.new.server.settings ≡ handler.old.server.settings }
     ensures serves { Serves (Means handler.old.server.settings exchange.now)
         handler.old.server.state result handler.new.server.state }
+    ensures ungranted { IsErrOf result Memory
+        → AsksForLock exchange.now
+        → SameContent handler.old.server.state handler.new.server.state }
 {
     let view = match read_head(exchange.head) {
         Ok(view) => view,
@@ -322,18 +332,18 @@ impl<F: DavFileSystem, L: DavLockSystem> DavHandler<F, L> {
 
     /// Answers a request: the reply, the store and the locks are those of one step of the machine, from the bytes of the
     /// head on. A request that only reads changes nothing, nor does one that is answered 412 or 423 (a LOCK, where no lock has its
-    /// token); and what is there is kept under If-None-Match `*`. Each href of a multistatus leads back to the path that its
-    /// response tells of.
+    /// token); and what is there is kept under If-None-Match `*`. The href of each response of a multistatus leads to a path that the
+    /// request is about.
     ///
     /// `NoMemory` where memory ran out outside the store: then each call of the store that was made is whole, and the locks
-    /// are as before, or as the request leaves them where the store refuses each later call. The handler can still answer
-    /// requests.
+    /// are as before, or as the request leaves them where the store refuses each later call. A request that only reads has changed
+    /// nothing, nor has a LOCK with a body (where no lock has its token): no lock is granted whose token its client doesn't learn.
+    /// The handler can still answer requests.
     pub fn handle(&mut self, alloc: Global, exchange: &Exchange<'_>) -> Result<Reply, NoMemory>
         ensures same { self.new.server.settings ≡ self.old.server.settings }
         ensures ok { IfOk result (λ reply. Answers self.old.server exchange.now reply
             self.new.server) }
-        ensures reading { IfOk result (λ reply.
-            SafeLeaves exchange.now self.old.server.state self.new.server.state) }
+        ensures reading { SafeLeaves exchange.now self.old.server.state self.new.server.state }
         ensures created { IfOk result (λ reply. CreateOnlyLeaves self.old.server.settings
             exchange.now reply self.old.server.state self.new.server.state) }
         ensures refused { IfOk result (λ reply. RefusedStatusLeaves
@@ -341,6 +351,8 @@ impl<F: DavFileSystem, L: DavLockSystem> DavHandler<F, L> {
         ensures hrefs { IfOk result (λ reply.
             ReplyLeadsBack self.old.server exchange.now reply) }
         ensures err { OnErr result (StopsIn self.old.server exchange.now self.new.server) }
+        ensures ungranted { OnErr result
+            (GrantsNothing exchange.now self.old.server.state self.new.server.state) }
     {
         match answer(self, alloc, exchange) {
             Ok(reply) => Ok(reply),

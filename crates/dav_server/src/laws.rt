@@ -2,14 +2,16 @@
 ghost use Rattle.dav_server.specs.Head.{OneHead};
 ghost use Rattle.dav_server.specs.Headers.{KeepsValues};
 ghost use Rattle.dav_server.specs.Headline.{HeadlineHolds};
-ghost use Rattle.dav_server.specs.HrefLaws.{TargetsAreServed, TextsLeadBack, StatusesLeadBack, PropertiesLeadBack, RepliesLeadBack};
+ghost use Rattle.dav_server.specs.HrefLaws.{TargetsAreServed, TextsLeadBack, StatusesLeadBack, PropertiesLeadBack, RepliesLeadBack, ListingsTellMembers};
 ghost use Rattle.dav_server.specs.Leaving.{CreateOnlyFails, ErrorsLeave};
 ghost use Rattle.dav_server.specs.PathLaws.{OneTextOnePath};
-ghost use Rattle.dav_server.specs.Run.{RunsAreDetermined, RunsSplit, RunsJoin, RunsEnd, ShortnessIsKept, RequestsHavePlans, RequestsHaveRuns};
-ghost use Rattle.dav_server.specs.TagLaws.{TagsTellBytes, NotModifiedIsTrue, ReadingLeaves, RunsKeepWorlds};
+ghost use Rattle.dav_server.specs.Run.{RunsAreDetermined, RunsSplit, RunsJoin, RunsEnd, ShortnessIsKept, CutsAreLikeSteps, RequestsHavePlans, RequestsHaveRuns};
+ghost use Rattle.dav_server.specs.TagLaws.{TagsTellBytes, NotModifiedIsTrue, ReadingLeaves, ReadingLeavesCut, RunsKeepWorlds, RunsKeepWorldsCut};
 ghost use Rattle.dav_server.specs.Target.{OneOutcome};
 ghost use Rattle.dav_server.specs.UpdateLaws.{NoLostUpdate};
 ghost use Rattle.dav_server.specs.WriteLaws.{CreateOnlyKeeps, RefusedLeaves};
+
+use dav_engine::laws::cuts_are_like_refusals;
 
 pub mod isolation;
 
@@ -38,8 +40,8 @@ pub fn one_text_names_one_path()
 {}
 
 /// Hrefs lead back: the text in a URL of each path of a server, as the target of a request, names this path, whatever the method is and
-/// whatever the bytes of its names are. So each href of a multistatus leads to the path that its response tells of, with a status or with
-/// properties; and each response that a request is answered with tells of a path at its target or below it, or for COPY and MOVE at its
+/// whatever the bytes of its names are. So the href of each response of a multistatus leads to the path that it was written for, with a
+/// status or with properties; and each response that a request is answered with tells of a path at its target or below it, or for COPY and MOVE at its
 /// destination or below it, whatever the store refuses (RFC 4918, sections 8.3 and 14.7).
 pub fn hrefs_lead_back()
     ensures served { TargetsAreServed }
@@ -70,6 +72,16 @@ pub fn shortness_is_kept()
     ensures { ShortnessIsKept }
 {}
 
+/// A step in which memory runs out has changed nothing; or it leaves the store as a step with memory enough does where some calls of the
+/// store are refused, and the list of locks as that step does, or as it was before the request. So what holds of what a step leaves,
+/// whatever the store refuses, holds of the files where memory runs out.
+#[tactic(auto, using(crate::proofs::CutSteps::cuts_are_like_steps))]
+pub fn cuts_are_like_steps()
+    ensures { CutsAreLikeSteps }
+{
+    cuts_are_like_refusals();
+}
+
 /// No request is without a plan, whatever its bytes are. Whether bytes are a head, or a text names a path, is a relation that
 /// the law doesn't decide: so it says that it can't be that there is none, and not which one it is.
 #[tactic(auto, using(crate::proofs::SomePlan::requests_have_plans))]
@@ -98,17 +110,30 @@ pub fn not_modified_is_true()
     ensures { NotModifiedIsTrue }
 {}
 
-/// GET, HEAD, OPTIONS and PROPFIND leave the world and the list of locks, whatever the store refuses (RFC 9110, section 9.2.1).
-#[tactic(auto, using(crate::proofs::MeansWorld::reads_leave_all))]
-pub fn reading_leaves_all()
-    ensures { ReadingLeaves }
+/// A PROPFIND of Depth 1 that is answered 207 tells of its target, and then of each member of it, once and in order, each by an href that
+/// leads to it, where the store refuses neither to list nor to tell of what it listed, and the target has fewer than 2^64 names (RFC 4918,
+/// sections 9.1 and 10.2).
+#[tactic(auto, using(crate::proofs::ListingLemmas::listings_tell_members))]
+pub fn listings_tell_of_members()
+    ensures { ListingsTellMembers }
 {}
 
-/// A run that begins with a world ends with one, whatever the store refuses (RFC 4918, section 5.1).
-#[tactic(auto, using(crate::proofs::MeansWorld::runs_keep_worlds))]
-pub fn runs_keep_worlds()
-    ensures { RunsKeepWorlds }
+/// GET, HEAD, OPTIONS and PROPFIND leave the world and the list of locks, whatever the store refuses, and where memory runs out (RFC
+/// 9110, section 9.2.1).
+#[tactic(auto, using(crate::proofs::MeansWorld::reads_leave_all, crate::proofs::CutSteps::reads_leave_cut))]
+pub fn reading_leaves_all()
+    ensures step { ReadingLeaves }
+    ensures cut { ReadingLeavesCut }
 {}
+
+/// A run that begins with a world ends with one, whatever the store refuses, and where memory runs out in it (RFC 4918, section 5.1).
+#[tactic(auto, using(crate::proofs::MeansWorld::runs_keep_worlds, crate::proofs::CutSteps::runs_keep_worlds_cut))]
+pub fn runs_keep_worlds()
+    ensures whole { RunsKeepWorlds }
+    ensures cut { RunsKeepWorldsCut }
+{
+    cuts_are_like_refusals();
+}
 
 /// A PUT or PATCH whose If-None-Match is `*`, at a path where something is, leaves the world and the list of locks: what is
 /// there is never overwritten, whatever the store refuses, and the request isn't answered with success (RFC 9110, section 13.1.2).
@@ -119,8 +144,9 @@ pub fn creating_only_keeps_what_is_there()
 {}
 
 /// No update is lost: where a GET, or a PUT of a whole file, was answered with an entity tag, and a later PUT, PATCH, DELETE,
-/// COPY, MOVE or PROPPATCH asks for that tag by If-Match, or by a list of If, and is answered with success, the file at its
-/// path has right before it the bytes that the client was told, whatever came in between and whatever the store refused
+/// COPY, MOVE or PROPPATCH asks for that tag (its If-Match says the tag alone, or its If has one list, for its own path, in which the
+/// tag stands, and not under Not), and is answered with success, the file at its path has right before it the bytes that the client
+/// was told, whatever came in between and whatever the store refused
 /// (RFC 9110, section 13.1.1; RFC 4918, section 10.4).
 pub fn no_update_is_lost()
     ensures { NoLostUpdate }
@@ -133,7 +159,8 @@ pub fn refused_requests_leave_all()
     ensures { RefusedLeaves }
 {}
 
-/// A request that ends in an error leaves the world and the list of locks, whatever its method is and whatever the store refuses.
+/// A request that ends in an error leaves the world and the list of locks, whatever its method is and whatever the store refuses. (A DELETE,
+/// COPY or MOVE that was carried out in part doesn't end in an error: it reports what wasn't done, maybe by a status alone.)
 /// Apart are a PUT or PATCH whose error is the store's, or 416, since the store may refuse a call after the file was opened; and a
 /// LOCK with a token that a lock has already, since it takes back the lock of its token where the store refuses it a file (RFC 9110,
 /// section 15; RFC 4918, section 9.10).

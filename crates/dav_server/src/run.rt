@@ -102,8 +102,8 @@ impl<F: DavFileSystem, L: DavLockSystem> DavHandler<F, L> {
     /// lock's token as the lock's principal, nor ends a lock whose token it doesn't name; a request that hands in the lock's
     /// token for a lock of its own aside. Locks that cover one path stay shared. Requests that only read change nothing, nor do
     /// those that are answered 412 or 423 (a LOCK, where no lock has its token); a 304 is true; no update on condition of a tag
-    /// is lost; what is there is kept under If-None-Match `*` (RFC 9110, sections 9.2.1 and 13.1); and each href of a multistatus leads
-    /// back to the path that its response tells of (RFC 4918, section 8.3).
+    /// is lost; what is there is kept under If-None-Match `*` (RFC 9110, sections 9.2.1 and 13.1); and the href of each response of a
+    /// multistatus leads to a path that its request is about (RFC 4918, section 8.3).
     ///
     /// `RunFault` where memory ran out outside the store, with the replies that were given before; they are those of a run
     /// of the machine, and of the next request at most the first calls of the store were made, each of them whole.
@@ -177,8 +177,8 @@ fn answer_step(
 /// the lock was granted and that the tokens which are handed in differ. And then nothing that an exclusive lock covers changes,
 /// and no lock ends, unless the request names its token. All this in one piece, from an empty server on, is the clause `headline`.
 /// Requests that only read change nothing, nor do those that are answered 412 or 423 (a LOCK, where no lock has its token); a 304
-/// is true; no update on condition of a tag is lost; what is there is kept under If-None-Match `*`; and each href of a multistatus
-/// leads back to the path that its response tells of.
+/// is true; no update on condition of a tag is lost; what is there is kept under If-None-Match `*`; and the href of each
+/// response of a multistatus leads to a path that its request is about.
 ///
 /// `RunFault` where memory ran out outside the store, with the replies that were given before; they are those of a run of
 /// the machine, and of the next request at most the first calls of the store were made, each of them whole.

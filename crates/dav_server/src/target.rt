@@ -1,7 +1,9 @@
 //! The target of a request (RFC 9112, section 3.2).
-ghost use Rattle.std.specs.Prelude.{◌≡◌, ◌↔◌, ℕ, List, Contains, IsTrue};
+ghost use Rattle.std.specs.Prelude.{◌≡◌, ◌≢◌, ◌↔◌, ℕ, List, Contains, IsTrue, IsErrOf};
 ghost use Rattle.std.specs.Option.{option_copied};
 ghost use Rattle.dav_core.specs.Path.{star, full_bytes, without_slash};
+ghost use Rattle.dav_core.specs.declared.errors.DavError.TheVariants.{Status};
+ghost use Rattle.dav_core.specs.declared.method.DavMethod.TheVariants.{Options};
 ghost use Rattle.dav_server.specs.Target.{BeginsWithSlash};
 ghost use Rattle.dav_server.specs.TargetCode.{GivesPath, GivesRead, GivesNamed, GivesCut, GivesTail};
 
@@ -21,9 +23,13 @@ use std::alloc::Global;
 /// `Status(BAD_REQUEST)`. A target that begins with a slash names the path that `DavPath::new` reads. Any other target has
 /// to be a URI with a scheme and an authority and without `#`, or it is `Status(BAD_REQUEST)`; the path is read in what
 /// follows the authority, or in `/` where nothing does. `InvalidPath` and `ForbiddenPath` are those of `DavPath::new`;
-/// `IllegalPath` where the path isn't at or below the prefix.
+/// `IllegalPath` where the path isn't at or below the prefix. `Memory` where memory runs out, never for a target that is refused
+/// for `*` or for its `#`.
 pub fn path_of(alloc: Global, method: DavMethod, target: &str, prefix: &str) -> DavResult<DavPath>
-    ensures { GivesPath prefix.now method target.now result }
+    ensures path { GivesPath prefix.now method target.now result }
+    ensures star { target.now ≡ star → method ≢ Options → IsErrOf result (Status 400) }
+    ensures fragment { ¬ BeginsWithSlash target.now → Contains target.now 35
+        → IsErrOf result (Status 400) }
 {
     if is_star(target) {
         return server_path(alloc, method, target);
@@ -35,7 +41,8 @@ pub fn path_of(alloc: Global, method: DavMethod, target: &str, prefix: &str) -> 
 // The path of the whole server, for OPTIONS.
 fn server_path(alloc: Global, method: DavMethod, target: &str) -> DavResult<DavPath>
     requires { target.now ≡ star }
-    ensures { (prefix : List ℕ) → GivesPath prefix method target.now result }
+    ensures path { (prefix : List ℕ) → GivesPath prefix method target.now result }
+    ensures other { method ≢ Options → IsErrOf result (Status 400) }
 {
     match method {
         DavMethod::Options => named(alloc, target),
@@ -45,7 +52,9 @@ fn server_path(alloc: Global, method: DavMethod, target: &str) -> DavResult<DavP
 
 // The path in a target, without a prefix.
 fn read(alloc: Global, target: &str) -> DavResult<DavPath>
-    ensures { GivesRead target.now result }
+    ensures path { GivesRead target.now result }
+    ensures fragment { ¬ BeginsWithSlash target.now → Contains target.now 35
+        → IsErrOf result (Status 400) }
 {
     if begins_with_slash(target) {
         return named(alloc, target);

@@ -247,6 +247,13 @@ at /d/a -> file a
 at /d/b -> nothing
 delete_items 1 /d -> ok
 at /d -> nothing
+# where the store refuses the file of a LOCK, no lock is left, and the next LOCK is granted
+refuse 2 InsufficientStorage -> next
+LOCK /n | lockinfo exclusive -> error 507
+at /n -> nothing
+locks /n -> 0
+LOCK /n | lockinfo exclusive -> 201
+locks /n -> 1
 "##;
 
 // The depth of this text.

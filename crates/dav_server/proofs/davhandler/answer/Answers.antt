@@ -3,6 +3,7 @@ use Rattle.std.proofs.lemmas.Result.{err_from_is_err_and}
 use Rattle.dav_server.specs.Head.{IsHead}
 use Rattle.dav_server.specs.Machine.{Means, no_head, no_method, known}
 use Rattle.dav_server.proofs.StepLemmas.{serves_as, serves_asked, serves_error, served_at}
+use Rattle.dav_server.proofs.UngrantedLemmas.{lock_method}
 use Rattle.dav_server.proofs.davhandler.answer.Goals as goal
 
 pub returns-in-Err-clause-serves : goal.returns-in-Err-clause-serves
@@ -15,3 +16,8 @@ returns-in_err-method-clause-serves g c =
 
 pub returns-clause-serves : goal.returns-clause-serves
 returns-clause-serves g c = serves_as (λ plan is. known _ _ (subst (λ x. IsHead x.head c.in-Ok.view) c.exchange.view_is c.in-Ok.ensures.ok) (served_at (Ok c.in_ok-method.method) c.method.ensures c.in_ok-method.ensures) is) c.answer_method.ensures.serves
+
+pub returns-clause-ungranted : goal.returns-clause-ungranted
+returns-clause-ungranted g c = λ memory asks.
+    c.answer_method.ensures.ungranted memory
+    (lock_method asks (subst (λ x. IsHead x.head c.in-Ok.view) c.exchange.view_is c.in-Ok.ensures.ok) (served_at (Ok c.in_ok-method.method) c.method.ensures c.in_ok-method.ensures)) asks.1

@@ -6,6 +6,7 @@ use Rattle.dav_server.specs.Get.{IsGet, GetOf}
 use Rattle.dav_server.specs.Machine.{client, gets, heads, puts, patches, makes, deletes, copies, moves, finds_properties, sets_properties, locks, releases}
 use Rattle.dav_server.proofs.MethodLemmas.{offered_plan}
 use Rattle.dav_server.proofs.StepLemmas.{serves_as, serves_asked, serves_by, serves_held, serves_set, plan_at}
+use Rattle.dav_server.proofs.UngrantedLemmas.{same_held}
 use Rattle.dav_server.proofs.davhandler.serve.Goals as goal
 
 pub returns-in-Get-clause-serves : goal.returns-in-Get-clause-serves
@@ -72,3 +73,8 @@ pub returns-in-Unlock-clause-serves : goal.returns-in-Unlock-clause-serves
 returns-in-Unlock-clause-serves g c =
     serves_as (λ plan is. plan_at c.in-Unlock.is (releases is))
     (serves_held c.handler.view_is (serves_by (ap (UnlockOf c.args.request.now) c.caller_of.ensures.client) c.handle_unlock.ensures.serves))
+
+pub returns-in-Lock-clause-ungranted : goal.returns-in-Lock-clause-ungranted
+returns-in-Lock-clause-ungranted g c = λ memory lock there.
+    let kept = c.handle_lock.ensures.memory memory there in
+    same_held c.handler.view_is (c.handle_lock.ensures.world memory, kept.locks)

@@ -5,14 +5,14 @@ use Rattle.dav_server.specs.Target.{unreadable}
 use Rattle.dav_server.proofs.TargetLemmas.{names_cut}
 use Rattle.dav_server.proofs.target.path_of.Goals as goal
 
-pub returns-then-is_star : goal.returns-then-is_star
-returns-then-is_star c = c.server_path.ensures c.args.prefix.now
+pub returns-then-is_star-clause-path : goal.returns-then-is_star-clause-path
+returns-then-is_star-clause-path g c = c.server_path.ensures.path c.args.prefix.now
 
-pub returns-in_err-path : goal.returns-in_err-path
-returns-in_err-path c =
+pub returns-in_err-path-clause-path : goal.returns-in_err-path-clause-path
+returns-in_err-path-clause-path g c =
     let p = err_from_is_err_and c.from_residual.result c.from_residual.ensures.1 in
-    rw (p.1, p.2) (elim c.in_err-path.ensures [ inl memory ↦ inl memory | inr e ↦ inr (unreadable (λ is. false≢true (c.if-is_star.ensures.1 is)) e) ])
+    rw (p.1, p.2) (elim c.in_err-path.ensures.path [ inl memory ↦ inl memory | inr e ↦ inr (unreadable (λ is. false≢true (c.if-is_star.ensures.1 is)) e) ])
 
-pub returns : goal.returns
-returns c =
-    names_cut c.args.prefix.now c.args.method c.args.target.now c.in_ok-path.path c.cut.result c.in_ok-path.ensures c.cut.ensures
+pub returns-clause-path : goal.returns-clause-path
+returns-clause-path g c =
+    names_cut c.args.prefix.now c.args.method c.args.target.now c.in_ok-path.path c.cut.result c.in_ok-path.ensures.path c.cut.ensures

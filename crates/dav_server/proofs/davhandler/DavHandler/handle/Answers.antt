@@ -1,7 +1,9 @@
 use Rattle.std.proofs.lemmas.Result.{IfOk-weaker}
+use Rattle.dav_server.proofs.CutSteps.{safe_leaves_cut}
 use Rattle.dav_server.proofs.EachRequestLemmas.{safe_leaves, create_only_leaves, refused_status_leaves}
 use Rattle.dav_server.proofs.HrefReplies.{step_leads_back}
 use Rattle.dav_server.proofs.StepLemmas.{served_ok, served_err, served_cut, any_err}
+use Rattle.dav_server.proofs.UngrantedLemmas.{grants_nothing}
 use Rattle.dav_server.proofs.davhandler.DavHandler.handle.Goals as goal
 
 pub returns-in-Ok-clause-ok : goal.returns-in-Ok-clause-ok
@@ -17,7 +19,7 @@ pub returns-in-Ok-clause-reading : goal.returns-in-Ok-clause-reading
 returns-in-Ok-clause-reading g c = safe_leaves _ _ _ _ _ (served_ok c.in-Ok.ensures.serves)
 
 pub returns-in-Err-clause-reading : goal.returns-in-Err-clause-reading
-returns-in-Err-clause-reading g c = IfOk-weaker _ _ _ (λ reply r. safe_leaves _ _ _ _ reply (served_err c.in-Err.ensures.serves r.0 r.1)) c.refuse.ensures
+returns-in-Err-clause-reading g c = safe_leaves_cut _ _ _ _ (served_cut c.in-Err.ensures.serves)
 
 pub returns-in-Ok-clause-created : goal.returns-in-Ok-clause-created
 returns-in-Ok-clause-created g c = create_only_leaves _ _ _ _ _ (served_ok c.in-Ok.ensures.serves)
@@ -36,3 +38,6 @@ returns-in-Ok-clause-hrefs g c = step_leads_back _ _ _ _ _ _ _ (served_ok c.in-O
 
 pub returns-in-Err-clause-hrefs : goal.returns-in-Err-clause-hrefs
 returns-in-Err-clause-hrefs g c = IfOk-weaker _ _ _ (λ reply r. step_leads_back _ _ _ _ _ _ reply (served_err c.in-Err.ensures.serves r.0 r.1)) c.refuse.ensures
+
+pub returns-in-Err-clause-ungranted : goal.returns-in-Err-clause-ungranted
+returns-in-Err-clause-ungranted g c = any_err _ (grants_nothing _ c.in-Err.ensures.serves c.in-Err.ensures.ungranted)

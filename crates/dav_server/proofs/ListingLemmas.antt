@@ -1,0 +1,111 @@
+-- What a PROPFIND of Depth 1 tells, from the bytes of its head on.
+use Rattle.std.proofs.Common.{◌≡◌, ◌≢◌, ℕ, ◌<◌, ◌^◌, List, [], ◌∷◌, length, codes, Result, Ok, Err, inl, inr, refl, sym, ap, subst, ◌∙◌, arith}
+use Rattle.http_header.specs.HeaderMap.{get_all}
+use Rattle.dav_core.specs.declared.errors.DavError.{DavError}
+use Rattle.dav_core.specs.declared.errors.DavError.TheVariants as dav
+use Rattle.dav_core.specs.declared.method.DavMethod.{DavMethod}
+use Rattle.dav_core.specs.declared.method.DavMethod.TheVariants.{PropFind}
+use Rattle.dav_core.specs.Asking.{StoreState}
+use Rattle.dav_core.specs.Element.{ElementTree}
+use Rattle.dav_core.specs.Path.{PathText, names}
+use Rattle.dav_core.specs.Status.{dav_status}
+use Rattle.dav_core.specs.World.{IsWorld}
+use Rattle.dav_headers.specs.Depth.{IsDepth}
+use Rattle.dav_headers.specs.declared.depth.Depth.TheVariants.{One}
+use Rattle.dav_engine.specs.declared.request.Body.{Body}
+use Rattle.dav_engine.specs.Client.{Client}
+use Rattle.dav_engine.specs.Headers.{Headers}
+use Rattle.dav_engine.specs.Method.{MethodPlan, fails}
+use Rattle.dav_engine.specs.Plan.{Locks, Ran, ran_done}
+use Rattle.dav_engine.specs.Propfind.{IsPropfind, is_propfind}
+use Rattle.dav_engine.specs.PropfindLaws.{IsOf, AreOf, none_told, one_told, AsksListing, path_in, member_paths, responses_in}
+use Rattle.dav_engine.specs.Response.{Response, reply_to}
+use Rattle.dav_engine.proofs.Theorems.{members_are_told}
+use Rattle.dav_server.specs.Head.{Request, IsHead}
+use Rattle.dav_server.specs.Headers.{headers_of}
+use Rattle.dav_server.specs.Holder.{IsFor}
+use Rattle.dav_server.specs.HrefLaws.{TellsOf, TellOf, none_told as none_told_of, one_told as one_told_of, ListingsTellMembers}
+use Rattle.dav_server.specs.Machine.{Settings, Asked, client, body_for, taken_by, PlanOf, finds_properties, MeansOf, not_allowed, no_path, no_body, method, Means, no_head, no_method, known, steps}
+use Rattle.dav_server.specs.Method.{GivesServed}
+use Rattle.dav_server.specs.Setup.{IsPrefix}
+use Rattle.dav_server.specs.Target.{TargetNames, path}
+use Rattle.dav_server.proofs.FindStatuses.{ends_propfind}
+use Rattle.dav_server.proofs.HeadLemmas.{one_head}
+use Rattle.dav_server.proofs.HrefReplies.{named_by, server_prefix, begins}
+use Rattle.dav_server.proofs.MeansWorld.{one_method}
+use Rattle.dav_server.proofs.NotModified.{body_status, no_error, one_value}
+use Rattle.dav_server.proofs.PlanStatuses.{Outcome, Any, IsFailure, AnswersOther, ran_ends}
+use Rattle.dav_server.proofs.TargetLemmas.{one_outcome}
+
+-- ---- responses
+
+-- a response of a path tells of it
+tells_of : (prefix : List ℕ) (p : PathText) (response : ElementTree) → IsOf prefix p response → TellsOf prefix p response
+tells_of prefix p response is = record {
+  text = is.text;
+  hrefs = is.hrefs;
+  leads = λ n. let (other, (bytes, reads, cut)) = is.leads in path (inl (begins is.text bytes other reads, refl)) reads cut;
+}
+
+tell_of : (prefix : List ℕ) {ps : List PathText} {responses : List ElementTree} → AreOf prefix ps responses → TellOf prefix ps responses
+tell_of prefix none_told = none_told_of
+tell_of prefix (one_told {p} {response = response} is more) = one_told_of (tells_of prefix p response is) (tell_of prefix more)
+
+-- ---- a request
+
+-- the outcome of a plan that is done
+ended : {e : DavError} {outcome : Result Response DavError} {old new : StoreState} {ls ms : Locks} → Ran AsksListing (fails e) old ls outcome new ms → outcome ≡ Err e
+ended ran_done = refl
+
+weaker : (outcome : Result Response DavError) → Outcome IsFailure AnswersOther outcome → Outcome IsFailure Any outcome
+weaker (Ok reply) is = tt
+weaker (Err e) is = is
+
+module _ (s : Settings) (x : Asked) (r : Request) (p : PathText) (fits : IsPrefix s.prefix) (is_for : IsFor s x r PropFind p) (old : StoreState) (world : IsWorld old.world)
+    (depth : IsDepth (get_all (headers_of r.fields) (codes "depth")) One) (small : length (names p) < 2 ^ 64) where
+  abbrev Told : Response → Type 0
+  Told reply = TellOf s.prefix (path_in old.world p ∷ member_paths old.world (path_in old.world p)) (responses_in reply.body)
+
+  -- an error is answered with another status
+  failed : {e : DavError} {outcome : Result Response DavError} → outcome ≡ Err e → IsFailure e → (reply_to outcome).status ≡ 207 → Told (reply_to outcome)
+  failed {e} is fails status =
+      let other : dav_status e ≡ 207 = ap (λ (o : Result Response DavError). (reply_to o).status) (sym is) ∙ status in
+      absurd (omega (arith, fails, other))
+
+  answered : {body : Body} {plan : MethodPlan Response} {new : StoreState} {ls ms : Locks} (outcome : Result Response DavError) → IsPropfind (headers_of r.fields) p body (client x) plan
+      → Outcome IsFailure Any outcome → Ran AsksListing plan old ls outcome new ms → (reply_to outcome).status ≡ 207 → Told (reply_to outcome)
+  answered (Err e) is fails ran status = failed {outcome = Err e} refl fails status
+  answered {body} {plan} {new} {ls} {ms} (Ok reply) is fails ran status =
+      let named = named_by {m = PropFind} (λ e. cc) is_for.target in
+      tell_of s.prefix (members_are_told s.prefix named.text (headers_of r.fields) p body (client x) plan old new ls ms reply (server_prefix s.prefix fits) named.target small world depth is ran)
+
+  outcome_of : {body : Body} {plan : MethodPlan Response} {new : StoreState} {ls ms : Locks} (outcome : Result Response DavError)
+      → IsPropfind (headers_of r.fields) p body (client x) plan → Ran AsksListing plan old ls outcome new ms → Outcome IsFailure Any outcome
+  outcome_of {body} outcome (is_propfind h are) ran = weaker outcome (ran_ends (ends_propfind h (headers_of r.fields) body (client x) p) ran)
+
+  planned : {body : Body} {plan : MethodPlan Response} {new : StoreState} {ls ms : Locks} (outcome : Result Response DavError)
+      → PlanOf s.allowed (headers_of r.fields) p body (client x) PropFind plan → Ran AsksListing plan old ls outcome new ms → (reply_to outcome).status ≡ 207 → Told (reply_to outcome)
+  planned outcome (finds_properties is) ran status = answered outcome is (outcome_of outcome is ran) ran status
+
+  of_told : {plan : MethodPlan Response} {new : StoreState} {ls ms : Locks} (outcome : Result Response DavError)
+      → MeansOf s x r PropFind plan → Ran AsksListing plan old ls outcome new ms → (reply_to outcome).status ≡ 207 → Told (reply_to outcome)
+  of_told outcome (not_allowed out) ran status = failed {e = dav.StatusClose 405} {outcome} (ended ran) (omega arith) status
+  of_told outcome (no_path e has none) ran status = no_error (one_outcome s.prefix PropFind r.target _ _ is_for.target none)
+  of_told outcome (no_body q e has named bad) ran status =
+      failed {e} {outcome} (ended ran) (subst (Outcome IsFailure Any) bad (body_status (taken_by PropFind) x.body)) status
+  of_told outcome (method q body {plan} has named good is) ran status =
+      let same : q ≡ p = one_value (one_outcome s.prefix PropFind r.target _ _ named is_for.target) in
+      planned outcome (subst (λ (t : PathText). PlanOf s.allowed (headers_of r.fields) t body (client x) PropFind plan) same is) ran status
+
+  told : {plan : MethodPlan Response} {new : StoreState} {ls ms : Locks} (outcome : Result Response DavError)
+      → Means s x plan → Ran AsksListing plan old ls outcome new ms → (reply_to outcome).status ≡ 207 → Told (reply_to outcome)
+  told outcome (no_head out) ran status = absurd (out r is_for.head)
+  told outcome (no_method q e head gives) ran status = failed {e} {outcome} (ended ran) (subst IsFailure (sym gives.0) (omega arith)) status
+  told {plan} outcome (known q m head gives means) ran status =
+      let request : q ≡ r = one_head x.head q r head is_for.head in
+      let same : m ≡ PropFind = one_method r.method m PropFind (subst (λ (h : Request). GivesServed h.method (Ok m)) request gives) is_for.method in
+      of_told outcome (subst (λ (k : DavMethod). MeansOf s x r k plan) same (subst (λ (h : Request). MeansOf s x h m plan) request means)) ran status
+
+pub listings_tell_members : ListingsTellMembers
+listings_tell_members s x r p old new ls ms reply fits world is_for depth small (steps plan outcome means ran) status =
+    told s x r p fits is_for old world depth small outcome means ran status
