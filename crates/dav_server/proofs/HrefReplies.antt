@@ -256,10 +256,10 @@ itself : (prefix : List ℕ) (p : PathText) → IsServed prefix p → Reached pr
 itself prefix p served = record { served = served; rest = []; at = sym (append-nil (names p)) }
 
 -- what the target of another method than OPTIONS names
-record Named (prefix : List ℕ) (p : PathText) : Type 0 where
-  text : List ℕ
-  target : IsTarget prefix text p
-  served : IsServed prefix p
+pub record Named (prefix : List ℕ) (p : PathText) : Type 0 where
+  pub text : List ℕ
+  pub target : IsTarget prefix text p
+  pub served : IsServed prefix p
 
 pub named_by : {prefix target : List ℕ} {m : DavMethod} {p : PathText} → m ≢ Options → TargetNames prefix m target (Ok p) → Named prefix p
 named_by other (server is options) = absurd (other options)

@@ -89,10 +89,10 @@ module _ (s : Settings) (x : Asked) (r : Request) (p : PathText) (fits : IsPrefi
 
   of_told : {plan : MethodPlan Response} {new : StoreState} {ls ms : Locks} (outcome : Result Response DavError)
       → MeansOf s x r PropFind plan → Ran AsksListing plan old ls outcome new ms → (reply_to outcome).status ≡ 207 → Told (reply_to outcome)
-  of_told outcome (not_allowed out) ran status = failed {e = dav.StatusClose 405} {outcome} (ended ran) (omega arith) status
+  of_told outcome (not_allowed out) ran status = failed {e = dav.StatusClose 405} {outcome = outcome} (ended ran) (omega arith) status
   of_told outcome (no_path e has none) ran status = no_error (one_outcome s.prefix PropFind r.target _ _ is_for.target none)
   of_told outcome (no_body q e has named bad) ran status =
-      failed {e} {outcome} (ended ran) (subst (Outcome IsFailure Any) bad (body_status (taken_by PropFind) x.body)) status
+      failed {e = e} {outcome = outcome} (ended ran) (subst (Outcome IsFailure Any) bad (body_status (taken_by PropFind) x.body)) status
   of_told outcome (method q body {plan} has named good is) ran status =
       let same : q ≡ p = one_value (one_outcome s.prefix PropFind r.target _ _ named is_for.target) in
       planned outcome (subst (λ (t : PathText). PlanOf s.allowed (headers_of r.fields) t body (client x) PropFind plan) same is) ran status
@@ -100,7 +100,7 @@ module _ (s : Settings) (x : Asked) (r : Request) (p : PathText) (fits : IsPrefi
   told : {plan : MethodPlan Response} {new : StoreState} {ls ms : Locks} (outcome : Result Response DavError)
       → Means s x plan → Ran AsksListing plan old ls outcome new ms → (reply_to outcome).status ≡ 207 → Told (reply_to outcome)
   told outcome (no_head out) ran status = absurd (out r is_for.head)
-  told outcome (no_method q e head gives) ran status = failed {e} {outcome} (ended ran) (subst IsFailure (sym gives.0) (omega arith)) status
+  told outcome (no_method q e head gives) ran status = failed {e = e} {outcome = outcome} (ended ran) (subst IsFailure (sym gives.0) (omega arith)) status
   told {plan} outcome (known q m head gives means) ran status =
       let request : q ≡ r = one_head x.head q r head is_for.head in
       let same : m ≡ PropFind = one_method r.method m PropFind (subst (λ (h : Request). GivesServed h.method (Ok m)) request gives) is_for.method in

@@ -181,6 +181,7 @@ reads_up_to (reads_ask only more) (up_to_ask {c} {old = old} {mid} {answer = ans
     let (world, list, rest) = reads_up_to (more answer) later in
     (world ∙ did_leave c old.world mid.world answer only (did one), list, rest)
 reads_up_to (reads_look more) (up_to_look {ls = ls} later) = reads_up_to (more ls) later
+reads_up_to is (up_to_keep later) = elim is [ ]
 
 -- it leaves the list too where each of its calls is refused
 reads_refused : {A : Type 0} {plan : Plan A} {ls ms : Locks} {a : A} → IsReading plan → Refused plan ls a ms → ms ≡ ls

@@ -51,7 +51,7 @@ use Rattle.dav_server.specs.Target.{TargetNames}
 use Rattle.dav_server.proofs.GetWorld.{Stands, after_found, file_kind, told_of, stands_known, known_bytes}
 use Rattle.dav_server.proofs.HeadLemmas.{one_head}
 use Rattle.dav_server.proofs.MeansWorld.{all_front, all_back, begun_world, turn_keeps, run_keeps, one_method}
-use Rattle.dav_server.proofs.PlanStatuses.{Outcome, Any, IsOther, IsFailure, failure_other, fs_other, outcome_if, ran_ends, conditions_end, ends_put, ends_mkcol, ends_copymove, ends_delete, ends_options, ends_lock, ends_unlock, ends_show_or_tell, other_status}
+use Rattle.dav_server.proofs.PlanStatuses.{Outcome, Any, IsOther, IsFailure, failure_other, ends_other, fs_other, outcome_if, ran_ends, conditions_end, ends_put, ends_mkcol, ends_copymove, ends_delete, ends_options, ends_lock, ends_unlock, ends_show_or_tell, other_status}
 use Rattle.dav_server.proofs.TagLemmas.{ShownAmong, shown_among, known_on, known_shown, shown_known, small_first, small_rest}
 use Rattle.dav_server.proofs.TargetLemmas.{one_outcome}
 

@@ -6,14 +6,15 @@ use Rattle.dav_core.specs.declared.method.DavMethod.{DavMethod}
 use Rattle.dav_core.specs.declared.method.DavMethod.TheVariants.{Put, Patch, Lock as LockMethod}
 use Rattle.dav_core.specs.Asking.{Asks}
 use Rattle.dav_core.specs.Element.{ElementTree}
+use Rattle.dav_core.specs.World.{World}
 use Rattle.dav_engine.specs.declared.request.Body.{Body}
 use Rattle.dav_engine.specs.declared.request.Body.TheVariants as body
 use Rattle.dav_engine.specs.Follows.{followed, gave_up, Serves, served, not_begun}
 use Rattle.dav_engine.specs.Lock.{is_absent}
-use Rattle.dav_engine.specs.Plan.{ServerState}
+use Rattle.dav_engine.specs.Plan.{Locks, ServerState}
 use Rattle.dav_engine.specs.Response.{Response}
 use Rattle.dav_server.specs.Head.{Request, IsHead}
-use Rattle.dav_server.specs.Leaving.{SameContent, HasLockBody, AsksForLock, GrantsNothing, IsWriteRequest}
+use Rattle.dav_server.specs.Leaving.{SameContent, AsksForLock, GrantsNothing, IsWriteRequest}
 use Rattle.dav_server.specs.Machine.{Asked, Settings, Means, TakesTree, body_for, taken_by, given_tree}
 use Rattle.dav_server.specs.Method.{GivesServed}
 use Rattle.dav_server.specs.Server.{HandlerView}
@@ -37,25 +38,26 @@ handed (body.Tree tree) b is = inr (handed_tree b _ tree is)
 handed body.Malformed b is = inr (subst (λ (it : Body). is_absent it ≡ false) (one_value is) refl)
 
 -- a LOCK that asks for a new lock is handed a body
-pub lock_body : {x : Asked} {m : DavMethod} {b : Body} → Ok b ≡ body_for (taken_by m) x.body → m ≡ LockMethod → HasLockBody x → is_absent b ≡ false
-lock_body {x} {m} {b} is lock has =
-    let given : body_for TakesTree x.body ≡ Ok b = ap (λ (k : DavMethod). body_for (taken_by k) x.body) (sym lock) ∙ sym is in
-    elim (handed x.body b given) [
-      | inl none ↦ absurd (has (given ∙ ap Ok none))
+pub lock_body : (given : Body) {b : Body} {m : DavMethod} → Ok b ≡ body_for (taken_by m) given → m ≡ LockMethod → (body_for (taken_by LockMethod) given ≢ Ok body.None) → is_absent b ≡ false
+lock_body given {b} {m} is lock has =
+    let same : body_for TakesTree given ≡ Ok b = ap (λ (k : DavMethod). body_for (taken_by k) given) (sym lock) ∙ sym is in
+    elim (handed given b same) [
+      | inl none ↦ absurd (has (same ∙ ap Ok none))
       | inr there ↦ there
     ]
 
 -- ---- the method
 
 -- the method of a LOCK is LOCK
-pub lock_method : {x : Asked} {r : Request} {m : DavMethod} → AsksForLock x → IsHead x.head r → GivesServed r.method (Ok m) → m ≡ LockMethod
-lock_method {x} (lock, has) head gives = asks_one x LockMethod lock head gives
+pub lock_method : (x : Asked) {r : Request} {m : DavMethod} → AsksForLock x → IsHead x.head r → GivesServed r.method (Ok m) → m ≡ LockMethod
+lock_method x (lock, has) head gives = asks_one x LockMethod lock head gives
 
 -- ---- the handler
 
 -- what was left from the state of a handler was left from that of an equal one
-pub same_held : {F L : Type 0} {one other : HandlerView F L} {new : ServerState} → one ≡ other → SameContent one.server.state new → SameContent other.server.state new
-same_held {new = new} same left = subst (λ h. SameContent h.server.state new) same left
+pub same_held : {F L : Type 0} {one other : HandlerView F L} {w : World} {ms : Locks} → one ≡ other
+    → (w ≡ one.server.state.store.world) × (ms ≡ one.server.state.locks) → (w ≡ other.server.state.store.world) × (ms ≡ other.server.state.locks)
+same_held same (world, locks) = (world ∙ ap (λ h. h.server.state.store.world) same, locks ∙ ap (λ h. h.server.state.locks) same)
 
 -- memory ran out, or it didn't
 is_memory : (e : DavError) → (e ≡ dav.Memory) ⊎ (e ≢ dav.Memory)
@@ -70,14 +72,14 @@ is_memory (dav.StatusClose status) = inr (λ same. cc)
 is_memory (dav.FsError refusal) = inr (λ same. cc)
 is_memory dav.Memory = inl refl
 
-module _ {s : Settings} {x : Asked} {old new : ServerState} (e : DavError) where
-  no_write : IsLockRequest x → IsWriteRequest x → ⊥
-  no_write lock (inl (r, head, gives)) = let same : Put ≡ LockMethod = asks_one x LockMethod lock head gives in cc
-  no_write lock (inr (r, head, gives)) = let same : Patch ≡ LockMethod = asks_one x LockMethod lock head gives in cc
+no_write : (x : Asked) → IsLockRequest x → IsWriteRequest x → ⊥
+no_write x lock (inl (r, head, gives)) = let same : Put ≡ LockMethod = asks_one x LockMethod lock head gives in absurd (cc)
+no_write x lock (inr (r, head, gives)) = let same : Patch ≡ LockMethod = asks_one x LockMethod lock head gives in absurd (cc)
 
+module _ (s : Settings) (x : Asked) (old new : ServerState) (e : DavError) where
   other_error : e ≢ dav.Memory → Serves (Means s x) old (Err e) new → GrantsNothing x old new
   other_error other (served plan means (followed ran)) (lock, has) unused =
-      errors_leave s x plan old.store new.store old.locks new.locks e (λ writes. absurd (no_write lock writes)) (λ is. unused) means ran
+      errors_leave s x plan old.store new.store old.locks new.locks e (λ writes. absurd (no_write x lock writes)) (λ is. unused) means ran
   other_error other (served plan means (gave_up is front)) asks unused = absurd (other (cc))
   other_error other (not_begun is same kept) asks unused = absurd (other (cc))
 

@@ -127,7 +127,7 @@ pub fn reading_leaves_all()
 {}
 
 /// A run that begins with a world ends with one, whatever the store refuses, and where memory runs out in it (RFC 4918, section 5.1).
-#[tactic(auto, using(crate::proofs::MeansWorld::runs_keep_worlds, crate::proofs::CutSteps::runs_keep_worlds_cut))]
+#[tactic(auto, using(crate::proofs::MeansWorld::runs_keep_worlds))]
 pub fn runs_keep_worlds()
     ensures whole { RunsKeepWorlds }
     ensures cut { RunsKeepWorldsCut }

@@ -20,4 +20,4 @@ returns-clause-serves g c = serves_as (λ plan is. known _ _ (subst (λ x. IsHea
 pub returns-clause-ungranted : goal.returns-clause-ungranted
 returns-clause-ungranted g c = λ memory asks.
     c.answer_method.ensures.ungranted memory
-    (lock_method asks (subst (λ x. IsHead x.head c.in-Ok.view) c.exchange.view_is c.in-Ok.ensures.ok) (served_at (Ok c.in_ok-method.method) c.method.ensures c.in_ok-method.ensures)) asks.1
+    (lock_method c.args.exchange.now asks (subst (λ x. IsHead x.head c.in-Ok.view) c.exchange.view_is c.in-Ok.ensures.ok) (served_at (Ok c.in_ok-method.method) c.method.ensures c.in_ok-method.ensures)) asks.1

@@ -53,4 +53,4 @@ serve-requires g c =
 pub returns-clause-ungranted : goal.returns-clause-ungranted
 returns-clause-ungranted g c = λ memory lock has.
     let taken = c.in_ok-body.ensures ∙ ap (λ x. body_for (taken_by c.args.method) x.body) c.exchange.view_is in
-    c.serve.ensures.ungranted memory lock (ap is_absent c.as_body.ensures ∙ lock_body taken lock has)
+    c.serve.ensures.ungranted memory lock (ap is_absent c.as_body.ensures ∙ lock_body c.args.exchange.now.body taken lock has)

@@ -1,3 +1,4 @@
+use Rattle.std.proofs.Common.{Err, ap}
 use Rattle.std.proofs.lemmas.Result.{IfOk-weaker}
 use Rattle.dav_server.proofs.CutSteps.{safe_leaves_cut}
 use Rattle.dav_server.proofs.EachRequestLemmas.{safe_leaves, create_only_leaves, refused_status_leaves}
@@ -40,4 +41,4 @@ pub returns-in-Err-clause-hrefs : goal.returns-in-Err-clause-hrefs
 returns-in-Err-clause-hrefs g c = IfOk-weaker _ _ _ (λ reply r. step_leads_back _ _ _ _ _ _ reply (served_err c.in-Err.ensures.serves r.0 r.1)) c.refuse.ensures
 
 pub returns-in-Err-clause-ungranted : goal.returns-in-Err-clause-ungranted
-returns-in-Err-clause-ungranted g c = any_err _ (grants_nothing _ c.in-Err.ensures.serves c.in-Err.ensures.ungranted)
+returns-in-Err-clause-ungranted g c = any_err _ (grants_nothing _ _ _ _ _ c.in-Err.ensures.serves (λ is. c.in-Err.ensures.ungranted (ap Err is)))
