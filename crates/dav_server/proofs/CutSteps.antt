@@ -1,15 +1,15 @@
 -- Steps in which memory runs out.
-use Rattle.std.proofs.Common.{◌≡◌, ◌⊎◌, ◌++◌, ◌≤◌, Bool, true, List, [], ◌∷◌, Option, Ok, inl, inr, refl, sym, subst, ◌∙◌}
+use Rattle.std.proofs.Common.{◌≡◌, ◌++◌, ◌≤◌, true, ◌∷◌, inl, inr, refl, sym, subst}
 use Rattle.std.proofs.lemmas.List.Elements.{All-head}
 use Rattle.dav_core.specs.declared.method.DavMethod.{DavMethod}
 use Rattle.dav_core.specs.Asking.{StoreState}
-use Rattle.dav_core.specs.World.{World, IsWorld, last_moment}
+use Rattle.dav_core.specs.World.{IsWorld, last_moment}
 use Rattle.dav_engine.specs.Plan.{Locks, ServerState}
 use Rattle.dav_engine.specs.PlanLaws.{CutsAreLikeRefusals}
 use Rattle.dav_engine.specs.Response.{reply_to}
 use Rattle.dav_server.specs.Leaving.{SafeLeaves}
 use Rattle.dav_server.specs.Machine.{Asked, Settings, StepCut, untouched, cut, Steps, steps}
-use Rattle.dav_server.specs.Run.{Turn, begun, CutsAreLikeSteps}
+use Rattle.dav_server.specs.Run.{Turn, CutsAreLikeSteps}
 use Rattle.dav_server.specs.TagLaws.{HasMethod, is_safe, AreShowable, ReadingLeavesCut, RunsKeepWorldsCut}
 use Rattle.dav_server.proofs.MeansWorld.{begun_world, all_front, all_back, run_keeps, step_keeps, cut_reads, means_reads}
 

@@ -1,5 +1,5 @@
 -- What a PROPFIND of Depth 1 tells, from the bytes of its head on.
-use Rattle.std.proofs.Common.{◌≡◌, ◌≢◌, ℕ, ◌<◌, ◌^◌, List, [], ◌∷◌, length, codes, Result, Ok, Err, inl, inr, refl, sym, ap, subst, ◌∙◌, arith}
+use Rattle.std.proofs.Common.{◌≡◌, ℕ, ◌<◌, ◌^◌, List, ◌∷◌, length, codes, Result, Ok, Err, inl, refl, sym, ap, subst, ◌∙◌, arith}
 use Rattle.http_header.specs.HeaderMap.{get_all}
 use Rattle.dav_core.specs.declared.errors.DavError.{DavError}
 use Rattle.dav_core.specs.declared.errors.DavError.TheVariants as dav
@@ -13,22 +13,20 @@ use Rattle.dav_core.specs.World.{IsWorld}
 use Rattle.dav_headers.specs.Depth.{IsDepth}
 use Rattle.dav_headers.specs.declared.depth.Depth.TheVariants.{One}
 use Rattle.dav_engine.specs.declared.request.Body.{Body}
-use Rattle.dav_engine.specs.Client.{Client}
-use Rattle.dav_engine.specs.Headers.{Headers}
 use Rattle.dav_engine.specs.Method.{MethodPlan, fails}
 use Rattle.dav_engine.specs.Plan.{Locks, Ran, ran_done}
 use Rattle.dav_engine.specs.Propfind.{IsPropfind, is_propfind}
 use Rattle.dav_engine.specs.PropfindLaws.{IsOf, AreOf, none_told, one_told, AsksListing, path_in, member_paths, responses_in}
 use Rattle.dav_engine.specs.Response.{Response, reply_to}
 use Rattle.dav_engine.proofs.Theorems.{members_are_told}
-use Rattle.dav_server.specs.Head.{Request, IsHead}
+use Rattle.dav_server.specs.Head.{Request}
 use Rattle.dav_server.specs.Headers.{headers_of}
 use Rattle.dav_server.specs.Holder.{IsFor}
 use Rattle.dav_server.specs.HrefLaws.{TellsOf, TellOf, none_told as none_told_of, one_told as one_told_of, ListingsTellMembers}
-use Rattle.dav_server.specs.Machine.{Settings, Asked, client, body_for, taken_by, PlanOf, finds_properties, MeansOf, not_allowed, no_path, no_body, method, Means, no_head, no_method, known, steps}
+use Rattle.dav_server.specs.Machine.{Settings, Asked, client, taken_by, PlanOf, finds_properties, MeansOf, not_allowed, no_path, no_body, method, Means, no_head, no_method, known, steps}
 use Rattle.dav_server.specs.Method.{GivesServed}
 use Rattle.dav_server.specs.Setup.{IsPrefix}
-use Rattle.dav_server.specs.Target.{TargetNames, path}
+use Rattle.dav_server.specs.Target.{path}
 use Rattle.dav_server.proofs.FindStatuses.{ends_propfind}
 use Rattle.dav_server.proofs.HeadLemmas.{one_head}
 use Rattle.dav_server.proofs.HrefReplies.{named_by, server_prefix, begins}

@@ -15,7 +15,7 @@ use Rattle.dav_engine.specs.declared.request.Body.{Body}
 use Rattle.dav_engine.specs.Client.{Client}
 use Rattle.dav_engine.specs.Headers.{Headers}
 use Rattle.dav_engine.specs.Method.{MethodPlan}
-use Rattle.dav_engine.specs.Plan.{Plan, Locks, RanUpTo, up_to_here, up_to_ask, up_to_look, up_to_keep, Refused, refused_done, refused_ask, refused_look, refused_keep, Cut}
+use Rattle.dav_engine.specs.Plan.{Plan, Locks, RanUpTo, up_to_here, up_to_ask, up_to_look, up_to_keep, Refused, refused_done, refused_ask, refused_look, Cut}
 use Rattle.dav_engine.specs.Response.{Response}
 use Rattle.dav_engine.specs.WorldLaws.{IsReading, reads_done, reads_ask, reads_look, IsProperPlan, proper_done}
 use Rattle.dav_engine.proofs.Theorems.{did, did_leave, Kept, kept_same, kept_on, put_is_proper, mkcol_is_proper, copymove_is_proper, delete_is_proper, lock_is_proper, options_is_proper, options_only_reads, unlock_is_proper, reading_leaves, proper_keeps, propfind_is_proper, propfind_only_reads, proppatch_is_proper}

@@ -14,7 +14,7 @@ use Rattle.dav_core.specs.declared.errors.DavError.TheVariants as dav
 use Rattle.dav_core.specs.declared.fs.DavMetaData.{DavMetaData}
 use Rattle.dav_core.specs.declared.method.DavMethod.{DavMethod}
 use Rattle.dav_core.specs.declared.method.DavMethod.TheVariants.{Head, Patch, MkCol, Delete, Lock as LockMethod}
-use Rattle.dav_core.specs.Asking.{Call, Answer, StoreState, Asks, Write}
+use Rattle.dav_core.specs.Asking.{Call, Answer, StoreState, Write}
 use Rattle.dav_core.specs.Handle.{Handle, Opening}
 use Rattle.dav_core.specs.Locks.{Lock, Requester, deleted, unlocked}
 use Rattle.dav_core.specs.Numbers.{max_u64}

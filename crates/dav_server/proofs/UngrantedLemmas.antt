@@ -1,10 +1,9 @@
 -- Where memory runs out, a LOCK that asks for a new lock was granted none.
-use Rattle.std.proofs.Common.{◌≡◌, ◌≢◌, ◌⊎◌, Bool, true, false, if◌then◌else◌, List, [], ◌∷◌, Result, Ok, Err, inl, inr, refl, sym, ap, subst, ◌∙◌}
+use Rattle.std.proofs.Common.{◌≡◌, ◌≢◌, ◌⊎◌, Bool, true, false, if◌then◌else◌, [], ◌∷◌, Ok, Err, inl, inr, refl, sym, ap, subst, ◌∙◌}
 use Rattle.dav_core.specs.declared.errors.DavError.{DavError}
 use Rattle.dav_core.specs.declared.errors.DavError.TheVariants as dav
 use Rattle.dav_core.specs.declared.method.DavMethod.{DavMethod}
 use Rattle.dav_core.specs.declared.method.DavMethod.TheVariants.{Put, Patch, Lock as LockMethod}
-use Rattle.dav_core.specs.Asking.{Asks}
 use Rattle.dav_core.specs.Element.{ElementTree}
 use Rattle.dav_core.specs.World.{World}
 use Rattle.dav_engine.specs.declared.request.Body.{Body}
@@ -12,10 +11,9 @@ use Rattle.dav_engine.specs.declared.request.Body.TheVariants as body
 use Rattle.dav_engine.specs.Follows.{followed, gave_up, Serves, served, not_begun}
 use Rattle.dav_engine.specs.Lock.{is_absent}
 use Rattle.dav_engine.specs.Plan.{Locks, ServerState}
-use Rattle.dav_engine.specs.Response.{Response}
 use Rattle.dav_server.specs.Head.{Request, IsHead}
 use Rattle.dav_server.specs.Leaving.{SameContent, AsksForLock, GrantsNothing, IsWriteRequest}
-use Rattle.dav_server.specs.Machine.{Asked, Settings, Means, TakesTree, body_for, taken_by, given_tree}
+use Rattle.dav_server.specs.Machine.{Asked, Settings, Means, TakesTree, body_for, taken_by}
 use Rattle.dav_server.specs.Method.{GivesServed}
 use Rattle.dav_server.specs.Server.{HandlerView}
 use Rattle.dav_server.specs.WriteLaws.{IsLockRequest}
