@@ -57,4 +57,6 @@ pub mod WrongSteps
 pub mod WrongUpdates
 pub mod NeededBeginning
 pub mod NeededMoments
+pub mod NeededWorlds
+pub mod WorkedRow
 pub mod Theorems
