@@ -1,13 +1,13 @@
 -- What the calls of a list of locks do to its index, and answer where no lock matters.
-use Rattle.std.proofs.Common.{◌≡◌, ℕ, ◌+◌, ◌-◌, ◌&&◌, ◌||◌, not, Bool, true, false, cond, List, [], ◌∷◌, ◌++◌, Option, Some, None, refl, ap, ◌∙◌, arith}
+use Rattle.std.proofs.Common.{◌≡◌, ℕ, zero, suc, ◌+◌, ◌-◌, ◌&&◌, ◌||◌, not, Bool, true, false, cond, List, [], ◌∷◌, ◌++◌, length, length-append, get_or, Contains, Option, Some, None, Result, Ok, Err, refl, sym, ap, subst, ◌∙◌, arith}
 use Rattle.std.specs.List.{list_any, list_all, filter, flat_map}
 use Rattle.std.proofs.lemmas.List.Sums.{sum_by-cons}
 use Rattle.dav_core.specs.Lists.{is_empty}
 use Rattle.dav_core.specs.Path.{Path, names, fronts, is_same_path, is_under, is_at_or_under, rest_after, has_names}
 use Rattle.std.specs.Option.{is_some}
-use Rattle.dav_core.specs.Locks.{Lock, Requester, covers, covering, is_held, is_free, is_free_for, discovered, deleted}
+use Rattle.dav_core.specs.Locks.{Lock, Requester, covers, covering, is_held, is_free, is_free_for, conflicts, Checks, free, conflicting, discovered, deleted}
 use Rattle.dav_store.specs.declared.memls.index.Counts.{Counts}
-use Rattle.dav_store.specs.LockIndex.{path_keys, times, tally, HasCounts, IsIndexOf, matters}
+use Rattle.dav_store.specs.LockIndex.{path_keys, times, tally, HasCounts, IsIndexOf, matters, MattersAlone}
 
 -- the keys of a lock, counted
 abbrev keys_at : ℕ → Lock → ℕ
@@ -99,13 +99,13 @@ all_elsewhere held there (l ∷ ls) h =
 pub free_where_none : (asked : Bool) (who : Requester) (p : Path) (ls : List Lock) → list_any (matters asked p) ls ≡ false → is_free_for asked who p ls ≡ true
 free_where_none asked who p ls h =
     let none : covering p ls ≡ [] = none_filtered (λ l. covers l p) ls (none_weaker (matters asked p) (λ l. covers l p) (uncovered asked p) ls h) in
-    let free : is_free who p ls ≡ true = ap (λ (ms : List Lock). list_all (λ l. is_held who l || l.shared) ms && (list_any (is_held who) ms || is_empty ms)) none in
-    by_asked asked h free
+    let clear : is_free who p ls ≡ true = ap (λ (ms : List Lock). list_all (λ l. is_held who l || l.shared) ms && (list_any (is_held who) ms || is_empty ms)) none in
+    by_asked asked h clear
   where
     by_asked : (a : Bool) → list_any (matters a p) ls ≡ false → is_free who p ls ≡ true → is_free_for a who p ls ≡ true
-    by_asked false k free = free
-    by_asked true k free =
-        (λ i. free i && list_all (λ l. is_held who l || not (is_at_or_under (names l.path) p)) ls)
+    by_asked false k clear = clear
+    by_asked true k clear =
+        (λ i. clear i && list_all (λ l. is_held who l || not (is_at_or_under (names l.path) p)) ls)
         ∙ all_elsewhere (is_held who) (λ l. is_at_or_under (names l.path) p) ls (none_weaker (matters true p) (λ l. is_at_or_under (names l.path) p) (elsewhere p) ls k)
 
 not_below : (p : Path) (l : Lock) → matters true p l ≡ false → is_under (names l.path) p ≡ false
@@ -148,3 +148,68 @@ none_discovered asked p ls h =
 pub none_deleted : (p : Path) (ls : List Lock) → list_any (matters true p) ls ≡ false → deleted p ls ≡ ls
 none_deleted p ls h =
     all_left (λ l. is_at_or_under (names l.path) p) ls (none_weaker (matters true p) (λ l. is_at_or_under (names l.path) p) (elsewhere p) ls h)
+
+-- ---- answers, where one lock alone matters
+
+filtered_alone : (f : Lock → Bool) (l : Lock) (before after : List Lock) → list_any f before ≡ false → list_any f after ≡ false → filter f (before ++ l ∷ after) ≡ filter f (l ∷ [])
+filtered_alone f l [] after h k = ap (λ (ms : List Lock). cond (f l) (l ∷ ms) ms) (none_filtered f after k)
+filtered_alone f l (x ∷ before) after h k =
+    let (a, b, c) = none_step (f x) (list_any f before) (f x) h (λ e. e) in
+    ap (λ d. cond d (x ∷ filter f (before ++ l ∷ after)) (filter f (before ++ l ∷ after))) a ∙ filtered_alone f l before after b k
+
+held_or : (held there rest : Bool) → there ≡ false → ((held || not there) && rest) ≡ rest
+held_or true there rest h = refl
+held_or false true rest h = cc
+held_or false false rest h = refl
+
+all_alone : (held there : Lock → Bool) (l : Lock) (before after : List Lock) → list_any there before ≡ false → list_any there after ≡ false
+    → list_all (λ m. held m || not (there m)) (before ++ l ∷ after) ≡ list_all (λ m. held m || not (there m)) (l ∷ [])
+all_alone held there l [] after h k = ap (λ b. (held l || not (there l)) && b) (all_elsewhere held there after k)
+all_alone held there l (x ∷ before) after h k =
+    let (a, b, c) = none_step (there x) (list_any there before) (there x) h (λ e. e) in
+    held_or (held x) (there x) (list_all (λ m. held m || not (there m)) (before ++ l ∷ after)) a ∙ all_alone held there l before after b k
+
+at_length : (l m : Lock) (before after : List Lock) → get_or (before ++ l ∷ after) (length before) m ≡ l
+at_length l m [] after = refl
+at_length l m (x ∷ before) after = at_length l m before after
+
+module _ (asked : Bool) (who : Requester) (p : Path) (l : Lock) where
+  covering_alone : (ls : List Lock) → MattersAlone asked p l ls → covering p ls ≡ covering p (l ∷ [])
+  covering_alone ls (before, after, parts, h, k) =
+      ap (covering p) parts
+      ∙ filtered_alone (λ m. covers m p) l before after
+      (none_weaker (matters asked p) (λ m. covers m p) (uncovered asked p) before h)
+      (none_weaker (matters asked p) (λ m. covers m p) (uncovered asked p) after k)
+
+  free_alone : (ls : List Lock) → MattersAlone asked p l ls → is_free who p ls ≡ is_free who p (l ∷ [])
+  free_alone ls alone = ap (λ (ms : List Lock). list_all (λ m. is_held who m || m.shared) ms && (list_any (is_held who) ms || is_empty ms)) (covering_alone ls alone)
+
+  conflicts_alone : (ls : List Lock) → MattersAlone asked p l ls → (m : Lock) → conflicts asked who p (l ∷ []) m ≡ true → conflicts asked who p ls m ≡ true
+  conflicts_alone ls alone m is =
+      subst (λ (ms : List Lock). (not (is_held who m) && ((covers m p && (not m.shared || not (list_any (is_held who) ms))) || (asked && is_at_or_under (names m.path) p))) ≡ true)
+      (sym (covering_alone ls alone)) is
+
+  among : (ls : List Lock) → MattersAlone asked p l ls → (m : Lock) → Contains (l ∷ []) m → Contains ls m
+  among ls (before, after, parts, h, k) m (zero, within, is) =
+      let whole = ap length parts in
+      let sum = length-append before (l ∷ after) in
+      (length before, omega (arith, whole, sum), ap (λ (ms : List Lock). get_or ms (length before) m) parts ∙ at_length l m before after ∙ is)
+  among ls (before, after, parts, h, k) m (suc i, within, is) = absurd (omega (arith, within))
+
+freed_alone : (asked : Bool) (who : Requester) (p : Path) (l : Lock) (ls : List Lock) → MattersAlone asked p l ls → is_free_for asked who p (l ∷ []) ≡ true → is_free_for asked who p ls ≡ true
+freed_alone false who p l ls alone clear = free_alone false who p l ls alone ∙ clear
+freed_alone true who p l ls (before, after, parts, h, k) clear =
+    let lies : Lock → Bool = λ m. is_at_or_under (names m.path) p in
+    let first = free_alone true who p l ls (before, after, parts, h, k) in
+    let all =
+    all_alone (is_held who) lies l before after
+    (none_weaker (matters true p) lies (elsewhere p) before h)
+    (none_weaker (matters true p) lies (elsewhere p) after k) in
+    ap (λ b. b && list_all (λ m. is_held who m || not (lies m)) ls) first
+    ∙ ap (λ b. is_free who p (l ∷ []) && b) (ap (list_all (λ m. is_held who m || not (lies m))) parts ∙ all)
+    ∙ clear
+
+-- what is answered of the one lock that matters is an answer of the list
+pub checked_alone : (asked : Bool) (who : Requester) (p : Path) (l : Lock) (ls : List Lock) (r : Result (Unit {0}) Lock) → MattersAlone asked p l ls → Checks asked who p (l ∷ []) r → Checks asked who p ls r
+checked_alone asked who p l ls (Ok u) alone (free is) = free (freed_alone asked who p l ls alone is)
+checked_alone asked who p l ls (Err m) alone (conflicting there is) = conflicting (among asked who p l ls alone m there) (conflicts_alone asked who p l ls alone m is)

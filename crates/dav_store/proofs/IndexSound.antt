@@ -1,26 +1,22 @@
--- Where the counts say that no lock matters to a path, none does.
-use Rattle.std.proofs.Common.{◌≡◌, ℕ, ◌+◌, ◌≤◌, ◌&&◌, ◌||◌, nat_lt, Bool, true, false, cond, List, [], ◌∷◌, ◌++◌, Option, Some, None, inl, inr, refl, sym, ap, subst, arith, eq-eqb}
+-- Where the counts say that no lock matters to a path, none does; and where they say that at most one does, no two do.
+use Rattle.std.proofs.Common.{◌≡◌, ℕ, ◌+◌, zero, suc, ◌≤◌, ◌<◌, ◌&&◌, ◌||◌, Bool, true, false, cond, List, [], ◌∷◌, ◌++◌, length, get_or, Option, Some, None, inl, inr, refl, sym, ap, subst, ◌∙◌, arith, eq-eqb}
 use Rattle.std.specs.List.{list_any}
 use Rattle.std.specs.Option.{is_some}
 use Rattle.std.proofs.lemmas.List.Sums.{sum_by-cons}
 use Rattle.dav_core.specs.Path.{Path, names, rest_after, is_at_or_under}
 use Rattle.dav_core.specs.Locks.{Lock, covers}
 use Rattle.dav_core.proofs.Theorems.{from_rest, CoveringWay, covering_way}
-use Rattle.dav_store.specs.LockIndex.{root_number, below_key, at_key, deep_key, with_name, keys_from, path_keys, times, one_at, tally, matters, may_from, may_matter}
+use Rattle.dav_store.specs.LockIndex.{root_number, below_key, at_key, deep_key, end_key, with_name, keys_from, path_keys, times, one_at, tally, matters, weight_from, weight, MattersAlone}
 use Rattle.dav_store.proofs.IndexLemmas.{times_more}
-
-positive : (m : ℕ) → 1 ≤ m → nat_lt 0 m ≡ true
-positive m h = grind (arith, h)
-
-or_right : (a b : Bool) → b ≡ true → (a || b) ≡ true
-or_right true b h = refl
-or_right false b h = h
-
-or_left : (a b : Bool) → a ≡ true → (a || b) ≡ true
-or_left a b h = ap (λ c. c || b) h
 
 own : (k : ℕ) → one_at k k ≡ 1
 own k = ap (λ b. cond b 1 0) (eq-eqb k k refl)
+
+none_below : {A : Type 0} (i : ℕ) → i < 0 → A
+none_below i h = absurd (omega arith)
+
+less_suc : (i n : ℕ) → suc i < suc n → i < n
+less_suc i n h = omega arith
 
 -- each key of a lock is counted
 abbrev AreCounted : (ℕ → ℕ) → List ℕ → Type 0
@@ -33,81 +29,130 @@ module _ (count : ℕ → ℕ) where
   others_counted : (x : ℕ) (keys : List ℕ) → AreCounted count (x ∷ keys) → AreCounted count keys
   others_counted x keys h k = let a = times_more k x keys in let c = h k in omega (arith, a, c)
 
-  below_counted : (deep : Bool) (n : ℕ) (p : Path) → AreCounted count (keys_from deep n p) → nat_lt 0 (count (below_key n)) ≡ true
-  below_counted deep n [] h = positive (count (below_key n)) (first_counted (below_key n) (at_key n ∷ cond deep (deep_key n ∷ []) []) h)
-  below_counted deep n (x ∷ p) h = positive (count (below_key n)) (first_counted (below_key n) (keys_from deep (with_name n x) p) h)
+  below_counted : (deep : Bool) (n : ℕ) (p : Path) → AreCounted count (keys_from deep n p) → 1 ≤ count (below_key n)
+  below_counted deep n [] h = first_counted (below_key n) (at_key n ∷ cond deep (deep_key n ∷ []) []) h
+  below_counted deep n (x ∷ p) h = first_counted (below_key n) (keys_from deep (with_name n x) p) h
 
-  at_counted : (deep : Bool) (n : ℕ) → AreCounted count (keys_from deep n []) → nat_lt 0 (count (at_key n)) ≡ true
-  at_counted deep n h =
-      positive (count (at_key n)) (first_counted (at_key n) (cond deep (deep_key n ∷ []) []) (others_counted (below_key n) (at_key n ∷ cond deep (deep_key n ∷ []) []) h))
+  at_counted : (deep : Bool) (n : ℕ) → AreCounted count (keys_from deep n []) → 1 ≤ count (at_key n)
+  at_counted deep n h = first_counted (at_key n) (cond deep (deep_key n ∷ []) []) (others_counted (below_key n) (at_key n ∷ cond deep (deep_key n ∷ []) []) h)
 
-  deep_counted : (n : ℕ) (p : Path) → AreCounted count (keys_from true n []) → nat_lt 0 (count (deep_key n)) ≡ true
-  deep_counted n p h =
-      positive (count (deep_key n)) (first_counted (deep_key n) [] (others_counted (at_key n) (deep_key n ∷ []) (others_counted (below_key n) (at_key n ∷ deep_key n ∷ []) h)))
+  deep_counted : (n : ℕ) → AreCounted count (keys_from true n []) → 1 ≤ count (deep_key n)
+  deep_counted n h = first_counted (deep_key n) [] (others_counted (at_key n) (deep_key n ∷ []) (others_counted (below_key n) (at_key n ∷ deep_key n ∷ []) h))
 
   -- a lock on the path
-  on_path : (asked deep : Bool) (n : ℕ) (p : Path) → AreCounted count (keys_from deep n p) → may_from count asked n p ≡ true
-  on_path asked deep n [] h = or_left (nat_lt 0 (count (at_key n))) (asked && nat_lt 0 (count (below_key n))) (at_counted deep n h)
+  on_path : (asked deep : Bool) (n : ℕ) (p : Path) → AreCounted count (keys_from deep n p) → 1 ≤ weight_from count asked n p
+  on_path true deep n [] h = below_counted deep n [] h
+  on_path false deep n [] h = at_counted deep n h
   on_path asked deep n (x ∷ p) h =
-      or_right (nat_lt 0 (count (deep_key n))) (may_from count asked (with_name n x) p)
-      (on_path asked deep (with_name n x) p (others_counted (below_key n) (keys_from deep (with_name n x) p) h))
+      let a = on_path asked deep (with_name n x) p (others_counted (below_key n) (keys_from deep (with_name n x) p) h) in
+      omega (arith, a)
 
   -- a lock of infinite depth above the path
-  above_path : (asked : Bool) (n : ℕ) (q : Path) (x : List ℕ) (r : Path) → AreCounted count (keys_from true n q) → may_from count asked n (q ++ x ∷ r) ≡ true
-  above_path asked n [] x r h = or_left (nat_lt 0 (count (deep_key n))) (may_from count asked (with_name n x) r) (deep_counted n r h)
+  above_path : (asked : Bool) (n : ℕ) (q : Path) (x : List ℕ) (r : Path) → AreCounted count (keys_from true n q) → 1 ≤ weight_from count asked n (q ++ x ∷ r)
+  above_path asked n [] x r h = let a = deep_counted n h in omega (arith, a)
   above_path asked n (y ∷ q) x r h =
-      or_right (nat_lt 0 (count (deep_key n))) (may_from count asked (with_name n y) (q ++ x ∷ r))
-      (above_path asked (with_name n y) q x r (others_counted (below_key n) (keys_from true (with_name n y) q) h))
+      let a = above_path asked (with_name n y) q x r (others_counted (below_key n) (keys_from true (with_name n y) q) h) in
+      omega (arith, a)
 
   -- a lock on the path or below it, where these are asked for
-  below_path : (deep : Bool) (n : ℕ) (p r : Path) → AreCounted count (keys_from deep n (p ++ r)) → may_from count true n p ≡ true
-  below_path deep n [] r h = or_right (nat_lt 0 (count (at_key n))) (nat_lt 0 (count (below_key n))) (below_counted deep n r h)
+  below_path : (deep : Bool) (n : ℕ) (p r : Path) → AreCounted count (keys_from deep n (p ++ r)) → 1 ≤ weight_from count true n p
+  below_path deep n [] r h = below_counted deep n r h
   below_path deep n (y ∷ p) r h =
-      or_right (nat_lt 0 (count (deep_key n))) (may_from count true (with_name n y) p)
-      (below_path deep (with_name n y) p r (others_counted (below_key n) (keys_from deep (with_name n y) (p ++ r)) h))
+      let a = below_path deep (with_name n y) p r (others_counted (below_key n) (keys_from deep (with_name n y) (p ++ r)) h) in
+      omega (arith, a)
 
-  covering_counts : (asked : Bool) (l : Lock) (p : Path) → AreCounted count (path_keys l.deep (names l.path)) → CoveringWay l p → may_matter count asked p ≡ true
-  covering_counts asked l p h (inl same) = subst (λ (q : Path). may_matter count asked q ≡ true) same (on_path asked l.deep root_number (names l.path) h)
+  covering_counts : (asked : Bool) (l : Lock) (p : Path) → AreCounted count (path_keys l.deep (names l.path)) → CoveringWay l p → 1 ≤ weight count asked p
+  covering_counts asked l p h (inl same) = subst (λ (q : Path). 1 ≤ weight count asked q) same (on_path asked l.deep root_number (names l.path) h)
   covering_counts asked l p h (inr (x, r, deep, is)) =
-      subst (λ (q : Path). may_matter count asked q ≡ true) (sym is)
+      subst (λ (q : Path). 1 ≤ weight count asked q) (sym is)
       (above_path asked root_number (names l.path) x r (subst (λ (d : Bool). AreCounted count (path_keys d (names l.path))) deep h))
 
-  lying_counts : (l : Lock) (p : Path) → AreCounted count (path_keys l.deep (names l.path)) → (o : Option Path) → rest_after p (names l.path) ≡ o → is_some o ≡ true → may_matter count true p ≡ true
+  lying_counts : (l : Lock) (p : Path) → AreCounted count (path_keys l.deep (names l.path)) → (o : Option Path) → rest_after p (names l.path) ≡ o → is_some o ≡ true → 1 ≤ weight count true p
   lying_counts l p h None at under = cc
   lying_counts l p h (Some r) at under =
       below_path l.deep root_number p r (subst (λ (q : Path). AreCounted count (path_keys l.deep q)) (from_rest p (names l.path) r at) h)
 
   mattering_by : (asked : Bool) (l : Lock) (p : Path) → AreCounted count (path_keys l.deep (names l.path))
-      → (c : Bool) → covers l p ≡ c → (c || (asked && is_at_or_under (names l.path) p)) ≡ true → may_matter count asked p ≡ true
+      → (c : Bool) → covers l p ≡ c → (c || (asked && is_at_or_under (names l.path) p)) ≡ true → 1 ≤ weight count asked p
   mattering_by asked l p h true covering m = covering_counts asked l p h (covering_way l p covering)
   mattering_by true l p h false covering m = lying_counts l p h (rest_after p (names l.path)) refl m
   mattering_by false l p h false covering m = cc
 
+-- how many locks have a key, of this one
+abbrev of_one : Lock → ℕ → ℕ
+of_one l k = times k (path_keys l.deep (names l.path))
+
+-- and of a list
+abbrev of_all : List Lock → ℕ → ℕ
+of_all ls k = tally k ls
+
+weights_add : (f g : ℕ → ℕ) (asked : Bool) (n : ℕ) (p : Path) → weight_from (λ k. f k + g k) asked n p ≡ weight_from f asked n p + weight_from g asked n p
+weights_add f g asked n [] = refl
+weights_add f g asked n (x ∷ p) = let a = weights_add f g asked (with_name n x) p in omega (arith, a)
+
+weights_alike : (f g : ℕ → ℕ) → ((k : ℕ) → f k ≡ g k) → (asked : Bool) (n : ℕ) (p : Path) → weight_from f asked n p ≡ weight_from g asked n p
+weights_alike f g alike asked n [] = alike (end_key asked n)
+weights_alike f g alike asked n (x ∷ p) = let a = alike (deep_key n) in let b = weights_alike f g alike asked (with_name n x) p in omega (arith, a, b)
+
 module _ (asked : Bool) (p : Path) where
-  keys_counted : (l : Lock) (ls : List Lock) (count : ℕ → ℕ) → ((k : ℕ) → tally k (l ∷ ls) ≤ count k)
-      → AreCounted count (path_keys l.deep (names l.path)) × ((k : ℕ) → tally k ls ≤ count k)
-  keys_counted l ls count h =
-      let more : (k : ℕ) → tally k (l ∷ ls) ≡ times k (path_keys l.deep (names l.path)) + tally k ls = λ k. sum_by-cons (λ (x : Lock). times k (path_keys x.deep (names x.path))) l ls in (
-        λ k. let a = more k in let c = h k in omega (arith, a, c),
-        λ k. let a = more k in let c = h k in omega (arith, a, c),
-      )
+  -- the weight of a list is that of its locks
+  weight_more : (l : Lock) (ls : List Lock) → weight (of_all (l ∷ ls)) asked p ≡ weight (of_one l) asked p + weight (of_all ls) asked p
+  weight_more l ls =
+      weights_alike (of_all (l ∷ ls)) (λ k. of_one l k + of_all ls k) (λ k. sum_by-cons (λ (x : Lock). times k (path_keys x.deep (names x.path))) l ls) asked root_number p
+      ∙ weights_add (of_one l) (of_all ls) asked root_number p
 
-  by_first : (l : Lock) (rest : Bool) (count : ℕ → ℕ) → AreCounted count (path_keys l.deep (names l.path)) → (rest ≡ true → may_matter count asked p ≡ true)
-      → (b : Bool) → matters asked p l ≡ b → (b || rest) ≡ true → may_matter count asked p ≡ true
-  by_first l rest count h others true is m = mattering_by count asked l p h (covers l p) refl is
-  by_first l rest count h others false is m = others m
+  -- a lock that matters weighs something
+  one_weighs : (l : Lock) → matters asked p l ≡ true → 1 ≤ weight (of_one l) asked p
+  one_weighs l is = mattering_by (of_one l) asked l p (λ k. omega arith) (covers l p) refl is
 
-  -- a lock that matters has keys that are counted
-  mattering_counts : (ls : List Lock) (count : ℕ → ℕ) → ((k : ℕ) → tally k ls ≤ count k) → list_any (matters asked p) ls ≡ true → may_matter count asked p ≡ true
-  mattering_counts [] count h m = cc
-  mattering_counts (l ∷ ls) count h m =
-      let both = keys_counted l ls count h in
-      by_first l (list_any (matters asked p) ls) count both.0 (mattering_counts ls count both.1) (matters asked p l) refl m
+  light_by : (l : Lock) → weight (of_one l) asked p ≤ 0 → (b : Bool) → matters asked p l ≡ b → b ≡ false
+  light_by l light true is = let a = one_weighs l is in absurd (omega (arith, a, light))
+  light_by l light false is = refl
+
+  -- one that weighs nothing doesn't matter
+  light : (l : Lock) → weight (of_one l) asked p ≤ 0 → matters asked p l ≡ false
+  light l h = light_by l h (matters asked p l) refl
+
+  none_of : (ls : List Lock) → weight (of_all ls) asked p ≤ 0 → list_any (matters asked p) ls ≡ false
+  none_of [] h = refl
+  none_of (l ∷ ls) h =
+      let a = weight_more l ls in
+      ap (λ b. b || list_any (matters asked p) ls) (light l (omega (arith, a, h)))
+      ∙ none_of ls (omega (arith, a, h))
+
+  -- a lock of the list that matters weighs something in it
+  one_of : (l : Lock) (i : ℕ) (ls : List Lock) → i < length ls → get_or ls i l ≡ l → matters asked p l ≡ true → 1 ≤ weight (of_all ls) asked p
+  one_of l i [] bound is m = none_below i bound
+  one_of l zero (x ∷ ls) bound is m =
+      let a = weight_more x ls in
+      let b = one_weighs x (subst (λ (y : Lock). matters asked p y ≡ true) (sym is) m) in
+      omega (arith, a, b)
+  one_of l (suc i) (x ∷ ls) bound is m =
+      let a = weight_more x ls in
+      let b = one_of l i ls (less_suc i (length ls) bound) is m in
+      omega (arith, a, b)
+
+  -- where a list weighs one at most, a lock of it that matters is the only one
+  pub matters_alone : (l : Lock) (i : ℕ) (ls : List Lock) → i < length ls → get_or ls i l ≡ l → matters asked p l ≡ true → weight (of_all ls) asked p ≤ 1 → MattersAlone asked p l ls
+  matters_alone l i [] bound is m h = none_below i bound
+  matters_alone l zero (x ∷ ls) bound is m h =
+      let a = weight_more x ls in
+      let b = one_weighs x (subst (λ (y : Lock). matters asked p y ≡ true) (sym is) m) in
+      ([], ls, ap (λ (y : Lock). y ∷ ls) is, refl, none_of ls (omega (arith, a, b, h)))
+  matters_alone l (suc i) (x ∷ ls) bound is m h =
+      let a = weight_more x ls in
+      let b = one_of l i ls (less_suc i (length ls) bound) is m in
+      let (before, after, parts, none, others) = matters_alone l i ls (less_suc i (length ls) bound) is m (omega (arith, a, h)) in
+      (x ∷ before, after, ap (λ (ms : List Lock). x ∷ ms) parts, ap (λ c. c || list_any (matters asked p) before) (light x (omega (arith, a, b, h))) ∙ none, others)
 
 -- where the counts of a list say that no lock matters, none does
-pub none_matters : (asked : Bool) (p : Path) (ls : List Lock) (count : ℕ → ℕ) → ((k : ℕ) → count k ≡ tally k ls) → may_matter count asked p ≡ false → list_any (matters asked p) ls ≡ false
-none_matters asked p ls count h none = by_any (list_any (matters asked p) ls) refl
-  where
-    by_any : (b : Bool) → list_any (matters asked p) ls ≡ b → b ≡ false
-    by_any true some = let may = mattering_counts asked p ls count (λ k. let a = h k in omega (arith, a)) some in cc
-    by_any false some = refl
+pub none_matters : (asked : Bool) (p : Path) (ls : List Lock) (count : ℕ → ℕ) → ((k : ℕ) → count k ≡ tally k ls) → weight count asked p ≡ 0 → list_any (matters asked p) ls ≡ false
+none_matters asked p ls count h none =
+    let a = weights_alike count (of_all ls) h asked root_number p in
+    none_of asked p ls (omega (arith, a, none))
+
+-- where they say that one does at most, the list weighs one at most
+pub only_counted : (asked : Bool) (p : Path) (ls : List Lock) (count : ℕ → ℕ) → ((k : ℕ) → count k ≡ tally k ls) → weight count asked p ≡ 1 → weight (λ k. tally k ls) asked p ≤ 1
+only_counted asked p ls count h one =
+    let a = weights_alike count (of_all ls) h asked root_number p in
+    omega (arith, a, one)

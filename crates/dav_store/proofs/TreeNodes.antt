@@ -1,5 +1,5 @@
 -- The nodes of a tree after one step, and where they hang.
-use Rattle.std.proofs.Common.{◌≡◌, ◌≢◌, ◌+◌, ◌-◌, ◌<◌, ℕ, zero, suc, List, [], ◌∷◌, Option, Some, None, Bool, true, false, cond, refl, sym, ap, subst, ◌∙◌, arith, ⊎_elim, add-zero}
+use Rattle.std.proofs.Common.{◌≡◌, ◌≢◌, ◌+◌, ◌<◌, ℕ, zero, suc, List, [], ◌∷◌, Option, Some, None, Bool, true, false, cond, refl, sym, ap, subst, ◌∙◌, arith, ⊎_elim, add-zero}
 use Rattle.std.specs.Prelude.{◌==◌, if◌then◌else◌, position, count_by, slice_get, swap_remove}
 use Rattle.std.specs.Option.{option_map_or, IsSome}
 use Rattle.std.specs.Ordering.{nat_cmp, is_eq, match_ordering, ordering_reverse}

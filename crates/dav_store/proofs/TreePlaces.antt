@@ -1,11 +1,11 @@
 -- Trees in which a node takes a place: what holds of each tree still holds.
-use Rattle.std.proofs.Common.{◌≡◌, ◌≢◌, ◌+◌, ◌<◌, ℕ, zero, [], Option, Some, None, Bool, true, false, cond, refl, sym, ap, ◌∙◌, arith, ⊎_elim}
+use Rattle.std.proofs.Common.{◌≡◌, ◌≢◌, ◌+◌, ◌<◌, ℕ, [], Option, Some, None, Bool, true, false, cond, refl, sym, ap, ◌∙◌, arith, ⊎_elim}
 use Rattle.std.specs.Prelude.{◌==◌, if◌then◌else◌}
 use Rattle.std.specs.Option.{option_map, option_map_or}
 use Rattle.std.proofs.lemmas.Bool.{cases_eq, eqb-true, eq-eqb, ne_eqb}
 use Rattle.dav_store.specs.Tree.{Tree, IsRooted, node, without, without_old, has_children, times_listed}
 use Rattle.dav_store.proofs.TreeForest.{Comes, here, Hangs, Puts, hit, hit_is, same_number, no_number, hangs_after_put, no_loop, not_zero}
-use Rattle.dav_store.proofs.TreeNodes.{same, order-taken, times, one_if}
+use Rattle.dav_store.proofs.TreeNodes.{order-taken, times, one_if}
 use Rattle.dav_store.proofs.TreeHangs.{IsInOrder, up, rooted, gone_here, gone_there, bare_node, unlisted_elsewhere, one_other, one_self}
 
 -- a number that counts where two are the same

@@ -1,6 +1,6 @@
 -- The index of a list of locks: how many locks have each key.
-use Rattle.std.specs.Prelude.{◌≡◌, ℕ, ◌+◌, ◌*◌, ◌%◌, ◌==◌, nat_lt, nat_eq, ◌&&◌, ◌||◌, Bool, if◌then◌else◌, List, [], ◌∷◌, Option, IfSome}
-use Rattle.std.specs.List.{fold, count_by, sum_by}
+use Rattle.std.specs.Prelude.{◌≡◌, ℕ, ◌+◌, ◌*◌, ◌%◌, ◌==◌, nat_eq, ◌&&◌, ◌||◌, Bool, false, if◌then◌else◌, List, [], ◌∷◌, ◌++◌, Option, IfSome}
+use Rattle.std.specs.List.{fold, count_by, list_any, sum_by}
 use Rattle.std.specs.Option.{unwrap_or}
 use Rattle.std.specs.HashMap.{get}
 use Rattle.dav_core.specs.Path.{Path, names, is_at_or_under}
@@ -70,10 +70,20 @@ IsIndexOf index ls = HasCounts index (λ k. tally k ls)
 abbrev pub matters : Bool → Path → Lock → Bool
 matters deep p l = covers l p || (deep && is_at_or_under (names l.path) p)
 
--- a lock may matter to a path, as counts by keys say it; by the number of a front and the names that follow it
-abbrev pub may_from : (ℕ → ℕ) → Bool → ℕ → Path → Bool
-may_from count deep n [] = nat_lt 0 (count (at_key n)) || (deep && nat_lt 0 (count (below_key n)))
-may_from count deep n (x ∷ p) = nat_lt 0 (count (deep_key n)) || may_from count deep (with_name n x) p
+-- the key of the locks on a path or, where `deep`, of those on it or below it
+abbrev pub end_key : Bool → ℕ → ℕ
+end_key deep n = if deep then below_key n else at_key n
 
-abbrev pub may_matter : (ℕ → ℕ) → Bool → Path → Bool
-may_matter count deep p = may_from count deep root_number p
+-- how many locks may matter to a path at most, as counts by keys say it; by the number of a front and the names that follow it
+abbrev pub weight_from : (ℕ → ℕ) → Bool → ℕ → Path → ℕ
+weight_from count deep n [] = count (end_key deep n)
+weight_from count deep n (x ∷ p) = count (deep_key n) + weight_from count deep (with_name n x) p
+
+abbrev pub weight : (ℕ → ℕ) → Bool → Path → ℕ
+weight count deep p = weight_from count deep root_number p
+
+-- a lock of the list matters to a path, and no other does
+abbrev pub MattersAlone : Bool → Path → Lock → List Lock → Type 0
+MattersAlone deep p l ls =
+    (before : List Lock) × (after : List Lock) × (ls ≡ before ++ l ∷ after)
+    × (list_any (matters deep p) before ≡ false) × (list_any (matters deep p) after ≡ false)

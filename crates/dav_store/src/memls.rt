@@ -7,7 +7,7 @@ ghost use Rattle.dav_core.specs.Locks.{Lock, Checks, lent, covers, requester_of,
 ghost use Rattle.dav_core.specs.LockRefusals.{IsRefusedRefresh};
 ghost use Rattle.dav_core.specs.Numbers.{max_u64};
 ghost use Rattle.dav_store.specs.LockCalls.{requester_in, IsNamedPlace};
-ghost use Rattle.dav_store.specs.LockIndex.{IsIndexOf, tally, times, path_keys};
+ghost use Rattle.dav_store.specs.LockIndex.{IsIndexOf, MattersAlone, tally, times, path_keys};
 
 mod index;
 mod kept;
@@ -20,16 +20,18 @@ use dav_core::element::Element;
 use dav_core::errors::NoMemory;
 use dav_core::ls::{DavLock, DavLockSystem, LockRefusal, RefreshRefusal};
 use index::Counts;
-use kept::{Kept, Sought, covers, ends_at, is_at_or_below, is_below, set_timeout};
+use kept::{Kept, Sought, covers, ends_at, is_at_or_below, is_below, matters, set_timeout};
 use std::alloc::Global;
 use std::marker::Model;
+use std::slice;
 
-/// A list of locks in memory, in the order in which they were granted, and beside it an index, which is `None` from the
-/// moment on when it can't grow.
+/// A list of locks in memory, in the order in which they were granted, beside it an index, which is `None` from the
+/// moment on when it can't grow, and the number of the next grant.
 #[derive(Drop)]
 pub struct MemLs {
     locks: Vec<Kept>,
     index: Option<Counts>,
+    next: u64,
 }
 
 impl Model for MemLs {
@@ -157,6 +159,26 @@ fn check_in<'a>(
     }
 }
 
+// The one lock that matters to a path, where the index knows that no other does; else `None`.
+fn only_one<'a>(
+    locks: &'a [Kept],
+    index: &Option<Counts>,
+    path: &Sought<'_>,
+    deep: bool,
+) -> Option<&'a Kept>
+    requires { IsIndexOf index.now locks.now }
+    ensures { IfSome result (λ l. MattersAlone deep (names path.now) l.now locks.now) }
+{
+    let grant = index::only_grant(index, path.path(), deep)?;
+    let i = locks.binary_search_by_key(&grant, |l| l.grant()).ok()?;
+    let kept = &locks[i];
+    if matters(kept, path, deep) {
+        Some(kept)
+    } else {
+        None
+    }
+}
+
 // Whether a lock has this token and is on the first so many names of a path.
 fn is_named(lock: &DavLock, path: &DavPath, token: &str, len: usize) -> bool
     ensures { result ≡ (bytes_eq lock.now.token token.now
@@ -280,13 +302,13 @@ fn new_lock(
     })
 }
 
-// Puts a copy of a lock after the others, and returns the lock.
-fn keep(locks: &mut Vec<Kept>, lock: DavLock) -> Result<DavLock, NoMemory>
+// Puts a copy of a lock after the others, by the grant of this number, and returns the lock.
+fn keep(locks: &mut Vec<Kept>, lock: DavLock, grant: u64) -> Result<DavLock, NoMemory>
     ensures ok { IfOk result (λ l. (l ≡ lock) × (locks.new.items ≡ locks.old.items ++ l ∷ [])) }
     ensures err { OnErr result (locks.new.items ≡ locks.old.items) }
 {
     let copy = lock.clone()?;
-    locks.push(Kept::new(copy))?;
+    locks.push(Kept::new(copy, grant))?;
     Ok(lock)
 }
 
@@ -376,6 +398,7 @@ impl MemLs {
         Ok(MemLs {
             locks: Vec::new(alloc),
             index: Some(Counts::new(alloc)),
+            next: 0,
         })
     }
 }
@@ -403,10 +426,11 @@ impl DavLockSystem for MemLs {
         ) else {
             return Err(LockRefusal::Memory);
         };
-        let Ok(lock) = keep(&mut self.locks, lock) else {
+        let Ok(lock) = keep(&mut self.locks, lock, self.next) else {
             return Err(LockRefusal::Memory);
         };
-        index::raise(&mut self.index, path, deep);
+        index::raise(&mut self.index, path, deep, self.next);
+        self.next = self.next.wrapping_add(1);
         Ok(lock)
     }
 
@@ -443,7 +467,11 @@ impl DavLockSystem for MemLs {
             principal,
             ignore_principal,
         };
-        check_in(&self.locks, &Sought::new(path), who, deep)
+        let sought = &Sought::new(path);
+        match only_one(&self.locks, &self.index, sought, deep) {
+            Some(kept) => check_in(slice::from_ref(kept), sought, who, deep),
+            None => check_in(&self.locks, sought, who, deep),
+        }
     }
 
     fn discover(&self, alloc: Global, path: &DavPath) -> Result<Vec<DavLock>, NoMemory> {

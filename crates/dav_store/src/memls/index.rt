@@ -1,13 +1,14 @@
 //! An index of a list of locks, which says of most paths that no lock matters to them without a look at the list.
 //!
 //! A number stands for each path, and three keys for each number: one of the locks on the path, one of those on it that
-//! are of infinite depth, and one of the locks on the path or below it. The index knows how many locks have each key.
-//! Two paths may have one number; then the list is looked at more often, and nothing else changes.
-ghost use Rattle.std.specs.Prelude.{◌≡◌, ℕ, ◌+◌, ◌-◌, false, List, OnOk};
+//! are of infinite depth, and one of the locks on the path or below it. The index knows how many locks have each key, and
+//! the number of the grant of the last one. Two paths may have one number; then the list is looked at more often, and nothing
+//! else changes.
+ghost use Rattle.std.specs.Prelude.{◌≡◌, ℕ, ◌+◌, ◌-◌, ◌≤◌, false, List, OnOk, IfSome};
 ghost use Rattle.std.specs.List.{filter, list_any};
 ghost use Rattle.dav_core.specs.Path.{names, is_at_or_under};
 ghost use Rattle.dav_core.specs.Locks.{Lock};
-ghost use Rattle.dav_store.specs.LockIndex.{with_byte, with_name, path_number, at_key, deep_key, below_key, count_of, one_at, path_keys, times, tally, HasCounts, matters, may_matter};
+ghost use Rattle.dav_store.specs.LockIndex.{with_byte, with_name, path_number, at_key, deep_key, below_key, count_of, one_at, path_keys, times, tally, HasCounts, matters, end_key, weight};
 
 use super::kept::Kept;
 use crate::paths;
@@ -73,10 +74,22 @@ fn below_key(number: u64) -> u64
     number % PRIME * 3 + 2
 }
 
-/// How many locks have each key.
+// The key of the locks on a path or, where `deep`, of those on it or below it.
+fn end_key(number: u64, deep: bool) -> u64
+    ensures { result ≡ end_key deep number }
+{
+    if deep {
+        below_key(number)
+    } else {
+        at_key(number)
+    }
+}
+
+/// How many locks have each key, and the number of the grant of the last one, which may have gone since.
 #[derive(Drop)]
 pub struct Counts {
     by_key: HashMap<u64, u64>,
+    last: HashMap<u64, u64>,
 }
 
 impl Counts {
@@ -86,6 +99,7 @@ impl Counts {
     {
         Counts {
             by_key: HashMap::new(alloc),
+            last: HashMap::new(alloc),
         }
     }
 
@@ -96,14 +110,15 @@ impl Counts {
         self.by_key.get(&key).copied().unwrap_or(0)
     }
 
-    // One lock more has a key.
-    fn raise(&mut self, key: u64) -> Result<(), NoMemory>
+    // One lock more has a key, by the grant of this number.
+    fn raise(&mut self, key: u64, grant: u64) -> Result<(), NoMemory>
         ensures { OnOk result ((k : ℕ) → count_of self.new k ≡ count_of self.old k + one_at key k) }
     {
         let Some(count) = self.count(key).checked_add(1) else {
             return Err(AllocError);
         };
         self.by_key.insert(key, count)?;
+        self.last.insert(key, grant)?;
         Ok(())
     }
 
@@ -113,26 +128,27 @@ impl Counts {
     {
         if self.count(key) <= 1 {
             let _ = self.by_key.remove(&key);
+            let _ = self.last.remove(&key);
         } else if let Some(count) = self.by_key.get_mut(&key) {
             *count -= 1;
         }
     }
 
-    // A lock on a path comes.
+    // A lock on a path comes, by the grant of this number.
     #[tactic(auto, using(crate::proofs::IndexLemmas::keys_more, crate::proofs::IndexLemmas::keys_deep, crate::proofs::IndexLemmas::keys_shallow))]
-    fn raise_path(&mut self, path: &DavPath, deep: bool) -> Result<(), NoMemory>
+    fn raise_path(&mut self, path: &DavPath, deep: bool, grant: u64) -> Result<(), NoMemory>
         ensures { OnOk result ((k : ℕ) → count_of self.new k
             ≡ count_of self.old k + times k (path_keys deep (names path.now))) }
     {
         let mut number = ROOT;
         for name in path.segments() {
-            self.raise(below_key(number))?;
+            self.raise(below_key(number), grant)?;
             number = with_name(number, name);
         }
-        self.raise(below_key(number))?;
-        self.raise(at_key(number))?;
+        self.raise(below_key(number), grant)?;
+        self.raise(at_key(number), grant)?;
         if deep {
-            self.raise(deep_key(number))?;
+            self.raise(deep_key(number), grant)?;
         }
         Ok(())
     }
@@ -168,18 +184,42 @@ impl Counts {
         }
     }
 
-    // Whether a lock may matter to a path: it may cover it or, where `deep`, be on it or below it.
-    fn may_matter(&self, path: &DavPath, deep: bool) -> bool
-        ensures { result ≡ may_matter (count_of self.now) deep (names path.now) }
+    // How many locks may matter to a path at most: cover it or, where `deep`, be on it or below it. `None` where they are
+    // too many to count.
+    fn weight(&self, path: &DavPath, deep: bool) -> Option<u64>
+        ensures { IfSome result (λ n. n ≡ weight (count_of self.now) deep (names path.now)) }
     {
         let mut number = ROOT;
+        let mut weight: u64 = 0;
         for name in path.segments() {
-            if self.count(deep_key(number)) > 0 {
-                return true;
+            weight = weight.checked_add(self.count(deep_key(number)))?;
+            number = with_name(number, name);
+        }
+        weight.checked_add(self.count(end_key(number, deep)))
+    }
+
+    // A key that some lock has which may matter to a path, where there is one.
+    fn key_of_some(&self, path: &DavPath, deep: bool) -> u64 {
+        let mut number = ROOT;
+        for name in path.segments() {
+            let key = deep_key(number);
+            if self.count(key) > 0 {
+                return key;
             }
             number = with_name(number, name);
         }
-        self.count(at_key(number)) > 0 || deep && self.count(below_key(number)) > 0
+        end_key(number, deep)
+    }
+
+    // The number of the grant by which the one lock came that may matter to a path, as far as is known; `None` where none or
+    // more than one may.
+    fn only_grant(&self, path: &DavPath, deep: bool) -> Option<u64>
+        ensures { IfSome result (λ n. weight (count_of self.now) deep (names path.now) ≡ 1) }
+    {
+        if self.weight(path, deep)? != 1 {
+            return None;
+        }
+        self.last.get(&self.key_of_some(path, deep)).copied()
     }
 }
 
@@ -189,19 +229,35 @@ pub fn may_matter(index: &Option<Counts>, path: &DavPath, deep: bool) -> bool
     ensures { (ls : List Lock) → HasCounts index.now (λ k. tally k ls) → result ≡ false
         → list_any (matters deep (names path.now)) ls ≡ false }
 {
-    match index {
-        Some(counts) => counts.may_matter(path, deep),
-        None => true,
+    let Some(counts) = index else {
+        return true;
+    };
+    match counts.weight(path, deep) {
+        Some(0) => false,
+        _ => true,
     }
 }
 
-/// A lock on a path comes. An index that can't grow goes.
-pub fn raise(index: &mut Option<Counts>, path: &DavPath, deep: bool)
+/// The number of the grant by which the one lock came that may matter to a path, as far as is known. Where it answers a number, at most
+/// one lock matters.
+#[tactic(auto, using(crate::proofs::IndexSound::only_counted))]
+pub fn only_grant(index: &Option<Counts>, path: &DavPath, deep: bool) -> Option<u64>
+    ensures { (ls : List Lock) → HasCounts index.now (λ k. tally k ls)
+        → IfSome result (λ n. weight (λ k. tally k ls) deep (names path.now) ≤ 1) }
+{
+    match index {
+        Some(counts) => counts.only_grant(path, deep),
+        None => None,
+    }
+}
+
+/// A lock on a path comes, by the grant of this number. An index that can't grow goes.
+pub fn raise(index: &mut Option<Counts>, path: &DavPath, deep: bool, grant: u64)
     ensures { (f : ℕ → ℕ) → HasCounts index.old f
         → HasCounts index.new (λ k. f k + times k (path_keys deep (names path.now))) }
 {
     if let Some(mut counts) = index.take() {
-        if counts.raise_path(path, deep).is_ok() {
+        if counts.raise_path(path, deep, grant).is_ok() {
             *index = Some(counts);
         }
     }

@@ -4,6 +4,7 @@ ghost use Rattle.std.specs.Prelude.{◌≡◌, ◌≤◌, ◌+◌, IfSome};
 ghost use Rattle.dav_core.specs.Path.{names, is_same_path, is_under, is_at_or_under};
 ghost use Rattle.dav_core.specs.Locks.{covers, ends_at, refreshed_lock};
 ghost use Rattle.dav_core.specs.Numbers.{max_u64};
+ghost use Rattle.dav_store.specs.LockIndex.{matters};
 
 use super::index;
 use crate::paths;
@@ -11,11 +12,12 @@ use dav_core::davpath::DavPath;
 use dav_core::ls::DavLock;
 use std::marker::Model;
 
-/// A lock, with the number of its path and how many names that has.
+/// A lock, with the number of its path, how many names that has, and the number of the grant by which it came.
 #[derive(Drop)]
 pub struct Kept {
     number: u64,
     len: usize,
+    grant: u64,
     lock: DavLock,
 }
 
@@ -42,12 +44,13 @@ impl Kept {
     ghost use Rattle.dav_core.specs.Numbers.{max_u64};
 
     /// A lock with its numbers.
-    pub fn new(lock: DavLock) -> Kept
+    pub fn new(lock: DavLock, grant: u64) -> Kept
         ensures { result ≡ lock }
     {
         Kept {
             number: index::path_number(&lock.path),
             len: paths::count(&lock.path),
+            grant,
             lock,
         }
     }
@@ -57,6 +60,11 @@ impl Kept {
         ensures { result.now ≡ self.now }
     {
         &self.lock
+    }
+
+    /// The number of the grant by which the lock came.
+    pub fn grant(&self) -> u64 {
+        self.grant
     }
 
     /// The lock, without its numbers.
@@ -163,6 +171,13 @@ pub fn covers(kept: &Kept, path: &Sought<'_>) -> bool
     ensures { result ≡ covers kept.now (names path.now) }
 {
     is_on(kept, path) || kept.lock.deep && is_above(kept, path)
+}
+
+/// Whether a lock matters to a path: it covers it or, where `deep`, is on it or below it.
+pub fn matters(kept: &Kept, path: &Sought<'_>, deep: bool) -> bool
+    ensures { result ≡ matters deep (names path.now) kept.now }
+{
+    covers(kept, path) || deep && is_at_or_below(kept, path)
 }
 
 /// The moment at which a lock ends that lasts for so many seconds; `None` for one that never ends.
