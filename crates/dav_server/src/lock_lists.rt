@@ -34,29 +34,31 @@ fn shown(alloc: Global, tree: &Element) -> Result<String, NoMemory> {
     Ok(text)
 }
 
+// Whether anna's lock on the folder is granted.
+fn lock_folder<L: DavLockSystem>(alloc: Global, ls: &mut L) -> Result<bool, Fail> {
+    let mut owner = Element::new2(alloc, "D:owner")?;
+    owner.text("anna")?;
+    let path = DavPath::new(alloc, "/d/")?;
+    let (who, owner, timeout) = (Some("anna"), Some(&owner), Some(600));
+    let lock = ls.lock(alloc, &path, who, owner, timeout, true, true, "urn:t:1", 1);
+    Ok(lock.is_ok())
+}
+
+// Whether nobody's lock on the file is granted.
+fn lock_file<L: DavLockSystem>(alloc: Global, ls: &mut L) -> Result<bool, Fail> {
+    let path = DavPath::new(alloc, "/d/a")?;
+    let lock = ls.lock(alloc, &path, None, None, None, true, false, "urn:t:2", 2);
+    Ok(lock.is_ok())
+}
+
 // The locks.
 fn locks(alloc: Global) -> Result<MemLs, Fail> {
     let mut ls = MemLs::new(alloc)?;
-    let mut owner = Element::new2(alloc, "D:owner")?;
-    owner.text("anna")?;
-    let folder = DavPath::new(alloc, "/d/")?;
-    let file = DavPath::new(alloc, "/d/a")?;
-    let first = ls.lock(
-        alloc,
-        &folder,
-        Some("anna"),
-        Some(&owner),
-        Some(600),
-        true,
-        true,
-        "urn:t:1",
-        1,
-    );
-    let second = ls.lock(alloc, &file, None, None, None, true, false, "urn:t:2", 2);
-    if first.is_err() || second.is_err() {
-        return Err("a lock isn't granted")?;
+    if lock_folder(alloc, &mut ls)? && lock_file(alloc, &mut ls)? {
+        Ok(ls)
+    } else {
+        Err("a lock isn't granted")?
     }
-    Ok(ls)
 }
 
 #[test]

@@ -99,16 +99,16 @@ pub(crate) fn unescaped(alloc: Global, text: &'static str) -> Result<Vec<u8>, Fa
     let first = parts.next().unwrap_or("");
     bytes.extend_from_slice(first.as_bytes())?;
     for part in parts {
-        let (byte, rest) = escape(part.as_bytes()).ok_or(NoRow(text))?;
-        add(&mut bytes, byte, rest)?;
+        add_escape(&mut bytes, part)?;
     }
     Ok(bytes)
 }
 
-// Adds a byte, and more.
-fn add(bytes: &mut Vec<u8>, byte: u8, rest: &[u8]) -> Result<(), AllocError> {
-    bytes.extend_from_slice(&[byte])?;
-    bytes.extend_from_slice(rest)
+// Adds the bytes of an escape without its backslash, and of what follows it.
+fn add_escape(bytes: &mut Vec<u8>, part: &'static str) -> Result<(), Fail> {
+    let (byte, rest) = escape(part.as_bytes()).ok_or(NoRow(part))?;
+    bytes.push(byte)?;
+    Ok(bytes.extend_from_slice(rest)?)
 }
 
 // The byte that an escape denotes, and what follows it. The text begins after the backslash.

@@ -300,17 +300,20 @@ impl<F: DavFileSystem + Drop, L: DavLockSystem + Drop> Engine<F, L> {
 
     // What is at a path, as text.
     fn content(&mut self, alloc: Global, path: &DavPath) -> Result<String, Fail> {
-        let fs = &mut self.backend.fs;
-        match fs.metadata(path) {
+        match self.backend.fs.metadata(path) {
             Err(_) => Ok(String::from_str(alloc, "nothing")?),
             Ok(meta) if meta.dir => Ok(String::from_str(alloc, "folder")?),
-            Ok(_) => {
-                let mut file = fs.open(alloc, path, &OpenOptions::read(), 1)?;
-                let bytes = fs.read_bytes(alloc, &mut file, 64)?;
-                let text = str::from_utf8(&bytes)?;
-                Ok(format!(in alloc; "file {text}")?)
-            }
+            Ok(_) => self.file(alloc, path),
         }
+    }
+
+    // The first bytes of a file, as text.
+    fn file(&mut self, alloc: Global, path: &DavPath) -> Result<String, Fail> {
+        let fs = &mut self.backend.fs;
+        let mut file = fs.open(alloc, path, &OpenOptions::read(), 1)?;
+        let bytes = fs.read_bytes(alloc, &mut file, 64)?;
+        let text = str::from_utf8(&bytes)?;
+        Ok(format!(in alloc; "file {text}")?)
     }
 
     // The entity tag of what is at a path.

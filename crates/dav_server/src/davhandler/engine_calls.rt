@@ -94,38 +94,62 @@ fn update(alloc: Global, name: &str) -> Result<Element, NoMemory> {
     Ok(update)
 }
 
+// The body that a part of a row stands for, if it does.
+fn body_in(alloc: Global, part: &'static str) -> Result<Option<Body>, NoMemory> {
+    if let Some(bytes) = part.strip_prefix("bytes ") {
+        return Ok(Some(Body::Bytes(Bytes::from_static(bytes.as_bytes()))));
+    }
+    if let Some(scope) = part.strip_prefix("lockinfo ") {
+        return Ok(Some(Body::Tree(lock_info(alloc, scope)?)));
+    }
+    match part.strip_prefix("sets ") {
+        Some(name) => Ok(Some(Body::Tree(update(alloc, name)?))),
+        None => Ok(None),
+    }
+}
+
+// Adds the header that a part of a row says.
+fn add_header(alloc: Global, headers: &mut HeaderMap, part: &'static str) -> Result<(), Fail> {
+    let (name, value) = part.split_once(": ").ok_or(NoRow(part))?;
+    let name = HeaderName::from_bytes(alloc, name.as_bytes())?;
+    headers.append(name, HeaderValue::from_str(alloc, value)?)?;
+    Ok(())
+}
+
+// The request that the first part of a row says, without headers.
+fn begun(alloc: Global, part: &'static str) -> Result<DavRequest, Fail> {
+    let (name, path) = part.split_once(' ').ok_or(NoRow(part))?;
+    Ok(DavRequest {
+        method: method_of(name.as_bytes())?,
+        path: DavPath::new(alloc, path)?,
+        headers: HeaderMap::new(alloc),
+    })
+}
+
 // The request of a row, without the call.
 pub(super) fn request_of(alloc: Global, text: &'static str) -> Result<EngineRequest, Fail> {
     let mut parts = text.split(" | ");
-    let (name, path) = parts
-        .next()
-        .unwrap_or("")
-        .split_once(' ')
-        .ok_or(NoRow(text))?;
-    let mut path = DavPath::new(alloc, path)?;
-    let mut headers = HeaderMap::new(alloc);
-    let mut body = Body::None;
+    let request = begun(alloc, parts.next().unwrap_or(""))?;
+    let body = Body::None;
+    let mut asked = EngineRequest { request, body };
     for part in parts {
-        if let Some(bytes) = part.strip_prefix("bytes ") {
-            body = Body::Bytes(Bytes::from_static(bytes.as_bytes()));
-        } else if let Some(scope) = part.strip_prefix("lockinfo ") {
-            body = Body::Tree(lock_info(alloc, scope)?);
-        } else if let Some(name) = part.strip_prefix("sets ") {
-            body = Body::Tree(update(alloc, name)?);
-        } else if let Some(prefix) = part.strip_prefix("prefix ") {
-            path.set_prefix(prefix)?;
-        } else {
-            let (name, value) = part.split_once(": ").ok_or(NoRow(part))?;
-            let name = HeaderName::from_bytes(alloc, name.as_bytes())?;
-            headers.append(name, HeaderValue::from_str(alloc, value)?)?;
-        }
+        asked.add(alloc, part)?;
     }
-    let request = DavRequest {
-        method: method_of(name.as_bytes())?,
-        path,
-        headers,
-    };
-    Ok(EngineRequest { request, body })
+    Ok(asked)
+}
+
+impl EngineRequest {
+    // Adds what a part of a row says: a prefix, the body or a header.
+    fn add(&mut self, alloc: Global, part: &'static str) -> Result<(), Fail> {
+        if let Some(prefix) = part.strip_prefix("prefix ") {
+            self.request.path.set_prefix(prefix)?;
+        } else if let Some(body) = body_in(alloc, part)? {
+            self.body = body;
+        } else {
+            add_header(alloc, &mut self.request.headers, part)?;
+        }
+        Ok(())
+    }
 }
 
 // The call that answers the requests of a method.

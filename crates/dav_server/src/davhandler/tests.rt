@@ -4,6 +4,7 @@ use crate::asserting::same;
 use crate::rows::{NoRow, Player, play_rows, unescaped};
 use bytes::Bytes;
 use dav_core::element::Element;
+use dav_core::errors::FsResult;
 use dav_engine::ReplyBody;
 use dav_store::memfs::MemFs;
 use dav_store::memls::MemLs;
@@ -148,17 +149,22 @@ pub(crate) fn shown(alloc: Global, reply: &Reply) -> Result<String, Fail> {
     Ok(text)
 }
 
-// A server of a new store in memory, with locks, below no prefix, that allows every method.
-pub(super) fn new_server(alloc: Global) -> Result<DavHandler<MemFs, MemLs>, Fail> {
+// A server of a new store in memory, with locks, below a prefix, that allows every method.
+fn server_below(alloc: Global, prefix: &str) -> Result<DavHandler<MemFs, MemLs>, HandlerError> {
     let fs = MemFs::new(alloc)?;
     let ls = MemLs::new(alloc)?;
-    Ok(DavHandler::new(alloc, "", DavMethodSet::all(), fs, Some(ls))?)
+    DavHandler::new(alloc, prefix, DavMethodSet::all(), fs, Some(ls))
+}
+
+// Such a server below no prefix.
+pub(super) fn new_server(alloc: Global) -> Result<DavHandler<MemFs, MemLs>, Fail> {
+    Ok(server_below(alloc, "")?)
 }
 
 // Whether an exclusive lock on a path and on all below it is granted, by the token `urn:t:1`.
-fn lock(
+fn lock<L: DavLockSystem>(
     alloc: Global,
-    ls: &mut MemLs,
+    ls: &mut L,
     path: &str,
     principal: Option<&str>,
 ) -> Result<bool, ParseError> {
@@ -170,9 +176,9 @@ fn lock(
 }
 
 /// Requests such a lock for anna; the answer as text.
-pub(super) fn lock_for_anna(
+pub(super) fn lock_for_anna<L: DavLockSystem>(
     alloc: Global,
-    ls: &mut Option<MemLs>,
+    ls: &mut Option<L>,
     path: &str,
 ) -> Result<Vec<u8>, Fail> {
     let granted = match ls {
@@ -282,9 +288,7 @@ impl Player for Prefixes {
     }
 
     fn answer(&mut self, alloc: Global, question: &'static str) -> Result<Vec<u8>, Fail> {
-        let fs = MemFs::new(alloc)?;
-        let ls = MemLs::new(alloc)?;
-        match DavHandler::new(alloc, question, DavMethodSet::all(), fs, Some(ls)) {
+        match server_below(alloc, question) {
             Ok(_) => Ok(Vec::from_slice(alloc, b"taken")?),
             Err(error) => Ok(format!(in alloc; "{error}")?.into_bytes()),
         }
@@ -296,24 +300,29 @@ fn takes_prefixes(rt: HostRuntime) -> Result<(), Fail> {
     play_rows(&rt, &mut Prefixes, PREFIXES)
 }
 
-// A store with one folder.
-fn store_of(alloc: Global, folder: &DavPath) -> Result<MemFs, Fail> {
+// A server of a store with one folder, and of a list with one lock on it, which has no principal.
+fn lending_server(alloc: Global, folder: &DavPath) -> Result<DavHandler<MemFs, MemLs>, Fail> {
     let mut fs = MemFs::new(alloc)?;
-    fs.create_dir(alloc, folder, 1)?;
-    Ok(fs)
+    make_folder(alloc, &mut fs, folder)?;
+    let mut ls = MemLs::new(alloc)?;
+    lock(alloc, &mut ls, "/d", None)?;
+    Ok(DavHandler::new(alloc, "", DavMethodSet::all(), fs, Some(ls))?)
 }
 
-// A list with one lock, which has no principal.
-fn locks_on(alloc: Global, path: &str) -> Result<MemLs, Fail> {
-    let mut ls = MemLs::new(alloc)?;
-    lock(alloc, &mut ls, path, None)?;
-    Ok(ls)
+// Makes a folder.
+fn make_folder<F: DavFileSystem>(alloc: Global, fs: &mut F, path: &DavPath) -> FsResult<()> {
+    fs.create_dir(alloc, path, 1)
+}
+
+// Whether a store has a folder at a path.
+fn has_folder<F: DavFileSystem>(fs: &mut F, path: &DavPath) -> bool {
+    fs.metadata(path).is_ok_and(|found| found.is_dir())
 }
 
 // How many locks of a server cover a path.
-fn count_locks(
+fn count_locks<F: DavFileSystem, L: DavLockSystem>(
     alloc: Global,
-    server: &DavHandler<MemFs, MemLs>,
+    server: &DavHandler<F, L>,
     path: &DavPath,
 ) -> Result<usize, NoMemory> {
     match server.locks() {
@@ -325,10 +334,8 @@ fn count_locks(
 #[test]
 fn lends_its_store_and_its_locks(rt: HostRuntime) -> Result<(), Fail> {
     let d = DavPath::new(rt.alloc(), "/d")?;
-    let fs = store_of(rt.alloc(), &d)?;
-    let ls = locks_on(rt.alloc(), "/d")?;
-    let server = DavHandler::new(rt.alloc(), "", DavMethodSet::all(), fs, Some(ls))?;
-    same(&rt, &server.fs().clone()?.metadata(&d)?.is_dir(), &true);
+    let server = lending_server(rt.alloc(), &d)?;
+    same(&rt, &has_folder(&mut server.fs().clone()?, &d), &true);
     same(&rt, &count_locks(rt.alloc(), &server, &d)?, &1);
     Ok(())
 }
