@@ -2,6 +2,9 @@
 #[cfg(test)]
 mod tests;
 
+ghost use Rattle.std.specs.Prelude.{◌≡◌, ◌∷◌, [], Some, IfOk};
+ghost use Rattle.dav_core.specs.Element.{element, no_trees, text, tree_then, xmlns_name};
+
 use crate::element::Element;
 use crate::errors::NoMemory;
 use std::alloc::Global;
@@ -33,8 +36,38 @@ impl Model for DavProp {
     ghost view = { property_of };
 }
 
+// An element of that name, prefix and namespace, with nothing in it.
+fn tag(alloc: Global, name: &str, prefix: &str, namespace: &str) -> Result<Element, NoMemory>
+    ensures { IfOk result (λ e. e
+        ≡ element name.now (Some prefix.now) (Some namespace.now) [] no_trees) }
+{
+    Ok(Element {
+        name: String::from_str(alloc, name)?,
+        prefix: Some(String::from_str(alloc, prefix)?),
+        namespace: Some(String::from_str(alloc, namespace)?),
+        attributes: Vec::new(alloc),
+        children: Vec::new(alloc),
+    })
+}
+
+// The same, which declares its namespace and has one text.
+fn valued(
+    alloc: Global,
+    name: &str,
+    prefix: &str,
+    namespace: &str,
+    value: &str,
+) -> Result<Element, NoMemory>
+    ensures { IfOk result (λ e. e ≡ element name.now (Some prefix.now) (Some namespace.now)
+        ((xmlns_name prefix.now, namespace.now) ∷ []) (tree_then (text value.now) no_trees)) }
+{
+    let mut element = tag(alloc, name, prefix, namespace)?;
+    element.ns(prefix, namespace)?;
+    element.text(value)?;
+    Ok(element)
+}
+
 impl DavProp {
-    ghost use Rattle.std.specs.Prelude.{◌≡◌, IfOk};
     ghost use Rattle.dav_core.specs.Property.{text_property};
 
     /// A property whose element has that name, prefix and namespace, the attribute `xmlns:` and the prefix (`xmlns` for
@@ -48,16 +81,11 @@ impl DavProp {
     ) -> Result<DavProp, NoMemory>
         ensures { IfOk result (λ p. p ≡ text_property name.now prefix.now namespace.now value.now) }
     {
-        let mut xml = Element::new(alloc, name)?;
-        xml.prefix = Some(String::from_str(alloc, prefix)?);
-        xml.namespace = Some(String::from_str(alloc, namespace)?);
-        xml.ns(prefix, namespace)?;
-        xml.text(value)?;
         Ok(DavProp {
             name: String::from_str(alloc, name)?,
             prefix: Some(String::from_str(alloc, prefix)?),
             namespace: Some(String::from_str(alloc, namespace)?),
-            xml: Some(xml),
+            xml: Some(valued(alloc, name, prefix, namespace, value)?),
         })
     }
 }

@@ -1,5 +1,6 @@
 //! Why a call fails.
 ghost use Rattle.std.specs.Prelude.{◌≡◌};
+ghost use Rattle.dav_core.specs.ErrorNames.{dav_error_name, fs_error_name, parse_error_name};
 ghost use Rattle.dav_core.specs.Status.{dav_status, must_close};
 
 #[cfg(test)]
@@ -24,6 +25,20 @@ pub enum ParseError {
     Memory,
 }
 
+impl ParseError {
+    // The variant's name.
+    fn name(self) -> &'static str
+        ensures { result.now ≡ parse_error_name self }
+    {
+        match self {
+            ParseError::InvalidPath => "InvalidPath",
+            ParseError::PrefixMismatch => "PrefixMismatch",
+            ParseError::ForbiddenPath => "ForbiddenPath",
+            ParseError::Memory => "Memory",
+        }
+    }
+}
+
 /// Writes the variant's name.
 impl fmt::Display for ParseError {
     ghost use Rattle.std.specs.Prelude.{Some};
@@ -32,12 +47,7 @@ impl fmt::Display for ParseError {
     ghost output = { λ e. Some (parse_error_name e) };
 
     fn fmt<W: fmt::Write>(&self, f: &mut fmt::Formatter<W>) -> fmt::Result {
-        match self {
-            ParseError::InvalidPath => write!(f, "InvalidPath"),
-            ParseError::PrefixMismatch => write!(f, "PrefixMismatch"),
-            ParseError::ForbiddenPath => write!(f, "ForbiddenPath"),
-            ParseError::Memory => write!(f, "Memory"),
-        }
+        f.write_str(self.name())
     }
 }
 
@@ -93,6 +103,26 @@ pub enum FsError {
 /// What a call of a file store answers.
 pub type FsResult<T> = Result<T, FsError>;
 
+impl FsError {
+    // The variant's name.
+    fn name(self) -> &'static str
+        ensures { result.now ≡ fs_error_name self }
+    {
+        match self {
+            FsError::NotImplemented => "NotImplemented",
+            FsError::GeneralFailure => "GeneralFailure",
+            FsError::Exists => "Exists",
+            FsError::NotFound => "NotFound",
+            FsError::Forbidden => "Forbidden",
+            FsError::InsufficientStorage => "InsufficientStorage",
+            FsError::LoopDetected => "LoopDetected",
+            FsError::PathTooLong => "PathTooLong",
+            FsError::TooLarge => "TooLarge",
+            FsError::IsRemote => "IsRemote",
+        }
+    }
+}
+
 /// Writes the variant's name.
 impl fmt::Display for FsError {
     ghost use Rattle.std.specs.Prelude.{Some};
@@ -101,18 +131,7 @@ impl fmt::Display for FsError {
     ghost output = { λ e. Some (fs_error_name e) };
 
     fn fmt<W: fmt::Write>(&self, f: &mut fmt::Formatter<W>) -> fmt::Result {
-        match self {
-            FsError::NotImplemented => write!(f, "NotImplemented"),
-            FsError::GeneralFailure => write!(f, "GeneralFailure"),
-            FsError::Exists => write!(f, "Exists"),
-            FsError::NotFound => write!(f, "NotFound"),
-            FsError::Forbidden => write!(f, "Forbidden"),
-            FsError::InsufficientStorage => write!(f, "InsufficientStorage"),
-            FsError::LoopDetected => write!(f, "LoopDetected"),
-            FsError::PathTooLong => write!(f, "PathTooLong"),
-            FsError::TooLarge => write!(f, "TooLarge"),
-            FsError::IsRemote => write!(f, "IsRemote"),
-        }
+        f.write_str(self.name())
     }
 }
 
@@ -195,6 +214,26 @@ impl DavError {
     }
 }
 
+impl DavError {
+    // The variant's name.
+    fn name(&self) -> &'static str
+        ensures { result.now ≡ dav_error_name self.now }
+    {
+        match self {
+            DavError::XmlParseError => "XmlParseError",
+            DavError::InvalidPath => "InvalidPath",
+            DavError::ForbiddenPath => "ForbiddenPath",
+            DavError::IllegalPath => "IllegalPath",
+            DavError::UnknownDavMethod => "UnknownDavMethod",
+            DavError::ChanError => "ChanError",
+            DavError::Status(_) => "Status",
+            DavError::StatusClose(_) => "StatusClose",
+            DavError::FsError(_) => "FsError",
+            DavError::Memory => "Memory",
+        }
+    }
+}
+
 /// Writes the variant's name.
 impl fmt::Display for DavError {
     ghost use Rattle.std.specs.Prelude.{Some};
@@ -203,18 +242,7 @@ impl fmt::Display for DavError {
     ghost output = { λ e. Some (dav_error_name e) };
 
     fn fmt<W: fmt::Write>(&self, f: &mut fmt::Formatter<W>) -> fmt::Result {
-        match self {
-            DavError::XmlParseError => write!(f, "XmlParseError"),
-            DavError::InvalidPath => write!(f, "InvalidPath"),
-            DavError::ForbiddenPath => write!(f, "ForbiddenPath"),
-            DavError::IllegalPath => write!(f, "IllegalPath"),
-            DavError::UnknownDavMethod => write!(f, "UnknownDavMethod"),
-            DavError::ChanError => write!(f, "ChanError"),
-            DavError::Status(_) => write!(f, "Status"),
-            DavError::StatusClose(_) => write!(f, "StatusClose"),
-            DavError::FsError(_) => write!(f, "FsError"),
-            DavError::Memory => write!(f, "Memory"),
-        }
+        f.write_str(self.name())
     }
 }
 
