@@ -1,6 +1,7 @@
 -- Lists of tags, element by element and value by value.
 use Rattle.std.proofs.Common.{◌≡◌, ◌≢◌, ◌⊎◌, ◌<◌, ℕ, zero, suc, Bool, true, false, List, [], ◌∷◌, ◌++◌, ◌∙◌, length, drop, get_or, sym, ap, refl, inl, inr, subst, append_assoc, append-nil, arith, length-append}
-use Rattle.std.specs.Prelude.{codes, Contains}
+use Rattle.std.specs.Prelude.{codes, Contains, nat_eq}
+use Rattle.std.specs.Cmp.Lexicographic.{pointwise, same_text, other_text}
 use Rattle.std.proofs.lemmas.Bool.{cases_eq}
 use Rattle.std.proofs.lemmas.List.{append_cancel_right}
 use Rattle.http_header.specs.FieldValue.{FieldValue}
@@ -58,6 +59,13 @@ no_text v rest (tags ts) hidden h = hidden h.0
 -- a value that isn't text
 pub Sofar-stuck : (vs rest : List FieldValue) (v : FieldValue) (ts : List EntityTag) → Sofar vs (v ∷ rest) ts → ¬ IsText v.bytes → (l : TagList) → ¬ ReadTags vs l
 Sofar-stuck vs rest v ts sofar hidden l h = let (m, k) = sofar.only l h in no_text v rest m hidden k
+
+-- what the test for `*` of a value's text says of the value
+pub is_star : (bytes text cut : List ℕ) (r : Bool) → text ≡ bytes → cut ≡ trimmed text → r ≡ pointwise nat_eq cut (codes "*") → r ≡ true → trimmed bytes ≡ codes "*"
+is_star bytes text cut r e f g h = ap trimmed (sym e) ∙ sym f ∙ same_text cut (codes "*") (sym h ∙ g)
+
+pub is_no_star : (bytes text cut : List ℕ) (r : Bool) → text ≡ bytes → cut ≡ trimmed text → r ≡ pointwise nat_eq cut (codes "*") → r ≡ false → trimmed bytes ≢ codes "*"
+is_no_star bytes text cut r e f g h = λ k. other_text cut (codes "*") (sym h ∙ g) (f ∙ ap trimmed e ∙ k)
 
 -- ---- which tags list elements are
 

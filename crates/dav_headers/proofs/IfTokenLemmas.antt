@@ -208,6 +208,17 @@ token_found text t rest e = elim (cases_Bool (starts_with nat_eq text (40 ∷ []
   ]
 ]
 
+-- a text that begins with no other sign is read as a bare word
+pub token_at-word : (text : List ℕ) (b : ℕ) (rest : List ℕ) → text ≡ b ∷ rest → b ≢ 40 → b ≢ 41 → b ≢ 60 → b ≢ 91 → starts_with nat_eq text (78 ∷ 111 ∷ 116 ∷ []) ≡ false → token_at text ≡ word_at text
+token_at-word text b rest e no_open no_close no_angle no_square no_not =
+    let front = λ (c : ℕ) (h : b ≢ c). not_in_front text (c ∷ []) (λ more k. h (let p : b ∷ rest ≡ c ∷ more = sym e ∙ k in cc)) in
+    cond-false _ _ _ (front 40 no_open) ∙ cond-false _ _ _ (front 41 no_close) ∙ cond-false _ _ _ no_not
+    ∙ cond-false _ _ _ (front 60 no_angle) ∙ cond-false _ _ _ (front 91 no_square)
+
+pub token_at-none : (text : List ℕ) → length text ≡ 0 → token_at text ≡ word_at text
+token_at-none [] e = refl
+token_at-none (b ∷ bs) e = absurd (omega arith)
+
 pub token_only : (text : List ℕ) (t : Token) (rest : List ℕ) → Begins text t rest → token_at text ≡ Some (t, rest)
 token_only text open_list rest h = rw h refl
 token_only text close_list rest h = rw h refl
@@ -217,10 +228,15 @@ token_only text (square t) rest (inside, e) = rw e (bracketed_only square 93 t r
 token_only text (word []) rest (some, _, _, _, _) = absurd (omega arith)
 token_only text (word (b ∷ w)) rest (some, inside, ends, e, no_not) =
     let first = All-head IsWordByte b w inside in
-    let front = λ (c : ℕ) (h : b ≢ c). not_in_front text (c ∷ []) (λ more k. h (let p : b ∷ (w ++ rest) ≡ c ∷ more = sym e ∙ k in cc)) in
-    cond-false _ _ _ (front 40 first.3) ∙ cond-false _ _ _ (front 41 first.4)
-    ∙ cond-false _ _ _ (not_in_front text (78 ∷ 111 ∷ 116 ∷ []) no_not) ∙ cond-false _ _ _ (front 60 first.1)
-    ∙ cond-false _ _ _ (front 91 first.5) ∙ rw e (word_only (b ∷ w) rest some inside ends)
+    token_at-word text b (w ++ rest) e first.3 first.4 first.1 first.5 (not_in_front text (78 ∷ 111 ∷ 116 ∷ []) no_not)
+    ∙ rw e (word_only (b ∷ w) rest some inside ends)
+
+pub token_at-not : (text : List ℕ) → starts_with nat_eq text (78 ∷ 111 ∷ 116 ∷ []) ≡ true → token_at text ≡ Some (negation, drop 3 text)
+token_at-not text y = token_only text negation (drop 3 text) (in_front text (78 ∷ 111 ∷ 116 ∷ []) y)
+
+-- a text that begins with this byte, and how it is read
+pub token_at-first : (text : List ℕ) (b c : ℕ) (rest : List ℕ) → text ≡ b ∷ rest → b ≡ c → token_at text ≡ token_at (c ∷ rest)
+token_at-first text b c rest e f = ap token_at (e ∙ ap (λ x. x ∷ rest) f)
 
 -- ---- white space
 

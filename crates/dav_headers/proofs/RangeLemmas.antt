@@ -1,5 +1,5 @@
 -- What a range is, in terms of where its text is cut.
-use Rattle.std.proofs.Common.{refl, ◌≡◌, ◌≢◌, ℕ, List, [], ◌∷◌, ◌++◌, Option, Some, None, inl, inr, sym, ◌∙◌, subst, ap, arith, IsSomeAnd}
+use Rattle.std.proofs.Common.{refl, ◌≡◌, ◌≢◌, ℕ, List, [], ◌∷◌, ◌++◌, Option, Some, None, inl, inr, sym, ◌∙◌, subst, ap, length, arith, IsSomeAnd}
 use Rattle.std.specs.Prelude.{codes}
 use Rattle.http_header.specs.FieldValue.{FieldValue}
 use Rattle.std.proofs.lemmas.List.{append_cancel_left}
@@ -50,6 +50,25 @@ pub no_update_range : (values : List FieldValue) (text rest x y : List ℕ) → 
 no_update_range values text rest x y is e cut none r h =
     let here : IsSomeAnd (Some text) (λ t. IsUpdateRangeText t r) = subst (λ o. IsSomeAnd o (λ t. IsUpdateRangeText t r)) (sym is) h in
     none r (ends_at_cut text rest x y r e cut here)
+
+-- what no range has as its ends
+pub no_last : (from to : List ℕ) → from ≡ [] → ((n : ℕ) → ¬ IsNumber to n) → (r : XUpdateRange) → ¬ IsEnds from to r
+no_last from to e none (FromTo a b) h = none b h.1
+no_last from to e none (AllFrom a) h = let some = h.0 in absurd (omega (arith, some.0.0, ap length e))
+no_last from to e none (Last n) h = none n h.1
+no_last from to e none Append h = h
+
+pub no_start : (from to : List ℕ) → from ≢ [] → ((n : ℕ) → ¬ IsNumber from n) → (r : XUpdateRange) → ¬ IsEnds from to r
+no_start from to some none (FromTo a b) h = none a h.0
+no_start from to some none (AllFrom a) h = none a h.0
+no_start from to some none (Last n) h = some h.0
+no_start from to some none Append h = h
+
+pub no_end : (from to : List ℕ) → from ≢ [] → to ≢ [] → ((n : ℕ) → ¬ IsNumber to n) → (r : XUpdateRange) → ¬ IsEnds from to r
+no_end from to some more none (FromTo a b) h = none b h.1
+no_end from to some more none (AllFrom a) h = more h.1
+no_end from to some more none (Last n) h = some h.0
+no_end from to some more none Append h = h
 
 -- bounds are the numbers around the first dash
 pub bounds_at_cut : (text x y : List ℕ) (b : Option (ℕ × ℕ)) → IsCut 45 text x y → text ≢ codes "*" → IsBounds text b → (m : ℕ) × (n : ℕ) × IsNumber x m × IsNumber y n

@@ -1,8 +1,8 @@
 -- Which bytes are text, and how text is written.
-use Rattle.std.proofs.Common.{◌≡◌, ◌⊎◌, inl, inr, ℕ, Bool, true, false, List, [], ◌∷◌, ◌++◌, map, Result, Ok, Err, IfOk, IsSomeAnd, All, refl, sym, subst, arith}
-use Rattle.std.specs.Prelude.{codes, IsTrue, IsErrAnd, IsOkUnless}
+use Rattle.std.proofs.Common.{◌≡◌, ◌≢◌, Option, Some, ◌⊎◌, inl, inr, ℕ, Bool, true, false, List, [], ◌∷◌, ◌++◌, map, Result, Ok, Err, IfOk, IsSomeAnd, All, refl, sym, ap, ◌∙◌, subst, arith}
+use Rattle.std.specs.Prelude.{codes, IsTrue, IsErrAnd, IsErrOf, IsOkUnless, ◌↔◌}
 use Rattle.std.specs.Char.{is_ascii_alphanumeric}
-use Rattle.std.specs.List.{flat_map}
+use Rattle.std.specs.List.{flat_map, list_all}
 use Rattle.std.proofs.lemmas.Bool.{cond-true}
 use Rattle.std.proofs.lemmas.Bool.Decides.{nat_tests}
 use Rattle.std.proofs.lemmas.List.Elements.{All-nil, All-cons, All-head, All-tail, All-append, All-weaker}
@@ -10,6 +10,9 @@ use Rattle.std.proofs.lemmas.List.Sums.{AllPass-from_list_all, list_all-from_All
 use Rattle.http_header.specs.FieldValue.{FieldValue, plain_value}
 use Rattle.http_header.specs.Token.{is_visible_or_blank}
 use Rattle.dav_headers.specs.ETag.{EntityTag, tag_text, IsUnquoted, IsEntityTag, IsETag}
+use Rattle.dav_headers.specs.Depth.{depth_text}
+use Rattle.dav_headers.specs.declared.depth.Depth.{Depth}
+use Rattle.dav_headers.specs.declared.depth.Depth.TheVariants.{Default, Zero, One, Infinity}
 use Rattle.dav_headers.specs.Elements.{joined}
 use Rattle.dav_headers.specs.Language.{IsLanguage}
 use Rattle.dav_headers.specs.Value.{IsText, Writes, only_text}
@@ -119,6 +122,33 @@ pub never_invalid : (r : Result FieldValue HeaderError) (text : List ℕ) → Is
 never_invalid (Ok v) text is h = tt
 never_invalid (Err Invalid) text is h = absurd (h is)
 never_invalid (Err Memory) text is h = refl
+
+-- what is written of a text that is this one, which is text
+pub written_is : (r : Result FieldValue HeaderError) (text this : List ℕ) → text ≡ this → Writes r text → IfOk r (λ v. v ≡ plain_value this)
+written_is (Ok v) text this e h = h.1 ∙ ap plain_value e
+written_is (Err x) text this e h = tt
+
+pub written_unless : (r : Result FieldValue HeaderError) (text this : List ℕ) → text ≡ this → IsText this → Writes r text → IsOkUnless r Memory
+written_unless r text this e is h = never_invalid r text (subst IsText (sym e) is) h
+
+pub zero_is_given : Zero ≢ Default
+zero_is_given e = cc
+
+pub one_is_given : One ≢ Default
+one_is_given e = cc
+
+pub infinity_is_given : Infinity ≢ Default
+infinity_is_given e = cc
+
+-- what is written of a depth that has this text
+pub depth_written : (d : Depth) (r : Result FieldValue HeaderError) (text : List ℕ) → Some text ≡ depth_text d → Writes r text → IfOk r (λ v. IsSomeAnd (depth_text d) (λ t. v ≡ plain_value t))
+depth_written d (Ok v) text e h = let P : Option (List ℕ) → Type 0 = λ o. IsSomeAnd o (λ t. v ≡ plain_value t) in subst P e h.1
+depth_written d (Err x) text e h = tt
+
+pub depth_not_invalid : (d e : Depth) (r : Result FieldValue HeaderError) (text : List ℕ) → d ≡ e → e ≢ Default → list_all is_visible_or_blank text ≡ true → Writes r text → IsErrOf r Invalid ↔ (d ≡ Default)
+depth_not_invalid d e (Ok v) text is other shown h = (λ wrong. absurd (cc), λ k. absurd (other (sym is ∙ k)))
+depth_not_invalid d e (Err Invalid) text is other shown h = absurd (h (AllPass-from_list_all is_visible_or_blank text shown))
+depth_not_invalid d e (Err Memory) text is other shown h = (λ wrong. absurd (cc), λ k. absurd (other (sym is ∙ k)))
 
 -- a text that is written is the text of the only value
 pub written_text : (v : FieldValue) (text : List ℕ) (P : List ℕ → Type 0) → IsText text → v ≡ plain_value text → P text → IsSomeAnd (only_text (v ∷ [])) P

@@ -134,10 +134,8 @@ impl fmt::Display for ETag {
     ghost output = { λ e. Some (tag_text e.weak e.tag) };
 
     fn fmt<W: fmt::Write>(&self, f: &mut fmt::Formatter<W>) -> fmt::Result {
-        if self.weak {
-            write!(f, "W/")?;
-        }
-        write!(f, "\"{}\"", self.tag)
+        let mark = if self.weak { "W/" } else { "" };
+        write!(f, "{mark}\"{}\"", self.tag)
     }
 }
 

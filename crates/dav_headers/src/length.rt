@@ -22,8 +22,12 @@ impl ContentLength {
             (option_map (λ l. l.0) (result_ok result)) }
         ensures error { IsOkUnless result HeaderError.Invalid }
     {
-        let first = values.first().ok_or(HeaderError::Invalid)?;
-        let length = length_of(first).ok_or(HeaderError::Invalid)?;
+        let Some(first) = values.first() else {
+            return Err(HeaderError::Invalid);
+        };
+        let Some(length) = length_of(first) else {
+            return Err(HeaderError::Invalid);
+        };
         if values.iter().all(|value| length_of(value) == Some(length)) {
             Ok(ContentLength(length))
         } else {

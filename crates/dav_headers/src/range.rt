@@ -48,7 +48,6 @@ impl XUpdateRange {
     }
 
     /// `append`, `bytes=a-b`, `bytes=a-` or `bytes=-n`.
-    #[tactic(auto, using(crate::proofs::RangeLemmas::update_range_visible))]
     pub fn encode(&self, alloc: Global) -> Result<HeaderValue, HeaderError>
         ensures ok { IfOk result (λ v. v ≡ plain_value (update_range_text self.now)) }
         ensures err { IsOkUnless result HeaderError.Memory }
@@ -124,7 +123,6 @@ impl ContentRange {
     }
 
     /// `bytes `, the bounds or `*`, a slash, the length or `*`.
-    #[tactic(auto, using(crate::proofs::RangeLemmas::content_range_visible))]
     pub fn encode(&self, alloc: Global) -> Result<HeaderValue, HeaderError>
         ensures ok { IfOk result (λ v.
             v ≡ plain_value (content_range_text self.now.bounds self.now.length)) }

@@ -38,7 +38,6 @@ impl Timeout {
     }
 
     /// The TimeTypes in order, with a comma and a space between them.
-    #[tactic(auto, using(crate::proofs::TimeoutLemmas::timeout_visible))]
     pub fn encode(&self, alloc: Global) -> Result<HeaderValue, HeaderError>
         ensures ok { IfOk result (λ v. v ≡ plain_value (timeout_text self.now.0.items)) }
         ensures err { IsOkUnless result HeaderError.Memory }

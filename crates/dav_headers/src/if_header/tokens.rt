@@ -1,7 +1,7 @@
 //! The tokens of an If header, which borrow its bytes.
 ghost use Rattle.std.specs.Prelude.{false, ◌≡◌, ◌<◌, ◌≤◌, ◌↔◌, List, map, length, option_map, IfSome, IsTrue};
-ghost use Rattle.dav_headers.specs.IfTokens.{Token, Spells};
-ghost use Rattle.dav_headers.specs.IfTokenMachine.{is_white_space, is_word_byte, skip, inside_len, split_inside, word_len, word_at, token_at};
+ghost use Rattle.dav_headers.specs.IfTokens.{Token, angle, square, Spells};
+ghost use Rattle.dav_headers.specs.IfTokenMachine.{is_white_space, is_word_byte, skip, inside_len, bracketed, word_len, word_at, token_at};
 ghost use Rattle.dav_headers.specs.IfParts.{part_view};
 ghost use Rattle.dav_headers.specs.Value.{ReadsAs};
 
@@ -71,13 +71,22 @@ fn inside_len(text: &[u8], close: u8) -> Option<usize>
     None
 }
 
-// The bytes before the closing sign, and those after it.
-fn bracketed(text: &[u8], close: u8) -> Option<(&[u8], &[u8])>
-    ensures is { option_map (λ x. (x.0.now, x.1.now)) result ≡ split_inside close text.now }
+// What is in `<>`, behind its opening sign, and what follows it.
+fn angle_at<'a>(text: &'a [u8]) -> Option<(Part<'a>, &'a [u8])>
+    ensures is { option_map (λ x. (part_view x.0, x.1.now)) result ≡ bracketed angle 62 text.now }
     ensures shorter { IfSome result (λ x. length x.1.now < length text.now) }
 {
-    let n = inside_len(text, close)?;
-    Some((&text[..n], &text[n + 1..]))
+    let n = inside_len(text, b'>')?;
+    Some((Part::Angle(&text[..n]), &text[n + 1..]))
+}
+
+// What is in `[]`, behind its opening sign, and what follows it.
+fn square_at<'a>(text: &'a [u8]) -> Option<(Part<'a>, &'a [u8])>
+    ensures is { option_map (λ x. (part_view x.0, x.1.now)) result ≡ bracketed square 93 text.now }
+    ensures shorter { IfSome result (λ x. length x.1.now < length text.now) }
+{
+    let n = inside_len(text, b']')?;
+    Some((Part::Square(&text[..n]), &text[n + 1..]))
 }
 
 // How many bytes of a bare word the text begins with.
@@ -110,18 +119,14 @@ fn token_at<'a>(text: &'a [u8]) -> Option<(Part<'a>, &'a [u8])>
     ensures is { option_map (λ x. (part_view x.0, x.1.now)) result ≡ token_at text.now }
     ensures shorter { IfSome result (λ x. length x.1.now < length text.now) }
 {
-    match text {
-        [b'(', rest @ ..] => Some((Part::Open, rest)),
-        [b')', rest @ ..] => Some((Part::Close, rest)),
-        [b'N', b'o', b't', rest @ ..] => Some((Part::Not, rest)),
-        [b'<', rest @ ..] => {
-            let (inside, rest) = bracketed(rest, b'>')?;
-            Some((Part::Angle(inside), rest))
-        }
-        [b'[', rest @ ..] => {
-            let (inside, rest) = bracketed(rest, b']')?;
-            Some((Part::Square(inside), rest))
-        }
+    if text.starts_with(b"Not") {
+        return Some((Part::Not, &text[3..]));
+    }
+    match text.split_first() {
+        Some((b'(', rest)) => Some((Part::Open, rest)),
+        Some((b')', rest)) => Some((Part::Close, rest)),
+        Some((b'<', rest)) => angle_at(rest),
+        Some((b'[', rest)) => square_at(rest),
         _ => word_at(text),
     }
 }

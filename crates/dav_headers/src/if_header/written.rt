@@ -45,13 +45,13 @@ fn item_of<'a>(part: Part<'a>) -> Option<ItemText<'a>>
 fn negated_at<'a>(parts: &[Part<'a>]) -> Option<(Option<ConditionText<'a>>, usize)>
     ensures { StepsAs (negation ∷ map part_view parts.now) result }
 {
-    match parts {
-        [Part::Close, ..] => Some((None, 2)),
-        [part, ..] => {
+    match parts.split_first() {
+        Some((Part::Close, _)) => Some((None, 2)),
+        Some((part, _)) => {
             let item = item_of(*part)?;
             Some((Some(ConditionText { not: true, item }), 2))
         }
-        [] => None,
+        None => None,
     }
 }
 
@@ -59,14 +59,14 @@ fn negated_at<'a>(parts: &[Part<'a>]) -> Option<(Option<ConditionText<'a>>, usiz
 fn step_at<'a>(parts: &[Part<'a>]) -> Option<(Option<ConditionText<'a>>, usize)>
     ensures { StepsAs (map part_view parts.now) result }
 {
-    match parts {
-        [Part::Close, ..] => Some((None, 1)),
-        [Part::Not, rest @ ..] => negated_at(rest),
-        [part, ..] => {
+    match parts.split_first() {
+        Some((Part::Close, _)) => Some((None, 1)),
+        Some((Part::Not, rest)) => negated_at(rest),
+        Some((part, _)) => {
             let item = item_of(*part)?;
             Some((Some(ConditionText { not: false, item }), 1))
         }
-        [] => None,
+        None => None,
     }
 }
 

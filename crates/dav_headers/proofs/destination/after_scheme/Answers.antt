@@ -1,4 +1,5 @@
-use Rattle.std.proofs.Common.{rules, subst, sym}
+use Rattle.std.proofs.Common.{◌∙◌, subst, sym}
+use Rattle.std.proofs.lemmas.Bool.{false≢true}
 use Rattle.dav_headers.specs.Destination.{IsHttp}
 use Rattle.dav_headers.proofs.DestinationLemmas.{at_colon}
 use Rattle.dav_headers.proofs.destination.after_scheme.Goals as goal
@@ -13,5 +14,4 @@ returns-in_err-after-clause-none c =
 pub returns-else-is_http-clause-none : goal.returns-else-is_http-clause-none
 returns-else-is_http-clause-none c = λ scheme after http e.
     let at = at_colon c.args.text.now _ _ scheme after c.in_ok-scheme.ensures.found http e in
-    let other : ¬ (IsHttp c.in_ok-scheme.scheme.now) = search rules in
-    other (subst IsHttp (sym at.0) http)
+    false≢true (sym c.if-is_http.false ∙ c.is_http.ensures.1 (subst IsHttp (sym at.0) http))

@@ -1,4 +1,5 @@
-use Rattle.std.proofs.Common.{refl, rules, subst, All}
+use Rattle.std.proofs.Common.{◌∙◌, refl, subst, sym, All}
+use Rattle.std.proofs.lemmas.Bool.{false≢true}
 use Rattle.std.proofs.lemmas.List.{take_all}
 use Rattle.dav_headers.specs.Language.{IsLanguage}
 use Rattle.dav_headers.specs.Elements.{elements_of}
@@ -9,18 +10,18 @@ use Rattle.dav_headers.proofs.language.can_be_read.Goals as goal
 
 pub returns-in_default : goal.returns-in_default
 returns-in_default c =
-    let hidden : ¬ (IsText c.value-item.result.bytes) = search rules in
-    (λ f. absurd (cc), λ h. let here = all_at IsReadable c.args.values.now c.loop-value.value-index c.value-item.result c.loop-value-test.true c.value-item.is h in absurd (hidden here.0))
+    let hidden = λ (text : IsText c.value-item.result.bytes). false≢true (c.in_default.ensures.succeeds.1 text) in
+    (λ f. absurd (false≢true f), λ h. let here = all_at IsReadable c.args.values.now c.loop-value.value-index c.value-item.result c.loop-value-test.true c.value-item.is h in absurd (hidden here.0))
 
 pub returns-then-not-are_languages : goal.returns-then-not-are_languages
 returns-then-not-are_languages c =
-    let other : ¬ (All IsLanguage (elements_of c.in-Ok.text.now)) = search rules in
-    (λ f. absurd (cc), λ h. let here = all_at IsReadable c.args.values.now c.loop-value.value-index c.value-item.result c.loop-value-test.true c.value-item.is h in absurd (other (rw c.in-Ok.ensures.ok here.1)))
+    let other = λ (h : All IsLanguage (elements_of c.in-Ok.text.now)). false≢true (sym c.if-not-are_languages.true ∙ c.are_languages.ensures.1 h) in
+    (λ f. absurd (false≢true f), λ h. let here = all_at IsReadable c.args.values.now c.loop-value.value-index c.value-item.result c.loop-value-test.true c.value-item.is h in absurd (other (rw c.in-Ok.ensures.ok here.1)))
 
 pub loop-value-preserved : goal.loop-value-preserved
 loop-value-preserved c =
-    let text : IsText c.value-item.result.bytes = search rules in
-    let these : All IsLanguage (elements_of c.in-Ok.text.now) = search rules in
+    let text : IsText c.value-item.result.bytes = c.in-Ok.ensures.succeeds.0 refl in
+    let these = c.are_languages.ensures.0 c.if-not-are_languages.false in
     all_turn IsReadable c.args.values.now c.loop-value.value-index c.value-item.result c.loop-value-test.true c.value-item.is c.loop-value.invariant (text, rw c.in-Ok.ensures.ok at these)
 
 pub returns : goal.returns
