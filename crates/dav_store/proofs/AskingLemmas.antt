@@ -1,8 +1,8 @@
 -- A store that answers as calls mean meets `Asks`.
-use Rattle.std.proofs.Common.{◌≡◌, ℕ, Bool, true, List, Result, Ok, Err, inl, inr, refl, ap, subst, ◌∙◌}
+use Rattle.std.proofs.Common.{◌≡◌, ℕ, Bool, true, List, Some, None, Result, Ok, Err, inl, inr, refl, sym, ap, subst, ◌∙◌}
 use Rattle.std.specs.declared.io.traits.SeekFrom.{SeekFrom}
 use Rattle.dav_core.specs.declared.errors.FsError.{FsError}
-use Rattle.dav_core.specs.declared.errors.FsError.TheVariants.{NotImplemented}
+use Rattle.dav_core.specs.declared.errors.FsError.TheVariants.{NotImplemented, InsufficientStorage}
 use Rattle.dav_core.specs.Path.{Path}
 use Rattle.dav_core.specs.Property.{PropertyKey, Patch}
 use Rattle.dav_core.specs.Handle.{Handle, Opening}
@@ -10,7 +10,8 @@ use Rattle.dav_core.specs.Meaning.{Meaning}
 use Rattle.dav_core.specs.Calls as calls
 use Rattle.dav_core.specs.Asking.{Call, Answer, Metadata, ReadDir, EntryMetadata, CreateDir, RemoveDir, RemoveFile, Rename, Copy, HaveProps, PatchProps, GetProps, GetProp, GetQuota, SetAccessed, SetModified, Open, Read, Write, Seek, Flush, FileMetadata, TakesMemory, IsAnswered, Asks, ran_short, answered, meaning}
 use Rattle.dav_core.proofs.Theorems.{answered_as}
-use Rattle.dav_store.specs.Store.{Store, Answers, AnswersExactly, state_of}
+use Rattle.dav_store.specs.Store.{Store, Answers, AnswersExactly, state_of, refusal_in}
+use Rattle.dav_store.proofs.Walks.{inner}
 
 step : (call : Call) → TakesMemory call → (old new : Store) (r : Result (Answer call) FsError) (m : Meaning (Answer call))
     → m ≡ meaning call old.world → Answers m r old new → Asks call (state_of old) r (state_of new)
@@ -35,6 +36,16 @@ exact_step call old new r (Err e) means h =
     answered_as (ap (λ x. (x, new.world)) h.0 ∙ ap (λ (s : Store). (Err e, s.world)) h.1 ∙ ap (answered old.world) means) refl (ap (λ (s : Store). s.short) h.1)
 exact_step call old new r (Ok (a, w)) means h =
     answered_as (ap (λ x. (x, new.world)) h.0 ∙ ap (λ (s : Store). (Ok a, s.world)) h.1 ∙ ap (answered old.world) means) refl (ap (λ (s : Store). s.short) h.1)
+
+-- a call that a rule refuses
+pub refused : {A : Type 0} (m : Meaning A) (e : FsError) (r : Result A FsError) (s : Store) → refusal_in m ≡ Some e → r ≡ Err e → Answers m r s s
+refused (Err x) e r s is err = (err ∙ ap (λ (y : FsError). Err y) (sym (inner x e is)), refl)
+refused (Ok x) e r s is err = cc
+
+-- and one that no rule refuses, where memory runs out
+pub lacking : {A : Type 0} (m : Meaning A) (r : Result A FsError) (old new : Store) → refusal_in m ≡ None → r ≡ Err InsufficientStorage → new ≡ record old { short = true } → Answers m r old new
+lacking (Err x) r old new is err short = cc
+lacking (Ok (a, w)) r old new is err short = inr (err, short)
 
 pub asks_open : (p : Path) (how : Opening) (now : ℕ) (old new : Store) (r : Result (Answer (Open p how now)) FsError) → Answers (calls.open_file old.world p how now) r old new → Asks (Open p how now) (state_of old) r (state_of new)
 unfolding meaning

@@ -1,7 +1,7 @@
 -- What the calls of a list of locks do to its index, and answer where no lock matters.
 use Rattle.std.proofs.Common.{◌≡◌, ℕ, zero, suc, ◌+◌, ◌-◌, ◌&&◌, ◌||◌, not, Bool, true, false, cond, List, [], ◌∷◌, ◌++◌, length, length-append, get_or, Contains, Option, Some, None, Result, Ok, Err, refl, sym, ap, subst, ◌∙◌, arith}
 use Rattle.std.specs.List.{list_any, list_all, filter, flat_map}
-use Rattle.std.proofs.lemmas.List.Sums.{sum_by-cons}
+use Rattle.std.proofs.lemmas.List.Sums.{sum_by-cons, sum_by-append}
 use Rattle.dav_core.specs.Lists.{is_empty}
 use Rattle.dav_core.specs.Path.{Path, names, fronts, is_same_path, is_under, is_at_or_under, rest_after, has_names}
 use Rattle.std.specs.Option.{is_some}
@@ -32,6 +32,21 @@ module _ (test : Lock → Bool) (k : ℕ) where
       let b = sum_by-cons (keys_at k) l ls in
       let c = parted ls in
       omega (arith, a, b, c)
+
+-- a lock is put after the others
+pub index_grown : (index : Option Counts) (deep : Bool) (p : Path) (ls new : List Lock) (l : Lock) → HasCounts index (λ k. tally k ls + times k (path_keys deep p)) → new ≡ ls ++ l ∷ [] → l.deep ≡ deep → names l.path ≡ p → IsIndexOf index new
+index_grown index deep p ls new l h is depth place =
+    counts_along index (λ k. tally k ls + times k (path_keys deep p)) (λ k. tally k new) h
+    (λ k.
+    let a : tally k new ≡ tally k (ls ++ l ∷ []) = ap (tally k) is in
+    let b = sum_by-append (keys_at k) ls (l ∷ []) in
+    let d = sum_by-cons (keys_at k) l [] in
+    let e : keys_at k l ≡ times k (path_keys deep p) = λ i. times k (path_keys (depth i) (place i)) in
+    omega (arith, a, b, d, e))
+
+-- a lock is taken out
+pub index_shrunk : (index : Option Counts) (ls new : List Lock) (keys : ℕ → ℕ) → HasCounts index (λ k. tally k ls - keys k) → ((k : ℕ) → tally k ls ≡ tally k new + keys k) → IsIndexOf index new
+index_shrunk index ls new keys h is = counts_along index (λ k. tally k ls - keys k) (λ k. tally k new) h (λ k. let a = is k in omega (arith, a))
 
 -- the locks at a path and below it are taken out
 pub index_cut : (index : Option Counts) (p : Path) (ls new : List Lock) → HasCounts index (λ k. tally k ls - tally k (filter (λ l. is_at_or_under (names l.path) p) ls)) → new ≡ deleted p ls → IsIndexOf index new

@@ -3,6 +3,7 @@ pub mod Laws
 pub mod StoreCode
 pub mod KindOf
 pub mod Answered
+pub mod Listed
 pub mod LockCalls
 pub mod Tree
 pub mod TreeLaws

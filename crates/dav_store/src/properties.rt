@@ -170,25 +170,24 @@ fn remove_property(entries: &mut Vec<(Key, Option<Element>)>, property: &DavProp
     entries.retain(|e| !e.0.is_of(property));
 }
 
-// Makes one change, and returns its property without its element.
+// Makes one change, and takes the element out of its property.
 fn apply(
     alloc: Global,
     entries: &mut Vec<(Key, Option<Element>)>,
     set: bool,
-    mut property: DavProp,
-) -> Result<DavProp, NoMemory>
-    ensures { IfOk result (λ p. (p ≡ without_xml property)
-        × (entries.new.items ≡ patched_by (patch_of (set, property)) entries.old.items)) }
+    property: &mut DavProp,
+) -> Result<(), NoMemory>
+    ensures property { OnOk result (property.new ≡ without_xml property.old) }
+    ensures entries { OnOk result (entries.new.items
+        ≡ patched_by (patch_of (set, property.old)) entries.old.items) }
 {
     if set {
-        let key = Key::of(alloc, &property)?;
-        let xml = property.xml.take();
-        put_property(entries, key, xml)?;
-    } else {
-        remove_property(entries, &property);
-        property.xml = None;
+        let key = Key::of(alloc, property)?;
+        return put_property(entries, key, property.xml.take());
     }
-    Ok(property)
+    remove_property(entries, property);
+    property.xml = None;
+    Ok(())
 }
 
 // The prefix of a property's element.
@@ -271,8 +270,8 @@ impl Properties {
             × (self.new ≡ patched (map patch_of patches.items) self.old)) }
     {
         let mut answers = Vec::new(alloc);
-        for (set, property) in patches {
-            let property = apply(alloc, &mut self.entries, set, property)?;
+        for (set, mut property) in patches {
+            apply(alloc, &mut self.entries, set, &mut property)?;
             answers.push((StatusCode::OK, property))?;
         }
         Ok(answers)

@@ -1,19 +1,23 @@
 //! Changes of the nodes that a store in memory keeps.
-ghost use Rattle.std.specs.Prelude.{◌≡◌, ◌≢◌, ◌+◌, ◌≤◌, [], List, ℕ, Some, None, false, true, ◌&&◌, OnOk, OnErr, IsSome, length};
+ghost use Rattle.std.specs.Prelude.{◌≡◌, ◌≢◌, ◌+◌, ◌≤◌, ◌<◌, [], List, ℕ, Some, None, false, true, ◌&&◌, IfOk, OnOk, OnErr, IsSome, length, nat_eq};
+ghost use Rattle.std.specs.HashMap.{get, spare};
 ghost use Rattle.std.specs.FinMap.{find, put};
 ghost use Rattle.std.specs.Option.{option_map};
-ghost use Rattle.dav_core.specs.Path.{names, path_cmp, parent_of, is_at_or_under, is_nonempty, is_root};
+ghost use Rattle.dav_core.specs.Path.{names, path_cmp, parent_of, last_name, is_at_or_under, is_nonempty, is_root};
 ghost use Rattle.dav_core.specs.World.{adjust, touched, prune, moved, members, is_folder_node, is_folder_kind, last_moment, max_file_len, change_node, is_file_made_with, Node as Seen, fresh};
 ghost use Rattle.dav_core.specs.Calls.{emptied, written, copied_over, repatched};
 ghost use Rattle.dav_core.specs.Property.{Patch, patched};
 ghost use Rattle.dav_store.specs.Makings.{AreMadeBefore};
+ghost use Rattle.dav_store.specs.Placed.{bare, found};
 
 use super::{Entries, finding};
 use crate::node::Node;
 use crate::properties::Properties;
+use crate::tree::Tree;
 use dav_core::davpath::DavPath;
 use dav_core::errors::NoMemory;
 use std::alloc::{AllocError, Global};
+use std::collections::HashMap;
 
 /// Sets the moment at which the folder of a path was last changed.
 pub fn touch_folder(entries: &mut Entries, path: &DavPath, now: u64)
@@ -119,6 +123,27 @@ pub fn add_node(
     Ok(())
 }
 
+// The number of the folder above a path and the path's last name, with room among the numbers for one node more.
+fn room_for(
+    alloc: Global,
+    tree: &Tree<Vec<u8>, Node>,
+    made: &mut HashMap<u64, u64>,
+    path: &DavPath,
+) -> Result<(u64, Vec<u8>), NoMemory>
+    ensures folder { IfOk result
+        (λ r. found (bare tree.now) (parent_of (names path.now)) ≡ Some r.0) }
+    ensures name { IfOk result (λ r. r.1.items ≡ last_name path.now.bytes) }
+    ensures made { (n : ℕ) → get nat_eq made.new n ≡ get nat_eq made.old n }
+    ensures room { OnOk result (0 < spare made.new) }
+{
+    let Some(folder) = finding::find(tree, path).above else {
+        return Err(AllocError);
+    };
+    let name = Vec::from_slice(alloc, path.file_name_bytes())?;
+    made.reserve(1)?;
+    Ok((folder, name))
+}
+
 // Puts a new node at a path. All room is made before anything changes.
 fn put_new(alloc: Global, entries: &mut Entries, path: &DavPath, node: Node) -> Result<(), NoMemory>
     requires folder { is_folder_node
@@ -129,11 +154,7 @@ fn put_new(alloc: Global, entries: &mut Entries, path: &DavPath, node: Node) -> 
     ensures err { OnErr result (entries.new ≡ entries.old) }
 {
     let made = node.creation_number();
-    let Some(folder) = finding::find(&entries.tree, path).above else {
-        return Err(AllocError);
-    };
-    let name = Vec::from_slice(alloc, path.file_name_bytes())?;
-    entries.made.reserve(1)?;
+    let (folder, name) = room_for(alloc, &entries.tree, &mut entries.made, path)?;
     let Ok(id) = entries.tree.add_child(alloc, folder, name, node, false) else {
         return Err(AllocError);
     };

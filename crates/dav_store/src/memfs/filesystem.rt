@@ -14,11 +14,13 @@ use std::alloc::Global;
 use std::io::SeekFrom;
 
 impl DavDirEntry for MemEntry {
-    ghost entry_folder = { λ e. e.folder };
+    ghost use Rattle.dav_store.specs.Listed.{folder_listed, name_listed, was_folder};
 
-    ghost entry_name = { λ e. e.name };
+    ghost entry_folder = { folder_listed };
 
-    ghost entry_dir = { λ e. e.dir };
+    ghost entry_name = { name_listed };
+
+    ghost entry_dir = { was_folder };
 
     fn name(&self) -> &[u8] {
         self.name.as_slice()

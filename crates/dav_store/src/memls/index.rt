@@ -135,7 +135,6 @@ impl Counts {
     }
 
     // A lock on a path comes, by the grant of this number.
-    #[tactic(auto, using(crate::proofs::IndexLemmas::keys_more, crate::proofs::IndexLemmas::keys_deep, crate::proofs::IndexLemmas::keys_shallow))]
     fn raise_path(&mut self, path: &DavPath, deep: bool, grant: u64) -> Result<(), NoMemory>
         ensures { OnOk result ((k : ℕ) → count_of self.new k
             ≡ count_of self.old k + times k (path_keys deep (names path.now))) }
@@ -154,7 +153,6 @@ impl Counts {
     }
 
     // A lock on a path goes.
-    #[tactic(auto, using(crate::proofs::IndexLemmas::keys_more, crate::proofs::IndexLemmas::keys_deep, crate::proofs::IndexLemmas::keys_shallow))]
     fn lower_path(&mut self, path: &DavPath, deep: bool)
         ensures { (k : ℕ) → count_of self.new k
             ≡ count_of self.old k - times k (path_keys deep (names path.now)) }

@@ -112,7 +112,6 @@ impl<K: Eq + Hash, D> Node<K, D> {
     }
 
     // The keys and numbers of its children.
-    #[tactic(auto, using(crate::proofs::TreeLists::listed_more))]
     pub(crate) fn list(&self, alloc: Global) -> Result<Vec<(K, u64)>, AllocError>
     where
         K: Clone,

@@ -196,7 +196,6 @@ impl<K: Eq + Hash + Drop, D: Drop> Nodes<K, D> {
     }
 
     // Makes room for one child more of a node, which nobody sees.
-    #[tactic(auto, using(crate::proofs::TreeSteps::written_back, crate::proofs::TreeSteps::miss_set_value))]
     pub fn reserve(&mut self, parent: u64) -> Result<(), AllocError>
         ensures { self.new ≡ self.old }
     {
@@ -207,7 +206,6 @@ impl<K: Eq + Hash + Drop, D: Drop> Nodes<K, D> {
     }
 
     // A node gets this child under a key.
-    #[tactic(auto, using(crate::proofs::TreeSteps::written_back, crate::proofs::TreeSteps::miss_set_value))]
     pub fn link(&mut self, parent: u64, key: K, id: u64) -> Result<(), AllocError>
         ensures ok { OnOk result (self.new ≡ linked K.eq self.old parent key id) }
         ensures err { OnErr result (self.new ≡ self.old) }
@@ -220,7 +218,6 @@ impl<K: Eq + Hash + Drop, D: Drop> Nodes<K, D> {
     }
 
     // The child at a place goes.
-    #[tactic(auto, using(crate::proofs::TreeSteps::miss_set_value))]
     fn unlink_at(&mut self, parent: u64, place: Option<usize>)
         ensures { self.new ≡ unlinked_at self.old parent place }
     {
@@ -314,7 +311,6 @@ impl<K: Eq + Hash + Drop, D: Drop> Nodes<K, D> {
 
     // A new node under a key of its parent, in the place of a child that is there. All room is made before anything
     // changes; where memory runs out, nothing does.
-    #[tactic(auto, using(crate::proofs::TreeSteps::taken_back))]
     pub fn add(&mut self, alloc: Global, parent: u64, key: K, value: D) -> Result<u64, AllocError>
         requires { self.old.last < max_u64 }
         ensures ok { IfOk result (λ id. id ≡ self.old.last + 1) }

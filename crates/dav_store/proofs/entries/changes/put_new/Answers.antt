@@ -1,5 +1,4 @@
-use Rattle.std.proofs.Common.{◌<◌, nat_eq, cond, Some, Ok, refl, arith, sym, ap, subst, ◌∙◌}
-use Rattle.std.specs.HashMap.{spare}
+use Rattle.std.proofs.Common.{nat_eq, cond, Some, Ok, refl, sym, ap, subst, ◌∙◌}
 use Rattle.dav_core.specs.Path.{names}
 use Rattle.dav_store.proofs.NameLemmas.{named_last}
 use Rattle.dav_store.specs.Entries.{IsKept}
@@ -8,33 +7,34 @@ use Rattle.dav_store.proofs.KeptCalls.{kept_reordered, lacking_new, answered_new
 use Rattle.dav_store.proofs.entries.changes.put_new.Goals as goal
 
 pub invariant_of-entries : goal.invariant_of-entries
-invariant_of-entries c = kept_reordered c.entries.inside.tree c.entries.inside.made c.reserve.new.self c.entries.invariant c.reserve.ensures.entries.2
+invariant_of-entries c = kept_reordered c.entries.inside.tree c.entries.inside.made c.room_for.new.made c.entries.invariant c.room_for.ensures.made
 
-pub invariant_of-entries-in_default-add_child : goal.invariant_of-entries-in_default-add_child
-invariant_of-entries-in_default-add_child c =
-    subst (λ u. IsKept u c.reserve.new.self) (sym (lacking_new _ _ _ _ c.entries.inside.tree c.add_child.new.self c.add_child.result c.in_default-add_child.field-0 c.in_default-add_child.is c.add_child.ensures))
-    (kept_reordered c.entries.inside.tree c.entries.inside.made c.reserve.new.self c.entries.invariant c.reserve.ensures.entries.2)
+pub invariant_of-entries-in_default : goal.invariant_of-entries-in_default
+invariant_of-entries-in_default c =
+    subst (λ u. IsKept u c.room_for.new.made) (sym (lacking_new _ _ _ _ c.entries.inside.tree c.add_child.new.self c.add_child.result c.in_default.field-0 c.in_default.is c.add_child.ensures))
+    (kept_reordered c.entries.inside.tree c.entries.inside.made c.room_for.new.made c.entries.invariant c.room_for.ensures.made)
 
-pub returns-in_default-add_child-clause-err : goal.returns-in_default-add_child-clause-err
-returns-in_default-add_child-clause-err c =
-    ap (λ u. placed (bare u)) (lacking_new _ _ _ _ c.entries.inside.tree c.add_child.new.self c.add_child.result c.in_default-add_child.field-0 c.in_default-add_child.is c.add_child.ensures) ∙ c.entries.view_is
+pub returns-in_default-clause-err : goal.returns-in_default-clause-err
+returns-in_default-clause-err c =
+    ap (λ u. placed (bare u)) (lacking_new _ _ _ _ c.entries.inside.tree c.add_child.new.self c.add_child.result c.in_default.field-0 c.in_default.is c.add_child.ensures) ∙ c.entries.view_is
 
 pub invariant_of-entries-2 : goal.invariant_of-entries-2
 invariant_of-entries-2 c =
     let done = answered_new _ _ _ c.in-Ok.id _ c.entries.inside.tree c.add_child.new.self (Ok c.in-Ok.id) refl c.in-Ok.ensures in
-    let below = below_the_root c.entries.inside.tree c.entries.inside.made c.entries.invariant c.args.entries.now c.entries.view_is (names c.args.path.now) c.find.result.above c.find.ensures.above c.in-Some.folder c.in-Some.is c.requires.free c.requires.folder in
-    let named = named_last c.args.path.now.bytes c.in_ok-name.name.items below (c.in_ok-name.ensures.items ∙ c.file_name_bytes.ensures) in
-    let room : 0 < spare c.reserve.new.self = omega (arith, c.in_ok-reserve.ensures.ok) in
-    let updates = on_ok c.insert.result _ (c.insert.ensures.succeeds room) c.insert.ensures.updates in
+    let above = sym c.in_ok-folder.ensures.folder in
+    let below = below_the_root c.entries.inside.tree c.entries.inside.made c.entries.invariant c.args.entries.now c.entries.view_is (names c.args.path.now) (Some c.in_ok-folder.folder) above c.in_ok-folder.folder refl c.requires.free c.requires.folder in
+    let named = named_last c.args.path.now.bytes c.in_ok-folder.name.items below c.in_ok-folder.ensures.name in
+    let updates = on_ok c.insert.result _ (c.insert.ensures.succeeds c.in_ok-folder.ensures.room) c.insert.ensures.updates in
     subst (λ u. IsKept u c.insert.new.self) (sym done.0)
-    (kept_put c.entries.inside.tree c.entries.inside.made c.entries.invariant c.args.entries.now c.entries.view_is (names c.args.path.now) c.find.result.above c.find.ensures.above c.in-Some.folder c.in-Some.is c.requires.free c.requires.folder c.in_ok-name.name c.args.node named.0 named.1 c.insert.new.self
+    (kept_put c.entries.inside.tree c.entries.inside.made c.entries.invariant c.args.entries.now c.entries.view_is (names c.args.path.now) (Some c.in_ok-folder.folder) above c.in_ok-folder.folder refl c.requires.free c.requires.folder c.in_ok-folder.name c.args.node named.0 named.1 c.insert.new.self
     (unmade c.entries.inside.tree c.entries.inside.made c.entries.invariant c.args.entries.now c.entries.view_is c.args.node.made c.requires.new)
-    (λ n. updates.0 n ∙ (λ i. cond (nat_eq (c.creation_number-made.ensures i) n) (Some (done.1 i)) (c.reserve.ensures.entries.2 n i))))
+    (λ n. updates.0 n ∙ (λ i. cond (nat_eq (c.creation_number-made.ensures i) n) (Some (done.1 i)) (c.room_for.ensures.made n i))))
 
 pub returns-clause-ok : goal.returns-clause-ok
 returns-clause-ok c =
     let done = answered_new _ _ _ c.in-Ok.id _ c.entries.inside.tree c.add_child.new.self (Ok c.in-Ok.id) refl c.in-Ok.ensures in
-    let below = below_the_root c.entries.inside.tree c.entries.inside.made c.entries.invariant c.args.entries.now c.entries.view_is (names c.args.path.now) c.find.result.above c.find.ensures.above c.in-Some.folder c.in-Some.is c.requires.free c.requires.folder in
-    let named = named_last c.args.path.now.bytes c.in_ok-name.name.items below (c.in_ok-name.ensures.items ∙ c.file_name_bytes.ensures) in
+    let above = sym c.in_ok-folder.ensures.folder in
+    let below = below_the_root c.entries.inside.tree c.entries.inside.made c.entries.invariant c.args.entries.now c.entries.view_is (names c.args.path.now) (Some c.in_ok-folder.folder) above c.in_ok-folder.folder refl c.requires.free c.requires.folder in
+    let named = named_last c.args.path.now.bytes c.in_ok-folder.name.items below c.in_ok-folder.ensures.name in
     ap (λ u. placed (bare u)) done.0
-    ∙ view_put c.entries.inside.tree c.entries.inside.made c.entries.invariant c.args.entries.now c.entries.view_is (names c.args.path.now) c.find.result.above c.find.ensures.above c.in-Some.folder c.in-Some.is c.requires.free c.requires.folder c.in_ok-name.name c.args.node named.0 named.1
+    ∙ view_put c.entries.inside.tree c.entries.inside.made c.entries.invariant c.args.entries.now c.entries.view_is (names c.args.path.now) (Some c.in_ok-folder.folder) above c.in_ok-folder.folder refl c.requires.free c.requires.folder c.in_ok-folder.name c.args.node named.0 named.1

@@ -3,8 +3,8 @@ use Rattle.dav_store.proofs.properties.Properties.patch.Goals as goal
 
 pub loop-set-preserved : goal.loop-set-preserved
 loop-set-preserved c = (
-  answered_more c.loop-set.yielded (c.in-Some.set, c.in-Some.property) c.loop-set.answers.items c.push.new.self.items c.in_ok-property.property
-      c.loop-set.invariant.0 c.in_ok-property.ensures.0 c.in_ok-push.ensures.items,
+  answered_more c.loop-set.yielded (c.in-Some.set, c.in-Some.property) c.loop-set.answers.items c.push.new.self.items c.apply.new.property
+      c.loop-set.invariant.0 c.in_ok-apply.ensures.property c.in_ok-push.ensures.items,
   patched_more c.loop-set.yielded (c.in-Some.set, c.in-Some.property) c.args.self.now c.loop-set.self-inside.entries.items c.apply.new.entries.items
-      c.loop-set.invariant.1 c.in_ok-property.ensures.1,
+      c.loop-set.invariant.1 c.in_ok-apply.ensures.entries,
 )
