@@ -1,5 +1,6 @@
 -- How the element for all responses declares namespaces.
-use Rattle.std.proofs.Common.{◌≡◌, ℕ, ◌++◌, Bool, true, false, List, [], ◌∷◌, map, codes, if◌then◌else◌, refl, ap, ◌∙◌}
+use Rattle.std.proofs.Common.{◌≡◌, ℕ, ◌++◌, Bool, true, false, List, [], ◌∷◌, map, codes, if◌then◌else◌, Result, Ok, Err, refl, ap, ◌∙◌}
+use Rattle.std.specs.Prelude.{IfOk, IsOkAnd}
 use Rattle.std.specs.List.{list_any}
 use Rattle.dav_core.specs.Element.{ElementTree, attributes_of, set_attribute, with_attributes, xmlns_name}
 use Rattle.dav_engine.specs.Declaring.{declared, declares, opened}
@@ -55,6 +56,18 @@ opened_is telling es e0 e1 e2 e3 e4 is zero one two three four =
     four ∙ ap (declared (codes "oc") owncloud_space es) (three ∙ ap (declared (codes "nc") nextcloud_space es) (two ∙ ap (declared (codes "Z") microsoft_space es)
     (one ∙ ap (declared (codes "A") apache_space es) zero))) ∙ all_tests telling es is
 
+-- the same where memory may have run out before
+pub opened_by : {E : Type 0} (telling : Telling) (es : List ElementTree) (r0 r1 r2 r3 r4 : Result ElementTree E) → true ≡ declares telling → IfOk r0 (λ e. e ≡ multistatus [])
+    → IfOk r1 (λ e. IsOkAnd r0 (λ root. e ≡ declared (codes "A") apache_space es root)) → IfOk r2 (λ e. IsOkAnd r1 (λ root. e ≡ declared (codes "Z") microsoft_space es root))
+    → IfOk r3 (λ e. IsOkAnd r2 (λ root. e ≡ declared (codes "nc") nextcloud_space es root)) → IfOk r4 (λ e. IsOkAnd r3 (λ root. e ≡ declared (codes "oc") owncloud_space es root))
+    → IfOk r4 (λ e. e ≡ opened telling es)
+opened_by telling es r0 r1 r2 r3 (Err e) is zero one two three four = tt
+opened_by telling es r0 r1 r2 (Err e) (Ok e4) is zero one two three four = absurd four
+opened_by telling es r0 r1 (Err e) (Ok e3) (Ok e4) is zero one two three four = absurd three
+opened_by telling es r0 (Err e) (Ok e2) (Ok e3) (Ok e4) is zero one two three four = absurd two
+opened_by telling es (Err e) (Ok e1) (Ok e2) (Ok e3) (Ok e4) is zero one two three four = absurd one
+opened_by telling es (Ok e0) (Ok e1) (Ok e2) (Ok e3) (Ok e4) is zero one two three four = opened_is telling es e0 e1 e2 e3 e4 is zero one two three four
+
 -- where outcomes are told, none is declared
 pub opened_plain : (telling : Telling) (es : List ElementTree) (e : ElementTree) → false ≡ declares telling → e ≡ multistatus [] → e ≡ opened telling es
 opened_plain Outcomes es e is same = same
@@ -62,3 +75,8 @@ opened_plain Requested es e is same = absurd (cc)
 opened_plain AllProperties es e is same = absurd (cc)
 opened_plain NamesAlone es e is same = absurd (cc)
 opened_plain Others es e is same = absurd (cc)
+
+-- the same where memory may have run out before
+pub opened_plain_by : {E : Type 0} (telling : Telling) (es : List ElementTree) (r : Result ElementTree E) → false ≡ declares telling → IfOk r (λ e. e ≡ multistatus []) → IfOk r (λ e. e ≡ opened telling es)
+opened_plain_by telling es (Ok e) is same = opened_plain telling es e is same
+opened_plain_by telling es (Err e) is same = tt

@@ -1,6 +1,6 @@
 -- How code follows a LOCK with a body.
 use Rattle.std.proofs.Common.{◌≡◌, ◌++◌, ℕ, List, [], ◌∷◌, Bool, true, false, if◌then◌else◌, Option, Some, None, Result, Ok, Err, refl, sym, ap, subst, ◌∙◌}
-use Rattle.std.specs.Prelude.{IfOk, IfErr, OnErr}
+use Rattle.std.specs.Prelude.{IfOk, IfErr, IsErrOf, OnErr}
 use Rattle.std.specs.Option.{is_some, option_map, option_copied}
 use denote.Ref.{Bor}
 use Rattle.std.specs.Result.{result_ok, result_err}
@@ -24,6 +24,7 @@ use Rattle.dav_engine.specs.Follows.{as_is, Follows, followed, Sets, or_memory}
 use Rattle.dav_engine.specs.Lock.{lock_of, asked_lock, grant, taken_back, empty_opening, empty_error, open_empty, make_empty, granted_reply, lock_new, lock_found, lock}
 use Rattle.dav_engine.specs.LockHeaders.{LockHeaders}
 use Rattle.dav_engine.specs.LockInfo.{LockInfo, lock_info}
+use Rattle.dav_engine.specs.LockView.{GrantsNew, not_granted, on_what_is_there, on_a_new_file}
 use Rattle.dav_engine.specs.Method.{MethodPlan, ◌>>=◌, required, unless_status, has_locks, gives}
 use Rattle.dav_engine.specs.Plan.{Locks, Done, Keep, Ran, ran_done, ran_ask, ran_look, ran_keep}
 use Rattle.dav_engine.specs.Response.{Response, Header}
@@ -226,7 +227,41 @@ module _ (h : LockHeaders) (p : PathText) (location : List Header) (content : Bo
         made_by (Some m) reply none run is = absurd (cc)
         made_by None reply none run is = ran_bind (λ u. gives (granted_reply false location l)) run (ran_at (ap Ok is))
 
+    abbrev News-by : Result (Unit {0}) DavError → StoreState → Locks → Type 0
+    News-by r new ms = GrantsNew l (empty_opening h.conditions) (names p) who.moment (is_some found) mid ls r new ms
+
+    pub new_not_granted : (e : DavError) (r : Result (Unit {0}) DavError) {new : StoreState} {ms : Locks} → r ≡ Err e → News-by r new ms → News old ls (Err e) new ms
+    new_not_granted e r {new} {ms} was (not_granted f is two same at) =
+        let one_error : f ≡ e = cc in
+        subst (λ s. News old ls (Err e) s ms) (sym at) (new_refused e same (subst (λ w. Grants l ls (Err w) ms) one_error two))
+    new_not_granted e r {new} {ms} was (on_what_is_there is there two at) = absurd (cc)
+    new_not_granted e r {new} {ms} was (on_a_new_file ks none two run) =
+        new_unmade two e none (subst (λ w. Ran Asks (open_empty (empty_opening h.conditions) l.token (names p) who.moment) mid ks w new ms) was run)
+
+    pub new_granted : (reply : Response) (r : Result (Unit {0}) DavError) {new : StoreState} {ms : Locks} → r ≡ Ok tt → News-by r new ms → reply ≡ granted_reply (is_some found) location l → News old ls (Ok reply) new ms
+    new_granted reply r {new} {ms} was (not_granted f is two same at) told = absurd (cc)
+    new_granted reply r {new} {ms} was (on_what_is_there is there two at) told = subst (λ s. News old ls (Ok reply) s ms) (sym at) (new_there two reply there told)
+    new_granted reply r {new} {ms} was (on_a_new_file ks none two run) told =
+        new_made two reply none (subst (λ w. Ran Asks (open_empty (empty_opening h.conditions) l.token (names p) who.moment) mid ks w new ms) was run) told
+
+    pub new_given : (reply : Response) (done : Result (Unit {0}) DavError) (result : Result Response DavError) {new : StoreState} {ms : Locks}
+        → IfOk result (λ r. (done ≡ Ok tt) × (r ≡ reply)) → IfErr result (λ e. done ≡ Err e) → reply ≡ granted_reply (is_some found) location l → News-by done new ms → News old ls result new ms
+    new_given reply done (Ok r) ok err told by = new_granted r done ok.0 by (ok.1 ∙ told)
+    new_given reply done (Err e) ok err told by = new_not_granted e done err by
+
+-- where memory ran out, it did in what was done
+pub given_memory : (done : Result (Unit {0}) DavError) (result : Result Response DavError) → IfErr result (λ e. done ≡ Err e) → IsErrOf result dav.Memory → IsErrOf done dav.Memory
+given_memory done (Ok r) err short = absurd (cc)
+given_memory done (Err e) err short = let same : e ≡ dav.Memory = cc in err ∙ ap Err same
+
 -- the same with equal arguments
+pub news_as : {l : Lock} {how wanted : Opening} (p : Path) {moment now : ℕ} {found there : Bool} {r : Result (Unit {0}) DavError} {old new : StoreState} {ls held ms : Locks}
+    → how ≡ wanted → moment ≡ now → found ≡ there → ls ≡ held → GrantsNew l how p moment found old ls r new ms → GrantsNew l wanted p now there old held r new ms
+news_as {l} {how} {wanted} p {moment} {now} {found} {there} {r} {old} {new} {ls} {held} {ms} one two three four done =
+    subst (λ ks. GrantsNew l wanted p now there old ks r new ms) four
+    (subst (λ b. GrantsNew l wanted p now b old ls r new ms) three
+    (subst (λ n. GrantsNew l wanted p n found old ls r new ms) two (subst (λ w. GrantsNew l w p moment found old ls r new ms) one done)))
+
 pub opens_as : {how wanted : Opening} {text token : List ℕ} (p : Path) {moment now : ℕ} {r : Result (Unit {0}) DavError} {old new : StoreState} {ls ms : Locks}
     → how ≡ wanted → text ≡ token → moment ≡ now → Ran Asks (open_empty how text p moment) old ls r new ms → Ran Asks (open_empty wanted token p now) old ls r new ms
 opens_as {how} {wanted} {text} {token} p {moment} {now} {r} {old} {new} {ls} {ms} one two three done =

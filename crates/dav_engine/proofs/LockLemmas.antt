@@ -1,5 +1,5 @@
 -- How code follows a LOCK.
-use Rattle.std.proofs.Common.{◌≡◌, ℕ, List, [], ◌∷◌, Bool, true, false, map, string_bytes, String, Option, Some, None, Result, Ok, Err, refl, sym, ap, subst, ◌∙◌}
+use Rattle.std.proofs.Common.{◌≡◌, ℕ, List, [], ◌∷◌, Bool, true, false, map, string_bytes, String, Option, Some, None, Result, Ok, Err, IfOk, IfErr, IsOk, IsOkAnd, OnErr, ◌⊎◌, inl, inr, refl, sym, ap, subst, ◌∙◌}
 use Rattle.std.specs.Global.{Vec, Global}
 use Rattle.std.specs.Option.{option_map}
 use Rattle.dav_core.specs.declared.errors.DavError.{DavError}
@@ -127,3 +127,11 @@ module _ (h : LockHeaders) (p : PathText) (location : List Header) (who : Client
 
       pub again_done : (reply : Response) → reply ≡ refreshed_reply location l → Follows as_is (lock_again h p location who) old ls (Ok reply) new ms
       again_done reply is = follows_then with_lock one (follows_then_from (λ l. gives (refreshed_reply location l)) (two new) (followed (ran_at (ap Ok is))))
+
+    pub again_given : (lock : Result Lock DavError) (result : Result Response DavError) → Sets (as_is {A = Lock}) (refresh (string_bytes token) (names p) (refreshed_for h.timeout) who.moment) ls lock ms → OnErr lock (ms ≡ ls)
+        → IfOk result (λ r. IsOkAnd lock (λ l. r ≡ refreshed_reply location l)) → IfErr result (λ e. (lock ≡ Err e) ⊎ (IsOk lock × (e ≡ dav.Memory))) → Follows as_is (lock_again h p location who) old ls result new ms
+    again_given (Ok l) (Ok reply) two same ok err = again_done l two reply ok
+    again_given (Err e) (Ok reply) two same ok err = absurd ok
+    again_given lock (Err e) two same ok (inl was) = again_refused e (subst (λ r. OnErr r (ms ≡ ls)) was same) (subst (λ r. Sets (as_is {A = Lock}) (refresh (string_bytes token) (names p) (refreshed_for h.timeout) who.moment) ls r ms) was two)
+    again_given (Ok l) (Err e) two same ok (inr short) = subst (λ w. Follows as_is (lock_again h p location who) old ls (Err w) new ms) (sym short.1) (again_short l two)
+    again_given (Err f) (Err e) two same ok (inr short) = absurd (cc)

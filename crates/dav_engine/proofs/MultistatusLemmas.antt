@@ -1,5 +1,5 @@
 -- How trees are built, one child after another.
-use Rattle.std.proofs.Common.{◌≡◌, ℕ, ◌+◌, ◌-◌, ◌<◌, arith, List, [], ◌∷◌, ◌++◌, map, take, length, get_or, suc, codes, Some, None, refl, ap, sym, ◌∙◌}
+use Rattle.std.proofs.Common.{◌≡◌, ℕ, ◌+◌, ◌-◌, ◌<◌, arith, List, [], ◌∷◌, ◌++◌, map, take, length, get_or, suc, codes, Some, None, refl, ap, sym, ◌∙◌, append_assoc}
 use Rattle.dav_core.specs.Locks.{Lock}
 use Rattle.dav_core.specs.Element.{ElementTree, element, text, tree_list, trees, with_child, with_children}
 use Rattle.std.specs.List.{last_or, slice_get}
@@ -17,6 +17,18 @@ list_of_trees (t ∷ ts) = ap (λ us. t ∷ us) (list_of_trees ts)
 pub one_mapped : {X Y : Type 0} (f : X → Y) (xs : List X) (x : X) → map f xs ++ f x ∷ [] ≡ map f (xs ++ x ∷ [])
 one_mapped f [] x = refl
 one_mapped f (y ∷ xs) x = ap (λ ys. f y ∷ ys) (one_mapped f xs x)
+
+-- the turn of a loop that tells of each item, after what was told before it: of one item a pair is told
+pub told_turn : {X Y Z : Type 0} (f : X → Y) (g : X → Z) (before : List (Y × Z)) (items : List X) (i : ℕ) (item : X) (told after : List (Y × Z)) (y : Y) (z : Z)
+    → i < length items → item ≡ get_or items i item → told ≡ before ++ map (λ x. (f x, g x)) (take i items) → y ≡ f item → z ≡ g item → after ≡ told ++ (y, z) ∷ []
+    → after ≡ before ++ map (λ x. (f x, g x)) (take (i + 1) items)
+told_turn {X} {Y} {Z} f g before items i item told after y z lt is so_far first second added =
+    let both : X → Y × Z = λ x. (f x, g x) in
+    added ∙ ap (λ ys. ys ++ (y, z) ∷ []) so_far ∙ append_assoc before (map both (take i items)) ((y, z) ∷ [])
+    ∙ ap (λ a. before ++ (map both (take i items) ++ (a, z) ∷ [])) first
+    ∙ ap (λ b. before ++ (map both (take i items) ++ (f item, b) ∷ [])) second
+    ∙ ap (λ ys. before ++ ys) (one_mapped both (take i items) item)
+    ∙ ap (λ xs. before ++ map both xs) (sym (take_turn items i item lt is))
 
 -- an element with a child for each item
 with_each : List ℕ → List (List ℕ × List ℕ) → List ElementTree → ElementTree

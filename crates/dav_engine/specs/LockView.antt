@@ -1,12 +1,19 @@
 -- What contracts see of the headers of a LOCK and of what its body asks for.
-use Rattle.std.specs.Prelude.{◌≡◌, ℕ, ◌+◌, ◌≤◌, IfSome}
+use Rattle.std.specs.Prelude.{◌≡◌, ℕ, ◌+◌, ◌≤◌, Bool, true, false, Result, Ok, Err, IfSome}
 use Rattle.std.specs.Option.{option_map}
+use Rattle.dav_core.specs.declared.errors.DavError.{DavError}
+use Rattle.dav_core.specs.Asking.{StoreState, Asks}
+use Rattle.dav_core.specs.Handle.{Opening}
 use Rattle.dav_core.specs.Locks.{Lock, ends_at}
 use Rattle.dav_core.specs.Numbers.{max_u64}
+use Rattle.dav_core.specs.Path.{Path}
 use Rattle.dav_engine.specs.declared.lock_headers.LockHeaders.TheInside as headers
 use Rattle.dav_engine.specs.declared.lockinfo.LockInfo.TheInside as info
+use Rattle.dav_engine.specs.Follows.{Sets}
+use Rattle.dav_engine.specs.Lock.{grant, open_empty}
 use Rattle.dav_engine.specs.LockHeaders.{LockHeaders}
 use Rattle.dav_engine.specs.LockInfo.{LockInfo}
+use Rattle.dav_engine.specs.Plan.{Locks, Ran}
 
 abbrev pub lock_headers_of : headers.Inside → LockHeaders
 lock_headers_of h = record {
@@ -22,3 +29,11 @@ lock_info_of i = record { shared = i.shared; owner = i.owner }
 pub record LastsFrom (now : ℕ) (l : Lock) : Type 0 where
   pub end : l.timeout_at ≡ ends_at now l.timeout
   pub small : IfSome l.timeout (λ seconds. now + seconds ≤ max_u64)
+
+-- A lock is granted, and where nothing was found at its path an empty file is opened there: the grant is refused, and nothing is
+-- done; it is granted, and something was found; or it is granted, and the file is asked for.
+pub data GrantsNew (new : Lock) (how : Opening) (p : Path) (now : ℕ) (found : Bool) (old : StoreState) (ls : Locks) (result : Result (Unit {0}) DavError) (after : StoreState) (ms : Locks) : Type 0 where
+  not_granted : (e : DavError) → result ≡ Err e → Sets (λ (u : Unit {0}). u) (grant new) ls (Err e) ms → ms ≡ ls → after ≡ old → GrantsNew new how p now found old ls result after ms
+  on_what_is_there : result ≡ Ok tt → found ≡ true → Sets (λ (u : Unit {0}). u) (grant new) ls (Ok tt) ms → after ≡ old → GrantsNew new how p now found old ls result after ms
+  on_a_new_file : (ks : Locks) → found ≡ false → Sets (λ (u : Unit {0}). u) (grant new) ls (Ok tt) ks → Ran Asks (open_empty how new.token p now) old ks result after ms
+      → GrantsNew new how p now found old ls result after ms

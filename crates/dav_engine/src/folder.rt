@@ -1,9 +1,12 @@
 //! Paths of folders (RFC 4918, section 5.2).
-ghost use Rattle.std.specs.Prelude.{◌≡◌, IfOk, OnOk};
+ghost use Rattle.std.specs.Prelude.{◌≡◌, codes, IfOk, IsOkAnd, OnOk};
 ghost use Rattle.std.specs.Option.{option_copied};
+ghost use Rattle.http_header.specs.FieldValue.{plain_value};
+ghost use Rattle.http_header.specs.HeaderMap.{insert};
 ghost use Rattle.dav_engine.specs.Folder.{closed, is_folder_found, with_location};
+ghost use Rattle.dav_engine.specs.Multistatus.{xml_type};
 
-use crate::reply::set_location;
+use crate::reply::{set_location, set_xml_type};
 use dav_core::davpath::DavPath;
 use dav_core::errors::NoMemory;
 use dav_core::fs::DavMetaData;
@@ -27,6 +30,24 @@ pub fn is_folder_found(found: Option<&DavMetaData>) -> bool
         Some(meta) => meta.dir,
         None => false,
     }
+}
+
+/// Headers of a reply that has an element tree, after those that are there: `content-location` where a folder was found and its path
+/// lacks the slash (RFC 4918, section 5.2), and `content-type`.
+pub(crate) fn tree_headers(
+    alloc: Global,
+    headers: Result<HeaderMap, NoMemory>,
+    path: &DavPath,
+    found: Option<&DavMetaData>,
+) -> Result<HeaderMap, NoMemory>
+    ensures { IfOk result (λ entries. IsOkAnd headers (λ first. entries
+        ≡ insert (with_location first (option_copied found.entry) path.now)
+        (codes "content-type") (plain_value xml_type.1))) }
+{
+    let mut headers = headers?;
+    set_location_found(alloc, &mut headers, path, found)?;
+    set_xml_type(&mut headers)?;
+    Ok(headers)
 }
 
 /// Sets `content-location` where a folder was found and its path lacks the slash (RFC 4918, section 5.2).

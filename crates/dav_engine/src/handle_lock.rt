@@ -1,8 +1,9 @@
 //! LOCK (RFC 4918, sections 6, 7 and 9.10).
-ghost use Rattle.std.specs.Prelude.{◌≡◌, ◌≢◌, ◌≤◌, ◌+◌, false, IfOk, IfErr, IfSome, IsErrOf, OnOk, OnErr, option_map, string_bytes, map};
+ghost use Rattle.std.specs.Prelude.{◌≡◌, ◌≢◌, ◌≤◌, ◌+◌, ◌⊎◌, [], codes, false, IfOk, IsOk, IsOkAnd, IfErr, IfSome, IsErrOf, Ok, Err, OnOk, OnErr, option_map, string_bytes, map};
 ghost use Rattle.std.specs.Option.{is_some, option_copied};
 ghost use Rattle.std.specs.Result.{result_err};
 ghost use Rattle.http_header.specs.FieldValue.{plain_value};
+ghost use Rattle.http_header.specs.HeaderMap.{insert};
 ghost use Rattle.dav_core.specs.declared.errors.DavError.TheVariants as DavError;
 ghost use Rattle.dav_core.specs.Locks.{ends_at};
 ghost use Rattle.dav_core.specs.Metadata.{opening_of};
@@ -11,11 +12,11 @@ ghost use Rattle.dav_core.specs.Path.{names};
 ghost use Rattle.dav_core.specs.World.{last_moment};
 ghost use Rattle.dav_engine.specs.AtWork.{KeepsLent, StaysLent, KeepsWorld, FollowsOn, ServesFrom, LockOf};
 ghost use Rattle.dav_engine.specs.ConditionView.{texts_of};
-ghost use Rattle.dav_engine.specs.Folder.{location_found};
+ghost use Rattle.dav_engine.specs.Folder.{location_found, with_location};
 ghost use Rattle.dav_engine.specs.Follows.{as_is, Sets, viewed};
 ghost use Rattle.dav_engine.specs.Lock as spec;
 ghost use Rattle.dav_engine.specs.Lock.{is_absent};
-ghost use Rattle.dav_engine.specs.LockView.{LastsFrom};
+ghost use Rattle.dav_engine.specs.LockView.{GrantsNew, LastsFrom};
 ghost use Rattle.dav_engine.specs.Multistatus.{xml_type};
 ghost use Rattle.dav_engine.specs.Plan.{Ran};
 ghost use Rattle.dav_core.specs.Asking.{Asks};
@@ -23,13 +24,13 @@ ghost use Rattle.dav_core.specs.Asking.{Asks};
 use crate::check::is_open;
 use crate::conditional::Conditions;
 use crate::davinner::{Caller, DavInner};
-use crate::folder::{closed, is_folder_found, set_location_found};
+use crate::folder::{closed, is_folder_found, tree_headers};
 use crate::handle_delete::whole_depth;
 use crate::handle_put::missing_status;
 use crate::lock_headers::LockHeaders;
 use crate::lockinfo::{LockInfo, lock_info};
 use crate::locktree::lock_told;
-use crate::reply::{Reply, ReplyBody, set_header, set_xml_type};
+use crate::reply::{Reply, set_header, tree_reply};
 use crate::request::{Body, DavRequest};
 use dav_core::davpath::DavPath;
 use dav_core::errors::{DavError, DavResult, FsError, NoMemory};
@@ -62,14 +63,23 @@ fn refreshed_reply(
     ensures { IfOk result (λ r. r
         ≡ spec.refreshed_reply (location_found (option_copied found.entry) path.now) lock.now) }
 {
-    let mut headers = HeaderMap::new(alloc);
-    set_location_found(alloc, &mut headers, path, found)?;
-    set_xml_type(&mut headers)?;
-    Ok(Reply {
-        status: StatusCode::OK,
-        headers,
-        body: ReplyBody::Tree(lock_told(alloc, lock)?),
-    })
+    let headers = tree_headers(alloc, Ok(HeaderMap::new(alloc)), path, found);
+    tree_reply(StatusCode::OK, headers, lock_told(alloc, lock))
+}
+
+// The reply to a LOCK that refreshed a lock; else why none was refreshed.
+fn refreshed(
+    alloc: Global,
+    path: &DavPath,
+    found: Option<&DavMetaData>,
+    lock: DavResult<DavLock>,
+) -> DavResult<Reply>
+    ensures ok { IfOk result (λ r. IsOkAnd lock (λ l. r
+        ≡ spec.refreshed_reply (location_found (option_copied found.entry) path.now) l)) }
+    ensures err { IfErr result (λ e. (lock ≡ Err e) ⊎ (IsOk lock × (e ≡ DavError.Memory))) }
+{
+    let lock = lock?;
+    Ok(refreshed_reply(alloc, path, found, &lock)?)
 }
 
 // Gives the lock that a token and a path mean a new timeout.
@@ -245,12 +255,68 @@ fn open_empty<F: DavFileSystem, L: DavLockSystem>(
     }
 }
 
+// Grants a lock, and opens an empty file at its path where nothing was found there; where that is refused, the lock ends.
+fn grant_new<F: DavFileSystem, L: DavLockSystem>(
+    fs: &mut F,
+    ls: &mut Option<L>,
+    alloc: Global,
+    path: &DavPath,
+    conditions: &Conditions,
+    found: bool,
+    lock: &DavLock,
+    now: u64,
+) -> DavResult<()>
+    requires lasts { LastsFrom now lock.now }
+    requires moment { now ≤ last_moment }
+    ensures grants { GrantsNew lock.now (spec.empty_opening conditions.now) (names path.now) now
+        found (F.state fs.old) (option_map L.locks ls.old) result
+        (F.state fs.new) (option_map L.locks ls.new) }
+    ensures memory { IsErrOf result DavError.Memory → (F.state fs.new ≡ F.state fs.old)
+        × (option_map L.locks ls.new ≡ option_map L.locks ls.old) }
+{
+    grant(ls, alloc, lock, now)?;
+    if found {
+        return Ok(());
+    }
+    let options = empty_opening(conditions);
+    open_empty(fs, ls, alloc, path, &lock.token, &options, now)
+}
+
+// The reply to what was done; else why it wasn't.
+fn given(reply: Reply, done: DavResult<()>) -> DavResult<Reply>
+    ensures ok { IfOk result (λ r. (done ≡ Ok tt) × (r ≡ reply)) }
+    ensures err { IfErr result (λ e. done ≡ Err e) }
+{
+    match done {
+        Ok(()) => Ok(reply),
+        Err(e) => Err(e),
+    }
+}
+
 // The token of a lock in angle brackets, as a header has it.
 fn token_value(alloc: Global, token: &str) -> Result<HeaderValue, NoMemory>
     ensures { IfOk result (λ v. v ≡ plain_value (spec.lock_token token.now).1) }
 {
     let text = format!(in alloc; "<{token}>")?;
     HeaderValue::from_string(text).map_err(|_| NoMemory)
+}
+
+// The headers of the reply to a LOCK that was granted.
+fn granted_headers(
+    alloc: Global,
+    path: &DavPath,
+    found: Option<&DavMetaData>,
+    lock: &DavLock,
+) -> Result<HeaderMap, NoMemory>
+    ensures { IfOk result (λ entries. entries ≡ insert
+        (insert (with_location [] (option_copied found.entry) path.now)
+        (codes "content-type") (plain_value xml_type.1))
+        (codes "lock-token") (plain_value (spec.lock_token lock.now.token).1)) }
+{
+    let mut headers = tree_headers(alloc, Ok(HeaderMap::new(alloc)), path, found)?;
+    let token = token_value(alloc, &lock.token)?;
+    set_header(&mut headers, names::LOCK_TOKEN(), token)?;
+    Ok(headers)
 }
 
 // The reply to a LOCK that was granted.
@@ -263,24 +329,13 @@ fn granted_reply(
     ensures { IfOk result (λ r. r ≡ spec.granted_reply (is_some (option_copied found.entry))
         (location_found (option_copied found.entry) path.now) lock.now) }
 {
-    let mut headers = HeaderMap::new(alloc);
-    set_location_found(alloc, &mut headers, path, found)?;
-    set_xml_type(&mut headers)?;
-    set_header(
-        &mut headers,
-        names::LOCK_TOKEN(),
-        token_value(alloc, &lock.token)?,
-    )?;
     let status = if found.is_some() {
         StatusCode::OK
     } else {
         StatusCode::CREATED
     };
-    Ok(Reply {
-        status,
-        headers,
-        body: ReplyBody::Tree(lock_told(alloc, lock)?),
-    })
+    let headers = granted_headers(alloc, path, found, lock);
+    tree_reply(status, headers, lock_told(alloc, lock))
 }
 
 // Whether there is no body.
@@ -339,8 +394,8 @@ impl<'a, 'b, 'c, F: DavFileSystem, L: DavLockSystem> DavInner<'a, 'b, 'c, F, L> 
         let timeout = headers.refreshed_for();
         let caller = self.caller;
         let backend = &mut *self.backend;
-        let lock = refresh(&mut backend.ls, alloc, path, &token, timeout, caller.moment)?;
-        Ok(refreshed_reply(alloc, &request.path, found, &lock)?)
+        let lock = refresh(&mut backend.ls, alloc, path, &token, timeout, caller.moment);
+        refreshed(alloc, &request.path, found, lock)
     }
 
     // The lock that a body asks for, where the conditions hold.
@@ -398,23 +453,19 @@ impl<'a, 'b, 'c, F: DavFileSystem, L: DavLockSystem> DavInner<'a, 'b, 'c, F, L> 
     {
         let lock = self.asked_lock(alloc, headers, path, body, found)?;
         let reply = granted_reply(alloc, &request.path, found, &lock)?;
-        let options = empty_opening(&headers.conditions);
         let caller = self.caller;
         let backend = &mut *self.backend;
-        grant(&mut backend.ls, alloc, &lock, caller.moment)?;
-        if found.is_some() {
-            return Ok(reply);
-        }
-        open_empty(
+        let granted = grant_new(
             &mut backend.fs,
             &mut backend.ls,
             alloc,
             path,
-            &lock.token,
-            &options,
+            &headers.conditions,
+            found.is_some(),
+            &lock,
             caller.moment,
-        )?;
-        Ok(reply)
+        );
+        given(reply, granted)
     }
 
     // Locks what was found at the path of a request, or refreshes a lock there.

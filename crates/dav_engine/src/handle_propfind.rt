@@ -16,12 +16,13 @@ ghost use Rattle.dav_engine.specs.Writing.{started, Tells};
 
 use crate::davinner::{Caller, DavInner};
 use crate::find_headers::FindHeaders;
-use crate::folder::{closed, set_location_found};
+use crate::folder::{closed, tree_headers};
 use crate::members::tell_below;
 use crate::propquery::query_in;
 use crate::propwriter::PropWriter;
-use crate::reply::{Reply, ReplyBody, set_header, set_xml_type};
+use crate::reply::{Reply, set_header, set_xml_type, tree_reply};
 use crate::request::{Body, DavRequest};
+use crate::trees::{declaring_dav, with_child};
 use crate::writer::Writer;
 use dav_core::davpath::DavPath;
 use dav_core::element::Element;
@@ -51,10 +52,8 @@ fn finite_depth_error(alloc: Global) -> Result<Element, NoMemory>
     ensures { IfOk result (λ e. e ≡ declares_dav (dav_element (codes "error")
         (dav_element (codes "propfind-finite-depth") [] ∷ []))) }
 {
-    let mut element = Element::new2(alloc, "D:error")?;
-    element.ns("D", "DAV:")?;
-    element.push_element(Element::new2(alloc, "D:propfind-finite-depth")?)?;
-    Ok(element)
+    let condition = Element::new2(alloc, "D:propfind-finite-depth");
+    with_child(declaring_dav(alloc, "D:error"), condition)
 }
 
 // 501, with the condition that the depth be finite (RFC 4918, section 9.1.1).
@@ -63,11 +62,8 @@ fn finite_depth(alloc: Global) -> Result<Reply, NoMemory>
 {
     let mut headers = uncached(alloc)?;
     set_xml_type(&mut headers)?;
-    Ok(Reply {
-        status: StatusCode::NOT_IMPLEMENTED,
-        headers,
-        body: ReplyBody::Tree(finite_depth_error(alloc)?),
-    })
+    let status = StatusCode::NOT_IMPLEMENTED;
+    tree_reply(status, Ok(headers), finite_depth_error(alloc))
 }
 
 // 207 with all responses.
@@ -81,14 +77,8 @@ fn propfind_reply(
         (location_found (Some found.now) asked.now) told.writer
         (told.finished ++ told.waiting)) }
 {
-    let mut headers = uncached(alloc)?;
-    set_location_found(alloc, &mut headers, asked, Some(found))?;
-    set_xml_type(&mut headers)?;
-    Ok(Reply {
-        status: StatusCode::MULTI_STATUS,
-        headers,
-        body: ReplyBody::Tree(told.all_told(alloc)?),
-    })
+    let headers = tree_headers(alloc, uncached(alloc), asked, Some(found));
+    tree_reply(StatusCode::MULTI_STATUS, headers, told.all_told(alloc))
 }
 
 // Tells what was found at a path, and what is below it, as deep as the headers say.

@@ -1,5 +1,5 @@
 //! PROPPATCH (RFC 4918, section 9.2).
-ghost use Rattle.std.specs.Prelude.{◌≡◌, ◌∷◌, [], Some, IfOk};
+ghost use Rattle.std.specs.Prelude.{◌≡◌, ◌∷◌, [], Some, IfOk, IsOkAnd};
 ghost use Rattle.dav_core.specs.Path.{names};
 ghost use Rattle.dav_engine.specs.AtWork.{KeepsLent, ServesFrom, ProppatchOf};
 ghost use Rattle.dav_engine.specs.ConditionView.{locks_in};
@@ -11,13 +11,14 @@ ghost use Rattle.dav_engine.specs.Proppatch as spec;
 use crate::check::is_open;
 use crate::conditional::Conditions;
 use crate::davinner::{Caller, DavInner};
-use crate::folder::{closed, set_location_found};
+use crate::folder::{closed, tree_headers};
 use crate::propchanges::{
     Change, all_done, all_failed, as_patches, changes_in, grouped, has_refused, judge,
 };
 use crate::propwriter::property_response;
-use crate::reply::{Reply, ReplyBody, set_xml_type};
+use crate::reply::{Reply, tree_reply};
 use crate::request::{Body, DavRequest};
+use crate::trees::{declaring_dav, with_child};
 use dav_core::davpath::DavPath;
 use dav_core::element::Element;
 use dav_core::errors::{DavError, DavResult, NoMemory};
@@ -28,14 +29,11 @@ use http::StatusCode;
 use http_header::HeaderMap;
 use std::alloc::Global;
 
-// The element with one response.
-fn multistatus(alloc: Global, response: Element) -> Result<Element, NoMemory>
-    ensures { IfOk result (λ e. e ≡ multistatus (response ∷ [])) }
+// The element with one response, where there was memory for that.
+fn multistatus(alloc: Global, response: Result<Element, NoMemory>) -> Result<Element, NoMemory>
+    ensures { IfOk result (λ e. IsOkAnd response (λ one. e ≡ multistatus (one ∷ []))) }
 {
-    let mut element = Element::new2(alloc, "D:multistatus")?;
-    element.ns("D", "DAV:")?;
-    element.push_element(response)?;
-    Ok(element)
+    with_child(declaring_dav(alloc, "D:multistatus"), response)
 }
 
 // The reply that tells what became of properties of a path: 207, with one response.
@@ -49,15 +47,10 @@ fn proppatch_reply(
     ensures { IfOk result (λ r. r ≡ spec.proppatch_reply
         (location_found (Some found.now) asked.now) path.now told.items) }
 {
-    let mut headers = HeaderMap::new(alloc);
-    set_location_found(alloc, &mut headers, asked, Some(found))?;
-    set_xml_type(&mut headers)?;
-    let response = property_response(alloc, path, grouped(alloc, told)?)?;
-    Ok(Reply {
-        status: StatusCode::MULTI_STATUS,
-        headers,
-        body: ReplyBody::Tree(multistatus(alloc, response)?),
-    })
+    let groups = grouped(alloc, told)?;
+    let headers = tree_headers(alloc, Ok(HeaderMap::new(alloc)), asked, Some(found));
+    let tree = multistatus(alloc, property_response(alloc, path, groups));
+    tree_reply(StatusCode::MULTI_STATUS, headers, tree)
 }
 
 // Stores changes, if there are any.

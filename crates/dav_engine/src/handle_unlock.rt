@@ -46,10 +46,10 @@ fn end_lock<F: DavFileSystem, L: DavLockSystem>(
         (F.state fs.new) (option_map L.locks ls.new) }
 {
     let found = fs.metadata(path).ok();
-    let reply = unlocked(alloc, path, found.as_ref())?;
     let Some(ls) = ls else {
         return Err(DavError::Status(StatusCode::METHOD_NOT_ALLOWED));
     };
+    let reply = unlocked(alloc, path, found.as_ref())?;
     match ls.unlock(path, token) {
         Ok(()) => Ok(reply),
         Err(()) => Err(DavError::Status(StatusCode::CONFLICT)),

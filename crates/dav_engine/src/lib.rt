@@ -37,6 +37,7 @@ mod removal;
 pub mod reply;
 pub mod request;
 mod telling;
+mod trees;
 mod writer;
 
 pub use davinner::{Backend, Caller, DavInner};

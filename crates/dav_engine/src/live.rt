@@ -1,16 +1,17 @@
 //! Live properties: those that the server computes (RFC 4918, section 15).
-ghost use Rattle.std.specs.Prelude.{◌≡◌, ◌≤◌, codes, decimal, false, string_bytes, IfOk};
+ghost use Rattle.std.specs.Prelude.{◌≡◌, ◌≤◌, codes, decimal, false, string_bytes, IfOk, IsOkAnd};
 ghost use Rattle.std.specs.Fmt.{digits};
 ghost use Rattle.dav_core.specs.Element.{name_of};
 ghost use Rattle.dav_core.specs.World.{last_moment};
 ghost use Rattle.dav_engine.specs.ConditionView.{locks_in};
-ghost use Rattle.dav_engine.specs.Multistatus.{dav_text};
+ghost use Rattle.dav_engine.specs.Date.{date_of, date_text_of};
 ghost use Rattle.dav_engine.specs.Properties as spec;
 
 use crate::date::{date_text, internet_date};
 use crate::handle_options::is_root;
 use crate::locktree::{list_lockdiscovery, list_supportedlock};
 use crate::telling::holds;
+use crate::trees::{bare, saying, with_child, with_text};
 use crate::writer::Writer;
 use dav_core::davpath::DavPath;
 use dav_core::element::Element;
@@ -48,13 +49,11 @@ fn live(
 ) -> Result<Element, NoMemory>
     ensures { IfOk result (λ e. e ≡ spec.live prefix.now writer.now property.now value.now) }
 {
-    let mut element = Element::new(alloc, &property.name)?;
-    element.prefix = Some(String::from_str(alloc, prefix)?);
+    let element = bare(alloc, &property.name, Some(prefix), None);
     if !writer.telling.has_values() || value.is_empty() {
-        return Ok(element);
+        return element;
     }
-    element.text(value)?;
-    Ok(element)
+    with_text(element, value)
 }
 
 // The same of the namespace `DAV:`, found here.
@@ -67,7 +66,7 @@ fn live_dav(
     ensures { IfOk result (λ s. s
         ≡ spec.Here (spec.live (codes "D") writer.now property.now value.now)) }
 {
-    Ok(Source::Here(live(alloc, "D", writer, property, value)?))
+    here(live(alloc, "D", writer, property, value))
 }
 
 // The same of the namespace of Windows.
@@ -80,7 +79,7 @@ fn live_windows(
     ensures { IfOk result (λ s. s
         ≡ spec.Here (spec.live (codes "Z") writer.now property.now value.now)) }
 {
-    Ok(Source::Here(live(alloc, "Z", writer, property, value)?))
+    here(live(alloc, "Z", writer, property, value))
 }
 
 // The entity tag, where the resource has a change number (RFC 4918, section 15.6).
@@ -128,13 +127,11 @@ fn content_type_of(dir: bool) -> &'static str
     }
 }
 
-// An address in an element.
-fn address(alloc: Global, text: &str) -> Result<Element, NoMemory>
-    ensures { IfOk result (λ e. e ≡ dav_text (codes "href") text.now) }
+// An element is found here, where there was memory for it.
+fn here(element: Result<Element, NoMemory>) -> Result<Source, NoMemory>
+    ensures { IfOk result (λ s. IsOkAnd element (λ e. s ≡ spec.Here e)) }
 {
-    let mut element = Element::new2(alloc, "D:href")?;
-    element.text(text)?;
-    Ok(element)
+    Ok(Source::Here(element?))
 }
 
 // Who asks, where that is known (RFC 5397, section 3).
@@ -145,12 +142,11 @@ fn principal_source(alloc: Global, writer: &Writer, property: &Element) -> Resul
     let Some(principal) = &writer.principal else {
         return Ok(Source::Nowhere);
     };
-    let mut element = property.clone()?;
+    let element: Result<Element, NoMemory> = property.clone();
     if !writer.telling.has_values() {
-        return Ok(Source::Here(element));
+        return here(element);
     }
-    element.push_element(address(alloc, principal)?)?;
-    Ok(Source::Here(element))
+    here(with_child(element, saying(alloc, "D:href", principal)))
 }
 
 // The kind of a resource: a folder is a collection (RFC 4918, section 15.9).
@@ -233,6 +229,36 @@ fn windows_source(
     }
 }
 
+// When a resource was created (RFC 4918, section 15.1).
+fn created_source(
+    alloc: Global,
+    writer: &Writer,
+    property: &Element,
+    created: u64,
+) -> Result<Source, NoMemory>
+    requires { created ≤ last_moment }
+    ensures { IfOk result (λ s. s ≡ spec.Here (spec.live (codes "D") writer.now property.now
+        (spec.internet_date (date_of created)))) }
+{
+    let date = internet_date(alloc, created)?;
+    live_dav(alloc, writer, property, &date)
+}
+
+// When its content was changed (RFC 4918, section 15.7).
+fn modified_source(
+    alloc: Global,
+    writer: &Writer,
+    property: &Element,
+    modified: u64,
+) -> Result<Source, NoMemory>
+    requires { modified ≤ last_moment }
+    ensures { IfOk result (λ s. s ≡ spec.Here (spec.live (codes "D") writer.now property.now
+        (date_text_of modified))) }
+{
+    let date = date_text(alloc, modified)?;
+    live_dav(alloc, writer, property, &date)
+}
+
 // Where the properties of the namespace `DAV:` are found (RFC 4918, section 15; RFC 4331, sections 3 and 4; RFC 5397).
 fn dav_source<L: DavLockSystem>(
     alloc: Global,
@@ -249,23 +275,18 @@ fn dav_source<L: DavLockSystem>(
 {
     let ls = locks_told(writer, ls);
     match property.name.as_str() {
-        "creationdate" => live_dav(
-            alloc,
-            writer,
-            property,
-            &internet_date(alloc, meta.created)?,
-        ),
+        "creationdate" => created_source(alloc, writer, property, meta.created),
         "displayname" | "getcontentlanguage" => Ok(Source::InStore),
         "getetag" => tag_source(alloc, writer, property, meta.number),
         "getcontentlength" => length_source(alloc, writer, property, meta),
         "getcontenttype" => live_dav(alloc, writer, property, content_type_of(meta.dir)),
-        "getlastmodified" => live_dav(alloc, writer, property, &date_text(alloc, meta.modified)?),
+        "getlastmodified" => modified_source(alloc, writer, property, meta.modified),
         "resourcetype" => {
             resource_type(alloc, meta.dir && writer.telling.has_values(), property)
         }
         "current-user-principal" => principal_source(alloc, writer, property),
-        "supportedlock" => Ok(Source::Here(list_supportedlock(alloc, ls)?)),
-        "lockdiscovery" => Ok(Source::Here(list_lockdiscovery(alloc, ls, path)?)),
+        "supportedlock" => here(list_supportedlock(alloc, ls)),
+        "lockdiscovery" => here(list_lockdiscovery(alloc, ls, path)),
         "quota-available-bytes" => Ok(Source::AvailableQuota),
         "quota-used-bytes" => Ok(Source::UsedQuota),
         _ => Ok(Source::Nowhere),

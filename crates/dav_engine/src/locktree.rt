@@ -1,37 +1,19 @@
 //! Locks as element trees (RFC 4918, sections 14 and 15).
-ghost use Rattle.std.specs.Prelude.{◌≡◌, codes, string_bytes, IfOk};
-ghost use Rattle.dav_core.specs.Element.{named_by, text, with_child};
+ghost use Rattle.std.specs.Prelude.{◌≡◌, ◌∷◌, [], codes, string_bytes, IfOk};
 ghost use Rattle.dav_core.specs.Path.{names};
 ghost use Rattle.dav_headers.specs.Timeout.{time_type_text};
 ghost use Rattle.dav_engine.specs.ConditionView.{locks_in};
 ghost use Rattle.dav_engine.specs.LockTree.{active_lock, locks_found, locks_supported, lock_told};
 ghost use Rattle.dav_engine.specs.LockTree as spec;
-ghost use Rattle.dav_engine.specs.Multistatus.{dav_element};
+ghost use Rattle.dav_engine.specs.Multistatus.{dav_element, href as spec_href};
 
 use crate::multierror::href;
+use crate::trees::{declaring_dav, holding, saying, with_child};
 use dav_core::davpath::DavPath;
 use dav_core::element::Element;
 use dav_core::errors::NoMemory;
 use dav_core::ls::{DavLock, DavLockSystem};
 use std::alloc::Global;
-
-// An element with an element in it.
-fn holding(alloc: Global, name: &str, child: Element) -> Result<Element, NoMemory>
-    ensures { IfOk result (λ e. e ≡ with_child (named_by name.now) child) }
-{
-    let mut element = Element::new2(alloc, name)?;
-    element.push_element(child)?;
-    Ok(element)
-}
-
-// An element with a text in it.
-fn saying(alloc: Global, name: &str, value: &str) -> Result<Element, NoMemory>
-    ensures { IfOk result (λ e. e ≡ with_child (named_by name.now) (text value.now)) }
-{
-    let mut element = Element::new2(alloc, name)?;
-    element.text(value)?;
-    Ok(element)
-}
 
 // Whether a lock is shared.
 fn lock_scope(alloc: Global, shared: bool) -> Result<Element, NoMemory>
@@ -87,29 +69,36 @@ fn lock_token(alloc: Global, token: &str) -> Result<Element, NoMemory>
     holding(alloc, "D:locktoken", saying(alloc, "D:href", token)?)
 }
 
+// The path that a lock is on.
+fn lock_root(alloc: Global, path: &DavPath) -> Result<Element, NoMemory>
+    ensures { IfOk result (λ e. e
+        ≡ dav_element (codes "lockroot") (spec_href path.now ∷ [])) }
+{
+    holding(alloc, "D:lockroot", href(alloc, path)?)
+}
+
 // A lock, but for its owner.
 fn unowned(alloc: Global, lock: &DavLock) -> Result<Element, NoMemory>
     ensures { IfOk result (λ e. e ≡ dav_element (codes "activelock") (spec.lock_parts lock.now)) }
 {
-    let mut element = Element::new2(alloc, "D:activelock")?;
-    element.push_element(lock_scope(alloc, lock.shared)?)?;
-    element.push_element(lock_type(alloc)?)?;
-    element.push_element(lock_depth(alloc, lock.deep)?)?;
-    element.push_element(lock_timeout(alloc, lock.timeout)?)?;
-    element.push_element(lock_token(alloc, &lock.token)?)?;
-    element.push_element(holding(alloc, "D:lockroot", href(alloc, &lock.path)?)?)?;
-    Ok(element)
+    let element = Element::new2(alloc, "D:activelock");
+    let element = with_child(element, lock_scope(alloc, lock.shared));
+    let element = with_child(element, lock_type(alloc));
+    let element = with_child(element, lock_depth(alloc, lock.deep));
+    let element = with_child(element, lock_timeout(alloc, lock.timeout));
+    let element = with_child(element, lock_token(alloc, &lock.token));
+    with_child(element, lock_root(alloc, &lock.path))
 }
 
 // A lock.
 fn active_lock(alloc: Global, lock: &DavLock) -> Result<Element, NoMemory>
     ensures { IfOk result (λ e. e ≡ active_lock lock.now) }
 {
-    let mut element = unowned(alloc, lock)?;
-    if let Some(owner) = &lock.owner {
-        element.push_element(owner.clone()?)?;
+    let element = unowned(alloc, lock);
+    match &lock.owner {
+        Some(owner) => with_child(element, owner.clone()),
+        None => element,
     }
-    Ok(element)
 }
 
 // Locks, in order.
@@ -142,10 +131,9 @@ pub fn list_lockdiscovery<L: DavLockSystem>(
 fn lock_entry(alloc: Global, shared: bool) -> Result<Element, NoMemory>
     ensures { IfOk result (λ e. e ≡ spec.lock_entry shared) }
 {
-    let mut element = Element::new2(alloc, "D:lockentry")?;
-    element.push_element(lock_scope(alloc, shared)?)?;
-    element.push_element(lock_type(alloc)?)?;
-    Ok(element)
+    let element = Element::new2(alloc, "D:lockentry");
+    let element = with_child(element, lock_scope(alloc, shared));
+    with_child(element, lock_type(alloc))
 }
 
 /// The property `supportedlock` (RFC 4918, section 15.10): exclusive locks and shared ones. It is empty without a lock
@@ -156,20 +144,18 @@ pub fn list_supportedlock<L: DavLockSystem>(
 ) -> Result<Element, NoMemory>
     ensures { IfOk result (λ e. e ≡ locks_supported (locks_in L.locks ls.entry)) }
 {
-    let mut element = Element::new2(alloc, "D:supportedlock")?;
-    if ls.is_some() {
-        element.push_element(lock_entry(alloc, false)?)?;
-        element.push_element(lock_entry(alloc, true)?)?;
+    let element = Element::new2(alloc, "D:supportedlock");
+    if ls.is_none() {
+        return element;
     }
-    Ok(element)
+    let element = with_child(element, lock_entry(alloc, false));
+    with_child(element, lock_entry(alloc, true))
 }
 
 // What the reply to a LOCK holds.
 pub(crate) fn lock_told(alloc: Global, lock: &DavLock) -> Result<Element, NoMemory>
     ensures { IfOk result (λ e. e ≡ lock_told lock.now) }
 {
-    let mut element = Element::new2(alloc, "D:prop")?;
-    element.ns("D", "DAV:")?;
-    element.push_element(lock_discovery(alloc, std::slice::from_ref(lock))?)?;
-    Ok(element)
+    let told = lock_discovery(alloc, std::slice::from_ref(lock));
+    with_child(declaring_dav(alloc, "D:prop"), told)
 }

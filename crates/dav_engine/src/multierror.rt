@@ -7,7 +7,8 @@ ghost use Rattle.dav_core.specs.Status.{dav_status};
 ghost use Rattle.dav_engine.specs.Multistatus.{href, status_element, status_line, response_for, last_error, multistatus, multi_reply};
 ghost use Rattle.dav_engine.specs.Multistatus as spec;
 
-use crate::reply::{Reply, ReplyBody, set_xml_type};
+use crate::reply::{Reply, ReplyBody, set_xml_type, tree_reply};
+use crate::trees::{declaring_dav, saying, with_child};
 use dav_core::davpath::DavPath;
 use dav_core::element::Element;
 use dav_core::errors::{DavError, DavResult, NoMemory};
@@ -81,10 +82,8 @@ impl MultiError {
 pub(crate) fn href(alloc: Global, path: &DavPath) -> Result<Element, NoMemory>
     ensures { IfOk result (λ e. e ≡ href path.now) }
 {
-    let mut element = Element::new2(alloc, "D:href")?;
     let text = path.with_prefix().as_url_string(alloc)?;
-    element.text(&text)?;
-    Ok(element)
+    saying(alloc, "D:href", &text)
 }
 
 // The reason phrase of a status; empty where it has none.
@@ -109,10 +108,8 @@ fn status_line(alloc: Global, status: u16) -> Result<String, NoMemory>
 pub(crate) fn status_element(alloc: Global, status: u16) -> Result<Element, NoMemory>
     ensures { IfOk result (λ e. e ≡ status_element status) }
 {
-    let mut element = Element::new2(alloc, "D:status")?;
     let line = status_line(alloc, status)?;
-    element.text(&line)?;
-    Ok(element)
+    saying(alloc, "D:status", &line)
 }
 
 // The status as it is listed: success is 200.
@@ -130,18 +127,16 @@ fn listed_status(status: StatusCode) -> StatusCode
 fn response_for(alloc: Global, path: &DavPath, status: StatusCode) -> Result<Element, NoMemory>
     ensures { IfOk result (λ e. e ≡ response_for (path.now, status)) }
 {
-    let mut response = Element::new2(alloc, "D:response")?;
-    response.push_element(href(alloc, path)?)?;
-    response.push_element(status_element(alloc, listed_status(status).as_u16())?)?;
-    Ok(response)
+    let response = with_child(Element::new2(alloc, "D:response"), href(alloc, path));
+    let listed = listed_status(status).as_u16();
+    with_child(response, status_element(alloc, listed))
 }
 
 // The element with the responses for all paths.
 fn multistatus(alloc: Global, items: &[(DavPath, StatusCode)]) -> Result<Element, NoMemory>
     ensures { IfOk result (λ e. e ≡ multistatus (map response_for items.now)) }
 {
-    let mut element = Element::new2(alloc, "D:multistatus")?;
-    element.ns("D", "DAV:")?;
+    let mut element = declaring_dav(alloc, "D:multistatus")?;
     for item in items {
         let response = response_for(alloc, &item.0, item.1)?;
         element.push_element(response)?;
@@ -164,14 +159,10 @@ pub(crate) fn status_reply(alloc: Global, status: StatusCode) -> Reply
 fn multistatus_reply(alloc: Global, items: &[(DavPath, StatusCode)]) -> Result<Reply, NoMemory>
     ensures { IfOk result (λ r. r ≡ spec.multistatus_reply items.now) }
 {
-    let tree = multistatus(alloc, items)?;
+    let tree = multistatus(alloc, items);
     let mut headers = HeaderMap::new(alloc);
     set_xml_type(&mut headers)?;
-    Ok(Reply {
-        status: StatusCode::MULTI_STATUS,
-        headers,
-        body: ReplyBody::Tree(tree),
-    })
+    tree_reply(StatusCode::MULTI_STATUS, Ok(headers), tree)
 }
 
 /// The reply to a request for a path that reports what was done at these paths (RFC 4918, section 13): the status alone where

@@ -1,5 +1,5 @@
 //! What a PROPPATCH is to change, and what becomes of each change (RFC 4918, section 9.2).
-ghost use Rattle.std.specs.Prelude.{◌≡◌, ◌++◌, IfOk, OnOk, map, string_bytes};
+ghost use Rattle.std.specs.Prelude.{◌≡◌, ◌++◌, if◌then◌else◌, None, Some, IfOk, OnOk, map, string_bytes};
 ghost use Rattle.std.specs.List.{flat_map};
 ghost use Rattle.std.specs.Option.{option_copied, option_map};
 ghost use Rattle.dav_core.specs.Element.{child_elements};
@@ -7,9 +7,9 @@ ghost use Rattle.dav_core.specs.Property.{patch_of};
 ghost use Rattle.dav_engine.specs.PropertyView.{groups_in};
 ghost use Rattle.dav_engine.specs.Proppatch as spec;
 
-use crate::handle_lock::copy_of;
 use crate::headers::absent_if_invalid;
 use crate::request::Body;
+use crate::trees::bare;
 use dav_core::element::Element;
 use dav_core::errors::NoMemory;
 use dav_core::fs::DavProp;
@@ -280,9 +280,7 @@ fn by_name(
     ensures { IfOk result (λ e. e ≡ spec.by_name name.now
         (option_copied prefix.entry) (option_copied namespace.entry)) }
 {
-    let mut element = Element::new(alloc, name)?;
-    element.prefix = copy_of(alloc, prefix)?;
-    element.namespace = copy_of(alloc, namespace)?;
+    let mut element = bare(alloc, name, prefix, namespace)?;
     if let Some(space) = namespace {
         element.ns(prefix.unwrap_or(""), space)?;
     }
@@ -373,21 +371,28 @@ pub fn all_done(
     Ok(told)
 }
 
+// The element to store, where a property is set.
+fn value_of(change: &Change<'_>) -> Result<Option<Element>, NoMemory>
+    ensures { IfOk result (λ xml. xml
+        ≡ (if change.now.is_set then Some change.now.property else None)) }
+{
+    if change.is_set {
+        Ok(Some(change.property.clone()?))
+    } else {
+        Ok(None)
+    }
+}
+
 // A change as the store takes it.
 fn as_patch(change: &Change<'_>) -> Result<(bool, DavProp), NoMemory>
     ensures { IfOk result (λ patch. patch_of patch ≡ spec.as_patch change.now) }
 {
     let element = change.property;
-    let xml = if change.is_set {
-        Some(element.clone()?)
-    } else {
-        None
-    };
     let property = DavProp {
         name: element.name.clone()?,
         prefix: element.prefix.clone()?,
         namespace: element.namespace.clone()?,
-        xml,
+        xml: value_of(change)?,
     };
     Ok((change.is_set, property))
 }

@@ -1,5 +1,5 @@
 //! Properties of resources, as the reply to a request tells them (RFC 4918, sections 9.1, 14 and 15).
-ghost use Rattle.std.specs.Prelude.{◌≡◌, ◌≤◌, ◌++◌, ◌∷◌, [], IfOk, IfErr, OnOk, OnErr};
+ghost use Rattle.std.specs.Prelude.{◌≡◌, ◌≤◌, ◌++◌, ◌∷◌, [], IfOk, IfErr, IsOkAnd, OnOk, OnErr};
 ghost use Rattle.std.specs.List.{list_any};
 ghost use Rattle.std.specs.Option.{option_copied};
 ghost use Rattle.dav_core.specs.Element.{named_by, with_children};
@@ -20,6 +20,7 @@ use crate::multierror::{Sender, href, status_element};
 use crate::reply::{Reply, set_xml_type};
 use crate::request::DavRequest;
 use crate::telling::Telling;
+use crate::trees::{declaring_dav, with_child};
 use crate::writer::Writer;
 use dav_core::davpath::DavPath;
 use dav_core::element::Element;
@@ -46,10 +47,9 @@ fn holding_all(alloc: Global, name: &str, children: Vec<Element>) -> Result<Elem
 fn propstat(alloc: Global, status: u16, properties: Vec<Element>) -> Result<Element, NoMemory>
     ensures { IfOk result (λ e. e ≡ propstat (status, properties.items)) }
 {
-    let mut element = Element::new2(alloc, "D:propstat")?;
-    element.push_element(holding_all(alloc, "D:prop", properties)?)?;
-    element.push_element(status_element(alloc, status)?)?;
-    Ok(element)
+    let told = holding_all(alloc, "D:prop", properties);
+    let element = with_child(Element::new2(alloc, "D:propstat"), told);
+    with_child(element, status_element(alloc, status))
 }
 
 // The response for one resource: its properties under their statuses, in rising order.
@@ -60,8 +60,7 @@ pub(crate) fn property_response(
 ) -> Result<Element, NoMemory>
     ensures { IfOk result (λ e. e ≡ property_response path.now (groups_in groups)) }
 {
-    let mut response = Element::new2(alloc, "D:response")?;
-    response.push_element(href(alloc, path)?)?;
+    let mut response = with_child(Element::new2(alloc, "D:response"), href(alloc, path))?;
     for (status, properties) in groups {
         response.push_element(propstat(alloc, status, properties)?)?;
     }
@@ -77,19 +76,19 @@ fn has_in(space: &str, properties: &[Element]) -> bool
 
 // Declares a namespace, where a property has it (Namespaces in XML 1.0, section 3).
 fn declare(
-    element: &mut Element,
+    element: Result<Element, NoMemory>,
     prefix: &str,
     space: &str,
     properties: &[Element],
-) -> Result<(), NoMemory>
-    ensures { OnOk result (element.new
-        ≡ declared prefix.now space.now properties.now element.old) }
+) -> Result<Element, NoMemory>
+    ensures { IfOk result (λ e. IsOkAnd element (λ root.
+        e ≡ declared prefix.now space.now properties.now root)) }
 {
-    if !has_in(space, properties) {
-        return Ok(());
+    let mut element = element?;
+    if has_in(space, properties) {
+        element.ns(prefix, space)?;
     }
-    element.ns(prefix, space)?;
-    Ok(())
+    Ok(element)
 }
 
 // Whether the namespaces of properties are declared: not where outcomes are told.
@@ -103,29 +102,21 @@ fn declares(telling: Telling) -> bool
 fn multistatus(alloc: Global) -> Result<Element, NoMemory>
     ensures { IfOk result (λ e. e ≡ multistatus []) }
 {
-    let mut element = Element::new2(alloc, "D:multistatus")?;
-    element.ns("D", "DAV:")?;
-    Ok(element)
+    declaring_dav(alloc, "D:multistatus")
 }
 
 // The element for all responses, without any.
 fn opened(alloc: Global, telling: Telling, properties: &[Element]) -> Result<Element, NoMemory>
     ensures { IfOk result (λ e. e ≡ opened telling properties.now) }
 {
-    let mut element = multistatus(alloc)?;
+    let element = multistatus(alloc);
     if !declares(telling) {
-        return Ok(element);
+        return element;
     }
-    declare(
-        &mut element,
-        "A",
-        "http://apache.org/dav/props/",
-        properties,
-    )?;
-    declare(&mut element, "Z", "urn:schemas-microsoft-com:", properties)?;
-    declare(&mut element, "nc", "http://nextcloud.org/ns", properties)?;
-    declare(&mut element, "oc", "http://owncloud.org/ns", properties)?;
-    Ok(element)
+    let element = declare(element, "A", "http://apache.org/dav/props/", properties);
+    let element = declare(element, "Z", "urn:schemas-microsoft-com:", properties);
+    let element = declare(element, "nc", "http://nextcloud.org/ns", properties);
+    declare(element, "oc", "http://owncloud.org/ns", properties)
 }
 
 // The element for all responses.

@@ -1,5 +1,5 @@
 //! Replies (RFC 9110, sections 8 and 15).
-ghost use Rattle.std.specs.Prelude.{◌≡◌, ◌≤◌, codes, decimal, IfOk, OnOk};
+ghost use Rattle.std.specs.Prelude.{◌≡◌, ◌≤◌, codes, decimal, IfOk, IsOkAnd, OnOk};
 ghost use Rattle.http_header.specs.HeaderMap.{insert};
 ghost use Rattle.http_header.specs.FieldValue.{plain_value};
 ghost use Rattle.dav_core.specs.Metadata.{tag_of};
@@ -7,7 +7,8 @@ ghost use Rattle.dav_core.specs.Path.{full_bytes};
 ghost use Rattle.dav_core.specs.UrlText.{path_text};
 ghost use Rattle.dav_core.specs.World.{last_moment};
 ghost use Rattle.dav_engine.specs.Multistatus.{xml_type};
-ghost use Rattle.dav_engine.specs.Response.{error_reply, with_tag, with_validators};
+ghost use Rattle.dav_engine.specs.Response.{error_reply, headers_in, with_tag, with_validators};
+ghost use Rattle.dav_engine.specs.declared.reply.ReplyBody.TheVariants.{Tree};
 
 use crate::date::date_value;
 use bytes::Bytes;
@@ -134,6 +135,27 @@ pub fn set_xml_type(headers: &mut HeaderMap) -> Result<(), NoMemory>
 {
     let xml = HeaderValue::from_static("application/xml; charset=utf-8");
     set_header(headers, names::CONTENT_TYPE(), xml)
+}
+
+/// A reply with an element tree, where there was memory for its headers and for the tree.
+pub(crate) fn tree_reply(
+    status: StatusCode,
+    headers: Result<HeaderMap, NoMemory>,
+    tree: Result<Element, NoMemory>,
+) -> Result<Reply, NoMemory>
+    ensures { IfOk result (λ r. IsOkAnd headers (λ entries. IsOkAnd tree (λ root. r ≡ record {
+      status = status;
+      headers = headers_in entries;
+      body = Tree root;
+    }))) }
+{
+    let headers = headers?;
+    let body = ReplyBody::Tree(tree?);
+    Ok(Reply {
+        status,
+        headers,
+        body,
+    })
 }
 
 impl Reply {

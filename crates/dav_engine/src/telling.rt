@@ -4,6 +4,7 @@ ghost use Rattle.std.specs.List.{filter, list_any};
 ghost use Rattle.dav_engine.specs.Properties.{asked_property, holds, is_same_property};
 ghost use Rattle.dav_engine.specs.Properties as spec;
 
+use crate::trees::bare;
 use dav_core::element::Element;
 use dav_core::errors::NoMemory;
 use std::alloc::Global;
@@ -63,10 +64,7 @@ pub(crate) fn holds(text: &[u8], needle: &[u8]) -> bool
 fn asked_property(alloc: Global, prefix: &str, space: &str, name: &str) -> Result<Element, NoMemory>
     ensures { IfOk result (λ e. e ≡ asked_property prefix.now space.now name.now) }
 {
-    let mut property = Element::new(alloc, name)?;
-    property.prefix = Some(String::from_str(alloc, prefix)?);
-    property.namespace = Some(String::from_str(alloc, space)?);
-    Ok(property)
+    bare(alloc, name, Some(prefix), Some(space))
 }
 
 // Adds properties of one namespace.

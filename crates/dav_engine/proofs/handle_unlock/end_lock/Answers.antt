@@ -7,7 +7,7 @@ use Rattle.dav_engine.proofs.handle_unlock.end_lock.Goals as goal
 pub returns-in_err-reply : goal.returns-in_err-reply
 returns-in_err-reply g c =
     let p = err_from_is_err_and c.from_residual.result c.from_residual.ensures.1 in
-    rw (p.1, p.2) (end_short c.args.path.now c.args.token.now c.metadata.result c.metadata.ensures.asks)
+    rw (c.in-Some.is, p.1, p.2) (end_short c.args.path.now c.args.token.now c.metadata.result c.metadata.ensures.asks)
 
 pub returns-in_default : goal.returns-in_default
 returns-in_default g c =

@@ -1,10 +1,10 @@
-use Rattle.dav_engine.proofs.DeclaringLemmas.{opened_is, opened_plain}
+use Rattle.dav_engine.proofs.DeclaringLemmas.{opened_by, opened_plain_by}
 use Rattle.dav_engine.proofs.propwriter.opened.Goals as goal
 
 pub returns-then-not-declares : goal.returns-then-not-declares
-returns-then-not-declares c = opened_plain c.args.telling c.args.properties.now _ c.if-not-declares.ensures c.in_ok-element.ensures
+returns-then-not-declares c = opened_plain_by c.args.telling c.args.properties.now c.multistatus-element.result c.if-not-declares.ensures c.multistatus-element.ensures
 
 pub returns : goal.returns
 returns c =
-    opened_is c.args.telling c.args.properties.now _ _ _ _ _ c.if-not-declares.ensures c.in_ok-element.ensures
-    c.in_ok-declare.ensures c.in_ok-declare-2.ensures c.in_ok-declare-3.ensures c.in_ok-declare-4.ensures
+    opened_by c.args.telling c.args.properties.now c.multistatus-element.result c.declare-element.result c.declare-element-2.result c.declare-element-3.result c.declare.result c.if-not-declares.ensures
+    c.multistatus-element.ensures c.declare-element.ensures c.declare-element-2.ensures c.declare-element-3.ensures c.declare.ensures
