@@ -30,7 +30,8 @@ pub(crate) fn with_text(
     element: Result<Element, NoMemory>,
     value: &str,
 ) -> Result<Element, NoMemory>
-    ensures { IfOk result (λ e. IsOkAnd element (λ parent. e ≡ with_child parent (text value.now))) }
+    ensures { IfOk result (λ e. IsOkAnd element (λ parent.
+        e ≡ with_child parent (text value.now))) }
 {
     let mut element = element?;
     element.text(value)?;

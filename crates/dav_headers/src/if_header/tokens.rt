@@ -2,7 +2,7 @@
 ghost use Rattle.std.specs.Prelude.{false, ◌≡◌, ◌<◌, ◌≤◌, ◌↔◌, List, map, length, option_map, IfSome, IsTrue};
 ghost use Rattle.dav_headers.specs.IfTokens.{Token, angle, square, Spells};
 ghost use Rattle.dav_headers.specs.IfTokenMachine.{is_white_space, is_word_byte, skip, inside_len, bracketed, word_len, word_at, token_at};
-ghost use Rattle.dav_headers.specs.IfParts.{part_view};
+ghost use Rattle.dav_headers.specs.IfParts.{part_and_rest, part_view};
 ghost use Rattle.dav_headers.specs.Value.{ReadsAs};
 
 use crate::errors::HeaderError;
@@ -73,7 +73,7 @@ fn inside_len(text: &[u8], close: u8) -> Option<usize>
 
 // What is in `<>`, behind its opening sign, and what follows it.
 fn angle_at<'a>(text: &'a [u8]) -> Option<(Part<'a>, &'a [u8])>
-    ensures is { option_map (λ x. (part_view x.0, x.1.now)) result ≡ bracketed angle 62 text.now }
+    ensures is { option_map part_and_rest result ≡ bracketed angle 62 text.now }
     ensures shorter { IfSome result (λ x. length x.1.now < length text.now) }
 {
     let n = inside_len(text, b'>')?;
@@ -82,7 +82,7 @@ fn angle_at<'a>(text: &'a [u8]) -> Option<(Part<'a>, &'a [u8])>
 
 // What is in `[]`, behind its opening sign, and what follows it.
 fn square_at<'a>(text: &'a [u8]) -> Option<(Part<'a>, &'a [u8])>
-    ensures is { option_map (λ x. (part_view x.0, x.1.now)) result ≡ bracketed square 93 text.now }
+    ensures is { option_map part_and_rest result ≡ bracketed square 93 text.now }
     ensures shorter { IfSome result (λ x. length x.1.now < length text.now) }
 {
     let n = inside_len(text, b']')?;
@@ -104,7 +104,7 @@ fn word_len(text: &[u8]) -> usize
 
 // The bare word that the text begins with, and what follows it.
 fn word_at<'a>(text: &'a [u8]) -> Option<(Part<'a>, &'a [u8])>
-    ensures is { option_map (λ x. (part_view x.0, x.1.now)) result ≡ word_at text.now }
+    ensures is { option_map part_and_rest result ≡ word_at text.now }
     ensures shorter { IfSome result (λ x. length x.1.now < length text.now) }
 {
     let n = word_len(text);
@@ -116,7 +116,7 @@ fn word_at<'a>(text: &'a [u8]) -> Option<(Part<'a>, &'a [u8])>
 
 // The token that the text begins with, and what follows it.
 fn token_at<'a>(text: &'a [u8]) -> Option<(Part<'a>, &'a [u8])>
-    ensures is { option_map (λ x. (part_view x.0, x.1.now)) result ≡ token_at text.now }
+    ensures is { option_map part_and_rest result ≡ token_at text.now }
     ensures shorter { IfSome result (λ x. length x.1.now < length text.now) }
 {
     if text.starts_with(b"Not") {
