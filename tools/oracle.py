@@ -22,7 +22,6 @@ MOST_FIELDS = 64
 LONGEST_SCRIPT = 16777216
 DEEPEST_SCRIPT = 127
 DEEPEST_TREE = 64
-GUARDS_MEMBERS = False  # whether a lock of Depth 0 guards the names in its folder (RFC 4918, 7.4)
 
 DAV = "DAV:"
 APACHE = "http://apache.org/dav/props/"
@@ -492,9 +491,9 @@ def is_language_list(text):
 
 
 def lock_token_of(head):
-    """The first Lock-Token (RFC 4918, 10.5) without the angle brackets at its ends."""
+    """The only Lock-Token (RFC 4918, 10.5) without the angle brackets at its ends; two values are none."""
     values = head.values(b"lock-token")
-    if not values or not is_text(values[0]):
+    if len(values) != 1 or not is_text(values[0]):
         return None
     return values[0].strip(b"<>").decode()
 
@@ -1364,7 +1363,8 @@ class Server:
             raise Refusal(423, close)
 
     def check_parent(self, call, path, tokens, close=False):
-        if GUARDS_MEMBERS and path.names:
+        """A lock on a folder, whatever its depth is, guards the names in it (RFC 4918, 7.4). The root is in no folder."""
+        if path.names:
             self.check(call, path.parent(), False, tokens, close)
 
     def multi_error(self, call, items):

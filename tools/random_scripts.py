@@ -1,6 +1,6 @@
 """Random scripts of requests, for tools/play-at-random.
 
-usage: no program; `Maker(seed, methods, most_requests).script` is a script, and `mutated(chance, script)` a text that may be none
+usage: no program; `Maker(seed, methods, most_requests, members).script` is a script, and `mutated(chance, script)` a text that may be none
 
 Each request is made for the state that the oracle has then, so that tags, tokens and paths are often the right ones.
 """
@@ -18,6 +18,7 @@ WEIGHTS = {
     "PUT": 14, "GET": 8, "HEAD": 3, "PATCH": 9, "MKCOL": 9, "DELETE": 6, "COPY": 11, "MOVE": 10, "LOCK": 11, "UNLOCK": 4,
     "OPTIONS": 4, "PROPFIND": 7, "PROPPATCH": 8,
 }
+MEMBER_METHODS = ["LOCK", "PUT", "MKCOL", "DELETE", "MOVE", "COPY"]  # those that make, replace or remove names in a folder
 OTHER_METHODS = ["FOO", "REPORT", "get", "MKCALENDAR", "POST", "TRACE", "PUTT"]
 
 
@@ -92,17 +93,18 @@ BEGINNINGS = [("d",), ("e",), ("d", "a"), ("d", "b"), ("d", "e", "a"), ("e", "b"
 class Maker:
     """Makes one random script, a request after another, each for the state that the oracle has then."""
 
-    def __init__(self, seed, methods, most_requests):
+    def __init__(self, seed, methods, most_requests, members=False):
         self.chance = random.Random(seed)
-        self.wanted_methods = methods or self.favourites()
-        self.oddness = self.chance.choice([0.3, 1, 1, 1, 8])
+        self.members = self.likely(0.25) or members
+        self.wanted_methods = methods or (MEMBER_METHODS if self.members else self.favourites())
+        self.oddness = self.chance.choice([0.3] if self.members else [0.3, 1, 1, 1, 8])
         self.script = self.options()
         self.tokens = 0
         self.output = 0
         self.moment = 0
         self.server = self.parsed().server()
         count = self.chance.randint(max(1, most_requests // 3), most_requests)
-        if self.likely(0.6):
+        if self.members or self.likely(0.6):
             self.begin()
         while len(self.script["requests"]) < count and self.output < MOST_OUTPUT:
             self.add(self.request())
@@ -118,8 +120,33 @@ class Maker:
             for length in range(1, len(names)):
                 self.begin_with("MKCOL", names[:length], {})
             self.begin_with("PUT" if len(names) > 1 else "MKCOL", names, {"body": {"text": "one"}} if len(names) > 1 else {})
+        if self.members:
+            self.guard_folders()
         for _ in range(self.chance.choice([0, 0, 1, 2])):
             self.add(self.request("LOCK"))
+
+    def guard_folders(self):
+        """Locks of Depth 0 on some of the folders, most of them exclusive."""
+        folders = sorted(names for names, node in self.server.store.nodes.items() if node.is_folder)
+        for names in self.chance.sample(folders, self.chance.randint(1, len(folders))):
+            self.chosen = names
+            path = oracle.Path(names, True, self.prefix())
+            scope = element("lockscope", [element(self.chance.choice(["exclusive", "exclusive", "shared"]))])
+            request = {"head": f"LOCK {path.url()} HTTP/1.1\r\nDepth: 0\r\n\r\n", "token": self.token(),
+                       "body": {"element": element("lockinfo", [scope, element("locktype", [element("write")])])}}
+            principal = self.chance.choice(PRINCIPALS)
+            self.add(dict(request, principal=principal) if principal else request)
+
+    def guarded_name(self):
+        """Names of a member of a folder with a lock of Depth 0, or of a new one; None where there is no such folder."""
+        nodes = self.server.store.nodes
+        locked = {lock.path.names for lock in self.locks() if not lock.deep}
+        folders = sorted(names for names in locked if names in nodes and nodes[names].is_folder)
+        if not folders:
+            return None
+        folder = self.chance.choice(folders)
+        inner = sorted(key for key in nodes if key[:-1] == folder and key)
+        return self.chance.choice(inner) if inner and self.likely(0.5) else folder + (self.new_name(),)
 
     def begin_with(self, method, names, more):
         path = oracle.Path([name.encode() for name in names], False, self.prefix())
@@ -200,7 +227,10 @@ class Maker:
         return tuple(self.new_name() for _ in range(self.chance.randint(1, 3)))
 
     def names_for(self, method):
-        """Names with which a method often succeeds."""
+        """Names with which a method often succeeds; or, where it is to be refused or its client holds the folder's lock, a guarded name."""
+        guarded = self.guarded_name() if self.members and method != "UNLOCK" and self.likely(0.75) else None
+        if guarded:
+            return guarded
         nodes = self.server.store.nodes
         files = sorted(key for key, node in nodes.items() if not node.is_folder)
         inner = sorted(key for key in nodes if key)
@@ -272,12 +302,30 @@ class Maker:
     def head(self, method, names, fields):
         target = b"*" if self.odd(0.1 if method == "OPTIONS" else 0.005) else self.target_text(names)
         self.chance.shuffle(fields)
+        if fields and self.odd(0.06):
+            self.disturb(fields)
         end = b"\n" if self.likely(0.02) else b"\r\n"
         version = b"HTTP/1.0" if self.likely(0.02) else b"HTTP/1.1"
         head = b"%s %s %s%s" % (method.encode(), target, version, end)
         for name, value in fields:
             head += self.field_name(name) + b":" + self.padded(value) + end
         return self.damaged(head + end) if self.odd(0.02) else head + end
+
+    def disturb(self, fields):
+        """Doubles a header line, as it is or with the value of another line; drops one, empties one, or exchanges two values."""
+        kind = self.chance.randrange(5)
+        place, other = self.chance.randrange(len(fields)), self.chance.randrange(len(fields))
+        (name, value), (other_name, other_value) = fields[place], fields[other]
+        if kind == 0:
+            fields.insert(other, (name, value))
+        elif kind == 1:
+            fields.insert(other, (name, other_value))
+        elif kind == 2:
+            fields.pop(place)
+        elif kind == 3:
+            fields[place] = (name, b"")
+        else:
+            fields[place], fields[other] = (name, other_value), (other_name, value)
 
     def field_name(self, name):
         if self.odd(0.05):
@@ -375,7 +423,9 @@ class Maker:
             if self.likely(share):
                 fields.extend((name, self.tags(names)) for _ in range(2 if self.likely(0.1) else 1))
         covering = self.covering(names) + self.covering(self.destination_names)
-        if self.likely(0.7 if covering else 0.12):
+        if self.members and covering and self.likely(0.45):
+            self.submit(covering, request, fields)
+        elif self.likely(0.7 if covering else 0.12):
             fields.extend(("If", self.if_value(names, request)) for _ in range(2 if self.likely(0.02) else 1))
         if self.likely(0.02):
             fields.append(("If-Range", b'"1"'))
@@ -385,6 +435,14 @@ class Maker:
         self.destination_names = ()
 
     destination_names = ()
+
+    def submit(self, locks, request, fields):
+        """The tokens of some locks, by the principal of one of them."""
+        request.pop("principal", None)
+        principal = self.chance.choice(locks).principal
+        if principal is not None:
+            request["principal"] = principal
+        fields.append(("If", b" ".join(b"(<%s>)" % lock.token.encode() for lock in locks)))
 
     def tag(self, names):
         node = self.server.store.nodes.get(names)
@@ -559,6 +617,8 @@ class Maker:
         self.destination_names = self.near(names) if kind < 0.15 else self.new_member() if kind < 0.6 else self.any_names()
         if names[:len(self.destination_names)] == self.destination_names and self.likely(0.7):
             self.destination_names = self.new_member()
+        if self.members and self.likely(0.6):
+            self.destination_names = self.guarded_name() or self.destination_names
         if self.likely(0.97):
             fields.extend(("Destination", self.destination_text()) for _ in range(2 if self.likely(0.02) else 1))
         if self.likely(0.35):

@@ -9,10 +9,10 @@ use Rattle.std.specs.Cmp.Lexicographic.{nat_list_cmp_total}
 use Rattle.std.proofs.lemmas.List.Folds.{list_any-append}
 use Rattle.std.proofs.lemmas.Map.Text.{is_eq-slice_cmp}
 use Rattle.std.proofs.lemmas.List.Elements.{All-contains, All-weaker}
-use Rattle.dav_core.specs.Path.{Path, names, is_at_or_under, is_same_path, fronts}
+use Rattle.dav_core.specs.Path.{Path, names, is_at_or_under, is_under, is_same_path, fronts}
 use Rattle.dav_core.specs.Locks.{Lock, Requester, covers, is_held, is_free, is_free_for, has_token_at, lock_front, unlocked, discovered}
 use Rattle.dav_core.specs.Lists.{without_first}
-use Rattle.dav_core.specs.LockLaws.{FreeHoldsExclusive, FreeDeepHoldsBelow, FreeIsNoConflict, GrantedCanBeUnlocked, TakenBack}
+use Rattle.dav_core.specs.LockLaws.{FreeHoldsExclusive, FreeHoldsOwn, FreeDeepHoldsBelow, FreeIsNoConflict, GrantedCanBeUnlocked, TakenBack}
 use Rattle.std.proofs.lemmas.Slice.Eq.{bytes_eq-Decides}
 use Rattle.dav_core.proofs.CoverLemmas.{some_held, free_by_tests}
 use Rattle.std.proofs.lemmas.List.Folds.{list_any_none}
@@ -31,6 +31,10 @@ is_exclusive_held false s c passed covering exclusive = grind arith
 pub free_holds_exclusive : FreeHoldsExclusive
 free_holds_exclusive who p ls l free here covering exclusive =
     is_exclusive_held (is_held who l) l.shared (covers l p) (passes (λ m. is_held who m || m.shared || not (covers m p)) ls l (and_parts _ _ (sym (free_by_tests who p ls) ∙ free)).0 here) covering exclusive
+
+pub free_holds_own : FreeHoldsOwn
+free_holds_own who p ls l free here on exclusive =
+    free_holds_exclusive who p ls l free here (ap (λ b. b || (l.deep && is_under p (names l.path))) (ap (is_same_path (names l.path)) (sym on) ∙ path-itself (names l.path))) exclusive
 
 is_below_held : (h a : Bool) → (h || not a) ≡ true → a ≡ true → h ≡ true
 is_below_held true a passed below = refl

@@ -11,6 +11,12 @@ FreeHoldsExclusive =
     (who : Requester) (p : Path) (ls : List Lock) (l : Lock)
     → is_free who p ls ≡ true → Contains ls l → covers l p ≡ true → l.shared ≡ false → is_held who l ≡ true
 
+-- where a path is free, the requester holds each exclusive lock that is on it, whatever the lock's depth is
+abbrev pub FreeHoldsOwn : Type 0
+FreeHoldsOwn =
+    (who : Requester) (p : Path) (ls : List Lock) (l : Lock)
+    → is_free who p ls ≡ true → Contains ls l → names l.path ≡ p → l.shared ≡ false → is_held who l ≡ true
+
 -- where it is free with everything below, the requester holds each lock at it and below it too
 abbrev pub FreeDeepHoldsBelow : Type 0
 FreeDeepHoldsBelow =

@@ -5,7 +5,7 @@ use Rattle.std.specs.List.{filter, flat_map, list_any, list_all, find as first}
 use Rattle.std.specs.Option.{option_map, option_and_then, option_eq}
 use Rattle.dav_core.specs.Element.{ElementTree}
 use Rattle.dav_core.specs.Lists.{is_empty, without_first, change_first}
-use Rattle.dav_core.specs.Path.{Path, PathText, names, is_same_path, is_under, is_at_or_under, fronts}
+use Rattle.dav_core.specs.Path.{Path, PathText, names, is_root, parent_of, is_same_path, is_under, is_at_or_under, fronts}
 
 -- A lock: its token, the path that it is on, its principal, the element in which its owner describes itself, when it ends
 -- and after how many seconds, whether it is shared, and whether it is of infinite depth, on everything below its path too.
@@ -68,6 +68,11 @@ is_free_deep who p ls = is_free who p ls && list_all (λ l. is_held who l || not
 
 abbrev pub is_free_for : Bool → Requester → Path → List Lock → Bool
 is_free_for deep who p ls = if deep then is_free_deep who p ls else is_free who p ls
+
+-- A path's folder may get, lose or change this member: the path is the root, or its parent is free, whatever is below that
+-- (RFC 4918, section 7.4).
+abbrev pub is_free_parent : Requester → Path → List Lock → Bool
+is_free_parent who p ls = is_root p || is_free who (parent_of p) ls
 
 -- A lock conflicts: the requester doesn't hold it, and it covers the path and is exclusive, or covers it while no covering
 -- lock is held; or it is at the path or below it, where the path is checked with everything below.

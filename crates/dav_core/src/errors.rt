@@ -1,6 +1,6 @@
 //! Why a call fails.
 ghost use Rattle.std.specs.Prelude.{◌≡◌};
-ghost use Rattle.dav_core.specs.ErrorNames.{dav_error_name, fs_error_name, parse_error_name};
+ghost use Rattle.dav_core.specs.ErrorNames.{fs_error_name};
 ghost use Rattle.dav_core.specs.Status.{dav_status, must_close};
 
 #[cfg(test)]
@@ -9,49 +9,25 @@ mod tests;
 use http::StatusCode;
 pub use std::alloc::AllocError as NoMemory;
 use std::alloc::AllocFailed;
-use std::error::Error;
 use std::fmt;
+use thiserror::Error;
 
 /// Why a text names no path.
-#[derive(Clone, Copy, Debug, PartialEq, Eq)]
+#[derive(Clone, Copy, Debug, PartialEq, Eq, Error)]
 pub enum ParseError {
     /// It isn't a text that can name a path, or one of its decoded segments has a zero byte or a slash.
+    #[error("InvalidPath")]
     InvalidPath,
     /// The path isn't at or below the prefix.
+    #[error("PrefixMismatch")]
     PrefixMismatch,
     /// It climbs above the root.
+    #[error("ForbiddenPath")]
     ForbiddenPath,
     /// Memory ran out.
+    #[error("Memory")]
     Memory,
 }
-
-impl ParseError {
-    // The variant's name.
-    fn name(self) -> &'static str
-        ensures { result.now ≡ parse_error_name self }
-    {
-        match self {
-            ParseError::InvalidPath => "InvalidPath",
-            ParseError::PrefixMismatch => "PrefixMismatch",
-            ParseError::ForbiddenPath => "ForbiddenPath",
-            ParseError::Memory => "Memory",
-        }
-    }
-}
-
-/// Writes the variant's name.
-impl fmt::Display for ParseError {
-    ghost use Rattle.std.specs.Prelude.{Some};
-    ghost use Rattle.dav_core.specs.ErrorNames.{parse_error_name};
-
-    ghost output = { λ e. Some (parse_error_name e) };
-
-    fn fmt<W: fmt::Write>(&self, f: &mut fmt::Formatter<W>) -> fmt::Result {
-        f.write_str(self.name())
-    }
-}
-
-impl Error for ParseError {}
 
 impl From<NoMemory> for ParseError {
     ghost use Rattle.std.specs.Prelude.{◌≡◌};
@@ -135,7 +111,7 @@ impl fmt::Display for FsError {
     }
 }
 
-impl Error for FsError {}
+impl std::error::Error for FsError {}
 
 /// The status with which a store's error is reported to a client.
 impl From<FsError> for StatusCode {
@@ -160,27 +136,37 @@ impl From<FsError> for StatusCode {
 }
 
 /// Why a request is refused.
-#[derive(Clone, Copy, Debug, PartialEq, Eq)]
+#[derive(Clone, Copy, Debug, PartialEq, Eq, Error)]
 pub enum DavError {
     /// The body isn't the XML that the method needs: 400 (RFC 9110, section 15.5.1).
+    #[error("XmlParseError")]
     XmlParseError,
     /// A text names no path: 400.
+    #[error("InvalidPath")]
     InvalidPath,
     /// A path climbs above the root: 403 (RFC 9110, section 15.5.4).
+    #[error("ForbiddenPath")]
     ForbiddenPath,
     /// A path isn't at or below the prefix: 502 (RFC 4918, section 9.8.5).
+    #[error("IllegalPath")]
     IllegalPath,
     /// No method of this name is known: 501 (RFC 9110, section 15.6.2).
+    #[error("UnknownDavMethod")]
     UnknownDavMethod,
     /// What was to be collected is missing: 500 (RFC 9110, section 15.6.1).
+    #[error("ChanError")]
     ChanError,
     /// This status.
+    #[error("Status")]
     Status(StatusCode),
     /// This status, and the connection closes after the reply (RFC 9112, section 9.6).
+    #[error("StatusClose")]
     StatusClose(StatusCode),
     /// The store refused: the error's own status.
+    #[error("FsError")]
     FsError(FsError),
     /// Memory ran out: 507 (RFC 4918, section 11.5).
+    #[error("Memory")]
     Memory,
 }
 
@@ -213,40 +199,6 @@ impl DavError {
         matches!(self, DavError::StatusClose(_))
     }
 }
-
-impl DavError {
-    // The variant's name.
-    fn name(&self) -> &'static str
-        ensures { result.now ≡ dav_error_name self.now }
-    {
-        match self {
-            DavError::XmlParseError => "XmlParseError",
-            DavError::InvalidPath => "InvalidPath",
-            DavError::ForbiddenPath => "ForbiddenPath",
-            DavError::IllegalPath => "IllegalPath",
-            DavError::UnknownDavMethod => "UnknownDavMethod",
-            DavError::ChanError => "ChanError",
-            DavError::Status(_) => "Status",
-            DavError::StatusClose(_) => "StatusClose",
-            DavError::FsError(_) => "FsError",
-            DavError::Memory => "Memory",
-        }
-    }
-}
-
-/// Writes the variant's name.
-impl fmt::Display for DavError {
-    ghost use Rattle.std.specs.Prelude.{Some};
-    ghost use Rattle.dav_core.specs.ErrorNames.{dav_error_name};
-
-    ghost output = { λ e. Some (dav_error_name e) };
-
-    fn fmt<W: fmt::Write>(&self, f: &mut fmt::Formatter<W>) -> fmt::Result {
-        f.write_str(self.name())
-    }
-}
-
-impl Error for DavError {}
 
 impl From<FsError> for DavError {
     ghost use Rattle.dav_core.specs.declared.errors.DavError.TheVariants as dav;

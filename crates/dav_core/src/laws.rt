@@ -4,7 +4,7 @@ pub mod calls;
 
 ghost use Rattle.std.specs.Prelude.{◌≡◌, [], ◌∷◌};
 ghost use Rattle.dav_core.specs.Laws.{LeavesOnePath, LeavesNoFault, OneFault, ReadsOnePath, ReadIsNotRefused, OneRefusal, ReadOrRefused, KeepsNames, ReadsNames, StarHasNoNames, ReadsAgain, NamesReadAgain, SameText, SlashKeepsNames, AddsName, AddsSegment, SlashAddsNoName, MemberIsNoStar, FewNames, NamesAreSegments, NameIsSegment, ParentOfNames, OneParent, CutsAtNames, CutKeepsNames, OneCut, EmptyIsWorld, NewKeepsWorld, ChangeKeepsWorld, OneMethod, NameNames, MembersAreHad, SameMethodsSameSet, EqualToItself, EqualBothWays, EqualThrough};
-ghost use Rattle.dav_core.specs.LockLaws.{FreeHoldsExclusive, FreeDeepHoldsBelow, FreeIsNoConflict, GrantedCanBeUnlocked, TakenBack, CoveringAreShared, GrantedAreShared, UnlockedAreShared, RefreshedAreShared, DeletedAreShared, UnlockTakesOne, RefreshChangesOne, DiscoveredAreCovering};
+ghost use Rattle.dav_core.specs.LockLaws.{FreeHoldsExclusive, FreeHoldsOwn, FreeDeepHoldsBelow, FreeIsNoConflict, GrantedCanBeUnlocked, TakenBack, CoveringAreShared, GrantedAreShared, UnlockedAreShared, RefreshedAreShared, DeletedAreShared, UnlockTakesOne, RefreshChangesOne, DiscoveredAreCovering};
 ghost use Rattle.dav_core.specs.Method.{all_methods, methods_in};
 
 use crate::method::{DavMethod, DavMethodSet};
@@ -74,12 +74,13 @@ pub fn worlds_are_kept()
     ensures changed { ChangeKeepsWorld }
 {}
 
-/// Where a path is free, the requester holds each exclusive lock that covers it, and where the path is checked with
-/// everything below, each lock at it and below it (RFC 4918, sections 6.1 and 7.5); it is free exactly where no lock
-/// conflicts. A lock that was just granted can be unlocked, and where its token is new, that leaves the list as it was
+/// Where a path is free, the requester holds each exclusive lock that covers it, so each that is on it, and where the path is
+/// checked with everything below, each lock at it and below it (RFC 4918, sections 6.1 and 7.5); it is free exactly where no
+/// lock conflicts. A lock that was just granted can be unlocked, and where its token is new, that leaves the list as it was
 /// before.
 pub fn free_paths_are_held()
     ensures exclusive { FreeHoldsExclusive }
+    ensures own { FreeHoldsOwn }
     ensures below { FreeDeepHoldsBelow }
     ensures conflict { FreeIsNoConflict }
     ensures granted { GrantedCanBeUnlocked }

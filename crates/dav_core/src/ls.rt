@@ -7,6 +7,7 @@ use crate::element::Element;
 use crate::errors::NoMemory;
 use std::alloc::Global;
 use std::marker::Model;
+use thiserror::Error;
 
 /// A write lock.
 #[derive(Debug, Drop)]
@@ -62,20 +63,24 @@ impl Clone for DavLock {
 }
 
 /// Why a lock isn't granted.
-#[derive(Clone, Copy, Debug, PartialEq, Eq)]
+#[derive(Clone, Copy, Debug, PartialEq, Eq, Error)]
 pub enum LockRefusal {
     /// A lock that is in the list conflicts.
+    #[error("Conflict")]
     Conflict,
     /// Memory ran out.
+    #[error("Memory")]
     Memory,
 }
 
 /// Why a lock isn't refreshed.
-#[derive(Clone, Copy, Debug, PartialEq, Eq)]
+#[derive(Clone, Copy, Debug, PartialEq, Eq, Error)]
 pub enum RefreshRefusal {
     /// There is no such lock.
+    #[error("NotThere")]
     NotThere,
     /// Memory ran out.
+    #[error("Memory")]
     Memory,
 }
 

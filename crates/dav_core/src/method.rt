@@ -7,9 +7,8 @@ mod tests;
 
 use crate::errors::DavError;
 use http::Method;
-use std::error::Error;
-use std::fmt;
 use std::marker::Model;
+use thiserror::Error;
 
 /// The methods that a server of files knows.
 #[derive(Clone, Copy, Debug, PartialEq, Eq)]
@@ -216,18 +215,6 @@ impl DavMethodSet {
 }
 
 /// A text isn't the name of a method.
-#[derive(Clone, Copy, Debug, PartialEq, Eq)]
+#[derive(Clone, Copy, Debug, PartialEq, Eq, Error)]
+#[error("InvalidMethod")]
 pub struct InvalidMethod;
-
-/// Writes the error's name.
-impl fmt::Display for InvalidMethod {
-    ghost use Rattle.std.specs.Prelude.{Some, codes};
-
-    ghost output = { λ _. Some (codes "InvalidMethod") };
-
-    fn fmt<W: fmt::Write>(&self, f: &mut fmt::Formatter<W>) -> fmt::Result {
-        write!(f, "InvalidMethod")
-    }
-}
-
-impl Error for InvalidMethod {}

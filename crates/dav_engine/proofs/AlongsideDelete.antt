@@ -1,5 +1,5 @@
 -- A holder's DELETE goes side by side with itself.
-use Rattle.std.proofs.Common.{◌≡◌, ◌≢◌, ℕ, ◌++◌, zero, suc, Bool, true, false, true≢false, not, cond, List, [], ◌∷◌, append_assoc, append-nil, Some, None, Result, Ok, Err, refl, sym, ap, subst, ◌∙◌}
+use Rattle.std.proofs.Common.{◌≡◌, ◌≢◌, ℕ, ◌++◌, zero, suc, Bool, true, false, List, [], ◌∷◌, append_assoc, Some, None, Result, Ok, Err, refl, sym, ap, subst, ◌∙◌}
 use Rattle.std.specs.Bool.{⊤}
 use Rattle.dav_core.specs.declared.errors.FsError.{FsError}
 use Rattle.dav_core.specs.declared.errors.DavError.{DavError}
@@ -10,20 +10,20 @@ use Rattle.dav_core.specs.Asking.{Metadata, ReadDir, EntryMetadata, RemoveDir, R
 use Rattle.dav_core.specs.Locks.{Lock, deleted}
 use Rattle.dav_core.specs.Path.{Path, PathText, star, names, names_in, is_at_or_under}
 use Rattle.dav_core.specs.Status.{fs_status}
-use Rattle.dav_engine.specs.Alongside.{SameResult, SameMetadata, Alongside, side_ok, side_err, side_asks, side_look, side_keep, side_last, SameAnswers}
+use Rattle.dav_engine.specs.Alongside.{SameResult, SameMetadata, Alongside, side_ok, side_err, side_asks, side_look, side_keep, SameAnswers}
 use Rattle.dav_engine.specs.AlongsidePlans.{GoesAlong, DeleteGoesAlong}
 use Rattle.dav_engine.specs.Client.{Client, requester}
 use Rattle.dav_engine.specs.Conditions.{Conditions, Addressed}
 use Rattle.dav_engine.specs.Delete.{whole_depth, drop_if_gone, delete_reply, delete_found, deleting, is_delete}
 use Rattle.dav_engine.specs.Folder.{closed, child_of, room_at}
-use Rattle.dav_engine.specs.Guard.{folder_of, IsGuard, IsListed, listed_here, listed_later, Guards, SubmitOnly}
-use Rattle.dav_engine.specs.Method.{MethodPlan, then as followed_by, ◌>>=◌, require_free, gives, ask_for, refused_as}
+use Rattle.dav_engine.specs.Guard.{folder_of, IsGuard, Guards, SubmitOnly}
+use Rattle.dav_engine.specs.Method.{MethodPlan, then as followed_by, ◌>>=◌, require_member, gives, ask_for, refused_as}
 use Rattle.dav_engine.specs.Plan.{Done}
 use Rattle.dav_engine.specs.Removal.{Fault, StaysWhole, StaysWith, Stays, refused_by, emptied_status, Walk, each, remove, removal, remove_member, remove_found, remove_listed, remove_emptied}
-use Rattle.dav_engine.proofs.AlongsidePlans.{AtBoth, holders, in_reach, only_lists, side_bind, side_then, side_guarded, side_free}
+use Rattle.dav_engine.proofs.AlongsidePlans.{AtBoth, holders, in_side, only_lists, side_bind, side_then, side_guarded, side_free_member}
 use Rattle.dav_engine.proofs.ChildLemmas.{names_closed, closed_is_path, slash_is_path, names_member}
 use Rattle.dav_engine.proofs.EndingDelete.{still_listed}
-use Rattle.dav_engine.proofs.FaultLemmas.{at_path, not_above}
+use Rattle.dav_engine.proofs.FaultLemmas.{not_above}
 use Rattle.dav_engine.proofs.GuardedFolders.{stands_guarded}
 use Rattle.dav_engine.proofs.SparingDelete.{still_guards}
 
@@ -98,16 +98,6 @@ module _ (h : Lock) where
 -- ---- the list of locks
 
 module _ (h : Lock) (p : Path) where
-  -- where the locks at a path above the lock end, or at its own, it is gone
-  gone_by : (l : Lock) (more : List Lock) (b : Bool) → is_at_or_under (folder_of h) p ≡ true → is_at_or_under (names l.path) p ≡ b → ¬ IsListed h more → ¬ IsListed h (cond (not b) (l ∷ more) more)
-  gone_by l more false within under none (listed_here same) = true≢false (sym within ∙ ap (λ (m : Lock). is_at_or_under (names m.path) p) (sym same) ∙ under)
-  gone_by l more false within under none (listed_later there) = none there
-  gone_by l more true within under none there = none there
-
-  pub gone : (ls : List Lock) → is_at_or_under (folder_of h) p ≡ true → ¬ IsListed h (deleted p ls)
-  gone [] within there = elim there [ ]
-  gone (l ∷ ls) within there = gone_by l (deleted p ls) (is_at_or_under (names l.path) p) within refl (gone ls within) there
-
   -- where it is elsewhere, it guards as before
   pub guards_still : (ls : List Lock) → is_at_or_under (folder_of h) p ≡ false → Guards h ls → Guards h (deleted p ls)
   guards_still ls outside g = still_guards h p ls g (still_listed h p outside ls (stands_guarded g))
@@ -119,52 +109,46 @@ module _ (h : Lock) (guard : IsGuard h) where
   side_reported p f [] = side_ok refl
   side_reported p f (g ∷ faults) = side_ok refl
 
-  pub at_folder : (p : PathText) → IsIn h p [] → is_at_or_under (folder_of h) (names p) ≡ true
-  at_folder p at =
-      let same : names p ≡ folder_of h = at ∙ append-nil (folder_of h) in
-      at_path (names p) (folder_of h) [] (sym same ∙ sym (append-nil (names p)))
-
-  side_dropped : (p : PathText) (rest : Path) (faults : List Fault) → IsIn h p rest
+  side_dropped : (p : PathText) (x : List ℕ) (rest : Path) (faults : List Fault) → IsIn h p (x ∷ rest)
       → Alongside h true (λ file. SameAnswers) None (drop_if_gone p faults >>= (λ done. Done (delete_reply p faults))) (drop_if_gone p faults >>= (λ done. Done (delete_reply p faults)))
-  side_dropped p rest (f ∷ faults) at = side_reported p f faults
-  side_dropped p [] [] at = side_look (λ ls ks g g'. side_last refl (gone h (names p) ls (at_folder p at)) (gone h (names p) ks (at_folder p at)) refl)
-  side_dropped p (x ∷ rest) [] at =
+  side_dropped p x rest (f ∷ faults) at = side_reported p f faults
+  side_dropped p x rest [] at =
       let outside : is_at_or_under (folder_of h) (names p) ≡ false = ap (is_at_or_under (folder_of h)) at ∙ not_above (folder_of h) x rest in
       side_look (λ ls ks g g'. side_keep (guards_still h (names p) ls outside g) (guards_still h (names p) ks outside g') (side_ok refl))
 
   module _ (who : Client) {lists : List Addressed} (only : SubmitOnly h lists) where
-    side_checked : (p : PathText) (rest : Path) (ts us : List (List ℕ)) → IsIn h p rest → ts ≡ us
-        → SidePart h (require_free true (requester who ts) (names p) (dav.Status 423)) (require_free true (requester who us) (names p) (dav.Status 423))
-    side_checked p rest ts us at same =
-        subst (λ (q : Path). SidePart h (require_free true (requester who ts) q (dav.Status 423)) (require_free true (requester who us) q (dav.Status 423))) (sym at)
-        (side_free h guard true who rest (dav.Status 423) ts us same)
+    side_checked : (p : PathText) (x : List ℕ) (rest : Path) (ts us : List (List ℕ)) → IsIn h p (x ∷ rest) → ts ≡ us
+        → SidePart h (require_member true true (requester who ts) (names p) (dav.Status 423)) (require_member true true (requester who us) (names p) (dav.Status 423))
+    side_checked p x rest ts us at same =
+        subst (λ (q : Path). SidePart h (require_member true true (requester who ts) q (dav.Status 423)) (require_member true true (requester who us) q (dav.Status 423))) (sym at)
+        (side_free_member h guard true true true who x rest (dav.Status 423) ts us refl same)
 
-    side_delete_found : (deep : Bool) (p : PathText) (rest : Path) (m n : DavMetaData) → p.bytes ≢ star → IsIn h p rest → m.dir ≡ n.dir
+    side_delete_found : (deep : Bool) (p : PathText) (x : List ℕ) (rest : Path) (m n : DavMetaData) → p.bytes ≢ star → IsIn h p (x ∷ rest) → m.dir ≡ n.dir
         → Alongside h true (λ file. SameAnswers) None (delete_found deep (holders lists) p who m) (delete_found deep (holders lists) p who n)
-    side_delete_found deep p rest m n other at same =
-        side_bind _ _ (side_bind _ _ (side_guarded h guard dav.Status Delete (Some m) (Some n) only) (λ ts us alike. side_checked p rest ts us at alike)) (λ u v _.
-        side_bind _ _ (subst (λ (d : Bool). SidePart h (removal deep who.moment p m.dir) (removal deep who.moment p d)) same (side_removal h deep who.moment p m.dir rest other at)) (λ faults left alike.
+    side_delete_found deep p x rest m n other at same =
+        side_bind _ _ (side_bind _ _ (side_guarded h guard dav.Status Delete (Some m) (Some n) only) (λ ts us alike. side_checked p x rest ts us at alike)) (λ u v _.
+        side_bind _ _ (subst (λ (d : Bool). SidePart h (removal deep who.moment p m.dir) (removal deep who.moment p d)) same (side_removal h deep who.moment p m.dir (x ∷ rest) other at)) (λ faults left alike.
         subst (λ (fs : List Fault). Alongside h true (λ file. SameAnswers) None (drop_if_gone p faults >>= (λ done. Done (delete_reply p faults))) (drop_if_gone p fs >>= (λ done. Done (delete_reply p fs)))) alike
-        (side_dropped p rest faults at)))
+        (side_dropped p x rest faults at)))
 
-    side_told : (deep : Bool) (p : PathText) (rest : Path) (a b : Result DavMetaData FsError) → p.bytes ≢ star → IsIn h p rest → SameResult SameMetadata a b
+    side_told : (deep : Bool) (p : PathText) (x : List ℕ) (rest : Path) (a b : Result DavMetaData FsError) → p.bytes ≢ star → IsIn h p (x ∷ rest) → SameResult SameMetadata a b
         → Alongside h true (λ file. SameAnswers) None (followed_by (refused_as dav.FsError a) (λ found. delete_found deep (holders lists) (closed found.dir p) who found))
         (followed_by (refused_as dav.FsError b) (λ found. delete_found deep (holders lists) (closed found.dir p) who found))
-    side_told deep p rest (Ok m) (Ok n) other at same =
+    side_told deep p x rest (Ok m) (Ok n) other at same =
         subst (λ (d : Bool). Alongside h true (λ file. SameAnswers) None (delete_found deep (holders lists) (closed m.dir p) who m) (delete_found deep (holders lists) (closed d p) who n)) same.dir
-        (side_delete_found deep (closed m.dir p) rest m n (closed_is_path m.dir p other) (names_closed m.dir p other ∙ at) same.dir)
-    side_told deep p rest (Err e) (Err f) other at same = subst (λ (d : FsError). Alongside h true (λ file. SameAnswers) None (Done (Err (dav.FsError e))) (Done (Err (dav.FsError d)))) same side_err
-    side_told deep p rest (Ok m) (Err f) other at same = absurd same
-    side_told deep p rest (Err e) (Ok n) other at same = absurd same
+        (side_delete_found deep (closed m.dir p) x rest m n (closed_is_path m.dir p other) (names_closed m.dir p other ∙ at) same.dir)
+    side_told deep p x rest (Err e) (Err f) other at same = subst (λ (d : FsError). Alongside h true (λ file. SameAnswers) None (Done (Err (dav.FsError e))) (Done (Err (dav.FsError d)))) same side_err
+    side_told deep p x rest (Ok m) (Err f) other at same = absurd same
+    side_told deep p x rest (Err e) (Ok n) other at same = absurd same
 
-    side_deleting : (depth : Result Bool DavError) (p : PathText) (rest : Path) → p.bytes ≢ star → IsIn h p rest
+    side_deleting : (depth : Result Bool DavError) (p : PathText) (x : List ℕ) (rest : Path) → p.bytes ≢ star → IsIn h p (x ∷ rest)
         → Alongside h true (λ file. SameAnswers) None (Done depth >>= (λ deep. ask_for (Metadata (names p)) >>= (λ found. delete_found deep (holders lists) (closed found.dir p) who found)))
         (Done depth >>= (λ deep. ask_for (Metadata (names p)) >>= (λ found. delete_found deep (holders lists) (closed found.dir p) who found)))
-    side_deleting depth p rest other at =
-        side_then depth depth _ _ refl (λ deep. side_asks {c = Metadata (names p)} (rest, at) (λ a b told. side_told deep p rest a b other at told))
+    side_deleting depth p x rest other at =
+        side_then depth depth _ _ refl (λ deep. side_asks {c = Metadata (names p)} (x ∷ rest, at) (λ a b told. side_told deep p x rest a b other at told))
 
 pub delete_goes_along : DeleteGoesAlong
 delete_goes_along h headers p who plan guard other within alone (is_delete k are) =
-    let (rest, at) = in_reach h (names p) within in
+    let (x, rest, at) = in_side h (names p) within in
     subst (λ (c : Conditions). GoesAlong h (deleting c k.depth p who)) (sym (only_lists alone k.conditions are.conditions))
-    (side_deleting h guard who alone.only (whole_depth k.depth) p rest other at)
+    (side_deleting h guard who alone.only (whole_depth k.depth) p x rest other at)

@@ -21,8 +21,8 @@ use Rattle.dav_engine.proofs.CallWorlds.{Did, stays, means, did, asks_keep, asks
 use Rattle.dav_engine.proofs.PlanLemmas.{ran_unset}
 use Rattle.dav_engine.specs.Guard.{folder_of, Guarded}
 use Rattle.dav_engine.specs.Inside.{HasFoldersAbove}
-use Rattle.dav_engine.specs.Alongside.{TakesNumber, FindsNoNumber, AsksWithNumbers, SameResult, SameMetadata, BothOpen, SameHandle, AreOpen, IsCallInside, SameAnswer, Alongside, side_ok, side_err, side_asks, side_above, side_opens, side_reads, side_writes, side_seeks, side_flushes, side_tells, side_look, side_keep, side_last, IsFileAt, AreBothThere, AreAlike, Agrees, SameAnswers, AlongsideAgree}
-use Rattle.dav_engine.proofs.BesideLemmas.{Beside, beside_err, beside_ok, used_up, Like, metadata_beside, above_beside, copy_beside, rename_beside, patch_beside, get_props_beside, get_prop_beside, read_dir_beside, create_beside, remove_dir_beside, remove_file_beside, open_beside, flush_beside, tells_beside, seek_beside, read_beside, write_beside}
+use Rattle.dav_engine.specs.Alongside.{TakesNumber, FindsNoNumber, AsksWithNumbers, SameResult, SameMetadata, BothOpen, SameHandle, AreOpen, IsCallInside, SameAnswer, Alongside, side_ok, side_err, side_asks, side_opens, side_reads, side_writes, side_seeks, side_flushes, side_tells, side_look, side_keep, side_last, IsFileAt, AreBothThere, AreAlike, Agrees, SameAnswers, AlongsideAgree}
+use Rattle.dav_engine.proofs.BesideLemmas.{Beside, beside_err, beside_ok, used_up, Like, metadata_beside, copy_beside, rename_beside, patch_beside, get_props_beside, get_prop_beside, read_dir_beside, create_beside, remove_dir_beside, remove_file_beside, open_beside, flush_beside, tells_beside, seek_beside, read_beside, write_beside}
 use Rattle.dav_engine.proofs.FaultLemmas.{not_above, strictly}
 use Rattle.dav_engine.proofs.SparingCalls.{folder_stays}
 
@@ -173,10 +173,6 @@ module _ (folder : Path) {file : Option BothOpen} (w v : World) (alike : AreAlik
   inside_means (Flush j) inside = absurd inside
   inside_means (FileMetadata j) inside = absurd inside
 
-  above_means : (p : Path) → is_under folder p ≡ true → Beside ⊥ SameMetadata (Like folder) (meaning (Metadata p) w) (meaning (Metadata p) v)
-  unfolding meaning
-  above_means p up = above_beside folder w v alike.same alike.next alike.above alike.above_alone alike.world p up
-
   open_means : (rest : Path) (how : Opening) (now : ℕ) → Beside ⊤ SameHandle (Like folder) (meaning (Open (folder ++ rest) how now) w) (meaning (Open (folder ++ rest) how now) v)
   unfolding meaning
   open_means rest how now = open_beside folder w v alike.same alike.next alike.above alike.above_alone alike.world ⊤ tt rest how now
@@ -290,9 +286,6 @@ module _ {A : Type 0} (h : Lock) (whole : Bool) (R : Option BothOpen → A → A
   agree side_err proper_done proper_done ran_done ran_done u u' same g g' alike = record { outcomes = refl; alike = closed alike; locks = inl (g, g') }
   agree (side_asks {c} inside more) (proper_ask proper next) (proper_ask proper' next') (ran_ask {old} {mid} {answer = x} one rest) (ran_ask {old = old'} {mid = mid'} {answer = y} one' rest') u u' same g g' alike =
       let s = stepped F None c c {R = SameAnswer c} (inside_calm F c inside) (inside_calm F c inside) proper proper' one one' (ran_unset (ran_plain rest) u) (ran_unset rest' u') same alike (inside_means F old.world old'.world alike c inside) in
-      agree (more x y s.outcomes) (next x (asks_tell alike.world one.0)) (next' y (asks_tell alike.world_alone one')) rest rest' u u' s.refusals g g' s.alike
-  agree (side_above {p} up more) (proper_ask proper next) (proper_ask proper' next') (ran_ask {old} {mid} {answer = x} one rest) (ran_ask {old = old'} {mid = mid'} {answer = y} one' rest') u u' same g g' alike =
-      let s = stepped F None (Metadata p) (Metadata p) {R = SameMetadata} (λ q up t. t, λ q up. refl, tt) (λ q up t. t, λ q up. refl, tt) proper proper' one one' (ran_unset (ran_plain rest) u) (ran_unset rest' u') same alike (above_means F old.world old'.world alike p up) in
       agree (more x y s.outcomes) (next x (asks_tell alike.world one.0)) (next' y (asks_tell alike.world_alone one')) rest rest' u u' s.refusals g g' s.alike
   agree (side_reads {file} {j} {k} {count} are more) (proper_ask proper next) (proper_ask proper' next') (ran_ask {old} {mid} {answer = x} one rest) (ran_ask {old = old'} {mid = mid'} {answer = y} one' rest') u u' same g g' alike =
       let s = stepped F (Some file) (Read j count) (Read k count) (λ q up t. t, λ q up. refl, (λ t. t, refl)) (λ q up t. t, λ q up. refl, (λ t. t, refl)) proper proper' one one' (ran_unset (ran_plain rest) u) (ran_unset rest' u') same alike (read_means F file old.world old'.world alike j k are count) in

@@ -56,26 +56,6 @@ module _ (h : Lock) (guard : IsGuard h) where
   abbrev SideWhole : MethodPlan Response → MethodPlan Response → Type 0
   SideWhole plan plan' = Alongside h true (λ file. SameAnswers) None plan plan'
 
-  -- ---- a new lock is refused
-
-  one_verdict : (verdict : Option ℕ) → SidePart (λ x y. x ≡ y) (unless_status verdict) (unless_status verdict)
-  one_verdict None = side_ok (refl, refl)
-  one_verdict (Some status) = side_err
-
-  side_unless : (v w : Option ℕ) → v ≡ w → SidePart (λ x y. x ≡ y) (unless_status v) (unless_status w)
-  side_unless v w same = subst (λ (x : Option ℕ). SidePart (λ x y. x ≡ y) (unless_status v) (unless_status x)) same (one_verdict v)
-
-  not_granted : (new : Lock) (rest : Path) → names new.path ≡ folder_of h ++ rest → (ls : List Lock) → Guards h ls → (b : Bool) → is_grantable new ls ≡ b → b ≡ false
-  not_granted new rest at ls g false may = refl
-  not_granted new rest at ls g true may =
-      absurd (true≢false (sym (ap (covers h) at ∙ covers_by h rest guard.deep) ∙ granted_off h guard.exclusive new ls (stands_guarded g) may))
-
-  side_refused : (new new' : Lock) (ls ks : List Lock) (b c : Bool) (f f' : Unit {0} → MethodPlan Response) → b ≡ false → c ≡ false
-      → SideWhole ((if b then Keep (ls ++ new ∷ []) (gives tt) else fails (dav.Status 423)) >>= f) ((if c then Keep (ks ++ new' ∷ []) (gives tt) else fails (dav.Status 423)) >>= f')
-  side_refused new new' ls ks false false f f' is also = side_err
-  side_refused new new' ls ks true c f f' is also = cc
-  side_refused new new' ls ks false true f f' is also = cc
-
   -- ---- the guard is refreshed
 
   side_kept : (a b : Option Lock) (c d : Option (List Lock)) (l : Lock) (left right : List Lock) (reply : Lock → Response) → a ≡ Some l → b ≡ Some l → c ≡ Some left → d ≡ Some right → Guards h left → Guards h right
@@ -109,31 +89,11 @@ module _ (h : Lock) (guard : IsGuard h) where
       (refreshed_lock timeout now h) left right reply (found_as t q rest timeout now own at ls named) (found_as u q rest timeout now also at ks named')
       (left_as t q rest timeout now own at ls left is) (left_as u q rest timeout now also at ks right is') guards guards'
 
-  side_if : (b : Bool) (one one' other other' : MethodPlan Response) → SideWhole one one' → SideWhole other other' → SideWhole (if b then one else other) (if b then one' else other')
-  side_if true one one' other other' is also = is
-  side_if false one one' other other' is also = also
+  side_first : (b : Bool) (one one' other other' : MethodPlan Response) → b ≡ true → SideWhole one one' → SideWhole (if b then one else other) (if b then one' else other')
+  side_first true one one' other other' is side = side
+  side_first false one one' other other' is side = absurd (true≢false (sym is))
 
   module _ (k : LockHeaders) {lists : List Addressed} (conditions : k.conditions ≡ holders lists) (only : SubmitOnly h lists) (content : Body) (who : Client) where
-    side_verdict : (found found' : Option DavMetaData) → SidePart (λ x y. x ≡ y) (if_match method.Lock (holders lists) found) (if_match method.Lock (holders lists) found')
-    side_verdict found found' = side_bind _ _ (side_lists h guard only) (λ a b same. side_ok (refl, ap (λ (x : Bool). if x then None else Some 412) same))
-
-    side_asked : (q q' : PathText) (found found' : Option DavMetaData) → SidePart (λ (x y : Lock). (x.path ≡ q) × (y.path ≡ q')) (asked_lock k q content who found) (asked_lock k q' content who found')
-    side_asked q q' found found' =
-        side_then (whole_depth k.depth) (whole_depth k.depth) _ _ refl (λ deep.
-        side_bind _ _
-        (subst (λ (c : Conditions). SidePart (λ x y. x ≡ y) (if_match method.Lock c found) (if_match method.Lock c found')) (sym conditions) (side_verdict found found')) (λ v w same.
-        side_bind _ _ (side_unless v w same) (λ a b _.
-        side_then (required (lock_info content) dav.XmlParseError) (required (lock_info content) dav.XmlParseError) _ _ refl (λ info.
-        side_then (required who.token (dav.Status 500)) (required who.token (dav.Status 500)) _ _ refl (λ token. side_ok (refl, (refl, refl)))))))
-
-    side_new : (q q' : PathText) (location location' : List Header) (found found' : Option DavMetaData) (rest rest' : Path) → names q ≡ folder_of h ++ rest → names q' ≡ folder_of h ++ rest'
-        → SideWhole (lock_new k q location content who found) (lock_new k q' location' content who found')
-    side_new q q' location location' found found' rest rest' at at' =
-        side_bind _ _ (side_asked q q' found found') (λ new new' has. side_look (λ ls ks g g'.
-        side_refused new new' ls ks (is_grantable new ls) (is_grantable new' ks) _ _
-        (not_granted new rest (ap (λ (x : PathText). names x) has.0 ∙ at) ls g (is_grantable new ls) refl)
-        (not_granted new' rest' (ap (λ (x : PathText). names x) has.1 ∙ at') ks g' (is_grantable new' ks) refl)))
-
     -- what follows the tokens that are submitted
     abbrev with_token : Path → List ℕ → MethodPlan (List ℕ)
     with_token q token = do
@@ -175,22 +135,21 @@ module _ (h : Lock) (guard : IsGuard h) where
 
     -- ---- the whole
 
-    side_found : (p : PathText) → IsInReach h (names p) → (a b : Result DavMetaData FsError) → SameResult SameMetadata a b → SideWhole (lock_found k p content who (result_ok a)) (lock_found k p content who (result_ok b))
-    side_found p within (Ok m) (Ok n) same =
-        let (rest, at) = closed_in h p within m.dir in
-        let (rest', at') = closed_in h p within n.dir in
-        side_if (is_absent content) _ _ _ _
-        (subst (λ (d : Bool). SideWhole (lock_again k (closed m.dir p) (location_found (Some m) p) who) (lock_again k (closed d p) (location_found (Some (record m { dir = d })) p) who)) same.dir
-        (side_again (closed m.dir p) rest (location_found (Some m) p) at))
-        (side_new (closed m.dir p) (closed n.dir p) (location_found (Some m) p) (location_found (Some n) p) (Some m) (Some n) rest rest' at at')
-    side_found p within (Err e) (Err f) same =
-        let (rest, at) = in_reach h (names p) within in
-        side_if (is_absent content) _ _ _ _ (side_again p rest [] at) (side_new p p [] [] None None rest rest at at)
-    side_found p within (Ok m) (Err f) same = absurd same
-    side_found p within (Err e) (Ok n) same = absurd same
+    module _ (absent : is_absent content ≡ true) where
+      side_found : (p : PathText) → IsInReach h (names p) → (a b : Result DavMetaData FsError) → SameResult SameMetadata a b → SideWhole (lock_found k p content who (result_ok a)) (lock_found k p content who (result_ok b))
+      side_found p within (Ok m) (Ok n) same =
+          let (rest, at) = closed_in h p within m.dir in
+          side_first (is_absent content) _ _ _ _ absent
+          (subst (λ (d : Bool). SideWhole (lock_again k (closed m.dir p) (location_found (Some m) p) who) (lock_again k (closed d p) (location_found (Some (record m { dir = d })) p) who)) same.dir
+          (side_again (closed m.dir p) rest (location_found (Some m) p) at))
+      side_found p within (Err e) (Err f) same =
+          let (rest, at) = in_reach h (names p) within in
+          side_first (is_absent content) _ _ _ _ absent (side_again p rest [] at)
+      side_found p within (Ok m) (Err f) same = absurd same
+      side_found p within (Err e) (Ok n) same = absurd same
 
-    side_lock : (p : PathText) → IsInReach h (names p) → SideWhole (lock k p content who) (lock k p content who)
-    side_lock p within = side_look (λ ls ks g g'. side_asks {c = Metadata (names p)} (in_reach h (names p) within) (λ a b told. side_found p within a b told))
+      side_lock : (p : PathText) → IsInReach h (names p) → SideWhole (lock k p content who) (lock k p content who)
+      side_lock p within = side_look (λ ls ks g g'. side_asks {c = Metadata (names p)} (in_reach h (names p) within) (λ a b told. side_found p within a b told))
 
 pub lock_goes_along : LockGoesAlong
-lock_goes_along h headers p body who plan guard within alone (is_lock k are) = side_lock h guard k (only_lists alone k.conditions are.conditions) alone.only body who p within
+lock_goes_along h headers p body who plan guard within absent alone (is_lock k are) = side_lock h guard k (only_lists alone k.conditions are.conditions) alone.only body who absent p within

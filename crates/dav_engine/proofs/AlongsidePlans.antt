@@ -12,7 +12,7 @@ use Rattle.dav_core.specs.declared.method.DavMethod.TheVariants.{MkCol, Patch}
 use Rattle.dav_core.specs.Asking.{Metadata, CreateDir, Write, Flush}
 use Rattle.dav_core.specs.Handle.{Handle, Opening}
 use Rattle.dav_core.specs.Locks.{Lock, requester_of, is_held}
-use Rattle.dav_core.specs.Path.{Path, PathText, names, rest_after, is_at_or_under}
+use Rattle.dav_core.specs.Path.{Path, PathText, names, rest_after, is_at_or_under, is_under, has_names}
 use Rattle.dav_core.proofs.Theorems.{from_rest}
 use Rattle.http_header.specs.FieldValue.{FieldValue}
 use Rattle.http_header.specs.HeaderMap.{get_all}
@@ -27,14 +27,14 @@ use Rattle.dav_headers.specs.declared.range.XUpdateRange.TheVariants.{FromTo, Al
 use Rattle.dav_engine.specs.declared.put_headers.Writing.{Writing}
 use Rattle.dav_engine.specs.Client.{Client, requester}
 use Rattle.dav_engine.specs.Conditions.{Conditions, Addressed, AreConditions, token_holds, while_true, while_false, some_holds, submitted, guarded, status_as}
-use Rattle.dav_engine.specs.Method.{MethodPlan, then as followed_by, ◌>>=◌, require, require_free, gives, refused_as, ask_for}
+use Rattle.dav_engine.specs.Method.{MethodPlan, then as followed_by, ◌>>=◌, require, require_free, gives, refused_as, ask_for, require_parent, require_member}
 use Rattle.dav_engine.specs.Mkcol.{mkcol, create_error, made, is_mkcol}
 use Rattle.dav_engine.specs.Plan.{Done}
 use Rattle.dav_engine.specs.Put.{PutHeaders, from_end, update_from, update_at, updates, written_by, bounded_by, writing_of, put_opening, is_announced, unsatisfiable, sought, stored, store, put_body, bytes_of_body, is_put}
 use Rattle.dav_engine.specs.AnswerParts.{answers_of}
-use Rattle.dav_engine.specs.Guard.{folder_of, IsGuard, Guards, IsInReach, SubmitOnly, no_list, a_list}
-use Rattle.dav_engine.specs.Alongside.{SameResult, SameMetadata, BothOpen, AreOpen, Alongside, side_ok, side_err, side_asks, side_above, side_opens, side_reads, side_writes, side_seeks, side_flushes, side_tells, side_look, side_keep, side_last, SameAnswers}
-use Rattle.dav_engine.proofs.GuardedFolders.{free_for_is}
+use Rattle.dav_engine.specs.Guard.{folder_of, IsGuard, Guards, IsInReach, SubmitOnly, no_list, a_list, IsInside}
+use Rattle.dav_engine.specs.Alongside.{SameResult, SameMetadata, BothOpen, AreOpen, Alongside, side_ok, side_err, side_asks, side_opens, side_reads, side_writes, side_seeks, side_flushes, side_tells, side_look, side_keep, side_last, SameAnswers}
+use Rattle.dav_engine.proofs.GuardedFolders.{free_for_is, parent_free_is_held}
 
 -- ---- parts
 
@@ -48,7 +48,6 @@ pub side_bind : {A B : Type 0} {h : Lock} {whole : Bool} {Q : A → A → Type 0
 side_bind {h = h} {whole} {R = R} f f' (side_ok {a = a} {b = b} (same, q)) more = subst (λ now. Alongside h whole R now (f a) (f' b)) (sym same) (more a b q)
 side_bind f f' side_err more = side_err
 side_bind f f' (side_asks {c = c} inside next) more = side_asks {c = c} inside (λ a b same. side_bind f f' (next a b same) more)
-side_bind f f' (side_above up next) more = side_above up (λ a b same. side_bind f f' (next a b same) more)
 side_bind f f' (side_opens r next failed) more = side_opens r (λ j k same. side_bind f f' (next j k same) more) (λ e. side_bind f f' (failed e) more)
 side_bind f f' (side_reads are next) more = side_reads are (λ a b same. side_bind f f' (next a b same) more)
 side_bind f f' (side_writes are next) more = side_writes are (λ a b same. side_bind f f' (next a b same) more)
@@ -119,6 +118,20 @@ module _ (h : Lock) (guard : IsGuard h) where
   side_free deep who rest e ts us same =
       side_look (λ ls ks g g'. side_require _ _ e
       (free_for_is h guard (requester who ts) rest deep ls g ∙ ap (λ (t : List (List ℕ)). is_held (requester who t) h) same ∙ sym (free_for_is h guard (requester who us) rest deep ks g')))
+
+  -- the folder above a path strictly below the guarded folder
+  pub side_parent : (b c : Bool) (who : Client) (x : List ℕ) (rest : Path) (e : DavError) (ts us : List (List ℕ)) → b ≡ c → ts ≡ us
+      → Alongside h false (AtBoth None (λ x y. x ≡ y)) None (require_parent b (requester who ts) (folder_of h ++ x ∷ rest) e) (require_parent c (requester who us) (folder_of h ++ x ∷ rest) e)
+  side_parent false false who x rest e ts us kind same = side_ok (refl, refl)
+  side_parent true true who x rest e ts us kind same =
+      side_look (λ ls ks g g'. side_require _ _ e
+      (parent_free_is_held h (requester who ts) x rest ls guard g ∙ ap (λ (t : List (List ℕ)). is_held (requester who t) h) same ∙ sym (parent_free_is_held h (requester who us) x rest ks guard g')))
+  side_parent true false who x rest e ts us kind same = cc
+  side_parent false true who x rest e ts us kind same = cc
+
+  pub side_free_member : (deep b c : Bool) (who : Client) (x : List ℕ) (rest : Path) (e : DavError) (ts us : List (List ℕ)) → b ≡ c → ts ≡ us
+      → Alongside h false (AtBoth None (λ x y. x ≡ y)) None (require_member deep b (requester who ts) (folder_of h ++ x ∷ rest) e) (require_member deep c (requester who us) (folder_of h ++ x ∷ rest) e)
+  side_free_member deep b c who x rest e ts us kind same = side_bind _ _ (side_free deep who (x ∷ rest) e ts us same) (λ u v _. side_parent b c who x rest e ts us kind same)
 
 -- ---- PUT and PATCH
 
@@ -212,15 +225,21 @@ module _ (h : Lock) (guard : IsGuard h) (rest : Path) where
       side_tells are2 (λ a b told. side_ok (stored_allows found (result_ok a) ∙ sym (stored_allows found (result_ok b))))))))
       (λ e. side_err)
 
-  pub side_put : (m : DavMethod) (headers : PutHeaders) {ls : List Addressed} (who : Client) (bytes : Option (List ℕ)) → headers.conditions ≡ holders ls → SubmitOnly h ls
+  side_inside : (x : List ℕ) (r : Path) → rest ≡ x ∷ r → (b c : Bool) (who : Client) (e : DavError) (ts us : List (List ℕ)) → b ≡ c → ts ≡ us
+      → Alongside h false (AtBoth None (λ x y. x ≡ y)) None (require_member false b (requester who ts) target e) (require_member false c (requester who us) target e)
+  side_inside x r below b c who e ts us kind same =
+      subst (λ (q : Path). Alongside h false (AtBoth None (λ x y. x ≡ y)) None (require_member false b (requester who ts) (folder_of h ++ q) e) (require_member false c (requester who us) (folder_of h ++ q) e)) (sym below)
+      (side_free_member h guard false b c who x r e ts us kind same)
+
+  pub side_put : (x : List ℕ) (r : Path) → rest ≡ x ∷ r → (m : DavMethod) (headers : PutHeaders) {ls : List Addressed} (who : Client) (bytes : Option (List ℕ)) → headers.conditions ≡ holders ls → SubmitOnly h ls
       → Alongside h true (λ file. SameAnswers) None (put_body m headers target who bytes) (put_body m headers target who bytes)
-  side_put m headers who None is only = side_err
-  side_put m headers {ls} who (Some bytes) is only =
+  side_put x r below m headers who None is only = side_err
+  side_put x r below m headers {ls} who (Some bytes) is only =
       side_bind {Q = λ x y. x ≡ y} (λ (allowed : Writing × Bool). store (put_opening headers allowed.0) allowed.0.from target bytes who.moment allowed.1) (λ (allowed : Writing × Bool). store (put_opening headers allowed.0) allowed.0.from target bytes who.moment allowed.1)
       (side_asks {c = Metadata target} (rest, refl) (λ a b told.
       side_then (writing_of m headers (result_ok a)) (writing_of m headers (result_ok b)) _ _ (writing_same m headers (result_ok a) (result_ok b) (told_results a b told)) (λ w.
       side_bind _ _ (subst (λ (c : Conditions). Alongside h false (AtBoth None (λ x y. x ≡ y)) None (guarded dav.StatusClose m c (result_ok a)) (guarded dav.StatusClose m c (result_ok b))) (sym is) (side_guarded h guard dav.StatusClose m (result_ok a) (result_ok b) only)) (λ ts us same.
-      side_bind _ _ (side_free h guard false who rest (dav.StatusClose 423) ts us same) (λ u v _.
+      side_bind _ _ (side_inside x r below (not (is_ok a)) (not (is_ok b)) who (dav.StatusClose 423) ts us (ap not (found_same a b told)) same) (λ u v _.
       side_bind _ _ (side_require (is_announced w.announced bytes) (is_announced w.announced bytes) (dav.StatusClose 400) refl) (λ u v _.
       side_ok (refl, ap (λ (f : Bool). (w, f)) (found_same a b told))))))))
       (λ x y same. subst (λ (z : Writing × Bool). Alongside h true (λ file. SameAnswers) None (store (put_opening headers x.0) x.0.from target bytes who.moment x.1) (store (put_opening headers z.0) z.0.from target bytes who.moment z.1)) same
@@ -235,14 +254,14 @@ module _ (h : Lock) (guard : IsGuard h) (rest : Path) where
   create_ends p (Ok u) (Err f) same = absurd same
   create_ends p (Err e) (Ok v) same = absurd same
 
-  pub side_mkcol : (p : PathText) (who : Client) {ls : List Addressed} → names p ≡ target → SubmitOnly h ls
+  pub side_mkcol : (x : List ℕ) (r : Path) → rest ≡ x ∷ r → (p : PathText) (who : Client) {ls : List Addressed} → names p ≡ target → SubmitOnly h ls
       → Alongside h true (λ file. SameAnswers) None (mkcol (holders ls) p who) (mkcol (holders ls) p who)
-  side_mkcol p who {ls} is only =
+  side_mkcol x r below p who {ls} is only =
       side_bind {Q = λ x y. x ≡ y} _ _
       (side_asks {c = Metadata (names p)} (rest, is) (λ a b told.
       side_bind _ _ (side_guarded h guard dav.Status MkCol (result_ok a) (result_ok b) only) (λ ts us same.
-      subst (λ (q : Path). Alongside h false (AtBoth None (λ x y. x ≡ y)) None (require_free false (requester who ts) q (dav.Status 423)) (require_free false (requester who us) q (dav.Status 423))) (sym is)
-      (side_free h guard false who rest (dav.Status 423) ts us same))))
+      subst (λ (q : Path). Alongside h false (AtBoth None (λ x y. x ≡ y)) None (require_member false (not (is_ok a)) (requester who ts) q (dav.Status 423)) (require_member false (not (is_ok b)) (requester who us) q (dav.Status 423))) (sym is)
+      (side_inside x r below (not (is_ok a)) (not (is_ok b)) who (dav.Status 423) ts us (ap not (found_same a b told)) same))))
       (λ u v same. side_asks {c = CreateDir (names p) who.moment} (rest, is) (create_ends p))
 
 -- ---- who submits the guard's token alone
@@ -255,6 +274,15 @@ reached folder p (Some rest) is within = (rest, from_rest folder p rest is)
 pub in_reach : (h : Lock) (p : Path) → IsInReach h p → (rest : Path) × (p ≡ folder_of h ++ rest)
 in_reach h p within = reached (folder_of h) p (rest_after (folder_of h) p) refl within
 
+inside_by : (folder p : Path) (o : Option Path) → rest_after folder p ≡ o → is_under p folder ≡ true → (x : List ℕ) × (rest : Path) × (p ≡ folder ++ x ∷ rest)
+inside_by folder p None is within = let none : is_under p folder ≡ false = ap has_names is in absurd (true≢false (sym within ∙ none))
+inside_by folder p (Some []) is within = let none : is_under p folder ≡ false = ap has_names is in absurd (true≢false (sym within ∙ none))
+inside_by folder p (Some (x ∷ rest)) is within = (x, rest, from_rest folder p (x ∷ rest) is)
+
+-- there are some where the path is strictly below it
+pub in_side : (h : Lock) (p : Path) → IsInside h p → (x : List ℕ) × (rest : Path) × (p ≡ folder_of h ++ x ∷ rest)
+in_side h p within = inside_by (folder_of h) p (rest_after (folder_of h) p) refl within
+
 no_tags : (values : List FieldValue) → values ≡ [] → Decodes IsTagList values None
 no_tags values is l read = absurd (omega (arith, read.0, ap length is))
 
@@ -266,11 +294,11 @@ only_lists {headers = headers} {p} k c are =
 
 pub put_goes_along : PutGoesAlong
 put_goes_along h m headers p body who plan guard within alone (is_put hd are) =
-    let (rest, at) = in_reach h (names p) within in
+    let (x, rest, at) = in_side h (names p) within in
     subst (λ (q : Path). GoesAlong h (put_body m hd q who (bytes_of_body body))) (sym at)
-    (side_put h guard rest m hd who (bytes_of_body body) (only_lists alone hd.conditions are.conditions) alone.only)
+    (side_put h guard (x ∷ rest) x rest refl m hd who (bytes_of_body body) (only_lists alone hd.conditions are.conditions) alone.only)
 
 pub mkcol_goes_along : MkcolGoesAlong
 mkcol_goes_along h headers p who plan guard within alone (is_mkcol c are) =
-    let (rest, at) = in_reach h (names p) within in
-    subst (λ (d : Conditions). GoesAlong h (mkcol d p who)) (sym (only_lists alone c are)) (side_mkcol h guard rest p who at alone.only)
+    let (x, rest, at) = in_side h (names p) within in
+    subst (λ (d : Conditions). GoesAlong h (mkcol d p who)) (sym (only_lists alone c are)) (side_mkcol h guard (x ∷ rest) x rest refl p who at alone.only)

@@ -132,10 +132,6 @@ module _ (folder : Path) (w v : World) (same : SameInside folder w v) (low : v.n
   pub metadata_beside : (rest : Path) → Beside ⊥ SameMetadata (Like folder) (metadata w (folder ++ rest)) (metadata v (folder ++ rest))
   metadata_beside rest = node_beside _ _ (at_both rest) (λ n m s. beside_ok (told_same n m s) (same, low))
 
-  -- a look at a folder above
-  pub above_beside : (p : Path) → is_under folder p ≡ true → Beside ⊥ SameMetadata (Like folder) (metadata w p) (metadata v p)
-  above_beside p up = folders_beside w v (node_at w p) (node_at v p) (above p up) (above' p up) (same, low)
-
   root_parent : (f : Path) → f ≡ folder → is_folder w (parent_of f) ≡ is_folder v (parent_of f)
   root_parent [] is = let e : folder ++ [] ≡ [] = append-nil folder ∙ sym is in ap (is_folder w) (sym e) ∙ folder_same (at_both []) ∙ ap (is_folder v) e
   root_parent (x ∷ f) is =

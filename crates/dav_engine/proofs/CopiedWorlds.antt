@@ -85,13 +85,13 @@ not_true : (b : Bool) → not b ≡ true → b ≡ false
 not_true true h = cc
 not_true false h = refl
 
-allowed_by : (m : DavMethod) (h : CopyHeaders) (p d : PathText) (who : Client) (found : DavMetaData) {old new : StoreState} {ls ms : Locks} {there : Option DavMetaData}
-    → Ran Asks (copy_allowed m h p d who found) old ls (Ok there) new ms → Allowed (names p) (names d) there old new ls ms
-allowed_by m h p d who found {old} {there = there} ran =
-    let (world, locks) = reading_leaves (only_reads look_reads (only_copy_allowed m h p d who found)) ran in
+allowed_by : (m : DavMethod) (deep : Bool) (h : CopyHeaders) (p d : PathText) (who : Client) (found : DavMetaData) {old new : StoreState} {ls ms : Locks} {there : Option DavMetaData}
+    → Ran Asks (copy_allowed m deep h p d who found) old ls (Ok there) new ms → Allowed (names p) (names d) there old new ls ms
+allowed_by m deep h p d who found {old} {there = there} ran =
+    let (world, locks) = reading_leaves (only_reads look_reads (only_copy_allowed m deep h p d who found)) ran in
     let a = parts (destination_found h.overwrite d) _ ran in
     let b = parts (require (not (is_at_or_under (names p) (names d))) (dav.Status 403)) _ a.more in
-    let c = parts (copy_free m h.conditions p d who found) _ b.more in
+    let c = parts (copy_free m deep h.conditions p d who found a.value) _ b.more in
     let is = gave c.more in
     record {
       told = subst (Told old.world (names d)) (sym is.0) (found_told h.overwrite d a.one);
@@ -227,8 +227,8 @@ answer_started : (m : DavMethod) (h : CopyHeaders) (p d : PathText) (who : Clien
 answer_started m h p d who deep (Err e) one ran = let ends = finish ran in let clash = ends.0 in cc
 answer_started m h p d who deep (Ok found) {old} {mid} {new} {ls} {ms} {r} one ran =
     let looked = found_did one in
-    let a = parts (copy_allowed m h (closed found.dir p) d who found) _ ran in
-    let known = allowed_by m h (closed found.dir p) d who found a.one in
+    let a = parts (copy_allowed m deep h (closed found.dir p) d who found) _ ran in
+    let known = allowed_by m deep h (closed found.dir p) d who found a.one in
     record {
       dir = found.dir;
       is = looked.dir ∙ sym (ap is_folder_node looked.there);

@@ -46,7 +46,7 @@ module _ (who : Client) where
 
   changes_copied : (ls : List Lock) (m : DavMethod) (deep : Bool) (h : CopyHeaders) (p d : PathText) (found : DavMetaData) → ChangesList who ls (copy_found m deep h p d who found)
   changes_copied ls m deep h p d found =
-      changes_bind _ (changes_only (only_copy_allowed m h p d who found)) (λ ks there.
+      changes_bind _ (changes_only (only_copy_allowed m deep h p d who found)) (λ ks there.
       changes_bind _ (changes_clearing ks deep who.moment d there) (λ js faults. changes_bring js (is_move m) deep who.moment p d there faults))
 
 pub copymove_changes_list : CopyMoveChangesList

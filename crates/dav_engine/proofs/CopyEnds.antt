@@ -134,8 +134,8 @@ after_answer : (m : DavMethod) (deep : Bool) (h : CopyHeaders) (p d : PathText) 
 after_answer m deep h p d who (Err x) w same ran = let ends = finish ran in (ap (λ (s : StoreState). s.world) ends.1 ∙ same, ends.2)
 after_answer m deep h p d who (Ok found) w same ran =
     let q : PathText = closed found.dir p in
-    let s = ran_split (copy_allowed m h q d who found) _ ran in
-    let (world, locks) = reading_leaves (only_reads look_reads (only_copy_allowed m h q d who found)) s.first in
+    let s = ran_split (copy_allowed m deep h q d who found) _ ran in
+    let (world, locks) = reading_leaves (only_reads look_reads (only_copy_allowed m deep h q d who found)) s.first in
     after_allowed (is_move m) deep who.moment q d s.outcome w (world ∙ same, locks) s.rest
 
 after_place : (m : DavMethod) (deep : Bool) (h : CopyHeaders) (p : PathText) (who : Client) (place : Result PathText DavError) {old new : StoreState} {ls ms : Locks} {e : DavError}

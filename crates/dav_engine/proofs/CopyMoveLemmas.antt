@@ -12,7 +12,7 @@ use Rattle.dav_core.specs.declared.fs.DavMetaData.{DavMetaData}
 use Rattle.dav_core.specs.declared.method.DavMethod.{DavMethod}
 use Rattle.dav_core.specs.Asking.{Call, StoreState, Asks, Metadata, Rename}
 use Rattle.dav_core.specs.Lists.{is_empty}
-use Rattle.dav_core.specs.Locks.{deleted, requester_of}
+use Rattle.dav_core.specs.Locks.{Requester, deleted, requester_of}
 use Rattle.dav_core.specs.Path.{Path, PathText, names, parent_of, is_at_or_under}
 use Rattle.http_header.specs.FieldValue.{FieldValue}
 use Rattle.dav_engine.specs.BackendView.{BackendView}
@@ -21,12 +21,12 @@ use Rattle.dav_engine.specs.Conditions.{Conditions, if_match_get_tokens}
 use Rattle.dav_engine.specs.ConditionView.{texts_of, tokens_or_status}
 use Rattle.dav_engine.specs.Copied.{Copied, copied, Copies, all_copied, some_left, no_memory, FollowsLater, IsPlain}
 use Rattle.dav_engine.specs.Copying.{CopyFault, copy_report, last_refusal, CopyWalk, copy_seen, copy_members, copy_listed, copy_inside, copy_kind, copy_looked, copy, copying, renaming}
-use Rattle.dav_engine.specs.CopyMove.{CopyHeaders, AreCopyHeaders, DestinationNames, is_move, copy_depth, destination_found, source_free, copy_free, copy_allowed, is_replaced, clearing, drop_if, drop_if_moved, copied_status, copy_reply, bringing, bring_if_clear, copy_found, copy_or_move}
+use Rattle.dav_engine.specs.CopyMove.{CopyHeaders, AreCopyHeaders, DestinationNames, is_move, copy_depth, destination_found, paths_free, folders_free, copy_free, copy_allowed, changes_members, is_replaced, clearing, drop_if, drop_if_moved, copied_status, copy_reply, bringing, bring_if_clear, copy_found, copy_or_move}
 use Rattle.dav_engine.specs.CopyView.{result_of}
 use Rattle.dav_engine.specs.Folder.{closed, room_at, is_folder_found}
-use Rattle.dav_engine.specs.Follows.{as_is, Follows, FollowsFrom, followed, gave_up, Makes, or_memory}
+use Rattle.dav_engine.specs.Follows.{as_is, Follows, FollowsFrom, followed, gave_up, Makes, Sets, or_memory}
 use Rattle.dav_engine.specs.Headers.{Headers}
-use Rattle.dav_engine.specs.Method.{MethodPlan, ◌>>=◌, require, require_free, is_open, answer_of, ask_for, gives}
+use Rattle.dav_engine.specs.Method.{MethodPlan, ◌>>=◌, require, require_free, require_parent, is_open, answer_of, ask_for, gives}
 use Rattle.dav_engine.specs.Multistatus.{PathStatus, multi_reply, status_reply}
 use Rattle.dav_engine.specs.Plan.{Done, Locks, Ran, refused_done}
 use Rattle.dav_engine.specs.Removal.{Fault, report_of, removal}
@@ -91,7 +91,7 @@ and_two true b h = h
 and_two false b h = cc
 
 abbrev checks : Bool → PathText → PathText → Client → List (List ℕ) → MethodPlan (Unit {0})
-checks moves p d who ts = source_free moves who ts p >>= (λ u. require_free true (requester who ts) (names d) (dav.Status 423))
+checks moves p d who ts = paths_free moves who ts p d
 
 abbrev open_at : Client → List (List ℕ) → Locks → PathText → Bool
 open_at who ts ls q = is_open true (requester who ts) (names q) ls
@@ -120,13 +120,35 @@ module _ (p d : PathText) (who : Client) (ts : List (List ℕ)) (s : StoreState)
   checked_locked false h = last_locked h
   checked_locked true h = locked_by (open_at who ts ls p) refl h
 
-module _ {E : Type 0} (m : DavMethod) (c : Conditions) (p d : PathText) (who : Client) (found : DavMetaData) (before : Option DavMetaData) (r : Result (Result (Vec (String Global)) ℕ) E) {old new : StoreState} {ls : Locks}
+-- and the folders above
+
+module _ (moves changes : Bool) (who : Requester) (p d : PathText) {ls : Locks} where
+  pub folders_out : (e : DavError) → Sets (λ (u : Unit {0}). u) (require_parent moves who (names p) (dav.Status 423)) ls (Err e) ls → Sets (λ (u : Unit {0}). u) (folders_free moves changes who p d) ls (Err e) ls
+  folders_out e one s = follows_err (λ _. require_parent changes who (names d) (dav.Status 423)) e (one s)
+
+  pub folders_on : {r : Result (Unit {0}) DavError} → Sets (λ (u : Unit {0}). u) (require_parent moves who (names p) (dav.Status 423)) ls (Ok tt) ls
+      → Sets (λ (u : Unit {0}). u) (require_parent changes who (names d) (dav.Status 423)) ls r ls → Sets (λ (u : Unit {0}). u) (folders_free moves changes who p d) ls r ls
+  folders_on one two s = follows_then (λ _. require_parent changes who (names d) (dav.Status 423)) (one s) (two s)
+
+folders_for : (moves kind changes wanted : Bool) (tokens : Vec (String Global)) (lent : List (String Global)) (principal : Option (List ℕ)) (p d : PathText) {ls : Locks} {r : Result (Unit {0}) DavError}
+    → moves ≡ kind → changes ≡ wanted → lent ≡ tokens.items
+    → Sets (λ (u : Unit {0}). u) (folders_free moves changes (requester_of (map string_bytes lent) false principal) p d) ls r ls
+    → Sets (λ (u : Unit {0}). u) (folders_free kind wanted (requester_of (texts_of tokens) false principal) p d) ls r ls
+folders_for moves kind changes wanted tokens lent principal p d {ls} {r} one two tells done =
+    subst (λ m. Sets (λ (u : Unit {0}). u) (folders_free m wanted (requester_of (texts_of tokens) false principal) p d) ls r ls) one
+    (subst (λ b. Sets (λ (u : Unit {0}). u) (folders_free moves b (requester_of (texts_of tokens) false principal) p d) ls r ls) two
+    (subst (λ (l : List (String Global)). Sets (λ (u : Unit {0}). u) (folders_free moves changes (requester_of (map string_bytes l) false principal) p d) ls r ls) tells done))
+
+module _ {E : Type 0} (m : DavMethod) (deep : Bool) (c : Conditions) (p d : PathText) (who : Client) (found : DavMetaData) (there : Option DavMetaData) (before : Option DavMetaData) (r : Result (Result (Vec (String Global)) ℕ) E) {old new : StoreState} {ls : Locks}
     (same : before ≡ Some found) (one : Follows tokens_or_status (if_match_get_tokens m c before) old ls (or_memory r) new ls) where
+  abbrev then_folders : List (List ℕ) → Unit {0} → MethodPlan (Unit {0})
+  then_folders ts u = folders_free (is_move m) (changes_members (is_move m) deep there) (requester who ts) p d
+
   abbrev with_tokens : List (List ℕ) → MethodPlan (Unit {0})
-  with_tokens ts = checks (is_move m) p d who ts
+  with_tokens ts = checks (is_move m) p d who ts >>= then_folders ts
 
   abbrev Judged : Result (Unit {0}) DavError → Type 0
-  Judged o = Follows (λ (u : Unit {0}). u) (copy_free m c p d who found) old ls o new ls
+  Judged o = Follows (λ (u : Unit {0}). u) (copy_free m deep c p d who found there) old ls o new ls
 
   pub free_short : (e : E) → r ≡ Err e → Judged (Err dav.Memory)
   free_short e was = guard_short dav.Status m c before (Some found) with_tokens r e same was one
@@ -141,11 +163,18 @@ module _ {E : Type 0} (m : DavMethod) (c : Conditions) (p d : PathText) (who : C
         looked ∙ ap (λ (l : List (String Global)). (if moves then is_open true (requester_of (map string_bytes l) false who.principal) (names p) ls else true) && is_open true (requester_of (map string_bytes l) false who.principal) (names d) ls) tells
         ∙ ap (λ (k : Bool). (if k then is_open true (requester who (texts_of tokens)) (names p) ls else true) && is_open true (requester who (texts_of tokens)) (names d) ls) kind
 
-    pub free_passed : b ≡ true → Judged (Ok tt)
-    free_passed freed = guard_passed dav.Status m c before (Some found) with_tokens r verdict tokens same was is one (checked_free p d who (texts_of tokens) new ls (is_move m) (sym looked_is ∙ freed))
+    pub free_then : (changes : Bool) (seen : Option DavMetaData) (again : List (String Global)) (o : Result (Unit {0}) DavError) → changes ≡ changes_members moves deep seen → seen ≡ there → again ≡ tokens.items → b ≡ true
+        → Sets (λ (u : Unit {0}). u) (folders_free moves changes (requester_of (map string_bytes again) false who.principal) p d) ls o ls → Judged o
+    free_then changes seen again o wanted shown same_tokens freed done =
+        let wants : changes ≡ changes_members (is_move m) deep there = wanted ∙ ap (λ k. changes_members k deep seen) kind ∙ ap (changes_members (is_move m) deep) shown in
+        guard_passed dav.Status m c before (Some found) with_tokens r verdict tokens same was is one
+        (follows_then (then_folders (texts_of tokens)) (checked_free p d who (texts_of tokens) new ls (is_move m) (sym looked_is ∙ freed))
+        (folders_for moves (is_move m) changes (changes_members (is_move m) deep there) tokens again who.principal p d kind wants same_tokens done new))
 
     pub free_locked : b ≡ false → Judged (Err (dav.Status 423))
-    free_locked shut = guard_passed dav.Status m c before (Some found) with_tokens r verdict tokens same was is one (checked_locked p d who (texts_of tokens) new ls (is_move m) (sym looked_is ∙ shut))
+    free_locked shut =
+        guard_passed dav.Status m c before (Some found) with_tokens r verdict tokens same was is one
+        (follows_err (then_folders (texts_of tokens)) (dav.Status 423) (checked_locked p d who (texts_of tokens) new ls (is_move m) (sym looked_is ∙ shut)))
 
 -- ---- all checks
 
@@ -155,18 +184,18 @@ not_false h = ap not h
 not_true : {b : Bool} → b ≡ true → not b ≡ false
 not_true h = ap not h
 
-module _ (m : DavMethod) (h : CopyHeaders) (p d : PathText) (who : Client) (found : DavMetaData) where
+module _ (m : DavMethod) (deep : Bool) (h : CopyHeaders) (p d : PathText) (who : Client) (found : DavMetaData) where
   abbrev with_place : Option DavMetaData → MethodPlan (Option DavMetaData)
   with_place there = do
     _ ← require (not (is_at_or_under (names p) (names d))) (dav.Status 403)
-    _ ← copy_free m h.conditions p d who found
+    _ ← copy_free m deep h.conditions p d who found there
     gives there
 
   abbrev if_free : Option DavMetaData → Unit {0} → MethodPlan (Option DavMetaData)
-  if_free there u = copy_free m h.conditions p d who found >>= (λ v. gives there)
+  if_free there u = copy_free m deep h.conditions p d who found there >>= (λ v. gives there)
 
   abbrev Allows : StoreState → Locks → Result (Option DavMetaData) DavError → StoreState → Type 0
-  Allows old ls r new = Follows (as_is {A = Option DavMetaData}) (copy_allowed m h p d who found) old ls r new ls
+  Allows old ls r new = Follows (as_is {A = Option DavMetaData}) (copy_allowed m deep h p d who found) old ls r new ls
 
   pub allowed_nowhere : (e : DavError) {old new : StoreState} {ls : Locks} → Makes (as_is {A = Option DavMetaData}) (destination_found h.overwrite d) old (Err e) new → Allows old ls (Err e) new
   allowed_nowhere e {ls = ls} one = follows_err with_place e (one ls)
@@ -179,10 +208,10 @@ module _ (m : DavMethod) (h : CopyHeaders) (p d : PathText) (who : Client) (foun
       beyond : {r : Result (Option DavMetaData) DavError} → Follows (as_is {A = Option DavMetaData}) (if_free there tt) mid ls r new ls → Allows old ls r new
       beyond more = follows_then with_place (one ls) (follows_on (not (is_at_or_under (names p) (names d))) (dav.Status 403) (if_free there) (not_false (sym is ∙ apart)) more)
 
-      pub allowed_unfree : (e : DavError) → Follows (λ (u : Unit {0}). u) (copy_free m h.conditions p d who found) mid ls (Err e) new ls → Allows old ls (Err e) new
+      pub allowed_unfree : (e : DavError) → Follows (λ (u : Unit {0}). u) (copy_free m deep h.conditions p d who found there) mid ls (Err e) new ls → Allows old ls (Err e) new
       allowed_unfree e two = beyond (follows_err (λ v. gives there) e two)
 
-      pub allowed_free : Follows (λ (u : Unit {0}). u) (copy_free m h.conditions p d who found) mid ls (Ok tt) new ls → Allows old ls (Ok there) new
+      pub allowed_free : Follows (λ (u : Unit {0}). u) (copy_free m deep h.conditions p d who found there) mid ls (Ok tt) new ls → Allows old ls (Ok there) new
       allowed_free two = beyond (follows_then (λ v. gives there) two (follows_done refl))
 
 -- ---- what is at the destination is removed
@@ -378,10 +407,10 @@ module _ (m : DavMethod) (deep : Bool) (h : CopyHeaders) (p d : PathText) (who :
   abbrev Answers : StoreState → Locks → Result Response DavError → StoreState → Locks → Type 0
   Answers old ls r new ms = Follows as_is (copy_found m deep h p d who found) old ls r new ms
 
-  pub found_refused : (e : DavError) {old new : StoreState} {ls : Locks} → Allows m h p d who found old ls (Err e) new → Answers old ls (Err e) new ls
+  pub found_refused : (e : DavError) {old new : StoreState} {ls : Locks} → Allows m deep h p d who found old ls (Err e) new → Answers old ls (Err e) new ls
   found_refused e one = follows_err with_found e one
 
-  module _ (there : Option DavMetaData) {old mid : StoreState} {ls : Locks} (one : Allows m h p d who found old ls (Ok there) mid) where
+  module _ (there : Option DavMetaData) {old mid : StoreState} {ls : Locks} (one : Allows m deep h p d who found old ls (Ok there) mid) where
     pub found_stopped : {new : StoreState} → StoppedIn (clearing deep who.moment d there) mid new → Answers old ls (Err dav.Memory) new ls
     found_stopped stop = follows_then with_found one (gave_up refl (cut_in (if_clear there) (stop ls) refl))
 

@@ -16,15 +16,15 @@ use Rattle.dav_core.proofs.Theorems.{name_is_segment}
 use Rattle.dav_engine.specs.Client.{Client, requester}
 use Rattle.dav_engine.specs.Conditions.{Conditions, guarded}
 use Rattle.dav_engine.specs.Copying.{CopyFault, CopyWalk, copy_seen, copy_members, copy_listed, copy_inside, copy_kind, copy_looked, copy, renaming}
-use Rattle.dav_engine.specs.CopyMove.{CopyHeaders, is_move, copy_depth, destination_found, source_free, copy_free, copy_allowed, is_replaced, clearing, drop_if, drop_if_moved, brought, bring_if_clear, copy_found, is_copy_move}
+use Rattle.dav_engine.specs.CopyMove.{CopyHeaders, is_move, copy_depth, destination_found, source_free, copy_free, copy_allowed, is_replaced, clearing, drop_if, drop_if_moved, brought, bring_if_clear, copy_found, is_copy_move, paths_free, changes_members}
 use Rattle.dav_engine.specs.Folder.{closed, child_of, room_at, is_folder_found}
-use Rattle.dav_engine.specs.Method.{MethodPlan, then as followed_by, ◌>>=◌, require, refused_as, gives}
+use Rattle.dav_engine.specs.Method.{MethodPlan, then as followed_by, ◌>>=◌, require, refused_as, gives, require_parent}
 use Rattle.dav_engine.specs.Removal.{Fault, removal}
 use Rattle.dav_engine.specs.WorldLaws.{MayTell, IsProperPlan, proper_done, proper_ask, CopyMoveIsProper}
 use Rattle.dav_engine.proofs.ChildLemmas.{names_child, slash_is_path}
 use Rattle.dav_engine.proofs.CopyHeaderLemmas.{place_by, plain_other}
 use Rattle.dav_engine.proofs.DeleteWorld.{proper_change, proper_removal}
-use Rattle.dav_engine.proofs.PutWorld.{IsLook, looks, look_proper, only_guarded, only_free}
+use Rattle.dav_engine.proofs.PutWorld.{IsLook, looks, look_proper, only_guarded, only_free, only_parent}
 use Rattle.dav_engine.proofs.WorldPlans.{Only, only_done, only_ask, only_bind, only_require, only_proper, proper_then, proper_bind}
 
 -- ---- the checks
@@ -38,16 +38,19 @@ only_source : (moves : Bool) (who : Client) (tokens : List (List ℕ)) (p : Path
 only_source true who tokens p = only_free true (requester who tokens) (names p) (dav.Status 423)
 only_source false who tokens p = only_done
 
-pub only_copy_free : (m : DavMethod) (c : Conditions) (p d : PathText) (who : Client) (found : DavMetaData) → Only IsLook (copy_free m c p d who found)
-only_copy_free m c p d who found =
+pub only_copy_free : (m : DavMethod) (deep : Bool) (c : Conditions) (p d : PathText) (who : Client) (found : DavMetaData) (there : Option DavMetaData) → Only IsLook (copy_free m deep c p d who found there)
+only_copy_free m deep c p d who found there =
     only_bind (guarded dav.Status m c (Some found)) _ (only_guarded dav.Status m c (Some found)) (λ tokens.
-    only_bind (source_free (is_move m) who tokens p) _ (only_source (is_move m) who tokens p) (λ u. only_free true (requester who tokens) (names d) (dav.Status 423)))
+    only_bind (paths_free (is_move m) who tokens p d) _
+    (only_bind (source_free (is_move m) who tokens p) _ (only_source (is_move m) who tokens p) (λ u. only_free true (requester who tokens) (names d) (dav.Status 423))) (λ u.
+    only_bind (require_parent (is_move m) (requester who tokens) (names p) (dav.Status 423)) _ (only_parent (is_move m) (requester who tokens) (names p) (dav.Status 423)) (λ v.
+    only_parent (changes_members (is_move m) deep there) (requester who tokens) (names d) (dav.Status 423))))
 
-pub only_copy_allowed : (m : DavMethod) (h : CopyHeaders) (p d : PathText) (who : Client) (found : DavMetaData) → Only IsLook (copy_allowed m h p d who found)
-only_copy_allowed m h p d who found =
+pub only_copy_allowed : (m : DavMethod) (deep : Bool) (h : CopyHeaders) (p d : PathText) (who : Client) (found : DavMetaData) → Only IsLook (copy_allowed m deep h p d who found)
+only_copy_allowed m deep h p d who found =
     only_bind (destination_found h.overwrite d) _ (only_destination h.overwrite d) (λ there.
     only_bind (require (not (is_at_or_under (names p) (names d))) (dav.Status 403)) _ (only_require (not (is_at_or_under (names p) (names d))) (dav.Status 403)) (λ u.
-    only_bind (copy_free m h.conditions p d who found) _ (only_copy_free m h.conditions p d who found) (λ v. only_done)))
+    only_bind (copy_free m deep h.conditions p d who found there) _ (only_copy_free m deep h.conditions p d who found there) (λ v. only_done)))
 
 -- ---- the copy: each path that something is put at is one of names, since listings tell names
 
@@ -134,7 +137,7 @@ module _ (now : ℕ) (small : now ≤ last_moment) where
 
 proper_found : (m : DavMethod) (deep : Bool) (h : CopyHeaders) (p d : PathText) (who : Client) (found : DavMetaData) → who.moment ≤ last_moment → AtPlace d → IsProperPlan (copy_found m deep h p d who found)
 proper_found m deep h p d who found small at =
-    proper_bind (copy_allowed m h p d who found) _ (only_proper look_proper (only_copy_allowed m h p d who found)) (λ there.
+    proper_bind (copy_allowed m deep h p d who found) _ (only_proper look_proper (only_copy_allowed m deep h p d who found)) (λ there.
     proper_bind (clearing deep who.moment d there) _ (proper_clearing who.moment small deep d there) (λ faults. proper_bring who.moment small (is_move m) deep p d there faults at))
 
 to_place : {B : Type 0} (r : Result PathText DavError) (f : PathText → MethodPlan B) → ((d : PathText) → r ≡ Ok d → IsProperPlan (f d)) → IsProperPlan (followed_by r f)

@@ -16,8 +16,8 @@ use Rattle.dav_core.specs.Path.{PathText, names}
 use Rattle.dav_headers.specs.declared.depth.Depth.{Depth}
 use Rattle.dav_engine.specs.Client.{Client, requester}
 use Rattle.dav_engine.specs.Plan.{Locks, Done, Ran}
-use Rattle.dav_engine.specs.Method.{MethodPlan, ◌>>=◌, require_free, is_open, ask_for}
-use Rattle.dav_engine.specs.Follows.{as_is, Follows, followed, gave_up, or_memory}
+use Rattle.dav_engine.specs.Method.{MethodPlan, ◌>>=◌, require_member, ask_for}
+use Rattle.dav_engine.specs.Follows.{as_is, Follows, Sets, followed, gave_up, or_memory}
 use Rattle.dav_engine.specs.Folder.{closed}
 use Rattle.dav_engine.specs.Conditions.{Conditions, if_match_get_tokens}
 use Rattle.dav_engine.specs.ConditionView.{locks_in, texts_of, tokens_or_status}
@@ -28,14 +28,14 @@ use Rattle.dav_engine.specs.Response.{Response}
 use Rattle.dav_engine.specs.Walked.{Walked, walked, StoppedIn, Removes, all_gone, some_stays, ran_out}
 use Rattle.dav_engine.proofs.CutPlans.{cut_in}
 use Rattle.dav_engine.proofs.Following.{ran_at, follows_done, follows_ask, follows_then, follows_err, follows_up_to}
-use Rattle.dav_engine.proofs.GuardLemmas.{follows_ok, follows_fails, guard_passed, guard_failed, guard_short, open_to, ends_free, ends_locked}
+use Rattle.dav_engine.proofs.GuardLemmas.{follows_ok, follows_fails, guard_passed, guard_failed, guard_short, member_for}
 use Rattle.dav_engine.proofs.LaterLemmas.{follows_keep, follows_look_from}
 
 -- ---- the checks
 
 -- what follows the conditions
 abbrev checks : PathText → Client → List (List ℕ) → MethodPlan (Unit {0})
-checks p who tokens = require_free true (requester who tokens) (names p) (dav.Status 423)
+checks p who tokens = require_member true true (requester who tokens) (names p) (dav.Status 423)
 
 pub delete_short : {E : Type 0} (c : Conditions) (p : PathText) (who : Client) (found : DavMetaData) (before : Option DavMetaData) (r : Result (Result (Vec (String Global)) ℕ) E) (e : E) {old new : StoreState} {ls : Locks}
     → before ≡ Some found → r ≡ Err e → Follows tokens_or_status (if_match_get_tokens Delete c before) old ls (or_memory r) new ls
@@ -47,23 +47,15 @@ pub delete_failed : {E : Type 0} (c : Conditions) (p : PathText) (who : Client) 
     → Follows (λ (u : Unit {0}). u) (delete_allowed c p who found) old ls (Err (dav.Status status)) new ls
 delete_failed c p who found before r verdict status same was is one = guard_failed dav.Status Delete c before (Some found) (checks p who) r verdict status same was is one
 
-pub delete_free : {E : Type 0} (c : Conditions) (p : PathText) (who : Client) (found : DavMetaData) (before : Option DavMetaData) (r : Result (Result (Vec (String Global)) ℕ) E) (verdict : Result (Vec (String Global)) ℕ) (tokens : Vec (String Global))
-    (lent : List (String Global)) (b : Bool) {old new : StoreState} {ls : Locks}
+-- the conditions hold, and then the locks were checked
+pub delete_checked : {E : Type 0} (c : Conditions) (p : PathText) (who : Client) (found : DavMetaData) (before : Option DavMetaData) (r : Result (Result (Vec (String Global)) ℕ) E) (verdict : Result (Vec (String Global)) ℕ) (tokens : Vec (String Global))
+    (lent : List (String Global)) (end : Result (Unit {0}) DavError) {old new : StoreState} {ls : Locks}
     → before ≡ Some found → r ≡ Ok verdict → verdict ≡ Ok tokens → Follows tokens_or_status (if_match_get_tokens Delete c before) old ls (or_memory r) new ls
-    → lent ≡ tokens.items → b ≡ is_open true (requester_of (map string_bytes lent) false who.principal) (names p) ls → b ≡ true
-    → Follows (λ (u : Unit {0}). u) (delete_allowed c p who found) old ls (Ok tt) new ls
-delete_free c p who found before r verdict tokens lent b {ls = ls} same was is one tells looked freed =
+    → lent ≡ tokens.items → Sets (λ (u : Unit {0}). u) (require_member true true (requester_of (map string_bytes lent) false who.principal) (names p) (dav.Status 423)) ls end ls
+    → Follows (λ (u : Unit {0}). u) (delete_allowed c p who found) old ls end new ls
+delete_checked c p who found before r verdict tokens lent end {new = new} same was is one tells done =
     guard_passed dav.Status Delete c before (Some found) (checks p who) r verdict tokens same was is one
-    (ends_free true (requester who (texts_of tokens)) (names p) (dav.Status 423) b (open_to tokens lent who.principal true (names p) ls b tells looked) freed refl)
-
-pub delete_locked : {E : Type 0} (c : Conditions) (p : PathText) (who : Client) (found : DavMetaData) (before : Option DavMetaData) (r : Result (Result (Vec (String Global)) ℕ) E) (verdict : Result (Vec (String Global)) ℕ) (tokens : Vec (String Global))
-    (lent : List (String Global)) (b : Bool) {old new : StoreState} {ls : Locks}
-    → before ≡ Some found → r ≡ Ok verdict → verdict ≡ Ok tokens → Follows tokens_or_status (if_match_get_tokens Delete c before) old ls (or_memory r) new ls
-    → lent ≡ tokens.items → b ≡ is_open true (requester_of (map string_bytes lent) false who.principal) (names p) ls → b ≡ false
-    → Follows (λ (u : Unit {0}). u) (delete_allowed c p who found) old ls (Err (dav.Status 423)) new ls
-delete_locked c p who found before r verdict tokens lent b {ls = ls} same was is one tells looked shut =
-    guard_passed dav.Status Delete c before (Some found) (checks p who) r verdict tokens same was is one
-    (ends_locked true (requester who (texts_of tokens)) (names p) (dav.Status 423) b (open_to tokens lent who.principal true (names p) ls b tells looked) shut refl)
+    (member_for true true true tokens lent who.principal (names p) (dav.Status 423) refl tells done new)
 
 -- what was followed with borrowed locks was followed with the locks themselves
 pub held_locks : {L B Y : Type 0} {view : Y → B} (locks : L → List Lock) (lent : Option (Bor L)) (held : Option L) (plan : MethodPlan B) {old new : StoreState} {r : Result Y DavError}

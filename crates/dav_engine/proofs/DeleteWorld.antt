@@ -18,7 +18,7 @@ use Rattle.dav_engine.specs.Method.{MethodPlan, set_by, change_locks, refused_as
 use Rattle.dav_engine.specs.Plan.{Locks}
 use Rattle.dav_engine.specs.Removal.{Fault, Walk, each, remove, removal, remove_member, remove_found, remove_listed, remove_emptied}
 use Rattle.dav_engine.specs.WorldLaws.{IsProperPlan, proper_done, proper_ask, proper_look, proper_keep, DeleteIsProper}
-use Rattle.dav_engine.proofs.PutWorld.{IsLook, look_proper, only_guarded, only_free}
+use Rattle.dav_engine.proofs.PutWorld.{IsLook, look_proper, only_guarded, only_member}
 use Rattle.dav_engine.proofs.WorldPlans.{Only, only_done, only_ask, only_bind, only_proper, proper_then, proper_bind}
 
 -- ---- a removal
@@ -102,7 +102,7 @@ proper_removal deep now p dir small = only_proper (removal_proper now small) (on
 
 pub only_delete_allowed : (c : Conditions) (p : PathText) (who : Client) (found : DavMetaData) → Only IsLook (delete_allowed c p who found)
 only_delete_allowed c p who found =
-    only_bind (guarded dav.Status Delete c (Some found)) _ (only_guarded dav.Status Delete c (Some found)) (λ tokens. only_free true (requester who tokens) (names p) (dav.Status 423))
+    only_bind (guarded dav.Status Delete c (Some found)) _ (only_guarded dav.Status Delete c (Some found)) (λ tokens. only_member true true (requester who tokens) (names p) (dav.Status 423))
 
 proper_dropped : (p : PathText) (faults : List Fault) → IsProperPlan (drop_if_gone p faults)
 proper_dropped p [] = proper_change _

@@ -8,7 +8,7 @@ use Rattle.dav_core.specs.Path.{PathText, names, is_at_or_under}
 use Rattle.dav_engine.specs.Client.{Client, requester}
 use Rattle.dav_engine.specs.Conditions.{Conditions, submitted}
 use Rattle.dav_engine.specs.Copying.{CopyFault, renaming}
-use Rattle.dav_engine.specs.CopyMove.{CopyHeaders, is_move, copy_depth, source_free, copy_free, copy_allowed, is_replaced, clearing, drop_if, drop_if_moved, brought, bring_if_clear, copy_found, is_copy_move}
+use Rattle.dav_engine.specs.CopyMove.{CopyHeaders, is_move, copy_depth, source_free, copy_free, copy_allowed, is_replaced, clearing, drop_if, drop_if_moved, brought, bring_if_clear, copy_found, is_copy_move, changes_members}
 use Rattle.dav_engine.specs.Ending.{KeepsLock, keeps_done, keeps_ask, keeps_look, keeps_list, CopyMoveKeepsLocks}
 use Rattle.dav_engine.specs.Folder.{closed, room_at, is_folder_found}
 use Rattle.dav_engine.specs.Guard.{IsListed}
@@ -19,7 +19,7 @@ use Rattle.dav_engine.specs.Sparing.{AnyList}
 use Rattle.dav_engine.proofs.CopyMoveLemmas.{AnyCall, only_copy}
 use Rattle.dav_engine.proofs.CopyWorld.{only_destination}
 use Rattle.dav_engine.proofs.DeleteWorld.{only_removal}
-use Rattle.dav_engine.proofs.EndingDelete.{Gives, gives_ok, gives_err, gives_ask, gives_look, gives_bind, gives_only, keeps_given, keeps_only, still_listed, Elsewhere, checked}
+use Rattle.dav_engine.proofs.EndingDelete.{Gives, gives_ok, gives_err, gives_ask, gives_look, gives_bind, gives_only, keeps_given, keeps_only, still_listed, Elsewhere, checked, gives_parent}
 use Rattle.dav_engine.proofs.EndingLemmas.{keeps_then, keeps_bind}
 use Rattle.dav_engine.proofs.LockPlans.{gives_any}
 use Rattle.dav_engine.proofs.PutWorld.{only_guarded}
@@ -50,10 +50,12 @@ module _ (h : Lock) (who : Client) (c : Conditions) (unheld : is_held (requester
   place_off moves tokens same off (gives_ask next) = gives_ask (λ answer. place_off moves tokens same off (next answer))
   place_off moves tokens same off (gives_look next) = gives_look (λ ls listed. place_off moves tokens same off (next ls listed))
 
-  free : (m : DavMethod) (found : DavMetaData) → Gives h (λ u. BothOff (is_move m)) (copy_free m c p d who found)
-  free m found =
+  free : (m : DavMethod) (deep : Bool) (found : DavMetaData) (there : Option DavMetaData) → Gives h (λ u. BothOff (is_move m)) (copy_free m deep c p d who found there)
+  free m deep found there =
       gives_bind _ (gives_only {covered = λ q. false} {E = AnyList} (only_guarded dav.Status m c (Some found)) (spare_guarded (λ q. false) (IsListed h) AnyList dav.Status m c (Some found))) (λ tokens same.
-      gives_bind _ (source_off (is_move m) tokens same) (λ u off. place_off (is_move m) tokens same off (checked h who c unheld (names d) tokens same)))
+      gives_bind _ (gives_bind _ (source_off (is_move m) tokens same) (λ u off. place_off (is_move m) tokens same off (checked h who c unheld (names d) tokens same))) (λ u off.
+      gives_bind _ (gives_parent off (is_move m) (requester who tokens) (names p) (dav.Status 423)) (λ v kept.
+      gives_parent kept (changes_members (is_move m) deep there) (requester who tokens) (names d) (dav.Status 423))))
 
   dropped : (b : Bool) → Off d → KeepsLock h (drop_if b d)
   dropped true off = keeps_look (λ ls listed. keeps_list (still_listed h (names d) off ls listed) keeps_done)
@@ -80,15 +82,15 @@ module _ (h : Lock) (who : Client) (c : Conditions) (unheld : is_held (requester
   if_clear moves deep now there [] off = keeps_bind _ (dropped (is_replaced deep there) off.place) (λ u. keeps_bind _ (brings moves deep now off) (λ faults. keeps_done))
 
 module _ (h : Lock) (who : Client) (k : CopyHeaders) (unheld : is_held (requester who (submitted k.conditions.lists)) h ≡ false) (p d : PathText) where
-  allowed : (m : DavMethod) (found : DavMetaData) → Gives h (λ there. BothOff h who k.conditions unheld p d (is_move m)) (copy_allowed m k p d who found)
-  allowed m found =
+  allowed : (m : DavMethod) (deep : Bool) (found : DavMetaData) → Gives h (λ there. BothOff h who k.conditions unheld p d (is_move m)) (copy_allowed m deep k p d who found)
+  allowed m deep found =
       gives_bind _ (gives_any (only_destination k.overwrite d)) (λ there _.
-      gives_bind (λ u. copy_free m k.conditions p d who found >>= (λ v. gives there)) (gives_any {P = AnyCall} (only_require (not (is_at_or_under (names p) (names d))) (dav.Status 403))) (λ u _.
-      gives_bind (λ v. gives there) (free h who k.conditions unheld p d m found) (λ v off. gives_ok off)))
+      gives_bind (λ u. copy_free m deep k.conditions p d who found there >>= (λ v. gives there)) (gives_any {P = AnyCall} (only_require (not (is_at_or_under (names p) (names d))) (dav.Status 403))) (λ u _.
+      gives_bind (λ v. gives there) (free h who k.conditions unheld p d m deep found there) (λ v off. gives_ok off)))
 
   found_keeps : (m : DavMethod) (deep : Bool) (found : DavMetaData) → KeepsLock h (copy_found m deep k p d who found)
   found_keeps m deep found =
-      keeps_given _ (allowed m found) (λ there off.
+      keeps_given _ (allowed m deep found) (λ there off.
       keeps_bind _ (cleared h who k.conditions unheld p d deep who.moment there) (λ faults. if_clear h who k.conditions unheld p d (is_move m) deep who.moment there faults off))
 
 pub copymove_keeps_locks : CopyMoveKeepsLocks

@@ -6,7 +6,7 @@ use Rattle.dav_core.specs.declared.errors.DavError.TheVariants as dav
 use Rattle.dav_core.specs.declared.fs.DavMetaData.{DavMetaData}
 use Rattle.dav_core.specs.declared.method.DavMethod.TheVariants.{Delete}
 use Rattle.dav_core.specs.Asking.{Call, Answer}
-use Rattle.dav_core.specs.Locks.{Lock, is_held, deleted}
+use Rattle.dav_core.specs.Locks.{Lock, is_held, deleted, Requester}
 use Rattle.dav_core.specs.Path.{Path, PathText, names, is_at_or_under}
 use Rattle.dav_engine.specs.Client.{Client, requester}
 use Rattle.dav_engine.specs.Conditions.{Conditions, submitted}
@@ -14,7 +14,7 @@ use Rattle.dav_engine.specs.Delete.{whole_depth, delete_allowed, drop_if_gone, d
 use Rattle.dav_engine.specs.Ending.{KeepsLock, keeps_done, keeps_ask, keeps_look, keeps_list, DeleteKeepsLocks}
 use Rattle.dav_engine.specs.Folder.{closed}
 use Rattle.dav_engine.specs.Guard.{folder_of, IsSameLock, IsListed, listed_here, listed_later}
-use Rattle.dav_engine.specs.Method.{MethodPlan, ◌>>=◌, require, require_free, is_open, refused_as}
+use Rattle.dav_engine.specs.Method.{MethodPlan, ◌>>=◌, require, require_free, is_open, refused_as, require_parent, is_open_parent}
 use Rattle.dav_engine.specs.Plan.{Plan, Done, Ask, Look, Locks}
 use Rattle.dav_engine.specs.Removal.{Fault}
 use Rattle.dav_engine.specs.Sparing.{Sparing, spares_ok, spares_err, spares_reads, spares_call, spares_look, AnyList}
@@ -77,6 +77,15 @@ module _ (h : Lock) (p : Path) (outside : is_at_or_under (folder_of h) p ≡ fal
 
 -- ---- the plan
 
+-- the check of the folder above tells nothing of the lock
+gives_test : {h : Lock} {Q : Type 0} → Q → (b : Bool) (e : DavError) → Gives h (λ (u : Unit {0}). Q) (require b e)
+gives_test q true e = gives_ok q
+gives_test q false e = gives_err
+
+pub gives_parent : {h : Lock} {Q : Type 0} → Q → (wanted : Bool) (who : Requester) (p : Path) (e : DavError) → Gives h (λ (u : Unit {0}). Q) (require_parent wanted who p e)
+gives_parent q false who p e = gives_ok q
+gives_parent q true who p e = gives_look (λ ls listed. gives_test q (is_open_parent who p (Some ls)) e)
+
 module _ (h : Lock) (who : Client) (c : Conditions) (unheld : is_held (requester who (submitted c.lists)) h ≡ false) where
   abbrev pub Elsewhere : Path → Type 0
   Elsewhere p = is_at_or_under (folder_of h) p ≡ false
@@ -93,7 +102,7 @@ module _ (h : Lock) (who : Client) (c : Conditions) (unheld : is_held (requester
   allowed : (p : PathText) (found : DavMetaData) → Gives h (λ u. Elsewhere (names p)) (delete_allowed c p who found)
   allowed p found =
       gives_bind _ (gives_only {covered = λ q. false} {E = AnyList} (only_guarded dav.Status Delete c (Some found)) (spare_guarded (λ q. false) (IsListed h) AnyList dav.Status Delete c (Some found)))
-      (λ tokens same. checked (names p) tokens same)
+      (λ tokens same. gives_bind _ (checked (names p) tokens same) (λ u off. gives_parent off true (requester who tokens) (names p) (dav.Status 423)))
 
   answered_by : (p : PathText) (f : Fault) (faults : List Fault) → KeepsLock h (Done (delete_reply p (f ∷ faults)))
   answered_by p f faults = keeps_done

@@ -1,7 +1,7 @@
 -- How code follows a LOCK with a body.
-use Rattle.std.proofs.Common.{◌≡◌, ◌++◌, ℕ, List, [], ◌∷◌, Bool, true, false, if◌then◌else◌, Option, Some, None, Result, Ok, Err, refl, sym, ap, subst, ◌∙◌}
+use Rattle.std.proofs.Common.{◌≡◌, ◌++◌, ℕ, List, [], ◌∷◌, Bool, true, false, not, if◌then◌else◌, Option, Some, None, Result, Ok, Err, refl, sym, ap, subst, ◌∙◌}
 use Rattle.std.specs.Prelude.{IfOk, IfErr, IsErrOf, OnErr}
-use Rattle.std.specs.Option.{is_some, option_map, option_copied}
+use Rattle.std.specs.Option.{is_some, is_none, option_map, option_copied}
 use denote.Ref.{Bor}
 use Rattle.std.specs.Result.{result_ok, result_err}
 use Rattle.dav_core.specs.declared.errors.FsError.{FsError}
@@ -11,25 +11,25 @@ use Rattle.dav_core.specs.declared.fs.DavMetaData.{DavMetaData}
 use Rattle.dav_core.specs.declared.method.DavMethod.TheVariants as method
 use Rattle.dav_core.specs.Asking.{StoreState, Asks, Metadata, Open}
 use Rattle.dav_core.specs.Handle.{Handle, Opening}
-use Rattle.dav_core.specs.Locks.{Lock, is_grantable}
+use Rattle.dav_core.specs.Locks.{Lock, requester_of, is_grantable}
 use Rattle.dav_core.specs.LockRefusals.{IsRefusedGrant}
 use Rattle.dav_core.specs.declared.ls.LockRefusal.{LockRefusal}
 use Rattle.dav_core.specs.declared.ls.LockRefusal.TheVariants.{Conflict}
 use Rattle.dav_core.specs.Path.{Path, PathText, names}
 use Rattle.dav_engine.specs.declared.request.Body.{Body}
-use Rattle.dav_engine.specs.Client.{Client}
-use Rattle.dav_engine.specs.Conditions.{if_match}
+use Rattle.dav_engine.specs.Client.{Client, requester}
+use Rattle.dav_engine.specs.Conditions.{if_match, submitted}
 use Rattle.dav_engine.specs.Delete.{whole_depth}
 use Rattle.dav_engine.specs.Follows.{as_is, Follows, followed, Sets, or_memory}
 use Rattle.dav_engine.specs.Lock.{lock_of, asked_lock, grant, taken_back, empty_opening, empty_error, open_empty, make_empty, granted_reply, lock_new, lock_found, lock}
 use Rattle.dav_engine.specs.LockHeaders.{LockHeaders}
 use Rattle.dav_engine.specs.LockInfo.{LockInfo, lock_info}
 use Rattle.dav_engine.specs.LockView.{GrantsNew, not_granted, on_what_is_there, on_a_new_file}
-use Rattle.dav_engine.specs.Method.{MethodPlan, ◌>>=◌, required, unless_status, has_locks, gives}
+use Rattle.dav_engine.specs.Method.{MethodPlan, ◌>>=◌, require_parent, required, unless_status, has_locks, gives}
 use Rattle.dav_engine.specs.Plan.{Locks, Done, Keep, Ran, ran_done, ran_ask, ran_look, ran_keep}
 use Rattle.dav_engine.specs.Response.{Response, Header}
 use Rattle.dav_engine.proofs.Following.{ran_at, ran_bind, follows_done, follows_ask, follows_then, follows_err, follows_up_to}
-use Rattle.dav_engine.proofs.GuardLemmas.{follows_look, follows_ok, follows_fails}
+use Rattle.dav_engine.proofs.GuardLemmas.{follows_look, follows_ok, follows_fails, turned}
 use Rattle.dav_engine.proofs.LaterLemmas.{follows_keep, follows_then_from}
 
 -- ---- the lock that is asked for
@@ -38,7 +38,14 @@ module _ (h : LockHeaders) (p : PathText) (content : Body) (who : Client) (found
   abbrev with_info : Bool → LockInfo → MethodPlan Lock
   with_info deep info = do
     token ← Done (required who.token (dav.Status 500))
+    _ ← require_parent (is_none found) (requester who (submitted h.conditions.lists)) (names p) (dav.Status 423)
     gives (lock_of h p who deep info token)
+
+  abbrev with_token : Bool → LockInfo → List ℕ → MethodPlan Lock
+  with_token deep info token = require_parent (is_none found) (requester who (submitted h.conditions.lists)) (names p) (dav.Status 423) >>= (λ _. gives (lock_of h p who deep info token))
+
+  abbrev Above : Locks → Result (Unit {0}) DavError → Type 0
+  Above ls r = Sets (λ (u : Unit {0}). u) (require_parent (is_none found) (requester who (submitted h.conditions.lists)) (names p) (dav.Status 423)) ls r ls
 
   abbrev when_held : Bool → MethodPlan Lock
   when_held deep = do
@@ -91,14 +98,39 @@ module _ (h : LockHeaders) (p : PathText) (content : Body) (who : Client) (found
           then_informed more = then_held (follows_ok (required (lock_info content) dav.XmlParseError) info (with_info deep) (ap (λ i. required i dav.XmlParseError) some) more)
 
           pub asked_untokened : who.token ≡ None → Asked old ls (Err (dav.Status 500)) new ls
-          asked_untokened absent = then_informed (follows_fails (required who.token (dav.Status 500)) (dav.Status 500) (λ token. gives (lock_of h p who deep info token)) (ap (λ t. required t (dav.Status 500)) absent) refl)
+          asked_untokened absent = then_informed (follows_fails (required who.token (dav.Status 500)) (dav.Status 500) (with_token deep info) (ap (λ t. required t (dav.Status 500)) absent) refl)
 
           pub asked_uncopied : Asked old ls (Err dav.Memory) new ls
           asked_uncopied = then_informed follows_up_to
 
-          pub asked_done : (token : List ℕ) (l : Lock) → who.token ≡ Some token → l ≡ lock_of h p who deep info token → Asked old ls (Ok l) new ls
-          asked_done token l there same =
-              then_informed (follows_ok (required who.token (dav.Status 500)) token (λ token. gives (lock_of h p who deep info token)) (ap (λ t. required t (dav.Status 500)) there) (follows_done (ap Ok same)))
+          module _ (token : List ℕ) (there : who.token ≡ Some token) where
+            then_token : {w : Result Lock DavError} → Follows (as_is {A = Lock}) (with_token deep info token) new ls w new ls → Asked old ls w new ls
+            then_token more = then_informed (follows_ok (required who.token (dav.Status 500)) token (with_token deep info) (ap (λ t. required t (dav.Status 500)) there) more)
+
+            -- the folder above is locked, or memory runs out where that is checked
+            pub asked_barred : (e : DavError) → Above ls (Err e) → Asked old ls (Err e) new ls
+            asked_barred e barred = then_token (follows_err (λ _. gives (lock_of h p who deep info token)) e (barred new))
+
+            pub asked_done : (l : Lock) → Above ls (Ok tt) → l ≡ lock_of h p who deep info token → Asked old ls (Ok l) new ls
+            asked_done l freed same = then_token (follows_then (λ _. gives (lock_of h p who deep info token)) (freed new) (follows_done (ap Ok same)))
+
+-- the check of the folder above, with equal arguments
+pub above_for : {h k : LockHeaders} (p : Path) (who : Client) (b wanted : Bool) {ls : Locks} {r : Result (Unit {0}) DavError} → h ≡ k → b ≡ wanted
+    → Sets (λ (u : Unit {0}). u) (require_parent b (requester who (submitted h.conditions.lists)) p (dav.Status 423)) ls r ls
+    → Sets (λ (u : Unit {0}). u) (require_parent wanted (requester who (submitted k.conditions.lists)) p (dav.Status 423)) ls r ls
+above_for {k = k} p who b wanted {ls} {r} same told done =
+    subst (λ x. Sets (λ (u : Unit {0}). u) (require_parent x (requester who (submitted k.conditions.lists)) p (dav.Status 423)) ls r ls) told
+    (subst (λ (x : LockHeaders). Sets (λ (u : Unit {0}). u) (require_parent b (requester who (submitted x.conditions.lists)) p (dav.Status 423)) ls r ls) same done)
+
+-- and with equal tokens
+pub above_by : (tokens : List (List ℕ)) {lent : List (List ℕ)} (principal : Option (List ℕ)) (wanted : Bool) (p : Path) (e : DavError) {ls : Locks} {r : Result (Unit {0}) DavError} → lent ≡ tokens
+    → Sets (λ (u : Unit {0}). u) (require_parent wanted (requester_of lent false principal) p e) ls r ls → Sets (λ (u : Unit {0}). u) (require_parent wanted (requester_of tokens false principal) p e) ls r ls
+above_by tokens principal wanted p e {ls} {r} same done = subst (λ ts. Sets (λ (u : Unit {0}). u) (require_parent wanted (requester_of ts false principal) p e) ls r ls) same done
+
+-- what is borrowed is missing where the borrow is
+pub none_from : {A : Type 0} (o : Option (Bor A)) (b : Bool) → is_some o ≡ not b → b ≡ is_none (option_copied o)
+none_from None b told = turned b false told
+none_from (Some x) b told = turned b true told
 
 -- ---- the grant
 

@@ -1,22 +1,24 @@
 -- How code follows the parts of plans that conditions and locks guard.
-use Rattle.std.proofs.Common.{◌≡◌, ℕ, Bool, true, false, List, map, string_bytes, String, Option, Result, Ok, Err, refl, sym, subst, ap, ◌∙◌}
+use Rattle.std.proofs.Common.{◌≡◌, ℕ, Bool, true, false, not, List, map, string_bytes, String, Option, Some, None, ◌||◌, Result, Ok, Err, refl, sym, subst, ap, ◌∙◌}
 use Rattle.std.specs.Global.{Vec, Global}
-use Rattle.std.specs.Option.{option_copied, option_map}
+use Rattle.std.specs.Option.{option_copied, option_map, is_some}
+use Rattle.std.specs.Result.{is_ok, result_ok}
 use denote.Ref.{Bor}
+use Rattle.dav_core.specs.declared.errors.FsError.{FsError}
 use Rattle.dav_core.specs.declared.errors.DavError.{DavError}
 use Rattle.dav_core.specs.declared.errors.DavError.TheVariants as dav
 use Rattle.dav_core.specs.declared.fs.DavMetaData.{DavMetaData}
 use Rattle.dav_core.specs.declared.method.DavMethod.{DavMethod}
 use Rattle.dav_core.specs.Asking.{StoreState}
-use Rattle.dav_core.specs.Locks.{Requester, Lock, requester_of}
-use Rattle.dav_core.specs.Path.{Path}
+use Rattle.dav_core.specs.Locks.{Requester, Lock, requester_of, is_free}
+use Rattle.dav_core.specs.Path.{Path, is_root, parent_of}
 use Rattle.dav_engine.specs.Plan.{Locks, Look, Done, ran_look}
 use Rattle.dav_engine.proofs.CutPlans.{cut_look}
-use Rattle.dav_engine.specs.Method.{MethodPlan, ◌>>=◌, require, require_free, is_open}
-use Rattle.dav_engine.specs.Follows.{Follows, followed, gave_up, viewed, or_memory, Carries, served}
+use Rattle.dav_engine.specs.Method.{MethodPlan, ◌>>=◌, require, require_free, require_parent, require_member, is_open, is_open_parent}
+use Rattle.dav_engine.specs.Follows.{Follows, followed, gave_up, viewed, or_memory, Sets, Carries, served}
 use Rattle.dav_engine.specs.Conditions.{Conditions, if_match_get_tokens, status_as, guarded}
 use Rattle.dav_engine.specs.ConditionView.{locks_in, texts_of, tokens_or_status}
-use Rattle.dav_engine.proofs.Following.{follows_done, follows_then, follows_err, follows_on, follows_out}
+use Rattle.dav_engine.proofs.Following.{follows_done, follows_then, follows_err, follows_on, follows_out, follows_up_to}
 
 -- the list of locks was read, and the rest of the plan was followed
 pub follows_look : {A X : Type 0} {view : X → A} {go : Locks → MethodPlan A} {old new : StoreState} {ls ms : Locks} {r : Result X DavError} → Follows view (go ls) old ls r new ms → Follows view (Look go) old ls r new ms
@@ -103,3 +105,65 @@ pub carried : {L B Y : Type 0} {view : Y → B} {kind : MethodPlan B → Type 0}
     → Carries view kind old (option_map locks held) r new (option_map locks held)
 carried {view = view} {kind} locks lent held plan {old} {new} {r} same is one =
     subst (λ l. Carries view kind old (option_map locks l) r new (option_map locks l)) same (served plan is one)
+
+-- ---- the folder above
+
+-- whether nothing was found
+pub turned : (b x : Bool) → x ≡ not b → b ≡ not x
+turned true x is = sym (ap not is)
+turned false x is = sym (ap not is)
+
+some_ok : (answer : Result DavMetaData FsError) → is_some (result_ok answer) ≡ is_ok answer
+some_ok (Ok m) = refl
+some_ok (Err e) = refl
+
+pub none_by : (answer : Result DavMetaData FsError) (file : Option DavMetaData) (b : Bool) → is_some file ≡ not b → file ≡ result_ok answer → b ≡ not (is_ok answer)
+none_by answer file b told kept = turned b (is_ok answer) (sym (ap is_some kept ∙ some_ok answer) ∙ told)
+
+pub root_open : (who : Requester) (p : Path) (ls : Locks) (b : Bool) → b ≡ is_root p → b ≡ true → true ≡ is_open_parent who p ls
+root_open who p None b is root = refl
+root_open who p (Some ls) b is root = sym (ap (λ t. t || is_free who (parent_of p) ls) (sym is ∙ root))
+
+pub parent_open : (who : Requester) (p q : Path) (ls : Locks) (b free : Bool) → b ≡ is_root p → b ≡ false → q ≡ parent_of p → free ≡ is_open false who q ls → free ≡ is_open_parent who p ls
+parent_open who p q None b free is branch at looked = looked
+parent_open who p q (Some ls) b free is branch at looked =
+    looked ∙ ap (λ x. is_free who x ls) at ∙ sym (ap (λ t. t || is_free who (parent_of p) ls) (sym is ∙ branch))
+
+module _ (who : Requester) (p : Path) (e : DavError) where
+  abbrev ByParent : Locks → Bool → Result (Unit {0}) DavError → Type 0
+  ByParent ls wanted r = Sets (λ (u : Unit {0}). u) (require_parent wanted who p e) ls r ls
+
+  pub parent_unasked : (wanted : Bool) {ls : Locks} → wanted ≡ false → ByParent ls wanted (Ok tt)
+  parent_unasked wanted {ls} other = subst (λ w. ByParent ls w (Ok tt)) (sym other) (λ s. follows_done refl)
+
+  pub parent_short : (wanted : Bool) {ls : Locks} → ByParent ls wanted (Err dav.Memory)
+  parent_short wanted s = follows_up_to
+
+  parent_by : (r : Result (Unit {0}) DavError) (b : Bool) {ls : Locks} → b ≡ is_open_parent who p ls → ((s : StoreState) → Follows (λ (u : Unit {0}). u) (require b e) s ls r s ls) → ByParent ls true r
+  parent_by r b {ls} is done s = follows_look (subst (λ t. Follows (λ (u : Unit {0}). u) (require t e) s ls r s ls) is (done s))
+
+  pub parent_goes : (wanted b : Bool) {ls : Locks} → wanted ≡ true → b ≡ is_open_parent who p ls → b ≡ true → ByParent ls wanted (Ok tt)
+  parent_goes wanted b {ls} asked is freed =
+      subst (λ w. ByParent ls w (Ok tt)) (sym asked) (parent_by (Ok tt) b is (λ s. subst (λ t. Follows (λ (u : Unit {0}). u) (require t e) s ls (Ok tt) s ls) (sym freed) (follows_done refl)))
+
+  pub parent_locked : (wanted b : Bool) {ls : Locks} → wanted ≡ true → b ≡ is_open_parent who p ls → b ≡ false → ByParent ls wanted (Err e)
+  parent_locked wanted b {ls} asked is shut =
+      subst (λ w. ByParent ls w (Err e)) (sym asked) (parent_by (Err e) b is (λ s. subst (λ t. Follows (λ (u : Unit {0}). u) (require t e) s ls (Err e) s ls) (sym shut) (follows_done refl)))
+
+  abbrev ByMember : Bool → Bool → Locks → Result (Unit {0}) DavError → Type 0
+  ByMember deep changes ls r = Sets (λ (u : Unit {0}). u) (require_member deep changes who p e) ls r ls
+
+  pub member_locked : (deep changes b : Bool) {ls : Locks} → b ≡ is_open deep who p ls → b ≡ false → ByMember deep changes ls (Err e)
+  member_locked deep changes b is shut s = locked_out deep who p e (λ _. require_parent changes who p e) b is shut refl
+
+  pub member_goes : (deep changes b : Bool) {ls : Locks} {r : Result (Unit {0}) DavError} → b ≡ is_open deep who p ls → b ≡ true → ByParent ls changes r → ByMember deep changes ls r
+  member_goes deep changes b is freed rest s = free_goes deep who p e (λ _. require_parent changes who p e) b is freed (rest s)
+
+-- the same for the tokens that were submitted
+pub member_for : (deep before after : Bool) (tokens : Vec (String Global)) (lent : List (String Global)) (principal : Option (List ℕ)) (p : Path) (e : DavError) {ls : Locks} {r : Result (Unit {0}) DavError}
+    → before ≡ after → lent ≡ tokens.items
+    → Sets (λ (u : Unit {0}). u) (require_member deep before (requester_of (map string_bytes lent) false principal) p e) ls r ls
+    → Sets (λ (u : Unit {0}). u) (require_member deep after (requester_of (texts_of tokens) false principal) p e) ls r ls
+member_for deep before after tokens lent principal p e {ls} {r} same tells done =
+    subst (λ b. Sets (λ (u : Unit {0}). u) (require_member deep b (requester_of (texts_of tokens) false principal) p e) ls r ls) same
+    (subst (λ (l : List (String Global)). Sets (λ (u : Unit {0}). u) (require_member deep before (requester_of (map string_bytes l) false principal) p e) ls r ls) tells done)

@@ -5,9 +5,9 @@ use Rattle.std.proofs.lemmas.Bool.{and_parts}
 use Rattle.std.specs.List.{list_all, list_any}
 use Rattle.std.specs.Option.{is_some}
 use Rattle.dav_core.specs.Locks.{Lock, Requester, Claimant, Anyone, By, covers, is_of, is_same_principal, is_held, is_free, is_free_deep, is_free_for}
-use Rattle.dav_core.specs.Path.{Path, names, rest_after, is_same_path, is_under, is_at_or_under, has_names}
-use Rattle.dav_core.proofs.Theorems.{free_by_tests, rest_after-append, from_rest, path-itself}
-use Rattle.dav_engine.specs.Guard.{folder_of, IsGuard, IsSameLock, IsElsewhere, AllElsewhere, no_others, another, Guards, guards_here, guards_later, IsListed, listed_here, listed_later, FreeIsHeld, FreeIsApart, FreeIsUncovered}
+use Rattle.dav_core.specs.Path.{Path, names, rest_after, is_same_path, is_under, is_at_or_under, has_names, is_root, parent_of}
+use Rattle.dav_core.proofs.Theorems.{free_by_tests, rest_after-append, from_rest, path-itself, parent-append}
+use Rattle.dav_engine.specs.Guard.{folder_of, IsGuard, IsSameLock, IsElsewhere, AllElsewhere, no_others, another, Guards, guards_here, guards_later, IsListed, listed_here, listed_later, FreeIsHeld, FreeIsApart, FreeIsUncovered, ParentFreeIsHeld}
 
 pub stands_guarded : {h : Lock} {ls : List Lock} → Guards h ls → IsListed h ls
 stands_guarded (guards_here is off) = listed_here is
@@ -129,6 +129,17 @@ module _ (h : Lock) (is_guard : IsGuard h) (who : Requester) (r : Path) where
 
 pub free_is_held : FreeIsHeld
 free_is_held h deep who r ls guard g = free_for_is h guard who r deep ls g
+
+-- ---- the folder above a member
+
+pub not_root : (p : Path) (x : List ℕ) (rest : Path) → is_root (p ++ x ∷ rest) ≡ false
+not_root [] x rest = refl
+not_root (y ∷ p) x rest = refl
+
+pub parent_free_is_held : ParentFreeIsHeld
+parent_free_is_held h who x rest ls guard g =
+    ap (λ b. b || is_free who (parent_of (folder_of h ++ x ∷ rest)) ls) (not_root (folder_of h) x rest)
+    ∙ ap (λ (q : Path). is_free who q ls) (parent-append (folder_of h) x rest) ∙ free_for_is h guard who (parent_of (x ∷ rest)) false ls g
 
 -- ---- who doesn't hold the guard
 

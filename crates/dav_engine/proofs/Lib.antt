@@ -4,7 +4,7 @@ pub mod KeptLemmas
 pub mod FoundLemmas
 pub mod TellLemmas
 pub mod DeclaringLemmas
-pub mod DateTextLemmas
+pub mod InternetDates
 pub mod TellingLemmas
 pub mod DateLemmas
 pub mod CutPlans
@@ -92,6 +92,8 @@ pub mod CopiedLemmas
 pub mod MovedWorlds
 pub mod PropertyPlans
 pub mod SparingProperties
+pub mod MembersLaw
+pub mod MembersPlans
 pub mod AlongsideProperties
 pub mod HrefLemmas
 pub mod GroupLemmas

@@ -1,7 +1,7 @@
 -- How a LOCK changes the list of locks.
 use Rattle.std.proofs.Common.{◌≡◌, ◌++◌, ℕ, Bool, true, false, if◌then◌else◌, List, [], ◌∷◌, Option, Some, None, Result, Ok, Err, refl, sym, ap, ◌∙◌}
 use Rattle.std.specs.Bool.{⊤}
-use Rattle.std.specs.Option.{is_some, option_map, unwrap_or}
+use Rattle.std.specs.Option.{is_some, option_map, unwrap_or, is_none}
 use Rattle.std.specs.Result.{result_ok}
 use Rattle.dav_core.specs.declared.errors.FsError.{FsError}
 use Rattle.dav_core.specs.declared.errors.DavError.{DavError}
@@ -14,20 +14,21 @@ use Rattle.dav_core.specs.Locks.{Lock, is_grantable, named_lock, refreshed, refr
 use Rattle.dav_core.specs.Path.{Path, PathText, names}
 use Rattle.dav_core.proofs.Theorems.{granted_can_be_unlocked}
 use Rattle.dav_engine.specs.declared.request.Body.{Body}
-use Rattle.dav_engine.specs.Client.{Client}
+use Rattle.dav_engine.specs.Client.{Client, requester}
 use Rattle.dav_engine.specs.Delete.{whole_depth}
 use Rattle.dav_engine.specs.Folder.{path_found, location_found}
 use Rattle.dav_engine.specs.ListChanges.{grants, refreshes, unlocks, ChangesList, changes_done, changes_ask, changes_look, changes_list, LockChangesList}
 use Rattle.dav_engine.specs.Lock.{keep_refreshed, lock_again, lock_of, asked_lock, empty_opening, empty_error, made_or_back, make_empty, granted_reply, lock_new, is_absent, is_lock}
 use Rattle.dav_engine.specs.LockHeaders.{LockHeaders, refreshed_for}
 use Rattle.dav_engine.specs.LockInfo.{LockInfo, lock_info}
-use Rattle.dav_engine.specs.Method.{MethodPlan, then as followed_by, ◌>>=◌, required, unless_status, gives, fails}
+use Rattle.dav_engine.specs.Method.{MethodPlan, then as followed_by, ◌>>=◌, required, unless_status, gives, fails, require_parent}
 use Rattle.dav_engine.specs.Plan.{Done, Ask, Look, Keep, Locks}
 use Rattle.dav_engine.specs.Response.{Header, Response}
 use Rattle.dav_engine.proofs.ListChangeLemmas.{changes_only, changes_bind}
 use Rattle.dav_engine.proofs.LockPlans.{only_token}
-use Rattle.dav_engine.proofs.PutWorld.{IsLook, only_conditions}
+use Rattle.dav_engine.proofs.PutWorld.{IsLook, only_conditions, only_parent}
 use Rattle.dav_engine.proofs.WorldPlans.{Only, only_done, only_ask, only_look}
+use Rattle.dav_engine.specs.Conditions.{submitted}
 
 -- ---- plans that only look, with what holds of what they give
 
@@ -64,10 +65,11 @@ finds_unless : (verdict : Option ℕ) → Finds (λ u. ⊤) (unless_status verdi
 finds_unless None = finds_ok tt
 finds_unless (Some status) = finds_err
 
-finds_token : (h : LockHeaders) (p : PathText) (who : Client) (deep : Bool) (info : LockInfo) (o : Option (List ℕ)) → who.token ≡ o
-    → Finds (IsAsked who p) (followed_by (required o (dav.Status 500)) (λ token. gives (lock_of h p who deep info token)))
-finds_token h p who deep info None is = finds_err
-finds_token h p who deep info (Some token) is = finds_ok (record { token = is; path = refl })
+finds_token : (h : LockHeaders) (p : PathText) (who : Client) (found : Option DavMetaData) (deep : Bool) (info : LockInfo) (o : Option (List ℕ)) → who.token ≡ o
+    → Finds (IsAsked who p) (followed_by (required o (dav.Status 500)) (λ token. require_parent (is_none found) (requester who (submitted h.conditions.lists)) (names p) (dav.Status 423) >>= (λ u. gives (lock_of h p who deep info token))))
+finds_token h p who found deep info None is = finds_err
+finds_token h p who found deep info (Some token) is =
+    finds_bind _ (finds_only (only_parent (is_none found) (requester who (submitted h.conditions.lists)) (names p) (dav.Status 423))) (λ u any. finds_ok (record { token = is; path = refl }))
 
 pub finds_asked : (h : LockHeaders) (p : PathText) (content : Body) (who : Client) (found : Option DavMetaData) → Finds (IsAsked who p) (asked_lock h p content who found)
 finds_asked h p content who found =
@@ -75,7 +77,7 @@ finds_asked h p content who found =
     finds_bind _ (finds_only (only_conditions method.Lock h.conditions found)) (λ verdict any.
     finds_bind _ (finds_unless verdict) (λ u any.
     finds_then (required (lock_info content) dav.XmlParseError) _ (λ info.
-    finds_token h p who deep info who.token refl))))
+    finds_token h p who found deep info who.token refl))))
 
 -- ---- the list of locks
 

@@ -1,7 +1,7 @@
 -- What a LOCK does to worlds and to lists of locks.
 use Rattle.std.proofs.Common.{◌≡◌, ◌≢◌, ◌++◌, ℕ, ◌≤◌, Bool, true, false, if◌then◌else◌, cond, List, [], ◌∷◌, Option, Some, None, Result, Ok, Err, refl, sym, ap, subst, ◌∙◌}
 use Rattle.std.specs.Bool.{⊤}
-use Rattle.std.specs.Option.{option_map, unwrap_or}
+use Rattle.std.specs.Option.{option_map, unwrap_or, is_none}
 use Rattle.std.specs.Result.{result_ok}
 use Rattle.dav_core.specs.declared.errors.FsError.{FsError}
 use Rattle.dav_core.specs.declared.errors.DavError.{DavError}
@@ -17,7 +17,7 @@ use Rattle.dav_core.specs.Path.{Path, PathText, names}
 use Rattle.dav_core.specs.World.{last_moment}
 use Rattle.dav_engine.specs.declared.request.Body.{Body}
 use Rattle.dav_engine.specs.Client.{Client, requester}
-use Rattle.dav_engine.specs.Conditions.{Addressed, dav_if_match, if_holds, if_match}
+use Rattle.dav_engine.specs.Conditions.{Addressed, dav_if_match, if_holds, if_match, submitted}
 use Rattle.dav_engine.specs.Delete.{whole_depth}
 use Rattle.dav_engine.specs.Ending.{KeepsLock, keeps_done, keeps_ask, keeps_look, keeps_list, LockKeepsLocks}
 use Rattle.dav_engine.specs.Folder.{is_folder_found, path_found, location_found}
@@ -25,7 +25,7 @@ use Rattle.dav_engine.specs.Guard.{IsSameLock, IsListed, listed_here, listed_lat
 use Rattle.dav_engine.specs.Lock.{one_token, token_to_refresh, keep_refreshed, refresh_in, lock_again, asked_lock, grant_in, taken_back, empty_opening, made_or_back, make_empty, lock_new, is_absent, is_lock}
 use Rattle.dav_engine.specs.LockHeaders.{LockHeaders, refreshed_for}
 use Rattle.dav_engine.specs.LockInfo.{lock_info}
-use Rattle.dav_engine.specs.Method.{MethodPlan, then as followed_by, require, require_free, has_locks, required, unless_status, change_locks}
+use Rattle.dav_engine.specs.Method.{MethodPlan, then as followed_by, require, require_free, has_locks, required, unless_status, change_locks, require_parent}
 use Rattle.dav_engine.specs.Plan.{Locks, Done, Keep}
 use Rattle.dav_engine.specs.Response.{Response, Header}
 use Rattle.dav_engine.specs.WorldLaws.{IsProperPlan, proper_done, proper_ask, proper_look, proper_keep, LockIsProper}
@@ -34,7 +34,7 @@ use Rattle.dav_engine.proofs.DeleteWorld.{proper_change}
 use Rattle.dav_engine.proofs.EndingDelete.{Gives, gives_ok, gives_err, gives_ask, gives_look, gives_bind, keeps_given, keeps_only}
 use Rattle.dav_engine.proofs.EndingLemmas.{keeps_bind}
 use Rattle.dav_engine.proofs.LockListLemmas.{mapped_from, unlocked_listed}
-use Rattle.dav_engine.proofs.PutWorld.{IsLook, look_proper, only_if, only_conditions, only_free}
+use Rattle.dav_engine.proofs.PutWorld.{IsLook, look_proper, only_if, only_conditions, only_free, only_parent}
 use Rattle.dav_engine.proofs.WorldPlans.{Only, only_done, only_ask, only_look, only_then, only_bind, only_require, only_proper, proper_bind}
 
 -- ---- what only looks
@@ -48,7 +48,8 @@ only_asked h p content who found = only_then (whole_depth h.depth) _ (λ deep.
     only_bind (if_match method.Lock h.conditions found) _ (only_conditions method.Lock h.conditions found) (λ verdict.
     only_bind (unless_status verdict) _ (only_status verdict) (λ goes.
     only_then (required (lock_info content) dav.XmlParseError) _ (λ info.
-    only_then (required who.token (dav.Status 500)) _ (λ token. only_done)))))
+    only_then (required who.token (dav.Status 500)) _ (λ token.
+    only_bind (require_parent (is_none found) (requester who (submitted h.conditions.lists)) (names p) (dav.Status 423)) _ (only_parent (is_none found) (requester who (submitted h.conditions.lists)) (names p) (dav.Status 423)) (λ free. only_done))))))
 
 only_said : (lists : Option (List Addressed)) → Only IsLook (dav_if_match lists)
 only_said lists = only_bind (if_holds lists) _ (only_if lists) (λ holds. only_done)
@@ -104,6 +105,10 @@ lock_is_proper headers p content who plan storable other small (is_lock h are) =
     proper_if (is_absent content) (lock_again h path location who) (lock_new h path location content who (result_ok answer)) (proper_again h path location who)
     (proper_new h path location content who (result_ok answer) (subst IsStorable (sym (names_closed (is_folder_found (result_ok answer)) p other)) storable) small))))
 
+-- the list with a new lock, where it may be granted
+abbrev pub granted_if : Lock → List Lock → Bool → MethodPlan (Unit {0})
+granted_if new ls b = if b then Keep (ls ++ new ∷ []) (Done (Ok tt)) else Done (Err (dav.Status 423))
+
 -- ---- locks stay
 
 pub gives_any : {h : Lock} {P : Call → Type 0} {A : Type 0} {plan : MethodPlan A} → Only P plan → Gives h (λ a. ⊤) plan
@@ -126,15 +131,13 @@ module _ (h : Lock) where
       gives_bind _ (gives_any (only_conditions method.Lock headers.conditions found)) (λ verdict _.
       gives_bind _ (gives_any (only_status verdict)) (λ goes _.
       gives_then (required (lock_info content) dav.XmlParseError) _ (λ info _.
-      gives_then (required who.token (dav.Status 500)) _ (λ token is. gives_ok (required_is who.token (dav.Status 500) token is))))))
+      gives_then (required who.token (dav.Status 500)) _ (λ token is.
+      gives_bind _ (gives_any (only_parent (is_none found) (requester who (submitted headers.conditions.lists)) (names p) (dav.Status 423))) (λ free _. gives_ok (required_is who.token (dav.Status 500) token is)))))))
 
   pub pushed : (new : Lock) (ls : List Lock) → IsListed h ls → IsListed h (ls ++ new ∷ [])
   pushed new [] there = elim there [ ]
   pushed new (l ∷ ls) (listed_here is) = listed_here is
   pushed new (l ∷ ls) (listed_later there) = listed_later (pushed new ls there)
-
-  abbrev pub granted_if : Lock → List Lock → Bool → MethodPlan (Unit {0})
-  granted_if new ls b = if b then Keep (ls ++ new ∷ []) (Done (Ok tt)) else Done (Err (dav.Status 423))
 
   keeps_granted : (new : Lock) (ls : List Lock) (b : Bool) → IsListed h ls → KeepsLock h (granted_if new ls b)
   keeps_granted new ls true there = keeps_list (pushed new ls there) keeps_done

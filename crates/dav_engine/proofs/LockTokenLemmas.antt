@@ -1,13 +1,14 @@
 -- A Lock-Token says one token at most, and what the code finds is it.
 use Rattle.std.proofs.Common.{◌≡◌, ◌≢◌, ◌++◌, inl, inr, ℕ, List, [], ◌∷◌, drop, get_or, All, codes, Option, Some, None, refl, sym, ap, subst, ◌∙◌}
-use Rattle.std.specs.Option.{MatchOption, IfNone}
+use Rattle.std.specs.Option.{MatchOption, IfNone, option_copied, option_map}
 use denote.Ref.{Bor}
 use Rattle.std.proofs.lemmas.List.{append_assoc}
 use Rattle.std.proofs.lemmas.List.Elements.{All-nil, All-head, All-tail, All-cons, All-push}
-use Rattle.http_header.specs.HeaderMap.{get}
-use Rattle.dav_engine.specs.Headers.{Headers, Decodes, text_in}
+use Rattle.http_header.specs.HeaderMap.{get_all}
+use Rattle.dav_headers.specs.Value.{IsOnlyText}
+use Rattle.dav_engine.specs.Headers.{Headers, Decodes}
 use Rattle.dav_engine.specs.LockToken.{IsAngle, BeginsBare, EndsBare, IsBetweenAngles, SaysLockToken}
-use Rattle.dav_engine.specs.LockTokenCode.{IsAfterAngle, IsBeforeAngle, IsAfterAngles, IsBeforeAngles}
+use Rattle.dav_engine.specs.LockTokenCode.{IsAfterAngle, IsBeforeAngle, IsAfterAngles, IsBeforeAngles, IsTokenIn}
 
 -- ---- text between angle brackets
 
@@ -96,8 +97,20 @@ one_lock_token headers t u (text, is, a) (other, also, b) =
     let same : other ≡ text = let e : Some other ≡ Some text = sym also ∙ is in cc in
     one_between text t u a (subst (λ x. IsBetweenAngles x u) same b)
 
-pub no_lock_token : (headers : Headers) → text_in (get headers (codes "lock-token")) ≡ None → Decodes SaysLockToken headers None
-no_lock_token headers none token (text, is, between) = let e : None ≡ Some text = sym none ∙ is in cc
+said_by : (headers : Headers) (said token : Option (List ℕ)) → Decodes IsOnlyText (get_all headers (codes "lock-token")) said → IsTokenIn said token → Decodes SaysLockToken headers token
+said_by headers None None none is = λ token says. none says.0 says.1
+said_by headers None (Some token) none is = absurd is
+said_by headers (Some text) None one is = absurd is
+said_by headers (Some text) (Some token) one is = (text, one, is)
+
+lent_text : {A : Type 0} (f : A → List ℕ) (lent : Option (Bor A)) (said : Option A) → option_copied lent ≡ said → option_map (λ t. f t.now) lent ≡ option_map f said
+lent_text f None said is = ap (option_map f) is
+lent_text f (Some t) said is = ap (option_map f) is
+
+-- what is decoded of the header, and the token in it
+pub token_said : {A : Type 0} (headers : Headers) (f : A → List ℕ) (lent : Option (Bor A)) (said : Option A) (token : Option (List ℕ)) → option_copied lent ≡ said
+    → Decodes IsOnlyText (get_all headers (codes "lock-token")) (option_map f said) → IsTokenIn (option_map (λ t. f t.now) lent) token → Decodes SaysLockToken headers token
+token_said headers f lent said token same decoded is = said_by headers (option_map f said) token decoded (subst (λ o. IsTokenIn o token) (lent_text f lent said same) is)
 
 -- ---- the code
 

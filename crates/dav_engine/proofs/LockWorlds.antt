@@ -1,14 +1,16 @@
 -- What a LOCK leaves of worlds and of lists of locks.
-use Rattle.std.proofs.Common.{◌≡◌, ◌≢◌, ℕ, ◌==◌, ◌||◌, not, ◌++◌, Bool, true, false, if◌then◌else◌, List, [], ◌∷◌, All, Option, Some, None, Result, Ok, Err, refl, sym, ap, subst, ◌∙◌}
+use Rattle.std.proofs.Common.{◌≡◌, ◌≢◌, ℕ, ◌==◌, ◌||◌, not, ◌++◌, Bool, true, false, true≢false, codes, if◌then◌else◌, List, [], ◌∷◌, All, Option, Some, None, Result, Ok, Err, ◌⊎◌, inl, inr, refl, sym, ap, subst, ◌∙◌}
+use Rattle.std.specs.Bool.{⊤}
 use Rattle.std.specs.Option.{is_some, is_none, option_map, unwrap_or}
 use Rattle.std.specs.Result.{result_ok}
+use Rattle.http_header.specs.HeaderMap.{get_all}
 use Rattle.dav_core.specs.declared.errors.FsError.{FsError}
 use Rattle.dav_core.specs.declared.errors.FsError.TheVariants.{NotFound, Forbidden, Exists, GeneralFailure}
 use Rattle.dav_core.specs.declared.errors.DavError.{DavError}
 use Rattle.dav_core.specs.declared.errors.DavError.TheVariants as dav
 use Rattle.dav_core.specs.declared.fs.DavMetaData.{DavMetaData}
 use Rattle.dav_core.specs.declared.method.DavMethod.TheVariants as method
-use Rattle.dav_core.specs.Asking.{StoreState, Asks, meaning, Metadata, Open}
+use Rattle.dav_core.specs.Asking.{Call, Answer, StoreState, Asks, meaning, Metadata, Open}
 use Rattle.dav_core.specs.Calls.{metadata, open_at}
 use Rattle.dav_core.specs.Handle.{Handle, Opening, opened}
 use Rattle.dav_core.specs.Locks.{Lock, is_grantable, named_lock, refreshed, refreshed_lock, unlocked}
@@ -16,18 +18,19 @@ use Rattle.dav_core.specs.Meaning.{Meaning}
 use Rattle.dav_core.specs.Path.{Path, PathText, names, parent_of}
 use Rattle.dav_core.specs.World.{World, Node, File, node_at, is_folder, is_folder_node, is_folder_kind, is_missing, with_new, last_number}
 use Rattle.dav_core.proofs.Theorems.{taken_back as back_again, went_on, found, left}
+use Rattle.dav_headers.specs.ETagList.{TagList, star, tags, IsTagList}
 use Rattle.dav_engine.specs.declared.request.Body.{Body}
 use Rattle.dav_engine.specs.Client.{Client, requester}
-use Rattle.dav_engine.specs.Conditions.{dav_if_match, if_holds, if_match, submitted}
+use Rattle.dav_engine.specs.Conditions.{Conditions, is_star, http_conditions, dav_if_match, if_holds, if_match, submitted}
 use Rattle.dav_engine.specs.Delete.{whole_depth}
 use Rattle.dav_engine.specs.Folder.{closed, is_folder_found, path_found, location_found}
-use Rattle.dav_engine.specs.Headers.{Headers}
-use Rattle.dav_engine.specs.Lock.{one_token, token_to_refresh, keep_refreshed, refresh, refreshed_reply, lock_again, lock_of, asked_lock, grant, taken_back, empty_opening, made_or_back, make_empty, granted_reply, lock_new, is_absent, is_lock}
+use Rattle.dav_engine.specs.Headers.{Headers, Decodes}
+use Rattle.dav_engine.specs.Lock.{one_token, token_to_refresh, keep_refreshed, refresh, refreshed_reply, lock_again, lock_of, asked_lock, grant, taken_back, empty_opening, empty_error, made_or_back, make_empty, granted_reply, lock_new, is_absent, lock, is_lock}
 use Rattle.dav_engine.specs.LockHeaders.{LockHeaders, AreLockHeaders, refreshed_for}
 use Rattle.dav_engine.specs.LockInfo.{LockInfo, lock_info}
-use Rattle.dav_engine.specs.LockLaws.{GrantsLock, with_empty, LockGrants, RefreshesLock, LockRefreshes, IsUnused, RefusedLockLeavesAll}
-use Rattle.dav_engine.specs.Method.{MethodPlan, then as followed_by, ◌>>=◌, require_free, required, unless_status, gives, fails}
-use Rattle.dav_engine.specs.Plan.{Locks, Done, Keep, Ran, ran_ask, ran_look, ran_keep}
+use Rattle.dav_engine.specs.LockLaws.{GrantsLock, with_empty, LockGrants, RefreshesLock, LockRefreshes, IsUnused, IsRefusedFile, RefusedLockLeavesAll, AsksNoFile, EarlyRefusedLockLeavesAll}
+use Rattle.dav_engine.specs.Method.{MethodPlan, then as followed_by, ◌>>=◌, require_free, required, unless_status, gives, fails, require_parent}
+use Rattle.dav_engine.specs.Plan.{Plan, Locks, Done, Keep, CallStep, Ran, ran_done, ran_ask, ran_look, ran_keep}
 use Rattle.dav_engine.specs.Response.{Header, Response}
 use Rattle.dav_engine.proofs.CallWorlds.{stays, means, did, did_leave}
 use Rattle.dav_engine.proofs.ChildLemmas.{names_closed}
@@ -46,9 +49,13 @@ then_ran : {A B : Type 0} (r : Result A DavError) (f : A → MethodPlan B) {old 
 then_ran (Ok a) f ran = (a, refl, ran)
 then_ran (Err e) f ran = absurd (let ends = finish ran in let is = ends.0 in cc)
 
--- a plan that is done comes to no other end
-no_error : {A : Type 0} {a : A} {e : DavError} {old new : StoreState} {ls ms : Locks} {X : Type 0} → Ran Asks (gives a) old ls (Err e) new ms → X
-no_error ran = absurd (let ends = finish ran in let is = ends.0 in cc)
+-- a plan that is done comes to its own end
+finish_of : {step : CallStep} {A : Type 0} {a b : A} {old new : StoreState} {ls ms : Locks} → Ran step (Done a) old ls b new ms → (b ≡ a) × (new ≡ old) × (ms ≡ ls)
+finish_of ran_done = (refl, refl, refl)
+
+-- and to no other
+no_error : {step : CallStep} {A : Type 0} {a : A} {e : DavError} {old new : StoreState} {ls ms : Locks} {X : Type 0} → Ran step (gives a) old ls (Err e) new ms → X
+no_error ran = absurd (let ends = finish_of ran in let is = ends.0 in cc)
 
 no_good : {A : Type 0} {a : A} {e : DavError} {old new : StoreState} {ls ms : Locks} {X : Type 0} → Ran Asks (fails {A = A} e) old ls (Ok a) new ms → X
 no_good ran = absurd (let ends = finish ran in let is = ends.0 in cc)
@@ -57,15 +64,35 @@ no_good ran = absurd (let ends = finish ran in let is = ends.0 in cc)
 abbrev Leaves : World → Locks → World → Locks → Type 0
 Leaves w ls v ms = (v ≡ w) × (ms ≡ ls)
 
-ended : {A : Type 0} {a b : A} {old new : StoreState} {ls ms : Locks} → Ran Asks (Done a) old ls b new ms → Leaves old.world ls new.world ms
-ended ran = let ends = finish ran in (ap (λ (s : StoreState). s.world) ends.1, ends.2)
+ended : {step : CallStep} {A : Type 0} {a b : A} {old new : StoreState} {ls ms : Locks} → Ran step (Done a) old ls b new ms → Leaves old.world ls new.world ms
+ended ran = let ends = finish_of ran in (ap (λ (s : StoreState). s.world) ends.1, ends.2)
 
 leaves_on : {u v w : World} {ls ks ms : Locks} → Leaves u ls v ks → Leaves v ks w ms → Leaves u ls w ms
 leaves_on one two = (two.0 ∙ one.0, two.1 ∙ one.1)
 
 -- a run from an equal list of locks
-run_from : {A : Type 0} {plan : MethodPlan A} {old new : StoreState} {ls ks ms : Locks} {a : Result A DavError} → ks ≡ ls → Ran Asks plan old ks a new ms → Ran Asks plan old ls a new ms
-run_from {plan = plan} {old} {new} {ms = ms} {a} same ran = subst (λ (l : Locks). Ran Asks plan old l a new ms) same ran
+run_from : {step : CallStep} {A : Type 0} {plan : MethodPlan A} {old new : StoreState} {ls ks ms : Locks} {a : Result A DavError} → ks ≡ ls → Ran step plan old ks a new ms → Ran step plan old ls a new ms
+run_from {step} {plan = plan} {old} {new} {ms = ms} {a} same ran = subst (λ (l : Locks). Ran step plan old l a new ms) same ran
+
+-- each step is one of a lawful store
+abbrev IsAsking : CallStep → Type 0
+IsAsking step = (c : Call) (old : StoreState) (answer : Result (Answer c) FsError) (new : StoreState) → step c old answer new → Asks c old answer new
+
+ran_as : {step : CallStep} {A : Type 0} {plan : Plan A} {old new : StoreState} {ls ms : Locks} {a : A} → IsAsking step → Ran step plan old ls a new ms → Ran Asks plan old ls a new ms
+ran_as asks ran_done = ran_done
+ran_as asks (ran_ask {c = c} {old = old} {mid = mid} {answer = answer} one more) = ran_ask (asks c old answer mid one) (ran_as asks more)
+ran_as asks (ran_look more) = ran_look (ran_as asks more)
+ran_as asks (ran_keep more) = ran_keep (ran_as asks more)
+
+-- the world is left, and for this reason the list too
+abbrev LeavesFor : Type 0 → World → Locks → World → Locks → Type 0
+LeavesFor X w ls v ms = (v ≡ w) × (X → ms ≡ ls)
+
+leaves_for : {X : Type 0} {w v : World} {ls ms : Locks} → Leaves w ls v ms → LeavesFor X w ls v ms
+leaves_for leaves = (leaves.0, λ reason. leaves.1)
+
+leaves_after : {X : Type 0} {u v w : World} {ls ms : Locks} → v ≡ u → LeavesFor X v ls w ms → LeavesFor X u ls w ms
+leaves_after same leaves = (leaves.0 ∙ same, leaves.1)
 
 -- ---- the lock that is asked for
 
@@ -86,6 +113,7 @@ asked_ran h p content who found ran =
     let three = parts (unless_status two.value) _ two.more in
     let (info, body, four) = then_ran (required (lock_info content) dav.XmlParseError) _ three.more in
     let (token, own, five) = then_ran (required who.token (dav.Status 500)) _ four in
+    let six = parts (require_parent (is_none found) (requester who (submitted h.conditions.lists)) (names p) (dav.Status 423)) _ five in
     record {
       deep = deep;
       info = info;
@@ -93,8 +121,31 @@ asked_ran h p content who found ran =
       depth = depth;
       body = required_is (lock_info content) dav.XmlParseError info body;
       own = required_is who.token (dav.Status 500) token own;
-      is = (gave five).0;
+      is = (gave six.more).0;
     }
+
+no_status : (o : Option ℕ) {u : Unit {0}} {old new : StoreState} {ls ms : Locks} → Ran Asks (unless_status o) old ls (Ok u) new ms → o ≡ None
+no_status None ran = refl
+no_status (Some status) ran = no_good ran
+
+-- where nothing was found, an If-Match that is `*` fails
+no_star : (match other : Option TagList) (holds : Bool) → (if holds then http_conditions method.Lock match other None else Some 412) ≡ None → is_star match ≡ false
+no_star None other holds is = refl
+no_star (Some (tags ts)) other holds is = refl
+no_star (Some star) other true is = absurd (cc)
+no_star (Some star) other false is = absurd (cc)
+
+-- so the empty file may be made
+asked_makes : (h : LockHeaders) (p : PathText) (content : Body) (who : Client) (found : Option DavMetaData) {l : Lock} {old new : StoreState} {ls ms : Locks}
+    → Ran Asks (asked_lock h p content who found) old ls (Ok l) new ms → found ≡ None → is_star h.conditions.if_match ≡ false
+asked_makes h p content who found ran missing =
+    let (deep, depth, one) = then_ran (whole_depth h.depth) _ ran in
+    let two = parts (if_match method.Lock h.conditions found) _ one in
+    let three = parts (unless_status two.value) _ two.more in
+    let four = parts (if_holds h.conditions.lists) _ two.one in
+    no_star h.conditions.if_match h.conditions.if_none_match four.value
+    (subst (λ (m : Option DavMetaData). (if four.value then http_conditions method.Lock h.conditions.if_match h.conditions.if_none_match m else Some 412) ≡ None) missing
+    (sym (gave four.more).0 ∙ no_status two.value three.one))
 
 asked_leaves : (h : LockHeaders) (p : PathText) (content : Body) (who : Client) (found : Option DavMetaData) {r : Result Lock DavError} {old new : StoreState} {ls ms : Locks}
     → Ran Asks (asked_lock h p content who found) old ls r new ms → Leaves old.world ls new.world ms
@@ -120,55 +171,14 @@ refused_open one = elim (did one) [
   | means r h is after ↦ cc
 ]
 
-back_leaves : (how : Opening) (new : Lock) (p : Path) (e : FsError) (reply : Response) {mid end : StoreState} {ls : List Lock} {ms : Locks} {d : DavError} → names new.path ≡ p → All (λ l. l.token ≢ new.token) ls
-    → Ran Asks (made_or_back how new.token p (Err e) >>= (λ u. gives reply)) mid (Some (ls ++ new ∷ [])) (Err d) end ms → Leaves mid.world (Some ls) end.world ms
-back_leaves how new p e reply {ls = ls} at others (ran_look (ran_keep ran)) =
-    let (world, locks) = ended ran in (world, locks ∙ ap (λ (l : List Lock). Some l) (back_by new p ls at others))
-
-files_leave : (how : Opening) (new : Lock) (p : Path) (now : ℕ) (found : Option DavMetaData) (reply : Response) {old end : StoreState} {ls : List Lock} {ms : Locks} {d : DavError}
-    → names new.path ≡ p → All (λ l. l.token ≢ new.token) ls
-    → Ran Asks (files how new.token p now found reply) old (Some (ls ++ new ∷ [])) (Err d) end ms → Leaves old.world (Some ls) end.world ms
-files_leave how new p now (Some m) reply at others ran = no_error ran
-files_leave how new p now None reply at others (ran_ask {answer = Ok file} one ran) = no_error ran
-files_leave how new p now None reply at others (ran_ask {answer = Err e} one ran) = leaves_on (refused_open one, refl) (back_leaves how new p e reply at others ran)
-
 abbrev grants_by : Bool → List Lock → Lock → (Unit {0} → MethodPlan Response) → MethodPlan Response
 grants_by b ls new f = (if b then Keep (ls ++ new ∷ []) (gives tt) else fails (dav.Status 423)) >>= f
 
-grant_leaves : (b : Bool) (how : Opening) (new : Lock) (p : Path) (now : ℕ) (found : Option DavMetaData) (reply : Response) {old end : StoreState} {ls : List Lock} {ms : Locks} {d : DavError}
-    → names new.path ≡ p → All (λ l. l.token ≢ new.token) ls
-    → Ran Asks (grants_by b ls new (λ u. files how new.token p now found reply)) old (Some ls) (Err d) end ms → Leaves old.world (Some ls) end.world ms
-grant_leaves true how new p now found reply at others (ran_keep ran) = files_leave how new p now found reply at others ran
-grant_leaves false how new p now found reply at others ran = ended ran
-
--- no lock of the list has the token that the client handed in
-abbrev TokenIsUnused : Client → Locks → Type 0
-TokenIsUnused who ls = (token : List ℕ) → who.token ≡ Some token → IsUnused token ls
-
-module _ (h : LockHeaders) (p : PathText) (location : List Header) (content : Body) (who : Client) (found : Option DavMetaData) where
-  -- what follows the lock that is asked for
-  abbrev granting : Lock → MethodPlan Response
-  granting new = do
-    _ ← grant new
-    files (empty_opening h.conditions) new.token (names p) who.moment found (granted_reply (is_some found) location new)
-
-  granting_leaves : (new : Lock) (asked : AskedFor h p content who new) (ls : List Lock) {old end : StoreState} {ms : Locks} {d : DavError} → TokenIsUnused who (Some ls)
-      → Ran Asks (granting new) old (Some ls) (Err d) end ms → Leaves old.world (Some ls) end.world ms
-  granting_leaves new asked ls unused (ran_look ran) =
-      let token : asked.token ≡ new.token = sym (ap (λ (l : Lock). l.token) asked.is) in
-      grant_leaves (is_grantable new ls) (empty_opening h.conditions) new (names p) who.moment found (granted_reply (is_some found) location new) (ap (λ (l : Lock). names l.path) asked.is)
-      (subst (λ (t : List ℕ). All (λ l. l.token ≢ t) ls) token (unused asked.token asked.own)) ran
-
-  new_leaves_by : (outcome : Result Lock DavError) (ls : List Lock) {old mid end : StoreState} {ks ms : Locks} {d : DavError} → TokenIsUnused who (Some ls)
-      → Ran Asks (asked_lock h p content who found) old (Some ls) outcome mid ks → Ran Asks (followed_by outcome granting) mid ks (Err d) end ms → Leaves old.world (Some ls) end.world ms
-  new_leaves_by (Err e) ls unused one more = leaves_on (asked_leaves h p content who found one) (ended more)
-  new_leaves_by (Ok new) ls unused one more =
-      let first = asked_leaves h p content who found one in
-      leaves_on (first.0, refl) (granting_leaves new (asked_ran h p content who found one) ls unused (run_from first.1 more))
-
-  new_leaves : (ls : List Lock) {old end : StoreState} {ms : Locks} {d : DavError} → TokenIsUnused who (Some ls)
-      → Ran Asks (lock_new h p location content who found) old (Some ls) (Err d) end ms → Leaves old.world (Some ls) end.world ms
-  new_leaves ls unused ran = let s = ran_split (asked_lock h p content who found) granting ran in new_leaves_by s.outcome ls unused s.first s.rest
+-- what follows the lock that is asked for
+abbrev granting : LockHeaders → PathText → List Header → Body → Client → Option DavMetaData → Lock → MethodPlan Response
+granting h p location content who found new = do
+  _ ← grant new
+  files (empty_opening h.conditions) new.token (names p) who.moment found (granted_reply (is_some found) location new)
 
 -- what follows the lock that was meant, and the list with it
 abbrev renewing : Option Lock → Option (List Lock) → (Lock → Response) → MethodPlan Response
@@ -201,21 +211,110 @@ module _ (h : LockHeaders) (p : PathText) (location : List Header) (who : Client
       let s = ran_split (token_to_refresh h (names p) who) refreshing ran in
       again_leaves_by s.outcome ls (reading_leaves (only_reads look_reads (only_token h (names p) who)) s.first) s.rest
 
-by_body : (b : Bool) (one other : MethodPlan Response) (ls : List Lock) {old end : StoreState} {ms : Locks} {d : DavError}
-    → (Ran Asks one old (Some ls) (Err d) end ms → Leaves old.world (Some ls) end.world ms) → (Ran Asks other old (Some ls) (Err d) end ms → Leaves old.world (Some ls) end.world ms)
-    → Ran Asks (if b then one else other) old (Some ls) (Err d) end ms → Leaves old.world (Some ls) end.world ms
-by_body true one other ls is also ran = is ran
-by_body false one other ls is also ran = also ran
+-- no lock of the list has the token that the client handed in
+abbrev TokenIsUnused : Client → Locks → Type 0
+TokenIsUnused who ls = (token : List ℕ) → who.token ≡ Some token → IsUnused token ls
+
+-- Why a LOCK of this client, with these headers, that ends in this error leaves the list: where it asked for a file, no lock of the list
+-- has its token.
+module _ (step : CallStep) (asks : IsAsking step) (h : LockHeaders) (who : Client) (ls : List Lock) (d : DavError) (X : Type 0)
+    (unused : (p : Path) (old new : StoreState) (e : FsError) → step (Open p (empty_opening h.conditions) who.moment) old (Err e) new → is_star h.conditions.if_match ≡ false
+    → d ≡ empty_error (empty_opening h.conditions) e → X → TokenIsUnused who (Some ls)) where
+  abbrev how : Opening
+  how = empty_opening h.conditions
+
+  back_leaves : (new : Lock) (p : Path) (e : FsError) (reply : Response) {mid end : StoreState} {ms : Locks} → names new.path ≡ p → who.token ≡ Some new.token
+      → (d ≡ empty_error how e → X → TokenIsUnused who (Some ls))
+      → Ran step (made_or_back how new.token p (Err e) >>= (λ u. gives reply)) mid (Some (ls ++ new ∷ [])) (Err d) end ms → LeavesFor X mid.world (Some ls) end.world ms
+  back_leaves new p e reply at own others (ran_look (ran_keep ran)) =
+      let (is, state, locks) = finish_of ran in
+      let same : d ≡ empty_error how e = cc in
+      (ap (λ (s : StoreState). s.world) state, λ reason. locks ∙ ap (λ (l : List Lock). Some l) (back_by new p ls at (others same reason new.token own)))
+
+  files_leave : (new : Lock) (p : Path) (found : Option DavMetaData) (reply : Response) {old end : StoreState} {ms : Locks} → names new.path ≡ p → who.token ≡ Some new.token
+      → (found ≡ None → is_star h.conditions.if_match ≡ false)
+      → Ran step (files how new.token p who.moment found reply) old (Some (ls ++ new ∷ [])) (Err d) end ms → LeavesFor X old.world (Some ls) end.world ms
+  files_leave new p (Some m) reply at own makes ran = no_error ran
+  files_leave new p None reply at own makes (ran_ask {answer = Ok file} one ran) = no_error ran
+  files_leave new p None reply at own makes (ran_ask {old = old} {mid = mid} {answer = Err e} one ran) =
+      leaves_after (refused_open (asks (Open p how who.moment) old (Err e) mid one)) (back_leaves new p e reply at own (unused p old mid e one (makes refl)) ran)
+
+  grant_leaves : (b : Bool) (new : Lock) (p : Path) (found : Option DavMetaData) (reply : Response) {old end : StoreState} {ms : Locks} → names new.path ≡ p → who.token ≡ Some new.token
+      → (found ≡ None → is_star h.conditions.if_match ≡ false)
+      → Ran step (grants_by b ls new (λ u. files how new.token p who.moment found reply)) old (Some ls) (Err d) end ms → LeavesFor X old.world (Some ls) end.world ms
+  grant_leaves true new p found reply at own makes (ran_keep ran) = files_leave new p found reply at own makes ran
+  grant_leaves false new p found reply at own makes ran = leaves_for (ended ran)
+
+  granting_leaves : (p : PathText) (location : List Header) (content : Body) (found : Option DavMetaData) (new : Lock) (asked : AskedFor h p content who new) {old end : StoreState} {ms : Locks}
+      → (found ≡ None → is_star h.conditions.if_match ≡ false)
+      → Ran step (granting h p location content who found new) old (Some ls) (Err d) end ms → LeavesFor X old.world (Some ls) end.world ms
+  granting_leaves p location content found new asked makes (ran_look ran) =
+      grant_leaves (is_grantable new ls) new (names p) found (granted_reply (is_some found) location new) (ap (λ (l : Lock). names l.path) asked.is)
+      (asked.own ∙ sym (ap (λ (l : Lock). Some l.token) asked.is)) makes ran
+
+  new_leaves_by : (p : PathText) (location : List Header) (content : Body) (found : Option DavMetaData) (outcome : Result Lock DavError) {old mid end : StoreState} {ks ms : Locks}
+      → Ran Asks (asked_lock h p content who found) old (Some ls) outcome mid ks → Ran step (followed_by outcome (granting h p location content who found)) mid ks (Err d) end ms → LeavesFor X old.world (Some ls) end.world ms
+  new_leaves_by p location content found (Err e) one more = leaves_for (leaves_on (asked_leaves h p content who found one) (ended more))
+  new_leaves_by p location content found (Ok new) one more =
+      let first = asked_leaves h p content who found one in
+      leaves_after first.0 (granting_leaves p location content found new (asked_ran h p content who found one) (asked_makes h p content who found one) (run_from first.1 more))
+
+  new_leaves : (p : PathText) (location : List Header) (content : Body) (found : Option DavMetaData) {old end : StoreState} {ms : Locks}
+      → Ran step (lock_new h p location content who found) old (Some ls) (Err d) end ms → LeavesFor X old.world (Some ls) end.world ms
+  new_leaves p location content found ran =
+      let s = ran_split (asked_lock h p content who found) (granting h p location content who found) ran in
+      new_leaves_by p location content found s.outcome (ran_as asks s.first) s.rest
+
+  by_body : (b : Bool) (one other : MethodPlan Response) {old end : StoreState} {ms : Locks}
+      → (Ran step one old (Some ls) (Err d) end ms → LeavesFor X old.world (Some ls) end.world ms) → (Ran step other old (Some ls) (Err d) end ms → LeavesFor X old.world (Some ls) end.world ms)
+      → Ran step (if b then one else other) old (Some ls) (Err d) end ms → LeavesFor X old.world (Some ls) end.world ms
+  by_body true one other is also ran = is ran
+  by_body false one other is also ran = also ran
+
+  refused_leaves : (p : PathText) (body : Body) {old end : StoreState} {ms : Locks} → Ran step (lock h p body who) old (Some ls) (Err d) end ms → LeavesFor X old.world (Some ls) end.world ms
+  refused_leaves p body (ran_look (ran_ask {old = old} {mid = mid} {answer = answer} one ran)) =
+      let q : PathText = path_found (result_ok answer) p in
+      let location : List Header = location_found (result_ok answer) p in
+      leaves_after (did_leave (Metadata (names p)) old.world mid.world answer tt (did (asks (Metadata (names p)) old answer mid one)))
+      (by_body (is_absent body) (lock_again h q location who) (lock_new h q location body who (result_ok answer))
+      (λ r. leaves_for (again_leaves h q location who ls (ran_as asks r))) (λ r. new_leaves q location body (result_ok answer) r) ran)
+
+-- the error where the file isn't opened is such a one
+status_by : (headers : Headers) (b : Bool) (list : Option TagList) → Decodes IsTagList (get_all headers (codes "if-none-match")) list → b ≡ false
+    → IsRefusedFile headers (dav.Status (if not (not b) || is_star list then 412 else 409))
+status_by headers true list said only = absurd (true≢false only)
+status_by headers false None said only = inl refl
+status_by headers false (Some star) said only = inr (refl, said)
+status_by headers false (Some (tags ts)) said only = inl refl
+
+is_refused_file : (headers : Headers) (c : Conditions) → Decodes IsTagList (get_all headers (codes "if-none-match")) c.if_none_match → is_star c.if_match ≡ false
+    → (e : FsError) → IsRefusedFile headers (empty_error (empty_opening c) e)
+is_refused_file headers c said only NotFound = status_by headers (is_star c.if_match) c.if_none_match said only
+is_refused_file headers c said only Exists = status_by headers (is_star c.if_match) c.if_none_match said only
+is_refused_file headers c said only e = tt
+
+-- the token is unused, or the error is of another kind
+abbrev Early : Headers → Client → Locks → DavError → Type 0
+Early headers who ls d = TokenIsUnused who ls ⊎ (¬ IsRefusedFile headers d)
+
+is_unused : (headers : Headers) (who : Client) (ls : Locks) (d e : DavError) → d ≡ e → IsRefusedFile headers e → Early headers who ls d → TokenIsUnused who ls
+is_unused headers who ls d e same refused (inl unused) = unused
+is_unused headers who ls d e same refused (inr other) = absurd (other (subst (IsRefusedFile headers) (sym same) refused))
 
 -- a LOCK that an error ends leaves all
 pub refused_lock_leaves_all : RefusedLockLeavesAll
-refused_lock_leaves_all headers p body who plan old new None ms e unused (is_lock h are) (ran_look ran) = ended ran
-refused_lock_leaves_all headers p body who plan old new (Some ls) ms e unused (is_lock h are) (ran_look (ran_ask {mid = mid} {answer = answer} one ran)) =
-    let q : PathText = path_found (result_ok answer) p in
-    let location : List Header = location_found (result_ok answer) p in
-    leaves_on (did_leave (Metadata (names p)) old.world mid.world answer tt (did one), refl)
-    (by_body (is_absent body) (lock_again h q location who) (lock_new h q location body who (result_ok answer)) ls
-    (λ r. again_leaves h q location who ls r) (λ r. new_leaves h q location body who (result_ok answer) ls unused r) ran)
+refused_lock_leaves_all headers p body who plan old new None ms e (is_lock h are) (ran_look ran) = leaves_for (ended ran)
+refused_lock_leaves_all headers p body who plan old new (Some ls) ms e (is_lock h are) ran =
+    refused_leaves Asks (λ c old answer new one. one) h who ls e (Early headers who (Some ls) e)
+    (λ q before after refusal one only same reason. is_unused headers who (Some ls) e (empty_error (empty_opening h.conditions) refusal) same (is_refused_file headers h.conditions are.conditions.none_match only refusal) reason)
+    p body ran
+
+-- so does one that ends before a file is asked for
+pub early_refused_lock_leaves_all : EarlyRefusedLockLeavesAll
+early_refused_lock_leaves_all headers p body who plan old new None ms e (is_lock h are) (ran_look ran) = ended ran
+early_refused_lock_leaves_all headers p body who plan old new (Some ls) ms e (is_lock h are) ran =
+    let leaves = refused_leaves AsksNoFile (λ c old answer new one. one.1) h who ls e ⊤ (λ q before after refusal one only same reason. absurd one.0) p body ran in
+    (leaves.0, leaves.1 tt)
 
 -- ---- a refresh
 

@@ -1,7 +1,8 @@
 -- How code follows a MKCOL.
-use Rattle.std.proofs.Common.{◌≡◌, ℕ, Bool, true, false, List, map, string_bytes, String, Option, Result, Ok, Err, refl, ap}
+use Rattle.std.proofs.Common.{◌≡◌, ℕ, Bool, false, not, List, map, string_bytes, String, Option, Result, Ok, Err, ap}
 use Rattle.std.specs.Global.{Vec, Global}
-use Rattle.std.specs.Result.{result_ok}
+use Rattle.std.specs.Option.{is_some}
+use Rattle.std.specs.Result.{is_ok, result_ok}
 use Rattle.dav_core.specs.declared.errors.FsError.{FsError}
 use Rattle.dav_core.specs.declared.errors.DavError.{DavError}
 use Rattle.dav_core.specs.declared.errors.DavError.TheVariants as dav
@@ -12,53 +13,45 @@ use Rattle.dav_core.specs.Locks.{requester_of}
 use Rattle.dav_core.specs.Path.{PathText, names}
 use Rattle.dav_engine.specs.Client.{Client, requester}
 use Rattle.dav_engine.specs.Plan.{Locks}
-use Rattle.dav_engine.specs.Method.{MethodPlan, ◌>>=◌, require_free, is_open, ask_or, gives}
-use Rattle.dav_engine.specs.Follows.{as_is, Follows, or_memory}
+use Rattle.dav_engine.specs.Method.{MethodPlan, ◌>>=◌, require_member, ask_or, gives}
+use Rattle.dav_engine.specs.Follows.{as_is, Follows, Sets, or_memory}
 use Rattle.dav_engine.specs.Conditions.{Conditions, if_match_get_tokens}
-use Rattle.dav_engine.specs.ConditionView.{texts_of, tokens_or_status}
+use Rattle.dav_engine.specs.ConditionView.{tokens_or_status}
 use Rattle.dav_engine.specs.Mkcol.{mkcol_allowed, mkcol, create_error, made}
 use Rattle.dav_engine.specs.Response.{Response}
 use Rattle.dav_engine.specs.declared.reply.Reply.{Reply}
 use Rattle.dav_engine.proofs.Following.{follows_done, follows_ask, follows_then, follows_err, follows_up_to}
-use Rattle.dav_engine.proofs.GuardLemmas.{guard_passed, guard_failed, guard_short, open_to, ends_free, ends_locked}
+use Rattle.dav_engine.proofs.GuardLemmas.{guard_passed, guard_failed, guard_short, none_by, member_for}
 
 -- what follows the conditions
-abbrev rest : PathText → Client → List (List ℕ) → MethodPlan (Unit {0})
-rest p who tokens = require_free false (requester who tokens) (names p) (dav.Status 423)
+abbrev rest : PathText → Client → Result DavMetaData FsError → List (List ℕ) → MethodPlan (Unit {0})
+rest p who answer tokens = require_member false (not (is_ok answer)) (requester who tokens) (names p) (dav.Status 423)
 
 pub mkcol_short : {E : Type 0} (c : Conditions) (p : PathText) (who : Client) (answer : Result DavMetaData FsError) (before : Option DavMetaData) (r : Result (Result (Vec (String Global)) ℕ) E) (e : E)
     {old mid new : StoreState} {ls : Locks}
     → Asks (Metadata (names p)) old answer mid → before ≡ result_ok answer → r ≡ Err e
     → Follows tokens_or_status (if_match_get_tokens MkCol c before) mid ls (or_memory r) new ls
     → Follows (λ (u : Unit {0}). u) (mkcol_allowed c p who) old ls (Err dav.Memory) new ls
-mkcol_short c p who answer before r e asks same was one = follows_ask asks (guard_short dav.Status MkCol c before (result_ok answer) (rest p who) r e same was one)
+mkcol_short c p who answer before r e asks same was one = follows_ask asks (guard_short dav.Status MkCol c before (result_ok answer) (rest p who answer) r e same was one)
 
 pub mkcol_failed : {E : Type 0} (c : Conditions) (p : PathText) (who : Client) (answer : Result DavMetaData FsError) (before : Option DavMetaData) (r : Result (Result (Vec (String Global)) ℕ) E) (verdict : Result (Vec (String Global)) ℕ) (status : ℕ)
     {old mid new : StoreState} {ls : Locks}
     → Asks (Metadata (names p)) old answer mid → before ≡ result_ok answer → r ≡ Ok verdict → verdict ≡ Err status
     → Follows tokens_or_status (if_match_get_tokens MkCol c before) mid ls (or_memory r) new ls
     → Follows (λ (u : Unit {0}). u) (mkcol_allowed c p who) old ls (Err (dav.Status status)) new ls
-mkcol_failed c p who answer before r verdict status asks same was is one = follows_ask asks (guard_failed dav.Status MkCol c before (result_ok answer) (rest p who) r verdict status same was is one)
+mkcol_failed c p who answer before r verdict status asks same was is one = follows_ask asks (guard_failed dav.Status MkCol c before (result_ok answer) (rest p who answer) r verdict status same was is one)
 
-pub mkcol_free : {E : Type 0} (c : Conditions) (p : PathText) (who : Client) (answer : Result DavMetaData FsError) (before : Option DavMetaData) (r : Result (Result (Vec (String Global)) ℕ) E) (verdict : Result (Vec (String Global)) ℕ) (tokens : Vec (String Global))
-    (lent : List (String Global)) (b : Bool) {old mid new : StoreState} {ls : Locks}
+-- the conditions hold, and then the locks were checked
+pub mkcol_checked : {E : Type 0} (c : Conditions) (p : PathText) (who : Client) (answer : Result DavMetaData FsError) (before file : Option DavMetaData) (r : Result (Result (Vec (String Global)) ℕ) E) (verdict : Result (Vec (String Global)) ℕ) (tokens : Vec (String Global))
+    (lent : List (String Global)) (b : Bool) (end : Result (Unit {0}) DavError) {old mid new : StoreState} {ls : Locks}
     → Asks (Metadata (names p)) old answer mid → before ≡ result_ok answer → r ≡ Ok verdict → verdict ≡ Ok tokens
     → Follows tokens_or_status (if_match_get_tokens MkCol c before) mid ls (or_memory r) new ls
-    → lent ≡ tokens.items → b ≡ is_open false (requester_of (map string_bytes lent) false who.principal) (names p) ls → b ≡ true
-    → Follows (λ (u : Unit {0}). u) (mkcol_allowed c p who) old ls (Ok tt) new ls
-mkcol_free c p who answer before r verdict tokens lent b {ls = ls} asks same was is one tells looked freed =
-    follows_ask asks (guard_passed dav.Status MkCol c before (result_ok answer) (rest p who) r verdict tokens same was is one
-    (ends_free false (requester who (texts_of tokens)) (names p) (dav.Status 423) b (open_to tokens lent who.principal false (names p) ls b tells looked) freed refl))
-
-pub mkcol_locked : {E : Type 0} (c : Conditions) (p : PathText) (who : Client) (answer : Result DavMetaData FsError) (before : Option DavMetaData) (r : Result (Result (Vec (String Global)) ℕ) E) (verdict : Result (Vec (String Global)) ℕ) (tokens : Vec (String Global))
-    (lent : List (String Global)) (b : Bool) {old mid new : StoreState} {ls : Locks}
-    → Asks (Metadata (names p)) old answer mid → before ≡ result_ok answer → r ≡ Ok verdict → verdict ≡ Ok tokens
-    → Follows tokens_or_status (if_match_get_tokens MkCol c before) mid ls (or_memory r) new ls
-    → lent ≡ tokens.items → b ≡ is_open false (requester_of (map string_bytes lent) false who.principal) (names p) ls → b ≡ false
-    → Follows (λ (u : Unit {0}). u) (mkcol_allowed c p who) old ls (Err (dav.Status 423)) new ls
-mkcol_locked c p who answer before r verdict tokens lent b {ls = ls} asks same was is one tells looked shut =
-    follows_ask asks (guard_passed dav.Status MkCol c before (result_ok answer) (rest p who) r verdict tokens same was is one
-    (ends_locked false (requester who (texts_of tokens)) (names p) (dav.Status 423) b (open_to tokens lent who.principal false (names p) ls b tells looked) shut refl))
+    → is_some file ≡ not b → file ≡ result_ok answer → lent ≡ tokens.items
+    → Sets (λ (u : Unit {0}). u) (require_member false b (requester_of (map string_bytes lent) false who.principal) (names p) (dav.Status 423)) ls end ls
+    → Follows (λ (u : Unit {0}). u) (mkcol_allowed c p who) old ls end new ls
+mkcol_checked c p who answer before file r verdict tokens lent b end {new = new} asks same was is one told kept tells done =
+    follows_ask asks (guard_passed dav.Status MkCol c before (result_ok answer) (rest p who answer) r verdict tokens same was is one
+    (member_for false b (not (is_ok answer)) tokens lent who.principal (names p) (dav.Status 423) (none_by answer file b told kept) tells done new))
 
 -- what follows the checks
 abbrev creates : PathText → Client → Unit {0} → MethodPlan Response

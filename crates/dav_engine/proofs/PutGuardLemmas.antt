@@ -1,5 +1,5 @@
 -- How code follows the checks before the file of a PUT or PATCH is opened.
-use Rattle.std.proofs.Common.{◌≡◌, ℕ, Bool, true, false, List, map, string_bytes, String, Option, Result, Ok, Err, refl, sym, ap, ◌∙◌}
+use Rattle.std.proofs.Common.{◌≡◌, ℕ, Bool, true, false, not, List, map, string_bytes, String, Option, Result, Ok, Err, refl, sym, ap, ◌∙◌}
 use Rattle.std.specs.Global.{Vec, Global}
 use Rattle.std.specs.Option.{is_some}
 use Rattle.std.specs.Result.{is_ok, result_ok}
@@ -14,13 +14,13 @@ use Rattle.dav_core.specs.Path.{Path}
 use Rattle.dav_engine.specs.declared.put_headers.Writing.{Writing}
 use Rattle.dav_engine.specs.Client.{Client, requester}
 use Rattle.dav_engine.specs.Plan.{Locks}
-use Rattle.dav_engine.specs.Method.{MethodPlan, ◌>>=◌, gives, require, require_free, is_open}
-use Rattle.dav_engine.specs.Follows.{Follows, or_memory}
+use Rattle.dav_engine.specs.Method.{MethodPlan, ◌>>=◌, gives, require, require_member}
+use Rattle.dav_engine.specs.Follows.{Follows, Sets, or_memory}
 use Rattle.dav_engine.specs.Conditions.{if_match_get_tokens, guarded}
 use Rattle.dav_engine.specs.ConditionView.{texts_of, tokens_or_status}
 use Rattle.dav_engine.specs.Put.{PutHeaders, writing_of, is_announced, put_allowed}
-use Rattle.dav_engine.proofs.Following.{follows_done, follows_ask, follows_on, follows_out}
-use Rattle.dav_engine.proofs.GuardLemmas.{follows_ok, follows_fails, guard_passed, guard_failed, guard_short, open_to, free_goes, locked_out}
+use Rattle.dav_engine.proofs.Following.{follows_done, follows_ask, follows_then, follows_err, follows_on, follows_out}
+use Rattle.dav_engine.proofs.GuardLemmas.{follows_ok, follows_fails, guard_passed, guard_failed, guard_short, none_by, member_for}
 
 -- whether something was found
 some_ok : (answer : Result DavMetaData FsError) → is_some (result_ok answer) ≡ is_ok answer
@@ -35,7 +35,7 @@ length_next w exists bytes _ = do
 
 -- what follows the conditions
 abbrev locks_next : Path → Client → List ℕ → Bool → Writing → List (List ℕ) → MethodPlan (Writing × Bool)
-locks_next p who bytes exists w tokens = require_free false (requester who tokens) p (dav.StatusClose 423) >>= length_next w exists bytes
+locks_next p who bytes exists w tokens = require_member false (not exists) (requester who tokens) p (dav.StatusClose 423) >>= length_next w exists bytes
 
 -- what follows the choice of the place
 abbrev conditions_next : DavMethod → PutHeaders → Path → Client → List ℕ → Result DavMetaData FsError → Writing → MethodPlan (Writing × Bool)
@@ -89,52 +89,59 @@ put_passed m h p who bytes answer before placed w seen r verdict tokens asks sam
     put_placed m h p who bytes answer before placed w asks same there is
     (guard_passed dav.StatusClose m h.conditions seen (result_ok answer) (locks_next p who bytes (is_ok answer) w) r verdict tokens found was holds one rest)
 
--- a lock conflicts
+-- what the check of the locks did
+member_done : (p : Path) (who : Client) (answer : Result DavMetaData FsError) (tokens : Vec (String Global)) (lent : List (String Global)) (b : Bool) (file : Option DavMetaData) {ls : Locks} {end : Result (Unit {0}) DavError}
+    → is_some file ≡ not b → file ≡ result_ok answer → lent ≡ tokens.items → Sets (λ (u : Unit {0}). u) (require_member false b (requester_of (map string_bytes lent) false who.principal) p (dav.StatusClose 423)) ls end ls
+    → Sets (λ (u : Unit {0}). u) (require_member false (not (is_ok answer)) (requester who (texts_of tokens)) p (dav.StatusClose 423)) ls end ls
+member_done p who answer tokens lent b file told kept tells done =
+    member_for false b (not (is_ok answer)) tokens lent who.principal p (dav.StatusClose 423) (none_by answer file b told kept) tells done
+
+-- a lock conflicts, or memory runs out where that is checked
 pub put_locked : {E : Type 0} (m : DavMethod) (h : PutHeaders) (p : Path) (who : Client) (bytes : List ℕ) (answer : Result DavMetaData FsError) (before : Option DavMetaData) (placed : Result Writing DavError) (w : Writing)
-    (seen : Option DavMetaData) (r : Result (Result (Vec (String Global)) ℕ) E) (verdict : Result (Vec (String Global)) ℕ) (tokens : Vec (String Global)) (lent : List (String Global)) (b : Bool) {old mid new : StoreState} {ls : Locks}
+    (seen : Option DavMetaData) (r : Result (Result (Vec (String Global)) ℕ) E) (verdict : Result (Vec (String Global)) ℕ) (tokens : Vec (String Global)) (lent : List (String Global)) (b : Bool) (file : Option DavMetaData) (e : DavError) {old mid new : StoreState} {ls : Locks}
     → Asks (Metadata p) old answer mid → before ≡ result_ok answer → placed ≡ writing_of m h before → placed ≡ Ok w
     → seen ≡ result_ok answer → r ≡ Ok verdict → verdict ≡ Ok tokens → Follows tokens_or_status (if_match_get_tokens m h.conditions seen) mid ls (or_memory r) new ls
-    → lent ≡ tokens.items → b ≡ is_open false (requester_of (map string_bytes lent) false who.principal) p ls → b ≡ false
-    → Follows (λ (x : Writing × Bool). x) (put_allowed m h p who bytes) old ls (Err (dav.StatusClose 423)) new ls
-put_locked m h p who bytes answer before placed w seen r verdict tokens lent b {ls = ls} asks same there is found was holds one tells looked shut =
+    → is_some file ≡ not b → file ≡ result_ok answer → lent ≡ tokens.items → Sets (λ (u : Unit {0}). u) (require_member false b (requester_of (map string_bytes lent) false who.principal) p (dav.StatusClose 423)) ls (Err e) ls
+    → Follows (λ (x : Writing × Bool). x) (put_allowed m h p who bytes) old ls (Err e) new ls
+put_locked m h p who bytes answer before placed w seen r verdict tokens lent b file e {new = new} asks same there is found was holds one told kept tells barred =
     put_passed m h p who bytes answer before placed w seen r verdict tokens asks same there is found was holds one
-    (locked_out false (requester who (texts_of tokens)) p (dav.StatusClose 423) (length_next w (is_ok answer) bytes) b (open_to tokens lent who.principal false p ls b tells looked) shut refl)
+    (follows_err (length_next w (is_ok answer) bytes) e (member_done p who answer tokens lent b file told kept tells barred new))
 
 -- the path isn't locked against the requester, and the rest was followed
 put_free : {E : Type 0} (m : DavMethod) (h : PutHeaders) (p : Path) (who : Client) (bytes : List ℕ) (answer : Result DavMetaData FsError) (before : Option DavMetaData) (placed : Result Writing DavError) (w : Writing)
-    (seen : Option DavMetaData) (r : Result (Result (Vec (String Global)) ℕ) E) (verdict : Result (Vec (String Global)) ℕ) (tokens : Vec (String Global)) (lent : List (String Global)) (b : Bool) {old mid new : StoreState} {ls : Locks}
-    {end : Result (Writing × Bool) DavError}
+    (seen : Option DavMetaData) (r : Result (Result (Vec (String Global)) ℕ) E) (verdict : Result (Vec (String Global)) ℕ) (tokens : Vec (String Global)) (lent : List (String Global)) (b : Bool) (file : Option DavMetaData)
+    {old mid new : StoreState} {ls : Locks} {end : Result (Writing × Bool) DavError}
     → Asks (Metadata p) old answer mid → before ≡ result_ok answer → placed ≡ writing_of m h before → placed ≡ Ok w
     → seen ≡ result_ok answer → r ≡ Ok verdict → verdict ≡ Ok tokens → Follows tokens_or_status (if_match_get_tokens m h.conditions seen) mid ls (or_memory r) new ls
-    → lent ≡ tokens.items → b ≡ is_open false (requester_of (map string_bytes lent) false who.principal) p ls → b ≡ true
+    → is_some file ≡ not b → file ≡ result_ok answer → lent ≡ tokens.items → Sets (λ (u : Unit {0}). u) (require_member false b (requester_of (map string_bytes lent) false who.principal) p (dav.StatusClose 423)) ls (Ok tt) ls
     → Follows (λ (x : Writing × Bool). x) (length_next w (is_ok answer) bytes tt) new ls end new ls
     → Follows (λ (x : Writing × Bool). x) (put_allowed m h p who bytes) old ls end new ls
-put_free m h p who bytes answer before placed w seen r verdict tokens lent b {ls = ls} asks same there is found was holds one tells looked freed rest =
+put_free m h p who bytes answer before placed w seen r verdict tokens lent b file {new = new} asks same there is found was holds one told kept tells freed rest =
     put_passed m h p who bytes answer before placed w seen r verdict tokens asks same there is found was holds one
-    (free_goes false (requester who (texts_of tokens)) p (dav.StatusClose 423) (length_next w (is_ok answer) bytes) b (open_to tokens lent who.principal false p ls b tells looked) freed rest)
+    (follows_then (length_next w (is_ok answer) bytes) (member_done p who answer tokens lent b file told kept tells freed new) rest)
 
 -- the body isn't of the announced length
 pub put_other_length : {E : Type 0} (m : DavMethod) (h : PutHeaders) (p : Path) (who : Client) (bytes : List ℕ) (answer : Result DavMetaData FsError) (before : Option DavMetaData) (placed : Result Writing DavError) (w : Writing)
-    (seen : Option DavMetaData) (r : Result (Result (Vec (String Global)) ℕ) E) (verdict : Result (Vec (String Global)) ℕ) (tokens : Vec (String Global)) (lent : List (String Global)) (b fits : Bool) {old mid new : StoreState} {ls : Locks}
+    (seen : Option DavMetaData) (r : Result (Result (Vec (String Global)) ℕ) E) (verdict : Result (Vec (String Global)) ℕ) (tokens : Vec (String Global)) (lent : List (String Global)) (b : Bool) (file : Option DavMetaData) (fits : Bool) {old mid new : StoreState} {ls : Locks}
     → Asks (Metadata p) old answer mid → before ≡ result_ok answer → placed ≡ writing_of m h before → placed ≡ Ok w
     → seen ≡ result_ok answer → r ≡ Ok verdict → verdict ≡ Ok tokens → Follows tokens_or_status (if_match_get_tokens m h.conditions seen) mid ls (or_memory r) new ls
-    → lent ≡ tokens.items → b ≡ is_open false (requester_of (map string_bytes lent) false who.principal) p ls → b ≡ true
+    → is_some file ≡ not b → file ≡ result_ok answer → lent ≡ tokens.items → Sets (λ (u : Unit {0}). u) (require_member false b (requester_of (map string_bytes lent) false who.principal) p (dav.StatusClose 423)) ls (Ok tt) ls
     → fits ≡ is_announced w.announced bytes → fits ≡ false
     → Follows (λ (x : Writing × Bool). x) (put_allowed m h p who bytes) old ls (Err (dav.StatusClose 400)) new ls
-put_other_length m h p who bytes answer before placed w seen r verdict tokens lent b fits asks same there is found was holds one tells looked freed compared differs =
-    put_free m h p who bytes answer before placed w seen r verdict tokens lent b asks same there is found was holds one tells looked freed
+put_other_length m h p who bytes answer before placed w seen r verdict tokens lent b file fits asks same there is found was holds one told kept tells freed compared differs =
+    put_free m h p who bytes answer before placed w seen r verdict tokens lent b file asks same there is found was holds one told kept tells freed
     (follows_out (is_announced w.announced bytes) (dav.StatusClose 400) (λ _. gives (w, is_ok answer)) (sym compared ∙ differs) refl)
 
 -- the bytes may be stored
 pub put_agreed : {E : Type 0} (m : DavMethod) (h : PutHeaders) (p : Path) (who : Client) (bytes : List ℕ) (answer : Result DavMetaData FsError) (before : Option DavMetaData) (placed : Result Writing DavError) (w : Writing)
-    (seen : Option DavMetaData) (r : Result (Result (Vec (String Global)) ℕ) E) (verdict : Result (Vec (String Global)) ℕ) (tokens : Vec (String Global)) (lent : List (String Global)) (b fits exists : Bool) (file : Option DavMetaData)
+    (seen : Option DavMetaData) (r : Result (Result (Vec (String Global)) ℕ) E) (verdict : Result (Vec (String Global)) ℕ) (tokens : Vec (String Global)) (lent : List (String Global)) (b : Bool) (file : Option DavMetaData) (fits exists : Bool)
     {old mid new : StoreState} {ls : Locks}
     → Asks (Metadata p) old answer mid → before ≡ result_ok answer → placed ≡ writing_of m h before → placed ≡ Ok w
     → seen ≡ result_ok answer → r ≡ Ok verdict → verdict ≡ Ok tokens → Follows tokens_or_status (if_match_get_tokens m h.conditions seen) mid ls (or_memory r) new ls
-    → lent ≡ tokens.items → b ≡ is_open false (requester_of (map string_bytes lent) false who.principal) p ls → b ≡ true
-    → fits ≡ is_announced w.announced bytes → fits ≡ true → exists ≡ is_some file → file ≡ result_ok answer
+    → is_some file ≡ not b → file ≡ result_ok answer → lent ≡ tokens.items → Sets (λ (u : Unit {0}). u) (require_member false b (requester_of (map string_bytes lent) false who.principal) p (dav.StatusClose 423)) ls (Ok tt) ls
+    → fits ≡ is_announced w.announced bytes → fits ≡ true → exists ≡ is_some file
     → Follows (λ (x : Writing × Bool). x) (put_allowed m h p who bytes) old ls (Ok (w, exists)) new ls
-put_agreed m h p who bytes answer before placed w seen r verdict tokens lent b fits exists file asks same there is found was holds one tells looked freed compared agrees told kept =
-    put_free m h p who bytes answer before placed w seen r verdict tokens lent b asks same there is found was holds one tells looked freed
+put_agreed m h p who bytes answer before placed w seen r verdict tokens lent b file fits exists asks same there is found was holds one told kept tells freed compared agrees shown =
+    put_free m h p who bytes answer before placed w seen r verdict tokens lent b file asks same there is found was holds one told kept tells freed
     (follows_on (is_announced w.announced bytes) (dav.StatusClose 400) (λ _. gives (w, is_ok answer)) (sym compared ∙ agrees)
-    (follows_done (ap (λ (t : Bool). Ok (w, t)) (told ∙ ap is_some kept ∙ some_ok answer))))
+    (follows_done (ap (λ (t : Bool). Ok (w, t)) (shown ∙ ap is_some kept ∙ some_ok answer))))

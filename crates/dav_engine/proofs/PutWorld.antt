@@ -1,6 +1,6 @@
 -- What PUT, PATCH and MKCOL do to worlds.
-use Rattle.std.proofs.Common.{◌≡◌, ℕ, ◌≤◌, ◌==◌, Bool, true, false, true≢false, List, [], ◌∷◌, length, if◌then◌else◌, Option, Some, None, Result, Ok, Err, refl, sym, ap, ◌∙◌}
-use Rattle.std.specs.Result.{result_ok}
+use Rattle.std.proofs.Common.{◌≡◌, ℕ, ◌≤◌, ◌==◌, Bool, true, false, true≢false, List, [], ◌∷◌, length, if◌then◌else◌, Option, Some, None, Result, Ok, Err, refl, sym, ap, ◌∙◌, not}
+use Rattle.std.specs.Result.{result_ok, is_ok}
 use Rattle.dav_core.specs.declared.errors.FsError.{FsError}
 use Rattle.dav_core.specs.declared.errors.FsError.TheVariants.{Forbidden, Exists}
 use Rattle.dav_core.specs.declared.errors.DavError.{DavError}
@@ -20,7 +20,7 @@ use Rattle.dav_core.proofs.Theorems.{went_on}
 use Rattle.dav_engine.specs.declared.put_headers.Writing.{Writing}
 use Rattle.dav_engine.specs.Client.{Client, requester}
 use Rattle.dav_engine.specs.Conditions.{Conditions, Addressed, is_star, item_holds, while_true, while_false, all_hold, some_holds, if_holds, unless, if_match_get_tokens, guarded, if_match}
-use Rattle.dav_engine.specs.Method.{MethodPlan, then as followed_by, gives, ask_for, require, require_free, refused_as}
+use Rattle.dav_engine.specs.Method.{MethodPlan, then as followed_by, gives, ask_for, require, require_free, refused_as, require_parent, require_member}
 use Rattle.dav_engine.specs.Mkcol.{mkcol, mkcol_allowed, create_error, is_mkcol}
 use Rattle.dav_engine.specs.Plan.{Locks, Ran, ran_done, ran_ask}
 use Rattle.dav_engine.specs.Put.{PutHeaders, writing_of, put_opening, is_announced, unsatisfiable, sought, written, open_error, store, put_allowed, put_body, bytes_of_body, is_put}
@@ -85,18 +85,26 @@ only_guarded f m c found = only_bind (if_match_get_tokens m c found) _ (only_tok
 pub only_free : (deep : Bool) (who : Requester) (p : Path) (e : DavError) → Only IsLook (require_free deep who p e)
 only_free deep who p e = only_look (λ ls. only_require _ e)
 
+-- and so does that of the folder above
+pub only_parent : (wanted : Bool) (who : Requester) (p : Path) (e : DavError) → Only IsLook (require_parent wanted who p e)
+only_parent false who p e = only_done
+only_parent true who p e = only_look (λ ls. only_require _ e)
+
+pub only_member : (deep changes : Bool) (who : Requester) (p : Path) (e : DavError) → Only IsLook (require_member deep changes who p e)
+only_member deep changes who p e = only_bind (require_free deep who p e) _ (only_free deep who p e) (λ free. only_parent changes who p e)
+
 pub only_put_allowed : (m : DavMethod) (h : PutHeaders) (p : Path) (who : Client) (bytes : List ℕ) → Only IsLook (put_allowed m h p who bytes)
 only_put_allowed m h p who bytes = only_ask looks (λ answer.
     only_then (writing_of m h (result_ok answer)) _ (λ w.
     only_bind (guarded dav.StatusClose m h.conditions (result_ok answer)) _ (only_guarded dav.StatusClose m h.conditions (result_ok answer)) (λ tokens.
-    only_bind (require_free false (requester who tokens) p (dav.StatusClose 423)) _ (only_free false (requester who tokens) p (dav.StatusClose 423)) (λ free.
+    only_bind (require_member false (not (is_ok answer)) (requester who tokens) p (dav.StatusClose 423)) _ (only_member false (not (is_ok answer)) (requester who tokens) p (dav.StatusClose 423)) (λ free.
     only_bind (require (is_announced w.announced bytes) (dav.StatusClose 400)) _ (only_require (is_announced w.announced bytes) (dav.StatusClose 400)) (λ long.
     only_done)))))
 
 pub only_mkcol_allowed : (c : Conditions) (p : PathText) (who : Client) → Only IsLook (mkcol_allowed c p who)
 only_mkcol_allowed c p who = only_ask looks (λ answer.
     only_bind (guarded dav.Status MkCol c (result_ok answer)) _ (only_guarded dav.Status MkCol c (result_ok answer)) (λ tokens.
-    only_free false (requester who tokens) (names p) (dav.Status 423)))
+    only_member false (not (is_ok answer)) (requester who tokens) (names p) (dav.Status 423)))
 
 -- ---- an error of the checks is the outcome
 

@@ -14,7 +14,7 @@ use Rattle.dav_core.specs.Path.{Path, PathText, star, names, names_in, is_at_or_
 use Rattle.dav_engine.specs.Client.{Client, requester}
 use Rattle.dav_engine.specs.Conditions.{Conditions, submitted}
 use Rattle.dav_engine.specs.Copying.{CopyFault, CopyWalk, copy_seen, copy_members, copy_listed, copy_inside, copy_kind, copy_looked, copy, renaming}
-use Rattle.dav_engine.specs.CopyMove.{CopyHeaders, DestinationNames, is_move, copy_depth, destination_found, source_free, copy_free, is_replaced, clearing, drop_if, drop_if_moved, brought, copy_reply, bring_if_clear, copy_found, copy_or_move, is_copy_move}
+use Rattle.dav_engine.specs.CopyMove.{CopyHeaders, DestinationNames, is_move, copy_depth, destination_found, source_free, copy_free, is_replaced, clearing, drop_if, drop_if_moved, brought, copy_reply, bring_if_clear, copy_found, copy_or_move, is_copy_move, changes_members}
 use Rattle.dav_engine.specs.Folder.{closed, child_of, room_at, is_folder_found}
 use Rattle.dav_engine.specs.Guard.{folder_of, IsListed, Guards, StillGuards}
 use Rattle.dav_engine.specs.Method.{MethodPlan, ◌>>=◌, require, require_free, is_open, refused_as, gives}
@@ -28,7 +28,7 @@ use Rattle.dav_engine.proofs.EndingDelete.{still_listed}
 use Rattle.dav_engine.proofs.FaultLemmas.{at_path, below_trans}
 use Rattle.dav_engine.proofs.GuardedFolders.{stands_guarded}
 use Rattle.dav_engine.proofs.SparingDelete.{spare_removal, still_guards, free_none, free_outside_lock}
-use Rattle.dav_engine.proofs.SparingPlans.{At, spare_bind, spare_then, spare_guarded}
+use Rattle.dav_engine.proofs.SparingPlans.{At, IsOpenAbove, spare_bind, spare_then, spare_guarded, spare_above}
 
 member_under : (p : PathText) (n : List ℕ) (dir : Bool) → p.bytes ≢ star → is_at_or_under (names (child_of p n dir)) (names p) ≡ true
 member_under p n dir other = at_path (names p) (names (child_of p n dir)) (names_in n) (names_member p n dir other)
@@ -85,7 +85,7 @@ module _ (covered : Path → Bool) (G E : List Lock → Type 0) where
       spare_if (are_equal s top) (gives []) _ (spares_ok (refl, tt))
       (spares_reads {c = Metadata (names s)} tt (λ found. spare_looked deep (λ a b. copy room deep now top a b) now s d found (λ a b path out. spare_copy room deep now top a b path out) other none))
 
-  spare_clearing : (deep : Bool) (now : ℕ) (d : PathText) (there : Option DavMetaData) → d.bytes ≢ star → NoneUnder covered (names d) → Part (clearing deep now d there)
+  pub spare_clearing : (deep : Bool) (now : ℕ) (d : PathText) (there : Option DavMetaData) → d.bytes ≢ star → NoneUnder covered (names d) → Part (clearing deep now d there)
   spare_clearing deep now d there other none =
       spare_if (is_replaced deep there) (removal true now d (is_folder_found there)) (gives []) (spare_removal covered G E true now d (is_folder_found there) other none) (spares_ok (refl, tt))
 
@@ -96,18 +96,19 @@ module _ (covered : Path → Bool) (G E : List Lock → Type 0) where
 
   -- ---- the whole
 
-  module _ (Off : Path → Type 0) (who : Client) (c : Conditions) (stays : (p : Path) (ls : List Lock) → G ls → Off p → G (deleted p ls))
-      (spares : (p : Path) (ls : List Lock) → G ls → is_free_for true (requester who (submitted c.lists)) p ls ≡ true → NoneUnder covered p × Off p) where
-    abbrev Free : PathText → Type 0
-    Free q = NoneUnder covered (names q) × Off (names q)
-
+  -- the checks: Off is what is known of a path that is free with everything below
+  module _ (Off : Path → Type 0) (who : Client) (c : Conditions)
+      (frees : (p : Path) (ls : List Lock) → G ls → is_free_for true (requester who (submitted c.lists)) p ls ≡ true → Off p) where
     abbrev Knows : Type 0 → MethodPlan (Unit {0}) → Type 0
     Knows Q plan = Sparing covered G E false (At None (λ u. Q)) None plan
 
+    abbrev IsOpen : Bool → PathText → Type 0
+    IsOpen wanted q = IsOpenAbove G wanted (requester who (submitted c.lists)) (names q)
+
     -- what follows from a path's being free
-    module _ (Q : Type 0) (q : PathText) (gets : Free q → Q) where
+    module _ (Q : Type 0) (q : PathText) (gets : Off (names q) → Q) where
       free_by : (ls : List Lock) → G ls → (b : Bool) → is_open true (requester who (submitted c.lists)) (names q) (Some ls) ≡ b → Knows Q (require b (dav.Status 423))
-      free_by ls g true free = spares_ok (refl, gets (spares (names q) ls g free))
+      free_by ls g true free = spares_ok (refl, gets (frees (names q) ls g free))
       free_by ls g false free = spares_err
 
       checked : (tokens : List (List ℕ)) → tokens ≡ submitted c.lists → Knows Q (require_free true (requester who tokens) (names q) (dav.Status 423))
@@ -116,17 +117,30 @@ module _ (covered : Path → Bool) (G E : List Lock → Type 0) where
           (spares_look (λ ls g. free_by ls g (is_open true (requester who (submitted c.lists)) (names q) (Some ls)) refl))
 
     module _ (p d : PathText) where
-      abbrev SourceFree : Bool → Type 0
-      SourceFree moves = moves ≡ true → Free p
-
-      source : (moves : Bool) (tokens : List (List ℕ)) → tokens ≡ submitted c.lists → Knows (SourceFree moves) (source_free moves who tokens p)
-      source true tokens same = checked (SourceFree true) p (λ free is. free) tokens same
+      source : (moves : Bool) (tokens : List (List ℕ)) → tokens ≡ submitted c.lists → Knows (moves ≡ true → Off (names p)) (source_free moves who tokens p)
+      source true tokens same = checked (true ≡ true → Off (names p)) p (λ off is. off) tokens same
       source false tokens same = spares_ok (refl, λ is. absurd (true≢false (sym is)))
 
-      both : (m : DavMethod) (found : DavMetaData) → Knows (SourceFree (is_move m) × Free d) (copy_free m c p d who found)
-      both m found =
+      -- what the checks tell, of a MOVE or not, and where the list of members at the destination changes or not
+      abbrev pub Passed : Bool → Bool → Type 0
+      Passed moves changes = (moves ≡ true → Off (names p)) × Off (names d) × IsOpen moves p × IsOpen changes d
+
+      pub spare_copy_free : (m : DavMethod) (deep : Bool) (found : DavMetaData) (there : Option DavMetaData) → Knows (Passed (is_move m) (changes_members (is_move m) deep there)) (copy_free m deep c p d who found there)
+      spare_copy_free m deep found there =
           spare_bind _ (spare_guarded covered G E dav.Status m c (Some found)) (λ tokens same.
-          spare_bind _ (source (is_move m) tokens same) (λ u from. checked (SourceFree (is_move m) × Free d) d (λ to. (from, to)) tokens same))
+          spare_bind {Q = λ u. (is_move m ≡ true → Off (names p)) × Off (names d)} _
+          (spare_bind _ (source (is_move m) tokens same) (λ u from. checked ((is_move m ≡ true → Off (names p)) × Off (names d)) d (λ to. (from, to)) tokens same)) (λ u free.
+          spare_bind {Q = λ v. IsOpen (is_move m) p} _ (spare_above covered G E who c.lists (is_move m) (names p) (dav.Status 423) tokens same (λ above. above)) (λ v from.
+          spare_above covered G E who c.lists (changes_members (is_move m) deep there) (names d) (dav.Status 423) tokens same (λ above. (free.0, free.1, from, above)))))
+
+  -- what is done then
+  module _ (Off : Path → Type 0) (stays : (p : Path) (ls : List Lock) → G ls → Off p → G (deleted p ls)) where
+    abbrev pub Free : PathText → Type 0
+    Free q = NoneUnder covered (names q) × Off (names q)
+
+    module _ (p d : PathText) where
+      abbrev pub SourceFree : Bool → Type 0
+      SourceFree moves = moves ≡ true → Free p
 
       dropped : (b : Bool) → Off (names d) → Part (drop_if b d)
       dropped true off = spares_look (λ ls g. spares_keep (stays (names d) ls g off) (spares_ok (refl, tt)))
@@ -143,7 +157,7 @@ module _ (covered : Path → Bool) (G E : List Lock → Type 0) where
           (λ faults _. spare_bind (λ u. gives faults) (moved faults (from refl).1) (λ u _. spares_ok (refl, tt)))
       brings false deep now other from to = spare_copy (room_at p) deep now d p d other to.0
 
-      if_clear : (moves deep : Bool) (now : ℕ) (there : Option DavMetaData) (faults : List Fault) → d.bytes ≢ star → SourceFree moves → Free d → Sparing covered G E true Anything None (bring_if_clear moves deep now p d there faults)
+      pub if_clear : (moves deep : Bool) (now : ℕ) (there : Option DavMetaData) (faults : List Fault) → d.bytes ≢ star → SourceFree moves → Free d → Sparing covered G E true Anything None (bring_if_clear moves deep now p d there faults)
       if_clear moves deep now there (f ∷ []) other from to = spares_ok tt
       if_clear moves deep now there (f ∷ g ∷ faults) other from to = spares_ok tt
       if_clear moves deep now there [] other from to =
@@ -153,21 +167,21 @@ module _ (covered : Path → Bool) (G E : List Lock → Type 0) where
   spare_require true e = spares_ok (refl, tt)
   spare_require false e = spares_err
 
-  spare_destination : (overwrite : Option Bool) (d : PathText) → Part (destination_found overwrite d)
+  pub spare_destination : (overwrite : Option Bool) (d : PathText) → Part (destination_found overwrite d)
   spare_destination overwrite d =
       spares_reads {c = Metadata (parent_of (names d))} tt (λ above. spare_bind _ (spare_require (is_folder_found (result_ok above)) (dav.Status 409)) (λ u _.
       spares_reads {c = Metadata (names d)} tt (λ there. spare_bind _ (spare_require (unwrap_or overwrite true || not (is_ok there)) (dav.Status 412)) (λ v _. spares_ok (refl, tt)))))
 
   module _ (Off : Path → Type 0) (who : Client) (k : CopyHeaders) (stays : (p : Path) (ls : List Lock) → G ls → Off p → G (deleted p ls))
-      (spares : (p : Path) (ls : List Lock) → G ls → is_free_for true (requester who (submitted k.conditions.lists)) p ls ≡ true → NoneUnder covered p × Off p) where
+      (frees : (p : Path) (ls : List Lock) → G ls → is_free_for true (requester who (submitted k.conditions.lists)) p ls ≡ true → NoneUnder covered p × Off p) where
     spare_found : (m : DavMethod) (deep : Bool) (p d : PathText) (found : DavMetaData) → d.bytes ≢ star → Sparing covered G E true Anything None (copy_found m deep k p d who found)
     spare_found m deep p d found other =
         spare_bind {Q = λ there. (is_move m ≡ true → NoneUnder covered (names p) × Off (names p)) × (NoneUnder covered (names d) × Off (names d))} _
         (spare_bind _ (spare_destination k.overwrite d) (λ there _.
-        spare_bind (λ u. copy_free m k.conditions p d who found >>= (λ v. gives there)) (spare_require (not (is_at_or_under (names p) (names d))) (dav.Status 403)) (λ u _.
-        spare_bind (λ v. gives there) (both Off who k.conditions stays spares p d m found) (λ v free. spares_ok (refl, free)))))
+        spare_bind (λ u. copy_free m deep k.conditions p d who found there >>= (λ v. gives there)) (spare_require (not (is_at_or_under (names p) (names d))) (dav.Status 403)) (λ u _.
+        spare_bind (λ v. gives there) (spare_copy_free (λ q. NoneUnder covered q × Off q) who k.conditions frees p d m deep found there) (λ v passed. spares_ok (refl, (passed.0, passed.1))))))
         (λ there free. spare_bind _ (spare_clearing deep who.moment d there other free.1.0) (λ faults _.
-        if_clear Off who k.conditions stays spares p d (is_move m) deep who.moment there faults other free.0 free.1))
+        if_clear Off stays p d (is_move m) deep who.moment there faults other free.0 free.1))
 
     spare_copymove : (m : DavMethod) (p : PathText) {prefix : List ℕ} {values : List _} → DestinationNames prefix values k.destination → Sparing covered G E true Anything None (copy_or_move m k p who)
     spare_copymove m p named =

@@ -25,7 +25,7 @@ use Rattle.dav_engine.specs.SparingPlans.{DeleteSpares}
 use Rattle.dav_engine.proofs.ChildLemmas.{closed_is_path, slash_is_path, names_member}
 use Rattle.dav_engine.proofs.FaultLemmas.{rest, at_path, below_trans, one_line, strictly}
 use Rattle.dav_engine.proofs.GuardedFolders.{covers_by, stands_guarded, held_still, free_passes}
-use Rattle.dav_engine.proofs.SparingPlans.{At, spare_bind, spare_then, spare_guarded}
+use Rattle.dav_engine.proofs.SparingPlans.{At, IsOpenAbove, spare_bind, spare_then, spare_guarded, spare_above}
 
 -- ---- the path of a member, whatever its name, is below that of its folder
 
@@ -81,27 +81,29 @@ module _ (covered : Path → Bool) (G E : List Lock → Type 0) where
   answered_by p f [] = spares_ok tt
   answered_by p f (g ∷ faults) = spares_ok tt
 
-  module _ (who : Client) (c : Conditions) (ends : (p : Path) (ls : List Lock) → G ls → E (deleted p ls))
-      (spares : (p : Path) (ls : List Lock) → G ls → is_free_for true (requester who (submitted c.lists)) p ls ≡ true → NoneUnder covered p) where
+  -- Off is what is known of a path that is free with everything below
+  module _ (Off : Path → Type 0) (who : Client) (c : Conditions) (ends : (p : Path) (ls : List Lock) → G ls → E (deleted p ls))
+      (frees : (p : Path) (ls : List Lock) → G ls → is_free_for true (requester who (submitted c.lists)) p ls ≡ true → Off p)
+      (spares : (p : Path) → Off p → IsOpenAbove G true (requester who (submitted c.lists)) p → NoneUnder covered p) where
     spare_dropped : (p : PathText) (faults : List Fault) → Sparing covered G E true Anything None (drop_if_gone p faults >>= (λ done. Done (delete_reply p faults)))
     spare_dropped p (f ∷ faults) = answered_by p f faults
     spare_dropped p [] = spares_look (λ ls g. spares_last refl (ends (names p) ls g))
 
     free_by : (p : Path) (ls : List Lock) → G ls → (b : Bool) → is_open true (requester who (submitted c.lists)) p (Some ls) ≡ b
-        → Sparing covered G E false (At None (λ u. NoneUnder covered p)) None (require b (dav.Status 423))
-    free_by p ls g true free = spares_ok (refl, spares p ls g free)
+        → Sparing covered G E false (At None (λ u. Off p)) None (require b (dav.Status 423))
+    free_by p ls g true free = spares_ok (refl, frees p ls g free)
     free_by p ls g false free = spares_err
 
     spare_checked : (p : Path) (tokens : List (List ℕ)) → tokens ≡ submitted c.lists
-        → Sparing covered G E false (At None (λ u. NoneUnder covered p)) None (require_free true (requester who tokens) p (dav.Status 423))
+        → Sparing covered G E false (At None (λ u. Off p)) None (require_free true (requester who tokens) p (dav.Status 423))
     spare_checked p tokens same =
-        subst (λ (ts : List (List ℕ)). Sparing covered G E false (At None (λ u. NoneUnder covered p)) None (require_free true (requester who ts) p (dav.Status 423))) (sym same)
+        subst (λ (ts : List (List ℕ)). Sparing covered G E false (At None (λ u. Off p)) None (require_free true (requester who ts) p (dav.Status 423))) (sym same)
         (spares_look (λ ls g. free_by p ls g (is_open true (requester who (submitted c.lists)) p (Some ls)) refl))
 
     spare_delete_found : (deep : Bool) (p : PathText) (found : DavMetaData) → p.bytes ≢ star → Sparing covered G E true Anything None (delete_found deep c p who found)
     spare_delete_found deep p found other =
         spare_bind _
-        (spare_bind _ (spare_guarded covered G E dav.Status Delete c (Some found)) (λ tokens same. spare_checked (names p) tokens same))
+        (spare_bind _ (spare_guarded covered G E dav.Status Delete c (Some found)) (λ tokens same. spare_bind _ (spare_checked (names p) tokens same) (λ v off. spare_above covered G E who c.lists true (names p) (dav.Status 423) tokens same (λ above. spares (names p) off above))))
         (λ u none. spare_bind _ (spare_removal deep who.moment p found.dir other none) (λ faults _. spare_dropped p faults))
 
     pub spare_deleting : (depth : Result Bool DavError) (p : PathText) → p.bytes ≢ star
@@ -189,6 +191,6 @@ pub delete_spares : DeleteSpares
 delete_spares h headers p who plan exclusive other stranger (is_delete k are) =
     let unheld = stranger k.conditions are.conditions in
     let asks = requester who (submitted k.conditions.lists) in (
-      spare_deleting (covers h) (IsListed h) AnyList who k.conditions (λ q ls listed. tt) (λ q ls listed free. free_none h exclusive asks unheld q ls listed free) (whole_depth k.depth) p other,
-      spare_deleting (covers h) (Guards h) (StillGuards h) who k.conditions (λ q ls guards. still_guards h q ls guards) (λ q ls guards free. free_none h exclusive asks unheld q ls (stands_guarded guards) free) (whole_depth k.depth) p other,
+      spare_deleting (covers h) (IsListed h) AnyList (NoneUnder (covers h)) who k.conditions (λ q ls listed. tt) (λ q ls listed free. free_none h exclusive asks unheld q ls listed free) (λ q none above. none) (whole_depth k.depth) p other,
+      spare_deleting (covers h) (Guards h) (StillGuards h) (NoneUnder (covers h)) who k.conditions (λ q ls guards. still_guards h q ls guards) (λ q ls guards free. free_none h exclusive asks unheld q ls (stands_guarded guards) free) (λ q none above. none) (whole_depth k.depth) p other,
     )

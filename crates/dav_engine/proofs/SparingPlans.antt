@@ -1,7 +1,7 @@
 -- Plans that spare what a lock covers, part by part; and those of PUT, PATCH and MKCOL.
-use Rattle.std.proofs.Common.{◌≡◌, ℕ, ◌==◌, Bool, true, false, List, length, if◌then◌else◌, Option, Some, None, Result, Ok, Err, refl, sym, subst, ◌∙◌}
+use Rattle.std.proofs.Common.{◌≡◌, ℕ, ◌==◌, Bool, true, false, true≢false, List, length, if◌then◌else◌, Option, Some, None, Result, Ok, Err, refl, sym, subst, ◌∙◌, not}
 use Rattle.std.specs.Bool.{⊤}
-use Rattle.std.specs.Result.{result_ok}
+use Rattle.std.specs.Result.{result_ok, is_ok}
 use Rattle.dav_core.specs.declared.errors.FsError.{FsError}
 use Rattle.dav_core.specs.declared.errors.DavError.{DavError}
 use Rattle.dav_core.specs.declared.errors.DavError.TheVariants as dav
@@ -10,15 +10,15 @@ use Rattle.dav_core.specs.declared.method.DavMethod.{DavMethod}
 use Rattle.dav_core.specs.declared.method.DavMethod.TheVariants.{MkCol}
 use Rattle.dav_core.specs.Asking.{Call, Metadata, CreateDir, Write, Flush, FileMetadata}
 use Rattle.dav_core.specs.Handle.{Handle, Opening}
-use Rattle.dav_core.specs.Locks.{Lock, covers, is_free_for}
+use Rattle.dav_core.specs.Locks.{Lock, covers, is_free_for, is_free_parent, Requester}
 use Rattle.dav_core.specs.Path.{Path, PathText, names}
 use Rattle.dav_engine.specs.declared.put_headers.Writing.{Writing}
 use Rattle.dav_engine.specs.Client.{Client, requester}
 use Rattle.dav_engine.specs.Conditions.{Conditions, Addressed, if_holds, submitted, http_conditions, unless, guarded, status_as}
-use Rattle.dav_engine.specs.Method.{MethodPlan, then as followed_by, ◌>>=◌, require, require_free, is_open, gives, refused_as, ask_for}
-use Rattle.dav_engine.specs.Mkcol.{mkcol, create_error, is_mkcol}
+use Rattle.dav_engine.specs.Method.{MethodPlan, then as followed_by, ◌>>=◌, require, require_free, is_open, gives, refused_as, ask_for, require_parent, require_member, is_open_parent}
+use Rattle.dav_engine.specs.Mkcol.{mkcol, mkcol_checks, create_error, is_mkcol}
 use Rattle.dav_engine.specs.Plan.{Done}
-use Rattle.dav_engine.specs.Put.{PutHeaders, writing_of, put_opening, is_announced, sought, store, put_body, bytes_of_body, is_put}
+use Rattle.dav_engine.specs.Put.{PutHeaders, writing_of, put_opening, is_announced, sought, store, put_checks, put_body, bytes_of_body, is_put}
 use Rattle.dav_engine.specs.Guard.{Guards, IsListed, StillGuards}
 use Rattle.dav_engine.specs.Sparing.{OpenFile, Anything, AnyList, Sparing, spares_ok, spares_err, spares_reads, spares_call, spares_opens, spares_seeks, spares_writes, spares_look, spares_keep, spares_last}
 use Rattle.dav_engine.specs.SparingPlans.{ReadingSpares, PutSpares, MkcolSpares}
@@ -69,6 +69,10 @@ spare_reading (reads_look more) = spares_look (λ ls g. spare_reading (more (Som
 
 -- ---- conditions and locks
 
+-- where the check of the folder above a path is wanted, that folder is free, by a list of which G is known
+abbrev pub IsOpenAbove : (List Lock → Type 0) → Bool → Requester → Path → Type 0
+IsOpenAbove G wanted who p = wanted ≡ true → (ls : List Lock) × G ls × (is_free_parent who p ls ≡ true)
+
 -- the tokens that conditions give are those that are submitted
 abbrev VerdictTells : Option (List Addressed) → Result (List (List ℕ)) ℕ → Type 0
 VerdictTells lists (Ok tokens) = tokens ≡ submitted lists
@@ -99,6 +103,23 @@ module _ (covered : Path → Bool) (G E : List Lock → Type 0) where
       (spare_unless c.lists (http_conditions m c.if_match c.if_none_match found) _ (spare_bind _ (if_only c.lists) (λ holds _. spares_ok (refl, spare_held c.lists holds))))
       (spare_judged f c.lists)
 
+  module _ {Q : Type 0} where
+    spare_test : (who : Requester) (p : Path) (e : DavError) (ls : List Lock) → G ls → (b : Bool) → is_open_parent who p (Some ls) ≡ b → (IsOpenAbove G true who p → Q)
+        → Sparing covered G E false (At None (λ (u : Unit {0}). Q)) None (require b e)
+    spare_test who p e ls g true is gets = spares_ok (refl, gets (λ wanted. (ls, g, is)))
+    spare_test who p e ls g false is gets = spares_err
+
+    -- the check of the folder above, and what follows from it
+    pub spare_parent : (wanted : Bool) (who : Requester) (p : Path) (e : DavError) → (IsOpenAbove G wanted who p → Q) → Sparing covered G E false (At None (λ (u : Unit {0}). Q)) None (require_parent wanted who p e)
+    spare_parent false who p e gets = spares_ok (refl, gets (λ is. absurd (true≢false (sym is))))
+    spare_parent true who p e gets = spares_look (λ ls g. spare_test who p e ls g (is_open_parent who p (Some ls)) refl gets)
+
+    -- the same for the tokens that conditions give
+    pub spare_above : (who : Client) (lists : Option (List Addressed)) (wanted : Bool) (p : Path) (e : DavError) (tokens : List (List ℕ)) → tokens ≡ submitted lists
+        → (IsOpenAbove G wanted (requester who (submitted lists)) p → Q) → Sparing covered G E false (At None (λ (u : Unit {0}). Q)) None (require_parent wanted (requester who tokens) p e)
+    spare_above who lists wanted p e tokens same gets =
+        spare_parent wanted (requester who tokens) p e (λ above. gets (subst (λ (ts : List (List ℕ)). IsOpenAbove G wanted (requester who ts) p) same above))
+
   module _ (who : Client) (lists : Option (List Addressed)) (spares : (deep : Bool) (p : Path) (ls : List Lock) → G ls → is_free_for deep (requester who (submitted lists)) p ls ≡ true → covered p ≡ false) where
     spare_free_by : (deep : Bool) (p : Path) (e : DavError) (ls : List Lock) → G ls → (b : Bool) → is_open deep (requester who (submitted lists)) p (Some ls) ≡ b
         → Sparing covered G E false (At None (λ u. covered p ≡ false)) None (require b e)
@@ -111,6 +132,11 @@ module _ (covered : Path → Bool) (G E : List Lock → Type 0) where
     spare_free deep p e tokens same =
         subst (λ (ts : List (List ℕ)). Sparing covered G E false (At None (λ u. covered p ≡ false)) None (require_free deep (requester who ts) p e)) (sym same)
         (spares_look (λ ls g. spare_free_by deep p e ls g (is_open deep (requester who (submitted lists)) p (Some ls)) refl))
+
+    pub spare_member : {Q : Type 0} (deep changes : Bool) (p : Path) (e : DavError) (tokens : List (List ℕ)) → tokens ≡ submitted lists
+        → (covered p ≡ false → IsOpenAbove G changes (requester who (submitted lists)) p → Q)
+        → Sparing covered G E false (At None (λ (u : Unit {0}). Q)) None (require_member deep changes (requester who tokens) p e)
+    spare_member deep changes p e tokens same gets = spare_bind _ (spare_free deep p e tokens same) (λ u out. spare_above who lists changes p e tokens same (λ above. gets out above))
 
   spare_require : (b : Bool) (e : DavError) → Sparing covered G E false (At None (λ u. ⊤)) None (require b e)
   spare_require true e = spares_ok (refl, tt)
@@ -141,27 +167,41 @@ module _ (covered : Path → Bool) (G E : List Lock → Type 0) where
       (λ e. spares_err)
 
   module _ (who : Client) where
-    pub spare_put : (m : DavMethod) (headers : PutHeaders) (p : Path) (bytes : Option (List ℕ)) → ((deep : Bool) (x : Path) (ls : List Lock) → G ls → is_free_for deep (requester who (submitted headers.conditions.lists)) x ls ≡ true → covered x ≡ false)
-        → Sparing covered G E true Anything None (put_body m headers p who bytes)
+    -- what is free to a stranger isn't covered
+    abbrev pub Uncovers : Conditions → Type 0
+    Uncovers c = (deep : Bool) (x : Path) (ls : List Lock) → G ls → is_free_for deep (requester who (submitted c.lists)) x ls ≡ true → covered x ≡ false
+
+    -- the checks after the store was asked what is there, and what follows from them
+    pub spare_put_checks : {Q : Type 0} (m : DavMethod) (headers : PutHeaders) (p : Path) (bytes : List ℕ) → Uncovers headers.conditions → (answer : Result DavMetaData FsError)
+        → (covered p ≡ false → IsOpenAbove G (not (is_ok answer)) (requester who (submitted headers.conditions.lists)) p → Q)
+        → Sparing covered G E false (At None (λ (allowed : Writing × Bool). Q)) None (put_checks m headers p who bytes answer)
+    spare_put_checks m headers p bytes stranger answer gets =
+        spare_then (writing_of m headers (result_ok answer)) _ (λ w _.
+        spare_bind _ (spare_guarded dav.StatusClose m headers.conditions (result_ok answer)) (λ tokens same.
+        spare_bind _ (spare_member who headers.conditions.lists stranger false (not (is_ok answer)) p (dav.StatusClose 423) tokens same gets) (λ u out.
+        spare_bind _ (spare_require (is_announced w.announced bytes) (dav.StatusClose 400)) (λ v _.
+        spares_ok (refl, out)))))
+
+    pub spare_put : (m : DavMethod) (headers : PutHeaders) (p : Path) (bytes : Option (List ℕ)) → Uncovers headers.conditions → Sparing covered G E true Anything None (put_body m headers p who bytes)
     spare_put m headers p None stranger = spares_err
     spare_put m headers p (Some bytes) stranger =
         spare_bind (λ (allowed : Writing × Bool). store (put_opening headers allowed.0) allowed.0.from p bytes who.moment allowed.1)
-        (spares_reads {c = Metadata p} tt (λ answer.
-        spare_then (writing_of m headers (result_ok answer)) _ (λ w _.
-        spare_bind _ (spare_guarded dav.StatusClose m headers.conditions (result_ok answer)) (λ tokens same.
-        spare_bind _ (spare_free who headers.conditions.lists stranger false p (dav.StatusClose 423) tokens same) (λ u out.
-        spare_bind _ (spare_require (is_announced w.announced bytes) (dav.StatusClose 400)) (λ v _.
-        spares_ok (refl, out)))))))
+        (spares_reads {c = Metadata p} tt (λ answer. spare_put_checks m headers p bytes stranger answer (λ out above. out)))
         (λ allowed out. spare_store (put_opening headers allowed.0) allowed.0.from p bytes who.moment allowed.1 out)
 
     -- ---- MKCOL
 
-    pub spare_mkcol : (c : Conditions) (p : PathText) → ((deep : Bool) (x : Path) (ls : List Lock) → G ls → is_free_for deep (requester who (submitted c.lists)) x ls ≡ true → covered x ≡ false) → Sparing covered G E true Anything None (mkcol c p who)
+    pub spare_mkcol_checks : {Q : Type 0} (c : Conditions) (p : PathText) → Uncovers c → (answer : Result DavMetaData FsError)
+        → (covered (names p) ≡ false → IsOpenAbove G (not (is_ok answer)) (requester who (submitted c.lists)) (names p) → Q)
+        → Sparing covered G E false (At None (λ (u : Unit {0}). Q)) None (mkcol_checks c p who answer)
+    spare_mkcol_checks c p stranger answer gets =
+        spare_bind _ (spare_guarded dav.Status MkCol c (result_ok answer)) (λ tokens same.
+        spare_member who c.lists stranger false (not (is_ok answer)) (names p) (dav.Status 423) tokens same gets)
+
+    pub spare_mkcol : (c : Conditions) (p : PathText) → Uncovers c → Sparing covered G E true Anything None (mkcol c p who)
     spare_mkcol c p stranger =
         spare_bind _
-        (spares_reads {c = Metadata (names p)} tt (λ answer.
-        spare_bind _ (spare_guarded dav.Status MkCol c (result_ok answer)) (λ tokens same.
-        spare_free who c.lists stranger false (names p) (dav.Status 423) tokens same)))
+        (spares_reads {c = Metadata (names p)} tt (λ answer. spare_mkcol_checks c p stranger answer (λ out above. out)))
         (λ u out. spares_call {c = CreateDir (names p) who.moment} out (λ answer. spare_then (refused_as create_error answer) _ (λ v _. spares_ok tt)))
 
 -- ---- those who don't hold the lock

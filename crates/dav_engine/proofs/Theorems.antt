@@ -3,11 +3,11 @@ pub use Rattle.dav_engine.proofs.AlongsideCopy.{copymove_goes_along}
 pub use Rattle.dav_engine.proofs.AlongsideDelete.{delete_goes_along}
 pub use Rattle.dav_engine.proofs.AlongsideLock.{lock_goes_along}
 pub use Rattle.dav_engine.proofs.AlongsideLaw.{alongside_agree, ran_plain}
-pub use Rattle.dav_engine.proofs.AlongsidePlans.{holders, in_reach, only_lists, side_bind, side_require, side_lists, put_goes_along, mkcol_goes_along}
+pub use Rattle.dav_engine.proofs.AlongsidePlans.{holders, in_reach, in_side, only_lists, side_bind, side_require, side_lists, put_goes_along, mkcol_goes_along}
 pub use Rattle.dav_engine.proofs.AlongsideProperties.{propfind_goes_along, proppatch_goes_along}
 pub use Rattle.dav_engine.proofs.CallWorlds.{Did, stays, means, did, Kept, did_leave, kept_same, kept_on}
 pub use Rattle.dav_engine.proofs.CopyChanges.{copymove_changes_list}
-pub use Rattle.dav_engine.proofs.CopyHeaderLemmas.{IsPlace, place_by, plain_other}
+pub use Rattle.dav_engine.proofs.CopyHeaderLemmas.{IsPlace, place_by, place_cut, plain_other}
 pub use Rattle.dav_engine.proofs.CopyMoveLemmas.{AnyCall, only_copy}
 pub use Rattle.dav_engine.proofs.CopyEnds.{refused_copymove_leaves_all}
 pub use Rattle.dav_engine.proofs.CopyWorld.{only_copy_allowed, copymove_is_proper}
@@ -27,8 +27,8 @@ pub use Rattle.dav_engine.proofs.ListChangeLemmas.{lists_are_changed, lists_are_
 pub use Rattle.dav_engine.proofs.LockChanges.{lock_changes_list}
 pub use Rattle.dav_engine.proofs.LockPlans.{only_asked, only_token, lock_is_proper, lock_keeps_locks}
 pub use Rattle.dav_engine.proofs.LockSparing.{lock_spares}
-pub use Rattle.dav_engine.proofs.LockWorlds.{lock_grants, lock_refreshes, refused_lock_leaves_all}
-pub use Rattle.dav_engine.proofs.LockTokenLemmas.{last_is, one_lock_token}
+pub use Rattle.dav_engine.proofs.LockWorlds.{lock_grants, lock_refreshes, refused_lock_leaves_all, early_refused_lock_leaves_all}
+pub use Rattle.dav_engine.proofs.LockTokenLemmas.{last_is, one_lock_token, token_said}
 pub use Rattle.dav_engine.proofs.MembersTold.{members_are_told}
 pub use Rattle.dav_engine.proofs.ModelLemmas.{serves_from}
 pub use Rattle.dav_engine.proofs.NumberLemmas.{spare_numbers_suffice}
@@ -49,3 +49,5 @@ pub use Rattle.dav_engine.proofs.SparingProperties.{proppatch_spares}
 pub use Rattle.dav_engine.proofs.UnlockPlans.{unlock_is_proper, unlock_ends_lock, refused_unlock_leaves_all, unlock_spares, unlock_keeps_locks, unlock_goes_along}
 pub use Rattle.dav_engine.proofs.WorldPlans.{only_reads, reading_leaves, ran_split, ran_outcome, Only, only_done, only_ask, only_look, only_then, only_bind, only_require, only_proper, proper_keeps}
 pub use Rattle.dav_engine.proofs.WrongPlans.{put_without_a_look, proppatch_without_a_look, unprefixed_leads_nowhere, late_look_spares_nothing, mkcol_by_parent_spares_nothing, lock_above_is_no_reason, numbers_are_not_told, lock_unasked_leaves_no_guard, lock_of_depth_0_is_no_guard}
+pub use Rattle.dav_engine.proofs.MembersLaw.{plans_leave_members, plans_leave_members_cut, parent_free_is_no_member}
+pub use Rattle.dav_engine.proofs.MembersPlans.{reading_leaves_members, put_leaves_members, mkcol_leaves_members, delete_leaves_members, copymove_leaves_members, unlock_leaves_members, lock_leaves_members, proppatch_leaves_members}

@@ -100,7 +100,7 @@ module _ (covered : Path → Bool) (G E : List Lock → Type 0) (ends : (token :
   spare_left p answer None over = spares_err
   spare_left p answer (Some after) over = spares_last refl (over after refl)
 
-  spare_unlock : (token : Option (List ℕ)) (p : PathText) → Sparing covered G E true Anything None (unlock token p)
+  pub spare_unlock : (token : Option (List ℕ)) (p : PathText) → Sparing covered G E true Anything None (unlock token p)
   spare_unlock token p =
       spares_look (λ ls g. spare_then (required token (dav.Status 400)) _ (λ said _.
       spares_reads {c = Metadata (names p)} tt (λ answer. spares_look (λ ks k. spare_left p answer (unlocked said (names p) ks) (λ after is. ends said (names p) ks after k is)))))

@@ -17,7 +17,7 @@ use Rattle.dav_core.proofs.Theorems.{Reads-one, names_again}
 use Rattle.dav_core.specs.Property.{Property, Patch}
 use Rattle.dav_engine.specs.declared.put_headers.Writing.{Writing}
 use Rattle.dav_engine.specs.declared.reply.ReplyBody.TheVariants as body
-use Rattle.dav_engine.specs.Alongside.{Alongside, BothOpen, side_ok, side_asks, side_above, side_look, SameAnswers}
+use Rattle.dav_engine.specs.Alongside.{Alongside, BothOpen, side_ok, side_asks, side_look, SameAnswers}
 use Rattle.dav_engine.specs.AlongsidePlans.{GoesAlong}
 use Rattle.dav_engine.specs.AnswerParts.{AnswerParts}
 use Rattle.dav_engine.specs.Conditions.{is_star}
@@ -146,7 +146,6 @@ told_apart (side_ok same) = let e : ◌≡◌ {A = ℕ} 1 2 = ap (λ (a : Answer
 
 numbers_apart : (p q : Path) → ¬ Alongside on_a true (λ file. SameAnswers) None (shows_number p) (shows_number q)
 numbers_apart p q (side_asks inside next) = told_apart (next (Ok (changed 1)) (Ok (changed 2)) (record { len = refl; dir = refl; numbered = refl }))
-numbers_apart p _ (side_above up next) = told_apart (next (Ok (changed 1)) (Ok (changed 2)) (record { len = refl; dir = refl; numbered = refl }))
 
 pub numbers_are_not_told : (p : Path) → ¬ GoesAlong on_a (shows_number p)
 numbers_are_not_told p side = numbers_apart p p side

@@ -103,7 +103,7 @@ SameAnswer _ a b = ⊤
 
 -- ---- plans side by side
 
--- Two plans make the same calls at a guarded folder or below it, or on the same file there, one file at a time, or look at a folder above; where the
+-- Two plans make the same calls at a guarded folder or below it, or on the same file there, one file at a time; where the
 -- answers are the same but for numbers and times, they go on so. R holds of the file that is open at the end, and of what both
 -- give. At the end of whole plans the lock may end, in both.
 pub data Alongside {A : Type 0} (h : Lock) (whole : Bool) (R : Option BothOpen → A → A → Type 0) : Option BothOpen → MethodPlan A → MethodPlan A → Type 0 where
@@ -112,9 +112,6 @@ pub data Alongside {A : Type 0} (h : Lock) (whole : Bool) (R : Option BothOpen �
   side_asks : {c : Call} {go go' : Result (Answer c) FsError → MethodPlan A}
       → IsCallInside (folder_of h) c → ((a b : Result (Answer c) FsError) → SameResult (SameAnswer c) a b → Alongside h whole R None (go a) (go' b))
       → Alongside h whole R None (Ask c go) (Ask c go')
-  side_above : {p : Path} {go go' : Result DavMetaData FsError → MethodPlan A}
-      → is_under (folder_of h) p ≡ true → ((a b : Result DavMetaData FsError) → SameResult SameMetadata a b → Alongside h whole R None (go a) (go' b))
-      → Alongside h whole R None (Ask (Metadata p) go) (Ask (Metadata p) go')
   side_opens : {how : Opening} {now : ℕ} {go go' : Result Handle FsError → MethodPlan A} (rest : Path)
       → ((j k : Handle) → SameHandle j k → Alongside h whole R (opened_at rest j k) (go (Ok j)) (go' (Ok k))) → ((e : FsError) → Alongside h whole R None (go (Err e)) (go' (Err e)))
       → Alongside h whole R None (Ask (Open (folder_of h ++ rest) how now) go) (Ask (Open (folder_of h ++ rest) how now) go')

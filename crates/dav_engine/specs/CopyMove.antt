@@ -1,6 +1,6 @@
 -- COPY and MOVE (RFC 4918, sections 9.8 and 9.9).
 use Rattle.std.specs.Prelude.{◌≢◌, ℕ, ◌||◌, Bool, true, false, not, List, [], ◌∷◌, map, codes, if◌then◌else◌, Option, Some, None, Result, Ok, Err}
-use Rattle.std.specs.Option.{is_some, unwrap_or}
+use Rattle.std.specs.Option.{is_some, is_none, unwrap_or}
 use Rattle.std.specs.Result.{is_ok, result_ok}
 use Rattle.http_header.specs.FieldValue.{FieldValue}
 use Rattle.http_header.specs.HeaderMap.{get_all}
@@ -12,6 +12,7 @@ use Rattle.dav_core.specs.declared.fs.DavMetaData.{DavMetaData}
 use Rattle.dav_core.specs.declared.method.DavMethod.{DavMethod}
 use Rattle.dav_core.specs.declared.method.DavMethod.TheVariants.{Move}
 use Rattle.dav_core.specs.Asking.{Metadata}
+use Rattle.dav_core.specs.Locks.{Requester}
 use Rattle.dav_core.specs.Path.{PathText, names, parent_of, is_at_or_under, IsCut, HasNoCut, without_slash}
 use Rattle.dav_core.specs.Status.{path_error}
 use Rattle.dav_core.specs.Target.{Reads, IsRefused}
@@ -26,7 +27,7 @@ use Rattle.dav_engine.specs.Copying.{CopyFault, copy_report, copying, renaming}
 use Rattle.dav_engine.specs.Delete.{whole_depth}
 use Rattle.dav_engine.specs.Folder.{closed, is_folder_found}
 use Rattle.dav_engine.specs.Headers.{Headers, Decodes}
-use Rattle.dav_engine.specs.Method.{MethodPlan, ◌>>=◌, require, require_free, drop_locks, answer_of, ask_for, gives}
+use Rattle.dav_engine.specs.Method.{MethodPlan, ◌>>=◌, require, require_free, require_parent, drop_locks, answer_of, ask_for, gives}
 use Rattle.dav_engine.specs.Multistatus.{status_reply, multi_reply}
 use Rattle.dav_engine.specs.Plan.{Done}
 use Rattle.dav_engine.specs.Removal.{Fault, report_of, removal}
@@ -84,29 +85,45 @@ abbrev pub source_free : Bool → Client → List (List ℕ) → PathText → Me
 source_free true who tokens p = require_free true (requester who tokens) (names p) (dav.Status 423)
 source_free false who tokens p = gives tt
 
--- Whether conditions and locks let the request go on: 412 where a condition on the source fails; 423 where a lock conflicts, for
--- a MOVE at the source or below it, and for both at the destination or below it (RFC 4918, section 7.5).
-abbrev pub copy_free : DavMethod → Conditions → PathText → PathText → Client → DavMetaData → MethodPlan (Unit {0})
-copy_free m c p d who found = do
-  tokens ← guarded dav.Status m c (Some found)
-  _ ← source_free (is_move m) who tokens p
-  require_free true (requester who tokens) (names d) (dav.Status 423)
-
--- The checks before anything changes, and what is found at the destination. 403 where that is the source itself, or above it: to
--- overwrite it would destroy the source (RFC 4918, sections 9.8.5 and 9.9.4).
-abbrev pub copy_allowed : DavMethod → CopyHeaders → PathText → PathText → Client → DavMetaData → MethodPlan (Option DavMetaData)
-copy_allowed m h p d who found = do
-  there ← destination_found h.overwrite d
-  _ ← require (not (is_at_or_under (names p) (names d))) (dav.Status 403)
-  _ ← copy_free m h.conditions p d who found
-  gives there
-
--- ---- what is at the destination is removed
-
 -- whether what was found at the destination is removed: at Depth 0 a folder stays
 abbrev pub is_replaced : Bool → Option DavMetaData → Bool
 is_replaced deep None = false
 is_replaced deep (Some m) = deep || not m.dir
+
+-- whether the list of members at the destination changes: by a MOVE; by a COPY where nothing was found there, or where it is replaced
+abbrev pub changes_members : Bool → Bool → Option DavMetaData → Bool
+changes_members moves deep there = moves || is_none there || is_replaced deep there
+
+-- 423 where a lock conflicts, for a MOVE at the source or below it, and for both at the destination or below it (RFC 4918, section 7.5)
+abbrev pub paths_free : Bool → Client → List (List ℕ) → PathText → PathText → MethodPlan (Unit {0})
+paths_free moves who tokens p d = do
+  _ ← source_free moves who tokens p
+  require_free true (requester who tokens) (names d) (dav.Status 423)
+
+-- and where one does on the folder above the source, from which a MOVE takes a member, or on that above the destination, where its list
+-- of members changes (section 7.4)
+abbrev pub folders_free : Bool → Bool → Requester → PathText → PathText → MethodPlan (Unit {0})
+folders_free moves changes who p d = do
+  _ ← require_parent moves who (names p) (dav.Status 423)
+  require_parent changes who (names d) (dav.Status 423)
+
+-- whether conditions and locks let the request go on: 412 where a condition on the source fails
+abbrev pub copy_free : DavMethod → Bool → Conditions → PathText → PathText → Client → DavMetaData → Option DavMetaData → MethodPlan (Unit {0})
+copy_free m deep c p d who found there = do
+  tokens ← guarded dav.Status m c (Some found)
+  _ ← paths_free (is_move m) who tokens p d
+  folders_free (is_move m) (changes_members (is_move m) deep there) (requester who tokens) p d
+
+-- The checks before anything changes, and what is found at the destination. 403 where that is the source itself, or above it: to
+-- overwrite it would destroy the source (RFC 4918, sections 9.8.5 and 9.9.4).
+abbrev pub copy_allowed : DavMethod → Bool → CopyHeaders → PathText → PathText → Client → DavMetaData → MethodPlan (Option DavMetaData)
+copy_allowed m deep h p d who found = do
+  there ← destination_found h.overwrite d
+  _ ← require (not (is_at_or_under (names p) (names d))) (dav.Status 403)
+  _ ← copy_free m deep h.conditions p d who found there
+  gives there
+
+-- ---- what is at the destination is removed
 
 -- removes it, with everything below it, as a DELETE does (RFC 4918, section 9.8.4)
 abbrev pub clearing : Bool → ℕ → PathText → Option DavMetaData → MethodPlan (List Fault)
@@ -157,7 +174,7 @@ bring_if_clear moves deep now p d there [] = do
 -- a COPY or MOVE of what was found at a path
 abbrev pub copy_found : DavMethod → Bool → CopyHeaders → PathText → PathText → Client → DavMetaData → MethodPlan Response
 copy_found m deep h p d who found = do
-  there ← copy_allowed m h p d who found
+  there ← copy_allowed m deep h p d who found
   faults ← clearing deep who.moment d there
   bring_if_clear (is_move m) deep who.moment p d there faults
 

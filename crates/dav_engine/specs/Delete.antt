@@ -14,7 +14,7 @@ use Rattle.dav_engine.specs.Client.{Client, requester}
 use Rattle.dav_engine.specs.Conditions.{Conditions, AreConditions, guarded}
 use Rattle.dav_engine.specs.Folder.{closed}
 use Rattle.dav_engine.specs.Headers.{Headers, Decodes}
-use Rattle.dav_engine.specs.Method.{MethodPlan, ◌>>=◌, require_free, drop_locks, ask_for, gives}
+use Rattle.dav_engine.specs.Method.{MethodPlan, ◌>>=◌, require_member, drop_locks, ask_for, gives}
 use Rattle.dav_engine.specs.Multistatus.{status_reply, multi_reply}
 use Rattle.dav_engine.specs.Plan.{Done}
 use Rattle.dav_engine.specs.Removal.{Fault, report_of, removal}
@@ -38,11 +38,12 @@ whole_depth (Some Zero) = Ok false
 whole_depth (Some One) = Err (dav.Status 400)
 whole_depth (Some Infinity) = Ok true
 
--- The checks before anything is removed: 412 where a condition fails, 423 where a lock at the path or below it conflicts.
+-- The checks before anything is removed: 412 where a condition fails, 423 where a lock at the path or below it conflicts,
+-- or one on the folder above it.
 abbrev pub delete_allowed : Conditions → PathText → Client → DavMetaData → MethodPlan (Unit {0})
 delete_allowed c p who found = do
   tokens ← guarded dav.Status method.Delete c (Some found)
-  require_free true (requester who tokens) (names p) (dav.Status 423)
+  require_member true true (requester who tokens) (names p) (dav.Status 423)
 
 -- where nothing stays, the locks at the path and below it end
 abbrev pub drop_if_gone : PathText → List Fault → MethodPlan (Unit {0})

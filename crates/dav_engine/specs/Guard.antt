@@ -1,8 +1,8 @@
 -- A lock that guards a folder: exclusive, and of infinite depth (RFC 4918, sections 6.1 and 7).
-use Rattle.std.specs.Prelude.{◌≡◌, ◌≢◌, ◌++◌, Bool, true, false, List, [], ◌∷◌, All, Some, None}
+use Rattle.std.specs.Prelude.{◌≡◌, ◌≢◌, ℕ, ◌++◌, Bool, true, false, List, [], ◌∷◌, All, Some, None}
 use Rattle.dav_core.specs.LockLaws.{CoveringAreShared}
-use Rattle.dav_core.specs.Locks.{Lock, Requester, covers, is_held, is_free_for, is_grantable}
-use Rattle.dav_core.specs.Path.{Path, names, is_at_or_under}
+use Rattle.dav_core.specs.Locks.{Lock, Requester, covers, is_held, is_free_for, is_free_parent, is_grantable}
+use Rattle.dav_core.specs.Path.{Path, names, is_under, is_at_or_under}
 use Rattle.dav_headers.specs.If.{state_token}
 use Rattle.dav_engine.specs.Conditions.{Addressed}
 use Rattle.dav_engine.specs.Plan.{Locks}
@@ -14,6 +14,10 @@ folder_of h = names h.path
 -- a path at the lock's folder or below it
 abbrev pub IsInReach : Lock → Path → Type 0
 IsInReach h p = is_at_or_under p (folder_of h) ≡ true
+
+-- a path strictly below the lock's folder
+abbrev pub IsInside : Lock → Path → Type 0
+IsInside h p = is_under p (folder_of h) ≡ true
 
 -- the lock is exclusive and of infinite depth
 pub record IsGuard (h : Lock) : Type 0 where
@@ -73,6 +77,12 @@ abbrev pub FreeIsHeld : Type 0
 FreeIsHeld =
     (h : Lock) (deep : Bool) (who : Requester) (rest : Path) (ls : List Lock)
     → IsGuard h → Guards h ls → is_free_for deep who (folder_of h ++ rest) ls ≡ is_held who h
+
+-- Strictly below a guarded folder, a member's folder is free exactly for the requester that holds the guard.
+abbrev pub ParentFreeIsHeld : Type 0
+ParentFreeIsHeld =
+    (h : Lock) (who : Requester) (x : List ℕ) (rest : Path) (ls : List Lock)
+    → IsGuard h → Guards h ls → is_free_parent who (folder_of h ++ x ∷ rest) ls ≡ is_held who h
 
 -- A path that is free with everything below, for a requester that doesn't hold the guard, is neither at the folder, nor
 -- below it, nor above it.

@@ -12,7 +12,7 @@ pub mod ConditionView
 pub mod Conditions
 pub mod Date
 pub mod Declaring
-pub mod DateText
+pub mod InternetDate
 pub mod Delete
 pub mod FindView
 pub mod Folder
@@ -58,6 +58,7 @@ pub mod Inside
 pub mod Guard
 pub mod Sparing
 pub mod SparingPlans
+pub mod Members
 pub mod Ending
 pub mod ListChanges
 pub mod AnswerParts

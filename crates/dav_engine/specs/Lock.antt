@@ -1,6 +1,6 @@
 -- LOCK (RFC 4918, sections 6, 7 and 9.10).
 use Rattle.std.specs.Prelude.{ℕ, ◌++◌, ◌==◌, Bool, true, false, not, List, [], ◌∷◌, length, codes, if◌then◌else◌, Option, Some, None, Result, Ok, Err}
-use Rattle.std.specs.Option.{is_some, option_map, unwrap_or}
+use Rattle.std.specs.Option.{is_some, is_none, option_map, unwrap_or}
 use Rattle.std.specs.Result.{result_ok}
 use Rattle.dav_core.specs.declared.errors.FsError.{FsError}
 use Rattle.dav_core.specs.declared.errors.FsError.TheVariants as fs
@@ -17,14 +17,14 @@ use Rattle.dav_engine.specs.declared.reply.ReplyBody.TheVariants as reply
 use Rattle.dav_engine.specs.declared.request.Body.{Body}
 use Rattle.dav_engine.specs.declared.request.Body.TheVariants as body
 use Rattle.dav_engine.specs.Client.{Client, requester}
-use Rattle.dav_engine.specs.Conditions.{Conditions, is_star, dav_if_match, if_match}
+use Rattle.dav_engine.specs.Conditions.{Conditions, is_star, dav_if_match, if_match, submitted}
 use Rattle.dav_engine.specs.Delete.{whole_depth}
 use Rattle.dav_engine.specs.Folder.{path_found, location_found}
 use Rattle.dav_engine.specs.Headers.{Headers}
 use Rattle.dav_engine.specs.LockHeaders.{LockHeaders, AreLockHeaders, granted_for, refreshed_for}
 use Rattle.dav_engine.specs.LockInfo.{LockInfo, lock_info}
 use Rattle.dav_engine.specs.LockTree.{lock_told}
-use Rattle.dav_engine.specs.Method.{MethodPlan, ◌>>=◌, require_free, require_locks, required, change_locks, unless_status, look, answer_of, gives, fails}
+use Rattle.dav_engine.specs.Method.{MethodPlan, ◌>>=◌, require_free, require_parent, require_locks, required, change_locks, unless_status, look, answer_of, gives, fails}
 use Rattle.dav_engine.specs.Multistatus.{xml_type}
 use Rattle.dav_engine.specs.Plan.{Locks, Done, Keep}
 use Rattle.dav_engine.specs.Put.{missing_status}
@@ -80,7 +80,7 @@ abbrev pub lock_of : LockHeaders → PathText → Client → Bool → LockInfo �
 lock_of h p who deep info token = new_lock token p who.principal info.owner (granted_for info.shared h.timeout) info.shared deep who.moment
 
 -- The lock that is asked for: 400 for Depth 1; what the conditions answer; 400 for a body that asks for none; 500 where there is no
--- token for it.
+-- token for it; 423 where a file is to be made, and a lock on the folder above it conflicts.
 abbrev pub asked_lock : LockHeaders → PathText → Body → Client → Option DavMetaData → MethodPlan Lock
 asked_lock h p content who found = do
   deep ← Done (whole_depth h.depth)
@@ -88,6 +88,7 @@ asked_lock h p content who found = do
   _ ← unless_status verdict
   info ← Done (required (lock_info content) dav.XmlParseError)
   token ← Done (required who.token (dav.Status 500))
+  _ ← require_parent (is_none found) (requester who (submitted h.conditions.lists)) (names p) (dav.Status 423)
   gives (lock_of h p who deep info token)
 
 abbrev pub grant_in : Lock → Locks → MethodPlan (Unit {0})

@@ -1,10 +1,13 @@
 -- Laws of LOCK (RFC 4918, sections 7 and 9.10).
-use Rattle.std.specs.Prelude.{◌≡◌, ◌≢◌, ⊤, ℕ, ◌++◌, Bool, true, false, List, [], ◌∷◌, All, if◌then◌else◌, Some, None, Ok, Err}
+use Rattle.std.specs.Prelude.{◌≡◌, ◌≢◌, ◌⊎◌, ⊤, ℕ, ◌++◌, Bool, true, false, List, [], ◌∷◌, All, codes, if◌then◌else◌, Some, None, Ok, Err}
+use Rattle.http_header.specs.HeaderMap.{get_all}
 use Rattle.dav_core.specs.declared.errors.DavError.{DavError}
-use Rattle.dav_core.specs.Asking.{StoreState, Asks}
+use Rattle.dav_core.specs.declared.errors.DavError.TheVariants as dav
+use Rattle.dav_core.specs.Asking.{Call, StoreState, Asks, Open}
 use Rattle.dav_core.specs.Locks.{Lock, is_grantable, refreshed}
 use Rattle.dav_core.specs.Path.{Path, PathText, names, star}
 use Rattle.dav_core.specs.World.{World, File, is_folder, is_missing, with_new}
+use Rattle.dav_headers.specs.ETagList.{star as star_tags, IsTagList}
 use Rattle.dav_engine.specs.declared.request.Body.{Body}
 use Rattle.dav_engine.specs.Client.{Client}
 use Rattle.dav_engine.specs.Conditions.{submitted}
@@ -15,7 +18,7 @@ use Rattle.dav_engine.specs.Lock.{lock_of, is_absent, IsLock}
 use Rattle.dav_engine.specs.LockHeaders.{LockHeaders, AreLockHeaders, refreshed_for}
 use Rattle.dav_engine.specs.LockInfo.{LockInfo, lock_info}
 use Rattle.dav_engine.specs.Method.{MethodPlan}
-use Rattle.dav_engine.specs.Plan.{Locks, Ran}
+use Rattle.dav_engine.specs.Plan.{Locks, CallStep, Ran}
 use Rattle.dav_engine.specs.Response.{Response}
 
 -- A list of locks before and after: at its end is one lock more, that may be granted. It has the client's token, the path, with a
@@ -71,9 +74,33 @@ abbrev pub IsUnused : List ℕ → Locks → Type 0
 IsUnused token None = ⊤
 IsUnused token (Some ls) = All (λ l. l.token ≢ token) ls
 
--- A LOCK that ends in an error leaves the world and the list of locks, where no lock has the client's token.
+-- The errors that a LOCK may end in once the store was asked to open the empty file: a refusal of the store, 409, and 412 where
+-- If-None-Match is `*`. With no other does it take back a lock that it granted.
+abbrev pub IsRefusedFile : Headers → DavError → Type 0
+IsRefusedFile headers (dav.FsError e) = ⊤
+IsRefusedFile headers (dav.Status status) = (status ≡ 409) ⊎ ((status ≡ 412) × IsTagList (get_all headers (codes "if-none-match")) star_tags)
+IsRefusedFile headers _ = ⊥
+
+-- A LOCK that ends in an error leaves the world; and it leaves the list of locks, where no lock has the client's token or the error
+-- is none of these, as 400, 405 and 423.
 abbrev pub RefusedLockLeavesAll : Type 0
 RefusedLockLeavesAll =
     (headers : Headers) (p : PathText) (body : Body) (who : Client) (plan : MethodPlan Response) (old new : StoreState) (ls ms : Locks) (e : DavError)
-    → ((token : List ℕ) → who.token ≡ Some token → IsUnused token ls)
-    → IsLock headers p body who plan → Ran Asks plan old ls (Err e) new ms → (new.world ≡ old.world) × (ms ≡ ls)
+    → IsLock headers p body who plan → Ran Asks plan old ls (Err e) new ms
+    → (new.world ≡ old.world) × (((token : List ℕ) → who.token ≡ Some token → IsUnused token ls) ⊎ (¬ IsRefusedFile headers e) → ms ≡ ls)
+
+-- the call opens no file
+abbrev pub OpensNoFile : Call → Type 0
+OpensNoFile (Open p how now) = ⊥
+OpensNoFile _ = ⊤
+
+-- one call of a store that isn't asked to open a file
+abbrev pub AsksNoFile : CallStep
+AsksNoFile call old answer new = OpensNoFile call × Asks call old answer new
+
+-- A LOCK that ends in an error before the store is asked to open the empty file leaves the world and the list of locks, whatever
+-- locks there are: with 412, too, where a condition failed.
+abbrev pub EarlyRefusedLockLeavesAll : Type 0
+EarlyRefusedLockLeavesAll =
+    (headers : Headers) (p : PathText) (body : Body) (who : Client) (plan : MethodPlan Response) (old new : StoreState) (ls ms : Locks) (e : DavError)
+    → IsLock headers p body who plan → Ran AsksNoFile plan old ls (Err e) new ms → (new.world ≡ old.world) × (ms ≡ ls)

@@ -1,7 +1,8 @@
 -- Lock-Token (RFC 4918, section 10.5).
-use Rattle.std.specs.Prelude.{◌≡◌, ℕ, ◌++◌, ◌⊎◌, List, [], ◌∷◌, All, codes, Some}
-use Rattle.http_header.specs.HeaderMap.{get}
-use Rattle.dav_engine.specs.Headers.{Headers, text_in}
+use Rattle.std.specs.Prelude.{◌≡◌, ℕ, ◌++◌, ◌⊎◌, List, [], ◌∷◌, All, codes}
+use Rattle.http_header.specs.HeaderMap.{get_all}
+use Rattle.dav_headers.specs.Value.{IsOnlyText}
+use Rattle.dav_engine.specs.Headers.{Headers}
 
 -- `<` or `>`
 abbrev pub IsAngle : ℕ → Type 0
@@ -25,6 +26,7 @@ pub record IsBetweenAngles (text token : List ℕ) : Type 0 where
   pub begins : BeginsBare token
   pub ends : EndsBare token
 
--- the token that Lock-Token says: its first value, where that is text, without the angle brackets
+-- The token that Lock-Token says: its only value, where that is text, without the angle brackets. Two values say none, nor does
+-- one that isn't text: a header that doesn't decode counts as absent.
 abbrev pub SaysLockToken : Headers → List ℕ → Type 0
-SaysLockToken headers token = (text : List ℕ) × (text_in (get headers (codes "lock-token")) ≡ Some text) × IsBetweenAngles text token
+SaysLockToken headers token = (text : List ℕ) × IsOnlyText (get_all headers (codes "lock-token")) text × IsBetweenAngles text token

@@ -1,6 +1,6 @@
 -- What the code gives that reads a Lock-Token.
-use Rattle.std.specs.Prelude.{◌≡◌, ℕ, ◌++◌, ◌∷◌, [], List, All}
-use Rattle.dav_engine.specs.LockToken.{IsAngle, BeginsBare, EndsBare}
+use Rattle.std.specs.Prelude.{◌≡◌, ℕ, ◌++◌, ◌∷◌, [], List, All, Option, Some, None}
+use Rattle.dav_engine.specs.LockToken.{IsAngle, BeginsBare, EndsBare, IsBetweenAngles}
 
 -- the rest of a text, after one `<` or `>`
 abbrev pub IsAfterAngle : List ℕ → List ℕ → Type 0
@@ -23,3 +23,9 @@ pub record IsBeforeAngles (text rest : List ℕ) : Type 0 where
   pub closing : All IsAngle back
   pub whole : text ≡ rest ++ back
   pub bare : EndsBare rest
+
+-- the token of a text that may be there
+abbrev pub IsTokenIn : Option (List ℕ) → Option (List ℕ) → Type 0
+IsTokenIn None None = Unit {0}
+IsTokenIn (Some text) (Some token) = IsBetweenAngles text token
+IsTokenIn _ _ = ⊥

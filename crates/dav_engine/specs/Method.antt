@@ -4,7 +4,7 @@ use Rattle.dav_core.specs.declared.errors.FsError.{FsError}
 use Rattle.dav_core.specs.declared.errors.DavError.{DavError}
 use Rattle.dav_core.specs.declared.errors.DavError.TheVariants as dav
 use Rattle.dav_core.specs.Asking.{Call, Answer}
-use Rattle.dav_core.specs.Locks.{Lock, Requester, is_free_for, deleted}
+use Rattle.dav_core.specs.Locks.{Lock, Requester, is_free_for, is_free_parent, deleted}
 use Rattle.dav_core.specs.Path.{Path}
 use Rattle.dav_engine.specs.Plan.{Plan, Locks, Done, Ask, Look, Keep}
 
@@ -71,6 +71,26 @@ abbrev pub require_free : Bool → Requester → Path → DavError → MethodPla
 require_free deep who p e = do
   locks ← look
   require (is_open deep who p locks) e
+
+-- whether a member's folder isn't locked against the requester; without a list of locks none is
+abbrev pub is_open_parent : Requester → Path → Locks → Bool
+is_open_parent who p None = true
+is_open_parent who p (Some ls) = is_free_parent who p ls
+
+-- The parent's check, where it is wanted: goes on where the path's folder isn't locked against the requester; else ends with
+-- this error (RFC 4918, section 7.4).
+abbrev pub require_parent : Bool → Requester → Path → DavError → MethodPlan (Unit {0})
+require_parent false who p e = gives tt
+require_parent true who p e = do
+  locks ← look
+  require (is_open_parent who p locks) e
+
+-- goes on where the path isn't locked against the requester, for infinite depth with everything below it, and, where a member of
+-- its folder is made or removed, the folder isn't either; else ends with this error
+abbrev pub require_member : Bool → Bool → Requester → Path → DavError → MethodPlan (Unit {0})
+require_member deep changes who p e = do
+  _ ← require_free deep who p e
+  require_parent changes who p e
 
 -- whether there is a lock system
 abbrev pub has_locks : Locks → Bool

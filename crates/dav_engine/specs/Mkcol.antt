@@ -1,10 +1,11 @@
 -- MKCOL (RFC 4918, section 9.3).
-use Rattle.std.specs.Prelude.{false, [], ◌∷◌, if◌then◌else◌}
-use Rattle.std.specs.Result.{result_ok}
+use Rattle.std.specs.Prelude.{false, not, [], ◌∷◌, if◌then◌else◌, Result}
+use Rattle.std.specs.Result.{is_ok, result_ok}
 use Rattle.dav_core.specs.declared.errors.FsError.{FsError}
 use Rattle.dav_core.specs.declared.errors.FsError.TheVariants as fs
 use Rattle.dav_core.specs.declared.errors.DavError.{DavError}
 use Rattle.dav_core.specs.declared.errors.DavError.TheVariants as dav
+use Rattle.dav_core.specs.declared.fs.DavMetaData.{DavMetaData}
 use Rattle.dav_core.specs.declared.method.DavMethod.TheVariants.{MkCol}
 use Rattle.dav_core.specs.Asking.{Metadata, CreateDir}
 use Rattle.dav_core.specs.Path.{PathText, names, is_collection}
@@ -12,7 +13,7 @@ use Rattle.dav_engine.specs.declared.reply.ReplyBody.TheVariants as reply
 use Rattle.dav_engine.specs.Client.{Client, requester}
 use Rattle.dav_engine.specs.Conditions.{Conditions, AreConditions, guarded}
 use Rattle.dav_engine.specs.Headers.{Headers}
-use Rattle.dav_engine.specs.Method.{MethodPlan, ◌>>=◌, require_free, answer_of, ask_or, gives}
+use Rattle.dav_engine.specs.Method.{MethodPlan, ◌>>=◌, require_member, answer_of, ask_or, gives}
 use Rattle.dav_engine.specs.Response.{Response, content_location}
 
 -- the reply to a folder that was made: 201, with its location where its path ends in a slash
@@ -26,12 +27,18 @@ create_error fs.Exists = dav.Status 405
 create_error fs.NotFound = dav.Status 409
 create_error e = dav.FsError e
 
--- The checks before the folder is made: 412 where a condition fails, 423 where a lock conflicts.
+-- The checks before the folder is made: 412 where a condition fails, 423 where a lock conflicts, on the path or,
+-- where nothing was found there, on the folder above it.
+abbrev pub mkcol_checks : Conditions → PathText → Client → Result DavMetaData FsError → MethodPlan (Unit {0})
+mkcol_checks c p who found = do
+  tokens ← guarded dav.Status MkCol c (result_ok found)
+  require_member false (not (is_ok found)) (requester who tokens) (names p) (dav.Status 423)
+
+-- the store is asked what is at the path, and then the checks are made
 abbrev pub mkcol_allowed : Conditions → PathText → Client → MethodPlan (Unit {0})
 mkcol_allowed c p who = do
   found ← answer_of (Metadata (names p))
-  tokens ← guarded dav.Status MkCol c (result_ok found)
-  require_free false (requester who tokens) (names p) (dav.Status 423)
+  mkcol_checks c p who found
 
 -- MKCOL, with the conditions of its headers
 abbrev pub mkcol : Conditions → PathText → Client → MethodPlan Response

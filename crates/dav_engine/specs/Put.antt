@@ -32,7 +32,7 @@ use Rattle.dav_engine.specs.declared.request.Body.{Body}
 use Rattle.dav_engine.specs.declared.request.Body.TheVariants as body
 use Rattle.dav_engine.specs.Client.{Client, requester}
 use Rattle.dav_engine.specs.Conditions.{Conditions, AreConditions, is_star, guarded}
-use Rattle.dav_engine.specs.Method.{MethodPlan, ◌>>=◌, require, require_free, answer_of, ask_or, ask_for, gives, fails}
+use Rattle.dav_engine.specs.Method.{MethodPlan, ◌>>=◌, require, require_member, answer_of, ask_or, ask_for, gives, fails}
 use Rattle.dav_engine.specs.Plan.{Done}
 use Rattle.dav_engine.specs.Headers.{Headers, Decodes, text_in}
 use Rattle.dav_engine.specs.Response.{Response, content_length, validators}
@@ -223,16 +223,21 @@ store how place p bytes now found = do
 
 -- ---- the method
 
--- The checks before the file is opened: where the bytes go; 412 where a condition fails; 423 where a lock conflicts; 400
--- where the body isn't of the announced length. Gives where the bytes go, and whether something was found at the path.
+-- The checks before the file is opened: where the bytes go; 412 where a condition fails; 423 where a lock conflicts, on
+-- the path or, where nothing was found there, on the folder above it; 400 where the body isn't of the announced length. Gives where the bytes go, and whether something was found at the path.
+abbrev pub put_checks : DavMethod → PutHeaders → Path → Client → List ℕ → Result DavMetaData FsError → MethodPlan (Writing × Bool)
+put_checks m h p who bytes found = do
+  w ← Done (writing_of m h (result_ok found))
+  tokens ← guarded dav.StatusClose m h.conditions (result_ok found)
+  _ ← require_member false (not (is_ok found)) (requester who tokens) p (dav.StatusClose 423)
+  _ ← require (is_announced w.announced bytes) (dav.StatusClose 400)
+  gives (w, is_ok found)
+
+-- the store is asked what is at the path, and then the checks are made
 abbrev pub put_allowed : DavMethod → PutHeaders → Path → Client → List ℕ → MethodPlan (Writing × Bool)
 put_allowed m h p who bytes = do
   found ← answer_of (Metadata p)
-  w ← Done (writing_of m h (result_ok found))
-  tokens ← guarded dav.StatusClose m h.conditions (result_ok found)
-  _ ← require_free false (requester who tokens) p (dav.StatusClose 423)
-  _ ← require (is_announced w.announced bytes) (dav.StatusClose 400)
-  gives (w, is_ok found)
+  put_checks m h p who bytes found
 
 -- PUT and PATCH, with what their headers say
 abbrev pub put : DavMethod → PutHeaders → Path → Client → List ℕ → MethodPlan Response

@@ -67,9 +67,9 @@ ProppatchSpares =
 abbrev pub UnlockSpares : Type 0
 UnlockSpares = (h : Lock) (headers : Headers) (p : PathText) (who : Client) (plan : MethodPlan Response) → IsUnlock headers p who plan → SparesBoth h plan
 
--- A LOCK spares what an exclusive lock covers, whoever asks for it, unless the token for the lock that it creates is the lock's;
--- and so it does where the lock is a guard, known to guard its folder.
+-- A LOCK spares what an exclusive lock covers, whoever asks for it and whatever token it brings. Where the lock is a guard, known to
+-- guard its folder, and isn't the one whose token the LOCK brings, it keeps the guard too.
 abbrev pub LockSpares : Type 0
 LockSpares =
     (h : Lock) (headers : Headers) (p : PathText) (body : Body) (who : Client) (plan : MethodPlan Response)
-    → h.shared ≡ false → who.token ≢ Some h.token → IsLock headers p body who plan → SparesLock h plan × (IsGuard h → SparesGuard h plan)
+    → h.shared ≡ false → IsLock headers p body who plan → SparesLock h plan × (IsGuard h → who.token ≢ Some h.token → SparesGuard h plan)

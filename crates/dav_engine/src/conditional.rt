@@ -456,6 +456,13 @@ impl Conditions {
         Ok((holds, submitted(alloc, &self.lists)?))
     }
 
+    /// The tokens that If submits: those of all its lists, in order, whether or not they hold; none without If.
+    pub fn tokens(&self, alloc: Global) -> Result<Vec<String>, NoMemory>
+        ensures { IfOk result (λ tokens. texts_of tokens ≡ spec.submitted self.now.lists) }
+    {
+        submitted(alloc, &self.lists)
+    }
+
     /// The tokens that If submits, all of them in order; or the status that the conditions answer, as `if_match` does, but
     /// with If evaluated last.
     pub fn if_match_get_tokens<F: DavFileSystem, L: DavLockSystem>(

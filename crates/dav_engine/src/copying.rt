@@ -152,7 +152,7 @@ fn copy_folder<F: DavFileSystem>(
         Ok(()) => {}
         Err(e) => return refused(destination, e, errors),
     }
-    match fs.read_dir(alloc, source, ReadDirMeta::Data) {
+    match fs.read_dir(alloc, source, ReadDirMeta::DataSymlink) {
         Ok(entries) => copy_each(fs, alloc, top, source, destination, &entries, now, errors),
         Err(e) => refused(source, e, errors),
     }

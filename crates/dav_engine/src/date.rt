@@ -1,14 +1,17 @@
-//! Dates as HTTP writes them (RFC 9110, section 5.6.7).
-ghost use Rattle.std.specs.Prelude.{◌≡◌, ◌≤◌, string_bytes, IfOk};
+//! Dates as HTTP writes them (RFC 9110, section 5.6.7), and as the internet does (RFC 3339, section 5.6).
+ghost use Rattle.std.specs.Prelude.{◌≡◌, ◌≤◌, pos, ◌*ℤ◌, string_bytes, IfOk};
 ghost use Rattle.http_header.specs.FieldValue.{plain_value};
 ghost use Rattle.dav_core.specs.World.{last_moment};
 ghost use Rattle.dav_engine.specs.Date.{date_of, date_text_of};
-ghost use Rattle.dav_engine.specs.DateText as spec;
+ghost use Rattle.dav_engine.specs.InternetDate.{IsAtMoment};
+ghost use Rattle.jiff.specs.Words.{IsBetween, civil_nanos};
 ghost use Rattle.dav_engine.specs.Properties.{internet_date};
 
 use dav_core::errors::NoMemory;
 use http_header::HeaderValue;
 use httpdate::{HttpDate, fmt_http_date};
+use jiff::SignedDuration;
+use jiff::civil::{DateTime, datetime};
 use std::alloc::Global;
 
 /// A moment, in seconds since 1970, as HTTP writes it.
@@ -32,35 +35,22 @@ pub fn date_text(alloc: Global, moment: u64) -> Result<String, NoMemory>
     fmt_http_date(alloc, date)
 }
 
-// The number of a month, in two digits, by the letters that HTTP has for it.
-fn month_digits(letters: &[u8; 3]) -> [u8; 2]
-    ensures { result ≡ spec.month_digits letters.now }
+// The date and time of day so many seconds after 1970 began.
+fn datetime_after(seconds: i64) -> DateTime
+    requires { IsBetween (pos 0) (pos last_moment) seconds }
+    ensures { civil_nanos result ≡ seconds *ℤ pos 1_000_000_000 }
 {
-    match letters {
-        b"Jan" => *b"01",
-        b"Feb" => *b"02",
-        b"Mar" => *b"03",
-        b"Apr" => *b"04",
-        b"May" => *b"05",
-        b"Jun" => *b"06",
-        b"Jul" => *b"07",
-        b"Aug" => *b"08",
-        b"Sep" => *b"09",
-        b"Oct" => *b"10",
-        b"Nov" => *b"11",
-        _ => *b"12",
-    }
+    datetime(1970, 1, 1, 0, 0, 0, 0)
+        .checked_add(SignedDuration::from_secs(seconds))
+        .unwrap()
 }
 
-// The date that HTTP writes, as the internet writes it.
-fn rewritten(date: &[u8; 29]) -> [u8; 20]
-    ensures { result ≡ spec.rewritten date.now }
+// The date and time of day of a moment.
+fn datetime_of(moment: u64) -> DateTime
+    requires { moment ≤ last_moment }
+    ensures { IsAtMoment moment result }
 {
-    let [o0, o1] = month_digits(&[date[8], date[9], date[10]]);
-    [
-        date[12], date[13], date[14], date[15], b'-', o0, o1, b'-', date[5], date[6], b'T',
-        date[17], date[18], b':', date[20], date[21], b':', date[23], date[24], b'Z',
-    ]
+    datetime_after(moment as i64)
 }
 
 /// A moment, in seconds since 1970, as the internet writes it (RFC 3339, section 5.6).
@@ -68,10 +58,6 @@ pub fn internet_date(alloc: Global, moment: u64) -> Result<String, NoMemory>
     requires { moment ≤ last_moment }
     ensures { IfOk result (λ t. string_bytes t ≡ internet_date (date_of moment)) }
 {
-    let date = HttpDate::from_unix_secs(moment).unwrap();
-    let text = rewritten(&date.to_bytes());
-    match std::str::from_utf8(&text) {
-        Ok(text) => String::from_str(alloc, text),
-        Err(_) => Err(NoMemory),
-    }
+    let date = datetime_of(moment);
+    format!(in alloc; "{date}Z")
 }

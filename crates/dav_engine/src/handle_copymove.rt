@@ -1,6 +1,7 @@
 //! COPY and MOVE (RFC 4918, sections 9.8 and 9.9).
 ghost use Rattle.std.specs.Prelude.{◌≡◌, ◌≢◌, ◌≤◌, ◌&&◌, ◌||◌, not, [], if◌then◌else◌, IfOk, OnErr, true, false, map, string_bytes};
 ghost use Rattle.std.specs.Option.{option_map, option_copied, is_some, unwrap_or};
+ghost use Rattle.dav_core.specs.Asking.{Asks, Metadata};
 ghost use Rattle.dav_core.specs.Locks.{deleted, requester_of};
 ghost use Rattle.dav_core.specs.PathRef.{names_left};
 ghost use Rattle.dav_core.specs.World.{last_moment};
@@ -11,12 +12,12 @@ ghost use Rattle.dav_engine.specs.Copied.{Copies, FollowsLater, IsPlain};
 ghost use Rattle.dav_engine.specs.CopyMove as spec;
 ghost use Rattle.dav_engine.specs.CopyView.{result_of};
 ghost use Rattle.dav_engine.specs.Copying as walk;
-ghost use Rattle.dav_engine.specs.Follows.{as_is, Follows, Heeds, Makes};
+ghost use Rattle.dav_engine.specs.Follows.{as_is, Follows, Heeds, Makes, Sets};
 ghost use Rattle.dav_engine.specs.Method.{is_open};
 ghost use Rattle.dav_engine.specs.Plan.{Locks};
 ghost use Rattle.dav_engine.specs.Walked.{Walked, StoppedIn, goes_below};
 
-use crate::check::is_open;
+use crate::check::{is_open, parent_allowed};
 use crate::conditional::Conditions;
 use crate::copy_headers::CopyHeaders;
 use crate::copying::{copying, renaming};
@@ -28,7 +29,7 @@ use crate::removal::removal;
 use crate::reply::Reply;
 use crate::request::{Body, DavRequest};
 use dav_core::davpath::{DavPath, Segments};
-use dav_core::errors::{DavError, DavResult, FsError, NoMemory};
+use dav_core::errors::{DavError, DavResult, FsError, FsResult, NoMemory};
 use dav_core::fs::{DavFileSystem, DavMetaData};
 use dav_core::ls::DavLockSystem;
 use dav_core::method::DavMethod;
@@ -36,6 +37,8 @@ use dav_headers::Depth;
 use http::StatusCode;
 use std::alloc::Global;
 use std::cmp::Ordering;
+
+const LOCKED: DavError = DavError::Status(StatusCode::LOCKED);
 
 // Whether the method is MOVE.
 fn is_move(method: DavMethod) -> bool
@@ -108,6 +111,23 @@ fn destination_found<F: DavFileSystem>(
     Ok(there)
 }
 
+// Whether what was found at the destination is removed.
+fn is_replaced(deep: bool, there: Option<&DavMetaData>) -> bool
+    ensures { result ≡ spec.is_replaced deep (option_copied there.entry) }
+{
+    match there {
+        Some(meta) => deep || !meta.dir,
+        None => false,
+    }
+}
+
+// Whether the list of members at the destination changes.
+fn changes_members(moves: bool, deep: bool, there: Option<&DavMetaData>) -> bool
+    ensures { result ≡ spec.changes_members moves deep (option_copied there.entry) }
+{
+    moves || there.is_none() || is_replaced(deep, there)
+}
+
 // Checks whether no lock conflicts: for a move at the source, and at the destination.
 fn are_free<L: DavLockSystem>(
     ls: Option<&L>,
@@ -130,20 +150,47 @@ fn are_free<L: DavLockSystem>(
     is_open(ls, destination, principal, true, tokens)
 }
 
+// Checks whether no lock conflicts on the folders above both: for a move at the source, and at the destination where its members
+// change.
+fn folders_free<L: DavLockSystem>(
+    ls: Option<&L>,
+    moves: bool,
+    changes: bool,
+    path: &DavPath,
+    destination: &DavPath,
+    principal: Option<&str>,
+    tokens: &[String],
+) -> DavResult<()>
+    requires source { IsPlain path.now }
+    requires destination { IsPlain destination.now }
+    ensures { Sets (λ u. u) (spec.folders_free moves changes
+        (requester_of (map string_bytes tokens.now) false (option_copied principal.entry))
+        path.now destination.now)
+        (locks_in L.locks ls.entry) result (locks_in L.locks ls.entry) }
+{
+    parent_allowed(ls, moves, path, principal, tokens, LOCKED)?;
+    parent_allowed(ls, changes, destination, principal, tokens, LOCKED)
+}
+
 // Checks whether conditions and locks let the request go on; else returns the error that says why not.
 fn copy_free<F: DavFileSystem, L: DavLockSystem>(
     fs: &mut F,
     ls: Option<&L>,
     alloc: Global,
     method: DavMethod,
+    deep: bool,
     conditions: &Conditions,
     path: &DavPath,
     destination: &DavPath,
     caller: &Caller<'_>,
     found: &DavMetaData,
+    there: Option<&DavMetaData>,
 ) -> DavResult<()>
+    requires source { IsPlain path.now }
+    requires destination { IsPlain destination.now }
     ensures { Heeds (locks_in L.locks ls.entry) (λ u. u)
-        (spec.copy_free method conditions.now path.now destination.now caller.now found.now)
+        (spec.copy_free method deep conditions.now path.now destination.now caller.now found.now
+        (option_copied there.entry))
         (F.state fs.old) result (F.state fs.new) }
 {
     let verdict = conditions.if_match_get_tokens(alloc, method, Some(found), fs, ls)?;
@@ -152,11 +199,12 @@ fn copy_free<F: DavFileSystem, L: DavLockSystem>(
         Err(status) => return Err(DavError::Status(status)),
     };
     let moves = is_move(method);
-    if are_free(ls, moves, path, destination, caller.principal, &tokens) {
-        Ok(())
-    } else {
-        Err(DavError::Status(StatusCode::LOCKED))
+    let changes = changes_members(moves, deep, there);
+    let principal = caller.principal;
+    if !are_free(ls, moves, path, destination, principal, &tokens) {
+        return Err(LOCKED);
     }
+    folders_free(ls, moves, changes, path, destination, principal, &tokens)
 }
 
 // Checks whether the request may be carried out: returns what is found at the destination.
@@ -165,15 +213,17 @@ fn copy_allowed<F: DavFileSystem, L: DavLockSystem>(
     ls: Option<&L>,
     alloc: Global,
     method: DavMethod,
+    deep: bool,
     headers: &CopyHeaders,
     path: &DavPath,
     destination: &DavPath,
     caller: &Caller<'_>,
     found: &DavMetaData,
 ) -> DavResult<Option<DavMetaData>>
+    requires source { IsPlain path.now }
     requires plain { IsPlain destination.now }
     ensures { Heeds (locks_in L.locks ls.entry) as_is
-        (spec.copy_allowed method headers.now path.now destination.now caller.now found.now)
+        (spec.copy_allowed method deep headers.now path.now destination.now caller.now found.now)
         (F.state fs.old) result (F.state fs.new) }
 {
     let there = destination_found(fs, headers.overwrite, destination)?;
@@ -186,23 +236,15 @@ fn copy_allowed<F: DavFileSystem, L: DavLockSystem>(
         ls,
         alloc,
         method,
+        deep,
         conditions,
         path,
         destination,
         caller,
         found,
+        there.as_ref(),
     )?;
     Ok(there)
-}
-
-// Whether what was found at the destination is removed.
-fn is_replaced(deep: bool, there: Option<&DavMetaData>) -> bool
-    ensures { result ≡ spec.is_replaced deep (option_copied there.entry) }
-{
-    match there {
-        Some(meta) => deep || !meta.dir,
-        None => false,
-    }
 }
 
 // Removes what was found at the destination, where it is replaced. Whether nothing of that stays.
@@ -361,6 +403,7 @@ fn copy_found<F: DavFileSystem, L: DavLockSystem>(
 ) -> DavResult<Reply>
     requires moment { caller.now.moment ≤ last_moment }
     requires path { path.now.bytes ≢ star }
+    requires source { IsPlain path.now }
     requires plain { IsPlain destination.now }
     ensures { Follows as_is (spec.copy_found method deep headers.now path.now destination.now
         caller.now found.now)
@@ -372,6 +415,7 @@ fn copy_found<F: DavFileSystem, L: DavLockSystem>(
         ls.as_ref(),
         alloc,
         method,
+        deep,
         headers,
         path,
         destination,
@@ -388,6 +432,21 @@ fn copy_found<F: DavFileSystem, L: DavLockSystem>(
     bring(fs, ls, alloc, moves, deep, path, destination, now, there)
 }
 
+// What is at the source: of a symbolic link a MOVE moves the link itself.
+fn source_metadata<F: DavFileSystem>(
+    fs: &mut F,
+    moves: bool,
+    path: &DavPath,
+) -> FsResult<DavMetaData>
+    ensures { Asks (Metadata (names path.now)) (F.state fs.old) result (F.state fs.new) }
+{
+    if moves {
+        fs.symlink_metadata(path)
+    } else {
+        fs.metadata(path)
+    }
+}
+
 // Carries out a COPY or MOVE.
 fn copy_or_move<F: DavFileSystem, L: DavLockSystem>(
     fs: &mut F,
@@ -400,17 +459,19 @@ fn copy_or_move<F: DavFileSystem, L: DavLockSystem>(
 ) -> DavResult<Reply>
     requires moment { caller.now.moment ≤ last_moment }
     requires path { path.now.bytes ≢ star }
+    requires source { IsPlain path.now }
     requires plain { IfOk headers.now.destination (λ d. IsPlain d) }
     ensures { Follows as_is (spec.copy_or_move method headers.now path.now caller.now)
         (F.state fs.old) (option_map L.locks ls.old) result
         (F.state fs.new) (option_map L.locks ls.new) }
 {
-    let deep = copy_depth(is_move(method), headers.depth)?;
+    let moves = is_move(method);
+    let deep = copy_depth(moves, headers.depth)?;
     let destination = match &headers.destination {
         Ok(destination) => destination,
         Err(error) => return Err(*error),
     };
-    let found = match fs.metadata(path) {
+    let found = match source_metadata(fs, moves, path) {
         Ok(found) => found,
         Err(e) => return Err(DavError::FsError(e)),
     };
@@ -489,7 +550,8 @@ impl<'a, 'b, 'c, F: DavFileSystem, L: DavLockSystem> DavInner<'a, 'b, 'c, F, L> 
     /// where it names no path, 403 where it climbs above the root, 502 where it isn't at or below the prefix; the store's
     /// status where it doesn't report what is at the path; 409 where no folder is above the destination; 412 where something
     /// is at the destination and Overwrite is `F`; 403 where the destination is the path, or above it; 412 where a condition
-    /// fails; 423 where a lock conflicts, for a MOVE at the path or below it, and for both at the destination or below it.
+    /// fails; 423 where a lock conflicts, for a MOVE at the path or below it, and for both at the destination or below it; or on the
+    /// folder above the path of a MOVE, or above the destination where its members change.
     /// Where the store refuses a call after that, what stays at the destination is reported as by a DELETE, and nothing is
     /// copied or moved; else the copy goes on with the rest, and what isn't copied is reported: 207 with each path and its
     /// status, or that status alone where the only path is the request's. The body isn't looked at.
@@ -501,6 +563,7 @@ impl<'a, 'b, 'c, F: DavFileSystem, L: DavLockSystem> DavInner<'a, 'b, 'c, F, L> 
     ) -> DavResult<Reply>
         requires moment { self.old.caller.now.moment ≤ last_moment }
         requires path { request.now.path.bytes ≢ star }
+        requires plain { IsPlain request.now.path }
         ensures lent { StaysLent self.old self.new }
         ensures serves { ServesFrom (CopyMoveOf request.now) self.old result self.new }
     {

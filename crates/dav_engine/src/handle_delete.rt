@@ -10,12 +10,13 @@ ghost use Rattle.dav_engine.specs.AtWork.{KeepsLent, StaysLent, ServesFrom, Dele
 ghost use Rattle.dav_engine.specs.ConditionView.{locks_in};
 ghost use Rattle.dav_engine.specs.Delete.{delete_allowed, delete_found, deleting};
 ghost use Rattle.dav_engine.specs.Delete as spec;
+ghost use Rattle.dav_engine.specs.Copied.{IsPlain};
 ghost use Rattle.dav_engine.specs.Follows.{as_is, Follows, Heeds};
 ghost use Rattle.dav_engine.specs.Headers.{Decodes};
 ghost use Rattle.dav_engine.specs.Removal.{removal};
 ghost use Rattle.dav_engine.specs.Walked.{Removes, goes_below};
 
-use crate::check::is_open;
+use crate::check::member_allowed;
 use crate::conditional::Conditions;
 use crate::davinner::{Caller, DavInner};
 use crate::folder::closed;
@@ -75,6 +76,7 @@ fn allowed<F: DavFileSystem, L: DavLockSystem>(
     caller: &Caller<'_>,
     found: &DavMetaData,
 ) -> DavResult<()>
+    requires { IsPlain path.now }
     ensures { Heeds (locks_in L.locks ls.entry) (λ u. u)
         (delete_allowed conditions.now path.now caller.now found.now)
         (F.state fs.old) result (F.state fs.new) }
@@ -84,11 +86,15 @@ fn allowed<F: DavFileSystem, L: DavLockSystem>(
         Ok(tokens) => tokens,
         Err(status) => return Err(DavError::Status(status)),
     };
-    if is_open(ls, path, caller.principal, true, &tokens) {
-        Ok(())
-    } else {
-        Err(DavError::Status(StatusCode::LOCKED))
-    }
+    member_allowed(
+        ls,
+        true,
+        true,
+        path,
+        caller.principal,
+        &tokens,
+        DavError::Status(StatusCode::LOCKED),
+    )
 }
 
 // Ends the locks at a path and below it, where there is a lock system.
@@ -136,6 +142,7 @@ fn delete_found<F: DavFileSystem, L: DavLockSystem>(
 ) -> DavResult<Reply>
     requires moment { caller.now.moment ≤ last_moment }
     requires path { path.now.bytes ≢ star }
+    requires plain { IsPlain path.now }
     ensures { Follows as_is (delete_found deep conditions.now path.now caller.now found.now)
         (F.state fs.old) (option_map L.locks ls.old) result
         (F.state fs.new) (option_map L.locks ls.new) }
@@ -161,6 +168,7 @@ fn delete<F: DavFileSystem, L: DavLockSystem>(
 ) -> DavResult<Reply>
     requires moment { caller.now.moment ≤ last_moment }
     requires path { path.now.bytes ≢ star }
+    requires plain { IsPlain path.now }
     ensures { Follows as_is (deleting conditions.now depth path.now caller.now)
         (F.state fs.old) (option_map L.locks ls.old) result
         (F.state fs.new) (option_map L.locks ls.new) }
@@ -179,7 +187,7 @@ impl<'a, 'b, 'c, F: DavFileSystem, L: DavLockSystem> DavInner<'a, 'b, 'c, F, L> 
     /// where nothing stays, and the locks at the path and below it end.
     ///
     /// The first of these that applies is answered: 400 for Depth 1; the store's status where it doesn't report what is at the
-    /// path; 412 where a condition fails; 423 where a lock at the path or below it conflicts. Where the store refuses a call
+    /// path; 412 where a condition fails; 423 where a lock at the path or below it conflicts, or one on the folder above. Where the store refuses a call
     /// after that, the removal goes on with the rest. What stays is reported: 207 with each path and its status, or that
     /// status alone where the only path is the request's; a folder that stays because of what is in it isn't reported. The
     /// locks then stay too. The body isn't looked at.
@@ -191,6 +199,7 @@ impl<'a, 'b, 'c, F: DavFileSystem, L: DavLockSystem> DavInner<'a, 'b, 'c, F, L> 
     ) -> DavResult<Reply>
         requires moment { self.old.caller.now.moment ≤ last_moment }
         requires path { request.now.path.bytes ≢ star }
+        requires plain { IsPlain request.now.path }
         ensures lent { StaysLent self.old self.new }
         ensures serves { ServesFrom (DeleteOf request.now) self.old result self.new }
     {

@@ -11,17 +11,21 @@ ghost use Rattle.dav_core.specs.Numbers.{max_u64};
 ghost use Rattle.dav_core.specs.Path.{names};
 ghost use Rattle.dav_core.specs.World.{last_moment};
 ghost use Rattle.dav_engine.specs.AtWork.{KeepsLent, StaysLent, KeepsWorld, FollowsOn, ServesFrom, LockOf};
-ghost use Rattle.dav_engine.specs.ConditionView.{texts_of};
+ghost use Rattle.dav_engine.specs.Client.{requester};
+ghost use Rattle.dav_engine.specs.Conditions.{submitted};
+ghost use Rattle.dav_engine.specs.ConditionView.{texts_of, locks_in};
+ghost use Rattle.dav_engine.specs.Copied.{IsPlain};
 ghost use Rattle.dav_engine.specs.Folder.{location_found, with_location};
 ghost use Rattle.dav_engine.specs.Follows.{as_is, Sets, viewed};
 ghost use Rattle.dav_engine.specs.Lock as spec;
 ghost use Rattle.dav_engine.specs.Lock.{is_absent};
 ghost use Rattle.dav_engine.specs.LockView.{GrantsNew, LastsFrom};
+ghost use Rattle.dav_engine.specs.Method.{require_parent};
 ghost use Rattle.dav_engine.specs.Multistatus.{xml_type};
 ghost use Rattle.dav_engine.specs.Plan.{Ran};
 ghost use Rattle.dav_core.specs.Asking.{Asks};
 
-use crate::check::is_open;
+use crate::check::{is_open, parent_allowed};
 use crate::conditional::Conditions;
 use crate::davinner::{Caller, DavInner};
 use crate::folder::{closed, is_folder_found, tree_headers};
@@ -153,6 +157,25 @@ fn lock_of(
         deep,
         owner: info.owner,
     })
+}
+
+// Checks the locks on the folder above a path, where a file is to be made there.
+fn folder_allowed<L: DavLockSystem>(
+    ls: Option<&L>,
+    alloc: Global,
+    conditions: &Conditions,
+    path: &DavPath,
+    caller: &Caller<'_>,
+    makes: bool,
+) -> DavResult<()>
+    requires { IsPlain path.now }
+    ensures { Sets (λ u. u) (require_parent makes
+        (requester caller.now (submitted conditions.now.lists)) (names path.now)
+        (DavError.Status 423)) (locks_in L.locks ls.entry) result (locks_in L.locks ls.entry) }
+{
+    let tokens = conditions.tokens(alloc)?;
+    let locked = DavError::Status(StatusCode::LOCKED);
+    parent_allowed(ls, makes, path, caller.principal, &tokens, locked)
 }
 
 // Why a lock isn't granted, if it isn't.
@@ -407,7 +430,8 @@ impl<'a, 'b, 'c, F: DavFileSystem, L: DavLockSystem> DavInner<'a, 'b, 'c, F, L> 
         body: &Body,
         found: Option<&DavMetaData>,
     ) -> DavResult<DavLock>
-        requires { self.old.caller.now.moment ≤ last_moment }
+        requires moment { self.old.caller.now.moment ≤ last_moment }
+        requires plain { IsPlain path.now }
         ensures lent { KeepsLent self.old self.new }
         ensures plan { FollowsOn as_is (λ who. spec.asked_lock headers.now path.now body.now who
             (option_copied found.entry)) self.old result self.new }
@@ -430,6 +454,14 @@ impl<'a, 'b, 'c, F: DavFileSystem, L: DavLockSystem> DavInner<'a, 'b, 'c, F, L> 
         let Some(token) = caller.token else {
             return Err(DavError::Status(StatusCode::INTERNAL_SERVER_ERROR));
         };
+        folder_allowed(
+            ls,
+            alloc,
+            &headers.conditions,
+            path,
+            caller,
+            found.is_none(),
+        )?;
         Ok(lock_of(alloc, headers, path, caller, deep, info, token)?)
     }
 
@@ -443,7 +475,8 @@ impl<'a, 'b, 'c, F: DavFileSystem, L: DavLockSystem> DavInner<'a, 'b, 'c, F, L> 
         path: &DavPath,
         found: Option<&DavMetaData>,
     ) -> DavResult<Reply>
-        requires { self.old.caller.now.moment ≤ last_moment }
+        requires moment { self.old.caller.now.moment ≤ last_moment }
+        requires plain { IsPlain path.now }
         ensures lent { StaysLent self.old self.new }
         ensures plan { FollowsOn as_is (λ who. spec.lock_new headers.now path.now
             (location_found (option_copied found.entry) request.now.path) body.now who
@@ -477,7 +510,8 @@ impl<'a, 'b, 'c, F: DavFileSystem, L: DavLockSystem> DavInner<'a, 'b, 'c, F, L> 
         body: &Body,
         found: Option<&DavMetaData>,
     ) -> DavResult<Reply>
-        requires { self.old.caller.now.moment ≤ last_moment }
+        requires moment { self.old.caller.now.moment ≤ last_moment }
+        requires plain { IsPlain request.now.path }
         ensures lent { StaysLent self.old self.new }
         ensures plan { FollowsOn as_is (λ who. spec.lock_found headers.now request.now.path
             body.now who (option_copied found.entry)) self.old result self.new }
@@ -501,7 +535,8 @@ impl<'a, 'b, 'c, F: DavFileSystem, L: DavLockSystem> DavInner<'a, 'b, 'c, F, L> 
     /// refuses it, the lock is taken back. 201 where nothing was found, else 200, with the token in Lock-Token.
     ///
     /// The first of these that applies is answered: 405 without a lock system; 400 for Depth 1; 412 where a condition fails; 400
-    /// for a body that asks for no lock; 500 without a token for it; 423 where another lock conflicts; 412 or 409 where the file
+    /// for a body that asks for no lock; 500 without a token for it; 423 where another lock conflicts, or where nothing is
+    /// found one on the folder above; 412 or 409 where the file
     /// isn't there or is, or no folder is above it. Each other refusal of the store is its own status.
     ///
     /// To refresh a lock, If has to submit its token and no other (400), whether or not If holds; 412 where the path is locked
@@ -515,7 +550,8 @@ impl<'a, 'b, 'c, F: DavFileSystem, L: DavLockSystem> DavInner<'a, 'b, 'c, F, L> 
         request: &DavRequest,
         body: &Body,
     ) -> DavResult<Reply>
-        requires { self.old.caller.now.moment ≤ last_moment }
+        requires moment { self.old.caller.now.moment ≤ last_moment }
+        requires plain { IsPlain request.now.path }
         ensures lent { StaysLent self.old self.new }
         ensures serves { ServesFrom (LockOf request.now body.now) self.old result self.new }
         ensures memory { IsErrOf result DavError.Memory

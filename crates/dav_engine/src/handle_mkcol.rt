@@ -4,10 +4,11 @@ ghost use Rattle.dav_core.specs.World.{last_moment};
 ghost use Rattle.dav_core.specs.Path.{names};
 ghost use Rattle.dav_engine.specs.AtWork.{KeepsLent, ServesFrom, MkcolOf};
 ghost use Rattle.dav_engine.specs.ConditionView.{locks_in};
+ghost use Rattle.dav_engine.specs.Copied.{IsPlain};
 ghost use Rattle.dav_engine.specs.Follows.{as_is, Heeds};
 ghost use Rattle.dav_engine.specs.Mkcol as spec;
 
-use crate::check::is_open;
+use crate::check::member_allowed;
 use crate::conditional::Conditions;
 use crate::davinner::{Caller, DavInner};
 use crate::reply::{Reply, ReplyBody, set_location};
@@ -56,6 +57,7 @@ fn allowed<F: DavFileSystem, L: DavLockSystem>(
     path: &DavPath,
     caller: &Caller<'_>,
 ) -> DavResult<()>
+    requires { IsPlain path.now }
     ensures { Heeds (locks_in L.locks ls.entry) (λ u. u)
         (spec.mkcol_allowed conditions.now path.now caller.now)
         (F.state fs.old) result (F.state fs.new) }
@@ -66,11 +68,15 @@ fn allowed<F: DavFileSystem, L: DavLockSystem>(
         Ok(tokens) => tokens,
         Err(status) => return Err(DavError::Status(status)),
     };
-    if is_open(ls, path, caller.principal, false, &tokens) {
-        Ok(())
-    } else {
-        Err(DavError::Status(StatusCode::LOCKED))
-    }
+    member_allowed(
+        ls,
+        false,
+        found.is_none(),
+        path,
+        caller.principal,
+        &tokens,
+        DavError::Status(StatusCode::LOCKED),
+    )
 }
 
 // Makes a folder at a path, where it may be made.
@@ -82,7 +88,8 @@ fn mkcol<F: DavFileSystem, L: DavLockSystem>(
     path: &DavPath,
     caller: &Caller<'_>,
 ) -> DavResult<Reply>
-    requires { caller.now.moment ≤ last_moment }
+    requires moment { caller.now.moment ≤ last_moment }
+    requires plain { IsPlain path.now }
     ensures { Heeds (locks_in L.locks ls.entry) as_is
         (spec.mkcol conditions.now path.now caller.now)
         (F.state fs.old) result (F.state fs.new) }
@@ -99,8 +106,8 @@ impl<'a, 'b, 'c, F: DavFileSystem, L: DavLockSystem> DavInner<'a, 'b, 'c, F, L> 
     /// Makes a folder at the path of a request (RFC 4918, section 9.3): 201, with `content-location` where the target ends
     /// in a slash.
     ///
-    /// The first of these that applies is answered: 412 where a condition fails; 423 where a lock conflicts; 405 where
-    /// something is there; 409 where no folder is above it; each other refusal of the store is its own status. The body
+    /// The first of these that applies is answered: 412 where a condition fails; 423 where a lock conflicts, or where nothing is
+    /// found one on the folder above; 405 where something is there; 409 where no folder is above it; each other refusal of the store is its own status. The body
     /// isn't looked at.
     pub fn handle_mkcol(
         &mut self,
@@ -108,7 +115,8 @@ impl<'a, 'b, 'c, F: DavFileSystem, L: DavLockSystem> DavInner<'a, 'b, 'c, F, L> 
         request: &DavRequest,
         _body: &Body,
     ) -> DavResult<Reply>
-        requires { self.old.caller.now.moment ≤ last_moment }
+        requires moment { self.old.caller.now.moment ≤ last_moment }
+        requires plain { IsPlain request.now.path }
         ensures lent { KeepsLent self.old self.new }
         ensures serves { ServesFrom (MkcolOf request.now) self.old result self.new }
     {

@@ -7,11 +7,12 @@ ghost use Rattle.dav_core.specs.Path.{names};
 ghost use Rattle.dav_engine.specs.AtWork.{KeepsLent, FollowsOn, ServesFrom, PutOf};
 ghost use Rattle.dav_engine.specs.Client.{requester};
 ghost use Rattle.dav_engine.specs.ConditionView.{locks_in};
+ghost use Rattle.dav_engine.specs.Copied.{IsPlain};
 ghost use Rattle.dav_engine.specs.Follows.{as_is, Makes};
 ghost use Rattle.dav_engine.specs.Plan.{Locks};
 ghost use Rattle.dav_engine.specs.Put as spec;
 
-use crate::check::is_open;
+use crate::check::member_allowed;
 use crate::davinner::DavInner;
 use crate::put_headers::{Bounds, PutHeaders, Writing};
 use crate::reply::{Reply, ReplyBody, set_header, set_length, set_validators};
@@ -318,8 +319,8 @@ impl<'a, 'b, 'c, F: DavFileSystem, L: DavLockSystem> DavInner<'a, 'b, 'c, F, L> 
     /// Each of these closes the connection, and the first that applies is answered: for PATCH 415 where the body isn't
     /// `application/x-sabredav-partialupdate`, 411 without a length, 400 without X-Update-Range, 416 for one that isn't as
     /// long as announced or begins before the file; 400 for a Content-Range that isn't one, 416 for one that isn't as long
-    /// as announced; 412 where a condition fails; 423 where a lock conflicts; 400 for a body that isn't of the announced
-    /// length; 412 or 409 where the file isn't there or is, or no folder is above it; 416 where the seek to the place
+    /// as announced; 412 where a condition fails; 423 where a lock conflicts, or where nothing was found one on the folder above; 400 for a body
+    /// that isn't of the announced length; 412 or 409 where the file isn't there or is, or no folder is above it; 416 where the seek to the place
     /// fails. Each other refusal of the store is its own status. 415 for a body that is an element tree, or that was to be one and is
     /// malformed, before anything else. `Memory` where memory runs out.
     pub fn handle_put(
@@ -328,7 +329,8 @@ impl<'a, 'b, 'c, F: DavFileSystem, L: DavLockSystem> DavInner<'a, 'b, 'c, F, L> 
         request: &DavRequest,
         body: &Body,
     ) -> DavResult<Reply>
-        requires { self.old.caller.now.moment ≤ last_moment }
+        requires moment { self.old.caller.now.moment ≤ last_moment }
+        requires plain { IsPlain request.now.path }
         ensures lent { KeepsLent self.old self.new }
         ensures serves { ServesFrom (PutOf request.now body.now) self.old result self.new }
     {
@@ -348,7 +350,8 @@ impl<'a, 'b, 'c, F: DavFileSystem, L: DavLockSystem> DavInner<'a, 'b, 'c, F, L> 
         headers: &PutHeaders,
         bytes: &Bytes,
     ) -> DavResult<Reply>
-        requires { self.old.caller.now.moment ≤ last_moment }
+        requires moment { self.old.caller.now.moment ≤ last_moment }
+        requires plain { IsPlain request.now.path }
         ensures lent { KeepsLent self.old self.new }
         ensures plan { FollowsOn as_is (λ who. spec.put request.now.method headers.now
             (names request.now.path) who bytes.now) self.old result self.new }
@@ -378,6 +381,7 @@ impl<'a, 'b, 'c, F: DavFileSystem, L: DavLockSystem> DavInner<'a, 'b, 'c, F, L> 
         headers: &PutHeaders,
         bytes: &Bytes,
     ) -> DavResult<(Writing, bool)>
+        requires { IsPlain request.now.path }
         ensures lent { KeepsLent self.old self.new }
         ensures plan { FollowsOn as_is (λ who. spec.put_allowed request.now.method headers.now
             (names request.now.path) who bytes.now) self.old result self.new }
@@ -394,9 +398,15 @@ impl<'a, 'b, 'c, F: DavFileSystem, L: DavLockSystem> DavInner<'a, 'b, 'c, F, L> 
             Ok(tokens) => tokens,
             Err(status) => return Err(DavError::StatusClose(status)),
         };
-        if !is_open(ls, &request.path, caller.principal, false, &tokens) {
-            return Err(DavError::StatusClose(StatusCode::LOCKED));
-        }
+        member_allowed(
+            ls,
+            false,
+            found.is_none(),
+            &request.path,
+            caller.principal,
+            &tokens,
+            DavError::StatusClose(StatusCode::LOCKED),
+        )?;
         if !is_announced(writing.announced, bytes) {
             return Err(DavError::StatusClose(StatusCode::BAD_REQUEST));
         }

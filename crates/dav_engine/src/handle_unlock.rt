@@ -1,14 +1,14 @@
 //! UNLOCK (RFC 4918, section 9.11).
-ghost use Rattle.std.specs.Prelude.{◌≡◌, IfOk};
+ghost use Rattle.std.specs.Prelude.{◌≡◌, IfOk, OnErr};
 ghost use Rattle.std.specs.Option.{option_map, option_copied};
-ghost use Rattle.dav_engine.specs.AtWork.{StaysLent, FollowsOn, ServesFrom, UnlockOf};
+ghost use Rattle.dav_engine.specs.AtWork.{KeepsLent, StaysLent, FollowsOn, ServesFrom, UnlockOf};
 ghost use Rattle.dav_engine.specs.Folder.{location_found};
 ghost use Rattle.dav_engine.specs.Follows.{as_is, Follows};
 ghost use Rattle.dav_engine.specs.Unlock as spec;
 
 use crate::davinner::DavInner;
 use crate::folder::set_location_found;
-use crate::lock_token::lock_token;
+use crate::lock_token::{lock_token, token_in};
 use crate::reply::{Reply, ReplyBody, set_location};
 use crate::request::{Body, DavRequest};
 use dav_core::davpath::DavPath;
@@ -41,9 +41,10 @@ fn end_lock<F: DavFileSystem, L: DavLockSystem>(
     path: &DavPath,
     token: &str,
 ) -> DavResult<Reply>
-    ensures { Follows as_is (spec.end_lock path.now token.now)
+    ensures follows { Follows as_is (spec.end_lock path.now token.now)
         (F.state fs.old) (option_map L.locks ls.old) result
         (F.state fs.new) (option_map L.locks ls.new) }
+    ensures kept { OnErr result (option_map L.locks ls.new ≡ option_map L.locks ls.old) }
 {
     let found = fs.metadata(path).ok();
     let Some(ls) = ls else {
@@ -63,7 +64,7 @@ impl<'a, 'b, 'c, F: DavFileSystem, L: DavLockSystem> DavInner<'a, 'b, 'c, F, L> 
     ///
     /// The first of these that applies is answered: 405 without a lock system; 400 without a Lock-Token; 409 where there is no
     /// such lock. Who knows the token of a lock may end it: no condition and no other lock is checked, and whose the lock is
-    /// isn't asked. The body isn't looked at. `Memory` where memory runs out; the lock then stays.
+    /// isn't asked. The body isn't looked at. `Memory` where memory runs out. Where it fails, all locks stay.
     pub fn handle_unlock(
         &mut self,
         alloc: Global,
@@ -71,14 +72,16 @@ impl<'a, 'b, 'c, F: DavFileSystem, L: DavLockSystem> DavInner<'a, 'b, 'c, F, L> 
         _body: &Body,
     ) -> DavResult<Reply>
         ensures lent { StaysLent self.old self.new }
+        ensures kept { OnErr result (KeepsLent self.old self.new) }
         ensures serves { ServesFrom (UnlockOf request.now) self.old result self.new }
     {
-        let said = lock_token(&request.headers);
+        let said = lock_token(alloc, &request.headers)?;
+        let token = token_in(said.as_ref());
         let backend = &mut *self.backend;
         if backend.ls.is_none() {
             return Err(DavError::Status(StatusCode::METHOD_NOT_ALLOWED));
         }
-        let Some(token) = said else {
+        let Some(token) = token else {
             return Err(DavError::Status(StatusCode::BAD_REQUEST));
         };
         end_lock(

@@ -1,8 +1,9 @@
 //! Laws of methods. Each function does nothing: its contract is a theorem on the definitions.
 ghost use Rattle.dav_engine.specs.CopyLaws.{CopiesLeaveCopies, CopyLeavesCopies, CopyLeavesOneCopy, MoveLeavesMoved, RefusedCopyMoveLeavesAll, UnrefusedCopiesCopyAll};
 ghost use Rattle.dav_engine.specs.Date.{DatesOfMoments};
+ghost use Rattle.dav_engine.specs.InternetDate.{WritesInternetDates};
 ghost use Rattle.dav_engine.specs.LanguageLaws.{AcceptedLanguagesAreRead};
-ghost use Rattle.dav_engine.specs.LockLaws.{LockGrants, LockRefreshes, RefusedLockLeavesAll};
+ghost use Rattle.dav_engine.specs.LockLaws.{LockGrants, LockRefreshes, RefusedLockLeavesAll, EarlyRefusedLockLeavesAll};
 ghost use Rattle.dav_engine.specs.OnePlan.{OneReadingOfConditions, OnePutPlan, OneMkcolPlan, OneDeletePlan, OneUnlockPlan, OneLockPlan, OneCopyMovePlan, OnePropfindPlan, OneProppatchPlan};
 ghost use Rattle.dav_engine.specs.PlanLaws.{PlansAreDetermined, PlansEnd, WantIsLikeRefusals, CutsAreLikeRefusals};
 ghost use Rattle.dav_engine.specs.PropfindLaws.{PropertiesLeadBack, ResponsesLeadBack, MembersAreTold};
@@ -58,6 +59,13 @@ pub fn requests_have_one_plan()
 #[tactic(auto, using(crate::proofs::DateLemmas::dates_of_moments))]
 pub fn dates_are_those_of_moments()
     ensures { DatesOfMoments }
+{}
+
+/// What is written for a moment as the internet writes it is its date and time of day in jiff's calendar, as jiff writes
+/// them, and a `Z` (RFC 3339, section 5.6).
+#[tactic(auto, using(crate::proofs::InternetDates::writes_internet_dates))]
+pub fn dates_are_as_jiff_writes_them()
+    ensures { WritesInternetDates }
 {}
 
 /// The languages that a PROPPATCH may set are those that the header Content-Language may have (RFC 9110, section 8.5; RFC 4918,
@@ -182,13 +190,15 @@ pub fn unlocks_end_one_lock()
 /// its end, has the client's principal, and the scope, the depth, the owner and the timeout that are asked for. All other locks
 /// stay as they are; so does the world, but where nothing was at the path an empty file is made there. One without a body
 /// gives the lock that the only token submitted and the path, which isn't `*`, mean a new timeout, and leaves all else. An error
-/// leaves the world and the list of locks, where no lock has the client's token. All of this whatever the store refuses (RFC 4918,
-/// sections 7 and 9.10).
-#[tactic(auto, using(crate::proofs::LockWorlds::lock_grants, crate::proofs::LockWorlds::lock_refreshes, crate::proofs::LockWorlds::refused_lock_leaves_all))]
+/// leaves the world; it leaves the list of locks too where no lock has the client's token, where it is no error of the empty file,
+/// as 400, 405 and 423 never are, nor 412 unless If-None-Match is `*`, and where it comes before the store is asked for that file.
+/// All of this whatever the store refuses (RFC 4918, sections 7 and 9.10).
+#[tactic(auto, using(crate::proofs::LockWorlds::lock_grants, crate::proofs::LockWorlds::lock_refreshes, crate::proofs::LockWorlds::refused_lock_leaves_all, crate::proofs::LockWorlds::early_refused_lock_leaves_all))]
 pub fn locks_are_granted_or_refreshed()
     ensures grants { LockGrants }
     ensures refreshes { LockRefreshes }
     ensures refused { RefusedLockLeavesAll }
+    ensures early { EarlyRefusedLockLeavesAll }
 {}
 
 /// Hrefs lead back: the one href of what is told of a path, as the target of a request, is to this path; and each response to a

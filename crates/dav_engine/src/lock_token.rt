@@ -1,20 +1,37 @@
 //! Lock-Token (RFC 4918, section 10.5).
-ghost use Rattle.std.specs.Prelude.{option_map, IfSome, IfNone};
+ghost use Rattle.std.specs.Prelude.{codes, option_map, string_bytes, IfOk, IfSome, IfNone};
+ghost use Rattle.http_header.specs.HeaderMap.{get_all};
+ghost use Rattle.dav_headers.specs.Value.{IsOnlyText};
 ghost use Rattle.dav_engine.specs.Headers.{Decodes};
-ghost use Rattle.dav_engine.specs.LockToken.{BeginsBare, EndsBare, IsBetweenAngles, SaysLockToken};
-ghost use Rattle.dav_engine.specs.LockTokenCode.{IsAfterAngle, IsBeforeAngle, IsAfterAngles, IsBeforeAngles};
+ghost use Rattle.dav_engine.specs.LockToken.{BeginsBare, EndsBare, IsBetweenAngles};
+ghost use Rattle.dav_engine.specs.LockTokenCode.{IsAfterAngle, IsBeforeAngle, IsAfterAngles, IsBeforeAngles, IsTokenIn};
 
-use crate::headers::text_of;
-use dav_headers::names;
+use crate::headers::{absent_if_invalid, values_of};
+use dav_core::errors::NoMemory;
+use dav_headers::{LockToken, names};
 use http_header::HeaderMap;
+use std::alloc::Global;
 
-/// The token in the header Lock-Token: its first value, where that is text, without all `<` and `>` at its ends (RFC 4918,
-/// section 10.5). Allocates nothing.
-pub fn lock_token(headers: &HeaderMap) -> Option<&str>
-    ensures { Decodes SaysLockToken headers.now (option_map (λ t. t.now) result) }
+/// The header Lock-Token (RFC 4918, section 10.5); nothing where it doesn't decode: where there isn't exactly one value, or the
+/// value isn't text. `NoMemory` where memory runs out.
+pub fn lock_token(alloc: Global, headers: &HeaderMap) -> Result<Option<LockToken>, NoMemory>
+    ensures { IfOk result (λ said. Decodes IsOnlyText
+        (get_all headers.now (codes "lock-token"))
+        (option_map (λ t. string_bytes t.0) said)) }
 {
-    let text = text_of(headers.get(names::LOCK_TOKEN())?)?;
-    Some(between_angles(text))
+    let values = values_of(alloc, headers, names::LOCK_TOKEN())?;
+    absent_if_invalid(LockToken::decode(alloc, &values))
+}
+
+/// The token that a Lock-Token says, if there is one: its text without all `<` and `>` at its ends.
+pub fn token_in(said: Option<&LockToken>) -> Option<&str>
+    ensures { IsTokenIn (option_map (λ t. string_bytes t.now.0) said.entry)
+        (option_map (λ t. t.now) result) }
+{
+    match said {
+        Some(LockToken(text)) => Some(between_angles(text)),
+        None => None,
+    }
 }
 
 // A text without all `<` and `>` at its ends.

@@ -42,7 +42,7 @@ pub fn tell_below<F: DavFileSystem, L: DavLockSystem>(
         return Ok(());
     }
     let _bytes = path.as_ref().as_bytes().len();
-    match fs.read_dir(alloc, path, ReadDirMeta::Data) {
+    match fs.read_dir(alloc, path, ReadDirMeta::DataSymlink) {
         Ok(entries) => tell_members(fs, ls, alloc, deep, writer, path, &entries),
         Err(_) => Ok(()),
     }

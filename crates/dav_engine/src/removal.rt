@@ -80,7 +80,7 @@ fn remove_one<F: DavFileSystem>(
         };
     }
     let _bytes = path.as_ref().as_bytes().len();
-    let entries = match fs.read_dir(alloc, path, ReadDirMeta::Data) {
+    let entries = match fs.read_dir(alloc, path, ReadDirMeta::DataSymlink) {
         Ok(entries) => entries,
         Err(e) => {
             report(path, status_of(e), errors)?;

@@ -2,7 +2,6 @@ pub mod ContentRange
 pub mod Cut
 pub mod Depth
 pub mod Destination
-pub mod ErrorNames
 pub mod IfTokens
 pub mod IfTokenMachine
 pub mod IfParts

@@ -59,3 +59,10 @@ fn outcome_text(alloc: Global, outcome: Result<String, HeaderError>) -> Result<S
         Err(HeaderError::Memory) => String::from_str(alloc, "out of memory"),
     }
 }
+
+#[test]
+fn shows_errors(rt: HostRuntime) -> Result<(), Fail> {
+    let shown = format!(in rt.alloc(); "{} {}", HeaderError::Invalid, HeaderError::Memory)?;
+    same(&rt, &shown.as_str(), &"Invalid Memory");
+    Ok(())
+}

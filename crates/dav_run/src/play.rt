@@ -447,6 +447,8 @@ mod isolation;
 #[cfg(test)]
 mod locking;
 #[cfg(test)]
+mod members;
+#[cfg(test)]
 mod options;
 #[cfg(test)]
 mod properties;

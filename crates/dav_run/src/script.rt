@@ -29,13 +29,16 @@ use elements::read_element;
 use hex::FromHexError;
 use serde_json::{Map, Value};
 use std::alloc::{AllocError, AllocFailed, Global};
+use thiserror::Error;
 
 /// Why bytes can't be read as a script.
-#[derive(Clone, Copy, Debug, PartialEq, Eq)]
+#[derive(Clone, Copy, Debug, PartialEq, Eq, Error)]
 pub enum ScriptError {
     /// They aren't the text of a script.
+    #[error("NotScript")]
     NotScript,
     /// Memory ran out.
+    #[error("Memory")]
     Memory,
 }
 

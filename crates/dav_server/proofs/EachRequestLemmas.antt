@@ -31,7 +31,7 @@ create_only_leaves s x was now reply step p n is there = (
 )
 
 pub refused_status_leaves : (s : Settings) (x : Asked) (was now : ServerState) (reply : Response) → Steps s x was.store was.locks reply now.store now.locks → RefusedStatusLeaves x reply was now
-refused_status_leaves s x was now reply step refused fresh = refused_leaves s x was.store now.store was.locks now.locks reply fresh refused step
+refused_status_leaves s x was now reply step refused = refused_leaves s x was.store now.store was.locks now.locks reply refused step
 
 -- ---- a request of a run
 
@@ -52,8 +52,9 @@ only_creates old ts replies u p n is there =
     (same_content u.turn u.was u.now left, failed)
 
 pub refusals_leave : (old : Server) (ts : List Turn) (replies : List Response) → RefusalsLeaveAll old ts replies
-refusals_leave old ts replies u refused fresh =
-    same_content u.turn u.was u.now (refused_status_leaves old.settings u.turn.asked (at_begin u.turn u.was) u.now u.reply u.stepped refused fresh)
+refusals_leave old ts replies u refused =
+    let (world, list) = refused_status_leaves old.settings u.turn.asked (at_begin u.turn u.was) u.now u.reply u.stepped refused in
+    (world ∙ begun_world u.turn.refusals u.was.store, list)
 
 pub loses_no_update : (old : Server) (ts : List Turn) (replies : List Response) → AreShowable ts → LosesNoUpdate old ts replies
 loses_no_update old ts replies small u world p tag bytes told updates good =

@@ -1,5 +1,5 @@
 -- A request that ends in an error leaves the world and the list of locks.
-use Rattle.std.proofs.Common.{◌≡◌, ◌==◌, ◌⊎◌, inl, inr, ℕ, Bool, length, List, Option, Some, None, Result, Ok, Err, refl, subst, ◌∙◌}
+use Rattle.std.proofs.Common.{◌≡◌, ◌==◌, ◌⊎◌, inl, inr, ℕ, Bool, length, List, Option, Some, None, Result, Ok, Err, refl, ap, subst, ◌∙◌}
 use Rattle.dav_core.specs.declared.errors.FsError.{FsError}
 use Rattle.dav_core.specs.declared.errors.DavError.{DavError}
 use Rattle.dav_core.specs.declared.errors.DavError.TheVariants as dav
@@ -16,7 +16,7 @@ use Rattle.dav_engine.specs.Conditions.{Conditions}
 use Rattle.dav_engine.specs.CopyMove.{is_copy_move}
 use Rattle.dav_engine.specs.Delete.{is_delete}
 use Rattle.dav_engine.specs.Headers.{Headers}
-use Rattle.dav_engine.specs.LockLaws.{IsUnused}
+use Rattle.dav_engine.specs.LockLaws.{IsUnused, IsRefusedFile}
 use Rattle.dav_engine.specs.Method.{MethodPlan, then as followed_by, ◌>>=◌, gives, ask_for, ask_or, refused_as}
 use Rattle.dav_engine.specs.Mkcol.{mkcol_allowed, create_error, made, is_mkcol}
 use Rattle.dav_engine.specs.Plan.{Locks, Ran, ran_ask}
@@ -26,7 +26,7 @@ use Rattle.dav_engine.specs.WorldLaws.{reads_done}
 use Rattle.dav_engine.proofs.Theorems.{Did, stays, means, did, refused_copymove_leaves_all, look_reads, only_put_allowed, only_mkcol_allowed, only_reads, reading_leaves, ran_split, options_only_reads, propfind_only_reads, refused_delete_leaves_all, refused_lock_leaves_all, refused_unlock_leaves_all, refused_proppatch_leaves_all}
 use Rattle.dav_server.specs.Get.{is_get}
 use Rattle.dav_server.specs.Head.{Request, IsHead}
-use Rattle.dav_server.specs.Leaving.{IsWriteRequest, IsStoresError, ErrorsLeave}
+use Rattle.dav_server.specs.Leaving.{IsWriteRequest, IsStoresError, IsFileError, ErrorsLeave}
 use Rattle.dav_server.specs.Machine.{Settings, Asked, client, PlanOf, gets, heads, puts, patches, makes, deletes, copies, moves, offers, finds_properties, sets_properties, locks, releases, MeansOf, not_allowed, no_path, no_body, method, no_head, no_method, known}
 use Rattle.dav_server.specs.Method.{GivesServed}
 use Rattle.dav_server.proofs.GetWorld.{get_is_reading}
@@ -112,30 +112,59 @@ mkcol_leaves c p who (Ok allowed) e first (ran_ask {old = old} {mid = mid} {answ
 abbrev IsNewToken : Client → Locks → Type 0
 IsNewToken who ls = (token : List ℕ) → who.token ≡ Some token → IsUnused token ls
 
+-- what is left where the token is new
+abbrev LeftIf : Type 0 → StoreState → Locks → StoreState → Locks → Type 0
+LeftIf new_token old ls new ms = (new.world ≡ old.world) × (new_token → ms ≡ ls)
+
+all_left : {A P Q : Type 0} → P × Q → P × (A → Q)
+all_left same = (same.0, λ fresh. same.1)
+
+-- the error of a file that the store refused is such a one
+file_error : (headers : Headers) (e : DavError) → IsRefusedFile headers e → IsFileError e
+file_error headers (dav.FsError d) refused = inl (d, refl)
+file_error headers (dav.Status status) (inl conflict) = inr (inl (ap dav.Status conflict))
+file_error headers (dav.Status status) (inr failed) = inr (inr (ap dav.Status failed.0))
+file_error headers (dav.StatusClose status) refused = absurd refused
+file_error headers dav.XmlParseError refused = absurd refused
+file_error headers dav.InvalidPath refused = absurd refused
+file_error headers dav.ForbiddenPath refused = absurd refused
+file_error headers dav.IllegalPath refused = absurd refused
+file_error headers dav.UnknownDavMethod refused = absurd refused
+file_error headers dav.ChanError refused = absurd refused
+file_error headers dav.Memory refused = absurd refused
+
+-- the token is new, or the error is of another kind
+abbrev IsEarly : Client → Locks → DavError → Type 0
+IsEarly who ls e = IsNewToken who ls ⊎ (¬ IsFileError e)
+
+early : (headers : Headers) (who : Client) (ls : Locks) (e : DavError) → IsEarly who ls e → IsNewToken who ls ⊎ (¬ IsRefusedFile headers e)
+early headers who ls e (inl fresh) = inl fresh
+early headers who ls e (inr other) = inr (λ refused. other (file_error headers e refused))
+
 plan_leaves : {allowed : ℕ} {headers : Headers} {p : PathText} {given : Body} {who : Client} {m : DavMethod} {plan : MethodPlan Response} (e : DavError) {old new : StoreState} {ls ms : Locks}
-    → ((m ≡ Put) ⊎ (m ≡ Patch) → ¬ IsStoresError e) → (m ≡ LockMethod → IsNewToken who ls) → PlanOf allowed headers p given who m plan → Ran Asking plan old ls (Err e) new ms → Same old ls new ms
-plan_leaves {p = p} {who = who} e other fresh (gets (is_get c are)) ran = reading_leaves (get_is_reading Get c (names p) who.moment) ran
-plan_leaves {p = p} {who = who} e other fresh (heads (is_get c are)) ran = reading_leaves (get_is_reading Head c (names p) who.moment) ran
-plan_leaves {p = p} {given} {who} e other fresh (puts (is_put h are)) ran = body_leaves Put h (names p) who (bytes_of_body given) e (other (inl refl)) ran
-plan_leaves {p = p} {given} {who} e other fresh (patches (is_put h are)) ran = body_leaves Patch h (names p) who (bytes_of_body given) e (other (inr refl)) ran
-plan_leaves {p = p} {who = who} e other fresh (makes (is_mkcol c are)) ran =
+    → ((m ≡ Put) ⊎ (m ≡ Patch) → ¬ IsStoresError e) → PlanOf allowed headers p given who m plan → Ran Asking plan old ls (Err e) new ms → LeftIf (m ≡ LockMethod → IsEarly who ls e) old ls new ms
+plan_leaves {p = p} {who = who} e other (gets (is_get c are)) ran = all_left (reading_leaves (get_is_reading Get c (names p) who.moment) ran)
+plan_leaves {p = p} {who = who} e other (heads (is_get c are)) ran = all_left (reading_leaves (get_is_reading Head c (names p) who.moment) ran)
+plan_leaves {p = p} {given} {who} e other (puts (is_put h are)) ran = all_left (body_leaves Put h (names p) who (bytes_of_body given) e (other (inl refl)) ran)
+plan_leaves {p = p} {given} {who} e other (patches (is_put h are)) ran = all_left (body_leaves Patch h (names p) who (bytes_of_body given) e (other (inr refl)) ran)
+plan_leaves {p = p} {who = who} e other (makes (is_mkcol c are)) ran =
     let parts = ran_split (mkcol_allowed c p who) _ ran in
-    mkcol_leaves c p who parts.outcome e parts.first parts.rest
-plan_leaves {p = p} {who = who} e {old} {new} {ls} {ms} other fresh (deletes (is_delete h are)) ran = refused_delete_leaves_all h p who old new ls ms e ran
-plan_leaves {p = p} {who = who} e {old} {new} {ls} {ms} other fresh (copies (is_copy_move h are)) ran = refused_copymove_leaves_all Copy h p who old new ls ms e ran
-plan_leaves {p = p} {who = who} e {old} {new} {ls} {ms} other fresh (moves (is_copy_move h are)) ran = refused_copymove_leaves_all Move h p who old new ls ms e ran
-plan_leaves {allowed} {p = p} e other fresh offers ran = reading_leaves (options_only_reads allowed p) ran
-plan_leaves {headers = headers} {p} {given} {who} {plan = plan} e other fresh (finds_properties is) ran = reading_leaves (propfind_only_reads headers p given who plan is) ran
-plan_leaves {headers = headers} {p} {given} {who} {plan = plan} e {old} {new} {ls} {ms} other fresh (sets_properties is) ran = refused_proppatch_leaves_all headers p given who plan old new ls ms e is ran
-plan_leaves {headers = headers} {p} {given} {who} {plan = plan} e {old} {new} {ls} {ms} other fresh (locks is) ran = refused_lock_leaves_all headers p given who plan old new ls ms e (fresh refl) is ran
-plan_leaves {headers = headers} {p} {who = who} {plan = plan} e {old} {new} {ls} {ms} other fresh (releases is) ran = refused_unlock_leaves_all headers p who plan old new ls ms e is ran
+    all_left (mkcol_leaves c p who parts.outcome e parts.first parts.rest)
+plan_leaves {p = p} {who = who} e {old} {new} {ls} {ms} other (deletes (is_delete h are)) ran = all_left (refused_delete_leaves_all h p who old new ls ms e ran)
+plan_leaves {p = p} {who = who} e {old} {new} {ls} {ms} other (copies (is_copy_move h are)) ran = all_left (refused_copymove_leaves_all Copy h p who old new ls ms e ran)
+plan_leaves {p = p} {who = who} e {old} {new} {ls} {ms} other (moves (is_copy_move h are)) ran = all_left (refused_copymove_leaves_all Move h p who old new ls ms e ran)
+plan_leaves {allowed} {p = p} e other offers ran = all_left (reading_leaves (options_only_reads allowed p) ran)
+plan_leaves {headers = headers} {p} {given} {who} {plan = plan} e other (finds_properties is) ran = all_left (reading_leaves (propfind_only_reads headers p given who plan is) ran)
+plan_leaves {headers = headers} {p} {given} {who} {plan = plan} e {old} {new} {ls} {ms} other (sets_properties is) ran = all_left (refused_proppatch_leaves_all headers p given who plan old new ls ms e is ran)
+plan_leaves {headers = headers} {p} {given} {who} {plan = plan} e {old} {new} {ls} {ms} other (locks is) ran = (let (world, list) = refused_lock_leaves_all headers p given who plan old new ls ms e is ran in (world, λ fresh. list (early headers who ls e (fresh refl))))
+plan_leaves {headers = headers} {p} {who = who} {plan = plan} e {old} {new} {ls} {ms} other (releases is) ran = all_left (refused_unlock_leaves_all headers p who plan old new ls ms e is ran)
 
 of_leaves : {s : Settings} {x : Asked} {r : Request} {m : DavMethod} {plan : MethodPlan Response} (e : DavError) {old new : StoreState} {ls ms : Locks}
-    → ((m ≡ Put) ⊎ (m ≡ Patch) → ¬ IsStoresError e) → (m ≡ LockMethod → IsNewToken (client x) ls) → MeansOf s x r m plan → Ran Asking plan old ls (Err e) new ms → Same old ls new ms
-of_leaves e other fresh (not_allowed out) ran = reading_leaves reads_done ran
-of_leaves e other fresh (no_path d has none) ran = reading_leaves reads_done ran
-of_leaves e other fresh (no_body p d has named bad) ran = reading_leaves reads_done ran
-of_leaves e other fresh (method p given has named good plan) ran = plan_leaves e other fresh plan ran
+    → ((m ≡ Put) ⊎ (m ≡ Patch) → ¬ IsStoresError e) → MeansOf s x r m plan → Ran Asking plan old ls (Err e) new ms → LeftIf (m ≡ LockMethod → IsEarly (client x) ls e) old ls new ms
+of_leaves e other (not_allowed out) ran = all_left (reading_leaves reads_done ran)
+of_leaves e other (no_path d has none) ran = all_left (reading_leaves reads_done ran)
+of_leaves e other (no_body p d has named bad) ran = all_left (reading_leaves reads_done ran)
+of_leaves e other (method p given has named good plan) ran = plan_leaves e other plan ran
 
 -- a method that writes is that of a request that writes
 write_request : (x : Asked) (r : Request) (m : DavMethod) → IsHead x.head r → GivesServed r.method (Ok m) → (m ≡ Put) ⊎ (m ≡ Patch) → IsWriteRequest x
@@ -143,7 +172,8 @@ write_request x r m head is (inl put) = inl (r, head, subst (λ (k : DavMethod).
 write_request x r m head is (inr patch) = inr (r, head, subst (λ (k : DavMethod). GivesServed r.method (Ok k)) patch is)
 
 pub errors_leave : ErrorsLeave
-errors_leave s x plan old new ls ms e other fresh (no_head out) ran = reading_leaves reads_done ran
-errors_leave s x plan old new ls ms e other fresh (no_method r d head is) ran = reading_leaves reads_done ran
-errors_leave s x plan old new ls ms e other fresh (known r m head is its) ran =
-    of_leaves e (λ writes. other (write_request x r m head is writes)) (λ lock. fresh (r, head, subst (λ (k : DavMethod). GivesServed r.method (Ok k)) lock is)) its ran
+errors_leave s x plan old new ls ms e other (no_head out) ran = all_left (reading_leaves reads_done ran)
+errors_leave s x plan old new ls ms e other (no_method r d head is) ran = all_left (reading_leaves reads_done ran)
+errors_leave s x plan old new ls ms e other (known r m head is its) ran =
+    let (world, list) = of_leaves e (λ writes. other (write_request x r m head is writes)) its ran in
+    (world, λ fresh. list (λ lock. fresh (r, head, subst (λ (k : DavMethod). GivesServed r.method (Ok k)) lock is)))

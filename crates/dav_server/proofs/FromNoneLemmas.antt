@@ -35,9 +35,8 @@ module _ (old : Server) (front back : List Turn) (t : Turn) (ts : List Turn) (be
       other_than h t front (differ_before front back t (subst TokensDiffer is differ)) (listed_token (IsHandedIn front) h ks tokens stands)
 
 pub passes_no_lock_from_none : (old : Server) (ts : List Turn) (replies : List Response) → AreShowable ts → PassesNoLockFromNone old ts replies
-passes_no_lock_from_none old ts replies small front back t before after reply mid new ks ms h is replied differ world empty ran step exclusive stands other =
+passes_no_lock_from_none old ts replies small front back t before after reply mid new ks ms h is replied world empty ran step exclusive stands other =
     passes_no_lock old ts replies small front back t before after reply mid new (Some ks) ms h is replied world ran step exclusive stands other
-    (own_token old front back t ts before mid ks h is differ empty ran stands)
 
 pub ends_no_lock_from_none : (old : Server) (ts : List Turn) (replies : List Response) → EndsNoLockFromNone old ts replies
 ends_no_lock_from_none old ts replies front back t before after reply mid new ks ms h is replied differ empty ran step stands other =

@@ -35,7 +35,7 @@ module _ (s : Settings) (ts : List Turn) (replies : List Response) (small : AreS
   passed_at u h None is exclusive stands other = absurd stands
   passed_at u h (Some ks) is exclusive stands other =
       passes_no_lock_from_none (empty_server s) ts replies small u.front u.back u.turn u.before u.after u.reply u.was.store u.now.store ks u.now.locks h
-      u.turns_are u.replies_are differ empty_world refl (before_step u (Some ks) is) (step_at u (Some ks) is) exclusive stands other
+      u.turns_are u.replies_are empty_world refl (before_step u (Some ks) is) (step_at u (Some ks) is) exclusive stands other
 
   standing_at : (u : RunStep (empty_server s) ts replies) (h : Lock) (ls : Locks) → u.was.locks ≡ ls → Stands h ls → ¬ NamesToken u.turn.asked h.token → Stands h u.now.locks
   standing_at u h None is stands other = absurd stands

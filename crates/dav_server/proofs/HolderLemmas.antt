@@ -1,5 +1,5 @@
 -- The plans of a holder's requests go along with themselves.
-use Rattle.std.proofs.Common.{◌≡◌, ◌≢◌, ℕ, codes, Result, Ok, refl, sym, subst, ◌∙◌}
+use Rattle.std.proofs.Common.{◌≡◌, ◌≢◌, ℕ, codes, Result, Ok, refl, sym, subst, ◌∙◌, ap, true}
 use Rattle.http_header.specs.HeaderMap.{get_all}
 use Rattle.dav_core.specs.declared.errors.DavError.{DavError}
 use Rattle.dav_core.specs.declared.method.DavMethod.{DavMethod}
@@ -7,11 +7,12 @@ use Rattle.dav_core.specs.declared.method.DavMethod.TheVariants.{Get, Head, Put,
 use Rattle.dav_core.specs.Locks.{Lock}
 use Rattle.dav_core.specs.Path.{Path, PathText, names, star}
 use Rattle.dav_engine.specs.declared.request.Body.{Body}
+use Rattle.dav_engine.specs.declared.request.Body.TheVariants as body
 use Rattle.dav_engine.specs.Alongside.{side_err}
 use Rattle.dav_engine.specs.AlongsidePlans.{SubmitsAlone, GoesAlong}
 use Rattle.dav_engine.specs.Conditions.{Conditions, AreConditions}
 use Rattle.dav_engine.specs.CopyMove.{DestinationNames}
-use Rattle.dav_engine.specs.Guard.{IsGuard, IsInReach}
+use Rattle.dav_engine.specs.Guard.{IsGuard, IsInReach, IsInside}
 use Rattle.dav_engine.specs.Headers.{Headers}
 use Rattle.dav_engine.specs.LockToken.{SaysLockToken}
 use Rattle.dav_engine.specs.Method.{MethodPlan}
@@ -20,14 +21,16 @@ use Rattle.dav_engine.proofs.Theorems.{holders, in_reach, only_lists, put_goes_a
 use Rattle.dav_server.specs.Get.{get, is_get}
 use Rattle.dav_server.specs.Head.{Request, IsHead}
 use Rattle.dav_server.specs.Headers.{headers_of}
-use Rattle.dav_server.specs.Holder.{HasNearDestination, MayHold, IsHolderRequest, unlocks, acts}
-use Rattle.dav_server.specs.Machine.{Settings, Asked, client, PlanOf, gets, heads, puts, patches, makes, deletes, copies, moves, offers, finds_properties, sets_properties, locks, releases, MeansOf, not_allowed, no_path, no_body, method, Means, no_head, no_method, known}
+use Rattle.dav_server.specs.Holder.{HasDestinationInside, MayHold, IsHolderRequest, unlocks, acts}
+use Rattle.dav_server.specs.Isolation.{GetGoesAlong}
+use Rattle.dav_server.specs.Machine.{Settings, Asked, client, PlanOf, gets, heads, puts, patches, makes, deletes, copies, moves, offers, finds_properties, sets_properties, locks, releases, MeansOf, not_allowed, no_path, no_body, method, Means, no_head, no_method, known, body_for, taken_by}
 use Rattle.dav_server.specs.Method.{GivesServed}
 use Rattle.dav_server.specs.Target.{TargetNames}
 use Rattle.dav_server.proofs.AlongsideGet.{side_get}
 use Rattle.dav_server.proofs.HeadLemmas.{one_head}
 use Rattle.dav_server.proofs.MeansWorld.{one_method}
 use Rattle.dav_server.proofs.TargetLemmas.{one_outcome, target_is_path}
+use Rattle.dav_engine.specs.Lock.{is_absent}
 
 -- what is known of a holder's request with this head and path
 record Holds (h : Lock) (x : Asked) (r : Request) (m : DavMethod) (p : PathText) : Type 0 where
@@ -69,44 +72,47 @@ holds_unlock s h x r m p (acts r' m' p' principal for reach may alone range) hea
     let methods : m' ≡ m = one_method r.method m' m (subst (λ (q : Request). GivesServed q.method (Ok m')) heads for.method) gives in
     absurd (may_unlock h x (headers_of r'.fields) p' m' (methods ∙ sym is) may)
 
--- a destination is near, however it is read: it has one reading
-near_for : (h : Lock) (headers : Headers) (p : PathText) → HasNearDestination h headers p
-    → (d : PathText) → DestinationNames p.prefix (get_all headers (codes "destination")) (Ok d) → IsInReach h (names d)
+-- a destination is inside, however it is read: it has one reading
+near_for : (h : Lock) (headers : Headers) (p : PathText) → HasDestinationInside h headers p
+    → (d : PathText) → DestinationNames p.prefix (get_all headers (codes "destination")) (Ok d) → IsInside h (names d)
 near_for h headers p (d, named, reach) e also =
-    subst (λ (q : PathText). IsInReach h (names q)) (one_path d e (one_place p.prefix (get_all headers (codes "destination")) named also)) reach
+    subst (λ (q : PathText). IsInside h (names q)) (one_path d e (one_place p.prefix (get_all headers (codes "destination")) named also)) reach
+
+absent_by : (content : Body) → ◌≡◌ {A = Result Body DavError} (Ok body.None) (Ok content) → is_absent content ≡ true
+absent_by content is = let same : body.None ≡ content = cc in ap is_absent (sym same)
+
+pub get_goes_along : GetGoesAlong
+get_goes_along h m headers p now plan guard within alone (is_get c are) =
+    let (rest, at) = in_reach h (names p) within in
+    subst (λ (d : Conditions). GoesAlong h (get m d (names p) now)) (sym (only_lists alone c are))
+    (subst (λ (q : Path). GoesAlong h (get m (holders alone.lists) q now)) (sym at) (side_get h guard rest m now alone.only))
 
 module _ (h : Lock) (guard : IsGuard h) where
-  get_goes_along : (m : DavMethod) (r : Request) {p : PathText} (now : ℕ) (c : Conditions) → IsInReach h (names p) → SubmitsAlone (headers_of r.fields) p h → AreConditions (headers_of r.fields) p.prefix (names p) c → GoesAlong h (get m c (names p) now)
-  get_goes_along m r {p} now c within alone are =
-      let (rest, at) = in_reach h (names p) within in
-      subst (λ (d : Conditions). GoesAlong h (get m d (names p) now)) (sym (only_lists alone c are))
-      (subst (λ (q : Path). GoesAlong h (get m (holders alone.lists) q now)) (sym at) (side_get h guard rest m now alone.only))
-
   plan_goes_along : (x : Asked) (r : Request) {allowed : ℕ} {m : DavMethod} {p : PathText} {body : Body} {plan : MethodPlan Response}
-      → (¬ (Unlock ≡ m) → Holds h x r m p) → (Unlock ≡ m → HoldsUnlock h r p) → (m ≢ Options → p.bytes ≢ star) → PlanOf allowed (headers_of r.fields) p body (client x) m plan → GoesAlong h plan
-  plan_goes_along x r k u below (gets (is_get c are)) = let known = k (λ e. cc) in get_goes_along Get r (client x).moment c known.within known.alone are
-  plan_goes_along x r k u below (heads (is_get c are)) = let known = k (λ e. cc) in get_goes_along Head r (client x).moment c known.within known.alone are
-  plan_goes_along x r {p = p} {body} {plan} k u below (puts is) = let known = k (λ e. cc) in put_goes_along h Put (headers_of r.fields) p body (client x) plan guard known.within known.alone is
-  plan_goes_along x r {p = p} {body} {plan} k u below (patches is) = let known = k (λ e. cc) in put_goes_along h Patch (headers_of r.fields) p body (client x) plan guard known.within known.alone is
-  plan_goes_along x r {p = p} {plan = plan} k u below (makes is) = let known = k (λ e. cc) in mkcol_goes_along h (headers_of r.fields) p (client x) plan guard known.within known.alone is
-  plan_goes_along x r {p = p} {plan = plan} k u below (deletes is) = let known = k (λ e. cc) in delete_goes_along h (headers_of r.fields) p (client x) plan guard (below (λ e. cc)) known.within known.alone is
-  plan_goes_along x r {p = p} {plan = plan} k u below (copies is) =
+      → (¬ (Unlock ≡ m) → Holds h x r m p) → (Unlock ≡ m → HoldsUnlock h r p) → (m ≢ Options → p.bytes ≢ star) → body_for (taken_by m) x.body ≡ Ok body → PlanOf allowed (headers_of r.fields) p body (client x) m plan → GoesAlong h plan
+  plan_goes_along x r {p = p} {plan = plan} k u below good (gets is) = let known = k (λ e. cc) in get_goes_along h Get (headers_of r.fields) p (client x).moment plan guard known.within known.alone is
+  plan_goes_along x r {p = p} {plan = plan} k u below good (heads is) = let known = k (λ e. cc) in get_goes_along h Head (headers_of r.fields) p (client x).moment plan guard known.within known.alone is
+  plan_goes_along x r {p = p} {body} {plan} k u below good (puts is) = let known = k (λ e. cc) in put_goes_along h Put (headers_of r.fields) p body (client x) plan guard known.may known.alone is
+  plan_goes_along x r {p = p} {body} {plan} k u below good (patches is) = let known = k (λ e. cc) in put_goes_along h Patch (headers_of r.fields) p body (client x) plan guard known.may known.alone is
+  plan_goes_along x r {p = p} {plan = plan} k u below good (makes is) = let known = k (λ e. cc) in mkcol_goes_along h (headers_of r.fields) p (client x) plan guard known.may known.alone is
+  plan_goes_along x r {p = p} {plan = plan} k u below good (deletes is) = let known = k (λ e. cc) in delete_goes_along h (headers_of r.fields) p (client x) plan guard (below (λ e. cc)) known.may known.alone is
+  plan_goes_along x r {p = p} {plan = plan} k u below good (copies is) =
       let known = k (λ e. cc) in
-      copymove_goes_along h Copy (headers_of r.fields) p (client x) plan guard (below (λ e. cc)) known.within (near_for h (headers_of r.fields) p known.may) known.alone is
-  plan_goes_along x r {p = p} {plan = plan} k u below (moves is) =
+      copymove_goes_along h Copy (headers_of r.fields) p (client x) plan guard (below (λ e. cc)) (λ e. cc) known.within (near_for h (headers_of r.fields) p known.may) known.alone is
+  plan_goes_along x r {p = p} {plan = plan} k u below good (moves is) =
       let known = k (λ e. cc) in
-      copymove_goes_along h Move (headers_of r.fields) p (client x) plan guard (below (λ e. cc)) known.within (near_for h (headers_of r.fields) p known.may) known.alone is
-  plan_goes_along x r {allowed} {p = p} k u below offers = let known = k (λ e. cc) in options_goes_along h allowed p known.within
-  plan_goes_along x r {p = p} {body} {plan} k u below (finds_properties is) = let known = k (λ e. cc) in propfind_goes_along h (headers_of r.fields) p body (client x) plan known.within is
-  plan_goes_along x r {p = p} {body} {plan} k u below (sets_properties is) = let known = k (λ e. cc) in proppatch_goes_along h (headers_of r.fields) p body (client x) plan guard known.within known.alone is
-  plan_goes_along x r {p = p} {body} {plan} k u below (locks is) = let known = k (λ e. cc) in lock_goes_along h (headers_of r.fields) p body (client x) plan guard known.within known.alone is
-  plan_goes_along x r {p = p} {plan = plan} k u below (releases is) = let known = u refl in unlock_goes_along h (headers_of r.fields) p (client x) plan guard known.within known.says is
+      copymove_goes_along h Move (headers_of r.fields) p (client x) plan guard (below (λ e. cc)) (λ e. known.may.0) known.within (near_for h (headers_of r.fields) p known.may.1) known.alone is
+  plan_goes_along x r {allowed} {p = p} k u below good offers = let known = k (λ e. cc) in options_goes_along h allowed p known.within
+  plan_goes_along x r {p = p} {body} {plan} k u below good (finds_properties is) = let known = k (λ e. cc) in propfind_goes_along h (headers_of r.fields) p body (client x) plan known.within is
+  plan_goes_along x r {p = p} {body} {plan} k u below good (sets_properties is) = let known = k (λ e. cc) in proppatch_goes_along h (headers_of r.fields) p body (client x) plan guard known.within known.alone is
+  plan_goes_along x r {p = p} {body} {plan} k u below good (locks is) = let known = k (λ e. cc) in lock_goes_along h (headers_of r.fields) p body (client x) plan guard known.within (absent_by body (sym known.may ∙ good)) known.alone is
+  plan_goes_along x r {p = p} {plan = plan} k u below good (releases is) = let known = u refl in unlock_goes_along h (headers_of r.fields) p (client x) plan guard known.within known.says is
 
   of_goes_along : (s : Settings) (x : Asked) (r : Request) {m : DavMethod} {plan : MethodPlan Response} → IsHolderRequest s h x → IsHead x.head r → GivesServed r.method (Ok m) → MeansOf s x r m plan → GoesAlong h plan
   of_goes_along s x r holder head gives (not_allowed out) = side_err
   of_goes_along s x r holder head gives (no_path e has none) = side_err
   of_goes_along s x r holder head gives (no_body p e has named bad) = side_err
-  of_goes_along s x r {m} holder head gives (method p body has named good plan) = plan_goes_along x r (holds s h x r m p holder head gives named) (holds_unlock s h x r m p holder head gives named) (target_is_path named) plan
+  of_goes_along s x r {m} holder head gives (method p body has named good plan) = plan_goes_along x r (holds s h x r m p holder head gives named) (holds_unlock s h x r m p holder head gives named) (target_is_path named) good plan
 
   -- a holder's plan goes along with itself
   pub means_along : (s : Settings) (x : Asked) {plan : MethodPlan Response} → IsHolderRequest s h x → Means s x plan → GoesAlong h plan

@@ -150,7 +150,7 @@ module _ (prefix : List ℕ) (fits : IsPrefix prefix) (About : PathText → Type
 
     pub copy_found_tells : (m : DavMethod) (deep : Bool) (h : CopyHeaders) (p d : PathText) (who : Client) (found : DavMetaData) → Reached prefix source p → Reached prefix place d → Tells AllTell (copy_found m deep h p d who found)
     copy_found_tells m deep h p d who found from to =
-        tells_after (copy_allowed m h p d who found) _ (λ there.
+        tells_after (copy_allowed m deep h p d who found) _ (λ there.
         tells_bind _ (clearing_names deep who.moment d there to) (λ faults are. bring_tells (is_move m) deep who.moment p d there faults from to are))
 
   pub copymove_tells : (source : Path) (m : DavMethod) (h : CopyHeaders) (p : PathText) (who : Client) → ((q : PathText) → Reached prefix source q → About q) → Reached prefix source p

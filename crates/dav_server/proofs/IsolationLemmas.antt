@@ -10,7 +10,7 @@ use Rattle.dav_core.specs.World.{World, IsWorld, last_moment}
 use Rattle.dav_engine.specs.Plan.{Locks}
 use Rattle.dav_engine.specs.Response.{Response, reply_to, error_reply}
 use Rattle.dav_engine.proofs.Theorems.{ran_unset, comes, alongside_agree, ran_plain, sparing_leaves_inside}
-use Rattle.dav_server.specs.Machine.{Settings, steps}
+use Rattle.dav_server.specs.Machine.{Settings, Asked, StepsBy, Steps, steps}
 use Rattle.dav_server.specs.Run.{Turn, begun, no_more, one_more}
 use Rattle.dav_server.specs.TagLaws.{AreShowable}
 use Rattle.dav_server.specs.Server.{Server}
@@ -19,10 +19,9 @@ use Rattle.dav_engine.specs.Alongside.{AsksWithNumbers, SameResult, AreAlike, Sa
 use Rattle.dav_engine.specs.AnswerParts.{answers_of}
 use Rattle.dav_engine.specs.Guard.{folder_of, IsGuard, Guarded, Stands}
 use Rattle.dav_engine.specs.Inside.{HasFoldersAbove}
-use Rattle.dav_engine.specs.Sparing.{LeftAlone}
 use Rattle.dav_server.proofs.HolderLemmas.{means_along}
 use Rattle.dav_server.proofs.StrangerLemmas.{means_spares}
-use Rattle.dav_server.specs.Isolation.{AreLoaded, NoneHandsIn, RunsUnder, under_none, under_more, Alone, alone_none, alone_other, alone_own, alike_none, alike_other, alike_own, AreAlone, HoldersAreAlone, IsIsolated}
+use Rattle.dav_server.specs.Isolation.{StrangersLeaveAlike, HoldersAnswerAlike, AreLoaded, NoneHandsIn, RunsUnder, under_none, under_more, Alone, alone_none, alone_other, alone_own, alike_none, alike_other, alike_own, AreAlone, HoldersAreAlone, IsIsolated}
 
 begun_same : (refusals : Option (List (Option FsError))) (s t : StoreState) → is_some refusals ≡ true → (begun refusals s).refusals ≡ (begun refusals t).refusals
 begun_same None s t some = cc
@@ -32,6 +31,10 @@ begun_same (Some list) s t some = refl
 under_unset : {s : Settings} {h : Lock} {ts : List Turn} {old new : StoreState} {ls ms : Locks} {replies : List Response} → RunsUnder AsksWithNumbers s h ts old ls replies new ms → new.short ≡ false → old.short ≡ false
 under_unset under_none u = u
 under_unset (under_more {t} {old = old} stands holds (steps plan outcome means ran) more) u = sym (begun_short t.refusals old) ∙ ran_unset (ran_plain ran) (under_unset more u)
+
+-- a step that found its numbers is one
+steps_plain : {s : Settings} {x : Asked} {old new : StoreState} {ls ms : Locks} {reply : Response} → StepsBy AsksWithNumbers s x old ls reply new ms → Steps s x old ls reply new ms
+steps_plain (steps plan outcome means ran) = steps plan outcome means (ran_plain ran)
 
 same_replies : (a b : Result Response DavError) → SameResult SameAnswers a b → SameAnswers (reply_to a) (reply_to b)
 same_replies (Ok x) (Ok y) same = same
@@ -46,6 +49,42 @@ either : (h : Lock) (ms ks : Locks) → ((Guarded h ms × Guarded h ks) ⊎ (¬ 
 either h ms ks (inl both) stands = both
 either h ms ks (inr gone) stands = absurd (gone.0 stands)
 
+-- ---- one step
+
+pub strangers_leave_alike : StrangersLeaveAlike
+strangers_leave_alike s h x old new other ls ms reply guard guarded above world moment stranger own (steps plan outcome means ran) =
+    let left = sparing_leaves_inside h plan old new ls ms outcome guard ((means_spares h guard.exclusive x stranger means).1 guard own) (means_proper moment means) ran guarded above world in (
+      left,
+      λ alike. (let low = alike.next in let high = left.next in record {
+        same = λ r. sym (left.same r) ∙ alike.same r;
+        next = omega (arith, low, high);
+        above = left.above;
+        above_alone = alike.above_alone;
+        world = left.world;
+        world_alone = alike.world_alone;
+        there = tt;
+      }),
+    )
+
+pub holders_answer_alike : HoldersAnswerAlike
+holders_answer_alike s h x old new other ls ms ks reply guard guarded also alike refusals unset moment holds (steps plan outcome means ran) u =
+    let c = comes plan other ks in
+    let short : c.new.short ≡ false = c.flag ∙ unset in
+    let ends = alongside_agree h plan old new other c.new ls ms ks c.locks outcome c.outcome guard
+    (means_along h guard s x holds means) (means_proper moment means) ran c.ran u short refusals guarded also alike in
+    record {
+      reply_alone = reply_to c.outcome;
+      new_alone = c.new;
+      locks_alone = c.locks;
+      step = steps plan c.outcome means c.ran;
+      ample = short;
+      answers = same_replies outcome c.outcome ends.outcomes;
+      alike = ends.alike;
+      locks = ends.locks;
+    }
+
+-- ---- a run
+
 module _ (s : Settings) (h : Lock) (guard : IsGuard h) where
   isolated : {ts us : List Turn} {old new old' : StoreState} {ls ms ls' : Locks} {replies : List Response}
       → RunsUnder AsksWithNumbers s h ts old ls replies new ms → AreShowable ts → AreLoaded ts → NoneHandsIn h ts → new.short ≡ false → Alone h ts us
@@ -53,36 +92,29 @@ module _ (s : Settings) (h : Lock) (guard : IsGuard h) where
       → AreAlone s h ts us old' ls' replies new
   isolated {old' = old'} {ls' = ls'} under_none small loaded none u alone_none alike u' g =
       record { alone = []; end = old'; locks = ls'; runs = no_more; ample = u'; answers = alike_none; inside = alike.same }
-  isolated {old' = old'} {ls' = ls'} (under_more {t} {ts} {old} {mid} {new} {ls} {ks} stands holds (steps plan outcome means ran) more) small loaded none u (alone_other stranger rest) alike u' g =
+  isolated {old' = old'} {ls' = ls'} (under_more {t} {ts} {old} {mid} {new} {ls} {ks} {reply = reply} stands holds step more) small loaded none u (alone_other stranger rest) alike u' g =
       let moment : t.asked.moment ≤ last_moment = All-head (λ t. t.asked.moment ≤ last_moment) t ts small in
       let both = g stands in
       let same : (begun t.refusals old).world ≡ old.world = begun_world t.refusals old in
-      let left : LeftAlone h old.world mid.world ks = subst (λ (w : World). LeftAlone h w mid.world ks) same
-      (sparing_leaves_inside h plan (begun t.refusals old) mid ls ks outcome guard ((means_spares h guard.exclusive t.asked stranger (All-head (λ t. t.asked.token ≢ Some h.token) t ts none) means).1 guard) (means_proper moment means) (ran_plain ran) both.0
-      (subst (HasFoldersAbove (folder_of h)) (sym same) alike.above) (subst IsWorld (sym same) alike.world)) in
-      let low = alike.next in
-      let high = left.next in
+      let (left, stays) = strangers_leave_alike s h t.asked (begun t.refusals old) mid old' ls ks reply guard both.0
+      (subst (HasFoldersAbove (folder_of h)) (sym same) alike.above) (subst IsWorld (sym same) alike.world) moment stranger (All-head (λ t. t.asked.token ≢ Some h.token) t ts none) (steps_plain step) in
       let go = isolated {old' = old'} {ls' = ls'} more (All-tail (λ t. t.asked.moment ≤ last_moment) t ts small) (All-tail (λ t. is_some t.refusals ≡ true) t ts loaded) (All-tail (λ t. t.asked.token ≢ Some h.token) t ts none) u rest
-      (record { same = λ r. sym (left.same r) ∙ alike.same r; next = omega (arith, low, high); above = left.above; above_alone = alike.above_alone; world = left.world; world_alone = alike.world_alone; there = tt })
-      u' (λ still. (left.guarded still, both.1)) in
+      (stays (subst (λ (w : World). AreAlike (folder_of h) None w old'.world) (sym same) alike)) u' (λ still. (left.guarded still, both.1)) in
       record { alone = go.alone; end = go.end; locks = go.locks; runs = go.runs; ample = go.ample; answers = alike_other stranger go.answers; inside = go.inside }
-  isolated {old' = old'} {ls' = ls'} (under_more {t} {ts} {old} {mid} {new} {ls} {ks} stands holds (steps plan outcome means ran) more) small loaded none u (alone_own named rest) alike u' g =
+  isolated {old' = old'} {ls' = ls'} (under_more {t} {ts} {old} {mid} {new} {ls} {ks} {reply = reply} stands holds step more) small loaded none u (alone_own named rest) alike u' g =
       let moment : t.asked.moment ≤ last_moment = All-head (λ t. t.asked.moment ≤ last_moment) t ts small in
       let both = g stands in
-      let c = comes plan (begun t.refusals old') ls' in
-      let short : c.new.short ≡ false = c.flag ∙ begun_short t.refusals old' ∙ u' in
-      let ends = alongside_agree h plan (begun t.refusals old) mid (begun t.refusals old') c.new ls ks ls' c.locks outcome c.outcome guard
-      (means_along h guard s t.asked (holds named) means) (means_proper moment means) ran c.ran (under_unset more u) short
-      (begun_same t.refusals old old' (All-head (λ t. is_some t.refusals ≡ true) t ts loaded)) both.0 both.1 (at_begin t.refusals t.refusals old old' alike) in
-      let go = isolated {old' = c.new} {ls' = c.locks} more (All-tail (λ t. t.asked.moment ≤ last_moment) t ts small) (All-tail (λ t. is_some t.refusals ≡ true) t ts loaded) (All-tail (λ t. t.asked.token ≢ Some h.token) t ts none) u rest
-      ends.alike short (either h ks c.locks ends.locks) in
+      let also = holders_answer_alike s h t.asked (begun t.refusals old) mid (begun t.refusals old') ls ks ls' reply guard both.0 both.1 (at_begin t.refusals t.refusals old old' alike)
+      (begun_same t.refusals old old' (All-head (λ t. is_some t.refusals ≡ true) t ts loaded)) (begun_short t.refusals old' ∙ u') moment (holds named) step (under_unset more u) in
+      let go = isolated {old' = also.new_alone} {ls' = also.locks_alone} more (All-tail (λ t. t.asked.moment ≤ last_moment) t ts small) (All-tail (λ t. is_some t.refusals ≡ true) t ts loaded) (All-tail (λ t. t.asked.token ≢ Some h.token) t ts none) u rest
+      also.alike also.ample (either h ks also.locks_alone also.locks) in
       record {
-        alone = reply_to c.outcome ∷ go.alone;
+        alone = also.reply_alone ∷ go.alone;
         end = go.end;
         locks = go.locks;
-        runs = one_more (steps plan c.outcome means c.ran) go.runs;
+        runs = one_more also.step go.runs;
         ample = go.ample;
-        answers = alike_own named (same_replies outcome c.outcome ends.outcomes) go.answers;
+        answers = alike_own named also.answers go.answers;
         inside = go.inside;
       }
 

@@ -33,6 +33,7 @@ pub mod UngrantedLemmas
 pub mod RefusedLemmas
 pub mod TurnLemmas
 pub mod StrangerLemmas
+pub mod MembershipLemmas
 pub mod EndingLemmas
 pub mod ListLemmas
 pub mod AlongsideGet
@@ -47,7 +48,6 @@ pub mod SpareLemmas
 pub mod WorkedRun
 pub mod WorkedGrant
 pub mod NeededPremises
-pub mod NeededFolders
 pub mod NeededTokens
 pub mod NeededForHeadline
 pub mod NeededGrants
@@ -55,6 +55,7 @@ pub mod NeededGuards
 pub mod OneStep
 pub mod WrongSteps
 pub mod WrongUpdates
+pub mod WrongMembers
 pub mod NeededBeginning
 pub mod NeededMoments
 pub mod NeededWorlds

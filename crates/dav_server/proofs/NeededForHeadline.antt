@@ -186,7 +186,7 @@ two_shared = Some (own_shared ∷ other_shared ∷ [])
 passes_shared : Ran AsksWithNumbers (plan_with (own_conditions (a ∷ []))) (holding before) two_shared (Ok (made at_a)) (holding after) two_shared
 passes_shared =
     ran_ask {c = Metadata (a ∷ [])} {answer = Err NotFound} (asked missing, λ ready finds. finds.0)
-    (ran_look (ran_look (ran_ask {c = CreateDir (a ∷ []) 1} {answer = Ok tt} (asked makes_a, λ ready finds. some_number finds.1) ran_done)))
+    (ran_look (ran_look (ran_look (ran_ask {c = CreateDir (a ∷ []) 1} {answer = Ok tt} (asked makes_a, λ ready finds. some_number finds.1) ran_done))))
 
 -- And so does that of who holds another lock, where both are shared.
 pub exclusive_lock_is_needed : Steps settings holder (holding before) two_shared (made at_a) (holding after) two_shared × Stands other_shared two_shared × ¬ NamesLock other_shared holder × ¬ Spared (covers other_shared) before after

@@ -6,7 +6,7 @@ use Rattle.httparse.specs.Grammar.{IsField, is_token_byte, print_request}
 use Rattle.dav_core.specs.declared.errors.FsError.TheVariants.{NotFound, Exists, GeneralFailure, InsufficientStorage}
 use Rattle.dav_core.specs.declared.fs.DavMetaData.{DavMetaData}
 use Rattle.dav_core.specs.declared.method.DavMethod.TheVariants.{MkCol, Lock as LockMethod}
-use Rattle.dav_core.specs.Asking.{meaning, Asks, Answered, asked, ran_short, Metadata, CreateDir}
+use Rattle.dav_core.specs.Asking.{meaning, Asks, Answered, RanShort, asked, ran_short, Metadata, CreateDir}
 use Rattle.dav_core.specs.Locks.{Lock}
 use Rattle.dav_core.specs.World.{World, Folder, is_folder, with_new}
 use Rattle.dav_engine.specs.declared.request.Body.TheVariants as body
@@ -28,11 +28,11 @@ use Rattle.dav_server.specs.Isolation.{RunsUnder, under_none, under_more, Alone,
 use Rattle.dav_server.specs.Machine.{Asked, client, Means, known, method, locks, steps}
 use Rattle.dav_server.specs.Naming.{NamesLock}
 use Rattle.dav_server.specs.Run.{Turn, RunsBy, no_more, one_more}
-use Rattle.dav_server.proofs.NeededForHeadline.{begun_with, answered_with, state, the_grant, granted}
-use Rattle.dav_server.proofs.NeededPremises.{refuted, apart, shorted, no_room, runs_short, own_turn, shallow, shallow_alone, other_turn, depth_is_needed, b, at_b, other_b, named_b, plan_b, other_b_means, other_b_names, named_b_means, named_b_names}
-use Rattle.dav_server.proofs.NeededTokens.{slash, at_root, second, second_plan, second_means, root_lock, text_root, target_root}
+use Rattle.dav_server.proofs.NeededForHeadline.{begun_with, answered_with, made_first, state, the_grant, granted}
+use Rattle.dav_server.proofs.NeededPremises.{refuted, apart, shorted, no_room, shallow, shallow_alone, other_turn, depth_is_needed, at_b, other_b, named_b, plan_b, other_b_means, other_b_names, named_b_means, named_b_names}
+use Rattle.dav_server.proofs.NeededTokens.{slash, at_root, second, second_plan, second_means, second_reply, root_lock, found_root, root_there, text_root, target_root}
 use Rattle.dav_server.proofs.WorkedGrant.{info, lock_headers, no_depth, no_timeout, granted_lock, none, one}
-use Rattle.dav_server.proofs.WorkedRun.{a, at_a, token, head_of, head_with_method, holder, holder_request, own_head, own_list, own_says, own_names, turn_with, settings, no_conditions, own_conditions, plan_with, stranger_says, target_a, holder_means, before, after, holding, missing, makes_a, some_number}
+use Rattle.dav_server.proofs.WorkedRun.{a, b, at_a, at_below, token, stranger, head_of, head_with_method, holder, holder_request, own_head, own_list, own_says, own_names, turn_with, settings, no_conditions, own_conditions, plan_with, stranger_says, target_a, holder_means, before, after, filled, holding, missing, makes_a, some_number}
 
 -- what is at the root of an empty store
 abbrev pub new_root : DavMetaData
@@ -44,34 +44,37 @@ finds_root = record { as_asked = refl; refusals = refl; short = refl }
 
 -- ---- a lock of Depth 0
 
-abbrev zero_reply : Response
-zero_reply = granted_reply true (location_found (Some new_root) at_root) root_lock
+abbrev zero_turns : List Turn
+zero_turns = turn_with stranger ∷ turn_with second ∷ other_turn
 
-grants_zero : Ran Asks second_plan (holding before) none (Ok zero_reply) (holding before) shallow_alone
-grants_zero = ran_look (ran_ask {c = Metadata []} {answer = Ok new_root} (asked finds_root) (ran_look (ran_keep ran_done)))
+abbrev zero_replies : List Response
+zero_replies = made at_a ∷ second_reply ∷ made at_below ∷ []
 
-abbrev zero_grant : RunStep (empty_server settings) (turn_with second ∷ other_turn) (zero_reply ∷ made at_a ∷ [])
+grants_zero : Ran Asks second_plan (holding after) none (Ok second_reply) (holding after) shallow_alone
+grants_zero = ran_look (ran_ask {c = Metadata []} {answer = Ok found_root} (asked root_there) (ran_look (ran_keep ran_done)))
+
+abbrev zero_grant : RunStep (empty_server settings) zero_turns zero_replies
 zero_grant = record {
-  front = [];
+  front = turn_with stranger ∷ [];
   turn = turn_with second;
   back = other_turn;
-  before = [];
-  reply = zero_reply;
-  after = made at_a ∷ [];
-  was = state (holding before) none;
-  now = state (holding before) shallow_alone;
+  before = made at_a ∷ [];
+  reply = second_reply;
+  after = made at_below ∷ [];
+  was = state (holding after) none;
+  now = state (holding after) shallow_alone;
   turns_are = refl;
   replies_are = refl;
-  earlier = no_more;
-  stepped = steps second_plan (Ok zero_reply) second_means grants_zero;
+  earlier = made_first;
+  stepped = steps second_plan (Ok second_reply) second_means grants_zero;
 }
 
--- An exclusive lock of Depth 0 on the root was granted: another client's request makes a folder there, and there is none alone.
+-- An exclusive lock of Depth 0 on the root was granted: another client's request makes a folder in /a, and there is none alone.
 pub deep_lock_is_needed :
-    (g : RunStep (empty_server settings) (turn_with second ∷ other_turn) (zero_reply ∷ made at_a ∷ [])) × (shallow.shared ≡ false)
+    (g : RunStep (empty_server settings) zero_turns zero_replies) × (shallow.shared ≡ false)
     × Grants g.turn shallow [] (shallow ∷ []) × (is_folder g.now.store.world (folder_of shallow) ≡ true)
-    × RunsUnder AsksWithNumbers settings shallow other_turn g.now.store g.now.locks (made at_a ∷ []) (holding after) shallow_alone
-    × Alone shallow other_turn [] × ¬ AreAlone settings shallow other_turn [] g.now.store g.now.locks (made at_a ∷ []) (holding after)
+    × RunsUnder AsksWithNumbers settings shallow other_turn g.now.store g.now.locks (made at_below ∷ []) (holding filled) shallow_alone
+    × Alone shallow other_turn [] × ¬ AreAlone settings shallow other_turn [] g.now.store g.now.locks (made at_below ∷ []) (holding filled)
 deep_lock_is_needed = (zero_grant, refl, record { token_is = refl; listed = refl }, refl, depth_is_needed.0, depth_is_needed.2, depth_is_needed.3)
 
 -- ---- LOCK / of infinite depth
@@ -108,11 +111,15 @@ root_reply = granted_reply true (location_found (Some new_root) at_root) deep_ro
 grants_root : Ran Asks root_plan (holding before) none (Ok root_reply) (holding before) root_alone
 grants_root = ran_look (ran_ask {c = Metadata []} {answer = Ok new_root} (asked finds_root) (ran_look (ran_keep ran_done)))
 
-abbrev root_grant : RunStep (empty_server settings) (turn_with root_locker ∷ own_turn) (root_reply ∷ no_room ∷ [])
+-- MKCOL /a with the lock's token
+abbrev made_turn : List Turn
+made_turn = turn_with holder ∷ []
+
+abbrev root_grant : RunStep (empty_server settings) (turn_with root_locker ∷ made_turn) (root_reply ∷ no_room ∷ [])
 root_grant = record {
   front = [];
   turn = turn_with root_locker;
-  back = own_turn;
+  back = made_turn;
   before = [];
   reply = root_reply;
   after = no_room ∷ [];
@@ -139,31 +146,35 @@ root_granted = record {
 
 holds_root : IsHolderRequest settings deep_root holder
 holds_root =
-    acts holder_request MkCol at_a refl (record { head = own_head; method = (tt, refl); target = target_a }) refl tt
+    acts holder_request MkCol at_a refl (record { head = own_head; method = (tt, refl); target = target_a }) refl refl
     (record { lists = own_list (a ∷ []) ∷ []; only = a_list (a ∷ []) no_list; says = own_says (a ∷ []); match = refl; none_match = refl }) refl
 
 names_root : NamesLock deep_root holder
 names_root = record { token = own_names.token; principal = refl }
 
-short_of_room : Ran AsksWithNumbers (plan_with (own_conditions (a ∷ []))) (holding before) root_alone (Err (create_error InsufficientStorage)) shorted root_alone
+runs_short : RanShort (CreateDir (a ∷ []) 1) (holding before) (Err InsufficientStorage) (shorted before)
+unfolding meaning
+runs_short = record { takes_memory = tt; not_refused = refl; allowed = tt; answer_is = refl; world = refl; refusals = refl; short = refl }
+
+short_of_room : Ran AsksWithNumbers (plan_with (own_conditions (a ∷ []))) (holding before) root_alone (Err (create_error InsufficientStorage)) (shorted before) root_alone
 short_of_room =
     ran_ask {c = Metadata (a ∷ [])} {answer = Err NotFound} (asked missing, λ ready finds. finds.0)
-    (ran_look (ran_look (ran_ask {c = CreateDir (a ∷ []) 1} {answer = Err InsufficientStorage} (ran_short runs_short, λ ready finds. some_number finds.1) ran_done)))
+    (ran_look (ran_look (ran_look (ran_ask {c = CreateDir (a ∷ []) 1} {answer = Err InsufficientStorage} (ran_short runs_short, λ ready finds. some_number finds.1) ran_done))))
 
 makes_alone : Ran Asks (plan_with (own_conditions (a ∷ []))) (holding before) root_alone (Ok (made at_a)) (holding after) root_alone
 makes_alone =
     ran_ask {c = Metadata (a ∷ [])} {answer = Err NotFound} (asked missing)
-    (ran_look (ran_look (ran_ask {c = CreateDir (a ∷ []) 1} {answer = Ok tt} (asked makes_a) ran_done)))
+    (ran_look (ran_look (ran_look (ran_ask {c = CreateDir (a ∷ []) 1} {answer = Ok tt} (asked makes_a) ran_done))))
 
-room_unlike : ¬ AnswerAlike deep_root own_turn (no_room ∷ []) (made at_a ∷ [])
+room_unlike : ¬ AnswerAlike deep_root made_turn (no_room ∷ []) (made at_a ∷ [])
 room_unlike (alike_other other more) = other names_root
 room_unlike (alike_own named same more) = apart no_room (made at_a) (λ e. omega (arith, e)) same
 
 -- The store runs out of memory in the holder's request: the answer is another than alone. All else is as the headline asks.
 pub memory_in_the_headline_is_needed :
-    (g : RunStep (empty_server settings) (turn_with root_locker ∷ own_turn) (root_reply ∷ no_room ∷ [])) × GrantsFolder g.turn g.was g.now deep_root
-    × RunsUnder AsksWithNumbers settings deep_root own_turn g.now.store g.now.locks (no_room ∷ []) shorted root_alone
-    × Alone deep_root own_turn own_turn × ¬ AreAlone settings deep_root own_turn own_turn g.now.store g.now.locks (no_room ∷ []) shorted
+    (g : RunStep (empty_server settings) (turn_with root_locker ∷ made_turn) (root_reply ∷ no_room ∷ [])) × GrantsFolder g.turn g.was g.now deep_root
+    × RunsUnder AsksWithNumbers settings deep_root made_turn g.now.store g.now.locks (no_room ∷ []) (shorted before) root_alone
+    × Alone deep_root made_turn made_turn × ¬ AreAlone settings deep_root made_turn made_turn g.now.store g.now.locks (no_room ∷ []) (shorted before)
 memory_in_the_headline_is_needed = (
   root_grant,
   root_granted,
@@ -207,7 +218,7 @@ number_second e = cc
 other_makes : Ran AsksWithNumbers (plan_b no_conditions) (holding after) one (Ok (made at_b)) (holding with_both) one
 other_makes =
     ran_ask {c = Metadata (b ∷ [])} {answer = Err NotFound} (asked no_b, λ ready finds. finds.0)
-    (ran_look (ran_ask {c = CreateDir (b ∷ []) 1} {answer = Ok tt} (asked makes_second, λ ready finds. second_number finds.1) ran_done))
+    (ran_look (ran_look (ran_ask {c = CreateDir (b ∷ []) 1} {answer = Ok tt} (asked makes_second, λ ready finds. second_number finds.1) ran_done)))
 
 named_finds : Ran AsksWithNumbers (plan_b (own_conditions (b ∷ []))) (holding with_both) one (Err (create_error Exists)) (holding with_both) one
 named_finds =
@@ -217,7 +228,7 @@ named_finds =
 named_makes : Ran Asks (plan_b (own_conditions (b ∷ []))) (holding after) one (Ok (made at_b)) (holding with_both) one
 named_makes =
     ran_ask {c = Metadata (b ∷ [])} {answer = Err NotFound} (asked no_b)
-    (ran_look (ran_look (ran_ask {c = CreateDir (b ∷ []) 1} {answer = Ok tt} (asked makes_second) ran_done)))
+    (ran_look (ran_look (ran_look (ran_ask {c = CreateDir (b ∷ []) 1} {answer = Ok tt} (asked makes_second) ran_done))))
 
 abbrev elsewhere : List Turn
 elsewhere = turn_with other_b ∷ turn_with named_b ∷ []

@@ -38,10 +38,10 @@ use Rattle.dav_server.specs.Run.{Turn, no_more, one_more}
 use Rattle.dav_server.specs.TagLaws.{AreShowable}
 use Rattle.dav_server.proofs.NeededForHeadline.{state}
 use Rattle.dav_server.proofs.NeededGrants.{new_root, finds_root, root_locker, root_head, says_root}
-use Rattle.dav_server.proofs.NeededPremises.{apart, refuted, nothing_runs, own_turn}
+use Rattle.dav_server.proofs.NeededPremises.{apart, refuted, nothing_runs}
 use Rattle.dav_server.proofs.NeededTokens.{slash, at_root, target_root}
-use Rattle.dav_server.proofs.WorkedGrant.{named, holds, lock_headers, none, Others, quiet}
-use Rattle.dav_server.proofs.WorkedRun.{a, token, slash_a, at_a, lock, head_of, head_with_method, text_a, target_at_a, holder, is_holder, turn_with, settings, own_conditions, plan_with, holder_means, holder_ran, before, after, holding, one_lock, missing, makes_a, some_number, own_names, listed, root_above, Showable, Loaded}
+use Rattle.dav_server.proofs.WorkedGrant.{named, holds, lock_headers, none, found_a, there, Others, quiet}
+use Rattle.dav_server.proofs.WorkedRun.{a, below, token, slash_a, at_a, at_below, lock, head_of, head_with_method, text_a, target_at_a, holder, holder_below, is_holder, turn_with, settings, own_conditions, plan_with, plan_below, holder_means, holder_below_means, below_ran, before, after, filled, holding, one_lock, missing, makes_a, some_number, missing_below, own_below_names, own_turn, listed, root_above, is_world, Showable, Loaded}
 
 -- ---- a shared lock
 
@@ -102,7 +102,7 @@ joins = ran_look (ran_ask {c = Metadata []} {answer = Ok new_root} (asked finds_
 makes_beside : Ran AsksWithNumbers (plan_with (own_conditions (a ∷ []))) (holding before) both_shared (Ok (made at_a)) (holding after) both_shared
 makes_beside =
     ran_ask {c = Metadata (a ∷ [])} {answer = Err NotFound} (asked missing, λ ready finds. finds.0)
-    (ran_look (ran_look (ran_ask {c = CreateDir (a ∷ []) 1} {answer = Ok tt} (asked makes_a, λ ready finds. some_number finds.1) ran_done)))
+    (ran_look (ran_look (ran_look (ran_ask {c = CreateDir (a ∷ []) 1} {answer = Ok tt} (asked makes_a, λ ready finds. some_number finds.1) ran_done))))
 
 -- the other client joins the lock, and makes a folder
 abbrev pub beside : List Turn
@@ -263,29 +263,30 @@ abbrev pub two_locks : Locks
 two_locks = Some (lock ∷ other_lock ∷ [])
 
 abbrev pub left_reply : Response
-left_reply = unlocked_reply (location_found None at_a)
+left_reply = unlocked_reply (location_found (Some found_a) at_a)
 
-pub leaves : Ran AsksWithNumbers leave_plan (holding before) two_locks (Ok left_reply) (holding before) one_lock
-leaves = ran_look (ran_ask {c = Metadata (a ∷ [])} {answer = Err NotFound} (asked missing, λ ready finds. finds.0) (ran_look (ran_keep ran_done)))
+pub leaves : Ran AsksWithNumbers leave_plan (holding after) two_locks (Ok left_reply) (holding after) one_lock
+leaves = ran_look (ran_ask {c = Metadata (a ∷ [])} {answer = Ok found_a} (asked there, λ ready finds. finds.0) (ran_look (ran_keep ran_done)))
 
-refused_alone : Ran Asks (plan_with (own_conditions (a ∷ []))) (holding before) two_locks (Err (dav.Status 412)) (holding before) two_locks
-refused_alone = ran_ask {c = Metadata (a ∷ [])} {answer = Err NotFound} (asked missing) (ran_look ran_done)
+-- The other lock guards the names in the folder too.
+refused_alone : Ran Asks (plan_below (own_conditions below)) (holding after) two_locks (Err (dav.Status 423)) (holding after) two_locks
+refused_alone = ran_ask {c = Metadata below} {answer = Err NotFound} (asked missing_below) (ran_look (ran_look (ran_look ran_done)))
 
--- the other lock ends, and the holder makes its folder
+-- the other lock ends, and the holder makes a folder in its own
 abbrev pub leaving : List Turn
 leaving = turn_with leaver ∷ own_turn
 
 abbrev pub leaving_replies : List Response
-leaving_replies = left_reply ∷ made at_a ∷ []
+leaving_replies = left_reply ∷ made at_below ∷ []
 
 leaver_names : ¬ NamesLock lock leaver
 leaver_names named = let e : ◌≡◌ {A = Option (List ℕ)} (Some (98 ∷ [])) None = named.principal in cc
 
-own_unlike : ¬ AnswerAlike lock own_turn (made at_a ∷ []) (error_reply (dav.Status 412) ∷ [])
-own_unlike (alike_other other more) = other own_names
-own_unlike (alike_own named same more) = apart (made at_a) (error_reply (dav.Status 412)) (λ e. omega (arith, e)) same
+own_unlike : ¬ AnswerAlike lock own_turn (made at_below ∷ []) (error_reply (dav.Status 423) ∷ [])
+own_unlike (alike_other other more) = other own_below_names
+own_unlike (alike_own named same more) = apart (made at_below) (error_reply (dav.Status 423)) (λ e. omega (arith, e)) same
 
-leaving_unlike : ¬ AnswerAlike lock leaving leaving_replies (error_reply (dav.Status 412) ∷ [])
+leaving_unlike : ¬ AnswerAlike lock leaving leaving_replies (error_reply (dav.Status 423) ∷ [])
 leaving_unlike (alike_other other more) = own_unlike more
 leaving_unlike (alike_own named same more) = leaver_names named
 
@@ -293,31 +294,31 @@ abbrev NotOwn : Turn → Type 0
 NotOwn t = t.asked.token ≢ Some token
 
 leaving_quiet : NoneHandsIn lock leaving
-leaving_quiet = All-cons NotOwn (turn_with leaver) own_turn (λ e. cc) (All-cons NotOwn (turn_with holder) [] (λ e. cc) (All-nil NotOwn))
+leaving_quiet = All-cons NotOwn (turn_with leaver) own_turn (λ e. cc) (All-cons NotOwn (turn_with holder_below) [] (λ e. cc) (All-nil NotOwn))
 
 leaving_showable : AreShowable leaving
-leaving_showable = All-cons Showable (turn_with leaver) own_turn (omega arith) (All-cons Showable (turn_with holder) [] (omega arith) (All-nil Showable))
+leaving_showable = All-cons Showable (turn_with leaver) own_turn (omega arith) (All-cons Showable (turn_with holder_below) [] (omega arith) (All-nil Showable))
 
 leaving_loaded : AreLoaded leaving
-leaving_loaded = All-cons Loaded (turn_with leaver) own_turn refl (All-cons Loaded (turn_with holder) [] refl (All-nil Loaded))
+leaving_loaded = All-cons Loaded (turn_with leaver) own_turn refl (All-cons Loaded (turn_with holder_below) [] refl (All-nil Loaded))
 
--- Another lock is on the folder when the run begins, with another token: the holder makes its folder once that lock has ended, and
--- is answered 412 alone. The lock itself is exclusive and of infinite depth, and it stands all along.
+-- Another lock is on the folder when the run begins, with another token, of Depth 0: the holder makes a folder in it once that lock
+-- has ended, and is answered 423 alone. The lock itself is exclusive and of infinite depth, and it stands all along.
 pub no_other_lock_is_needed :
-    IsGuard lock × (other_lock.token ≢ lock.token) × HasFoldersAbove (folder_of lock) before × IsWorld before
+    IsGuard lock × (other_lock.token ≢ lock.token) × HasFoldersAbove (folder_of lock) after × IsWorld after
     × AreShowable leaving × AreLoaded leaving × NoneHandsIn lock leaving
-    × RunsUnder AsksWithNumbers settings lock leaving (holding before) two_locks leaving_replies (holding after) one_lock
-    × Alone lock leaving own_turn × ¬ AreAlone settings lock leaving own_turn (holding before) two_locks leaving_replies (holding after)
+    × RunsUnder AsksWithNumbers settings lock leaving (holding after) two_locks leaving_replies (holding filled) one_lock
+    × Alone lock leaving own_turn × ¬ AreAlone settings lock leaving own_turn (holding after) two_locks leaving_replies (holding filled)
 no_other_lock_is_needed = (
   record { exclusive = refl; deep = refl },
   λ same. tokens_apart (ap Some (sym same)),
-  root_above,
-  empty_is_world 1 (omega arith) (omega arith),
+  root_above after refl,
+  is_world,
   leaving_showable,
   leaving_loaded,
   leaving_quiet,
   under_more (listed_here refl) (λ named. absurd (leaver_names named)) (steps leave_plan (Ok left_reply) leave_means leaves)
-      (under_more listed (λ named. is_holder) (steps (plan_with (own_conditions (a ∷ []))) (Ok (made at_a)) holder_means holder_ran) under_none),
-  alone_other leaver_names (alone_own own_names alone_none),
-  refuted (one_more (steps (plan_with (own_conditions (a ∷ []))) (Err (dav.Status 412)) holder_means refused_alone) no_more) refl leaving_unlike,
+      (under_more listed (λ named. is_holder) (steps (plan_below (own_conditions below)) (Ok (made at_below)) holder_below_means below_ran) under_none),
+  alone_other leaver_names (alone_own own_below_names alone_none),
+  refuted (one_more (steps (plan_below (own_conditions below)) (Err (dav.Status 423)) holder_below_means refused_alone) no_more) refl leaving_unlike,
 )

@@ -36,7 +36,7 @@ makes_late = record { as_asked = refl; refusals = refl; short = refl }
 late_ran : Ran Asks late_plan (holding before) none (Ok (made at_a)) (holding late) none
 late_ran =
     ran_ask {c = Metadata (a ∷ [])} {answer = Err NotFound} (asked missing)
-    (ran_look (ran_ask {c = CreateDir (a ∷ []) 253402300800} {answer = Ok tt} (asked makes_late) ran_done))
+    (ran_look (ran_look (ran_ask {c = CreateDir (a ∷ []) 253402300800} {answer = Ok tt} (asked makes_late) ran_done)))
 
 abbrev pub late_folder : Node
 late_folder = record { made = 1; number = 1; kind = Folder; properties = []; created = 253402300800; modified = 253402300800 }

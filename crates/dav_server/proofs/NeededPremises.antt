@@ -32,7 +32,7 @@ use Rattle.dav_server.specs.Machine.{Asked, client, Means, known, method, makes,
 use Rattle.dav_server.specs.Naming.{NamesLock, by_if}
 use Rattle.dav_server.specs.Run.{Turn, RunsBy, Runs, no_more, one_more}
 use Rattle.dav_server.proofs.MeansLemmas.{runs_are_determined}
-use Rattle.dav_server.proofs.WorkedRun.{lock, stranger, holder, turn_with, settings, plan_with, no_conditions, own_conditions, stranger_means, holder_means, before, after, holding, one_lock, at_a, a, missing, makes_a, some_number, listed, holder_ran, other_names, own_names, is_holder, stranger_unnamed, token, head_to, request_to, request_head, one_field, if_field, letter_target, own_fields, own_if, holder_fields, stranger_says, holder_says, unnamed_by}
+use Rattle.dav_server.proofs.WorkedRun.{a, b, below, at_below, token, lock, stranger, stranger_below, holder_below, turn_with, settings, plan_below, no_conditions, own_conditions, below_means, holder_below_means, before, after, filled, holding, one_lock, missing_below, makes_below, number_below, listed, below_ran, below_unnamed, other_below_names, own_below_names, is_holder, own_turn, head_to, request_to, request_head, one_field, if_field, letter_target, own_fields, own_if, holder_fields, stranger_says, holder_says, unnamed_by}
 
 -- the holder's turns have one run with memory enough, and it answers otherwise
 pub refuted : {h : Lock} {ts us : List Turn} {old new end : StoreState} {ls locks : Locks} {replies others : List Response}
@@ -46,39 +46,36 @@ apart x y other same = other (ap (λ (p : AnswerParts). p.status) same)
 
 -- ---- the store runs out of memory
 
-abbrev pub shorted : StoreState
-shorted = record { world = before; refusals = []; short = true }
+abbrev pub shorted : World → StoreState
+shorted w = record { world = w; refusals = []; short = true }
 
 abbrev pub no_room : Response
 no_room = reply_to (Err (create_error InsufficientStorage))
 
-pub runs_short : RanShort (CreateDir (a ∷ []) 1) (holding before) (Err InsufficientStorage) shorted
+runs_short : RanShort (CreateDir below 1) (holding after) (Err InsufficientStorage) (shorted after)
 unfolding meaning
 runs_short = record { takes_memory = tt; not_refused = refl; allowed = tt; answer_is = refl; world = refl; refusals = refl; short = refl }
 
-short_ran : Ran AsksWithNumbers (plan_with (own_conditions (a ∷ []))) (holding before) one_lock (Err (create_error InsufficientStorage)) shorted one_lock
+short_ran : Ran AsksWithNumbers (plan_below (own_conditions below)) (holding after) one_lock (Err (create_error InsufficientStorage)) (shorted after) one_lock
 short_ran =
-    ran_ask {c = Metadata (a ∷ [])} {answer = Err NotFound} (asked missing, λ ready finds. finds.0)
-    (ran_look (ran_look (ran_ask {c = CreateDir (a ∷ []) 1} {answer = Err InsufficientStorage} (ran_short runs_short, λ ready finds. some_number finds.1) ran_done)))
-
-abbrev pub own_turn : List Turn
-own_turn = turn_with holder ∷ []
+    ran_ask {c = Metadata below} {answer = Err NotFound} (asked missing_below, λ ready finds. finds.0)
+    (ran_look (ran_look (ran_look (ran_ask {c = CreateDir below 1} {answer = Err InsufficientStorage} (ran_short runs_short, λ ready finds. number_below finds.1) ran_done))))
 
 -- the holder's request by itself
-own_run : Runs settings own_turn (holding before) one_lock (made at_a ∷ []) (holding after) one_lock
-own_run = one_more (steps (plan_with (own_conditions (a ∷ []))) (Ok (made at_a)) holder_means (ran_plain holder_ran)) no_more
+own_run : Runs settings own_turn (holding after) one_lock (made at_below ∷ []) (holding filled) one_lock
+own_run = one_more (steps (plan_below (own_conditions below)) (Ok (made at_below)) holder_below_means (ran_plain below_ran)) no_more
 
-short_unlike : ¬ AnswerAlike lock own_turn (no_room ∷ []) (made at_a ∷ [])
-short_unlike (alike_other other more) = other own_names
-short_unlike (alike_own named same more) = apart no_room (made at_a) (λ e. omega (arith, e)) same
+short_unlike : ¬ AnswerAlike lock own_turn (no_room ∷ []) (made at_below ∷ [])
+short_unlike (alike_other other more) = other own_below_names
+short_unlike (alike_own named same more) = apart no_room (made at_below) (λ e. omega (arith, e)) same
 
 -- Where the store runs out of memory in the holder's request, the answer is another than alone.
 pub memory_is_needed :
-    RunsUnder AsksWithNumbers settings lock own_turn (holding before) one_lock (no_room ∷ []) shorted one_lock
-    × Alone lock own_turn own_turn × ¬ AreAlone settings lock own_turn own_turn (holding before) one_lock (no_room ∷ []) shorted
+    RunsUnder AsksWithNumbers settings lock own_turn (holding after) one_lock (no_room ∷ []) (shorted after) one_lock
+    × Alone lock own_turn own_turn × ¬ AreAlone settings lock own_turn own_turn (holding after) one_lock (no_room ∷ []) (shorted after)
 memory_is_needed = (
-  under_more listed (λ named. is_holder) (steps (plan_with (own_conditions (a ∷ []))) (Err (create_error InsufficientStorage)) holder_means short_ran) under_none,
-  alone_own own_names alone_none,
+  under_more listed (λ named. is_holder) (steps (plan_below (own_conditions below)) (Err (create_error InsufficientStorage)) holder_below_means short_ran) under_none,
+  alone_own own_below_names alone_none,
   refuted own_run refl short_unlike,
 )
 
@@ -90,35 +87,36 @@ shallow = record lock { path = record { prefix = []; bytes = 47 ∷ [] }; deep =
 abbrev pub shallow_alone : Locks
 shallow_alone = Some (shallow ∷ [])
 
-other_passes : Ran AsksWithNumbers (plan_with no_conditions) (holding before) shallow_alone (Ok (made at_a)) (holding after) shallow_alone
+-- A lock of Depth 0 on the root guards the names in the root, and not those in /a.
+other_passes : Ran AsksWithNumbers (plan_below no_conditions) (holding after) shallow_alone (Ok (made at_below)) (holding filled) shallow_alone
 other_passes =
-    ran_ask {c = Metadata (a ∷ [])} {answer = Err NotFound} (asked missing, λ ready finds. finds.0)
-    (ran_look (ran_ask {c = CreateDir (a ∷ []) 1} {answer = Ok tt} (asked makes_a, λ ready finds. some_number finds.1) ran_done))
+    ran_ask {c = Metadata below} {answer = Err NotFound} (asked missing_below, λ ready finds. finds.0)
+    (ran_look (ran_look (ran_ask {c = CreateDir below 1} {answer = Ok tt} (asked makes_below, λ ready finds. number_below finds.1) ran_done)))
 
 abbrev pub other_turn : List Turn
-other_turn = turn_with stranger ∷ []
+other_turn = turn_with stranger_below ∷ []
 
-not_shallow : ¬ NamesLock shallow stranger
-not_shallow named = stranger_unnamed named.token
+not_shallow : ¬ NamesLock shallow stranger_below
+not_shallow named = below_unnamed named.token
 
 pub nothing_runs : {old new : StoreState} {ls ms : Locks} {replies : List Response} → Runs settings [] old ls replies new ms → new ≡ old
 nothing_runs no_more = refl
 
 -- With a lock of Depth 0 the folder changes below it, and wouldn't alone.
 pub depth_is_needed :
-    RunsUnder AsksWithNumbers settings shallow other_turn (holding before) shallow_alone (made at_a ∷ []) (holding after) shallow_alone
-    × Guarded shallow shallow_alone × Alone shallow other_turn [] × ¬ AreAlone settings shallow other_turn [] (holding before) shallow_alone (made at_a ∷ []) (holding after)
+    RunsUnder AsksWithNumbers settings shallow other_turn (holding after) shallow_alone (made at_below ∷ []) (holding filled) shallow_alone
+    × Guarded shallow shallow_alone × Alone shallow other_turn [] × ¬ AreAlone settings shallow other_turn [] (holding after) shallow_alone (made at_below ∷ []) (holding filled)
 depth_is_needed = (
-  under_more (listed_here refl) (λ named. absurd (not_shallow named)) (steps (plan_with no_conditions) (Ok (made at_a)) stranger_means other_passes) under_none,
+  under_more (listed_here refl) (λ named. absurd (not_shallow named)) (steps (plan_below no_conditions) (Ok (made at_below)) below_means other_passes) under_none,
   guards_here refl no_others,
   alone_other not_shallow alone_none,
-  λ alone. let e : inside after [] (a ∷ []) ≡ inside before [] (a ∷ []) = alone.inside (a ∷ []) ∙ ap (λ (s : StoreState). inside s.world [] (a ∷ [])) (nothing_runs alone.runs) in cc,
+  λ alone. let e : inside filled [] below ≡ inside after [] below = alone.inside below ∙ ap (λ (s : StoreState). inside s.world [] below) (nothing_runs alone.runs) in cc,
 )
 
 -- ---- refusals that are left of the turn before
 
 abbrev pub refusing : List (Option FsError) → StoreState
-refusing rs = record { world = before; refusals = rs; short = false }
+refusing rs = record { world = after; refusals = rs; short = false }
 
 abbrev pub plain_turn : Asked → Turn
 plain_turn x = record { asked = x; refusals = None }
@@ -126,64 +124,61 @@ plain_turn x = record { asked = x; refusals = None }
 abbrev pub two_refusals : List (Option FsError)
 two_refusals = None ∷ Some Forbidden ∷ []
 
-pub asks_first : Answered (Metadata (a ∷ [])) (refusing two_refusals) (Err NotFound) (refusing (Some Forbidden ∷ []))
+pub asks_first : Answered (Metadata below) (refusing two_refusals) (Err NotFound) (refusing (Some Forbidden ∷ []))
 unfolding meaning
 asks_first = record { as_asked = refl; refusals = refl; short = refl }
 
-asks_refused : Answered (Metadata (a ∷ [])) (refusing (Some Forbidden ∷ [])) (Err Forbidden) (holding before)
+asks_refused : Answered (Metadata below) (refusing (Some Forbidden ∷ [])) (Err Forbidden) (holding after)
 asks_refused = record { as_asked = refl; refusals = refl; short = refl }
 
-makes_refused : Answered (CreateDir (a ∷ []) 1) (refusing (Some Forbidden ∷ [])) (Err Forbidden) (holding before)
+makes_refused : Answered (CreateDir below 1) (refusing (Some Forbidden ∷ [])) (Err Forbidden) (holding after)
 makes_refused = record { as_asked = refl; refusals = refl; short = refl }
 
 abbrev pub denied : Response
 denied = reply_to (Err (create_error Forbidden))
 
-first_ran : Ran AsksWithNumbers (plan_with no_conditions) (refusing two_refusals) one_lock (Err (dav.Status 423)) (refusing (Some Forbidden ∷ [])) one_lock
-first_ran = ran_ask {c = Metadata (a ∷ [])} {answer = Err NotFound} (asked asks_first, λ ready finds. finds.0) (ran_look ran_done)
+first_ran : Ran AsksWithNumbers (plan_below no_conditions) (refusing two_refusals) one_lock (Err (dav.Status 423)) (refusing (Some Forbidden ∷ [])) one_lock
+first_ran = ran_ask {c = Metadata below} {answer = Err NotFound} (asked asks_first, λ ready finds. finds.0) (ran_look ran_done)
 
-second_ran : Ran AsksWithNumbers (plan_with (own_conditions (a ∷ []))) (refusing (Some Forbidden ∷ [])) one_lock (Ok (made at_a)) (holding after) one_lock
+second_ran : Ran AsksWithNumbers (plan_below (own_conditions below)) (refusing (Some Forbidden ∷ [])) one_lock (Ok (made at_below)) (holding filled) one_lock
 second_ran =
-    ran_ask {c = Metadata (a ∷ [])} {answer = Err Forbidden} (asked asks_refused, λ ready finds. finds.0)
-    (ran_look (ran_look (ran_ask {c = CreateDir (a ∷ []) 1} {answer = Ok tt} (asked makes_a, λ ready finds. some_number finds.1) ran_done)))
+    ran_ask {c = Metadata below} {answer = Err Forbidden} (asked asks_refused, λ ready finds. finds.0)
+    (ran_look (ran_look (ran_look (ran_ask {c = CreateDir below 1} {answer = Ok tt} (asked makes_below, λ ready finds. number_below finds.1) ran_done))))
 
-alone_ran : Ran Asks (plan_with (own_conditions (a ∷ []))) (refusing two_refusals) one_lock (Err (create_error Forbidden)) (holding before) one_lock
+alone_ran : Ran Asks (plan_below (own_conditions below)) (refusing two_refusals) one_lock (Err (create_error Forbidden)) (holding after) one_lock
 alone_ran =
-    ran_ask {c = Metadata (a ∷ [])} {answer = Err NotFound} (asked asks_first)
-    (ran_look (ran_look (ran_ask {c = CreateDir (a ∷ []) 1} {answer = Err Forbidden} (asked makes_refused) ran_done)))
+    ran_ask {c = Metadata below} {answer = Err NotFound} (asked asks_first)
+    (ran_look (ran_look (ran_look (ran_ask {c = CreateDir below 1} {answer = Err Forbidden} (asked makes_refused) ran_done))))
 
 abbrev pub unloaded : List Turn
-unloaded = plain_turn stranger ∷ plain_turn holder ∷ []
+unloaded = plain_turn stranger_below ∷ plain_turn holder_below ∷ []
 
 abbrev pub own_unloaded : List Turn
-own_unloaded = plain_turn holder ∷ []
+own_unloaded = plain_turn holder_below ∷ []
 
 abbrev pub two_replies : List Response
-two_replies = error_reply (dav.Status 423) ∷ made at_a ∷ []
+two_replies = error_reply (dav.Status 423) ∷ made at_below ∷ []
 
-denied_unlike : ¬ AnswerAlike lock own_unloaded (made at_a ∷ []) (denied ∷ [])
-denied_unlike (alike_other other more) = other own_names
-denied_unlike (alike_own named same more) = apart (made at_a) denied (λ e. omega (arith, e)) same
+denied_unlike : ¬ AnswerAlike lock own_unloaded (made at_below ∷ []) (denied ∷ [])
+denied_unlike (alike_other other more) = other own_below_names
+denied_unlike (alike_own named same more) = apart (made at_below) denied (λ e. omega (arith, e)) same
 
 both_unlike : ¬ AnswerAlike lock unloaded two_replies (denied ∷ [])
 both_unlike (alike_other other more) = denied_unlike more
-both_unlike (alike_own named same more) = other_names named
+both_unlike (alike_own named same more) = other_below_names named
 
 -- Where turns have no refusals of their own, another client uses up a refusal that the holder would meet alone.
 pub own_refusals_are_needed :
-    RunsUnder AsksWithNumbers settings lock unloaded (refusing two_refusals) one_lock two_replies (holding after) one_lock
-    × Alone lock unloaded own_unloaded × ¬ AreAlone settings lock unloaded own_unloaded (refusing two_refusals) one_lock two_replies (holding after)
+    RunsUnder AsksWithNumbers settings lock unloaded (refusing two_refusals) one_lock two_replies (holding filled) one_lock
+    × Alone lock unloaded own_unloaded × ¬ AreAlone settings lock unloaded own_unloaded (refusing two_refusals) one_lock two_replies (holding filled)
 own_refusals_are_needed = (
-  under_more listed (λ named. absurd (other_names named)) (steps (plan_with no_conditions) (Err (dav.Status 423)) stranger_means first_ran)
-      (under_more listed (λ named. is_holder) (steps (plan_with (own_conditions (a ∷ []))) (Ok (made at_a)) holder_means second_ran) under_none),
-  alone_other other_names (alone_own own_names alone_none),
-  refuted (one_more (steps (plan_with (own_conditions (a ∷ []))) (Err (create_error Forbidden)) holder_means alone_ran) no_more) refl both_unlike,
+  under_more listed (λ named. absurd (other_below_names named)) (steps (plan_below no_conditions) (Err (dav.Status 423)) below_means first_ran)
+      (under_more listed (λ named. is_holder) (steps (plan_below (own_conditions below)) (Ok (made at_below)) holder_below_means second_ran) under_none),
+  alone_other other_below_names (alone_own own_below_names alone_none),
+  refuted (one_more (steps (plan_below (own_conditions below)) (Err (create_error Forbidden)) holder_below_means alone_ran) no_more) refl both_unlike,
 )
 
 -- ---- another path
-
-abbrev pub b : List ℕ
-b = 98 ∷ []
 
 abbrev pub slash_b : List ℕ
 slash_b = 47 ∷ 98 ∷ []
@@ -275,7 +270,7 @@ number_there e = cc
 other_makes_b : Ran AsksWithNumbers (plan_b no_conditions) (holding before) one_lock (Ok (made at_b)) (holding with_b) one_lock
 other_makes_b =
     ran_ask {c = Metadata (b ∷ [])} {answer = Err NotFound} (asked missing_b, λ ready finds. finds.0)
-    (ran_look (ran_ask {c = CreateDir (b ∷ []) 1} {answer = Ok tt} (asked makes_b, λ ready finds. number_b finds.1) ran_done))
+    (ran_look (ran_look (ran_ask {c = CreateDir (b ∷ []) 1} {answer = Ok tt} (asked makes_b, λ ready finds. number_b finds.1) ran_done)))
 
 named_finds_b : Ran AsksWithNumbers (plan_b (own_conditions (b ∷ []))) (holding with_b) one_lock (Err (create_error Exists)) (holding with_b) one_lock
 named_finds_b =
@@ -285,7 +280,7 @@ named_finds_b =
 named_makes_b : Ran Asks (plan_b (own_conditions (b ∷ []))) (holding before) one_lock (Ok (made at_b)) (holding with_b) one_lock
 named_makes_b =
     ran_ask {c = Metadata (b ∷ [])} {answer = Err NotFound} (asked missing_b)
-    (ran_look (ran_look (ran_ask {c = CreateDir (b ∷ []) 1} {answer = Ok tt} (asked makes_b) ran_done)))
+    (ran_look (ran_look (ran_look (ran_ask {c = CreateDir (b ∷ []) 1} {answer = Ok tt} (asked makes_b) ran_done))))
 
 abbrev pub at_another : List Turn
 at_another = turn_with other_b ∷ turn_with named_b ∷ []
@@ -316,15 +311,15 @@ holders_requests_are_needed = (
 
 -- ---- change numbers that are used up
 
--- a store with one number left, and what /b and what /a leaves of it
+-- a store with the folder and one number left, and what /b and what /a/b leaves of it
 abbrev pub nearly : World
-nearly = empty_from 18446744073709551614
+nearly = with_new (empty_from 18446744073709551613) (a ∷ []) Folder [] 1
 
 abbrev pub spent : World
 spent = with_new nearly (b ∷ []) Folder [] 1
 
 abbrev pub spent_alone : World
-spent_alone = with_new nearly (a ∷ []) Folder [] 1
+spent_alone = with_new nearly below Folder [] 1
 
 nearly_missing_b : Answered (Metadata (b ∷ [])) (holding nearly) (Err NotFound) (holding nearly)
 unfolding meaning
@@ -334,48 +329,48 @@ takes_last : Answered (CreateDir (b ∷ []) 1) (holding nearly) (Ok tt) (holding
 unfolding meaning
 takes_last = record { as_asked = refl; refusals = refl; short = refl }
 
-spent_missing : Answered (Metadata (a ∷ [])) (holding spent) (Err NotFound) (holding spent)
+spent_missing : Answered (Metadata below) (holding spent) (Err NotFound) (holding spent)
 unfolding meaning
 spent_missing = record { as_asked = refl; refusals = refl; short = refl }
 
-none_left : Answered (CreateDir (a ∷ []) 1) (holding spent) (Err GeneralFailure) (holding spent)
+none_left : Answered (CreateDir below 1) (holding spent) (Err GeneralFailure) (holding spent)
 unfolding meaning
 none_left = record { as_asked = refl; refusals = refl; short = refl }
 
-nearly_missing : Answered (Metadata (a ∷ [])) (holding nearly) (Err NotFound) (holding nearly)
+nearly_missing : Answered (Metadata below) (holding nearly) (Err NotFound) (holding nearly)
 unfolding meaning
 nearly_missing = record { as_asked = refl; refusals = refl; short = refl }
 
-takes_last_alone : Answered (CreateDir (a ∷ []) 1) (holding nearly) (Ok tt) (holding spent_alone)
+takes_last_alone : Answered (CreateDir below 1) (holding nearly) (Ok tt) (holding spent_alone)
 unfolding meaning
 takes_last_alone = record { as_asked = refl; refusals = refl; short = refl }
 
 last_taken : Ran Asks (plan_b no_conditions) (holding nearly) one_lock (Ok (made at_b)) (holding spent) one_lock
 last_taken =
     ran_ask {c = Metadata (b ∷ [])} {answer = Err NotFound} (asked nearly_missing_b)
-    (ran_look (ran_ask {c = CreateDir (b ∷ []) 1} {answer = Ok tt} (asked takes_last) ran_done))
+    (ran_look (ran_look (ran_ask {c = CreateDir (b ∷ []) 1} {answer = Ok tt} (asked takes_last) ran_done)))
 
-finds_none : Ran Asks (plan_with (own_conditions (a ∷ []))) (holding spent) one_lock (Err (create_error GeneralFailure)) (holding spent) one_lock
+finds_none : Ran Asks (plan_below (own_conditions below)) (holding spent) one_lock (Err (create_error GeneralFailure)) (holding spent) one_lock
 finds_none =
-    ran_ask {c = Metadata (a ∷ [])} {answer = Err NotFound} (asked spent_missing)
-    (ran_look (ran_look (ran_ask {c = CreateDir (a ∷ []) 1} {answer = Err GeneralFailure} (asked none_left) ran_done)))
+    ran_ask {c = Metadata below} {answer = Err NotFound} (asked spent_missing)
+    (ran_look (ran_look (ran_look (ran_ask {c = CreateDir below 1} {answer = Err GeneralFailure} (asked none_left) ran_done))))
 
-finds_last : Ran Asks (plan_with (own_conditions (a ∷ []))) (holding nearly) one_lock (Ok (made at_a)) (holding spent_alone) one_lock
+finds_last : Ran Asks (plan_below (own_conditions below)) (holding nearly) one_lock (Ok (made at_below)) (holding spent_alone) one_lock
 finds_last =
-    ran_ask {c = Metadata (a ∷ [])} {answer = Err NotFound} (asked nearly_missing)
-    (ran_look (ran_look (ran_ask {c = CreateDir (a ∷ []) 1} {answer = Ok tt} (asked takes_last_alone) ran_done)))
+    ran_ask {c = Metadata below} {answer = Err NotFound} (asked nearly_missing)
+    (ran_look (ran_look (ran_look (ran_ask {c = CreateDir below 1} {answer = Ok tt} (asked takes_last_alone) ran_done))))
 
 abbrev pub spending : List Turn
-spending = turn_with other_b ∷ turn_with holder ∷ []
+spending = turn_with other_b ∷ own_turn
 
 abbrev pub spending_replies : List Response
 spending_replies = made at_b ∷ reply_to (Err (create_error GeneralFailure)) ∷ []
 
-spent_unlike : ¬ AnswerAlike lock own_turn (reply_to (Err (create_error GeneralFailure)) ∷ []) (made at_a ∷ [])
-spent_unlike (alike_other other more) = other own_names
-spent_unlike (alike_own named same more) = apart (reply_to (Err (create_error GeneralFailure))) (made at_a) (λ e. omega (arith, e)) same
+spent_unlike : ¬ AnswerAlike lock own_turn (reply_to (Err (create_error GeneralFailure)) ∷ []) (made at_below ∷ [])
+spent_unlike (alike_other other more) = other own_below_names
+spent_unlike (alike_own named same more) = apart (reply_to (Err (create_error GeneralFailure))) (made at_below) (λ e. omega (arith, e)) same
 
-spending_unlike : ¬ AnswerAlike lock spending spending_replies (made at_a ∷ [])
+spending_unlike : ¬ AnswerAlike lock spending spending_replies (made at_below ∷ [])
 spending_unlike (alike_other other more) = spent_unlike more
 spending_unlike (alike_own named same more) = other_b_names named
 
@@ -385,7 +380,7 @@ pub numbers_are_needed :
     × Alone lock spending own_turn × ¬ AreAlone settings lock spending own_turn (holding nearly) one_lock spending_replies (holding spent)
 numbers_are_needed = (
   under_more listed (λ named. absurd (other_b_names named)) (steps (plan_b no_conditions) (Ok (made at_b)) other_b_means last_taken)
-      (under_more listed (λ named. is_holder) (steps (plan_with (own_conditions (a ∷ []))) (Err (create_error GeneralFailure)) holder_means finds_none) under_none),
-  alone_other other_b_names (alone_own own_names alone_none),
-  refuted (one_more (steps (plan_with (own_conditions (a ∷ []))) (Ok (made at_a)) holder_means finds_last) no_more) refl spending_unlike,
+      (under_more listed (λ named. is_holder) (steps (plan_below (own_conditions below)) (Err (create_error GeneralFailure)) holder_below_means finds_none) under_none),
+  alone_other other_b_names (alone_own own_below_names alone_none),
+  refuted (one_more (steps (plan_below (own_conditions below)) (Ok (made at_below)) holder_below_means finds_last) no_more) refl spending_unlike,
 )

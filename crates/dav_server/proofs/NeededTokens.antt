@@ -3,7 +3,7 @@ use Rattle.std.proofs.Common.{◌≡◌, ◌≤◌, ℕ, true, false, List, [], 
 use Rattle.std.proofs.lemmas.List.Elements.{All-nil, All-cons}
 use Rattle.std.proofs.lemmas.List.Sums.{AllPass-from_list_all}
 use Rattle.std.specs.Str.{IsUtf8}
-use Rattle.http_header.specs.HeaderMap.{get, get_all}
+use Rattle.http_header.specs.HeaderMap.{get_all}
 use Rattle.percent_encoding.specs.Percent.{percent_decode}
 use Rattle.httparse.specs.Grammar.{Field, IsField, crlf, is_token_byte, is_value_byte, print_request, trim_ows}
 use Rattle.dav_core.specs.declared.errors.DavError.TheVariants as dav
@@ -18,7 +18,7 @@ use Rattle.dav_engine.specs.declared.request.Body.TheVariants as body
 use Rattle.dav_engine.specs.Alongside.{AsksWithNumbers}
 use Rattle.dav_engine.specs.Folder.{location_found}
 use Rattle.dav_engine.specs.Guard.{Guarded, guards_here, no_others, listed_here}
-use Rattle.dav_engine.specs.Headers.{text_in}
+use Rattle.dav_headers.specs.Value.{only_text}
 use Rattle.dav_engine.specs.Lock.{granted_reply, is_lock, lock as lock_plan}
 use Rattle.dav_engine.specs.LockHeaders.{LockHeaders, AreLockHeaders}
 use Rattle.dav_engine.specs.LockToken.{SaysLockToken, IsAngle}
@@ -108,7 +108,7 @@ second_means = known second_request LockMethod second_head (tt, refl) (method at
 -- it names nothing: it has no If, and no Lock-Token
 second_unnamed : ¬ NamesToken second token
 second_unnamed (by_if q also (ls, (v, e, says), contains)) = absurd (let same : q ≡ second_request = one_head second.head q second_request also second_head in let f : [] ≡ v ∷ [] = subst (λ (r : Request). get_all (headers_of r.fields) (codes "if") ≡ v ∷ []) same e in cc)
-second_unnamed (by_lock_token q also (text, e, between)) = absurd (let same : q ≡ second_request = one_head second.head q second_request also second_head in let f : None ≡ Some text = subst (λ (r : Request). text_in (get (headers_of r.fields) (codes "lock-token")) ≡ Some text) same e in cc)
+second_unnamed (by_lock_token q also (text, e, between)) = absurd (let same : q ≡ second_request = one_head second.head q second_request also second_head in let f : None ≡ Some text = subst (λ (r : Request). only_text (get_all (headers_of r.fields) (codes "lock-token")) ≡ Some text) same e in cc)
 
 second_names : ¬ NamesLock granted_lock second
 second_names named = second_unnamed named.token
@@ -190,7 +190,7 @@ two = Some (granted_lock ∷ root_lock ∷ [])
 abbrev pub found_root : DavMetaData
 found_root = record { len = 0; dir = true; created = 0; modified = 1; number = Some 0 }
 
-root_there : Answered (Metadata []) (holding after) (Ok found_root) (holding after)
+pub root_there : Answered (Metadata []) (holding after) (Ok found_root) (holding after)
 unfolding meaning
 root_there = record { as_asked = refl; refusals = refl; short = refl }
 

@@ -41,8 +41,8 @@ use Rattle.dav_server.specs.Naming.{NamesToken, NamesLock}
 use Rattle.dav_server.specs.Run.{Turn}
 use Rattle.dav_server.specs.TagLaws.{AreShowable}
 use Rattle.dav_server.specs.Target.{TargetNames}
-use Rattle.dav_server.proofs.NeededPremises.{b, slash_b, at_b, nothing_runs}
-use Rattle.dav_server.proofs.WorkedRun.{a, token, lock, head_of, head_with_method, letter_name, letter_target, unnamed_by, turn_with, settings, no_conditions, stranger_says, holding, one_lock, listed, root_above, Showable, Loaded}
+use Rattle.dav_server.proofs.NeededPremises.{slash_b, at_b, nothing_runs}
+use Rattle.dav_server.proofs.WorkedRun.{a, b, token, lock, head_of, head_with_method, letter_name, letter_target, unnamed_by, turn_with, settings, no_conditions, stranger_says, holding, one_lock, listed, root_above, Showable, Loaded}
 
 -- ---- PUT /b of one byte, by another client
 
@@ -293,7 +293,7 @@ twins_are_nearly_a_world = (
 abbrev pub NoLockIsPassedInEveryStore : Type 0
 NoLockIsPassedInEveryStore =
     (s : Settings) (x : Asked) (old new : StoreState) (ls ms : Locks) (reply : Response) (h : Lock)
-    → h.shared ≡ false → Stands h ls → ¬ NamesLock h x → x.token ≢ Some h.token → x.moment ≤ last_moment
+    → h.shared ≡ false → Stands h ls → ¬ NamesLock h x → x.moment ≤ last_moment
     → Steps s x old ls reply new ms → Spared (covers h) old.world new.world
 
 step : Steps settings writer (holding twins) one_lock written_reply (holding written_twins) one_lock
@@ -301,13 +301,13 @@ step = steps writing (Ok written_reply) writer_means (ran_plain ran)
 
 -- Where two files were created under one number, a PUT to the one that isn't locked changes the one that is. All other premises hold.
 pub worlds_are_needed_for_passing :
-    (lock.shared ≡ false) × Stands lock one_lock × ¬ NamesLock lock writer × (writer.token ≢ Some lock.token) × (writer.moment ≤ last_moment) × ¬ IsWorld twins
+    (lock.shared ≡ false) × Stands lock one_lock × ¬ NamesLock lock writer × (writer.moment ≤ last_moment) × ¬ IsWorld twins
     × Steps settings writer (holding twins) one_lock written_reply (holding written_twins) one_lock × ¬ Spared (covers lock) twins written_twins
-worlds_are_needed_for_passing = (refl, listed, writer_names, (λ e. cc), omega arith, twins_are_no_world, step, λ spared. other_byte (spared.same (a ∷ []) refl))
+worlds_are_needed_for_passing = (refl, listed, writer_names, omega arith, twins_are_no_world, step, λ spared. other_byte (spared.same (a ∷ []) refl))
 
 -- So without this premise the law is false.
 pub passing_needs_a_world : ¬ NoLockIsPassedInEveryStore
-passing_needs_a_world passes = other_byte ((passes settings writer (holding twins) (holding written_twins) one_lock one_lock written_reply lock refl listed writer_names (λ e. cc) (omega arith) step).same (a ∷ []) refl)
+passing_needs_a_world passes = other_byte ((passes settings writer (holding twins) (holding written_twins) one_lock one_lock written_reply lock refl listed writer_names (omega arith) step).same (a ∷ []) refl)
 
 -- ---- isolation
 
@@ -329,8 +329,7 @@ guarded : Guarded lock one_lock
 guarded = guards_here refl no_others
 
 folders_above : HasFoldersAbove (folder_of lock) twins
-folders_above [] under = refl
-folders_above (x ∷ p) under = let e : ◌≡◌ false true = root_above (x ∷ p) under in cc
+folders_above = root_above twins refl
 
 write_showable : AreShowable write_turn
 write_showable = All-cons Showable (turn_with writer) [] (omega arith) (All-nil Showable)

@@ -108,10 +108,10 @@ brought_held : (m : DavMethod) (deep : Bool) (h : CopyHeaders) (p d : PathText) 
     → AskForTag h.conditions (names p) tag → Ran Asking (ask_for (Metadata (names p)) >>= (λ found. copy_found m deep h (closed found.dir p) d who found)) old ls (Ok r) new ms → HasTag old.world (names p) (text_of tag)
 brought_held m deep h p d who tag asks (ran_ask {old = old} {mid = mid} {answer = answer} one ran) =
     let (found, is, more) = answered_by dav.FsError answer _ ran in
-    let checks = went (copy_allowed m h (closed found.dir p) d who found) _ more in
+    let checks = went (copy_allowed m deep h (closed found.dir p) d who found) _ more in
     let place = looked (destination_found h.overwrite d) _ (place_reads h.overwrite d) checks.first in
     let (apart, rest) = required (not (is_at_or_under (names (closed found.dir p)) (names d))) (dav.Status 403) _ place.rest in
-    let free = went (copy_free m h.conditions (closed found.dir p) d who found) _ rest in
+    let free = went (copy_free m deep h.conditions (closed found.dir p) d who found _) _ rest in
     let guard = went (guarded dav.Status m h.conditions (Some found)) _ free.first in
     found_held m dav.Status h.conditions (names p) tag old.world mid.world answer found guard.value asks (did one) is (place.same ∙ looked_left (names p) old.world mid.world answer (did one)) guard.first
 

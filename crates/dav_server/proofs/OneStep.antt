@@ -8,9 +8,10 @@ use Rattle.dav_core.specs.declared.method.DavMethod.{DavMethod}
 use Rattle.dav_core.specs.declared.method.DavMethod.TheVariants.{Put, Patch}
 use Rattle.dav_core.specs.LockLaws.{CoveringAreShared}
 use Rattle.dav_core.specs.Locks.{Lock, covers}
-use Rattle.dav_core.specs.World.{World}
+use Rattle.dav_core.specs.World.{World, is_folder}
 use Rattle.dav_headers.specs.ETagList.{IsTagList, star as every_tag}
-use Rattle.dav_engine.specs.Guard.{Stands}
+use Rattle.dav_engine.specs.Guard.{folder_of, Stands}
+use Rattle.dav_engine.specs.Members.{SameMembers}
 use Rattle.dav_engine.specs.Plan.{ServerState}
 use Rattle.dav_engine.specs.PropfindLaws.{responses_in}
 use Rattle.dav_engine.specs.Response.{Response}
@@ -51,6 +52,7 @@ pub data Clause : Type 0 where
   shared : Clause
   tags : Clause
   hrefs : Clause
+  members : Clause
 
 -- what each of them asks of a step
 abbrev pub Keeps : Clause → Step → Type 0
@@ -59,11 +61,12 @@ Keeps created s = CreateOnlyLeaves settings s.asked s.reply s.was s.now
 Keeps refused s = RefusedStatusLeaves s.asked s.reply s.was s.now
 Keeps unmodified s = UnmodifiedFinds settings (s.turns ++ turn_with s.asked ∷ []) (s.replies ++ s.reply ∷ []) s.asked s.reply s.was
 Keeps updated s = UpdateFinds settings s.turns s.replies s.asked s.reply s.was
-Keeps passed s = (h : Lock) → h.shared ≡ false → Stands h s.was.locks → ¬ NamesLock h s.asked → s.asked.token ≢ Some h.token → Spared (covers h) s.was.store.world s.now.store.world
+Keeps passed s = (h : Lock) → h.shared ≡ false → Stands h s.was.locks → ¬ NamesLock h s.asked → Spared (covers h) s.was.store.world s.now.store.world
 Keeps kept s = (h : Lock) → Stands h s.was.locks → ¬ NamesToken s.asked h.token → s.asked.token ≢ Some h.token → Stands h s.now.locks
 Keeps shared s = (ls ms : List Lock) → s.was.locks ≡ Some ls → s.now.locks ≡ Some ms → CoveringAreShared ls → CoveringAreShared ms
 Keeps tags s = EqualTagsShowEqualBytes (s.turns ++ turn_with s.asked ∷ []) (s.replies ++ s.reply ∷ [])
 Keeps hrefs s = All (TellsOfOne settings s.asked) (responses_in s.reply.body)
+Keeps members s = (h : Lock) → h.shared ≡ false → Stands h s.was.locks → ¬ NamesLock h s.asked → is_folder s.was.store.world (folder_of h) ≡ true → SameMembers (folder_of h) s.was.store.world s.now.store.world
 
 -- a step that keeps all of them
 abbrev pub KeepsAll : Step → Type 0
@@ -95,7 +98,16 @@ no_hrefs s none = subst (All (TellsOfOne settings s.asked)) (sym none) (All-nil 
 
 -- where no lock stands, none is passed
 pub none_passed : (s : Step) → s.was.locks ≡ Some [] → Keeps passed s
-none_passed s none h alone is unnamed fresh = let on : Stands h (Some []) = subst (Stands h) none is in elim on [ ]
+none_passed s none h alone is unnamed = let on : Stands h (Some []) = subst (Stands h) none is in elim on [ ]
+
+-- where the world stays, so do the members of folders
+pub same_list : (s : Step) → s.now.store.world ≡ s.was.store.world → Keeps members s
+same_list s same h alone is unnamed folder =
+    subst (λ (w : World). SameMembers (folder_of h) s.was.store.world w) (sym same) (record { folder = folder; listed = refl })
+
+-- where no lock stands, none is on a folder
+pub none_on : (s : Step) → s.was.locks ≡ Some [] → Keeps members s
+none_on s none h alone is unnamed folder = let on : Stands h (Some []) = subst (Stands h) none is in elim on [ ]
 
 -- ---- what is asked of other requests
 
@@ -114,8 +126,8 @@ module _ (s : Step) (r : Request) (m : DavMethod) (head : IsHead s.asked.head r)
       absurd (no_tags every_tag (subst (λ (values : List FieldValue). IsTagList values every_tag) (ap (λ (z : Request). get_all (headers_of z.fields) (codes "if-none-match")) same ∙ empty) says))
 
 pub answered : (s : Step) → s.reply.status ≢ 412 → s.reply.status ≢ 423 → Keeps refused s
-answered s one other (inl is) fresh = absurd (one is)
-answered s one other (inr is) fresh = absurd (other is)
+answered s one other (inl is) = absurd (one is)
+answered s one other (inr is) = absurd (other is)
 
 pub no_304 : (s : Step) → s.reply.status ≢ 304 → Keeps unmodified s
 no_304 s other p tag bytes is lacks shown = absurd (other is)

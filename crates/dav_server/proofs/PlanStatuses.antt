@@ -2,7 +2,7 @@
 use Rattle.std.proofs.Common.{◌≡◌, ◌≢◌, ◌⊎◌, inl, inr, ℕ, zero, suc, ◌≤◌, map, ◌==◌, ◌||◌, Bool, true, false, true≢false, not, if◌then◌else◌, nat_lt, length, List, [], ◌∷◌, All, Option, Some, None, Result, Ok, Err, refl, sym, subst, arith, ◌-◌, ◌+◌}
 use Rattle.std.proofs.lemmas.List.Elements.{All-nil, All-head}
 use Rattle.std.specs.Bool.{⊤}
-use Rattle.std.specs.Option.{unwrap_or, is_some}
+use Rattle.std.specs.Option.{unwrap_or, is_some, is_none}
 use Rattle.std.specs.Result.{is_ok, result_ok}
 use Rattle.http_header.specs.FieldValue.{FieldValue}
 use Rattle.dav_core.specs.declared.errors.ParseError.{ParseError}
@@ -31,14 +31,14 @@ use Rattle.dav_engine.specs.declared.put_headers.Bounds.TheVariants.{Unread, Who
 use Rattle.dav_engine.specs.declared.put_headers.Writing.{Writing}
 use Rattle.dav_engine.specs.declared.request.Body.{Body}
 use Rattle.dav_engine.specs.Client.{Client, requester}
-use Rattle.dav_engine.specs.Conditions.{Conditions, Addressed, is_reading, matches_found, item_holds, while_true, while_false, all_hold, some_holds, if_holds, http_conditions, if_match, unless, status_as, guarded}
+use Rattle.dav_engine.specs.Conditions.{Conditions, Addressed, is_reading, matches_found, item_holds, while_true, while_false, all_hold, some_holds, if_holds, http_conditions, if_match, unless, status_as, guarded, submitted}
 use Rattle.dav_engine.specs.Lock.{one_token, token_to_refresh, keep_refreshed, refresh_in, lock_again, asked_lock, grant_in, taken_back, empty_opening, empty_error, made_or_back, make_empty, lock_new, is_absent, lock_found, lock}
 use Rattle.dav_engine.specs.Headers.{Headers}
 use Rattle.dav_engine.specs.LockHeaders.{LockHeaders, refreshed_for}
 use Rattle.dav_engine.specs.LockInfo.{lock_info}
-use Rattle.dav_engine.specs.Method.{MethodPlan, then as followed_by, ◌>>=◌, gives, require, require_free, required, has_locks, refused_as, ask_for, set_by, unless_status}
+use Rattle.dav_engine.specs.Method.{MethodPlan, then as followed_by, ◌>>=◌, gives, require, require_free, required, has_locks, refused_as, ask_for, set_by, unless_status, require_parent, require_member}
 use Rattle.dav_engine.specs.Copying.{CopyFault, CopyWalk, copy_report, copy_seen, copy_members, copy_listed, copy_inside, copy_kind, copy_looked, copy as copy_walk}
-use Rattle.dav_engine.specs.CopyMove.{CopyHeaders, AreCopyHeaders, DestinationNames, absent, unreadable, outside, inside, is_move, copy_depth, destination_found, source_free, copy_allowed, is_replaced, clearing, drop_if, drop_if_moved, brought, copied_status, copy_reply, bring_if_clear, copy_or_move}
+use Rattle.dav_engine.specs.CopyMove.{CopyHeaders, AreCopyHeaders, DestinationNames, absent, unreadable, outside, inside, is_move, copy_depth, destination_found, source_free, copy_allowed, is_replaced, clearing, drop_if, drop_if_moved, brought, copied_status, copy_reply, bring_if_clear, copy_or_move, changes_members}
 use Rattle.dav_engine.specs.Delete.{DeleteHeaders, whole_depth, delete_allowed, drop_if_gone, delete_reply, delete_found, delete}
 use Rattle.dav_engine.specs.Folder.{closed as folder_path, child_of, room_at, is_folder_found, path_found, location_found}
 use Rattle.dav_engine.specs.Mkcol.{mkcol, create_error}
@@ -252,6 +252,13 @@ ends_guarded f m c found other writes = guarded_ends f m c found (λ status abov
 pub ends_free : {E : DavError → Type 0} (deep : Bool) (who : Requester) (p : Path) (e : DavError) → E e → Ends E Any (require_free deep who p e)
 ends_free deep who p e is = ends_look (λ ls. ends_require _ e is)
 
+pub ends_parent : {E : DavError → Type 0} (wanted : Bool) (who : Requester) (p : Path) (e : DavError) → E e → Ends E Any (require_parent wanted who p e)
+ends_parent false who p e is = ends_done tt
+ends_parent true who p e is = ends_look (λ ls. ends_require _ e is)
+
+pub ends_member : {E : DavError → Type 0} (deep changes : Bool) (who : Requester) (p : Path) (e : DavError) → E e → Ends E Any (require_member deep changes who p e)
+ends_member deep changes who p e is = ends_bind _ (ends_free deep who p e is) (λ u any. ends_parent changes who p e is)
+
 -- ---- PUT and PATCH
 
 from_end_fails : (n : ℕ) (found : Option DavMetaData) → Outcome IsFailure Any (from_end n found)
@@ -297,7 +304,7 @@ ends_put_allowed : (m : DavMethod) (h : PutHeaders) (p : Path) (who : Client) (b
 ends_put_allowed m h p who bytes writes = ends_ask (λ answer.
     ends_then (writing_of m h (result_ok answer)) _ (writing_fails m h (result_ok answer)) (λ w any.
     ends_bind _ (guarded_ends dav.StatusClose m h.conditions (result_ok answer) (λ status above. above) writes) (λ tokens any.
-    ends_bind _ (ends_free false (requester who tokens) p (dav.StatusClose 423) (omega arith)) (λ free any.
+    ends_bind _ (ends_member false (not (is_ok answer)) (requester who tokens) p (dav.StatusClose 423) (omega arith)) (λ free any.
     ends_bind _ (ends_require (is_announced w.announced bytes) (dav.StatusClose 400) (omega arith)) (λ long any.
     ends_done tt)))))
 
@@ -367,7 +374,7 @@ pub ends_mkcol : (c : Conditions) (p : PathText) (who : Client) → Ends IsOther
 ends_mkcol c p who =
     ends_bind _ (ends_ask (λ answer.
     ends_bind _ (ends_guarded dav.Status MkCol c (result_ok answer) (λ status other. other) refl) (λ tokens any.
-    ends_free false (requester who tokens) (names p) (dav.Status 423) (λ same. absurd (omega (arith, same)))))) (λ allowed any.
+    ends_member false (not (is_ok answer)) (requester who tokens) (names p) (dav.Status 423) (λ same. absurd (omega (arith, same)))))) (λ allowed any.
     ends_ask (λ answer. ends_then (refused_as create_error answer) _ (asked_other create_error create_other answer) (λ done any. ends_done (λ same. absurd (omega (arith, same))))))
 
 -- ---- DELETE
@@ -431,7 +438,7 @@ delete_ends h p who =
     ends_deleting IsFailure IsOtherStatus fs_other (λ same. absurd (omega (arith, same))) (λ same. absurd (omega (arith, same))) (λ same. absurd (omega (arith, same)))
     h p who (depth_fails h.depth) store_fails (λ q found.
     ends_bind _ (guarded_ends dav.Status Delete h.conditions (Some found) (λ status above. above) refl) (λ tokens any.
-    ends_free true (requester who tokens) (names q) (dav.Status 423) (omega arith)))
+    ends_member true true (requester who tokens) (names q) (dav.Status 423) (omega arith)))
 
 pub ends_delete : (h : DeleteHeaders) (p : PathText) (who : Client) → Ends IsOther AnswersOther (delete h p who)
 ends_delete h p who = ends_other (delete_ends h p who)
@@ -518,12 +525,12 @@ module _ (E : DavError → Type 0) (P : ℕ → Type 0) (refusal : (e : FsError)
   ends_after moves deep now p d there = ends_bind _ (ends_clearing deep now d there) (λ faults are. ends_bring moves deep now p d there faults are)
 
   pub ends_copying : (m : DavMethod) (h : CopyHeaders) (p : PathText) (who : Client) → Outcome E Any (copy_depth (is_move m) h.depth) → Outcome E Any h.destination → ((answer : Result DavMetaData FsError) → Outcome E Any (refused_as dav.FsError answer))
-      → ((q d : PathText) (found : DavMetaData) → Ends E Any (copy_allowed m h q d who found)) → Ends E Brings (copy_or_move m h p who)
+      → ((deep : Bool) (q d : PathText) (found : DavMetaData) → Ends E Any (copy_allowed m deep h q d who found)) → Ends E Brings (copy_or_move m h p who)
   ends_copying m h p who depth destination store allowed =
       ends_then (copy_depth (is_move m) h.depth) _ depth (λ deep any.
       ends_then h.destination _ destination (λ d any.
       ends_ask (λ answer. ends_then (refused_as dav.FsError answer) _ (store answer) (λ found any.
-      ends_bind _ (allowed (folder_path found.dir p) d found) (λ there any. ends_after (is_move m) deep who.moment (folder_path found.dir p) d there)))))
+      ends_bind _ (allowed deep (folder_path found.dir p) d found) (λ there any. ends_after (is_move m) deep who.moment (folder_path found.dir p) d there)))))
 
 copy_depth_fails : (moves : Bool) (depth : Option Depth) → Outcome IsFailure Any (copy_depth moves depth)
 copy_depth_fails true None = tt
@@ -554,18 +561,20 @@ ends_place overwrite d = ends_ask (λ above.
     ends_bind _ (ends_require (is_folder_found (result_ok above)) (dav.Status 409) (omega arith)) (λ u any.
     ends_ask (λ there. ends_bind _ (ends_require (unwrap_or overwrite true || not (is_ok there)) (dav.Status 412) (omega arith)) (λ u any. ends_done tt))))
 
-ends_copy_allowed : (m : DavMethod) (h : CopyHeaders) (p d : PathText) (who : Client) (found : DavMetaData) → is_reading m ≡ false → Ends IsFailure Any (copy_allowed m h p d who found)
-ends_copy_allowed m h p d who found writes =
+ends_copy_allowed : (m : DavMethod) (deep : Bool) (h : CopyHeaders) (p d : PathText) (who : Client) (found : DavMetaData) → is_reading m ≡ false → Ends IsFailure Any (copy_allowed m deep h p d who found)
+ends_copy_allowed m deep h p d who found writes =
     ends_bind _ (ends_place h.overwrite d) (λ there any.
     ends_bind _ (ends_require (not (is_at_or_under (names p) (names d))) (dav.Status 403) (omega arith)) (λ u any.
     ends_bind _ (ends_bind _ (guarded_ends dav.Status m h.conditions (Some found) (λ status above. above) writes) (λ tokens any.
-    ends_bind _ (ends_source (is_move m) who tokens p) (λ u any. ends_free true (requester who tokens) (names d) (dav.Status 423) (omega arith)))) (λ u any. ends_done tt)))
+    ends_bind _ (ends_bind _ (ends_source (is_move m) who tokens p) (λ u any. ends_free true (requester who tokens) (names d) (dav.Status 423) (omega arith))) (λ u any.
+    ends_bind _ (ends_parent (is_move m) (requester who tokens) (names p) (dav.Status 423) (omega arith)) (λ u any.
+    ends_parent (changes_members (is_move m) deep there) (requester who tokens) (names d) (dav.Status 423) (omega arith))))) (λ u any. ends_done tt)))
 
 -- an error of a COPY or MOVE reports one
 pub copymove_ends : (m : DavMethod) (headers : Headers) (h : CopyHeaders) (p : PathText) (who : Client) → is_reading m ≡ false → AreCopyHeaders headers p h → Ends IsFailure AnswersOther (copy_or_move m h p who)
 copymove_ends m headers h p who writes are =
     ends_copying IsFailure IsOtherStatus fs_other (λ same. absurd (omega (arith, same))) (λ same. absurd (omega (arith, same))) (λ same. absurd (omega (arith, same))) (λ same. absurd (omega (arith, same)))
-    m h p who (copy_depth_fails (is_move m) h.depth) (place_fails are.destination) store_fails (λ q d found. ends_copy_allowed m h q d who found writes)
+    m h p who (copy_depth_fails (is_move m) h.depth) (place_fails are.destination) store_fails (λ deep q d found. ends_copy_allowed m deep h q d who found writes)
 
 pub ends_copymove : (m : DavMethod) (headers : Headers) (h : CopyHeaders) (p : PathText) (who : Client) → is_reading m ≡ false → AreCopyHeaders headers p h → Ends IsOther AnswersOther (copy_or_move m h p who)
 ends_copymove m headers h p who writes are = ends_other (copymove_ends m headers h p who writes are)
@@ -646,7 +655,8 @@ ends_asked h p content who found =
     ends_bind _ (conditions_end LockMethod h.conditions found) (λ verdict is.
     ends_bind _ (ends_status verdict (verdict_fails h.conditions found verdict is)) (λ u any.
     ends_then (required (lock_info content) dav.XmlParseError) _ (required_other (lock_info content) dav.XmlParseError (λ same. absurd (omega (arith, same)))) (λ info any.
-    ends_then (required who.token (dav.Status 500)) _ (required_other who.token (dav.Status 500) (λ same. absurd (omega (arith, same)))) (λ token any. ends_done tt)))))
+    ends_then (required who.token (dav.Status 500)) _ (required_other who.token (dav.Status 500) (λ same. absurd (omega (arith, same)))) (λ token any.
+    ends_bind _ (ends_parent (is_none found) (requester who (submitted h.conditions.lists)) (names p) (dav.Status 423) (λ same. absurd (omega (arith, same)))) (λ u any. ends_done tt))))))
 
 one_other : (tokens : List (List ℕ)) → Outcome IsOther Any (one_token tokens)
 one_other [] = λ same. absurd (omega (arith, same))

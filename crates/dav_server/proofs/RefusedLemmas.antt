@@ -1,5 +1,5 @@
 -- A request that is answered 412 or 423 leaves everything: after the file was opened, or the folder made, no such status comes.
-use Rattle.std.proofs.Common.{◌≡◌, ◌≢◌, inl, inr, ℕ, ◌==◌, Bool, true, false, if◌then◌else◌, length, List, Option, Some, None, Result, Ok, Err, refl, subst, ◌∙◌, arith}
+use Rattle.std.proofs.Common.{◌≡◌, ◌≢◌, ◌⊎◌, inl, inr, ℕ, ◌==◌, Bool, true, false, if◌then◌else◌, length, List, Option, Some, None, Result, Ok, Err, refl, subst, ◌∙◌, arith}
 use Rattle.dav_core.specs.declared.errors.FsError.{FsError}
 use Rattle.dav_core.specs.declared.errors.FsError.TheVariants as fs
 use Rattle.dav_core.specs.declared.errors.DavError.{DavError}
@@ -20,7 +20,7 @@ use Rattle.dav_engine.specs.Conditions.{Conditions}
 use Rattle.dav_engine.specs.Headers.{Headers}
 use Rattle.dav_engine.specs.Lock.{lock, IsLock, is_lock}
 use Rattle.dav_engine.specs.LockHeaders.{LockHeaders}
-use Rattle.dav_engine.specs.LockLaws.{IsUnused}
+use Rattle.dav_engine.specs.LockLaws.{IsUnused, IsRefusedFile}
 use Rattle.dav_engine.specs.Method.{MethodPlan, then as followed_by, ◌>>=◌, gives, ask_for, ask_or, refused_as, required, has_locks}
 use Rattle.dav_engine.specs.CopyMove.{CopyHeaders, is_move, copy_depth, copy_or_move, is_copy_move}
 use Rattle.dav_engine.specs.Delete.{DeleteHeaders, whole_depth, delete, is_delete}
@@ -205,7 +205,7 @@ later_copymove : (m : DavMethod) (h : CopyHeaders) (p : PathText) (who : Client)
 later_copymove m h p who =
     ends_copying (λ e. ⊤) Later later_fs (λ same. absurd (omega (arith, same)), λ same. absurd (omega (arith, same))) (λ same. absurd (omega (arith, same)), λ same. absurd (omega (arith, same)))
     (λ same. absurd (omega (arith, same)), λ same. absurd (omega (arith, same))) (λ same. absurd (omega (arith, same)), λ same. absurd (omega (arith, same)))
-    m h p who (any_outcome (copy_depth (is_move m) h.depth)) (any_outcome h.destination) (λ answer. any_outcome (refused_as dav.FsError answer)) (λ q d found. only_ends (only_copy_allowed m h q d who found))
+    m h p who (any_outcome (copy_depth (is_move m) h.depth)) (any_outcome h.destination) (λ answer. any_outcome (refused_as dav.FsError answer)) (λ deep q d found. only_ends (only_copy_allowed m deep h q d who found))
 
 copymove_leaves : (m : DavMethod) (h : CopyHeaders) (p : PathText) (who : Client) (outcome : Result Response DavError) {old new : StoreState} {ls ms : Locks}
     → IsRefusedStatus (reply_to outcome).status → Ran Asking (copy_or_move m h p who) old ls outcome new ms → Same old ls new ms
@@ -238,41 +238,69 @@ later_lock h p content who =
 abbrev IsNewToken : Client → Locks → Type 0
 IsNewToken who ls = (token : List ℕ) → who.token ≡ Some token → IsUnused token ls
 
+-- what is left where the token is new
+abbrev LeftIf : Type 0 → StoreState → Locks → StoreState → Locks → Type 0
+LeftIf new_token old ls new ms = (new.world ≡ old.world) × (new_token → ms ≡ ls)
+
+all_left : {A P Q : Type 0} → P × Q → P × (A → Q)
+all_left same = (same.0, λ fresh. same.1)
+
+-- 423 comes before the store is asked for a file
+not_file : (headers : Headers) (e : DavError) → dav_status e ≡ 423 → ¬ IsRefusedFile headers e
+not_file headers (dav.FsError d) is refused = (later_fs d).1 is
+not_file headers (dav.Status status) is (inl conflict) = absurd (omega (arith, is, conflict))
+not_file headers (dav.Status status) is (inr failed) = let other = failed.0 in absurd (omega (arith, is, other))
+not_file headers (dav.StatusClose status) is refused = refused
+not_file headers dav.XmlParseError is refused = refused
+not_file headers dav.InvalidPath is refused = refused
+not_file headers dav.ForbiddenPath is refused = refused
+not_file headers dav.IllegalPath is refused = refused
+not_file headers dav.UnknownDavMethod is refused = refused
+not_file headers dav.ChanError is refused = refused
+not_file headers dav.Memory is refused = refused
+
+early : (headers : Headers) (who : Client) (ls : Locks) (e : DavError) → IsRefusedStatus (dav_status e) → (dav_status e ≡ 412 → IsNewToken who ls) → ((token : List ℕ) → who.token ≡ Some token → IsUnused token ls) ⊎ (¬ IsRefusedFile headers e)
+early headers who ls e (inl is) fresh = inl (fresh is)
+early headers who ls e (inr is) fresh = inr (not_file headers e is)
+
 lock_leaves : (headers : Headers) (p : PathText) (content : Body) (who : Client) (plan : MethodPlan Response) (outcome : Result Response DavError) {old new : StoreState} {ls ms : Locks}
-    → IsNewToken who ls → IsRefusedStatus (reply_to outcome).status → IsLock headers p content who plan → Ran Asking plan old ls outcome new ms → Same old ls new ms
-lock_leaves headers p content who plan (Ok r) fresh (inl is) (is_lock h are) ran = absurd ((ran_ends (later_lock h p content who) ran).0 is)
-lock_leaves headers p content who plan (Ok r) fresh (inr is) (is_lock h are) ran = absurd ((ran_ends (later_lock h p content who) ran).1 is)
-lock_leaves headers p content who plan (Err e) {old} {new} {ls} {ms} fresh refused its ran = refused_lock_leaves_all headers p content who plan old new ls ms e fresh its ran
+    → IsRefusedStatus (reply_to outcome).status → IsLock headers p content who plan → Ran Asking plan old ls outcome new ms → LeftIf ((reply_to outcome).status ≡ 412 → IsNewToken who ls) old ls new ms
+lock_leaves headers p content who plan (Ok r) (inl is) (is_lock h are) ran = absurd ((ran_ends (later_lock h p content who) ran).0 is)
+lock_leaves headers p content who plan (Ok r) (inr is) (is_lock h are) ran = absurd ((ran_ends (later_lock h p content who) ran).1 is)
+lock_leaves headers p content who plan (Err e) {old} {new} {ls} {ms} refused its ran =
+    let (world, list) = refused_lock_leaves_all headers p content who plan old new ls ms e its ran in
+    (world, λ fresh. list (early headers who ls e refused fresh))
 
 -- ---- a step
 
 plan_leaves : {allowed : ℕ} {headers : Headers} {p : PathText} {given : Body} {who : Client} {m : DavMethod} {plan : MethodPlan Response} (outcome : Result Response DavError) {old new : StoreState} {ls ms : Locks}
-    → (m ≡ LockMethod → IsNewToken who ls) → IsRefusedStatus (reply_to outcome).status → PlanOf allowed headers p given who m plan → Ran Asking plan old ls outcome new ms → Same old ls new ms
-plan_leaves {p = p} {who = who} outcome fresh refused (gets (is_get c are)) ran = reading_leaves (get_is_reading Get c (names p) who.moment) ran
-plan_leaves {p = p} {who = who} outcome fresh refused (heads (is_get c are)) ran = reading_leaves (get_is_reading Head c (names p) who.moment) ran
-plan_leaves {p = p} {given} {who} outcome fresh refused (puts (is_put h are)) ran = body_leaves Put h (names p) who (bytes_of_body given) outcome refused ran
-plan_leaves {p = p} {given} {who} outcome fresh refused (patches (is_put h are)) ran = body_leaves Patch h (names p) who (bytes_of_body given) outcome refused ran
-plan_leaves {p = p} {who = who} outcome fresh refused (makes (is_mkcol c are)) ran =
+    → IsRefusedStatus (reply_to outcome).status → PlanOf allowed headers p given who m plan → Ran Asking plan old ls outcome new ms → LeftIf ((reply_to outcome).status ≡ 412 → m ≡ LockMethod → IsNewToken who ls) old ls new ms
+plan_leaves {p = p} {who = who} outcome refused (gets (is_get c are)) ran = all_left (reading_leaves (get_is_reading Get c (names p) who.moment) ran)
+plan_leaves {p = p} {who = who} outcome refused (heads (is_get c are)) ran = all_left (reading_leaves (get_is_reading Head c (names p) who.moment) ran)
+plan_leaves {p = p} {given} {who} outcome refused (puts (is_put h are)) ran = all_left (body_leaves Put h (names p) who (bytes_of_body given) outcome refused ran)
+plan_leaves {p = p} {given} {who} outcome refused (patches (is_put h are)) ran = all_left (body_leaves Patch h (names p) who (bytes_of_body given) outcome refused ran)
+plan_leaves {p = p} {who = who} outcome refused (makes (is_mkcol c are)) ran =
     let parts = ran_split (mkcol_allowed c p who) _ ran in
-    mkcol_leaves c p who parts.outcome outcome refused parts.first parts.rest
-plan_leaves {p = p} {who = who} outcome fresh refused (deletes (is_delete h are)) ran = delete_leaves h p who outcome refused ran
-plan_leaves {p = p} {who = who} outcome fresh refused (copies (is_copy_move h are)) ran = copymove_leaves Copy h p who outcome refused ran
-plan_leaves {p = p} {who = who} outcome fresh refused (moves (is_copy_move h are)) ran = copymove_leaves Move h p who outcome refused ran
-plan_leaves {allowed} {p = p} outcome fresh refused offers ran = reading_leaves (options_only_reads allowed p) ran
-plan_leaves {headers = headers} {p} {given} {who} {plan = plan} outcome fresh refused (finds_properties is) ran = reading_leaves (propfind_only_reads headers p given who plan is) ran
-plan_leaves {headers = headers} {p} {given} {who} {plan = plan} outcome fresh refused (sets_properties is) ran = proppatch_leaves headers p given who plan outcome refused is ran
-plan_leaves {headers = headers} {p} {given} {who} {plan = plan} outcome fresh refused (locks is) ran = lock_leaves headers p given who plan outcome (fresh refl) refused is ran
-plan_leaves {headers = headers} {p} {who = who} {plan = plan} outcome fresh refused (releases is) ran = unlock_leaves headers p who plan outcome refused is ran
+    all_left (mkcol_leaves c p who parts.outcome outcome refused parts.first parts.rest)
+plan_leaves {p = p} {who = who} outcome refused (deletes (is_delete h are)) ran = all_left (delete_leaves h p who outcome refused ran)
+plan_leaves {p = p} {who = who} outcome refused (copies (is_copy_move h are)) ran = all_left (copymove_leaves Copy h p who outcome refused ran)
+plan_leaves {p = p} {who = who} outcome refused (moves (is_copy_move h are)) ran = all_left (copymove_leaves Move h p who outcome refused ran)
+plan_leaves {allowed} {p = p} outcome refused offers ran = all_left (reading_leaves (options_only_reads allowed p) ran)
+plan_leaves {headers = headers} {p} {given} {who} {plan = plan} outcome refused (finds_properties is) ran = all_left (reading_leaves (propfind_only_reads headers p given who plan is) ran)
+plan_leaves {headers = headers} {p} {given} {who} {plan = plan} outcome refused (sets_properties is) ran = all_left (proppatch_leaves headers p given who plan outcome refused is ran)
+plan_leaves {headers = headers} {p} {given} {who} {plan = plan} outcome refused (locks is) ran = (let (world, list) = lock_leaves headers p given who plan outcome refused is ran in (world, λ fresh. list (λ status. fresh status refl)))
+plan_leaves {headers = headers} {p} {who = who} {plan = plan} outcome refused (releases is) ran = all_left (unlock_leaves headers p who plan outcome refused is ran)
 
 of_leaves : {s : Settings} {x : Asked} {r : Request} {m : DavMethod} {plan : MethodPlan Response} (outcome : Result Response DavError) {old new : StoreState} {ls ms : Locks}
-    → (m ≡ LockMethod → IsNewToken (client x) ls) → IsRefusedStatus (reply_to outcome).status → MeansOf s x r m plan → Ran Asking plan old ls outcome new ms → Same old ls new ms
-of_leaves outcome fresh refused (not_allowed out) ran = reading_leaves reads_done ran
-of_leaves outcome fresh refused (no_path e has none) ran = reading_leaves reads_done ran
-of_leaves outcome fresh refused (no_body p e has named bad) ran = reading_leaves reads_done ran
-of_leaves outcome fresh refused (method p given has named good plan) ran = plan_leaves outcome fresh refused plan ran
+    → IsRefusedStatus (reply_to outcome).status → MeansOf s x r m plan → Ran Asking plan old ls outcome new ms → LeftIf ((reply_to outcome).status ≡ 412 → m ≡ LockMethod → IsNewToken (client x) ls) old ls new ms
+of_leaves outcome refused (not_allowed out) ran = all_left (reading_leaves reads_done ran)
+of_leaves outcome refused (no_path e has none) ran = all_left (reading_leaves reads_done ran)
+of_leaves outcome refused (no_body p e has named bad) ran = all_left (reading_leaves reads_done ran)
+of_leaves outcome refused (method p given has named good plan) ran = plan_leaves outcome refused plan ran
 
 pub refused_leaves : RefusedLeaves
-refused_leaves s x old new ls ms reply fresh refused (steps plan outcome (no_head out) ran) = reading_leaves reads_done ran
-refused_leaves s x old new ls ms reply fresh refused (steps plan outcome (no_method r e head known_by) ran) = reading_leaves reads_done ran
-refused_leaves s x old new ls ms reply fresh refused (steps plan outcome (known r m head known_by its) ran) =
-    of_leaves outcome (λ is. fresh (r, head, subst (λ (k : DavMethod). GivesServed r.method (Ok k)) is known_by)) refused its ran
+refused_leaves s x old new ls ms reply refused (steps plan outcome (no_head out) ran) = all_left (reading_leaves reads_done ran)
+refused_leaves s x old new ls ms reply refused (steps plan outcome (no_method r e head known_by) ran) = all_left (reading_leaves reads_done ran)
+refused_leaves s x old new ls ms reply refused (steps plan outcome (known r m head known_by its) ran) =
+    let (world, list) = of_leaves outcome refused its ran in
+    (world, λ fresh. list (λ status is. fresh status (r, head, subst (λ (k : DavMethod). GivesServed r.method (Ok k)) is known_by)))

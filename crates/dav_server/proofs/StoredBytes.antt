@@ -24,7 +24,7 @@ use Rattle.dav_engine.specs.declared.put_headers.Bounds.TheVariants.{Whole}
 use Rattle.dav_engine.specs.declared.put_headers.Writing.{Writing}
 use Rattle.dav_engine.specs.Client.{Client, requester}
 use Rattle.dav_engine.specs.Conditions.{guarded}
-use Rattle.dav_engine.specs.Method.{◌>>=◌, gives, require, require_free, refused_as, answer_of, ask_for}
+use Rattle.dav_engine.specs.Method.{◌>>=◌, gives, require, require_free, refused_as, answer_of, ask_for, require_member}
 use Rattle.dav_engine.specs.Plan.{Locks, Ran, ran_ask}
 use Rattle.dav_engine.specs.Put.{PutHeaders, written_by, bounded_by, writing_of, put_opening, open_error, written, is_announced, stored, store, put_allowed, put_body}
 use Rattle.dav_engine.specs.Response.{Response, Header, etag, last_modified, content_length}
@@ -298,7 +298,7 @@ allowed_whole : (h : PutHeaders) (p : Path) (who : Client) (bytes : List ℕ) {o
 allowed_whole h p who bytes {allowed = allowed} whole (ran_ask {answer = answer} one ran) =
     let (w, is, more) = gone_on (writing_of Put h (result_ok answer)) _ ran in
     let guard = went (guarded dav.StatusClose Put h.conditions (result_ok answer)) _ more in
-    let free = went (require_free false (requester who guard.value) p (dav.StatusClose 423)) _ guard.rest in
+    let free = went (require_member false (not (is_ok answer)) (requester who guard.value) p (dav.StatusClose 423)) _ guard.rest in
     let long = went (require (is_announced w.announced bytes) (dav.StatusClose 400)) _ free.rest in
     let same : allowed ≡ (w, is_ok answer) = ok_same (ran_outcome long.rest) in
     let (from, appends) = writes_whole h (result_ok answer) w whole is in

@@ -71,62 +71,62 @@ module _ (h : Lock) (x : Asked) (r : Request) (head : IsHead x.head r) where
 
 -- ---- plans of strangers
 
--- the plan spares what the lock covers, and a guard's folder
-abbrev Spares : Lock → MethodPlan Response → Type 0
-Spares h plan = SparesLock h plan × (IsGuard h → SparesGuard h plan)
+-- the plan spares what the lock covers, and the folder of a guard with another token
+abbrev Spares : Lock → Asked → MethodPlan Response → Type 0
+Spares h x plan = SparesLock h plan × (IsGuard h → x.token ≢ Some h.token → SparesGuard h plan)
 
-both : (h : Lock) (plan : MethodPlan Response) → SparesBoth h plan → Spares h plan
-both h plan spares = (spares.0, λ guard. spares.1)
+both : (h : Lock) (x : Asked) (plan : MethodPlan Response) → SparesBoth h plan → Spares h x plan
+both h x plan spares = (spares.0, λ guard own. spares.1)
 
-module _ (h : Lock) (exclusive : h.shared ≡ false) (x : Asked) (other : ¬ NamesLock h x) (own : x.token ≢ Some h.token) where
-  plan_spares : (r : Request) → IsHead x.head r → {allowed : ℕ} {p : PathText} {body : Body} {m : DavMethod} {plan : MethodPlan Response} → (m ≢ Options → p.bytes ≢ star) → PlanOf allowed (headers_of r.fields) p body (client x) m plan → Spares h plan
-  plan_spares r head {p = p} below (gets (is_get c are)) = both h (get Get c (names p) (client x).moment) (reading_spares h (get Get c (names p) (client x).moment) (get_is_reading Get c (names p) (client x).moment))
-  plan_spares r head {p = p} below (heads (is_get c are)) = both h (get Head c (names p) (client x).moment) (reading_spares h (get Head c (names p) (client x).moment) (get_is_reading Head c (names p) (client x).moment))
-  plan_spares r head {p} {body} {plan = plan} below (puts is) = both h plan (put_spares h Put (headers_of r.fields) p body (client x) plan exclusive (is_stranger h x r head p other) is)
-  plan_spares r head {p} {body} {plan = plan} below (patches is) = both h plan (put_spares h Patch (headers_of r.fields) p body (client x) plan exclusive (is_stranger h x r head p other) is)
-  plan_spares r head {p = p} {plan = plan} below (makes is) = both h plan (mkcol_spares h (headers_of r.fields) p (client x) plan exclusive (is_stranger h x r head p other) is)
-  plan_spares r head {p = p} {plan = plan} below (deletes is) = both h plan (delete_spares h (headers_of r.fields) p (client x) plan exclusive (below (λ e. cc)) (is_stranger h x r head p other) is)
-  plan_spares r head {p = p} {plan = plan} below (copies is) = both h plan (copymove_spares h Copy (headers_of r.fields) p (client x) plan exclusive (below (λ e. cc)) (is_stranger h x r head p other) is)
-  plan_spares r head {p = p} {plan = plan} below (moves is) = both h plan (copymove_spares h Move (headers_of r.fields) p (client x) plan exclusive (below (λ e. cc)) (is_stranger h x r head p other) is)
-  plan_spares r head {allowed} {p} below offers = both h (options allowed p) (reading_spares h (options allowed p) (options_only_reads allowed p))
-  plan_spares r head {p = p} {body} {plan = plan} below (finds_properties is) = both h plan (reading_spares h plan (propfind_only_reads (headers_of r.fields) p body (client x) plan is))
-  plan_spares r head {p = p} {body} {plan = plan} below (sets_properties is) = both h plan (proppatch_spares h (headers_of r.fields) p body (client x) plan exclusive (is_stranger h x r head p other) is)
-  plan_spares r head {p = p} {body} {plan = plan} below (locks is) = lock_spares h (headers_of r.fields) p body (client x) plan exclusive own is
-  plan_spares r head {p = p} {plan = plan} below (releases is) = both h plan (unlock_spares h (headers_of r.fields) p (client x) plan is)
+module _ (h : Lock) (exclusive : h.shared ≡ false) (x : Asked) (other : ¬ NamesLock h x) where
+  plan_spares : (r : Request) → IsHead x.head r → {allowed : ℕ} {p : PathText} {body : Body} {m : DavMethod} {plan : MethodPlan Response} → (m ≢ Options → p.bytes ≢ star) → PlanOf allowed (headers_of r.fields) p body (client x) m plan → Spares h x plan
+  plan_spares r head {p = p} below (gets (is_get c are)) = both h x (get Get c (names p) (client x).moment) (reading_spares h (get Get c (names p) (client x).moment) (get_is_reading Get c (names p) (client x).moment))
+  plan_spares r head {p = p} below (heads (is_get c are)) = both h x (get Head c (names p) (client x).moment) (reading_spares h (get Head c (names p) (client x).moment) (get_is_reading Head c (names p) (client x).moment))
+  plan_spares r head {p} {body} {plan = plan} below (puts is) = both h x plan (put_spares h Put (headers_of r.fields) p body (client x) plan exclusive (is_stranger h x r head p other) is)
+  plan_spares r head {p} {body} {plan = plan} below (patches is) = both h x plan (put_spares h Patch (headers_of r.fields) p body (client x) plan exclusive (is_stranger h x r head p other) is)
+  plan_spares r head {p = p} {plan = plan} below (makes is) = both h x plan (mkcol_spares h (headers_of r.fields) p (client x) plan exclusive (is_stranger h x r head p other) is)
+  plan_spares r head {p = p} {plan = plan} below (deletes is) = both h x plan (delete_spares h (headers_of r.fields) p (client x) plan exclusive (below (λ e. cc)) (is_stranger h x r head p other) is)
+  plan_spares r head {p = p} {plan = plan} below (copies is) = both h x plan (copymove_spares h Copy (headers_of r.fields) p (client x) plan exclusive (below (λ e. cc)) (is_stranger h x r head p other) is)
+  plan_spares r head {p = p} {plan = plan} below (moves is) = both h x plan (copymove_spares h Move (headers_of r.fields) p (client x) plan exclusive (below (λ e. cc)) (is_stranger h x r head p other) is)
+  plan_spares r head {allowed} {p} below offers = both h x (options allowed p) (reading_spares h (options allowed p) (options_only_reads allowed p))
+  plan_spares r head {p = p} {body} {plan = plan} below (finds_properties is) = both h x plan (reading_spares h plan (propfind_only_reads (headers_of r.fields) p body (client x) plan is))
+  plan_spares r head {p = p} {body} {plan = plan} below (sets_properties is) = both h x plan (proppatch_spares h (headers_of r.fields) p body (client x) plan exclusive (is_stranger h x r head p other) is)
+  plan_spares r head {p = p} {body} {plan = plan} below (locks is) = lock_spares h (headers_of r.fields) p body (client x) plan exclusive is
+  plan_spares r head {p = p} {plan = plan} below (releases is) = both h x plan (unlock_spares h (headers_of r.fields) p (client x) plan is)
 
-  of_spares : (r : Request) → IsHead x.head r → {s : Settings} {m : DavMethod} {plan : MethodPlan Response} → MeansOf s x r m plan → Spares h plan
-  of_spares r head (not_allowed out) = (spares_err, λ guard. spares_err)
-  of_spares r head (no_path e has none) = (spares_err, λ guard. spares_err)
-  of_spares r head (no_body p e has named bad) = (spares_err, λ guard. spares_err)
+  of_spares : (r : Request) → IsHead x.head r → {s : Settings} {m : DavMethod} {plan : MethodPlan Response} → MeansOf s x r m plan → Spares h x plan
+  of_spares r head (not_allowed out) = (spares_err, λ guard own. spares_err)
+  of_spares r head (no_path e has none) = (spares_err, λ guard own. spares_err)
+  of_spares r head (no_body p e has named bad) = (spares_err, λ guard own. spares_err)
   of_spares r head (method p body has named good plan) = plan_spares r head (target_is_path named) plan
 
-  pub means_spares : {s : Settings} {plan : MethodPlan Response} → Means s x plan → Spares h plan
-  means_spares (no_head out) = (spares_err, λ guard. spares_err)
-  means_spares (no_method r e head gives) = (spares_err, λ guard. spares_err)
+  pub means_spares : {s : Settings} {plan : MethodPlan Response} → Means s x plan → Spares h x plan
+  means_spares (no_head out) = (spares_err, λ guard own. spares_err)
+  means_spares (no_method r e head gives) = (spares_err, λ guard own. spares_err)
   means_spares (known r m head gives means) = of_spares r head means
 
 -- ---- passing
 
 pub no_lock_is_passed : NoLockIsPassed
-no_lock_is_passed s x old new ls ms reply h exclusive stands other own small world (steps plan outcome means ran) =
-    sparing_leaves_covered h plan old new ls ms outcome (means_spares h exclusive x other own means).0 (means_proper small means) ran stands world
+no_lock_is_passed s x old new ls ms reply h exclusive stands other small world (steps plan outcome means ran) =
+    sparing_leaves_covered h plan old new ls ms outcome (means_spares h exclusive x other means).0 (means_proper small means) ran stands world
 
-cut_spares : (s : Settings) (x : Asked) (old : StoreState) (ls : Locks) (h : Lock) {new : StoreState} {ms : Locks} → h.shared ≡ false → Stands h ls → ¬ NamesLock h x → x.token ≢ Some h.token → x.moment ≤ last_moment → IsWorld old.world
+cut_spares : (s : Settings) (x : Asked) (old : StoreState) (ls : Locks) (h : Lock) {new : StoreState} {ms : Locks} → h.shared ≡ false → Stands h ls → ¬ NamesLock h x → x.moment ≤ last_moment → IsWorld old.world
     → StepCut s x old ls new ms → Spared (covers h) old.world new.world
-cut_spares s x old ls h exclusive stands other own small world untouched = record { same = λ q within. refl; above = λ p q up within folder. folder }
-cut_spares s x old ls h exclusive stands other own small world (cut plan {new} {ms} means some) =
-    sparing_leaves_covered_cut h plan old new ls ms (means_spares h exclusive x other own means).0 (means_proper small means) some stands world
+cut_spares s x old ls h exclusive stands other small world untouched = record { same = λ q within. refl; above = λ p q up within folder. folder }
+cut_spares s x old ls h exclusive stands other small world (cut plan {new} {ms} means some) =
+    sparing_leaves_covered_cut h plan old new ls ms (means_spares h exclusive x other means).0 (means_proper small means) some stands world
 
 pub no_lock_is_passed_cut : NoLockIsPassedCut
-no_lock_is_passed_cut s x old new ls ms h exclusive stands other own small world stops = cut_spares s x old ls h exclusive stands other own small world stops
+no_lock_is_passed_cut s x old new ls ms h exclusive stands other small world stops = cut_spares s x old ls h exclusive stands other small world stops
 
 -- of a run, between any two requests
 pub passes_no_lock : (old : Server) (ts : List Turn) (replies : List Response) → AreShowable ts → PassesNoLock old ts replies
-passes_no_lock old ts replies small front back t before after reply mid new ks ms h is given world ran step exclusive stands other own =
+passes_no_lock old ts replies small front back t before after reply mid new ks ms h is given world ran step exclusive stands other =
     let P = λ (t : Turn). t.asked.moment ≤ last_moment in
     let all : AreShowable (front ++ t ∷ back) = subst AreShowable is small in
     let kept = run_keeps world (all_front P front (t ∷ back) all) ran in
     let moment = All-head P t back (all_back P front (t ∷ back) all) in
     let same : (begun t.refusals mid).world ≡ mid.world = begun_world t.refusals mid in
     subst (λ (w : World). Spared (covers h) w new.world) same
-    (no_lock_is_passed old.settings t.asked (begun t.refusals mid) new ks ms reply h exclusive stands other own moment (subst IsWorld (sym same) kept.world) step)
+    (no_lock_is_passed old.settings t.asked (begun t.refusals mid) new ks ms reply h exclusive stands other moment (subst IsWorld (sym same) kept.world) step)

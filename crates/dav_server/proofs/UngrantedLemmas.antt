@@ -77,7 +77,8 @@ no_write x lock (inr (r, head, gives)) = let same : Patch ≡ LockMethod = asks_
 module _ (s : Settings) (x : Asked) (old new : ServerState) (e : DavError) where
   other_error : e ≢ dav.Memory → Serves (Means s x) old (Err e) new → GrantsNothing x old new
   other_error other (served plan means (followed ran)) (lock, has) unused =
-      errors_leave s x plan old.store new.store old.locks new.locks e (λ writes. absurd (no_write x lock writes)) (λ is. unused) means ran
+      let (world, list) = errors_leave s x plan old.store new.store old.locks new.locks e (λ writes. absurd (no_write x lock writes)) means ran in
+      (world, list (λ is. inl unused))
   other_error other (served plan means (gave_up is front)) asks unused = absurd (other (cc))
   other_error other (not_begun is same kept) asks unused = absurd (other (cc))
 

@@ -1,20 +1,16 @@
 -- A worked run of two clients on a locked folder, from no locks and an empty store, and the run of the folder's holder alone.
-use Rattle.std.proofs.Common.{◌≡◌, ◌≢◌, ◌≤◌, ◌+◌, ℕ, false, List, [], ◌∷◌, length, codes, append-nil, All, Some, None, Ok, Err, inl, inr, refl, sym, ap, subst, arith}
+use Rattle.std.proofs.Common.{◌≡◌, ◌≤◌, ◌+◌, ℕ, false, List, [], ◌∷◌, length, codes, append-nil, All, Some, None, Ok, Err, inl, refl, sym, ap, subst, arith}
 use Rattle.std.proofs.lemmas.List.Elements.{All-nil, All-cons}
 use Rattle.std.proofs.lemmas.List.Kept.{AllPairs-cons}
-use Rattle.std.specs.Str.{IsUtf8}
-use Rattle.percent_encoding.specs.Percent.{percent_decode}
 use Rattle.httparse.specs.Grammar.{IsField, is_token_byte, print_request}
 use Rattle.dav_core.specs.declared.errors.FsError.TheVariants.{NotFound, GeneralFailure}
 use Rattle.dav_core.specs.declared.errors.DavError.TheVariants as dav
 use Rattle.dav_core.specs.declared.fs.DavMetaData.{DavMetaData}
-use Rattle.dav_core.specs.declared.method.DavMethod.{DavMethod}
 use Rattle.dav_core.specs.declared.method.DavMethod.TheVariants.{Put, Delete}
 use Rattle.dav_core.specs.Asking.{meaning, StoreState, Answered, asked, Metadata, RemoveFile, Open, Write, Flush, FileMetadata}
 use Rattle.dav_core.specs.Calls.{written, without}
 use Rattle.dav_core.specs.Handle.{Handle, opened}
-use Rattle.dav_core.specs.Path.{Path, PathText, IsName, at_start}
-use Rattle.dav_core.specs.Target.{nothing, blank, NamesPath, EndsInSlash, IsTextByte, before_query}
+use Rattle.dav_core.specs.Path.{Path}
 use Rattle.dav_core.specs.World.{World, File, with_new, change_node, is_file_made_with}
 use Rattle.dav_core.proofs.Theorems.{empty_is_world}
 use Rattle.dav_headers.specs.IfLaws.{asks_for}
@@ -30,7 +26,7 @@ use Rattle.dav_engine.specs.Multistatus.{status_reply}
 use Rattle.dav_engine.specs.Plan.{Locks, Ran, ran_done, ran_ask, ran_look, ran_keep}
 use Rattle.dav_engine.specs.Put.{ArePutHeaders, put, store, stored, is_put}
 use Rattle.dav_engine.specs.Response.{Response, error_reply}
-use Rattle.dav_engine.proofs.Theorems.{last_is, ran_plain}
+use Rattle.dav_engine.proofs.Theorems.{ran_plain}
 use Rattle.dav_server.specs.Head.{Request, IsHead, request_of_head}
 use Rattle.dav_server.specs.Headers.{headers_of}
 use Rattle.dav_server.specs.Holder.{IsHolderRequest, acts}
@@ -39,60 +35,11 @@ use Rattle.dav_server.specs.Machine.{Asked, client, Means, known, method, puts, 
 use Rattle.dav_server.specs.Naming.{NamesLock, by_if}
 use Rattle.dav_server.specs.Run.{Turn, Runs, no_more, one_more}
 use Rattle.dav_server.specs.TagLaws.{AreShowable}
-use Rattle.dav_server.specs.Target.{TargetNames, path}
 use Rattle.dav_server.proofs.GrantedRuns.{is_isolated_from_grants}
 use Rattle.dav_server.proofs.MeansLemmas.{runs_are_determined}
-use Rattle.dav_server.proofs.NeededPremises.{b}
 use Rattle.dav_server.proofs.NeededWorlds.{put_headers, no_length, no_expected, no_update, bare_says, answers, emptying, writer, writing, writer_means, writer_unnamed}
 use Rattle.dav_server.proofs.WorkedGrant.{locker, locking, locker_means, no_depth, granted_lock, one, lock_reply, makes_first, grants, begins, Others, quiet}
-use Rattle.dav_server.proofs.WorkedRun.{a, token, at_a, head_of, head_with_method, one_field, if_field, letter_name, stranger, turn_with, settings, no_conditions, own_conditions, own_list, own_says, own_fields, own_if, holder_fields, holder_says, unnamed_by, plan_with, stranger_means, after, holding, Showable, Loaded}
-
--- ---- the path /a/b
-
-abbrev pub below : Path
-below = a ∷ b ∷ []
-
-abbrev pub slash_below : List ℕ
-slash_below = 47 ∷ 97 ∷ 47 ∷ 98 ∷ []
-
-abbrev pub at_below : PathText
-at_below = record { prefix = []; bytes = slash_below }
-
-text_below : IsUtf8 slash_below
-unfolding lib.Utf8.encode
-text_below = (slash_below, (refl, refl))
-
-name_a : IsName a
-unfolding percent_decode
-name_a = letter_name 97 (omega arith) (omega arith) refl refl
-
-name_b : IsName b
-unfolding percent_decode
-name_b = letter_name 98 (omega arith) (omega arith) refl refl
-
-not_closed : ¬ EndsInSlash (before_query slash_below)
-not_closed (front, is) = let e : 47 ≡ 98 = last_is front (47 ∷ 97 ∷ 47 ∷ []) 47 98 (sym is) in omega (arith, e)
-
-abbrev byte : (n : ℕ) → 32 ≤ n → n ≤ 126 → n ≢ 35 → IsTextByte n
-byte n low high other = (low, high, other)
-
-slash_byte : IsTextByte 47
-slash_byte = byte 47 (omega arith) (omega arith) (λ e. omega (arith, e))
-
-path_below : NamesPath slash_below below false
-unfolding percent_decode
-path_below = record {
-  rooted = record {
-    text = All-cons IsTextByte 47 (97 ∷ 47 ∷ 98 ∷ []) slash_byte (All-cons IsTextByte 97 (47 ∷ 98 ∷ []) (byte 97 (omega arith) (omega arith) (λ e. omega (arith, e)))
-        (All-cons IsTextByte 47 (98 ∷ []) slash_byte (All-cons IsTextByte 98 [] (byte 98 (omega arith) (omega arith) (λ e. omega (arith, e))) (All-nil IsTextByte))));
-    rooted = (97 ∷ 47 ∷ 98 ∷ [], refl);
-  };
-  leaves = ([] ∷ [], b ∷ [], blank (inl refl) nothing, name_a, refl, ([], [], nothing, name_b, refl, nothing));
-  closed_if = not_closed;
-}
-
-target_below : (m : DavMethod) → TargetNames [] m slash_below (Ok at_below)
-target_below m = path (inl ((97 ∷ 47 ∷ 98 ∷ [], refl), refl)) (inr (below, false, path_below, refl)) (at_start refl refl)
+use Rattle.dav_server.proofs.WorkedRun.{b, token, at_a, below, slash_below, at_below, head_of, head_with_method, text_below, target_below, one_field, if_field, stranger, turn_with, settings, no_conditions, own_conditions, own_list, own_says, own_fields, own_if, holder_fields, holder_says, unnamed_by, plan_with, stranger_means, after, holding, Showable, Loaded}
 
 -- ---- PUT /a/b of one byte, by another client and by the holder, and DELETE /a/b by the holder
 
@@ -195,10 +142,10 @@ submits : SubmitsAlone (headers_of holder_fields) at_below granted_lock
 submits = record { lists = own_list below ∷ []; only = a_list (b ∷ []) no_list; says = own_says below; match = refl; none_match = refl }
 
 putter_holds : IsHolderRequest settings granted_lock putter
-putter_holds = acts put_request Put at_below refl (record { head = putter_head; method = (tt, refl); target = target_below Put }) refl tt submits refl
+putter_holds = acts put_request Put at_below refl (record { head = putter_head; method = (tt, refl); target = target_below Put }) refl refl submits refl
 
 remover_holds : IsHolderRequest settings granted_lock remover
-remover_holds = acts delete_request Delete at_below refl (record { head = remover_head; method = (tt, refl); target = target_below Delete }) refl tt submits refl
+remover_holds = acts delete_request Delete at_below refl (record { head = remover_head; method = (tt, refl); target = target_below Delete }) refl refl submits refl
 
 -- ---- a PUT of one byte to a path where nothing is
 
@@ -319,18 +266,18 @@ refused = ran_ask {c = Metadata below} {answer = Err NotFound} (asked puts_alone
 
 -- its PUT to /b stores a file outside the folder
 other_stored : Ran AsksWithNumbers writing (holding after) one (Ok (created_in after)) (holding with_other) one
-other_stored = ran_ask {c = Metadata (b ∷ [])} {answer = Err NotFound} (asked puts_other.finds, λ ready finds. finds.0) (ran_look (stores one puts_other))
+other_stored = ran_ask {c = Metadata (b ∷ [])} {answer = Err NotFound} (asked puts_other.finds, λ ready finds. finds.0) (ran_look (ran_look (stores one puts_other)))
 
 -- the holder's PUT, in any world in which nothing is at the path
 own_stored : {w : World} → PutsNew w below 49 → Ran AsksWithNumbers putting (holding w) one (Ok (created_in w)) (holding (with_byte w below 49)) one
-own_stored {w} new = ran_ask {c = Metadata below} {answer = Err NotFound} (asked new.finds, λ ready finds. finds.0) (ran_look (ran_look (stores one new)))
+own_stored {w} new = ran_ask {c = Metadata below} {answer = Err NotFound} (asked new.finds, λ ready finds. finds.0) (ran_look (ran_look (ran_look (stores one new))))
 
 -- and its DELETE of what was stored, which leaves the lock on the folder
 own_removed : (v : World) {w : World} → Answered (Metadata below) (holding w) (Ok (told_in v)) (holding w) → Answered (RemoveFile below 1) (holding w) (Ok tt) (holding (without w below 1))
     → Ran AsksWithNumbers removing (holding w) one (Ok (status_reply 204)) (holding (without w below 1)) one
 own_removed v {w} finds removes =
     ran_ask {c = Metadata below} {answer = Ok (told_in v)} (asked finds, λ ready none. none.0)
-    (ran_look (ran_look (ran_ask {c = RemoveFile below 1} {answer = Ok tt} (asked removes, λ ready none. none.0) (ran_look (ran_keep ran_done)))))
+    (ran_look (ran_look (ran_look (ran_ask {c = RemoveFile below 1} {answer = Ok tt} (asked removes, λ ready none. none.0) (ran_look (ran_keep ran_done))))))
 
 -- MKCOL /a; LOCK /a; another client's PUT to /a/b, and its PUT to /b; the holder's PUT to /a/b, and its DELETE of it
 abbrev pub own : List Turn

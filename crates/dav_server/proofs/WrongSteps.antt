@@ -39,7 +39,7 @@ use Rattle.dav_server.specs.Machine.{Asked, Means, no_head, no_method, known, St
 use Rattle.dav_server.specs.TagLaws.{HasMethod, Shows}
 use Rattle.dav_server.specs.WriteLaws.{IsCreateOnly}
 use Rattle.dav_server.proofs.NeededForHeadline.{state}
-use Rattle.dav_server.proofs.OneStep.{Step, Clause, reading, created, refused, unmodified, updated, passed, kept, shared, tags, hrefs, Keeps, KeepsAll, BreaksOnly, same_world, stand, some_list, as_shared, none_passed, unsafe, no_creation, answered, no_304, no_hrefs, no_update, first_step, untold, no_tag}
+use Rattle.dav_server.proofs.OneStep.{Step, Clause, reading, created, refused, unmodified, updated, passed, kept, shared, tags, hrefs, members, same_list, none_on, Keeps, KeepsAll, BreaksOnly, same_world, stand, some_list, as_shared, none_passed, unsafe, no_creation, answered, no_304, no_hrefs, no_update, first_step, untold, no_tag}
 use Rattle.dav_server.proofs.WorkedGrant.{none}
 use Rattle.dav_server.proofs.WorkedRun.{a, slash_a, at_a, lock, head_of, head_with_method, head_with, text_a, target_at_a, stranger, stranger_head, holder, holder_request, own_head, unnamed_by, turn_with, settings, before, after, holding, one_lock, makes_a}
 
@@ -88,11 +88,12 @@ all_but_kept created other = no_creation dropping remove_request Delete remove_h
 all_but_kept refused other = answered dropping (λ e. omega (arith, e)) (λ e. omega (arith, e))
 all_but_kept unmodified other = no_304 dropping (λ e. omega (arith, e))
 all_but_kept updated other = untold remover (unlocked_reply []) dropping.was dropping.now
-all_but_kept passed other = λ h alone is unnamed fresh. same_world h before
+all_but_kept passed other = λ h alone is unnamed. same_world h before
 all_but_kept kept other = absurd (other refl)
 all_but_kept shared other = λ ls ms were are shares. subst CoveringAreShared (some_list are) no_locks_shared
 all_but_kept tags other = no_tag remover (unlocked_reply []) dropping.was dropping.now (λ e. omega (arith, e))
 all_but_kept hrefs other = no_hrefs dropping refl
+all_but_kept members other = same_list dropping refl
 
 pub dropped_lock_is_gone : Ran Asks drops_unasked (holding before) one_lock (Ok (unlocked_reply [])) (holding before) (Some []) × BreaksOnly kept dropping
 dropped_lock_is_gone = (
@@ -145,6 +146,7 @@ all_but_reading kept other = stand making refl
 all_but_reading shared other = as_shared making refl
 all_but_reading tags other = no_tag getter (made at_a) making.was making.now (λ e. omega (arith, e))
 all_but_reading hrefs other = no_hrefs making refl
+all_but_reading members other = none_on making refl
 
 pub get_that_makes_leaves_another_world : Ran Asks gets_by_making (holding before) none (Ok (made at_a)) (holding after) none × BreaksOnly reading making
 get_that_makes_leaves_another_world = (
@@ -184,17 +186,18 @@ all_but_refused created other = no_creation late stranger_request MkCol stranger
 all_but_refused refused other = absurd (other refl)
 all_but_refused unmodified other = no_304 late (λ e. omega (arith, e))
 all_but_refused updated other = untold stranger (error_reply (dav.Status 423)) late.was late.now
-all_but_refused passed other = λ h alone is unnamed fresh. absurd (none_exclusive h alone is)
+all_but_refused passed other = λ h alone is unnamed. absurd (none_exclusive h alone is)
 all_but_refused kept other = stand late refl
 all_but_refused shared other = as_shared late refl
 all_but_refused tags other = no_tag stranger (error_reply (dav.Status 423)) late.was late.now (λ e. omega (arith, e))
 all_but_refused hrefs other = no_hrefs late refl
+all_but_refused members other = λ h alone is unnamed folder. absurd (none_exclusive h alone is)
 
 pub late_refusal_leaves_a_change : Ran Asks refuses_late (holding before) one_shared (Err (dav.Status 423)) (holding after) one_shared × BreaksOnly refused late
 late_refusal_leaves_a_change = (
   ran_ask {c = CreateDir (a ∷ []) 1} {answer = Ok tt} (asked makes_a) (ran_look ran_done),
   record {
-    broken = λ leaves. other_world (leaves (inr refl) (λ is each own. absurd (let e : None ≡ Some each = own in cc))).0;
+    broken = λ leaves. other_world (leaves (inr refl)).0;
     others = all_but_refused;
   },
 )
@@ -287,6 +290,7 @@ all_but_created kept other = stand blind refl
 all_but_created shared other = as_shared blind refl
 all_but_created tags other = no_tag creator (unlocked_reply []) blind.was blind.now (λ e. omega (arith, e))
 all_but_created hrefs other = no_hrefs blind refl
+all_but_created members other = none_on blind refl
 
 pub blind_put_overwrites : Ran Asks puts_blindly refusing_once none (Ok (unlocked_reply [])) (holding drained) none × BreaksOnly created blind
 blind_put_overwrites = (
@@ -328,6 +332,7 @@ module _ (bytes others : List ℕ) (differ : bytes ≢ others) where
   all_but_tags shared other = as_shared again refl
   all_but_tags tags other = absurd (other refl)
   all_but_tags hrefs other = no_hrefs again refl
+  all_but_tags members other = none_on again refl
 
   pub one_tag_tells_nothing : BreaksOnly tags again
   one_tag_tells_nothing = record {
@@ -387,11 +392,12 @@ all_kept created = never_created
 all_kept refused = answered unheard (λ e. omega (arith, e)) (λ e. omega (arith, e))
 all_kept unmodified = no_304 unheard (λ e. omega (arith, e))
 all_kept updated = untold silent (unlocked_reply []) unheard.was unheard.now
-all_kept passed = λ h alone is unnamed fresh. same_world h before
+all_kept passed = λ h alone is unnamed. same_world h before
 all_kept kept = stand unheard refl
 all_kept shared = as_shared unheard refl
 all_kept tags = no_tag silent (unlocked_reply []) unheard.was unheard.now (λ e. omega (arith, e))
 all_kept hrefs = no_hrefs unheard refl
+all_kept members = same_list unheard refl
 
 pub silence_has_another_reply :
     Ran Asks answers_nothing (holding before) one_lock (Ok (unlocked_reply [])) (holding before) one_lock
@@ -443,11 +449,12 @@ nothing_else ls created = no_creation (counting ls) holder_request MkCol own_hea
 nothing_else ls refused = answered (counting ls) (λ e. omega (arith, e)) (λ e. omega (arith, e))
 nothing_else ls unmodified = no_304 (counting ls) (λ e. omega (arith, e))
 nothing_else ls updated = untold holder (counted ls) (counting ls).was (counting ls).now
-nothing_else ls passed = λ h alone is unnamed fresh. same_world h before
+nothing_else ls passed = λ h alone is unnamed. same_world h before
 nothing_else ls kept = stand (counting ls) refl
 nothing_else ls shared = as_shared (counting ls) refl
 nothing_else ls tags = no_tag holder (counted ls) (counting ls).was (counting ls).now (λ e. omega (arith, e))
 nothing_else ls hrefs = no_hrefs (counting ls) refl
+nothing_else ls members = same_list (counting ls) refl
 
 -- The holder is answered otherwise where another client has a lock at another path: only isolation is broken.
 pub counted_locks_tell_of_others :

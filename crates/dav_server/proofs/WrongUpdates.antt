@@ -1,6 +1,6 @@
 -- More steps that aren't the machine's: a false 304, a lost update, a lock that is passed, and an exclusive lock beside another one; and an href
 -- that leads nowhere.
-use Rattle.std.proofs.Common.{◌≡◌, ◌≢◌, ◌++◌, ◌<◌, ◌≤◌, ℕ, false, true≢false, List, [], ◌∷◌, length, get_or, codes, Some, None, Ok, inl, inr, refl, sym, ap, subst, ◌∙◌, append-nil, arith}
+use Rattle.std.proofs.Common.{◌≡◌, ◌≢◌, ◌++◌, ◌<◌, ◌≤◌, ℕ, true, false, true≢false, List, [], ◌∷◌, length, get_or, codes, Some, None, Ok, inl, inr, refl, sym, ap, subst, ◌∙◌, append-nil, arith}
 use Rattle.std.proofs.lemmas.List.Elements.{All-nil, All-cons, All-head, All-contains}
 use Rattle.std.proofs.lemmas.List.Sums.{AllPass-from_list_all}
 use Rattle.http_header.specs.FieldValue.{plain_value}
@@ -18,14 +18,14 @@ use Rattle.dav_core.specs.Locks.{Lock}
 use Rattle.dav_core.specs.Path.{PathText, star}
 use Rattle.dav_core.specs.Target.{Reads}
 use Rattle.dav_core.specs.UrlText.{url_text}
-use Rattle.dav_core.specs.World.{World, Node, File, adjust}
+use Rattle.dav_core.specs.World.{World, Node, File, is_folder, adjust}
 use Rattle.dav_headers.specs.ETag.{EntityTag, IsUnquoted}
 use Rattle.dav_headers.specs.ETagList as list
 use Rattle.dav_headers.specs.ETagList.{IsTagList}
 use Rattle.dav_engine.specs.declared.request.Body.TheVariants as body
 use Rattle.dav_engine.specs.AnswerParts.{children_named}
 use Rattle.dav_engine.specs.declared.reply.ReplyBody.TheVariants as reply
-use Rattle.dav_engine.specs.Guard.{Stands, listed_here, listed_later}
+use Rattle.dav_engine.specs.Guard.{folder_of, Stands, listed_here, listed_later}
 use Rattle.dav_engine.specs.Lock.{granted_reply}
 use Rattle.dav_engine.specs.Method.{MethodPlan, ◌>>=◌, ask_for, ask_or, change_locks, gives}
 use Rattle.dav_engine.specs.Mkcol.{create_error, made}
@@ -47,7 +47,7 @@ use Rattle.dav_server.specs.UpdateLaws.{IsSuccess, UpdatesIf}
 use Rattle.dav_server.proofs.NeededForHeadline.{state, covered_changes}
 use Rattle.dav_server.proofs.WorkedGrant.{locker, lock_head, none}
 use Rattle.dav_server.proofs.WorkedRun.{a, slash_a, at_a, lock, head_of, head_with_method, text_a, target_at_a, stranger, stranger_head, other_names, turn_with, settings, before, after, holding, one_lock, makes_a}
-use Rattle.dav_server.proofs.OneStep.{Step, Clause, reading, created, refused, unmodified, updated, passed, kept, shared, tags, hrefs, Keeps, BreaksOnly, same_world, stand, as_shared, none_passed, unsafe, no_creation, no_star, answered, no_304, no_hrefs, no_success, ShowsOnly, shows_nothing, one_text, first_step, untold, shows_once, no_tag}
+use Rattle.dav_server.proofs.OneStep.{Step, Clause, reading, created, refused, unmodified, updated, passed, kept, shared, tags, hrefs, members, same_list, none_on, Keeps, BreaksOnly, same_world, stand, as_shared, none_passed, unsafe, no_creation, no_star, answered, no_304, no_hrefs, no_success, ShowsOnly, shows_nothing, one_text, first_step, untold, shows_once, no_tag}
 use Rattle.dav_server.proofs.WrongSteps.{remover, remove_request, remove_head, getter, is_get, stranger_request, emptying, filled, one_tag, tagged, shows}
 
 -- ---- a file that another client has changed
@@ -181,7 +181,7 @@ unmodified_step = after_them rechecker (not_modified found_other) (state (holdin
 all_but_unmodified : (d : Clause) → d ≢ unmodified → Keeps d unmodified_step
 all_but_unmodified reading other = λ safe. (refl, refl)
 all_but_unmodified created other = λ p n is there. ((refl, refl), not_modified_fails)
-all_but_unmodified refused other = λ is fresh. (refl, refl)
+all_but_unmodified refused other = λ is. (refl, λ fresh. refl)
 all_but_unmodified unmodified other = absurd (other refl)
 all_but_unmodified updated other = no_success unmodified_step not_modified_fails
 all_but_unmodified passed other = none_passed unmodified_step refl
@@ -189,6 +189,7 @@ all_but_unmodified kept other = stand unmodified_step refl
 all_but_unmodified shared other = as_shared unmodified_step refl
 all_but_unmodified tags other = one_text_then rechecker (not_modified found_other) unmodified_step.was unmodified_step.now (λ e. omega (arith, e))
 all_but_unmodified hrefs other = no_hrefs unmodified_step refl
+all_but_unmodified members other = none_on unmodified_step refl
 
 pub uncompared_304_is_false : Ran Asks never_compares (holding rewritten) none (Ok (not_modified found_other)) (holding rewritten) none × BreaksOnly unmodified unmodified_step
 uncompared_304_is_false = (
@@ -266,6 +267,7 @@ all_but_updated kept other = stand losing refl
 all_but_updated shared other = as_shared losing refl
 all_but_updated tags other = one_text_then updater (unlocked_reply []) losing.was losing.now (λ e. omega (arith, e))
 all_but_updated hrefs other = no_hrefs losing refl
+all_but_updated members other = none_on losing refl
 
 -- what the other client stored is lost
 pub unconditional_put_loses_an_update : Ran Asks puts_over (holding rewritten) none (Ok (unlocked_reply [])) (holding overwritten) none × BreaksOnly updated losing
@@ -288,6 +290,11 @@ makes_unasked = do
 abbrev pub passing : Step
 passing = first_step stranger (made at_a) (state (holding before) one_lock) (state (holding after) one_lock)
 
+-- nothing is there before it
+no_folder : (h : Lock) → Stands h one_lock → is_folder before (folder_of h) ≡ true → ⊥
+no_folder h (listed_here same) is = let folder : false ≡ true = ap (λ (l : Lock). is_folder before (folder_of l)) same ∙ is in cc
+no_folder h (listed_later out) is = elim out [ ]
+
 all_but_passed : (d : Clause) → d ≢ passed → Keeps d passing
 all_but_passed reading other = unsafe passing stranger_request MkCol stranger_head (tt, refl) refl
 all_but_passed created other = no_creation passing stranger_request MkCol stranger_head (tt, refl) (λ e. cc) (λ e. cc)
@@ -299,12 +306,13 @@ all_but_passed kept other = stand passing refl
 all_but_passed shared other = as_shared passing refl
 all_but_passed tags other = no_tag stranger (made at_a) passing.was passing.now (λ e. omega (arith, e))
 all_but_passed hrefs other = no_hrefs passing refl
+all_but_passed members other = λ h alone is unnamed folder. absurd (no_folder h is folder)
 
 -- the lock stands, as before, and what it covers has changed
 pub unasked_folder_passes_a_lock : Ran Asks makes_unasked (holding before) one_lock (Ok (made at_a)) (holding after) one_lock × BreaksOnly passed passing
 unasked_folder_passes_a_lock = (
   ran_ask {c = CreateDir (a ∷ []) 1} {answer = Ok tt} (asked makes_a) ran_done,
-  record { broken = λ spares. covered_changes lock refl (spares lock refl (listed_here refl) other_names (λ e. cc)); others = all_but_passed },
+  record { broken = λ spares. covered_changes lock refl (spares lock refl (listed_here refl) other_names); others = all_but_passed },
 )
 
 -- ---- an exclusive lock beside another one
@@ -348,11 +356,12 @@ all_but_shared created other = no_creation sharing lock_request LockMethod lock_
 all_but_shared refused other = answered sharing (λ e. omega (arith, e)) (λ e. omega (arith, e))
 all_but_shared unmodified other = no_304 sharing (λ e. omega (arith, e))
 all_but_shared updated other = untold other_locker (granted_reply false [] other_lock) sharing.was sharing.now
-all_but_shared passed other = λ h alone is unnamed fresh. same_world h before
+all_but_shared passed other = λ h alone is unnamed. same_world h before
 all_but_shared kept other = λ h is unnamed fresh. still_stands h is
 all_but_shared shared other = absurd (other refl)
 all_but_shared tags other = shows_once other_locker (granted_reply false [] other_lock) sharing.was sharing.now shows_tree
 all_but_shared hrefs other = no_hrefs sharing refl
+all_but_shared members other = same_list sharing refl
 
 -- two exclusive locks cover the path
 pub unasked_grant_shares_no_path : Ran Asks grants_unasked (holding before) one_lock (Ok (granted_reply false [] other_lock)) (holding before) two_locks × BreaksOnly shared sharing
@@ -411,11 +420,12 @@ all_but_hrefs created other = no_creation barely remove_request Delete remove_he
 all_but_hrefs refused other = answered barely (λ e. omega (arith, e)) (λ e. omega (arith, e))
 all_but_hrefs unmodified other = no_304 barely (λ e. omega (arith, e))
 all_but_hrefs updated other = untold remover barely_told barely.was barely.now
-all_but_hrefs passed other = λ h alone is unnamed fresh. same_world h before
+all_but_hrefs passed other = λ h alone is unnamed. same_world h before
 all_but_hrefs kept other = stand barely refl
 all_but_hrefs shared other = as_shared barely refl
 all_but_hrefs tags other = no_tag remover barely_told barely.was barely.now (λ e. omega (arith, e))
 all_but_hrefs hrefs other = absurd (other refl)
+all_but_hrefs members other = same_list barely refl
 
 pub bare_response_tells_of_nothing : Ran Asks tells_barely (holding before) one_lock (Ok barely_told) (holding before) one_lock × BreaksOnly hrefs barely
 bare_response_tells_of_nothing = (

@@ -8,7 +8,7 @@ use Rattle.dav_core.specs.Path.{PathText, names}
 use Rattle.dav_engine.specs.declared.request.Body.TheVariants as body
 use Rattle.dav_engine.specs.AlongsidePlans.{SubmitsAlone}
 use Rattle.dav_engine.specs.CopyMove.{DestinationNames}
-use Rattle.dav_engine.specs.Guard.{IsInReach}
+use Rattle.dav_engine.specs.Guard.{IsInReach, IsInside}
 use Rattle.dav_engine.specs.Headers.{Headers}
 use Rattle.dav_server.specs.Head.{Request, IsHead}
 use Rattle.dav_server.specs.Headers.{headers_of}
@@ -17,24 +17,25 @@ use Rattle.dav_server.specs.Method.{GivesServed}
 use Rattle.dav_engine.specs.LockToken.{SaysLockToken}
 use Rattle.dav_server.specs.Target.{TargetNames}
 
--- the destination, as the method reads it (RFC 4918, section 10.3), is at the lock's folder or below it
-abbrev pub HasNearDestination : Lock → Headers → PathText → Type 0
-HasNearDestination h headers p = (d : PathText) × DestinationNames p.prefix (get_all headers (codes "destination")) (Ok d) × IsInReach h (names d)
+-- the destination, as the method reads it (RFC 4918, section 10.3), is strictly below the lock's folder
+abbrev pub HasDestinationInside : Lock → Headers → PathText → Type 0
+HasDestinationInside h headers p = (d : PathText) × DestinationNames p.prefix (get_all headers (codes "destination")) (Ok d) × IsInside h (names d)
 
--- What is asked of a method besides: the destination of a COPY or MOVE is in the folder too, and a LOCK has no body, so it
--- refreshes. UNLOCK has a rule of its own.
+-- What is asked of a method besides. What changes the members of a folder is asked for strictly below the lock's folder, since a
+-- request on the folder itself reads the locks on the folder above, which others set. A LOCK has no body, so it refreshes. UNLOCK
+-- has a rule of its own.
 abbrev pub MayHold : Lock → Asked → Headers → PathText → DavMethod → Type 0
-MayHold h x headers p Copy = HasNearDestination h headers p
-MayHold h x headers p Move = HasNearDestination h headers p
+MayHold h x headers p Copy = HasDestinationInside h headers p
+MayHold h x headers p Move = IsInside h (names p) × HasDestinationInside h headers p
 MayHold h x headers p LockMethod = body_for (taken_by LockMethod) x.body ≡ Ok body.None
 MayHold h x headers p Get = ⊤
 MayHold h x headers p Head = ⊤
 MayHold h x headers p PropFind = ⊤
 MayHold h x headers p Options = ⊤
-MayHold h x headers p Put = ⊤
-MayHold h x headers p Patch = ⊤
-MayHold h x headers p MkCol = ⊤
-MayHold h x headers p Delete = ⊤
+MayHold h x headers p Put = IsInside h (names p)
+MayHold h x headers p Patch = IsInside h (names p)
+MayHold h x headers p MkCol = IsInside h (names p)
+MayHold h x headers p Delete = IsInside h (names p)
 MayHold h x headers p PropPatch = ⊤
 MayHold h x headers p _ = ⊥
 

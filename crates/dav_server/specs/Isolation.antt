@@ -1,16 +1,23 @@
 -- Isolation: a locked folder and the replies to its holder don't depend on what others do (RFC 4918, section 7).
-use Rattle.std.specs.Prelude.{◌≡◌, ◌≢◌, ℕ, ◌<◌, ◌++◌, ◌⊎◌, true, false, List, [], ◌∷◌, All, AllPairs, Some}
+use Rattle.std.specs.Prelude.{◌≡◌, ◌≢◌, ℕ, ◌<◌, ◌≤◌, ◌++◌, ◌⊎◌, true, false, List, [], ◌∷◌, All, AllPairs, Some, None}
 use Rattle.std.specs.Option.{is_some}
+use Rattle.dav_core.specs.declared.method.DavMethod.{DavMethod}
 use Rattle.dav_core.specs.Asking.{StoreState, Asks}
 use Rattle.dav_core.specs.Locks.{Lock}
-use Rattle.dav_core.specs.World.{is_folder, IsWorld, last_number}
-use Rattle.dav_engine.specs.Alongside.{AsksWithNumbers, SameAnswers}
-use Rattle.dav_engine.specs.Guard.{folder_of, IsGuard, Guarded, Stands}
+use Rattle.dav_core.specs.Path.{PathText, names}
+use Rattle.dav_core.specs.World.{is_folder, IsWorld, last_number, last_moment}
+use Rattle.dav_engine.specs.Alongside.{AsksWithNumbers, AreAlike, SameAnswers}
+use Rattle.dav_engine.specs.AlongsidePlans.{SubmitsAlone, GoesAlong}
+use Rattle.dav_engine.specs.Guard.{folder_of, IsGuard, IsInReach, Guarded, Stands}
+use Rattle.dav_engine.specs.Headers.{Headers}
 use Rattle.dav_engine.specs.Inside.{SameInside, HasFoldersAbove}
+use Rattle.dav_engine.specs.Method.{MethodPlan}
 use Rattle.dav_engine.specs.Plan.{Locks, CallStep}
 use Rattle.dav_engine.specs.Response.{Response}
+use Rattle.dav_engine.specs.Sparing.{LeftAlone}
+use Rattle.dav_server.specs.Get.{IsGet}
 use Rattle.dav_server.specs.Holder.{IsHolderRequest}
-use Rattle.dav_server.specs.Machine.{Settings, StepsBy, Steps}
+use Rattle.dav_server.specs.Machine.{Asked, Settings, StepsBy, Steps}
 use Rattle.dav_server.specs.Naming.{NamesLock}
 use Rattle.dav_server.specs.Run.{Turn, begun, RunsBy, Runs}
 use Rattle.dav_server.specs.Server.{Server}
@@ -76,6 +83,43 @@ pub record AreAlone (s : Settings) (h : Lock) (ts us : List Turn) (old : StoreSt
   pub ample : end.short ≡ false
   pub answers : AnswerAlike h ts replies alone
   pub inside : SameInside (folder_of h) new.world end.world
+
+-- ---- one step
+
+-- A GET or HEAD at a guarded folder or below it, with the guard's token as its only condition, goes along with itself.
+abbrev pub GetGoesAlong : Type 0
+GetGoesAlong =
+    (h : Lock) (m : DavMethod) (headers : Headers) (p : PathText) (now : ℕ) (plan : MethodPlan Response)
+    → IsGuard h → IsInReach h (names p) → SubmitsAlone headers p h → IsGet m headers p now plan → GoesAlong h plan
+
+-- While a lock guards a folder in one state, a step of that state alone that neither names the lock as its principal nor hands in its token
+-- leaves what is inside, and the folder guarded as long as the lock stands; so the state stays alike any other.
+abbrev pub StrangersLeaveAlike : Type 0
+StrangersLeaveAlike =
+    (s : Settings) (h : Lock) (x : Asked) (old new other : StoreState) (ls ms : Locks) (reply : Response)
+    → IsGuard h → Guarded h ls → HasFoldersAbove (folder_of h) old.world → IsWorld old.world → x.moment ≤ last_moment
+    → ¬ NamesLock h x → x.token ≢ Some h.token → Steps s x old ls reply new ms
+    → LeftAlone h old.world new.world ms × (AreAlike (folder_of h) None old.world other.world → AreAlike (folder_of h) None new.world other.world)
+
+-- the same request in another state, with the same answers
+pub record AnswersAlso (s : Settings) (h : Lock) (x : Asked) (reply : Response) (new : StoreState) (ms : Locks) (old : StoreState) (ls : Locks) : Type 0 where
+  pub reply_alone : Response
+  pub new_alone : StoreState
+  pub locks_alone : Locks
+  pub step : Steps s x old ls reply_alone new_alone locks_alone
+  pub ample : new_alone.short ≡ false
+  pub answers : SameAnswers reply reply_alone
+  pub alike : AreAlike (folder_of h) None new.world new_alone.world
+  pub locks : (Guarded h ms × Guarded h locks_alone) ⊎ (¬ Stands h ms × ¬ Stands h locks_alone)
+
+-- A holder's request has the same answers in two alike states, under the same refusals, leaves them alike, and ends the lock in both or in
+-- neither. No call from the first may find the change numbers used up, and neither store run out of memory: of the second this follows.
+abbrev pub HoldersAnswerAlike : Type 0
+HoldersAnswerAlike =
+    (s : Settings) (h : Lock) (x : Asked) (old new other : StoreState) (ls ms ks : Locks) (reply : Response)
+    → IsGuard h → Guarded h ls → Guarded h ks → AreAlike (folder_of h) None old.world other.world → old.refusals ≡ other.refusals → other.short ≡ false
+    → x.moment ≤ last_moment → IsHolderRequest s h x → StepsBy AsksWithNumbers s x old ls reply new ms → new.short ≡ false
+    → AnswersAlso s h x reply new ms other ks
 
 -- While a folder is guarded, and no request hands in the guard's token, it and the answers to its holder are those of the
 -- holder's requests alone.

@@ -37,14 +37,18 @@ IsWriteRequest x = HasMethod Put x ⊎ HasMethod Patch x
 abbrev pub IsStoresError : DavError → Type 0
 IsStoresError e = ((refusal : FsError) × (e ≡ dav.FsError refusal)) ⊎ (e ≡ unsatisfiable)
 
+-- An error in which a LOCK can end because the store refused it its empty file: the store's, 409 or 412.
+abbrev pub IsFileError : DavError → Type 0
+IsFileError e = ((refusal : FsError) × (e ≡ dav.FsError refusal)) ⊎ (e ≡ dav.Status 409) ⊎ (e ≡ dav.Status 412)
+
 -- A request whose plan ends in an error leaves the world and the list of locks, whatever its method is and whatever the store
--- refuses. Apart are a PUT or PATCH with such an error, and a LOCK with a token that a lock of the list has: where the store refuses
--- it a file, it takes back the lock of its token.
+-- refuses. Apart is a PUT or PATCH with such an error; and of the list a LOCK with a token that a lock has, where the store may have
+-- refused it its file: it takes back the lock of its token.
 abbrev pub ErrorsLeave : Type 0
 ErrorsLeave =
     (s : Settings) (x : Asked) (plan : MethodPlan Response) (old new : StoreState) (ls ms : Locks) (e : DavError)
-    → (IsWriteRequest x → ¬ IsStoresError e) → (IsLockRequest x → HandsInUnused x ls)
-    → Means s x plan → Ran Asks plan old ls (Err e) new ms → (new.world ≡ old.world) × (ms ≡ ls)
+    → (IsWriteRequest x → ¬ IsStoresError e) → Means s x plan → Ran Asks plan old ls (Err e) new ms
+    → (new.world ≡ old.world) × ((IsLockRequest x → HandsInUnused x ls ⊎ (¬ IsFileError e)) → ms ≡ ls)
 
 -- ---- of one request
 
@@ -62,10 +66,12 @@ CreateOnlyLeaves s x reply was now =
     (p : PathText) (n : Node)
     → IsCreateOnly s x p → node_at was.store.world (names p) ≡ Some n → SameContent was now × ¬ IsSuccess reply.status
 
--- A request that is answered 412 or 423 leaves them; a LOCK, where no lock of the list has the token that it hands in.
+-- A request that is answered 412 or 423 leaves them: the list in a LOCK that is answered 412, where no lock of it has the token that the
+-- request hands in.
 abbrev pub RefusedStatusLeaves : Asked → Response → ServerState → ServerState → Type 0
 RefusedStatusLeaves x reply was now =
-    IsRefusedStatus reply.status → (IsLockRequest x → HandsInUnused x was.locks) → SameContent was now
+    IsRefusedStatus reply.status
+    → (now.store.world ≡ was.store.world) × ((reply.status ≡ 412 → IsLockRequest x → HandsInUnused x was.locks) → now.locks ≡ was.locks)
 
 -- a LOCK with this body asks for a new lock; without a body it refreshes one
 abbrev pub HasLockBody : Asked → Type 0

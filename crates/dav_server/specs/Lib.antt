@@ -23,6 +23,7 @@ pub mod GivenBody
 pub mod Naming
 pub mod Holder
 pub mod Passing
+pub mod Membership
 pub mod Ending
 pub mod LockLists
 pub mod Isolation

@@ -1,5 +1,5 @@
 -- No exclusive lock is passed by a request that doesn't name its token (RFC 4918, section 7).
-use Rattle.std.specs.Prelude.{◌≡◌, ◌≢◌, ◌≤◌, ◌++◌, false, List, ◌∷◌, Some}
+use Rattle.std.specs.Prelude.{◌≡◌, ◌≤◌, ◌++◌, false, List, ◌∷◌}
 use Rattle.dav_core.specs.Asking.{StoreState}
 use Rattle.dav_core.specs.Locks.{Lock, covers}
 use Rattle.dav_core.specs.World.{IsWorld, last_moment}
@@ -13,18 +13,18 @@ use Rattle.dav_server.specs.Run.{Turn, begun, Runs}
 use Rattle.dav_server.specs.Server.{Server}
 
 -- What an exclusive lock covers when a request begins keeps its content, unless the request names the lock's token as the
--- lock's principal, or hands that token in for a lock of its own; whatever else is in the list, and whatever the store refuses.
+-- lock's principal; whatever else is in the list, and whatever the store refuses.
 abbrev pub NoLockIsPassed : Type 0
 NoLockIsPassed =
     (s : Settings) (x : Asked) (old new : StoreState) (ls ms : Locks) (reply : Response) (h : Lock)
-    → h.shared ≡ false → Stands h ls → ¬ NamesLock h x → x.token ≢ Some h.token → x.moment ≤ last_moment → IsWorld old.world
+    → h.shared ≡ false → Stands h ls → ¬ NamesLock h x → x.moment ≤ last_moment → IsWorld old.world
     → Steps s x old ls reply new ms → Spared (covers h) old.world new.world
 
 -- So it does where memory runs out in the step.
 abbrev pub NoLockIsPassedCut : Type 0
 NoLockIsPassedCut =
     (s : Settings) (x : Asked) (old new : StoreState) (ls ms : Locks) (h : Lock)
-    → h.shared ≡ false → Stands h ls → ¬ NamesLock h x → x.token ≢ Some h.token → x.moment ≤ last_moment → IsWorld old.world
+    → h.shared ≡ false → Stands h ls → ¬ NamesLock h x → x.moment ≤ last_moment → IsWorld old.world
     → StepCut s x old ls new ms → Spared (covers h) old.world new.world
 
 -- In a run of these turns, from a world on: after the first of them, the next passes no exclusive lock.
@@ -33,4 +33,4 @@ PassesNoLock old ts replies =
     (front back : List Turn) (t : Turn) (before after : List Response) (reply : Response) (mid new : StoreState) (ks ms : Locks) (h : Lock)
     → ts ≡ front ++ t ∷ back → replies ≡ before ++ reply ∷ after → IsWorld old.state.store.world
     → Runs old.settings front old.state.store old.state.locks before mid ks → Steps old.settings t.asked (begun t.refusals mid) ks reply new ms
-    → h.shared ≡ false → Stands h ks → ¬ NamesLock h t.asked → t.asked.token ≢ Some h.token → Spared (covers h) mid.world new.world
+    → h.shared ≡ false → Stands h ks → ¬ NamesLock h t.asked → Spared (covers h) mid.world new.world

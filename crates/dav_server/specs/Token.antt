@@ -1,5 +1,5 @@
 -- What the constructor of tokens returns for a text.
-use Rattle.std.specs.Prelude.{◌≡◌, ℕ, List, codes, Result, Ok, Err}
+use Rattle.std.specs.Prelude.{◌≡◌, ℕ, List, Result, Ok, Err}
 use Rattle.dav_server.specs.declared.exchange.TokenError.{TokenError}
 use Rattle.dav_server.specs.declared.exchange.TokenError.TheVariants.{Refused, Memory}
 use Rattle.dav_server.specs.GrantToken.{IsGrantToken}
@@ -9,7 +9,3 @@ abbrev pub GivesToken : List ℕ → Result (List ℕ) TokenError → Type 0
 GivesToken text (Ok token) = IsGrantToken text × (token ≡ text)
 GivesToken text (Err Refused) = ¬ IsGrantToken text
 GivesToken text (Err Memory) = IsGrantToken text
-
-abbrev pub token_error_name : TokenError → List ℕ
-token_error_name Refused = codes "Refused"
-token_error_name Memory = codes "Memory"

@@ -43,9 +43,10 @@ IsLockRequest x = (r : Request) × IsHead x.head r × GivesServed r.method (Ok L
 abbrev pub HandsInUnused : Asked → Locks → Type 0
 HandsInUnused x ls = (token : List ℕ) → x.token ≡ Some token → IsUnused token ls
 
--- A request that is answered so leaves the world and the list of locks, whatever its method is; a LOCK, where no lock has the
--- token that it hands in.
+-- A request that is answered so leaves the world and the list of locks, whatever its method is and whatever the store refuses: the list
+-- in a LOCK that is answered 412, where no lock has the token that it hands in.
 abbrev pub RefusedLeaves : Type 0
 RefusedLeaves =
     (s : Settings) (x : Asked) (old new : StoreState) (ls ms : Locks) (reply : Response)
-    → (IsLockRequest x → HandsInUnused x ls) → IsRefusedStatus reply.status → Steps s x old ls reply new ms → (new.world ≡ old.world) × (ms ≡ ls)
+    → IsRefusedStatus reply.status → Steps s x old ls reply new ms
+    → (new.world ≡ old.world) × ((reply.status ≡ 412 → IsLockRequest x → HandsInUnused x ls) → ms ≡ ls)

@@ -11,6 +11,7 @@ ghost use Rattle.dav_engine.specs.ConditionView.{locks_in};
 ghost use Rattle.dav_engine.specs.Lock.{is_absent};
 ghost use Rattle.dav_server.specs.Get.{GetOf};
 ghost use Rattle.dav_engine.specs.Response.{error_reply};
+ghost use Rattle.dav_engine.specs.Copied.{IsPlain};
 ghost use Rattle.dav_server.specs.HrefLaws.{ReplyLeadsBack};
 ghost use Rattle.dav_server.specs.Leaving.{SameContent, SafeLeaves, CreateOnlyLeaves, RefusedStatusLeaves, HasLockBody, AsksForLock, GrantsNothing};
 ghost use Rattle.dav_server.specs.Machine.{client, PlanOf, Means, MeansOf};
@@ -47,35 +48,19 @@ use dav_core::method::{DavMethod, DavMethodSet};
 use dav_engine::{Backend, Body, Caller, DavInner, DavRequest, Reply};
 use http::StatusCode;
 use std::alloc::Global;
-use std::error::Error;
-use std::fmt;
 use std::marker::Model;
+use thiserror::Error;
 
 /// Why a handler isn't made.
-#[derive(Clone, Copy, Debug, PartialEq, Eq)]
+#[derive(Clone, Copy, Debug, PartialEq, Eq, Error)]
 pub enum HandlerError {
     /// The text isn't a prefix.
+    #[error("BadPrefix")]
     BadPrefix,
     /// Memory ran out.
+    #[error("Memory")]
     Memory,
 }
-
-/// Writes the variant's name.
-impl fmt::Display for HandlerError {
-    ghost use Rattle.std.specs.Prelude.{Some};
-    ghost use Rattle.dav_server.specs.Setup.{handler_error_name};
-
-    ghost output = { λ e. Some (handler_error_name e) };
-
-    fn fmt<W: fmt::Write>(&self, f: &mut fmt::Formatter<W>) -> fmt::Result {
-        match self {
-            HandlerError::BadPrefix => write!(f, "BadPrefix"),
-            HandlerError::Memory => write!(f, "Memory"),
-        }
-    }
-}
-
-impl Error for HandlerError {}
 
 impl From<NoMemory> for HandlerError {
     ghost use Rattle.std.specs.Prelude.{◌≡◌};
@@ -231,6 +216,7 @@ fn serve<F: DavFileSystem, L: DavLockSystem>(
     exchange: &Exchange<'_>,
 ) -> DavResult<Reply>
     requires path { request.now.method ≢ DavMethod.Options → request.now.path.bytes ≢ star }
+    requires plain { request.now.method ≢ DavMethod.Options → IsPlain request.now.path }
     requires served { IsServed request.now.method }
     ensures same { handler.new.server.settings ≡ handler.old.server.settings }
     ensures serves { Serves (PlanOf handler.old.server.settings.allowed request.now.headers
@@ -331,8 +317,8 @@ impl<F: DavFileSystem, L: DavLockSystem> DavHandler<F, L> {
     }
 
     /// Answers a request: the reply, the store and the locks are those of one step of the machine, from the bytes of the
-    /// head on. A request that only reads changes nothing, nor does one that is answered 412 or 423 (a LOCK, where no lock has its
-    /// token); and what is there is kept under If-None-Match `*`. The href of each response of a multistatus leads to a path that the
+    /// head on. A request that only reads changes nothing, nor does one that is answered 412 or 423 (of the list a LOCK
+    /// that is answered 412, where no lock has its token); and what is there is kept under If-None-Match `*`. The href of each response of a multistatus leads to a path that the
     /// request is about.
     ///
     /// `NoMemory` where memory ran out outside the store: then each call of the store that was made is whole, and the locks

@@ -12,9 +12,8 @@ use crate::naming::{is_if_token, is_lock_token};
 use dav_core::errors::NoMemory;
 use dav_engine::Body;
 use std::alloc::Global;
-use std::error::Error;
-use std::fmt;
 use std::marker::Model;
+use thiserror::Error;
 
 // A quote and the brackets.
 const BARRED: &[u8] = b"\"()<>[]{}";
@@ -64,30 +63,15 @@ impl GrantToken {
 }
 
 /// Why a text is no token to grant a lock with.
-#[derive(Clone, Copy, Debug, PartialEq, Eq)]
+#[derive(Clone, Copy, Debug, PartialEq, Eq, Error)]
 pub enum TokenError {
     /// It is empty or reserved, or a byte isn't allowed in it.
+    #[error("Refused")]
     Refused,
     /// Memory ran out.
+    #[error("Memory")]
     Memory,
 }
-
-/// Writes the variant's name.
-impl fmt::Display for TokenError {
-    ghost use Rattle.std.specs.Prelude.{Some};
-    ghost use Rattle.dav_server.specs.Token.{token_error_name};
-
-    ghost output = { λ e. Some (token_error_name e) };
-
-    fn fmt<W: fmt::Write>(&self, f: &mut fmt::Formatter<W>) -> fmt::Result {
-        match self {
-            TokenError::Refused => write!(f, "Refused"),
-            TokenError::Memory => write!(f, "Memory"),
-        }
-    }
-}
-
-impl Error for TokenError {}
 
 impl From<NoMemory> for TokenError {
     ghost use Rattle.std.specs.Prelude.{◌≡◌};
@@ -200,7 +184,8 @@ impl<'a> Exchange<'a> {
             return Ok(false);
         };
         let headers = headers_of(alloc, &view)?;
-        if is_lock_token(&headers, token) {
+        let named = is_lock_token(alloc, &headers, token)?;
+        if named {
             return Ok(true);
         }
         is_if_token(alloc, &headers, token)

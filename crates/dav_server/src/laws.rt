@@ -153,18 +153,17 @@ pub fn no_update_is_lost()
 {}
 
 /// A request that is answered 412 or 423 leaves the world and the list of locks: a condition that fails, or a lock that
-/// conflicts, changes nothing; a LOCK, where no lock has the token that it hands in (RFC 9110, section 13.2.1; RFC 4918, section 7).
-#[tactic(auto, using(crate::proofs::RefusedLemmas::refused_leaves))]
+/// conflicts, changes nothing, whatever the store refuses; of the list a LOCK that is answered 412, where no lock has the token that it
+/// hands in (RFC 9110, section 13.2.1; RFC 4918, section 7).
 pub fn refused_requests_leave_all()
     ensures { RefusedLeaves }
 {}
 
 /// A request that ends in an error leaves the world and the list of locks, whatever its method is and whatever the store refuses. (A DELETE,
 /// COPY or MOVE that was carried out in part doesn't end in an error: it reports what wasn't done, maybe by a status alone.)
-/// Apart are a PUT or PATCH whose error is the store's, or 416, since the store may refuse a call after the file was opened; and a
-/// LOCK with a token that a lock has already, since it takes back the lock of its token where the store refuses it a file (RFC 9110,
-/// section 15; RFC 4918, section 9.10).
-#[tactic(auto, using(crate::proofs::ErrorLemmas::errors_leave))]
+/// Apart is a PUT or PATCH whose error is the store's, or 416, since the store may refuse a call after the file was opened; and of the
+/// list a LOCK with a token that a lock has already, whose error is the store's, 409 or 412: it takes back the lock of its token where
+/// the store refuses it a file (RFC 9110, section 15; RFC 4918, section 9.10).
 pub fn errors_leave_all()
     ensures { ErrorsLeave }
 {}

@@ -1,8 +1,7 @@
 //! Moments that HTTP can write.
 ghost use Rattle.std.specs.Prelude.{◌≡◌, ◌≤◌, ◌<◌, ◌↔◌, IsOk, IfOk};
 
-use std::error::Error;
-use std::fmt;
+use thiserror::Error;
 
 /// A moment, in seconds since 1970, up to the end of the year 9999 (RFC 9110, section 5.6.7).
 #[derive(Clone, Copy, Debug)]
@@ -16,21 +15,9 @@ pub struct Moment {
 pub const LAST_MOMENT: u64 = 253_402_300_799;
 
 /// The moment is past the year 9999.
-#[derive(Clone, Copy, Debug, PartialEq, Eq)]
+#[derive(Clone, Copy, Debug, PartialEq, Eq, Error)]
+#[error("BadMoment")]
 pub struct BadMoment;
-
-/// Writes the error's name.
-impl fmt::Display for BadMoment {
-    ghost use Rattle.std.specs.Prelude.{Some, codes};
-
-    ghost output = { λ _. Some (codes "BadMoment") };
-
-    fn fmt<W: fmt::Write>(&self, f: &mut fmt::Formatter<W>) -> fmt::Result {
-        write!(f, "BadMoment")
-    }
-}
-
-impl Error for BadMoment {}
 
 impl Moment {
     /// The beginning of 1970.

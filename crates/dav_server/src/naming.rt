@@ -9,7 +9,7 @@ ghost use Rattle.dav_server.specs.Naming.{SaysIfToken};
 
 use dav_core::errors::NoMemory;
 use dav_engine::headers::{absent_if_invalid, values_of};
-use dav_engine::lock_token::lock_token;
+use dav_engine::lock_token::{lock_token, token_in};
 use dav_headers::{If, IfCondition, IfItem, IfList, names};
 use http_header::HeaderMap;
 use std::alloc::Global;
@@ -68,11 +68,12 @@ fn is_same(a: &[u8], b: &[u8]) -> bool
 }
 
 /// Whether a token is that of the Lock-Token header (RFC 4918, section 10.5).
-pub fn is_lock_token(headers: &HeaderMap, token: &str) -> bool
-    ensures { IsTrue result ↔ SaysLockToken headers.now token.now }
+pub fn is_lock_token(alloc: Global, headers: &HeaderMap, token: &str) -> Result<bool, NoMemory>
+    ensures { IfOk result (λ said. IsTrue said ↔ SaysLockToken headers.now token.now) }
 {
-    match lock_token(headers) {
-        Some(said) => is_same(said.as_bytes(), token.as_bytes()),
-        None => false,
+    let header = lock_token(alloc, headers)?;
+    match token_in(header.as_ref()) {
+        Some(said) => Ok(is_same(said.as_bytes(), token.as_bytes())),
+        None => Ok(false),
     }
 }

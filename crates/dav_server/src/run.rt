@@ -9,6 +9,7 @@ ghost use Rattle.dav_server.specs.FromNone.{EndsNoLockFromNone, PassesNoLockFrom
 ghost use Rattle.dav_server.specs.Headline.{FromAnEmptyServer};
 ghost use Rattle.dav_server.specs.Isolation.{IsIsolated, IsIsolatedFromGrants};
 ghost use Rattle.dav_server.specs.LockLists.{SharesLocks};
+ghost use Rattle.dav_server.specs.Membership.{KeepsMembers};
 ghost use Rattle.dav_server.specs.Passing.{PassesNoLock};
 ghost use Rattle.dav_server.specs.Server.{AddsReply, AnswersAll, AnswersSome, StopsIn, TagsTell, at_turn, turns};
 
@@ -98,10 +99,11 @@ fn answer_next<F: DavFileSystem, L: DavLockSystem>(
 
 impl<F: DavFileSystem, L: DavLockSystem> DavHandler<F, L> {
     /// Answers requests, one after another: the replies, the store and the locks are those of a run of the machine. From a
-    /// world, equal entity tags show equal bytes, and no request changes what an exclusive lock covers unless it names the
-    /// lock's token as the lock's principal, nor ends a lock whose token it doesn't name; a request that hands in the lock's
-    /// token for a lock of its own aside. Locks that cover one path stay shared. Requests that only read change nothing, nor do
-    /// those that are answered 412 or 423 (a LOCK, where no lock has its token); a 304 is true; no update on condition of a tag
+    /// world, equal entity tags show equal bytes; no request changes what an exclusive lock covers, nor which members the
+    /// folder has that such a lock is on, of either depth, unless it names the lock's token as the lock's principal (RFC 4918,
+    /// sections 7 and 7.4); nor does it end a lock whose token it doesn't name, a request that hands in the lock's token for a
+    /// lock of its own aside. Locks that cover one path stay shared. Requests that only read change nothing, nor do
+    /// those that are answered 412 or 423 (of the list a LOCK that is answered 412, where no lock has its token); a 304 is true; no update on condition of a tag
     /// is lost; what is there is kept under If-None-Match `*` (RFC 9110, sections 9.2.1 and 13.1); and the href of each response of a
     /// multistatus leads to a path that its request is about (RFC 4918, section 8.3).
     ///
@@ -131,6 +133,8 @@ impl<F: DavFileSystem, L: DavLockSystem> DavHandler<F, L> {
             RefusalsLeaveAll self.old.server (turns exchanges.now) replies.items) }
         ensures hrefs { IfOk result (λ replies.
             HrefsLeadBack self.old.server (turns exchanges.now) replies.items) }
+        ensures members { IfOk result (λ replies.
+            KeepsMembers self.old.server (turns exchanges.now) replies.items) }
         ensures fault { IfErr result (λ fault.
             AnswersSome self.old.server (turns exchanges.now) fault.replies.items self.new.server) }
     {
@@ -170,13 +174,15 @@ fn answer_step(
 /// Answers requests, one after another, on a store in memory that refuses the calls which each step names: the replies, the
 /// store and the locks are those of a run of the machine, and where the store's `was_short` is false, no other run leaves
 /// it so. From a world, equal entity tags show equal bytes, whatever is refused, and no request changes what an exclusive
-/// lock covers unless it names the lock's token as the lock's principal; nor does any request end a lock whose token it
+/// lock covers, nor which members the folder has that such a lock is on, of either depth, unless it names the lock's token as
+/// the lock's principal; nor does any request end a lock whose token it
 /// doesn't name, a request that hands in the lock's token for a lock of its own aside. Locks that cover one path stay shared.
 /// While an exclusive lock of infinite depth stands on a folder, only its holder names it and no request hands in its token,
 /// the folder and the answers to the holder are as if the holder's requests were alone; from no locks on, it is enough that
 /// the lock was granted and that the tokens which are handed in differ. And then nothing that an exclusive lock covers changes,
 /// and no lock ends, unless the request names its token. All this in one piece, from an empty server on, is the clause `headline`.
-/// Requests that only read change nothing, nor do those that are answered 412 or 423 (a LOCK, where no lock has its token); a 304
+/// Requests that only read change nothing, nor do those that are answered 412 or 423 (of the list a LOCK that is answered 412, where
+/// no lock has its token); a 304
 /// is true; no update on condition of a tag is lost; what is there is kept under If-None-Match `*`; and the href of each
 /// response of a multistatus leads to a path that its request is about.
 ///
@@ -218,6 +224,8 @@ pub fn run_refused(
         RefusalsLeaveAll handler.old.server steps.entry.items replies.items) }
     ensures hrefs { IfOk result (λ replies.
         HrefsLeadBack handler.old.server steps.entry.items replies.items) }
+    ensures members { IfOk result (λ replies.
+        KeepsMembers handler.old.server steps.entry.items replies.items) }
     ensures headline { IfOk result (λ replies. FromAnEmptyServer
         handler.old.server steps.entry.items replies.items handler.new.server) }
     ensures fault { IfErr result (λ fault.

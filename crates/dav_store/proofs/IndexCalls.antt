@@ -6,20 +6,19 @@ use Rattle.dav_core.specs.Lists.{is_empty}
 use Rattle.dav_core.specs.Path.{Path, names, fronts, is_same_path, is_under, is_at_or_under, rest_after, has_names}
 use Rattle.std.specs.Option.{is_some}
 use Rattle.dav_core.specs.Locks.{Lock, Requester, covers, covering, is_held, is_free, is_free_for, conflicts, Checks, free, conflicting, discovered, deleted}
-use Rattle.dav_store.specs.declared.memls.index.Counts.{Counts}
-use Rattle.dav_store.specs.LockIndex.{path_keys, times, tally, HasCounts, IsIndexOf, matters, MattersAlone}
+use Rattle.dav_store.specs.LockIndex.{Key, Seats, path_keys, times, tally, HasCounts, IsIndexOf, matters, MattersAlone}
 
 -- the keys of a lock, counted
-abbrev keys_at : ℕ → Lock → ℕ
+abbrev keys_at : Key → Lock → ℕ
 keys_at k l = times k (path_keys l.deep (names l.path))
 
 -- ---- the index, as the list changes
 
-pub counts_along : (index : Option Counts) (f g : ℕ → ℕ) → HasCounts index f → ((k : ℕ) → f k ≡ g k) → HasCounts index g
+pub counts_along : (index : Option Seats) (f g : Key → ℕ) → HasCounts index f → ((k : Key) → f k ≡ g k) → HasCounts index g
 counts_along None f g h same = tt
 counts_along (Some c) f g h same = λ k. h k ∙ same k
 
-module _ (test : Lock → Bool) (k : ℕ) where
+module _ (test : Lock → Bool) (k : Key) where
   parted_by : (l : Lock) (ms ns : List Lock) (b : Bool) → tally k (cond b (l ∷ ms) ms) + tally k (cond (not b) (l ∷ ns) ns) ≡ keys_at k l + (tally k ms + tally k ns)
   parted_by l ms ns true = let a = sum_by-cons (keys_at k) l ms in omega (arith, a)
   parted_by l ms ns false = let a = sum_by-cons (keys_at k) l ns in omega (arith, a)
@@ -34,7 +33,7 @@ module _ (test : Lock → Bool) (k : ℕ) where
       omega (arith, a, b, c)
 
 -- a lock is put after the others
-pub index_grown : (index : Option Counts) (deep : Bool) (p : Path) (ls new : List Lock) (l : Lock) → HasCounts index (λ k. tally k ls + times k (path_keys deep p)) → new ≡ ls ++ l ∷ [] → l.deep ≡ deep → names l.path ≡ p → IsIndexOf index new
+pub index_grown : (index : Option Seats) (deep : Bool) (p : Path) (ls new : List Lock) (l : Lock) → HasCounts index (λ k. tally k ls + times k (path_keys deep p)) → new ≡ ls ++ l ∷ [] → l.deep ≡ deep → names l.path ≡ p → IsIndexOf index new
 index_grown index deep p ls new l h is depth place =
     counts_along index (λ k. tally k ls + times k (path_keys deep p)) (λ k. tally k new) h
     (λ k.
@@ -45,11 +44,11 @@ index_grown index deep p ls new l h is depth place =
     omega (arith, a, b, d, e))
 
 -- a lock is taken out
-pub index_shrunk : (index : Option Counts) (ls new : List Lock) (keys : ℕ → ℕ) → HasCounts index (λ k. tally k ls - keys k) → ((k : ℕ) → tally k ls ≡ tally k new + keys k) → IsIndexOf index new
+pub index_shrunk : (index : Option Seats) (ls new : List Lock) (keys : Key → ℕ) → HasCounts index (λ k. tally k ls - keys k) → ((k : Key) → tally k ls ≡ tally k new + keys k) → IsIndexOf index new
 index_shrunk index ls new keys h is = counts_along index (λ k. tally k ls - keys k) (λ k. tally k new) h (λ k. let a = is k in omega (arith, a))
 
 -- the locks at a path and below it are taken out
-pub index_cut : (index : Option Counts) (p : Path) (ls new : List Lock) → HasCounts index (λ k. tally k ls - tally k (filter (λ l. is_at_or_under (names l.path) p) ls)) → new ≡ deleted p ls → IsIndexOf index new
+pub index_cut : (index : Option Seats) (p : Path) (ls new : List Lock) → HasCounts index (λ k. tally k ls - tally k (filter (λ l. is_at_or_under (names l.path) p) ls)) → new ≡ deleted p ls → IsIndexOf index new
 index_cut index p ls new h is =
     counts_along index (λ k. tally k ls - tally k (filter (λ l. is_at_or_under (names l.path) p) ls)) (λ k. tally k new) h
     (λ k.
@@ -228,3 +227,36 @@ freed_alone true who p l ls (before, after, parts, h, k) clear =
 pub checked_alone : (asked : Bool) (who : Requester) (p : Path) (l : Lock) (ls : List Lock) (r : Result (Unit {0}) Lock) → MattersAlone asked p l ls → Checks asked who p (l ∷ []) r → Checks asked who p ls r
 checked_alone asked who p l ls (Ok u) alone (free is) = free (freed_alone asked who p l ls alone is)
 checked_alone asked who p l ls (Err m) alone (conflicting there is) = conflicting (among asked who p l ls alone m there) (conflicts_alone asked who p l ls alone m is)
+
+one_left : (test : Lock → Bool) (l : Lock) (ms : List Lock) (b : Bool) → filter test ms ≡ [] → cond b (l ∷ []) [] ≡ cond b (l ∷ filter test ms) (filter test ms)
+one_left test l ms true none = ap (λ (ns : List Lock). l ∷ ns) (sym none)
+one_left test l ms false none = sym none
+
+filter_by : (test : Lock → Bool) (m : Lock) (ms ns : List Lock) (b : Bool) → (filter test ms ≡ [] → filter test (ms ++ ns) ≡ filter test ns)
+    → cond b (m ∷ filter test ms) (filter test ms) ≡ [] → cond b (m ∷ filter test (ms ++ ns)) (filter test (ms ++ ns)) ≡ filter test ns
+filter_by test m ms ns true rest e = cc
+filter_by test m ms ns false rest e = rest e
+
+filter_parts : (test : Lock → Bool) (ms ns : List Lock) → filter test ms ≡ [] → filter test (ms ++ ns) ≡ filter test ns
+filter_parts test [] ns none = refl
+filter_parts test (m ∷ ms) ns none = filter_by test m ms ns (test m) (filter_parts test ms ns) none
+
+collected_alike : (f g : Path → List Lock) → ((q : Path) → f q ≡ g q) → (qs : List Path) → flat_map f qs ≡ flat_map g qs
+collected_alike f g same [] = refl
+collected_alike f g same (q ∷ qs) = (λ i. same q i ++ collected_alike f g same qs i)
+
+-- what is listed of the one lock that matters is what is listed of all
+pub discovered_alone : (asked : Bool) (p : Path) (l : Lock) (ls : List Lock) → MattersAlone asked p l ls → discovered p (l ∷ []) ≡ discovered p ls
+discovered_alone asked p l ls (before, after, parts, none, others) =
+    collected_alike (λ q. filter (test q) (l ∷ [])) (λ q. filter (test q) ls) same (fronts p) where
+      test : Path → Lock → Bool
+      test q m = is_same_path (names m.path) q && covers m p
+
+      left : (q : Path) (ms : List Lock) → list_any (matters asked p) ms ≡ false → filter (test q) ms ≡ []
+      left q ms h = none_filtered (test q) ms (none_weaker (matters asked p) (test q) (λ m k. both_false (is_same_path (names m.path) q) (covers m p) (uncovered asked p m k)) ms h)
+
+      same : (q : Path) → filter (test q) (l ∷ []) ≡ filter (test q) ls
+      same q =
+          one_left (test q) l after (test q l) (left q after others)
+          ∙ sym (filter_parts (test q) before (l ∷ after) (left q before none))
+          ∙ ap (filter (test q)) (sym parts)

@@ -3,14 +3,24 @@ use Rattle.std.proofs.Common.{◌≡◌, ℕ, ◌+◌, zero, suc, ◌≤◌, ◌
 use Rattle.std.specs.List.{list_any}
 use Rattle.std.specs.Option.{is_some}
 use Rattle.std.proofs.lemmas.List.Sums.{sum_by-cons}
-use Rattle.dav_core.specs.Path.{Path, names, rest_after, is_at_or_under}
+use Rattle.dav_core.specs.Path.{Path, names, rest_after, is_same_path, is_at_or_under}
 use Rattle.dav_core.specs.Locks.{Lock, covers}
-use Rattle.dav_core.proofs.Theorems.{from_rest, CoveringWay, covering_way}
-use Rattle.dav_store.specs.LockIndex.{root_number, below_key, at_key, deep_key, end_key, with_name, keys_from, path_keys, times, one_at, tally, matters, weight_from, weight, MattersAlone}
+use Rattle.dav_core.proofs.Theorems.{from_rest, CoveringWay, covering_way, path-itself}
+use Rattle.dav_store.specs.LockIndex.{Key, same_kind, below_key, at_key, deep_key, end_key, keys_from, path_keys, times, one_at, tally, matters, weight_from, weight, MattersAlone}
+use Rattle.dav_store.specs.Tree.{Tree}
+use Rattle.dav_store.specs.declared.memls.index.Kind.{Kind}
+use Rattle.dav_store.specs.declared.memls.index.Kind.TheVariants.{Below, At, Deep}
+use Rattle.dav_store.specs.declared.memls.index.Seat.{Seat}
 use Rattle.dav_store.proofs.IndexLemmas.{times_more}
 
-own : (k : ℕ) → one_at k k ≡ 1
-own k = ap (λ b. cond b 1 0) (eq-eqb k k refl)
+kind-itself : (k : Kind) → same_kind k k ≡ true
+kind-itself Below = refl
+kind-itself At = refl
+kind-itself Deep = refl
+
+own : (k : Key) → one_at k k ≡ 1
+unfolding one_at
+own k = ap (λ b. cond (b && is_same_path k.1 k.1) 1 0) (kind-itself k.0) ∙ ap (λ b. cond b 1 0) (path-itself k.1)
 
 none_below : {A : Type 0} (i : ℕ) → i < 0 → A
 none_below i h = absurd (omega arith)
@@ -19,58 +29,58 @@ less_suc : (i n : ℕ) → suc i < suc n → i < n
 less_suc i n h = omega arith
 
 -- each key of a lock is counted
-abbrev AreCounted : (ℕ → ℕ) → List ℕ → Type 0
-AreCounted count keys = (k : ℕ) → times k keys ≤ count k
+abbrev AreCounted : (Key → ℕ) → List Key → Type 0
+AreCounted count keys = (k : Key) → times k keys ≤ count k
 
-module _ (count : ℕ → ℕ) where
-  first_counted : (x : ℕ) (keys : List ℕ) → AreCounted count (x ∷ keys) → 1 ≤ count x
+module _ (count : Key → ℕ) where
+  first_counted : (x : Key) (keys : List Key) → AreCounted count (x ∷ keys) → 1 ≤ count x
   first_counted x keys h = let a = times_more x x keys in let b = own x in let c = h x in omega (arith, a, b, c)
 
-  others_counted : (x : ℕ) (keys : List ℕ) → AreCounted count (x ∷ keys) → AreCounted count keys
+  others_counted : (x : Key) (keys : List Key) → AreCounted count (x ∷ keys) → AreCounted count keys
   others_counted x keys h k = let a = times_more k x keys in let c = h k in omega (arith, a, c)
 
-  below_counted : (deep : Bool) (n : ℕ) (p : Path) → AreCounted count (keys_from deep n p) → 1 ≤ count (below_key n)
+  below_counted : (deep : Bool) (n : Path) (p : Path) → AreCounted count (keys_from deep n p) → 1 ≤ count (below_key n)
   below_counted deep n [] h = first_counted (below_key n) (at_key n ∷ cond deep (deep_key n ∷ []) []) h
-  below_counted deep n (x ∷ p) h = first_counted (below_key n) (keys_from deep (with_name n x) p) h
+  below_counted deep n (x ∷ p) h = first_counted (below_key n) (keys_from deep (n ++ x ∷ []) p) h
 
-  at_counted : (deep : Bool) (n : ℕ) → AreCounted count (keys_from deep n []) → 1 ≤ count (at_key n)
+  at_counted : (deep : Bool) (n : Path) → AreCounted count (keys_from deep n []) → 1 ≤ count (at_key n)
   at_counted deep n h = first_counted (at_key n) (cond deep (deep_key n ∷ []) []) (others_counted (below_key n) (at_key n ∷ cond deep (deep_key n ∷ []) []) h)
 
-  deep_counted : (n : ℕ) → AreCounted count (keys_from true n []) → 1 ≤ count (deep_key n)
+  deep_counted : (n : Path) → AreCounted count (keys_from true n []) → 1 ≤ count (deep_key n)
   deep_counted n h = first_counted (deep_key n) [] (others_counted (at_key n) (deep_key n ∷ []) (others_counted (below_key n) (at_key n ∷ deep_key n ∷ []) h))
 
   -- a lock on the path
-  on_path : (asked deep : Bool) (n : ℕ) (p : Path) → AreCounted count (keys_from deep n p) → 1 ≤ weight_from count asked n p
+  on_path : (asked deep : Bool) (n : Path) (p : Path) → AreCounted count (keys_from deep n p) → 1 ≤ weight_from count asked n p
   on_path true deep n [] h = below_counted deep n [] h
   on_path false deep n [] h = at_counted deep n h
   on_path asked deep n (x ∷ p) h =
-      let a = on_path asked deep (with_name n x) p (others_counted (below_key n) (keys_from deep (with_name n x) p) h) in
+      let a = on_path asked deep (n ++ x ∷ []) p (others_counted (below_key n) (keys_from deep (n ++ x ∷ []) p) h) in
       omega (arith, a)
 
   -- a lock of infinite depth above the path
-  above_path : (asked : Bool) (n : ℕ) (q : Path) (x : List ℕ) (r : Path) → AreCounted count (keys_from true n q) → 1 ≤ weight_from count asked n (q ++ x ∷ r)
+  above_path : (asked : Bool) (n : Path) (q : Path) (x : List ℕ) (r : Path) → AreCounted count (keys_from true n q) → 1 ≤ weight_from count asked n (q ++ x ∷ r)
   above_path asked n [] x r h = let a = deep_counted n h in omega (arith, a)
   above_path asked n (y ∷ q) x r h =
-      let a = above_path asked (with_name n y) q x r (others_counted (below_key n) (keys_from true (with_name n y) q) h) in
+      let a = above_path asked (n ++ y ∷ []) q x r (others_counted (below_key n) (keys_from true (n ++ y ∷ []) q) h) in
       omega (arith, a)
 
   -- a lock on the path or below it, where these are asked for
-  below_path : (deep : Bool) (n : ℕ) (p r : Path) → AreCounted count (keys_from deep n (p ++ r)) → 1 ≤ weight_from count true n p
+  below_path : (deep : Bool) (n : Path) (p r : Path) → AreCounted count (keys_from deep n (p ++ r)) → 1 ≤ weight_from count true n p
   below_path deep n [] r h = below_counted deep n r h
   below_path deep n (y ∷ p) r h =
-      let a = below_path deep (with_name n y) p r (others_counted (below_key n) (keys_from deep (with_name n y) (p ++ r)) h) in
+      let a = below_path deep (n ++ y ∷ []) p r (others_counted (below_key n) (keys_from deep (n ++ y ∷ []) (p ++ r)) h) in
       omega (arith, a)
 
   covering_counts : (asked : Bool) (l : Lock) (p : Path) → AreCounted count (path_keys l.deep (names l.path)) → CoveringWay l p → 1 ≤ weight count asked p
-  covering_counts asked l p h (inl same) = subst (λ (q : Path). 1 ≤ weight count asked q) same (on_path asked l.deep root_number (names l.path) h)
+  covering_counts asked l p h (inl same) = subst (λ (q : Path). 1 ≤ weight count asked q) same (on_path asked l.deep [] (names l.path) h)
   covering_counts asked l p h (inr (x, r, deep, is)) =
       subst (λ (q : Path). 1 ≤ weight count asked q) (sym is)
-      (above_path asked root_number (names l.path) x r (subst (λ (d : Bool). AreCounted count (path_keys d (names l.path))) deep h))
+      (above_path asked [] (names l.path) x r (subst (λ (d : Bool). AreCounted count (path_keys d (names l.path))) deep h))
 
   lying_counts : (l : Lock) (p : Path) → AreCounted count (path_keys l.deep (names l.path)) → (o : Option Path) → rest_after p (names l.path) ≡ o → is_some o ≡ true → 1 ≤ weight count true p
   lying_counts l p h None at under = cc
   lying_counts l p h (Some r) at under =
-      below_path l.deep root_number p r (subst (λ (q : Path). AreCounted count (path_keys l.deep q)) (from_rest p (names l.path) r at) h)
+      below_path l.deep [] p r (subst (λ (q : Path). AreCounted count (path_keys l.deep q)) (from_rest p (names l.path) r at) h)
 
   mattering_by : (asked : Bool) (l : Lock) (p : Path) → AreCounted count (path_keys l.deep (names l.path))
       → (c : Bool) → covers l p ≡ c → (c || (asked && is_at_or_under (names l.path) p)) ≡ true → 1 ≤ weight count asked p
@@ -79,27 +89,27 @@ module _ (count : ℕ → ℕ) where
   mattering_by false l p h false covering m = cc
 
 -- how many locks have a key, of this one
-abbrev of_one : Lock → ℕ → ℕ
+abbrev of_one : Lock → Key → ℕ
 of_one l k = times k (path_keys l.deep (names l.path))
 
 -- and of a list
-abbrev of_all : List Lock → ℕ → ℕ
+abbrev of_all : List Lock → Key → ℕ
 of_all ls k = tally k ls
 
-weights_add : (f g : ℕ → ℕ) (asked : Bool) (n : ℕ) (p : Path) → weight_from (λ k. f k + g k) asked n p ≡ weight_from f asked n p + weight_from g asked n p
+weights_add : (f g : Key → ℕ) (asked : Bool) (n : Path) (p : Path) → weight_from (λ k. f k + g k) asked n p ≡ weight_from f asked n p + weight_from g asked n p
 weights_add f g asked n [] = refl
-weights_add f g asked n (x ∷ p) = let a = weights_add f g asked (with_name n x) p in omega (arith, a)
+weights_add f g asked n (x ∷ p) = let a = weights_add f g asked (n ++ x ∷ []) p in omega (arith, a)
 
-weights_alike : (f g : ℕ → ℕ) → ((k : ℕ) → f k ≡ g k) → (asked : Bool) (n : ℕ) (p : Path) → weight_from f asked n p ≡ weight_from g asked n p
+weights_alike : (f g : Key → ℕ) → ((k : Key) → f k ≡ g k) → (asked : Bool) (n : Path) (p : Path) → weight_from f asked n p ≡ weight_from g asked n p
 weights_alike f g alike asked n [] = alike (end_key asked n)
-weights_alike f g alike asked n (x ∷ p) = let a = alike (deep_key n) in let b = weights_alike f g alike asked (with_name n x) p in omega (arith, a, b)
+weights_alike f g alike asked n (x ∷ p) = let a = alike (deep_key n) in let b = weights_alike f g alike asked (n ++ x ∷ []) p in omega (arith, a, b)
 
 module _ (asked : Bool) (p : Path) where
   -- the weight of a list is that of its locks
   weight_more : (l : Lock) (ls : List Lock) → weight (of_all (l ∷ ls)) asked p ≡ weight (of_one l) asked p + weight (of_all ls) asked p
   weight_more l ls =
-      weights_alike (of_all (l ∷ ls)) (λ k. of_one l k + of_all ls k) (λ k. sum_by-cons (λ (x : Lock). times k (path_keys x.deep (names x.path))) l ls) asked root_number p
-      ∙ weights_add (of_one l) (of_all ls) asked root_number p
+      weights_alike (of_all (l ∷ ls)) (λ k. of_one l k + of_all ls k) (λ k. sum_by-cons (λ (x : Lock). times k (path_keys x.deep (names x.path))) l ls) asked [] p
+      ∙ weights_add (of_one l) (of_all ls) asked [] p
 
   -- a lock that matters weighs something
   one_weighs : (l : Lock) → matters asked p l ≡ true → 1 ≤ weight (of_one l) asked p
@@ -146,13 +156,13 @@ module _ (asked : Bool) (p : Path) where
       (x ∷ before, after, ap (λ (ms : List Lock). x ∷ ms) parts, ap (λ c. c || list_any (matters asked p) before) (light x (omega (arith, a, b, h))) ∙ none, others)
 
 -- where the counts of a list say that no lock matters, none does
-pub none_matters : (asked : Bool) (p : Path) (ls : List Lock) (count : ℕ → ℕ) → ((k : ℕ) → count k ≡ tally k ls) → weight count asked p ≡ 0 → list_any (matters asked p) ls ≡ false
+pub none_matters : (asked : Bool) (p : Path) (ls : List Lock) (count : Key → ℕ) → ((k : Key) → count k ≡ tally k ls) → weight count asked p ≡ 0 → list_any (matters asked p) ls ≡ false
 none_matters asked p ls count h none =
-    let a = weights_alike count (of_all ls) h asked root_number p in
+    let a = weights_alike count (of_all ls) h asked [] p in
     none_of asked p ls (omega (arith, a, none))
 
 -- where they say that one does at most, the list weighs one at most
-pub only_counted : (asked : Bool) (p : Path) (ls : List Lock) (count : ℕ → ℕ) → ((k : ℕ) → count k ≡ tally k ls) → weight count asked p ≡ 1 → weight (λ k. tally k ls) asked p ≤ 1
+pub only_counted : (asked : Bool) (p : Path) (ls : List Lock) (count : Key → ℕ) → ((k : Key) → count k ≡ tally k ls) → weight count asked p ≡ 1 → weight (λ k. tally k ls) asked p ≤ 1
 only_counted asked p ls count h one =
-    let a = weights_alike count (of_all ls) h asked root_number p in
+    let a = weights_alike count (of_all ls) h asked [] p in
     omega (arith, a, one)

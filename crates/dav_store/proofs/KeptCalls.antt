@@ -14,6 +14,7 @@ use Rattle.dav_store.specs.Entries.{IsKept}
 use Rattle.dav_store.specs.Makings.{AreMadeBefore}
 use Rattle.dav_store.proofs.MadeBefore.{before_found}
 use Rattle.dav_store.proofs.Walks.{inner}
+use Rattle.dav_store.proofs.TreeSingle.{named_single}
 use Rattle.dav_store.proofs.Placing.{number_is, named_from, name-itself, root_there}
 use Rattle.dav_store.proofs.TreePaths.{then_same, some_is, none-below, found-push}
 use Rattle.dav_store.proofs.TreeCalls.{node_of_value, none_of_value, is_added, is_deleted, is_moved}
@@ -104,28 +105,12 @@ module _ {Z S : Type 0} (t : Tree (Vec ℕ Z) Seen) (made : HashMap ℕ ℕ S) (
     }
 
 -- ---- the root alone, and a copy
+folder_there : (o : Option Seen) → is_folder_node o ≡ true → IsSome o
+folder_there None h = cc
+folder_there (Some x) h = refl
+
 grown_single : (root : Seen) → is_folder_kind root.kind ≡ true → IsGrown (single {K = List ℕ} root)
-unfolding IsDistinct
-grown_single root folder = record {
-  above = begins_at_the_root (List ℕ) Seen root;
-  numbers = (tt, tt);
-  names = λ n. by (is_at (nat_cmp n) 1);
-  root = folder;
-  children = λ n k m e. absurd (no_child n k m (is_at (nat_cmp n) 1) e);
-  once = λ n k l m e f. absurd (no_child n k m (is_at (nat_cmp n) 1) e);
-  reached = λ m some. ([], at m (is_at (nat_cmp m) 1) refl some);
-} where
-  by : (b : Bool) → IsDistinct is_same_name (keys_of (option_map_or (λ x. x.children) (cond b (Some (leaf {K = List ℕ} 0 root)) None) []))
-  by true = tt
-  by false = tt
-
-  no_child : (n : ℕ) (k : List ℕ) (m : ℕ) (b : Bool) → option_and_then (λ x. lookup (is_same_name k) x.children) (cond b (Some (leaf {K = List ℕ} 0 root)) None) ≡ Some m → ⊥
-  no_child n k m true e = cc
-  no_child n k m false e = cc
-
-  at : (m : ℕ) (b : Bool) → is_at (nat_cmp m) 1 ≡ b → IsSome (option_map (λ x. x.value) (cond b (Some (leaf {K = List ℕ} 0 root)) None)) → Some 1 ≡ Some m
-  at m true is some = ap Some (sym (number_is m 1 is))
-  at m false is some = let no : false ≡ true = some in cc
+grown_single root folder = named_single folder_there root folder
 
 pub kept_single : {Z S : Type 0} (root : Seen) (made later : HashMap ℕ ℕ S) → is_folder_kind root.kind ≡ true → made.entries ≡ [] → ((q : ℕ) → get nat_eq later q ≡ cond (root.made == q) (Some 1) (get nat_eq made q)) → IsKept (single {K = Vec ℕ Z} root) later
 kept_single {Z} root made later folder empty map = record {

@@ -28,6 +28,8 @@ pub mod TreeAdded
 pub mod TreeDeleted
 pub mod TreeMoved
 pub mod TreeCalls
+pub mod TreeValues
+pub mod TreeSingle
 pub mod PlacedCalls
 pub mod MadeBefore
 pub mod MadeMaps
@@ -37,7 +39,8 @@ pub mod KeptCalls
 pub mod KeptMoves
 pub mod MadeWrites
 pub mod ListedMembers
-pub mod PathNumbers
+pub mod PathLengths
 pub mod IndexLemmas
 pub mod IndexSound
 pub mod IndexCalls
+pub mod SeatLemmas

@@ -2,19 +2,19 @@
 use Rattle.std.proofs.Common.{◌≡◌, ℕ, ◌+◌, true, cond, List, [], ◌∷◌, ◌++◌, Option, Some, None, refl, sym, ap, ◌∙◌, ⊎_elim, arith}
 use Rattle.std.specs.Option.{option_and_then, option_map, option_or, is_some}
 use Rattle.std.specs.FinMap.{find, put}
-use Rattle.std.proofs.lemmas.Bool.{cases_Bool, cases_eq}
+use Rattle.std.proofs.lemmas.Bool.{cases_Bool}
 use Rattle.dav_core.specs.Path.{Path, path_cmp, is_same_path, is_at_or_under, rest_after, IsSegment}
 use Rattle.dav_core.specs.World.{Node as Seen, is_folder_kind, is_folder_node, adjust, prune, moved as moved_nodes}
 use Rattle.dav_core.proofs.Theorems.{find-adjust, find-put_node, sorted-put_node, same_path, path-itself, find-prune, sorted-prune, find-moved, sorted-moved, adjust_keeps_order}
-use Rattle.dav_store.specs.Tree.{Tree, Node, node, value_of, with_value, added, deleted, moved, root_id}
+use Rattle.dav_store.specs.Tree.{Tree, Node, node, value_of, with_value, added, deleted, moved}
 use Rattle.dav_store.specs.Placed.{is_same_name, named, placed, found, stands, IsGrown}
 use Rattle.dav_store.proofs.Placing.{one_at, find-placed, same_placed, sorted-placed}
-use Rattle.dav_store.proofs.TreeLooks as looks
-use Rattle.dav_store.proofs.TreePaths.{then_same, outside}
+use Rattle.dav_store.proofs.TreePaths.{then_same}
+use Rattle.dav_store.proofs.TreeValues as values
 use Rattle.dav_store.proofs.TreeAdded.{stands_added, grown_added}
 use Rattle.dav_store.proofs.TreeDeleted.{stands_deleted, grown_deleted}
 use Rattle.dav_store.proofs.TreeMoved.{stands_moved, grown_moved, after_move}
-use Rattle.dav_store.proofs.TreeCalls.{node_of_value, none_of_value, once_of, is_added, is_deleted, is_moved}
+use Rattle.dav_store.proofs.TreeCalls.{node_of_value, none_of_value, is_added, is_deleted, is_moved}
 
 module _ (t : Tree (List ℕ) Seen) (grown : IsGrown t) where
   -- ---- the value of a node
@@ -22,63 +22,21 @@ module _ (t : Tree (List ℕ) Seen) (grown : IsGrown t) where
     abbrev valued : Tree (List ℕ) Seen
     valued = with_value t m v
 
-    here : (x : Node (List ℕ) Seen) × (node t m ≡ Some x) × (x.value ≡ w)
-    here = node_of_value t m w is
-
-    value_here : value_of valued m ≡ Some v
-    value_here = looks.value_valued t m v here.0 here.1
-
-    value_apart : (q : ℕ) → (q ≡ m → ⊥) → value_of valued q ≡ value_of t q
-    value_apart q differ = looks.others_valued t m v here.0 here.1 q differ
-
     pub some_valued : (q : ℕ) → is_some (value_of valued q) ≡ is_some (value_of t q)
-    some_valued q =
-        ⊎_elim
-        (λ e. ap is_some (ap (value_of valued) e ∙ value_here) ∙ sym (ap is_some (ap (value_of t) e ∙ is)))
-        (λ differ. ap is_some (value_apart q differ))
-        (cases_eq q m)
-
-    folder_valued : (q : ℕ) → is_folder_node (value_of valued q) ≡ is_folder_node (value_of t q)
-    folder_valued q =
-        ⊎_elim
-        (λ e. ap is_folder_node (ap (value_of valued) e ∙ value_here) ∙ kind ∙ sym (ap is_folder_node (ap (value_of t) e ∙ is)))
-        (λ differ. ap is_folder_node (value_apart q differ))
-        (cases_eq q m)
-
-    named_same : (q : ℕ) (l : List ℕ) → named valued q l ≡ named t q l
-    named_same q l = looks.named_valued t m v here.0 here.1 q l
-
-    found_same : (q : Path) → found valued q ≡ found t q
-    found_same q = outside t grown valued q (λ a b k n cut there. named_same n k)
+    some_valued = values.some_valued t grown m w v is kind
 
     pub grown_valued : IsGrown valued
-    grown_valued = record {
-      above = looks.none_valued t m v here.0 here.1 grown.above;
-      numbers = (looks.once_valued t m v here.0 here.1 (once_of t grown)).numbers;
-      names = (looks.once_valued t m v here.0 here.1 (once_of t grown)).names;
-      root = folder_valued root_id ∙ grown.root;
-      children = λ n k x e.
-          let c = grown.children n k x (sym (named_same n k) ∙ e) in
-          record {
-            not_root = c.not_root;
-            there = some_valued x ∙ c.there;
-            parent = looks.parent_valued t m v here.0 here.1 x ∙ c.parent;
-            name = c.name;
-            folder = folder_valued n ∙ c.folder;
-          };
-      once = λ n k l x a b. grown.once n k l x (sym (named_same n k) ∙ a) (sym (named_same n l) ∙ b);
-      reached = λ x some. let r = grown.reached x (sym (some_valued x) ∙ some) in (r.0, found_same r.0 ∙ r.1);
-    }
+    grown_valued = values.grown_valued t grown m w v is kind
 
     stands_valued : (f : Seen → Seen) → v ≡ f w → (q : Path) → stands valued q ≡ cond (is_same_path path q) (option_map f (stands t q)) (stands t q)
     stands_valued f made q =
-        ap (option_and_then (value_of valued)) (found_same q)
+        ap (option_and_then (value_of valued)) (values.found_same t grown m w v is kind q)
         ∙ ⊎_elim
         (λ same. let there : found t q ≡ Some m = ap (found t) (sym (same_path path q same)) ∙ at in
-        ap (option_and_then (value_of valued)) there ∙ value_here ∙ ap Some made
+        ap (option_and_then (value_of valued)) there ∙ values.value_here t grown m w v is kind ∙ ap Some made
         ∙ sym (ap (λ b. cond b (option_map f (stands t q)) (stands t q)) same ∙ ap (option_map f) (ap (option_and_then (value_of t)) there ∙ is)))
         (λ other. then_same (value_of valued) (value_of t) (found t q)
-        (λ x there. value_apart x (λ e. let same : is_same_path path q ≡ true = ap (is_same_path path) (one_at t grown q path m (there ∙ ap Some e) at) ∙ path-itself path in cc))
+        (λ x there. values.value_apart t grown m w v is kind x (λ e. let same : is_same_path path q ≡ true = ap (is_same_path path) (one_at t grown q path m (there ∙ ap Some e) at) ∙ path-itself path in cc))
         ∙ sym (ap (λ b. cond b (option_map f (stands t q)) (stands t q)) other))
         (cases_Bool (is_same_path path q))
 

@@ -15,11 +15,10 @@ use Rattle.std.proofs.lemmas.Bool.{cases_Bool, eqb-true, eq-eqb}
 use Rattle.std.proofs.lemmas.Slice.Eq.{slice_eq-Decides}
 use Rattle.std.proofs.lemmas.List.{reverse-reverse}
 use Rattle.dav_core.specs.Path.{Path, path_cmp, is_same_path}
-use Rattle.dav_core.specs.World.{Node as Seen, Nodes, is_folder_node}
 use Rattle.dav_core.proofs.Theorems.{path_total, path_exact, same_path, path-itself}
 use Rattle.dav_store.specs.Tree.{Tree, Node, node, value_of, children_of, root_id}
 use Rattle.dav_store.specs.Walks.{reach, climb}
-use Rattle.dav_store.specs.Placed.{is_same_name, name_among, named, seat, seat_of, by_path, placed, found, stands, IsGrown}
+use Rattle.dav_store.specs.Placed.{is_same_name, name_among, named, seat, seat_of, by_path, placed, found, stands, IsNamedTree}
 use Rattle.dav_store.proofs.Walks.{inner, IsSeated, climb_reach, reach_climb, one_path, one_walk, short, reach-reverse}
 
 pub number_is : (q n : ℕ) → is_at (nat_cmp q) n ≡ true → q ≡ n
@@ -116,13 +115,9 @@ value_there {D} t m h = by (node t m) refl h where
   by None is h = let no : false ≡ true = h in cc
   by (Some x) is h = (x, is)
 
-pub folder_there : (o : Option Seen) → is_folder_node o ≡ true → IsSome o
-folder_there None h = cc
-folder_there (Some x) h = refl
-
-module _ (t : Tree (List ℕ) Seen) (grown : IsGrown t) where
+module _ {D : Type 0} {holds : Option D → Bool} {fits : List ℕ → Type 0} (t : Tree (List ℕ) D) (grown : IsNamedTree holds fits t) where
   pub root_there : IsSome (value_of t root_id)
-  root_there = folder_there (value_of t root_id) grown.root
+  root_there = grown.some (value_of t root_id) grown.root
 
   down_seat : (n : ℕ) (k : List ℕ) (m : ℕ) → named t n k ≡ Some m → seat t m ≡ Some (Some (n, k))
   down_seat n k m e =
@@ -169,20 +164,20 @@ module _ (t : Tree (List ℕ) Seen) (grown : IsGrown t) where
   one_at = one_walk (named t) (seat t) seated
 
   -- what is found at a path among some nodes
-  abbrev value_among : List (ℕ × Node (List ℕ) Seen) → ℕ → Option Seen
+  abbrev value_among : List (ℕ × Node (List ℕ) D) → ℕ → Option D
   value_among es m = option_map (λ x. x.value) (lookup (is_at (nat_cmp m)) es)
 
-  tail_of : (m : ℕ) (e : ℕ × Node (List ℕ) Seen) (es : List (ℕ × Node (List ℕ) Seen)) → (m ≡ e.0 → ⊥) → value_among (e ∷ es) m ≡ value_among es m
+  tail_of : (m : ℕ) (e : ℕ × Node (List ℕ) D) (es : List (ℕ × Node (List ℕ) D)) → (m ≡ e.0 → ⊥) → value_among (e ∷ es) m ≡ value_among es m
   tail_of m e es apart = ap (λ b. option_map (λ x. x.value) (cond b (Some e.1) (lookup (is_at (nat_cmp m)) es))) (other_number m e.0 apart)
 
-  later : (e : ℕ × Node (List ℕ) Seen) (es : List (ℕ × Node (List ℕ) Seen)) (o : Option ℕ) → (o ≡ Some e.0 → ⊥) → option_and_then (value_among (e ∷ es)) o ≡ option_and_then (value_among es) o
+  later : (e : ℕ × Node (List ℕ) D) (es : List (ℕ × Node (List ℕ) D)) (o : Option ℕ) → (o ≡ Some e.0 → ⊥) → option_and_then (value_among (e ∷ es)) o ≡ option_and_then (value_among es) o
   later e es None apart = refl
   later e es (Some m) apart = tail_of m e es (λ a. apart (ap Some a))
 
-  head_of : (e : ℕ × Node (List ℕ) Seen) (es : List (ℕ × Node (List ℕ) Seen)) → value_among (e ∷ es) e.0 ≡ Some e.1.value
+  head_of : (e : ℕ × Node (List ℕ) D) (es : List (ℕ × Node (List ℕ) D)) → value_among (e ∷ es) e.0 ≡ Some e.1.value
   head_of e es = ap (λ b. option_map (λ x. x.value) (cond b (Some e.1) (lookup (is_at (nat_cmp e.0)) es))) (number-itself e.0)
 
-  find_step : (q : Path) (e : ℕ × Node (List ℕ) Seen) (es : List (ℕ × Node (List ℕ) Seen)) (o : Option Path) → climb (seat t) (t.last + 1) e.0 ≡ o
+  find_step : (q : Path) (e : ℕ × Node (List ℕ) D) (es : List (ℕ × Node (List ℕ) D)) (o : Option Path) → climb (seat t) (t.last + 1) e.0 ≡ o
       → find path_cmp q (by_path t es) ≡ option_and_then (value_among es) (reach (named t) (reverse q))
       → find path_cmp q (option_map_or (λ r. put path_cmp (reverse r) e.1.value (by_path t es)) o (by_path t es)) ≡ option_and_then (value_among (e ∷ es)) (reach (named t) (reverse q))
   find_step q e es None was ih =
@@ -203,7 +198,7 @@ module _ (t : Tree (List ℕ) Seen) (grown : IsGrown t) where
   none_for None = refl
   none_for (Some m) = refl
 
-  find-by_path : (q : Path) (es : List (ℕ × Node (List ℕ) Seen)) → find path_cmp q (by_path t es) ≡ option_and_then (value_among es) (reach (named t) (reverse q))
+  find-by_path : (q : Path) (es : List (ℕ × Node (List ℕ) D)) → find path_cmp q (by_path t es) ≡ option_and_then (value_among es) (reach (named t) (reverse q))
   find-by_path q [] = none_for (reach (named t) (reverse q))
   find-by_path q (e ∷ es) = find_step q e es (climb (seat t) (t.last + 1) e.0) refl (find-by_path q es)
 
@@ -211,11 +206,11 @@ module _ (t : Tree (List ℕ) Seen) (grown : IsGrown t) where
   pub find-placed : (q : Path) → find path_cmp q (placed t) ≡ stands t q
   find-placed q = find-by_path q t.nodes ∙ ap (option_and_then (value_of t)) (reach-reverse (named t) q)
 
-  sorted_step : (e : ℕ × Node (List ℕ) Seen) (es : List (ℕ × Node (List ℕ) Seen)) (o : Option Path) → T (is_sorted path_cmp (by_path t es)) → T (is_sorted path_cmp (option_map_or (λ r. put path_cmp (reverse r) e.1.value (by_path t es)) o (by_path t es)))
+  sorted_step : (e : ℕ × Node (List ℕ) D) (es : List (ℕ × Node (List ℕ) D)) (o : Option Path) → T (is_sorted path_cmp (by_path t es)) → T (is_sorted path_cmp (option_map_or (λ r. put path_cmp (reverse r) e.1.value (by_path t es)) o (by_path t es)))
   sorted_step e es None h = h
   sorted_step e es (Some r) h = is_sorted-put path_cmp path_total (reverse r) e.1.value (by_path t es) h
 
-  sorted-by_path : (es : List (ℕ × Node (List ℕ) Seen)) → T (is_sorted path_cmp (by_path t es))
+  sorted-by_path : (es : List (ℕ × Node (List ℕ) D)) → T (is_sorted path_cmp (by_path t es))
   sorted-by_path [] = tt
   sorted-by_path (e ∷ es) = sorted_step e es (climb (seat t) (t.last + 1) e.0) (sorted-by_path es)
 
@@ -223,5 +218,5 @@ module _ (t : Tree (List ℕ) Seen) (grown : IsGrown t) where
   sorted-placed = sorted-by_path t.nodes
 
   -- and a list in order that has the same at each path is that list
-  pub same_placed : (ns : Nodes) → T (is_sorted path_cmp ns) → ((q : Path) → stands t q ≡ find path_cmp q ns) → placed t ≡ ns
+  pub same_placed : (ns : List (Path × D)) → T (is_sorted path_cmp ns) → ((q : Path) → stands t q ≡ find path_cmp q ns) → placed t ≡ ns
   same_placed ns sorted same = same_entries path_cmp path_total path_exact (placed t) ns sorted-placed sorted (λ q. find-placed q ∙ same q)

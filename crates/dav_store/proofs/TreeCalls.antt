@@ -1,5 +1,5 @@
 -- Each call of a tree of names as a change of what it stands for.
-use Rattle.std.proofs.Common.{◌≡◌, ℕ, zero, suc, ◌+◌, true, false, List, [], ◌∷◌, ◌++◌, slice_get, position, Option, Some, None, refl, sym, ap, subst, ◌∙◌, arith, ⊎_elim, if◌then◌else◌}
+use Rattle.std.proofs.Common.{◌≡◌, ℕ, Bool, zero, suc, ◌+◌, true, false, List, [], ◌∷◌, ◌++◌, slice_get, position, Option, Some, None, refl, sym, ap, subst, ◌∙◌, arith, ⊎_elim, if◌then◌else◌}
 use Rattle.std.specs.Prelude.{◌==◌}
 use Rattle.std.specs.Option.{option_and_then, option_map, option_map_or}
 use Rattle.std.specs.Map.{lookup, keys_of}
@@ -8,9 +8,8 @@ use Rattle.dav_store.proofs.Place.{NonePasses, none_passes}
 use Rattle.std.proofs.lemmas.Bool.{cases_Bool, cases_eq, eqb-true, eq-eqb}
 use Rattle.std.proofs.lemmas.Cmp.{nat_list_eq_equiv}
 use Rattle.std.proofs.lemmas.Map.Entries.{place_from_lookup, lookup_from_place}
-use Rattle.dav_core.specs.World.{Node as Seen}
 use Rattle.dav_store.specs.Tree.{Tree, Node, node, value_of, parent_of, without, without_old, grown as grown_tree, leaf, linked, unlinked_at, seated, place_of, is_child, added, deleted, moved, moved_over, NoneAbove}
-use Rattle.dav_store.specs.Placed.{is_same_name, named, IsGrown}
+use Rattle.dav_store.specs.Placed.{is_same_name, named, IsNamedTree}
 use Rattle.dav_store.proofs.TreeNumbers.{adds_the_next_number, keeps_numbers}
 use Rattle.dav_store.proofs.Walks.{inner}
 use Rattle.dav_store.proofs.Entering.{place_is, kept_put}
@@ -36,22 +35,22 @@ node_of_value {D} t m v h = by (node t m) refl h where
 pub none_of_value : {D : Type 0} (t : Tree (List ℕ) D) (m : ℕ) → node t m ≡ None → value_of t m ≡ None
 none_of_value t m h = ap value_in h
 
-module _ (t : Tree (List ℕ) Seen) (grown : IsGrown t) where
+module _ {D : Type 0} {holds : Option D → Bool} {fits : List ℕ → Type 0} (t : Tree (List ℕ) D) (grown : IsNamedTree holds fits t) where
   pub once_of : IsOnce t
   once_of = record { numbers = grown.numbers; names = grown.names }
 
   -- ---- a new child
-  module _ (p : ℕ) (k : List ℕ) (v : Seen) (x : Node (List ℕ) Seen) (at : node t p ≡ Some x) (free : named t p k ≡ None) where
+  module _ (p : ℕ) (k : List ℕ) (v : D) (x : Node (List ℕ) D) (at : node t p ≡ Some x) (free : named t p k ≡ None) where
     abbrev next : ℕ
     next = t.last + 1
 
-    abbrev taller : Tree (List ℕ) Seen
+    abbrev taller : Tree (List ℕ) D
     taller = grown_tree t p v
 
     none_next : node t next ≡ None
     none_next = grown.above next (omega arith)
 
-    isnt_next : (q : ℕ) (y : Node (List ℕ) Seen) → node t q ≡ Some y → q ≡ next → ⊥
+    isnt_next : (q : ℕ) (y : Node (List ℕ) D) → node t q ≡ Some y → q ≡ next → ⊥
     isnt_next q y is e = let clash : None ≡ Some y = sym none_next ∙ ap (node t) (sym e) ∙ is in cc
 
     at_taller : node taller p ≡ Some x
@@ -60,7 +59,7 @@ module _ (t : Tree (List ℕ) Seen) (grown : IsGrown t) where
     added_as : added is_same_name t p k v ≡ linked is_same_name taller p k next
     added_as = ap (λ o. without_old o (linked is_same_name taller p k next)) free
 
-    still : {X : Type 0} (f : Option (Node (List ℕ) Seen) → X) → f (Some (leaf p v)) ≡ f None → (q : ℕ) → f (node taller q) ≡ f (node t q)
+    still : {X : Type 0} (f : Option (Node (List ℕ) D) → X) → f (Some (leaf p v)) ≡ f None → (q : ℕ) → f (node taller q) ≡ f (node t q)
     still f same q =
         ⊎_elim
         (λ e. ap f (ap (node taller) e ∙ looks.node_new t p v once_of none_next) ∙ same ∙ sym (ap f (ap (node t) e ∙ none_next)))
@@ -68,9 +67,9 @@ module _ (t : Tree (List ℕ) Seen) (grown : IsGrown t) where
         (cases_eq q next)
 
     pub is_added : IsAdded t (added is_same_name t p k v) p k next v
-    is_added = subst (λ (u : Tree (List ℕ) Seen). IsAdded t u p k next v) (sym added_as) (record {
+    is_added = subst (λ (u : Tree (List ℕ) D). IsAdded t u p k next v) (sym added_as) (record {
       once = looks.once_linked taller p k next x at_taller (looks.once_grown t p v once_of none_next);
-      above = subst NoneAbove added_as (adds_the_next_number is_same_name Seen t grown.above p k v).2;
+      above = subst NoneAbove added_as (adds_the_next_number is_same_name D t grown.above p k v).2;
       here = looks.named_linked taller p k next x at_taller;
       others = λ q l apart. looks.others_linked taller p k next x at_taller q l apart ∙ still (named_in l) refl q;
       value = looks.value_linked taller p k next x at_taller next ∙ ap value_in (looks.node_new t p v once_of none_next);
@@ -80,7 +79,7 @@ module _ (t : Tree (List ℕ) Seen) (grown : IsGrown t) where
     })
 
   -- ---- the place of a child
-  place_there : (p m : ℕ) (k : List ℕ) (x : Node (List ℕ) Seen) → node t p ≡ Some x → named t p k ≡ Some m
+  place_there : (p m : ℕ) (k : List ℕ) (x : Node (List ℕ) D) → node t p ≡ Some x → named t p k ≡ Some m
       → (i : ℕ) × (e : List ℕ × ℕ) × (place_of t p m ≡ Some i) × (slice_get x.children i ≡ Some e) × (e.0 ≡ k)
   place_there p m k x at child =
       let found_in : lookup (is_same_name k) x.children ≡ Some m = sym (ap (named_in k) at) ∙ child in
@@ -105,22 +104,22 @@ module _ (t : Tree (List ℕ) Seen) (grown : IsGrown t) where
 
   -- ---- a child less
   module _ (p : ℕ) (k : List ℕ) (m : ℕ) (child : named t p k ≡ Some m) (leaf : (l : List ℕ) → named t m l ≡ None) where
-    at_parent : (x : Node (List ℕ) Seen) × (node t p ≡ Some x)
+    at_parent : (x : Node (List ℕ) D) × (node t p ≡ Some x)
     at_parent = by (node t p) refl child where
-      by : (o : Option (Node (List ℕ) Seen)) → node t p ≡ o → option_and_then (λ x. lookup (is_same_name k) x.children) o ≡ Some m → (x : Node (List ℕ) Seen) × (node t p ≡ Some x)
+      by : (o : Option (Node (List ℕ) D)) → node t p ≡ o → option_and_then (λ x. lookup (is_same_name k) x.children) o ≡ Some m → (x : Node (List ℕ) D) × (node t p ≡ Some x)
       by None is h = cc
       by (Some x) is h = (x, is)
 
     place : (i : ℕ) × (e : List ℕ × ℕ) × (place_of t p m ≡ Some i) × (slice_get at_parent.0.children i ≡ Some e) × (e.0 ≡ k)
     place = place_there p m k at_parent.0 at_parent.1 child
 
-    abbrev fewer : Tree (List ℕ) Seen
+    abbrev fewer : Tree (List ℕ) D
     fewer = unlinked_at t p (Some place.0)
 
     deleted_as : deleted t m ≡ without fewer m
     deleted_as =
         let up = (grown.children p k m child).parent in
-        ap (λ (u : Tree (List ℕ) Seen). without u m) (ap (λ q. unlinked_at t q (place_of t q m)) up ∙ ap (unlinked_at t p) place.2)
+        ap (λ (u : Tree (List ℕ) D). without u m) (ap (λ q. unlinked_at t q (place_of t q m)) up ∙ ap (unlinked_at t p) place.2)
 
     once_fewer : IsOnce fewer
     once_fewer = looks.once_out t once_of p place.0 at_parent.0 place.1 at_parent.1 place.3
@@ -139,9 +138,9 @@ module _ (t : Tree (List ℕ) Seen) (grown : IsGrown t) where
         (cases_eq q m)
 
     pub is_deleted : IsDeleted t (deleted t m) p k m
-    is_deleted = subst (λ (u : Tree (List ℕ) Seen). IsDeleted t u p k m) (sym deleted_as) (record {
+    is_deleted = subst (λ (u : Tree (List ℕ) D). IsDeleted t u p k m) (sym deleted_as) (record {
       once = looks.once_left fewer m once_fewer;
-      above = subst NoneAbove deleted_as (keeps_numbers is_same_name Seen t grown.above m).0.1;
+      above = subst NoneAbove deleted_as (keeps_numbers is_same_name D t grown.above m).0.1;
       gone = ap (named_in k) (looks.node_left fewer m once_fewer p (apart_from_child p m k child)) ∙ is_gone;
       others = named_less;
       removed = ap value_in (looks.node_gone fewer m once_fewer);
@@ -152,13 +151,13 @@ module _ (t : Tree (List ℕ) Seen) (grown : IsGrown t) where
   -- ---- a child under another name
   module _ (n fp : ℕ) (fk : List ℕ) (tp : ℕ) (tk : List ℕ) (old : Option ℕ) (child : named t fp fk ≡ Some n) (old_is : named t tp tk ≡ old)
       (leaf : (o : ℕ) → old ≡ Some o → (l : List ℕ) → named t o l ≡ None) (other : old ≡ Some n → ⊥)
-      (x : Node (List ℕ) Seen) (at : node t tp ≡ Some x) where
-    abbrev more : Tree (List ℕ) Seen
+      (x : Node (List ℕ) D) (at : node t tp ≡ Some x) where
+    abbrev more : Tree (List ℕ) D
     more = linked is_same_name t tp tk n
 
-    from_node : (y : Node (List ℕ) Seen) × (node t fp ≡ Some y)
+    from_node : (y : Node (List ℕ) D) × (node t fp ≡ Some y)
     from_node = by (node t fp) refl child where
-      by : (o : Option (Node (List ℕ) Seen)) → node t fp ≡ o → option_and_then (λ x. lookup (is_same_name fk) x.children) o ≡ Some n → (x : Node (List ℕ) Seen) × (node t fp ≡ Some x)
+      by : (o : Option (Node (List ℕ) D)) → node t fp ≡ o → option_and_then (λ x. lookup (is_same_name fk) x.children) o ≡ Some n → (x : Node (List ℕ) D) × (node t fp ≡ Some x)
       by None is h = cc
       by (Some y) is h = (y, is)
 
@@ -166,16 +165,16 @@ module _ (t : Tree (List ℕ) Seen) (grown : IsGrown t) where
     from_place = place_there fp n fk from_node.0 from_node.1 child
 
     -- the old place once the new name is there
-    more_place : (z : Node (List ℕ) Seen) × (e : List ℕ × ℕ) × (node more fp ≡ Some z) × (slice_get z.children from_place.0 ≡ Some e) × (e.0 ≡ fk)
+    more_place : (z : Node (List ℕ) D) × (e : List ℕ × ℕ) × (node more fp ≡ Some z) × (slice_get z.children from_place.0 ≡ Some e) × (e.0 ≡ fk)
     more_place =
         ⊎_elim
         (λ e. let same : x ≡ from_node.0 = inner x from_node.0 (sym at ∙ ap (node t) (sym e) ∙ from_node.1) in
-        let kept = kept_put nat_list_eq_equiv tk n x.children from_place.0 from_place.1 (ap (λ (y : Node (List ℕ) Seen). slice_get y.children from_place.0) same ∙ from_place.3) in
+        let kept = kept_put nat_list_eq_equiv tk n x.children from_place.0 from_place.1 (ap (λ (y : Node (List ℕ) D). slice_get y.children from_place.0) same ∙ from_place.3) in
         (looks.with_link t tp tk n x at, kept.0, ap (node more) e ∙ looks.node_linked t tp tk n x at, kept.1, kept.2 ∙ from_place.4))
         (λ differ. (from_node.0, from_place.1, looks.node_unlinked t tp tk n x at fp differ ∙ from_node.1, from_place.3, from_place.4))
         (cases_eq fp tp)
 
-    abbrev taken : Tree (List ℕ) Seen
+    abbrev taken : Tree (List ℕ) D
     taken = unlinked_at more fp (Some from_place.0)
 
     once_more : IsOnce more
@@ -187,13 +186,13 @@ module _ (t : Tree (List ℕ) Seen) (grown : IsGrown t) where
     value_taken : (q : ℕ) → value_of taken q ≡ value_of t q
     value_taken q = looks.value_out more once_more fp from_place.0 more_place.0 more_place.1 more_place.2 more_place.3 q ∙ looks.value_linked t tp tk n x at q
 
-    node_taken : (y : Node (List ℕ) Seen) × (node taken n ≡ Some y)
+    node_taken : (y : Node (List ℕ) D) × (node taken n ≡ Some y)
     node_taken =
         let v = some_is (value_of t n) (grown.children fp fk n child).there in
         let y = node_of_value taken n v.0 (value_taken n ∙ v.1) in
         (y.0, y.1)
 
-    abbrev seated_there : Tree (List ℕ) Seen
+    abbrev seated_there : Tree (List ℕ) D
     seated_there = seated taken n tp
 
     once_seated_there : IsOnce seated_there
@@ -249,7 +248,7 @@ module _ (t : Tree (List ℕ) Seen) (grown : IsGrown t) where
         ∙ looks.parent_linked t tp tk n x at q
 
     above_moved : NoneAbove (moved is_same_name t n tp tk)
-    above_moved = ((keeps_numbers is_same_name Seen t grown.above n).1 tp tk).1
+    above_moved = ((keeps_numbers is_same_name D t grown.above n).1 tp tk).1
 
     moved_by : (o : Option ℕ) → old ≡ o → NoneAbove (without_old o seated_there) → IsMoved t (without_old o seated_there) n fp fk tp tk o
     moved_by None is none = record {
@@ -287,5 +286,5 @@ module _ (t : Tree (List ℕ) Seen) (grown : IsGrown t) where
 
     pub is_moved : IsMoved t (moved is_same_name t n tp tk) n fp fk tp tk old
     is_moved =
-        subst (λ (u : Tree (List ℕ) Seen). IsMoved t u n fp fk tp tk old) (sym moved_as)
+        subst (λ (u : Tree (List ℕ) D). IsMoved t u n fp fk tp tk old) (sym moved_as)
         (moved_by old refl (subst NoneAbove moved_as above_moved))

@@ -1,28 +1,28 @@
 -- What stands at each path after a node without children was deleted.
-use Rattle.std.proofs.Common.{◌≡◌, ℕ, true, false, cond, List, [], ◌∷◌, ◌++◌, Option, Some, None, refl, sym, ap, ◌∙◌, ⊎_elim}
+use Rattle.std.proofs.Common.{◌≡◌, ℕ, Bool, true, false, cond, List, [], ◌∷◌, ◌++◌, Option, Some, None, refl, sym, ap, ◌∙◌, ⊎_elim}
 use Rattle.std.specs.Option.{option_and_then, IsSome, is_some}
 use Rattle.std.proofs.lemmas.Bool.{cases_eq}
 use Rattle.dav_core.specs.Path.{Path, rest_after, is_at_or_under}
-use Rattle.dav_core.specs.World.{Node as Seen, is_folder_node}
 use Rattle.dav_core.proofs.Theorems.{from_rest}
 use Rattle.dav_store.specs.Tree.{Tree, value_of, parent_of, NoneAbove, root_id}
-use Rattle.dav_store.specs.Placed.{named, found, stands, IsChild, IsGrown}
+use Rattle.dav_store.specs.Placed.{named, found, stands, IsNamedChild, IsNamedTree}
 use Rattle.dav_store.proofs.Walks.{inner}
 use Rattle.dav_store.proofs.Placing.{one_at}
 use Rattle.dav_store.proofs.TreeLooks.{IsOnce, cases_seat}
 use Rattle.dav_store.proofs.TreePaths.{then_same, not_longer, no_rest_from, found-push, found-below, none-below, leaf_below, one_seat, outside, goes_by}
 
--- u is t without the node m, the child under the name k of p
-pub record IsDeleted (t u : Tree (List ℕ) Seen) (p : ℕ) (k : List ℕ) (m : ℕ) : Type 0 where
-  pub once : IsOnce u
-  pub above : NoneAbove u
-  pub gone : named u p k ≡ None
-  pub others : (q : ℕ) (l : List ℕ) → ((q ≡ p) × (l ≡ k) → ⊥) → named u q l ≡ named t q l
-  pub removed : value_of u m ≡ None
-  pub values : (q : ℕ) → (q ≡ m → ⊥) → value_of u q ≡ value_of t q
-  pub parents : (q : ℕ) → (q ≡ m → ⊥) → parent_of u q ≡ parent_of t q
+module _ {D : Type 0} where
+  -- u is t without the node m, the child under the name k of p
+  pub record IsDeleted (t u : Tree (List ℕ) D) (p : ℕ) (k : List ℕ) (m : ℕ) : Type 0 where
+    pub once : IsOnce u
+    pub above : NoneAbove u
+    pub gone : named u p k ≡ None
+    pub others : (q : ℕ) (l : List ℕ) → ((q ≡ p) × (l ≡ k) → ⊥) → named u q l ≡ named t q l
+    pub removed : value_of u m ≡ None
+    pub values : (q : ℕ) → (q ≡ m → ⊥) → value_of u q ≡ value_of t q
+    pub parents : (q : ℕ) → (q ≡ m → ⊥) → parent_of u q ≡ parent_of t q
 
-module _ (t : Tree (List ℕ) Seen) (grown : IsGrown t) (u : Tree (List ℕ) Seen) (path : Path) (p : ℕ) (k : List ℕ) (m : ℕ) (deleted : IsDeleted t u p k m)
+module _ {D : Type 0} {holds : Option D → Bool} {fits : List ℕ → Type 0} (t : Tree (List ℕ) D) (grown : IsNamedTree holds fits t) (u : Tree (List ℕ) D) (path : Path) (p : ℕ) (k : List ℕ) (m : ℕ) (deleted : IsDeleted t u p k m)
     (at : found t path ≡ Some p) (child : named t p k ≡ Some m) (leaf : (l : List ℕ) → named t m l ≡ None) where
   abbrev full : Path
   full = path ++ k ∷ []
@@ -37,7 +37,7 @@ module _ (t : Tree (List ℕ) Seen) (grown : IsGrown t) (u : Tree (List ℕ) See
   none_at s = none-below u full s (found-push u path p k (found_outside path (λ b. not_longer path b k) ∙ at) ∙ deleted.gone)
 
   -- only the deleted node was at or below its path
-  was_only : (s : Path) (x : ℕ) → found t (full ++ s) ≡ Some x → x ≡ m
+  pub was_only : (s : Path) (x : ℕ) → found t (full ++ s) ≡ Some x → x ≡ m
   was_only [] x e = inner x m (sym e ∙ found-below t full [] m found_full)
   was_only (l ∷ s) x e = let clash : None ≡ Some x = sym (found-below t full (l ∷ s) m found_full ∙ leaf_below t m l s (leaf l)) ∙ e in cc
 
@@ -69,7 +69,7 @@ module _ (t : Tree (List ℕ) Seen) (grown : IsGrown t) (u : Tree (List ℕ) See
       let seat = one_seat t grown n p l k m (is_old n l x e ∙ ap Some is) child in
       let clash : None ≡ Some x = sym deleted.gone ∙ (λ i. named u (sym seat.0 i) (sym seat.1 i)) ∙ e in cc
 
-  child_still : (n : ℕ) (l : List ℕ) (x : ℕ) → named u n l ≡ Some x → IsChild u n l x
+  child_still : (n : ℕ) (l : List ℕ) (x : ℕ) → named u n l ≡ Some x → IsNamedChild holds fits u n l x
   child_still n l x e =
       let c = grown.children n l x (is_old n l x e) in
       let other = isnt_deleted n l x e in
@@ -78,7 +78,7 @@ module _ (t : Tree (List ℕ) Seen) (grown : IsGrown t) (u : Tree (List ℕ) See
         there = ap is_some (deleted.values x other) ∙ c.there;
         parent = deleted.parents x other ∙ c.parent;
         name = c.name;
-        folder = ap is_folder_node (deleted.values n (λ is. let clash : None ≡ Some x = sym (leaf l) ∙ ap (λ a. named t a l) (sym is) ∙ is_old n l x e in cc)) ∙ c.folder;
+        folder = ap holds (deleted.values n (λ is. let clash : None ≡ Some x = sym (leaf l) ∙ ap (λ a. named t a l) (sym is) ∙ is_old n l x e in cc)) ∙ c.folder;
       }
 
   reached_still : (x : ℕ) → (x ≡ m → ⊥) → IsSome (value_of t x) → (q : Path) × (found u q ≡ Some x)
@@ -86,12 +86,13 @@ module _ (t : Tree (List ℕ) Seen) (grown : IsGrown t) (u : Tree (List ℕ) See
       let r = grown.reached x some in
       (r.0, found_outside r.0 (λ b cut. other (was_only b x (ap (found t) (sym cut) ∙ r.1))) ∙ r.1)
 
-  pub grown_deleted : IsGrown u
+  pub grown_deleted : IsNamedTree holds fits u
   grown_deleted = record {
+    some = grown.some;
     above = deleted.above;
     numbers = deleted.once.numbers;
     names = deleted.once.names;
-    root = ap is_folder_node (deleted.values root_id (λ e. (grown.children p k m child).not_root (sym e))) ∙ grown.root;
+    root = ap holds (deleted.values root_id (λ e. (grown.children p k m child).not_root (sym e))) ∙ grown.root;
     children = child_still;
     once = λ n l o x a b. grown.once n l o x (is_old n l x a) (is_old n o x b);
     reached = λ x some. ⊎_elim

@@ -1,30 +1,30 @@
 -- What stands at each path after a node was moved.
-use Rattle.std.proofs.Common.{◌≡◌, ℕ, true, false, cond, List, [], ◌∷◌, ◌++◌, Option, Some, None, refl, sym, ap, subst, ◌∙◌, ⊎_elim, inl, inr, append_assoc}
+use Rattle.std.proofs.Common.{◌≡◌, ℕ, Bool, true, false, cond, List, [], ◌∷◌, ◌++◌, Option, Some, None, refl, sym, ap, subst, ◌∙◌, ⊎_elim, inl, inr, append_assoc}
 use Rattle.std.specs.Prelude.{◌⊎◌}
 use Rattle.std.specs.Option.{option_and_then, option_or, IsSome, is_some}
 use Rattle.std.proofs.lemmas.Bool.{cases_eq}
-use Rattle.dav_core.specs.Path.{Path, rest_after, IsSegment}
-use Rattle.dav_core.specs.World.{Node as Seen, is_folder_node}
+use Rattle.dav_core.specs.Path.{Path, rest_after}
 use Rattle.dav_core.proofs.Theorems.{from_rest}
 use Rattle.dav_store.specs.Tree.{Tree, value_of, parent_of, NoneAbove, root_id}
 use Rattle.dav_store.specs.Walks.{walk}
-use Rattle.dav_store.specs.Placed.{named, found, stands, IsChild, IsGrown}
+use Rattle.dav_store.specs.Placed.{named, found, stands, IsNamedChild, IsNamedTree}
 use Rattle.dav_store.proofs.Walks.{inner, walk_same}
 use Rattle.dav_store.proofs.Placing.{one_at}
 use Rattle.dav_store.proofs.TreeLooks.{IsOnce, cases_seat}
 use Rattle.dav_store.proofs.TreePaths.{then_same, not_longer, no_rest_from, found-push, found-below, none-below, leaf_below, one_seat, outside, goes_by}
 
--- u is t with the node n, the child under fk of fp, under tk of tp, in the place of the old one that may be there
-pub record IsMoved (t u : Tree (List ℕ) Seen) (n fp : ℕ) (fk : List ℕ) (tp : ℕ) (tk : List ℕ) (old : Option ℕ) : Type 0 where
-  pub once : IsOnce u
-  pub above : NoneAbove u
-  pub here : named u tp tk ≡ Some n
-  pub gone : named u fp fk ≡ None
-  pub others : (q : ℕ) (l : List ℕ) → ((q ≡ tp) × (l ≡ tk) → ⊥) → ((q ≡ fp) × (l ≡ fk) → ⊥) → named u q l ≡ named t q l
-  pub removed : (q : ℕ) → old ≡ Some q → value_of u q ≡ None
-  pub values : (q : ℕ) → (old ≡ Some q → ⊥) → value_of u q ≡ value_of t q
-  pub parent : parent_of u n ≡ tp
-  pub parents : (q : ℕ) → (q ≡ n → ⊥) → (old ≡ Some q → ⊥) → parent_of u q ≡ parent_of t q
+module _ {D : Type 0} where
+  -- u is t with the node n, the child under fk of fp, under tk of tp, in the place of the old one that may be there
+  pub record IsMoved (t u : Tree (List ℕ) D) (n fp : ℕ) (fk : List ℕ) (tp : ℕ) (tk : List ℕ) (old : Option ℕ) : Type 0 where
+    pub once : IsOnce u
+    pub above : NoneAbove u
+    pub here : named u tp tk ≡ Some n
+    pub gone : named u fp fk ≡ None
+    pub others : (q : ℕ) (l : List ℕ) → ((q ≡ tp) × (l ≡ tk) → ⊥) → ((q ≡ fp) × (l ≡ fk) → ⊥) → named u q l ≡ named t q l
+    pub removed : (q : ℕ) → old ≡ Some q → value_of u q ≡ None
+    pub values : (q : ℕ) → (old ≡ Some q → ⊥) → value_of u q ≡ value_of t q
+    pub parent : parent_of u n ≡ tp
+    pub parents : (q : ℕ) → (q ≡ n → ⊥) → (old ≡ Some q → ⊥) → parent_of u q ≡ parent_of t q
 
 -- what is found at a path after a move, by what follows the new path and the old one
 abbrev pub after_move : {X : Type 0} (S : Path → Option X) (from q : Path) → Option Path → Option Path → Option X
@@ -42,10 +42,10 @@ pub is_or_isnt : (o : Option ℕ) (x : ℕ) → (o ≡ Some x) ⊎ (o ≡ Some x
 is_or_isnt None x = inr (λ e. let clash : None ≡ Some x = e in cc)
 is_or_isnt (Some y) x = ⊎_elim (λ e. inl (ap Some e)) (λ differ. inr (λ e. differ (inner y x e))) (cases_eq y x)
 
-module _ (t : Tree (List ℕ) Seen) (grown : IsGrown t) (u : Tree (List ℕ) Seen) (F T : Path) (n fp : ℕ) (fk : List ℕ) (tp : ℕ) (tk : List ℕ) (old : Option ℕ) (moved : IsMoved t u n fp fk tp tk old)
+module _ {D : Type 0} {holds : Option D → Bool} {fits : List ℕ → Type 0} (t : Tree (List ℕ) D) (grown : IsNamedTree holds fits t) (u : Tree (List ℕ) D) (F T : Path) (n fp : ℕ) (fk : List ℕ) (tp : ℕ) (tk : List ℕ) (old : Option ℕ) (moved : IsMoved t u n fp fk tp tk old)
     (at_from : found t F ≡ Some fp) (child : named t fp fk ≡ Some n) (at_to : found t T ≡ Some tp) (old_is : named t tp tk ≡ old)
     (leaf : (o : ℕ) → old ≡ Some o → (l : List ℕ) → named t o l ≡ None)
-    (apart : (s : Path) → T ++ tk ∷ [] ≡ (F ++ fk ∷ []) ++ s → ⊥) (folder : is_folder_node (value_of t tp) ≡ true) (segment : IsSegment tk) where
+    (apart : (s : Path) → T ++ tk ∷ [] ≡ (F ++ fk ∷ []) ++ s → ⊥) (folder : holds (value_of t tp) ≡ true) (segment : fits tk) where
   abbrev from : Path
   from = F ++ fk ∷ []
 
@@ -123,18 +123,18 @@ module _ (t : Tree (List ℕ) Seen) (grown : IsGrown t) (u : Tree (List ℕ) See
       (cases_seat m fp l fk))
       (cases_seat m tp l tk)
 
-  child_new : (m : ℕ) (l : List ℕ) (x : ℕ) → m ≡ tp → l ≡ tk → n ≡ x → IsChild u m l x
+  child_new : (m : ℕ) (l : List ℕ) (x : ℕ) → m ≡ tp → l ≡ tk → n ≡ x → IsNamedChild holds fits u m l x
   child_new m l x same_parent same_name is =
       let c = grown.children fp fk n child in
       record {
         not_root = λ r. c.not_root (is ∙ r);
         there = ap is_some (ap (value_of u) (sym is) ∙ moved.values n isnt_old) ∙ c.there;
         parent = ap (parent_of u) (sym is) ∙ moved.parent ∙ sym same_parent;
-        name = subst IsSegment (sym same_name) segment;
-        folder = ap is_folder_node (ap (value_of u) same_parent ∙ moved.values tp (λ e. not_longer T [] tk (one_at t grown T to tp at_to (was_to ∙ e) ∙ empty to))) ∙ folder;
+        name = subst fits (sym same_name) segment;
+        folder = ap holds (ap (value_of u) same_parent ∙ moved.values tp (λ e. not_longer T [] tk (one_at t grown T to tp at_to (was_to ∙ e) ∙ empty to))) ∙ folder;
       }
 
-  child_old : (m : ℕ) (l : List ℕ) (x : ℕ) → named t m l ≡ Some x → (x ≡ n → ⊥) → (old ≡ Some x → ⊥) → IsChild u m l x
+  child_old : (m : ℕ) (l : List ℕ) (x : ℕ) → named t m l ≡ Some x → (x ≡ n → ⊥) → (old ≡ Some x → ⊥) → IsNamedChild holds fits u m l x
   child_old m l x was other stays =
       let c = grown.children m l x was in
       record {
@@ -142,7 +142,7 @@ module _ (t : Tree (List ℕ) Seen) (grown : IsGrown t) (u : Tree (List ℕ) See
         there = ap is_some (moved.values x stays) ∙ c.there;
         parent = moved.parents x other stays ∙ c.parent;
         name = c.name;
-        folder = ap is_folder_node (moved.values m (λ e. let clash : None ≡ Some x = sym (leaf m e l) ∙ was in cc)) ∙ c.folder;
+        folder = ap holds (moved.values m (λ e. let clash : None ≡ Some x = sym (leaf m e l) ∙ was in cc)) ∙ c.folder;
       }
 
   once_by : (m : ℕ) (l o : List ℕ) (x : ℕ) → named u m l ≡ Some x → named u m o ≡ Some x → l ≡ o
@@ -166,12 +166,13 @@ module _ (t : Tree (List ℕ) Seen) (grown : IsGrown t) (u : Tree (List ℕ) See
   reached_still : (x : ℕ) → (old ≡ Some x → ⊥) → IsSome (value_of t x) → (q : Path) × (found u q ≡ Some x)
   reached_still x stays some = let r = grown.reached x some in reached_by x stays r.0 r.1 (rest_after from r.0) refl
 
-  pub grown_moved : IsGrown u
+  pub grown_moved : IsNamedTree holds fits u
   grown_moved = record {
+    some = grown.some;
     above = moved.above;
     numbers = moved.once.numbers;
     names = moved.once.names;
-    root = ap is_folder_node (moved.values root_id (λ e. (grown.children tp tk root_id (old_is ∙ e)).not_root refl)) ∙ grown.root;
+    root = ap holds (moved.values root_id (λ e. (grown.children tp tk root_id (old_is ∙ e)).not_root refl)) ∙ grown.root;
     children = λ m l x e. ⊎_elim (λ one. child_new m l x one.0 one.1 one.2) (λ one. child_old m l x one.0 one.1 one.2) (which m l x e);
     once = once_by;
     reached = λ x some. ⊎_elim

@@ -2,11 +2,10 @@
 use Rattle.std.proofs.Common.{◌≡◌, ℕ, Bool, true, false, List, [], ◌∷◌, ◌++◌, length, Option, Some, None, refl, sym, ap, ◌∙◌, arith, append_assoc, length-append, reverse}
 use Rattle.std.specs.Option.{option_and_then, IsSome, is_some}
 use Rattle.dav_core.specs.Path.{Path, rest_after, is_same_path}
-use Rattle.dav_core.specs.World.{Node as Seen}
 use Rattle.dav_core.proofs.Theorems.{rest_after-append, same_path}
 use Rattle.dav_store.specs.Tree.{Tree, value_of}
 use Rattle.dav_store.specs.Walks.{walk, reach}
-use Rattle.dav_store.specs.Placed.{named, found, IsGrown}
+use Rattle.dav_store.specs.Placed.{named, found, IsNamedTree}
 use Rattle.dav_store.proofs.Walks.{walk-append, walk-push, walk_same, inner, reach-reverse, before}
 use Rattle.dav_store.proofs.Placing.{one_at, root_there}
 
@@ -51,7 +50,7 @@ differs_behind p s l = by (is_same_path (p ++ l ∷ s) p) refl where
   by true is = absurd (not_behind p s l (same_path (p ++ l ∷ s) p is))
   by false is = refl
 
-module _ (t : Tree (List ℕ) Seen) where
+module _ {D : Type 0} (t : Tree (List ℕ) D) where
   -- one name more leads to a child
   pub found-push : (q : Path) (n : ℕ) (k : List ℕ) → found t q ≡ Some n → found t (q ++ k ∷ []) ≡ named t n k
   found-push q n k at = walk-push (named t) 1 q k ∙ ap (option_and_then (λ m. named t m k)) at
@@ -68,19 +67,19 @@ module _ (t : Tree (List ℕ) Seen) where
   leaf_below n l s none = ap (option_and_then (λ m. walk (named t) m s)) none
 
   -- what a walk leads to is there
-  pub found_there : IsGrown t → (q : Path) (m : ℕ) → found t q ≡ Some m → IsSome (value_of t m)
+  pub found_there : {holds : Option D → Bool} {fits : List ℕ → Type 0} → IsNamedTree holds fits t → (q : Path) (m : ℕ) → found t q ≡ Some m → IsSome (value_of t m)
   found_there grown q m e = by (reverse q) (reach-reverse (named t) q ∙ e) where
     by : (r : Path) → reach (named t) r ≡ Some m → IsSome (value_of t m)
     by [] h = ap is_some (ap (value_of t) (sym (inner 1 m h))) ∙ root_there t grown
     by (k ∷ r) h = let b = before (named t) k r m h in (grown.children b.0 k m b.2).there
 
   -- a child has one parent and one name
-  pub one_seat : IsGrown t → (a b : ℕ) (k l : List ℕ) (m : ℕ) → named t a k ≡ Some m → named t b l ≡ Some m → (a ≡ b) × (k ≡ l)
+  pub one_seat : {holds : Option D → Bool} {fits : List ℕ → Type 0} → IsNamedTree holds fits t → (a b : ℕ) (k l : List ℕ) (m : ℕ) → named t a k ≡ Some m → named t b l ≡ Some m → (a ≡ b) × (k ≡ l)
   one_seat grown a b k l m e f =
       let same : a ≡ b = sym (grown.children a k m e).parent ∙ (grown.children b l m f).parent in
       (same, grown.once b k l m (ap (λ n. named t n k) (sym same) ∙ e) f)
 
-  module _ (grown : IsGrown t) (u : Tree (List ℕ) Seen) where
+  module _ {holds : Option D → Bool} {fits : List ℕ → Type 0} (grown : IsNamedTree holds fits t) (u : Tree (List ℕ) D) where
     -- a path that goes by no child that changed finds what it found
     pub outside : (q : Path) → ((a b : Path) (k : List ℕ) (n : ℕ) → q ≡ a ++ k ∷ b → found t a ≡ Some n → named u n k ≡ named t n k) → found u q ≡ found t q
     outside q h = walk_same (named t) (named u) q 1 h

@@ -1,69 +1,85 @@
--- The index of a list of locks: how many locks have each key.
-use Rattle.std.specs.Prelude.{◌≡◌, ℕ, ◌+◌, ◌*◌, ◌%◌, ◌==◌, nat_eq, ◌&&◌, ◌||◌, Bool, false, if◌then◌else◌, List, [], ◌∷◌, ◌++◌, Option, IfSome}
-use Rattle.std.specs.List.{fold, count_by, list_any, sum_by}
-use Rattle.std.specs.Option.{unwrap_or}
-use Rattle.std.specs.HashMap.{get}
-use Rattle.dav_core.specs.Path.{Path, names, is_at_or_under}
+-- The index of a list of locks: a tree, each of whose nodes counts the locks at its path and below it.
+use Rattle.std.specs.Prelude.{◌≡◌, ℕ, ◌+◌, ◌&&◌, ◌||◌, Bool, true, false, if◌then◌else◌, List, [], ◌∷◌, ◌++◌, Option, IfSome}
+use Rattle.std.specs.List.{list_any, sum_by}
+use Rattle.std.specs.Option.{option_map_or, is_some}
+use Rattle.dav_core.specs.Path.{Path, names, is_same_path, is_at_or_under}
 use Rattle.dav_core.specs.Locks.{Lock, covers}
-use Rattle.dav_store.specs.declared.memls.index.Counts.{Counts}
+use Rattle.dav_store.specs.Tree.{Tree}
+use Rattle.dav_store.specs.Placed.{stands, IsNamedTree}
+use Rattle.dav_store.specs.declared.memls.index.Kind.{Kind}
+use Rattle.dav_store.specs.declared.memls.index.Kind.TheVariants.{Below, At, Deep}
+use Rattle.dav_store.specs.declared.memls.index.Seat.{Seat}
 
--- the number of the root
-abbrev pub root_number : ℕ
-root_number = 1
+-- the nodes of the index by the names of their paths
+abbrev pub Seats : Type 0
+Seats = Tree (List ℕ) Seat
 
--- the number of a path that goes on by one byte
-unfoldable pub with_byte : ℕ → ℕ → ℕ
-with_byte n b = n % 4294967291 * 2654435761 + b
+-- what holds of them: any node may hold others, under any name
+abbrev pub IsSeatTree : Seats → Type 0
+IsSeatTree t = IsNamedTree is_some (λ k. Unit {0}) t
 
--- the number of a path that goes on by one name, after a slash
-unfoldable pub with_name : ℕ → List ℕ → ℕ
-with_name n name = fold with_byte (with_byte n 47) name
+-- how many locks of a kind a node counts
+abbrev pub seat_count : Kind → Seat → ℕ
+seat_count Below s = s.below.count
+seat_count At s = s.at.count
+seat_count Deep s = s.deep.count
 
--- the number of a path
-abbrev pub path_number : Path → ℕ
-path_number p = fold with_name root_number p
+abbrev pub same_kind : Kind → Kind → Bool
+same_kind Below Below = true
+same_kind At At = true
+same_kind Deep Deep = true
+same_kind a b = false
 
--- the key of the locks on a path, of those on it that are of infinite depth, and of those on it or below it
-unfoldable pub at_key : ℕ → ℕ
-at_key n = n % 4294967291 * 3
+-- a kind of locks of a path: those on it or below it, those on it, and those of infinite depth on it
+abbrev pub Key : Type 0
+Key = Kind × Path
 
-unfoldable pub deep_key : ℕ → ℕ
-deep_key n = n % 4294967291 * 3 + 1
+abbrev pub key_of : Kind → Path → Key
+key_of kind q = (kind, q)
 
-unfoldable pub below_key : ℕ → ℕ
-below_key n = n % 4294967291 * 3 + 2
+abbrev pub below_key : Path → Key
+below_key q = (Below, q)
 
--- the keys of a lock, by the number of a front of its path and the names that follow it
-abbrev pub keys_from : Bool → ℕ → Path → List ℕ
-keys_from deep n [] = below_key n ∷ at_key n ∷ (if deep then deep_key n ∷ [] else [])
-keys_from deep n (x ∷ p) = below_key n ∷ keys_from deep (with_name n x) p
+abbrev pub at_key : Path → Key
+at_key q = (At, q)
+
+abbrev pub deep_key : Path → Key
+deep_key q = (Deep, q)
+
+abbrev pub same_key : Key → Key → Bool
+same_key a b = same_kind a.0 b.0 && is_same_path a.1 b.1
+
+-- the keys of a lock, by a front of its path and the names that follow it
+abbrev pub keys_from : Bool → Path → Path → List Key
+keys_from deep q [] = below_key q ∷ at_key q ∷ (if deep then deep_key q ∷ [] else [])
+keys_from deep q (x ∷ p) = below_key q ∷ keys_from deep (q ++ x ∷ []) p
 
 -- the keys of a lock on a path: of the path itself, and of each path above it that the lock is below it
-abbrev pub path_keys : Bool → Path → List ℕ
-path_keys deep p = keys_from deep root_number p
-
--- how often a key is among some
-abbrev pub times : ℕ → List ℕ → ℕ
-times k keys = count_by (λ x. x == k) keys
-
--- how many locks of a list have a key
-abbrev pub tally : ℕ → List Lock → ℕ
-tally k ls = sum_by (λ l. times k (path_keys l.deep (names l.path))) ls
+abbrev pub path_keys : Bool → Path → List Key
+path_keys deep p = keys_from deep [] p
 
 -- one at this key, and else none
-abbrev pub one_at : ℕ → ℕ → ℕ
-one_at key k = if key == k then 1 else 0
+unfoldable pub one_at : Key → Key → ℕ
+one_at key k = if same_key key k then 1 else 0
 
--- how many locks have a key, as the index says
-abbrev pub count_of : Counts → ℕ → ℕ
-count_of c k = unwrap_or (get nat_eq c.by_key k) 0
+-- how often a key is among some
+abbrev pub times : Key → List Key → ℕ
+times k keys = sum_by (λ x. one_at x k) keys
+
+-- how many locks of a list have a key
+abbrev pub tally : Key → List Lock → ℕ
+tally k ls = sum_by (λ l. times k (path_keys l.deep (names l.path))) ls
+
+-- how many locks have a key, as the node of its path counts them; none where there is no node
+unfoldable pub count_of : Seats → Key → ℕ
+count_of t k = option_map_or (seat_count k.0) (stands t k.1) 0
 
 -- the index, where there is one, says so many of each key
-abbrev pub HasCounts : Option Counts → (ℕ → ℕ) → Type 0
-HasCounts index f = IfSome index (λ c. (k : ℕ) → count_of c k ≡ f k)
+abbrev pub HasCounts : Option Seats → (Key → ℕ) → Type 0
+HasCounts index f = IfSome index (λ t. (k : Key) → count_of t k ≡ f k)
 
--- the index is that of a list of locks
-abbrev pub IsIndexOf : Option Counts → List Lock → Type 0
+-- the index is that of a list of locks: each node counts the locks that its path says, and where there is no node there are none
+abbrev pub IsIndexOf : Option Seats → List Lock → Type 0
 IsIndexOf index ls = HasCounts index (λ k. tally k ls)
 
 -- a lock matters to a path: it covers it or, where `deep`, is on it or below it
@@ -71,16 +87,16 @@ abbrev pub matters : Bool → Path → Lock → Bool
 matters deep p l = covers l p || (deep && is_at_or_under (names l.path) p)
 
 -- the key of the locks on a path or, where `deep`, of those on it or below it
-abbrev pub end_key : Bool → ℕ → ℕ
-end_key deep n = if deep then below_key n else at_key n
+abbrev pub end_key : Bool → Path → Key
+end_key deep q = if deep then below_key q else at_key q
 
--- how many locks may matter to a path at most, as counts by keys say it; by the number of a front and the names that follow it
-abbrev pub weight_from : (ℕ → ℕ) → Bool → ℕ → Path → ℕ
-weight_from count deep n [] = count (end_key deep n)
-weight_from count deep n (x ∷ p) = count (deep_key n) + weight_from count deep (with_name n x) p
+-- how many locks may matter to a path at most, as counts by keys say it; by a front and the names that follow it
+abbrev pub weight_from : (Key → ℕ) → Bool → Path → Path → ℕ
+weight_from count deep q [] = count (end_key deep q)
+weight_from count deep q (x ∷ p) = count (deep_key q) + weight_from count deep (q ++ x ∷ []) p
 
-abbrev pub weight : (ℕ → ℕ) → Bool → Path → ℕ
-weight count deep p = weight_from count deep root_number p
+abbrev pub weight : (Key → ℕ) → Bool → Path → ℕ
+weight count deep p = weight_from count deep [] p
 
 -- a lock of the list matters to a path, and no other does
 abbrev pub MattersAlone : Bool → Path → Lock → List Lock → Type 0

@@ -64,24 +64,33 @@ module _ {D : Type 0} where
   abbrev pub stands : Tree (List ℕ) D → Path → Option D
   stands t q = option_and_then (value_of t) (found t q)
 
--- A child: it isn't the root, it is there and knows its parent, its name is a segment, and its parent is a folder.
-pub record IsChild (t : Tree (List ℕ) Seen) (n : ℕ) (k : List ℕ) (m : ℕ) : Type 0 where
-  pub not_root : m ≢ root_id
-  pub there : IsSome (value_of t m)
-  pub parent : parent_of t m ≡ n
-  pub name : IsSegment k
-  pub folder : is_folder_node (value_of t n) ≡ true
+module _ {D : Type 0} (holds : Option D → Bool) (fits : List ℕ → Type 0) where
+  -- A child: it isn't the root, it is there and knows its parent, its name fits, and its parent may hold it.
+  pub record IsNamedChild (t : Tree (List ℕ) D) (n : ℕ) (k : List ℕ) (m : ℕ) : Type 0 where
+    pub not_root : m ≢ root_id
+    pub there : IsSome (value_of t m)
+    pub parent : parent_of t m ≡ n
+    pub name : fits k
+    pub folder : holds (value_of t n) ≡ true
 
--- What holds of a tree whose keys are names: no number and no name of a node's child comes twice, no child has two
--- names, the root is a folder, and each node is at a path.
-pub record IsGrown (t : Tree (List ℕ) Seen) : Type 0 where
-  pub above : NoneAbove t
-  pub numbers : IsDistinct (eq_by_cmp nat_cmp) (keys_of t.nodes)
-  pub names : (n : ℕ) → IsDistinct is_same_name (keys_of (children_of t n))
-  pub root : is_folder_node (value_of t root_id) ≡ true
-  pub children : (n : ℕ) (k : List ℕ) (m : ℕ) → named t n k ≡ Some m → IsChild t n k m
-  pub once : (n : ℕ) (k l : List ℕ) (m : ℕ) → named t n k ≡ Some m → named t n l ≡ Some m → k ≡ l
-  pub reached : (m : ℕ) → IsSome (value_of t m) → (q : Path) × (found t q ≡ Some m)
+  -- What holds of a tree whose keys are names: what may hold children is there, no number and no name of a node's child
+  -- comes twice, no child has two names, the root may hold children, and each node is at a path.
+  pub record IsNamedTree (t : Tree (List ℕ) D) : Type 0 where
+    pub some : (o : Option D) → holds o ≡ true → IsSome o
+    pub above : NoneAbove t
+    pub numbers : IsDistinct (eq_by_cmp nat_cmp) (keys_of t.nodes)
+    pub names : (n : ℕ) → IsDistinct is_same_name (keys_of (children_of t n))
+    pub root : holds (value_of t root_id) ≡ true
+    pub children : (n : ℕ) (k : List ℕ) (m : ℕ) → named t n k ≡ Some m → IsNamedChild t n k m
+    pub once : (n : ℕ) (k l : List ℕ) (m : ℕ) → named t n k ≡ Some m → named t n l ≡ Some m → k ≡ l
+    pub reached : (m : ℕ) → IsSome (value_of t m) → (q : Path) × (found t q ≡ Some m)
+
+-- the same of files and folders: names are segments, and folders hold children
+abbrev pub IsChild : Tree (List ℕ) Seen → ℕ → List ℕ → ℕ → Type 0
+IsChild t n k m = IsNamedChild is_folder_node IsSegment t n k m
+
+abbrev pub IsGrown : Tree (List ℕ) Seen → Type 0
+IsGrown t = IsNamedTree is_folder_node IsSegment t
 
 -- A map from the numbers with which nodes were made to their numbers in the tree: it has each node, and nothing else.
 pub record IsMadeMap (made : ℕ → Option ℕ) (t : Tree (List ℕ) Seen) : Type 0 where

@@ -9,9 +9,7 @@ ghost use Rattle.dav_core.specs.Property.{patched, patch_of, without_xml, patche
 
 mod filesystem;
 #[cfg(test)]
-mod listed;
-#[cfg(test)]
-mod tests;
+pub(crate) mod tests;
 
 use crate::entries::{self, Entries, changes, listing};
 use crate::names::{Name, Names};

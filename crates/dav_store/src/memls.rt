@@ -1,5 +1,5 @@
 //! A list of locks in memory (RFC 4918, sections 6 and 7).
-ghost use Rattle.std.specs.Prelude.{◌≡◌, ℕ, ◌&&◌, ◌||◌, ◌+◌, ◌++◌, ◌∷◌, ◌≤◌, not, [], map, IfOk, IfErr, OnOk, OnErr, IfSome, MatchOption, Some, None, Contains, true, bytes_eq, string_bytes, option_copied, position, take};
+ghost use Rattle.std.specs.Prelude.{◌≡◌, ◌&&◌, ◌||◌, ◌+◌, ◌++◌, ◌∷◌, ◌≤◌, not, [], map, IfOk, IfErr, OnOk, OnErr, IfSome, MatchOption, Some, None, Contains, true, bytes_eq, string_bytes, option_copied, position, take};
 ghost use Rattle.std.specs.List.{list_any, filter};
 ghost use Rattle.std.specs.Option.{option_map};
 ghost use Rattle.dav_core.specs.Path.{names, is_same_path, is_under, is_at_or_under};
@@ -7,12 +7,12 @@ ghost use Rattle.dav_core.specs.Locks.{Lock, Checks, lent, covers, requester_of,
 ghost use Rattle.dav_core.specs.LockRefusals.{IsRefusedRefresh};
 ghost use Rattle.dav_core.specs.Numbers.{max_u64};
 ghost use Rattle.dav_store.specs.LockCalls.{requester_in, IsNamedPlace};
-ghost use Rattle.dav_store.specs.LockIndex.{IsIndexOf, MattersAlone, tally, times, path_keys};
+ghost use Rattle.dav_store.specs.LockIndex.{Key, IsIndexOf, MattersAlone, tally, times, path_keys};
 
 mod index;
 mod kept;
 #[cfg(test)]
-mod tests;
+pub(crate) mod tests;
 
 use crate::paths;
 use dav_core::davpath::DavPath;
@@ -316,7 +316,7 @@ fn keep(locks: &mut Vec<Kept>, lock: DavLock, grant: u64) -> Result<DavLock, NoM
 fn unlock_in(locks: &mut Vec<Kept>, path: &DavPath, token: &str) -> Result<DavLock, ()>
     ensures ok { OnOk result (unlocked token.now (names path.now) locks.old.items
         ≡ Some locks.new.items) }
-    ensures keys { IfOk result (λ l. (k : ℕ) → tally k locks.old.items
+    ensures keys { IfOk result (λ l. (k : Key) → tally k locks.old.items
         ≡ tally k locks.new.items + times k (path_keys l.deep (names l.path))) }
     ensures err { OnErr result ((unlocked token.now (names path.now) locks.old.items ≡ None)
         × (locks.new.items ≡ locks.old.items)) }
@@ -344,7 +344,7 @@ fn refresh_in(
     ensures err { IfErr result
         (λ e. IsRefusedRefresh e (named_lock token.now (names path.now) locks.old.items)) }
     ensures same { OnErr result (locks.new.items ≡ locks.old.items) }
-    ensures keys { (k : ℕ) → tally k locks.new.items ≡ tally k locks.old.items }
+    ensures keys { (k : Key) → tally k locks.new.items ≡ tally k locks.old.items }
 {
     let Some(i) = named_place(locks, path, token) else {
         return Err(RefreshRefusal::NotThere);
@@ -397,7 +397,7 @@ impl MemLs {
     {
         Ok(MemLs {
             locks: Vec::new(alloc),
-            index: Some(Counts::new(alloc)),
+            index: Counts::new(alloc).ok(),
             next: 0,
         })
     }
@@ -429,7 +429,7 @@ impl DavLockSystem for MemLs {
         let Ok(lock) = keep(&mut self.locks, lock, self.next) else {
             return Err(LockRefusal::Memory);
         };
-        index::raise(&mut self.index, path, deep, self.next);
+        index::raise(alloc, &mut self.index, path, deep, self.next);
         self.next = self.next.wrapping_add(1);
         Ok(lock)
     }
@@ -478,7 +478,11 @@ impl DavLockSystem for MemLs {
         if !index::may_matter(&self.index, path, false) {
             return Ok(Vec::new(alloc));
         }
-        discover_in(alloc, &self.locks, &Sought::new(path))
+        let sought = &Sought::new(path);
+        match only_one(&self.locks, &self.index, sought, false) {
+            Some(kept) => discover_in(alloc, slice::from_ref(kept), sought),
+            None => discover_in(alloc, &self.locks, sought),
+        }
     }
 
     fn delete(&mut self, path: &DavPath) -> Result<(), ()> {

@@ -122,6 +122,13 @@ impl<K: Eq + Hash + Drop, D: Drop> Tree<K, D> {
         self.nodes.has_children(id)
     }
 
+    // The number of the parent of a node; 0 where it has none.
+    pub(crate) fn parent(&self, id: u64) -> u64
+        ensures { result ≡ parent_of self.now id }
+    {
+        self.nodes.parent(id)
+    }
+
     // Why a child isn't added.
     fn add_refusal(&self, parent: u64, key: &K, overwrite: bool) -> Option<FsError>
         ensures refusal { result ≡ add_refusal K.eq self.now parent key.now overwrite }

@@ -1,5 +1,7 @@
 use super::*;
 use crate::asserting::same;
+use crate::ls::{LockRefusal, RefreshRefusal};
+use crate::method::InvalidMethod;
 use std::test::Fail;
 
 // Each error of a store, its status, and the status that a method answers with for it.
@@ -84,6 +86,28 @@ fn shows_errors_of_methods(rt: HostRuntime) -> Result<(), Fail> {
         push_method_row(&mut rows, error)?;
     }
     same(&rt, &rows.as_str(), &METHOD_ROWS);
+    Ok(())
+}
+
+// Each error of a path, of a lock and of a method's name.
+const OTHER_ROWS: &str = "InvalidPath PrefixMismatch ForbiddenPath Memory
+Conflict Memory NotThere Memory InvalidMethod";
+
+#[test]
+fn shows_other_errors(rt: HostRuntime) -> Result<(), Fail> {
+    let shown = format!(in rt.alloc();
+        "{} {} {} {}\n{} {} {} {} {}",
+        ParseError::InvalidPath,
+        ParseError::PrefixMismatch,
+        ParseError::ForbiddenPath,
+        ParseError::Memory,
+        LockRefusal::Conflict,
+        LockRefusal::Memory,
+        RefreshRefusal::NotThere,
+        RefreshRefusal::Memory,
+        InvalidMethod
+    )?;
+    same(&rt, &shown.as_str(), &OTHER_ROWS);
     Ok(())
 }
 

@@ -88,13 +88,6 @@ fn reads_sets(rt: HostRuntime) {
 }
 
 #[test]
-fn displays_what_is_no_method(rt: HostRuntime) -> Result<(), Fail> {
-    let text = format!(in rt.alloc(); "{InvalidMethod}")?;
-    same(&rt, &text.as_str(), &"InvalidMethod");
-    Ok(())
-}
-
-#[test]
 fn keeps_constant_sets(rt: HostRuntime) {
     let (http_ro, http_rw, webdav_ro, webdav_rw) = laws::constant_sets();
     let found = [http_ro, http_rw, webdav_ro, webdav_rw, DavMethodSet::all()];

@@ -2,18 +2,20 @@
 ghost use Rattle.dav_engine.specs.Alongside.{AlongsideAgree, SpareNumbersSuffice};
 ghost use Rattle.dav_engine.specs.AlongsidePlans.{PutGoesAlong, MkcolGoesAlong, DeleteGoesAlong, OptionsGoesAlong, UnlockGoesAlong, LockGoesAlong, CopyMoveGoesAlong, PropfindGoesAlong, ProppatchGoesAlong};
 ghost use Rattle.dav_engine.specs.Ending.{KeptLocksStand, KeptLocksStandCut, ReadingKeepsLocks, PutKeepsLocks, MkcolKeepsLocks, DeleteKeepsLocks, UnlockKeepsLocks, LockKeepsLocks, CopyMoveKeepsLocks, ProppatchKeepsLocks};
-ghost use Rattle.dav_engine.specs.Guard.{FreeIsHeld, FreeIsApart, FreeIsUncovered, GrantedGuards, SharedGuards};
+ghost use Rattle.dav_engine.specs.Guard.{FreeIsHeld, ParentFreeIsHeld, FreeIsApart, FreeIsUncovered, GrantedGuards, SharedGuards};
 ghost use Rattle.dav_engine.specs.Inside.{FoldersAreAbove};
 ghost use Rattle.dav_engine.specs.ListChanges.{ListsAreChanged, ListsAreChangedCut, ChangesKeepShared, ChangesBringTokens, ReadingChangesList, PutChangesList, MkcolChangesList, DeleteChangesList, CopyMoveChangesList, UnlockChangesList, LockChangesList, ProppatchChangesList};
+ghost use Rattle.dav_engine.specs.Members.{PlansLeaveMembers, PlansLeaveMembersCut, ParentFreeIsNoMember, ReadingLeavesMembers, PutLeavesMembers, MkcolLeavesMembers, DeleteLeavesMembers, CopyMoveLeavesMembers, LockLeavesMembers, UnlockLeavesMembers, ProppatchLeavesMembers};
 ghost use Rattle.dav_engine.specs.Sparing.{SparingLeavesCovered, SparingLeavesCoveredCut, SparingLeavesInside};
 ghost use Rattle.dav_engine.specs.SparingPlans.{ReadingSpares, PutSpares, MkcolSpares, DeleteSpares, CopyMoveSpares, UnlockSpares, LockSpares, ProppatchSpares};
 
 /// At a folder that a lock guards (exclusive, of infinite depth) and below it, a path is free exactly for the requester that
-/// holds the lock. What is free with everything below, for any other requester, is apart from the folder. And what is free
+/// holds the lock, and strictly below it the folder above a path is. What is free with everything below, for any other requester, is apart from the folder. And what is free
 /// for a requester that doesn't hold an exclusive lock isn't covered by it (RFC 4918, sections 6.2 and 7).
 #[tactic(auto, using(crate::proofs::GuardedFolders::free_is_held, crate::proofs::GuardedFolders::free_is_apart, crate::proofs::GuardedFolders::free_is_uncovered))]
 pub fn guarded_folders_are_free_for_holders()
     ensures held { FreeIsHeld }
+    ensures parent { ParentFreeIsHeld }
     ensures apart { FreeIsApart }
     ensures uncovered { FreeIsUncovered }
 {}
@@ -28,8 +30,9 @@ pub fn sparing_plans_leave_locked_content()
 {}
 
 /// PUT, PATCH, MKCOL, DELETE, COPY, MOVE and PROPPATCH of a client that doesn't hold an exclusive lock spare what it covers. Plans that only read spare
-/// all, and so does an UNLOCK, whoever asks for it. A LOCK whose own token isn't that lock's spares what an exclusive lock covers,
-/// whoever asks for it, and leaves a lock that guards its folder guarding it (RFC 4918, sections 7, 9.10 and 9.11).
+/// all, and so does an UNLOCK, whoever asks for it. A LOCK spares what an exclusive lock covers, whoever asks for it and whatever token
+/// it brings; one whose own token isn't that lock's leaves a lock that guards its folder guarding it (RFC 4918, sections 7, 9.10 and
+/// 9.11).
 pub fn strangers_spare_what_is_locked()
     ensures reading { ReadingSpares }
     ensures put { PutSpares }
@@ -39,6 +42,25 @@ pub fn strangers_spare_what_is_locked()
     ensures unlock { UnlockSpares }
     ensures lock { LockSpares }
     ensures proppatch { ProppatchSpares }
+{}
+
+/// A plan that leaves the list of a folder's members leaves the folder, and which names are directly below it and which of these
+/// are folders, whatever the store refuses and where it runs out of memory. While an exclusive lock stands on the folder, of
+/// either depth, each request that doesn't hold it has such a plan; so have, whoever asks for them, those that only read, an
+/// UNLOCK and a PROPPATCH. Where the folder above a path is free for such a requester, the path isn't directly below the
+/// lock's folder (RFC 4918, section 7.4).
+pub fn strangers_leave_members()
+    ensures stay { PlansLeaveMembers }
+    ensures cut { PlansLeaveMembersCut }
+    ensures parent { ParentFreeIsNoMember }
+    ensures reading { ReadingLeavesMembers }
+    ensures put { PutLeavesMembers }
+    ensures mkcol { MkcolLeavesMembers }
+    ensures delete { DeleteLeavesMembers }
+    ensures copy_move { CopyMoveLeavesMembers }
+    ensures unlock { UnlockLeavesMembers }
+    ensures lock { LockLeavesMembers }
+    ensures proppatch { ProppatchLeavesMembers }
 {}
 
 /// A plan that goes along with itself has the same outcome in two worlds that have the same content in a guarded folder, but

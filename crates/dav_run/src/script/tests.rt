@@ -223,8 +223,15 @@ fn outcome(alloc: Global, text: &str) -> Result<String, AllocError> {
     }
 }
 
+// Each error, as it is shown.
+fn shown_errors(alloc: Global) -> Result<String, AllocError> {
+    format!(in alloc; "{} {}", ScriptError::NotScript, ScriptError::Memory)
+}
+
 #[test]
 fn reads_scripts_and_refuses_others(rt: HostRuntime) -> Result<(), AllocError> {
+    let shown = shown_errors(rt.alloc())?;
+    same_outcome(&rt, "the errors", "NotScript Memory", &shown);
     for (text, wanted) in rows_of(&rt, SCRIPTS)? {
         let outcome = outcome(rt.alloc(), text)?;
         same_outcome(&rt, text, wanted, &outcome);

@@ -51,13 +51,13 @@ PUT /a HTTP/1.1\r\nIf: (Not <urn:t:1>)\r\n\r\n | urn:t:1 -> true
 # an If that doesn't decode, and two of them, name nothing
 PUT /a HTTP/1.1\r\nIf: (<urn:t:1>\r\n\r\n | urn:t:1 -> false
 PUT /a HTTP/1.1\r\nIf: (<urn:t:1>)\r\nIf: (<urn:t:2>)\r\n\r\n | urn:t:1 -> false
-# Lock-Token names what it has between angle brackets, its first value alone
+# Lock-Token names what its only value has between angle brackets
 UNLOCK /a HTTP/1.1\r\nLock-Token: <urn:t:1>\r\n\r\n | urn:t:1 -> true
 UNLOCK /a HTTP/1.1\r\nLock-Token: <<urn:t:1>>>\r\n\r\n | urn:t:1 -> true
 UNLOCK /a HTTP/1.1\r\nLock-Token: urn:t:1\r\n\r\n | urn:t:1 -> true
 UNLOCK /a HTTP/1.1\r\nLock-Token: <urn:<t>:1>\r\n\r\n | urn:<t>:1 -> true
 UNLOCK /a HTTP/1.1\r\nLock-Token: <urn:t:1>\r\n\r\n | <urn:t:1> -> false
-UNLOCK /a HTTP/1.1\r\nLock-Token: <urn:t:1>\r\nLock-Token: <urn:t:2>\r\n\r\n | urn:t:1 -> true
+UNLOCK /a HTTP/1.1\r\nLock-Token: <urn:t:1>\r\nLock-Token: <urn:t:2>\r\n\r\n | urn:t:1 -> false
 UNLOCK /a HTTP/1.1\r\nLock-Token: <urn:t:1>\r\nLock-Token: <urn:t:2>\r\n\r\n | urn:t:2 -> false
 UNLOCK /a HTTP/1.1\r\nLock-Token: <urn:t:\xE9>\r\n\r\n | urn:t: -> false
 # both name tokens

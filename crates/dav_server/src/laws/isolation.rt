@@ -1,15 +1,24 @@
 //! Laws of locked folders. Each function does nothing: its contract is a theorem on the definitions.
 ghost use Rattle.dav_server.specs.Ending.{NoLockEnds, NoLockEndsCut};
-ghost use Rattle.dav_server.specs.Isolation.{HoldersAreAlone, KnownHaveAlone, TurnsHaveAlone, OneAlone, RunsFindNumbers, SpareNumbersSufficeInRuns};
+ghost use Rattle.dav_server.specs.Isolation.{GetGoesAlong, StrangersLeaveAlike, HoldersAnswerAlike, HoldersAreAlone, KnownHaveAlone, TurnsHaveAlone, OneAlone, RunsFindNumbers, SpareNumbersSufficeInRuns};
 ghost use Rattle.dav_server.specs.LockLists.{StepsChangeLists, StepsChangeListsCut, TokensAreHandedIn};
+ghost use Rattle.dav_server.specs.Membership.{MembersAreKept, MembersAreKeptCut};
 ghost use Rattle.dav_server.specs.Passing.{NoLockIsPassed, NoLockIsPassedCut};
 
 /// What an exclusive lock covers when a request begins keeps its content, unless the request names the lock's token as the
-/// lock's principal or hands that token in for a lock of its own, whatever else is in the list of locks, whatever the store refuses, and where memory runs out in the
+/// lock's principal, whatever else is in the list of locks, whatever the store refuses, and where memory runs out in the
 /// step (RFC 4918, section 7).
 pub fn no_lock_is_passed()
     ensures step { NoLockIsPassed }
     ensures cut { NoLockIsPassedCut }
+{}
+
+/// While an exclusive lock stands on a folder, of either depth, the folder stays, and so does the list of its members, which names are
+/// directly below it and which of them are folders, unless the request names the lock's token as the lock's principal; whatever else
+/// is in the list of locks, whatever the store refuses, and where memory runs out in the step (RFC 4918, section 7.4).
+pub fn members_are_kept()
+    ensures step { MembersAreKept }
+    ensures cut { MembersAreKeptCut }
 {}
 
 /// A lock that is in the list when a request begins is in the list after it, perhaps refreshed, unless the request names the
@@ -17,6 +26,16 @@ pub fn no_lock_is_passed()
 pub fn no_lock_ends()
     ensures step { NoLockEnds }
     ensures cut { NoLockEndsCut }
+{}
+
+/// Two states are alike where a folder has the same content in both, folders are above it, and a lock guards it; numbers and times may differ.
+/// A request that neither names the lock as its principal nor hands in its token leaves what is inside, and a state alike another as it
+/// was. A holder's request has the same answers in both states, and leaves them alike; the plan of its GET or HEAD goes along with itself,
+/// as those of the other methods do (RFC 4918, section 7).
+pub fn steps_agree_in_alike_states()
+    ensures stranger { StrangersLeaveAlike }
+    ensures holder { HoldersAnswerAlike }
+    ensures get { GetGoesAlong }
 {}
 
 /// While a folder is guarded by a lock and no request hands in the lock's token for a lock of its own, the folder and the answers to its holder are those of the holder's requests alone

@@ -162,16 +162,16 @@ link / -> folder, number 0, created 0, modified 0
 
 // The store that rows are played on, with one open file and the entries that were listed last.
 #[derive(Drop)]
-pub(super) struct Played<F: DavFileSystem> {
+pub(crate) struct Played<F: DavFileSystem> {
     fs: F,
     file: Option<F::File>,
     entries: Vec<F::Entry>,
 }
 
 // A row: the name of a call and its arguments.
-pub(super) type Row<'a> = [&'a str; 4];
+pub(crate) type Row<'a> = [&'a str; 4];
 
-pub(super) fn row(line: &str) -> Row<'_> {
+pub(crate) fn row(line: &str) -> Row<'_> {
     let (call, rest) = line.split_once(' ').unwrap_or((line, ""));
     let (first, rest) = rest.split_once(' ').unwrap_or((rest, ""));
     let (second, third) = rest.split_once(' ').unwrap_or((rest, ""));
@@ -179,15 +179,15 @@ pub(super) fn row(line: &str) -> Row<'_> {
 }
 
 // An owned text; no row expects the error for memory.
-pub(super) fn text(alloc: Global, text: &str) -> FsResult<String> {
+pub(crate) fn text(alloc: Global, text: &str) -> FsResult<String> {
     String::from_str(alloc, text).map_err(|_| FsError::InsufficientStorage)
 }
 
-fn path(alloc: Global, text: &str) -> FsResult<DavPath> {
+pub(crate) fn path(alloc: Global, text: &str) -> FsResult<DavPath> {
     DavPath::new(alloc, text).map_err(|_| FsError::PathTooLong)
 }
 
-pub(super) fn moment(text: &str) -> u64
+pub(crate) fn moment(text: &str) -> u64
     ensures { result < 1000 }
 {
     match text.parse::<u64>() {
@@ -196,7 +196,7 @@ pub(super) fn moment(text: &str) -> u64
     }
 }
 
-fn options(words: &str) -> OpenOptions {
+pub(crate) fn options(words: &str) -> OpenOptions {
     let mut options = OpenOptions::default();
     for word in words.split(',') {
         match word {
@@ -210,7 +210,7 @@ fn options(words: &str) -> OpenOptions {
 }
 
 // The metadata of a file or folder, as text.
-pub(super) fn shown(alloc: Global, found: &DavMetaData) -> FsResult<String> {
+pub(crate) fn shown(alloc: Global, found: &DavMetaData) -> FsResult<String> {
     let number = found.number.unwrap_or(u64::MAX);
     let (created, modified) = (found.created, found.modified);
     let text = if found.dir {
@@ -228,7 +228,7 @@ fn push(text: &mut String, part: &str) -> FsResult<()> {
 }
 
 // Bytes as a text: a zero byte is `\0`.
-fn readable(alloc: Global, bytes: &[u8]) -> FsResult<String> {
+pub(crate) fn readable(alloc: Global, bytes: &[u8]) -> FsResult<String> {
     let mut text = String::new(alloc);
     for byte in bytes {
         let pushed = if *byte == 0 {
@@ -243,7 +243,7 @@ fn readable(alloc: Global, bytes: &[u8]) -> FsResult<String> {
 
 impl<F: DavFileSystem> Played<F> {
     // Makes the call of a row, and returns its answer as text.
-    pub(super) fn play(&mut self, alloc: Global, row: Row<'_>) -> FsResult<String> {
+    pub(crate) fn play(&mut self, alloc: Global, row: Row<'_>) -> FsResult<String> {
         match row[0] {
             "mkdir" | "rmdir" | "remove" | "rename" | "copy" => self.change(alloc, row),
             "open" | "told" | "flush" | "seek" => self.handle(alloc, row),
@@ -355,13 +355,8 @@ impl<F: DavFileSystem> Played<F> {
         self.entries = self.fs.read_dir(alloc, &at, ReadDirMeta::DataSymlink)?;
         let mut names = String::new(alloc);
         for entry in &self.entries {
-            if !names.is_empty() {
-                push(&mut names, " ")?;
-            }
-            push(&mut names, readable(alloc, entry.name())?.as_str())?;
-            if entry.is_dir() && !entry.is_file() {
-                push(&mut names, "/")?;
-            }
+            let is_folder = entry.is_dir() && !entry.is_file();
+            tell(alloc, &mut names, entry.name(), is_folder)?;
         }
         Ok(names)
     }
@@ -384,26 +379,14 @@ impl<F: DavFileSystem> Played<F> {
     fn properties(&mut self, alloc: Global, row: Row<'_>) -> FsResult<String> {
         let at = path(alloc, row[1])?;
         let list = self.fs.get_props(alloc, &at, row[0] == "properties")?;
-        let mut names = String::new(alloc);
-        for property in &list {
-            if !names.is_empty() {
-                push(&mut names, " ")?;
-            }
-            push(&mut names, &property.name)?;
-            if let Some(xml) = &property.xml {
-                push(&mut names, "=")?;
-                push(&mut names, value_of(alloc, xml)?.as_str())?;
-            }
-        }
-        Ok(names)
+        named(alloc, &list)
     }
 
     fn property(&mut self, alloc: Global, row: Row<'_>) -> FsResult<String> {
         let at = path(alloc, row[1])?;
         let wanted = property(alloc, row[2], row[3])?;
         let found = self.fs.get_prop(alloc, &at, &wanted)?;
-        let is_same = wanted.xml.as_ref() == Some(&found);
-        text(alloc, if is_same { "as it was set" } else { "another" })
+        as_it_was(alloc, &wanted, &found)
     }
 
     fn ask(&mut self, alloc: Global, row: Row<'_>) -> FsResult<String> {
@@ -425,7 +408,7 @@ impl<F: DavFileSystem> Played<F> {
     }
 }
 
-fn place(from: &str, count: &str) -> SeekFrom {
+pub(crate) fn place(from: &str, count: &str) -> SeekFrom {
     match from {
         "start" => SeekFrom::Start(count.parse::<u64>().unwrap_or(0)),
         "end" => SeekFrom::End(count.parse::<i64>().unwrap_or(0)),
@@ -434,7 +417,7 @@ fn place(from: &str, count: &str) -> SeekFrom {
 }
 
 // The property that a row names, with this value; without an element where the value is empty.
-fn property(alloc: Global, name: &str, value: &str) -> FsResult<DavProp> {
+pub(crate) fn property(alloc: Global, name: &str, value: &str) -> FsResult<DavProp> {
     let (namespace, name) = match name.strip_prefix(':') {
         Some(name) => ("", name),
         None => ("urn:n", name),
@@ -447,6 +430,37 @@ fn property(alloc: Global, name: &str, value: &str) -> FsResult<DavProp> {
     Ok(property)
 }
 
+// Adds an entry of a listing.
+pub(crate) fn tell(alloc: Global, told: &mut String, name: &[u8], is_folder: bool) -> FsResult<()> {
+    if !told.is_empty() {
+        push(told, " ")?;
+    }
+    push(told, readable(alloc, name)?.as_str())?;
+    push(told, if is_folder { "/" } else { "" })
+}
+
+// The names of properties, with their values where they have elements.
+pub(crate) fn named(alloc: Global, list: &[DavProp]) -> FsResult<String> {
+    let mut names = String::new(alloc);
+    for property in list {
+        if !names.is_empty() {
+            push(&mut names, " ")?;
+        }
+        push(&mut names, &property.name)?;
+        if let Some(xml) = &property.xml {
+            push(&mut names, "=")?;
+            push(&mut names, value_of(alloc, xml)?.as_str())?;
+        }
+    }
+    Ok(names)
+}
+
+// Whether the element of a property is the one that was found, as text.
+pub(crate) fn as_it_was(alloc: Global, wanted: &DavProp, found: &Element) -> FsResult<String> {
+    let is_same = wanted.xml.as_ref() == Some(found);
+    text(alloc, if is_same { "as it was set" } else { "another" })
+}
+
 // The value in the element of a property.
 fn value_of(alloc: Global, xml: &Element) -> FsResult<String> {
     let value = xml.get_text(alloc);
@@ -455,7 +469,7 @@ fn value_of(alloc: Global, xml: &Element) -> FsResult<String> {
 }
 
 // The answer to a change of a property, as text.
-fn answered(alloc: Global, status: StatusCode, property: &DavProp) -> FsResult<String> {
+pub(crate) fn answered(alloc: Global, status: StatusCode, property: &DavProp) -> FsResult<String> {
     let xml = if property.xml.is_none() {
         "without xml"
     } else {
@@ -466,7 +480,7 @@ fn answered(alloc: Global, status: StatusCode, property: &DavProp) -> FsResult<S
 }
 
 // A new store, whose next change takes this number.
-pub(super) fn begun(alloc: Global, next: u64) -> Result<Played<MemFs>, Fail> {
+pub(crate) fn begun(alloc: Global, next: u64) -> Result<Played<MemFs>, Fail> {
     Ok(Played {
         fs: MemFs::new_at(alloc, next)?,
         file: None,

@@ -1,177 +1,366 @@
 //! An index of a list of locks, which says of most paths that no lock matters to them without a look at the list.
 //!
-//! A number stands for each path, and three keys for each number: one of the locks on the path, one of those on it that
-//! are of infinite depth, and one of the locks on the path or below it. The index knows how many locks have each key, and
-//! the number of the grant of the last one. Two paths may have one number; then the list is looked at more often, and nothing
-//! else changes.
-ghost use Rattle.std.specs.Prelude.{◌≡◌, ℕ, ◌+◌, ◌-◌, ◌≤◌, false, List, OnOk, IfSome};
+//! A tree of the names of paths: the node of a path counts the locks on it or below it, those on it, and those of infinite
+//! depth on it, and has the number of the grant of the last of each. Where there is no node there are no such locks.
+ghost use Rattle.std.specs.Prelude.{◌≡◌, ◌+◌, ◌-◌, ◌≤◌, true, false, Some, List, ℕ, OnOk, IfOk, IfSome, option_copied, if◌then◌else◌};
 ghost use Rattle.std.specs.List.{filter, list_any};
-ghost use Rattle.dav_core.specs.Path.{names, is_at_or_under};
+ghost use Rattle.std.specs.Option.{option_and_then, option_map_or, IsSome};
+ghost use Rattle.dav_core.specs.Path.{Path, names, is_same_path, is_at_or_under};
 ghost use Rattle.dav_core.specs.Locks.{Lock};
-ghost use Rattle.dav_store.specs.LockIndex.{with_byte, with_name, path_number, at_key, deep_key, below_key, count_of, one_at, path_keys, times, tally, HasCounts, matters, end_key, weight};
+ghost use Rattle.dav_store.specs.Tree.{value_of, with_value};
+ghost use Rattle.dav_store.specs.Placed.{named, found};
+ghost use Rattle.dav_store.specs.LockIndex.{Key, key_of, same_kind, seat_count, count_of, one_at, path_keys, times, tally, HasCounts, matters, end_key, weight};
+ghost use Rattle.dav_store.specs.declared.memls.index.Kind.{Kind};
 
 use super::kept::Kept;
 use crate::paths;
+use crate::tree::{ROOT_ID, Tree};
 use dav_core::davpath::DavPath;
 use dav_core::errors::NoMemory;
 use std::alloc::{AllocError, Global};
-use std::collections::HashMap;
+use std::marker::Model;
 
-// The number of the root.
-const ROOT: u64 = 1;
-
-// Numbers are kept below this prime.
-const PRIME: u64 = 4294967291;
-
-// What a number is multiplied by for each byte.
-const FACTOR: u64 = 2654435761;
-
-// The number of a path that goes on by one byte.
-#[tactic(auto, unfolding(crate::specs::LockIndex::with_byte))]
-fn with_byte(number: u64, byte: u8) -> u64
-    ensures { result ≡ with_byte number byte }
-{
-    number % PRIME * FACTOR + u64::from(byte)
+/// Which locks a node counts: those on its path or below it, those on it, or those of infinite depth on it.
+#[derive(Clone, Copy)]
+pub enum Kind {
+    Below,
+    At,
+    Deep,
 }
 
-// The number of a path that goes on by one name.
-#[tactic(auto, unfolding(crate::specs::LockIndex::with_name))]
-fn with_name(number: u64, name: &[u8]) -> u64
-    ensures { result ≡ with_name number name.now }
-{
-    name.iter()
-        .fold(with_byte(number, b'/'), |n, b| with_byte(n, *b))
+/// How many locks there are, and the number of the grant of the last one, which may have gone since.
+#[derive(Clone, Copy)]
+pub struct Counted {
+    pub count: u64,
+    pub last: u64,
 }
 
-/// The number of a path.
-pub fn path_number(path: &DavPath) -> u64
-    ensures { result ≡ path_number (names path.now) }
-{
-    path.segments().fold(ROOT, with_name)
-}
+impl Counted {
+    // No locks.
+    const NONE: Counted = Counted { count: 0, last: 0 };
 
-// The key of the locks on a path.
-#[tactic(auto, unfolding(crate::specs::LockIndex::at_key))]
-fn at_key(number: u64) -> u64
-    ensures { result ≡ at_key number }
-{
-    number % PRIME * 3
-}
-
-// The key of the locks of infinite depth on a path.
-#[tactic(auto, unfolding(crate::specs::LockIndex::deep_key))]
-fn deep_key(number: u64) -> u64
-    ensures { result ≡ deep_key number }
-{
-    number % PRIME * 3 + 1
-}
-
-// The key of the locks on a path or below it.
-#[tactic(auto, unfolding(crate::specs::LockIndex::below_key))]
-fn below_key(number: u64) -> u64
-    ensures { result ≡ below_key number }
-{
-    number % PRIME * 3 + 2
-}
-
-// The key of the locks on a path or, where `deep`, of those on it or below it.
-fn end_key(number: u64, deep: bool) -> u64
-    ensures { result ≡ end_key deep number }
-{
-    if deep {
-        below_key(number)
-    } else {
-        at_key(number)
-    }
-}
-
-/// How many locks have each key, and the number of the grant of the last one, which may have gone since.
-#[derive(Drop)]
-pub struct Counts {
-    by_key: HashMap<u64, u64>,
-    last: HashMap<u64, u64>,
-}
-
-impl Counts {
-    /// No lock has any key.
-    pub fn new(alloc: Global) -> Counts
-        ensures { (k : ℕ) → count_of result k ≡ 0 }
+    // One lock more, by the grant of this number.
+    fn raised(self, grant: u64) -> Option<Counted>
+        ensures { IfSome result (λ c. c.count ≡ self.count + 1) }
     {
-        Counts {
-            by_key: HashMap::new(alloc),
-            last: HashMap::new(alloc),
+        match self.count.checked_add(1) {
+            Some(count) => Some(Counted { count, last: grant }),
+            None => None,
         }
     }
 
-    // How many locks have a key.
-    fn count(&self, key: u64) -> u64
-        ensures { result ≡ count_of self.now key }
+    // One lock less.
+    fn lowered(self) -> Counted
+        ensures { result.count ≡ self.count - 1 }
     {
-        self.by_key.get(&key).copied().unwrap_or(0)
+        Counted {
+            count: self.count.saturating_sub(1),
+            last: self.last,
+        }
+    }
+}
+
+/// What a node counts.
+#[derive(Clone, Copy)]
+pub struct Seat {
+    pub below: Counted,
+    pub at: Counted,
+    pub deep: Counted,
+}
+
+impl Seat {
+    ghost use Rattle.std.specs.Prelude.{◌≡◌, true, if◌then◌else◌};
+    ghost use Rattle.dav_store.specs.declared.memls.index.Kind.{Kind};
+    ghost use Rattle.dav_store.specs.LockIndex.{seat_count, same_kind};
+
+    // A node that counts no lock.
+    fn bare() -> Seat
+        ensures { (k : Kind) → seat_count k result ≡ 0 }
+    {
+        Seat {
+            below: Counted::NONE,
+            at: Counted::NONE,
+            deep: Counted::NONE,
+        }
     }
 
-    // One lock more has a key, by the grant of this number.
-    fn raise(&mut self, key: u64, grant: u64) -> Result<(), NoMemory>
-        ensures { OnOk result ((k : ℕ) → count_of self.new k ≡ count_of self.old k + one_at key k) }
+    // Whether it counts no lock.
+    fn is_bare(self) -> bool
+        ensures { result ≡ true → (k : Kind) → seat_count k self ≡ 0 }
     {
-        let Some(count) = self.count(key).checked_add(1) else {
+        self.below.count == 0 && self.at.count == 0 && self.deep.count == 0
+    }
+
+    // What it counts of a kind.
+    fn of(self, kind: Kind) -> Counted
+        ensures { result.count ≡ seat_count kind self }
+    {
+        match kind {
+            Kind::Below => self.below,
+            Kind::At => self.at,
+            Kind::Deep => self.deep,
+        }
+    }
+
+    // With this many of a kind.
+    fn with(self, kind: Kind, counted: Counted) -> Seat
+        ensures { (k : Kind) → seat_count k result
+            ≡ (if same_kind kind k then counted.count else seat_count k self) }
+    {
+        match kind {
+            Kind::Below => Seat {
+                below: counted,
+                at: self.at,
+                deep: self.deep,
+            },
+            Kind::At => Seat {
+                below: self.below,
+                at: counted,
+                deep: self.deep,
+            },
+            Kind::Deep => Seat {
+                below: self.below,
+                at: self.at,
+                deep: counted,
+            },
+        }
+    }
+}
+
+/// The nodes that count locks.
+#[derive(Drop)]
+pub struct Counts {
+    tree: Tree<Vec<u8>, Seat>,
+}
+
+impl Model for Counts {
+    ghost use Rattle.std.specs.Prelude.{ℕ, List};
+    ghost use Rattle.dav_store.specs.declared.memls.index.Seat.{Seat};
+    ghost use Rattle.dav_store.specs.Tree.{Tree as Seen};
+    ghost use Rattle.dav_store.specs.Placed.{bare};
+    ghost use Rattle.dav_store.specs.LockIndex.{IsSeatTree};
+
+    ghost Value = { Seen (List ℕ) Seat };
+
+    ghost view = { λ c. bare c.tree };
+
+    ghost invariant = { λ c. IsSeatTree (bare c.tree) };
+}
+
+impl Counts {
+    ghost use Rattle.std.specs.Prelude.{◌≡◌, ◌+◌, ◌-◌, ◌++◌, ◌∷◌, [], None, Some, ℕ, OnOk, IfOk, IfSome, if◌then◌else◌};
+    ghost use Rattle.std.specs.List.{filter};
+    ghost use Rattle.std.specs.Option.{option_and_then, option_map_or, IsSome};
+    ghost use Rattle.dav_core.specs.Path.{Path, names, is_same_path, is_at_or_under};
+    ghost use Rattle.dav_store.specs.Tree.{value_of, with_value};
+    ghost use Rattle.dav_store.specs.Placed.{named, found};
+    ghost use Rattle.dav_store.specs.LockIndex.{Key, key_of, seat_count, count_of, one_at, path_keys, times, tally, weight};
+
+    /// No lock is counted.
+    pub fn new(alloc: Global) -> Result<Counts, NoMemory>
+        ensures { IfOk result (λ t. (k : Key) → count_of t k ≡ 0) }
+    {
+        Ok(Counts {
+            tree: Tree::new(alloc, Seat::bare())?,
+        })
+    }
+
+    /// Whether the root has no children; a test asks it.
+    #[cfg(test)]
+    pub fn is_root_alone(&self, alloc: Global) -> bool {
+        match self.tree.get_children(alloc, ROOT_ID) {
+            Ok(mut children) => children.next().is_none(),
+            Err(_) => false,
+        }
+    }
+
+    // The number of the node under a name of a node; none of no node.
+    #[tactic(auto, using(crate::proofs::BareTrees::named_bare))]
+    fn child(&self, parent: Option<u64>, name: &[u8]) -> Option<u64>
+        ensures { result ≡ option_and_then (λ n. named self.now n name.now) parent }
+    {
+        self.tree.get_child_bytes(parent?, name).ok()
+    }
+
+    // What a node counts.
+    #[tactic(auto, using(crate::proofs::BareTrees::value_bare))]
+    fn seat(&self, id: u64) -> Option<Seat>
+        ensures { result ≡ value_of self.now id }
+    {
+        match self.tree.get_node(id) {
+            Ok(seat) => Some(*seat),
+            Err(_) => None,
+        }
+    }
+
+    // What a node counts of a kind; no locks where there is no node.
+    fn counted(&self, at: Option<u64>, kind: Kind) -> Counted
+        ensures { (q : Path) → at ≡ found self.now q
+            → result.count ≡ count_of self.now (key_of kind q) }
+    {
+        match at {
+            Some(id) => match self.seat(id) {
+                Some(seat) => seat.of(kind),
+                None => Counted::NONE,
+            },
+            None => Counted::NONE,
+        }
+    }
+
+    // Sets what a node counts.
+    fn set(&mut self, id: u64, seat: Seat)
+        ensures walks { IsSome (value_of self.old id)
+            → (q : Path) → found self.new q ≡ found self.old q }
+        ensures counts { IsSome (value_of self.old id) → (q : Path) → found self.old q ≡ Some id
+            → (k : Key) → count_of self.new k
+            ≡ (if is_same_path q k.1 then seat_count k.0 seat else count_of self.old k) }
+    {
+        let Ok(old) = self.tree.get_node_mut(id) else {
+            return;
+        };
+        *old = seat;
+    }
+
+    // A node counts one lock of a kind more, by the grant of this number.
+    fn raise(&mut self, id: u64, kind: Kind, grant: u64) -> Result<(), NoMemory>
+        ensures walks { OnOk result ((q : Path) → found self.new q ≡ found self.old q) }
+        ensures counts { OnOk result ((q : Path) → found self.old q ≡ Some id → (k : Key)
+            → count_of self.new k ≡ count_of self.old k + one_at (key_of kind q) k) }
+    {
+        let Some(seat) = self.seat(id) else {
             return Err(AllocError);
         };
-        self.by_key.insert(key, count)?;
-        self.last.insert(key, grant)?;
+        let Some(counted) = seat.of(kind).raised(grant) else {
+            return Err(AllocError);
+        };
+        self.set(id, seat.with(kind, counted));
         Ok(())
     }
 
-    // One lock less has a key. A key that no lock has any more goes.
-    fn lower(&mut self, key: u64)
-        ensures { (k : ℕ) → count_of self.new k ≡ count_of self.old k - one_at key k }
+    // A node, where there is one, counts one lock of a kind less.
+    fn lower(&mut self, at: Option<u64>, kind: Kind)
+        ensures walks { (q : Path) → found self.new q ≡ found self.old q }
+        ensures counts { (q : Path) → at ≡ found self.old q → (k : Key)
+            → count_of self.new k ≡ count_of self.old k - one_at (key_of kind q) k }
     {
-        if self.count(key) <= 1 {
-            let _ = self.by_key.remove(&key);
-            let _ = self.last.remove(&key);
-        } else if let Some(count) = self.by_key.get_mut(&key) {
-            *count -= 1;
+        if let Some(id) = at {
+            if let Some(seat) = self.seat(id) {
+                self.set(id, seat.with(kind, seat.of(kind).lowered()));
+            }
+        }
+    }
+
+    // A new node under a name of a node, which counts no lock.
+    fn add(&mut self, alloc: Global, parent: u64, name: &[u8]) -> Result<u64, NoMemory>
+        requires { named self.old parent name.now ≡ None }
+        ensures walks { IfOk result (λ id. (q : Path) → found self.old q ≡ Some parent
+            → found self.new (q ++ name.now ∷ []) ≡ Some id) }
+        ensures counts { OnOk result ((q : Path) → found self.old q ≡ Some parent
+            → (k : Key) → count_of self.new k ≡ count_of self.old k) }
+    {
+        let name = name.to_vec(alloc)?;
+        let Ok(id) = self
+            .tree
+            .add_child(alloc, parent, name, Seat::bare(), false)
+        else {
+            return Err(AllocError);
+        };
+        Ok(id)
+    }
+
+    // The node under a name of a node; it is made where there is none.
+    fn descend(&mut self, alloc: Global, parent: u64, name: &[u8]) -> Result<u64, NoMemory>
+        ensures walks { IfOk result (λ id. (q : Path) → found self.old q ≡ Some parent
+            → found self.new (q ++ name.now ∷ []) ≡ Some id) }
+        ensures counts { OnOk result ((q : Path) → found self.old q ≡ Some parent
+            → (k : Key) → count_of self.new k ≡ count_of self.old k) }
+    {
+        match self.child(Some(parent), name) {
+            Some(id) => Ok(id),
+            None => self.add(alloc, parent, name),
+        }
+    }
+
+    // A node that counts no lock and has no children goes; its parent is answered then.
+    fn drop_bare(&mut self, id: u64) -> Option<u64>
+        ensures { (k : Key) → count_of self.new k ≡ count_of self.old k }
+    {
+        let seat = self.seat(id)?;
+        if !seat.is_bare() {
+            return None;
+        }
+        let parent = self.tree.parent(id);
+        match self.tree.delete_node(id) {
+            Ok(()) => Some(parent),
+            Err(_) => None,
+        }
+    }
+
+    // The nodes of a path and above it go that count no lock and have no children, from its own up.
+    fn prune(&mut self, path: &DavPath, mut at: Option<u64>)
+        ensures { (k : Key) → count_of self.new k ≡ count_of self.old k }
+    {
+        for _name in path.segments() {
+            if let Some(id) = at {
+                at = self.drop_bare(id);
+            }
         }
     }
 
     // A lock on a path comes, by the grant of this number.
-    fn raise_path(&mut self, path: &DavPath, deep: bool, grant: u64) -> Result<(), NoMemory>
-        ensures { OnOk result ((k : ℕ) → count_of self.new k
+    fn raise_path(
+        &mut self,
+        alloc: Global,
+        path: &DavPath,
+        deep: bool,
+        grant: u64,
+    ) -> Result<(), NoMemory>
+        ensures { OnOk result ((k : Key) → count_of self.new k
             ≡ count_of self.old k + times k (path_keys deep (names path.now))) }
     {
-        let mut number = ROOT;
+        let mut at = ROOT_ID;
         for name in path.segments() {
-            self.raise(below_key(number), grant)?;
-            number = with_name(number, name);
+            self.raise(at, Kind::Below, grant)?;
+            at = self.descend(alloc, at, name)?;
         }
-        self.raise(below_key(number), grant)?;
-        self.raise(at_key(number), grant)?;
+        self.raise(at, Kind::Below, grant)?;
+        self.raise(at, Kind::At, grant)?;
         if deep {
-            self.raise(deep_key(number), grant)?;
+            self.raise(at, Kind::Deep, grant)?;
         }
         Ok(())
     }
 
-    // A lock on a path goes.
-    fn lower_path(&mut self, path: &DavPath, deep: bool)
-        ensures { (k : ℕ) → count_of self.new k
+    // A lock on a path goes from the counts; the node of the path is answered.
+    fn lower_along(&mut self, path: &DavPath, deep: bool) -> Option<u64>
+        ensures { (k : Key) → count_of self.new k
             ≡ count_of self.old k - times k (path_keys deep (names path.now)) }
     {
-        let mut number = ROOT;
+        let mut at = Some(ROOT_ID);
         for name in path.segments() {
-            self.lower(below_key(number));
-            number = with_name(number, name);
+            self.lower(at, Kind::Below);
+            at = self.child(at, name);
         }
-        self.lower(below_key(number));
-        self.lower(at_key(number));
+        self.lower(at, Kind::Below);
+        self.lower(at, Kind::At);
         if deep {
-            self.lower(deep_key(number));
+            self.lower(at, Kind::Deep);
         }
+        at
+    }
+
+    // A lock on a path goes, and so do the nodes that count none any more.
+    fn lower_path(&mut self, path: &DavPath, deep: bool)
+        ensures { (k : Key) → count_of self.new k
+            ≡ count_of self.old k - times k (path_keys deep (names path.now)) }
+    {
+        let at = self.lower_along(path, deep);
+        self.prune(path, at);
     }
 
     // The locks at a path and below it go.
     fn lower_below(&mut self, locks: &[Kept], path: &DavPath)
-        ensures { (k : ℕ) → count_of self.new k ≡ count_of self.old k
+        ensures { (k : Key) → count_of self.new k ≡ count_of self.old k
             - tally k (filter (λ l. is_at_or_under (names l.path) (names path.now)) locks.now) }
     {
         for kept in locks {
@@ -187,26 +376,29 @@ impl Counts {
     fn weight(&self, path: &DavPath, deep: bool) -> Option<u64>
         ensures { IfSome result (λ n. n ≡ weight (count_of self.now) deep (names path.now)) }
     {
-        let mut number = ROOT;
+        let mut at = ROOT_ID;
         let mut weight: u64 = 0;
         for name in path.segments() {
-            weight = weight.checked_add(self.count(deep_key(number)))?;
-            number = with_name(number, name);
+            weight = weight.checked_add(self.counted(Some(at), Kind::Deep).count)?;
+            match self.child(Some(at), name) {
+                Some(id) => at = id,
+                None => return Some(weight),
+            }
         }
-        weight.checked_add(self.count(end_key(number, deep)))
+        weight.checked_add(self.counted(Some(at), end_kind(deep)).count)
     }
 
-    // A key that some lock has which may matter to a path, where there is one.
-    fn key_of_some(&self, path: &DavPath, deep: bool) -> u64 {
-        let mut number = ROOT;
+    // The number of the grant of the last lock that may matter to a path, as far as is known, where one may.
+    fn last_of_some(&self, path: &DavPath, deep: bool) -> u64 {
+        let mut at = Some(ROOT_ID);
         for name in path.segments() {
-            let key = deep_key(number);
-            if self.count(key) > 0 {
-                return key;
+            let above = self.counted(at, Kind::Deep);
+            if above.count > 0 {
+                return above.last;
             }
-            number = with_name(number, name);
+            at = self.child(at, name);
         }
-        end_key(number, deep)
+        self.counted(at, end_kind(deep)).last
     }
 
     // The number of the grant by which the one lock came that may matter to a path, as far as is known; `None` where none or
@@ -217,8 +409,15 @@ impl Counts {
         if self.weight(path, deep)? != 1 {
             return None;
         }
-        self.last.get(&self.key_of_some(path, deep)).copied()
+        Some(self.last_of_some(path, deep))
     }
+}
+
+// The kind of the locks at a path or, where `deep`, of those at it or below it.
+fn end_kind(deep: bool) -> Kind
+    ensures { (q : Path) → key_of result q ≡ end_key deep q }
+{
+    if deep { Kind::Below } else { Kind::At }
 }
 
 /// Whether a lock may matter to a path: it may cover it or, where `deep`, be on it or below it. Without an index any may.
@@ -250,12 +449,12 @@ pub fn only_grant(index: &Option<Counts>, path: &DavPath, deep: bool) -> Option<
 }
 
 /// A lock on a path comes, by the grant of this number. An index that can't grow goes.
-pub fn raise(index: &mut Option<Counts>, path: &DavPath, deep: bool, grant: u64)
-    ensures { (f : ℕ → ℕ) → HasCounts index.old f
+pub fn raise(alloc: Global, index: &mut Option<Counts>, path: &DavPath, deep: bool, grant: u64)
+    ensures { (f : Key → ℕ) → HasCounts index.old f
         → HasCounts index.new (λ k. f k + times k (path_keys deep (names path.now))) }
 {
     if let Some(mut counts) = index.take() {
-        if counts.raise_path(path, deep, grant).is_ok() {
+        if counts.raise_path(alloc, path, deep, grant).is_ok() {
             *index = Some(counts);
         }
     }
@@ -263,7 +462,7 @@ pub fn raise(index: &mut Option<Counts>, path: &DavPath, deep: bool, grant: u64)
 
 /// A lock on a path goes.
 pub fn lower(index: &mut Option<Counts>, path: &DavPath, deep: bool)
-    ensures { (f : ℕ → ℕ) → HasCounts index.old f
+    ensures { (f : Key → ℕ) → HasCounts index.old f
         → HasCounts index.new (λ k. f k - times k (path_keys deep (names path.now))) }
 {
     if let Some(counts) = index {
@@ -273,7 +472,7 @@ pub fn lower(index: &mut Option<Counts>, path: &DavPath, deep: bool)
 
 /// The locks at a path and below it go.
 pub fn lower_below(index: &mut Option<Counts>, locks: &[Kept], path: &DavPath)
-    ensures { (f : ℕ → ℕ) → HasCounts index.old f → HasCounts index.new (λ k. f k
+    ensures { (f : Key → ℕ) → HasCounts index.old f → HasCounts index.new (λ k. f k
         - tally k (filter (λ l. is_at_or_under (names l.path) (names path.now)) locks.now)) }
 {
     if let Some(counts) = index {

@@ -1,21 +1,19 @@
-//! A lock as it is kept, and a path for which locks are looked for: each with the number of its path and how many names
-//! that has, by which most paths are told apart without a look at their names.
+//! A lock as it is kept, and a path for which locks are looked for: each with how many names its path has, by which paths
+//! of other lengths are told apart without a look at their names.
 ghost use Rattle.std.specs.Prelude.{◌≡◌, ◌≤◌, ◌+◌, IfSome};
 ghost use Rattle.dav_core.specs.Path.{names, is_same_path, is_under, is_at_or_under};
 ghost use Rattle.dav_core.specs.Locks.{covers, ends_at, refreshed_lock};
 ghost use Rattle.dav_core.specs.Numbers.{max_u64};
 ghost use Rattle.dav_store.specs.LockIndex.{matters};
 
-use super::index;
 use crate::paths;
 use dav_core::davpath::DavPath;
 use dav_core::ls::DavLock;
 use std::marker::Model;
 
-/// A lock, with the number of its path, how many names that has, and the number of the grant by which it came.
+/// A lock, with how many names its path has, and the number of the grant by which it came.
 #[derive(Drop)]
 pub struct Kept {
-    number: u64,
     len: usize,
     grant: u64,
     lock: DavLock,
@@ -26,7 +24,6 @@ impl Model for Kept {
     ghost use Rattle.dav_core.specs.Path.{names};
     ghost use Rattle.dav_core.specs.Locks.{Lock};
     ghost use Rattle.dav_core.specs.LockCode.{lock_code};
-    ghost use Rattle.dav_store.specs.LockIndex.{path_number};
 
     ghost Value = { Lock };
 
@@ -34,8 +31,7 @@ impl Model for Kept {
 
     ghost view = { λ k. k.lock };
 
-    ghost invariant = { λ k. (k.number ≡ path_number (names k.lock.path))
-        × (k.len ≡ length (names k.lock.path)) };
+    ghost invariant = { λ k. k.len ≡ length (names k.lock.path) };
 }
 
 impl Kept {
@@ -43,12 +39,11 @@ impl Kept {
     ghost use Rattle.dav_core.specs.Locks.{refreshed_lock};
     ghost use Rattle.dav_core.specs.Numbers.{max_u64};
 
-    /// A lock with its numbers.
+    /// A lock as it is kept.
     pub fn new(lock: DavLock, grant: u64) -> Kept
         ensures { result ≡ lock }
     {
         Kept {
-            number: index::path_number(&lock.path),
             len: paths::count(&lock.path),
             grant,
             lock,
@@ -67,7 +62,7 @@ impl Kept {
         self.grant
     }
 
-    /// The lock, without its numbers.
+    /// The lock, given back.
     pub fn into_lock(self) -> DavLock
         ensures { result ≡ self }
     {
@@ -83,10 +78,9 @@ impl Kept {
     }
 }
 
-/// A path for which locks are looked for, with its number and how many names it has.
+/// A path for which locks are looked for, with how many names it has.
 #[derive(Drop)]
 pub struct Sought<'a> {
-    number: u64,
     len: usize,
     path: &'a DavPath,
 }
@@ -94,26 +88,23 @@ pub struct Sought<'a> {
 impl<'a> Model for Sought<'a> {
     ghost use Rattle.std.specs.Prelude.{◌≡◌, length};
     ghost use Rattle.dav_core.specs.Path.{PathText, names};
-    ghost use Rattle.dav_store.specs.LockIndex.{path_number};
 
     ghost Value = { PathText };
 
     ghost view = { λ s. s.path.now };
 
-    ghost invariant = { λ s. (s.number ≡ path_number (names s.path.now))
-        × (s.len ≡ length (names s.path.now)) };
+    ghost invariant = { λ s. s.len ≡ length (names s.path.now) };
 }
 
 impl<'a> Sought<'a> {
     ghost use Rattle.std.specs.Prelude.{◌≡◌, length};
     ghost use Rattle.dav_core.specs.Path.{names};
 
-    /// A path with its numbers.
+    /// A path with its length.
     pub fn new(path: &'a DavPath) -> Sought<'a>
         ensures { result ≡ path.now }
     {
         Sought {
-            number: index::path_number(path),
             len: paths::count(path),
             path,
         }
@@ -135,15 +126,15 @@ impl<'a> Sought<'a> {
 }
 
 // Whether a lock is on a path.
-#[tactic(auto, using(crate::proofs::PathNumbers::other_numbers))]
+#[tactic(auto, using(crate::proofs::PathLengths::other_lengths))]
 fn is_on(kept: &Kept, path: &Sought<'_>) -> bool
     ensures { result ≡ is_same_path (names kept.now.path) (names path.now) }
 {
-    kept.number == path.number && paths::is_same(&kept.lock.path, path.path)
+    kept.len == path.len && paths::is_same(&kept.lock.path, path.path)
 }
 
 // Whether a lock is on a path above this one.
-#[tactic(auto, using(crate::proofs::PathNumbers::not_longer))]
+#[tactic(auto, using(crate::proofs::PathLengths::not_longer))]
 fn is_above(kept: &Kept, path: &Sought<'_>) -> bool
     ensures { result ≡ is_under (names path.now) (names kept.now.path) }
 {
@@ -151,7 +142,7 @@ fn is_above(kept: &Kept, path: &Sought<'_>) -> bool
 }
 
 /// Whether a lock is on a path below this one.
-#[tactic(auto, using(crate::proofs::PathNumbers::not_longer))]
+#[tactic(auto, using(crate::proofs::PathLengths::not_longer))]
 pub fn is_below(kept: &Kept, path: &Sought<'_>) -> bool
     ensures { result ≡ is_under (names kept.now.path) (names path.now) }
 {
@@ -159,7 +150,7 @@ pub fn is_below(kept: &Kept, path: &Sought<'_>) -> bool
 }
 
 /// Whether a lock is on a path or below it.
-#[tactic(auto, using(crate::proofs::PathNumbers::at_or_under_apart))]
+#[tactic(auto, using(crate::proofs::PathLengths::at_or_under_apart))]
 pub fn is_at_or_below(kept: &Kept, path: &Sought<'_>) -> bool
     ensures { result ≡ is_at_or_under (names kept.now.path) (names path.now) }
 {

@@ -2,7 +2,10 @@
 //! 9.10.
 //!
 //! A line `# title` begins a new list. Each other line is a call and, after ` -> `, its answer: `ok`, a refusal, or
-//! what the call returns. Locks are requested at second 100, for 60 seconds where they are timed.
+//! what the call returns. Locks are requested at second 100, for 60 seconds where they are timed. `nodes` is no call: it
+//! tells whether the index has nodes below its root.
+ghost use Rattle.std.specs.Prelude.{◌<◌, IfSome};
+
 use super::*;
 use std::test::Fail;
 
@@ -38,7 +41,9 @@ discover /a/b ->
 lock /a exclusive,infinite t1 anna -> never ends
 check /a/b/c ben -> t1
 unlock /a t1 -> ok
+nodes / -> none
 lock /a/b/c exclusive t2 ben -> never ends
+nodes / -> some
 # a folder with several locks below, which end with it; a lock of infinite depth asked above others
 lock /a/b/c exclusive t2 anna -> never ends
 lock /a/b/d exclusive,infinite t3 anna -> never ends
@@ -55,15 +60,16 @@ discover /a/e -> t4
 lock /a/b exclusive,infinite t7 anna -> never ends
 check /a/b/c ben -> t7
 delete /a -> ok
+nodes / -> none
 check / ben infinite -> free
 lock / exclusive,infinite t8 anna -> never ends
 check /x ben -> t8
 "##;
 
 // A row: the name of a call and its arguments.
-type Row<'a> = [&'a str; 5];
+pub(crate) type Row<'a> = [&'a str; 5];
 
-fn row(line: &str) -> Row<'_> {
+pub(crate) fn row(line: &str) -> Row<'_> {
     let (call, rest) = line.split_once(' ').unwrap_or((line, ""));
     let (first, rest) = rest.split_once(' ').unwrap_or((rest, ""));
     let (second, rest) = rest.split_once(' ').unwrap_or((rest, ""));
@@ -71,60 +77,95 @@ fn row(line: &str) -> Row<'_> {
     [call, first, second, third, fourth]
 }
 
-fn has_word(words: &str, sought: &str) -> bool {
+pub(crate) fn has_word(words: &str, sought: &str) -> bool {
     words.split(',').any(|word| word == sought)
 }
 
 // Makes the call of a row, and returns its answer as text.
-fn play(alloc: Global, ls: &mut MemLs, row: Row<'_>) -> Result<String, Fail> {
+pub(crate) fn play(alloc: Global, ls: &mut MemLs, row: Row<'_>) -> Result<String, Fail> {
     let at = DavPath::new(alloc, row[1])?;
     let done = match row[0] {
         "lock" => return lock(alloc, ls, &at, row),
         "refresh" => return refresh(alloc, ls, &at, row),
         "check" => return check(alloc, ls, &at, row),
         "discover" => return discover(alloc, ls, &at),
+        "nodes" => return nodes(alloc, ls),
         "unlock" => ls.unlock(&at, row[2]).is_ok(),
         _ => ls.delete(&at).is_ok(),
     };
     Ok(String::from_str(alloc, if done { "ok" } else { "refused" })?)
 }
 
-fn lock(alloc: Global, ls: &mut MemLs, at: &DavPath, row: Row<'_>) -> Result<String, Fail> {
-    let [_, _, kind, token, who] = row;
-    let principal = if who.is_empty() { None } else { Some(who) };
-    let timeout = if has_word(kind, "timed") {
+// For how long a lock of a kind is asked.
+pub(crate) fn timeout_of(kind: &str) -> Option<u64>
+    ensures { IfSome result (λ seconds. seconds < 1000) }
+{
+    if has_word(kind, "timed") {
         Some(60)
     } else {
         None
-    };
-    let (shared, deep) = (has_word(kind, "shared"), has_word(kind, "infinite"));
-    let answer = ls.lock(
-        alloc, at, principal, None, timeout, shared, deep, token, 100,
-    );
+    }
+}
+
+// The answer to a request for a lock, as text.
+pub(crate) fn granted(alloc: Global, answer: Result<DavLock, LockRefusal>) -> Result<String, Fail> {
     Ok(match answer {
         Ok(lock) => match lock.timeout_at {
             Some(second) => format!(in alloc; "ends {second}")?,
             None => String::from_str(alloc, "never ends")?,
         },
-        Err(LockRefusal::Conflict) => String::from_str(alloc, "Conflict")?,
-        Err(LockRefusal::Memory) => String::from_str(alloc, "Memory")?,
+        Err(refusal) => format!(in alloc; "{refusal}")?,
+    })
+}
+
+fn lock(alloc: Global, ls: &mut MemLs, at: &DavPath, row: Row<'_>) -> Result<String, Fail> {
+    let [_, _, kind, token, who] = row;
+    let principal = if who.is_empty() { None } else { Some(who) };
+    let (shared, deep) = (has_word(kind, "shared"), has_word(kind, "infinite"));
+    let timeout = timeout_of(kind);
+    let answer = ls.lock(
+        alloc, at, principal, None, timeout, shared, deep, token, 100,
+    );
+    granted(alloc, answer)
+}
+
+// For how long a lock is to last from now on.
+pub(crate) fn timeout_after(seconds: &str) -> Option<u64>
+    ensures { IfSome result (λ seconds. seconds < 1000) }
+{
+    match seconds.parse::<u64>() {
+        Ok(seconds) if seconds < 1000 => Some(seconds),
+        _ => None,
+    }
+}
+
+// The answer to a refresh, as text.
+pub(crate) fn refreshed(
+    alloc: Global,
+    answer: Result<DavLock, RefreshRefusal>,
+) -> Result<String, Fail> {
+    Ok(match answer {
+        Ok(lock) => {
+            let (second, seconds) = (lock.timeout_at.unwrap_or(0), lock.timeout.unwrap_or(0));
+            format!(in alloc; "ends {second} after {seconds}")?
+        }
+        Err(refusal) => format!(in alloc; "{refusal}")?,
     })
 }
 
 // A refresh at second 150.
 fn refresh(alloc: Global, ls: &mut MemLs, at: &DavPath, row: Row<'_>) -> Result<String, Fail> {
-    let timeout = match row[3].parse::<u64>() {
-        Ok(seconds) if seconds < 1000 => Some(seconds),
-        _ => None,
+    let answer = ls.refresh(alloc, at, row[2], timeout_after(row[3]), 150);
+    refreshed(alloc, answer)
+}
+
+// Whether the index has nodes below its root.
+fn nodes(alloc: Global, ls: &MemLs) -> Result<String, Fail> {
+    let are_none = match &ls.index {
+        Some(counts) => counts.is_root_alone(alloc),
+        None => true,
     };
-    Ok(match ls.refresh(alloc, at, row[2], timeout, 150) {
-        Ok(lock) => {
-            let (second, seconds) = (lock.timeout_at.unwrap_or(0), lock.timeout.unwrap_or(0));
-            format!(in alloc; "ends {second} after {seconds}")?
-        }
-        Err(RefreshRefusal::NotThere) => String::from_str(alloc, "NotThere")?,
-        Err(RefreshRefusal::Memory) => String::from_str(alloc, "Memory")?,
-    })
+    Ok(String::from_str(alloc, if are_none { "none" } else { "some" })?)
 }
 
 // The answer to a check where t1 is submitted: the token of the lock that conflicts, if one does.
@@ -139,13 +180,18 @@ fn check(alloc: Global, ls: &MemLs, at: &DavPath, row: Row<'_>) -> Result<String
     Ok(String::from_str(alloc, token)?)
 }
 
+// Adds the token of a lock that was discovered.
+pub(crate) fn with_token(tokens: &mut String, token: &str) -> Result<(), Fail> {
+    if !tokens.is_empty() {
+        tokens.push(' ')?;
+    }
+    Ok(tokens.push_str(token)?)
+}
+
 fn discover(alloc: Global, ls: &MemLs, at: &DavPath) -> Result<String, Fail> {
     let mut tokens = String::new(alloc);
     for lock in ls.discover(alloc, at)? {
-        if !tokens.is_empty() {
-            tokens.push(' ')?;
-        }
-        tokens.push_str(&lock.token)?;
+        with_token(&mut tokens, &lock.token)?;
     }
     Ok(tokens)
 }

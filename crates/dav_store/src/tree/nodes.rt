@@ -129,7 +129,7 @@ impl<K: Eq + Hash + Drop, D: Drop> Nodes<K, D> {
     }
 
     // The number of a node's parent; 0 where it has none.
-    fn parent(&self, id: u64) -> u64
+    pub fn parent(&self, id: u64) -> u64
         ensures { result ≡ parent_of self.now id }
     {
         match self.node(id) {

@@ -1,8 +1,10 @@
 use Rattle.std.proofs.Common.{refl}
 use Rattle.std.proofs.lemmas.Result.{err_from_is_err_and}
 use Rattle.dav_engine.specs.CallerView.{client_of}
-use Rattle.dav_engine.proofs.DeleteLemmas.{delete_short, delete_failed, delete_free, delete_locked}
+use Rattle.dav_engine.proofs.DeleteLemmas.{delete_short, delete_failed, delete_checked}
 use Rattle.dav_engine.proofs.handle_delete.allowed.Goals as goal
+use Rattle.dav_engine.specs.Delete.{delete_allowed}
+use Rattle.dav_engine.proofs.ModelLemmas.{follows_for}
 
 pub returns-in_err-verdict : goal.returns-in_err-verdict
 returns-in_err-verdict g c =
@@ -12,10 +14,6 @@ returns-in_err-verdict g c =
 pub returns-in-Err : goal.returns-in-Err
 returns-in-Err g c = delete_failed c.args.conditions.now c.args.path.now c.args.caller.now c.args.found.now _ _ _ _ refl c.in_ok-verdict.was c.in-Err.is c.if_match_get_tokens.ensures
 
-pub returns-then-is_open : goal.returns-then-is_open
-returns-then-is_open g c = rw (← c.caller.view_is) (delete_free c.args.conditions.now c.args.path.now (client_of c.caller.inside) c.args.found.now _ _ _ c.in-Ok.tokens c.deref.result.now c.is_open.result
-    refl c.in_ok-verdict.was c.in-Ok.is c.if_match_get_tokens.ensures c.deref.ensures.value c.is_open.ensures c.if-is_open.true)
-
 pub returns : goal.returns
-returns g c = rw (← c.caller.view_is) (delete_locked c.args.conditions.now c.args.path.now (client_of c.caller.inside) c.args.found.now _ _ _ c.in-Ok.tokens c.deref.result.now c.is_open.result
-    refl c.in_ok-verdict.was c.in-Ok.is c.if_match_get_tokens.ensures c.deref.ensures.value c.is_open.ensures c.if-is_open.false)
+returns g c = follows_for (λ who. delete_allowed c.args.conditions.now c.args.path.now who c.args.found.now) c.caller.view_is (delete_checked c.args.conditions.now c.args.path.now (client_of c.caller.inside) c.args.found.now _ _ _ c.in-Ok.tokens c.deref.result.now c.member_allowed.result
+    refl c.in_ok-verdict.was c.in-Ok.is c.if_match_get_tokens.ensures c.deref.ensures.value c.member_allowed.ensures)

@@ -8,6 +8,7 @@ use Rattle.dav_server.proofs.FromNoneLemmas.{passes_no_lock_from_none, ends_no_l
 use Rattle.dav_server.proofs.GrantedRuns.{is_isolated_from_grants}
 use Rattle.dav_server.proofs.HeadlineLemmas.{from_an_empty_server}
 use Rattle.dav_server.proofs.ListLemmas.{shares_locks}
+use Rattle.dav_server.proofs.MembershipLemmas.{keeps_members}
 use Rattle.dav_server.proofs.StrangerLemmas.{passes_no_lock}
 use Rattle.dav_server.proofs.TurnLemmas.{all_yielded, run_tells, none_showable, showable_more, showable_for}
 use Rattle.dav_server.proofs.run.run_refused.Goals as goal
@@ -102,6 +103,12 @@ returns-clause-hrefs c =
     let rest = c.loop-step.step-iterator.rest in
     let whole = all_yielded c.args.steps.items c.loop-step.yielded rest.items rest.len c.loop-step.invariant.3 rest.ok.0 c.in-None.ensures.steps.0 in
     hrefs_lead_back _ c.args.steps.items _ (showable_for whole c.loop-step.invariant.2)
+
+pub returns-clause-members : goal.returns-clause-members
+returns-clause-members c =
+    let rest = c.loop-step.step-iterator.rest in
+    let whole = all_yielded c.args.steps.items c.loop-step.yielded rest.items rest.len c.loop-step.invariant.3 rest.ok.0 c.in-None.ensures.steps.0 in
+    keeps_members _ c.args.steps.items _ (showable_for whole c.loop-step.invariant.2)
 
 pub returns-clause-headline : goal.returns-clause-headline
 returns-clause-headline c =

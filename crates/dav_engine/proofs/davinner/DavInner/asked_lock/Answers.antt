@@ -5,9 +5,10 @@ use Rattle.dav_core.specs.declared.method.DavMethod.TheVariants as method
 use Rattle.dav_engine.specs.Conditions.{if_match}
 use Rattle.dav_engine.specs.Delete.{whole_depth}
 use Rattle.dav_engine.specs.LockHeaders.{LockHeaders}
-use Rattle.dav_engine.proofs.GrantFollows.{asked_depth, asked_short, asked_failed, asked_unread, asked_nothing, asked_untokened, asked_uncopied, asked_done}
+use Rattle.dav_engine.proofs.GrantFollows.{asked_depth, asked_short, asked_failed, asked_unread, asked_nothing, asked_untokened, asked_uncopied, asked_barred, asked_done, above_for, none_from}
 use Rattle.dav_engine.proofs.ModelLemmas.{follows_lent, follows_for}
 use Rattle.dav_engine.proofs.davinner.DavInner.asked_lock.Goals as goal
+use Rattle.dav_core.specs.Path.{names}
 
 pub returns-in_err-deep-clause-plan : goal.returns-in_err-deep-clause-plan
 returns-in_err-deep-clause-plan g c =
@@ -60,9 +61,19 @@ returns-in_err-lock_of-clause-plan g c =
     rw (p.1, p.2) (follows_lent g.L.DavLockSystem.locks _ _ c.backend.view_is c.as_ref-ls.ensures.value
     (asked_uncopied c.args.headers.now c.args.path.now c.args.body.now c.args.self.now.caller.now (option_copied c.args.found) c.in_ok-deep.deep deep c.if_match.result one c.in_ok-verdict.verdict c.in_ok-verdict.was c.in_default.is c.in-Some-2.info (sym c.in_ok-info.ensures.ok ∙ c.in-Some-2.is)))
 
+pub returns-in_err-folder_allowed-clause-plan : goal.returns-in_err-folder_allowed-clause-plan
+returns-in_err-folder_allowed-clause-plan g c =
+    let p = err_from_is_err_and c.from_residual-in_err-folder_allowed.result c.from_residual-in_err-folder_allowed.ensures.1 in
+    let deep = sym (ap (λ (h : LockHeaders). whole_depth h.depth) c.headers.view_is) ∙ sym c.whole_depth.ensures ∙ c.in_ok-deep.was in
+    let one = follows_for (λ (h : LockHeaders). if_match method.Lock h.conditions (option_copied c.args.found)) c.headers.view_is c.if_match.ensures in
+    let above = above_for (names c.args.path.now) c.args.self.now.caller.now c.is_none.result _ c.headers.view_is (none_from c.args.found c.is_none.result c.is_none.ensures) c.in_err-folder_allowed.ensures in
+    rw (p.1, p.2) (follows_lent g.L.DavLockSystem.locks _ _ c.backend.view_is c.as_ref-ls.ensures.value
+    (asked_barred c.args.headers.now c.args.path.now c.args.body.now c.args.self.now.caller.now (option_copied c.args.found) c.in_ok-deep.deep deep c.if_match.result one c.in_ok-verdict.verdict c.in_ok-verdict.was c.in_default.is c.in-Some-2.info (sym c.in_ok-info.ensures.ok ∙ c.in-Some-2.is) c.in-Some-token.token.now (sym (ap (λ w. w.token) c.caller.view_is) ∙ ap option_copied c.in-Some-token.is) _ above))
+
 pub returns-clause-plan : goal.returns-clause-plan
 returns-clause-plan g c =
     let deep = sym (ap (λ (h : LockHeaders). whole_depth h.depth) c.headers.view_is) ∙ sym c.whole_depth.ensures ∙ c.in_ok-deep.was in
     let one = follows_for (λ (h : LockHeaders). if_match method.Lock h.conditions (option_copied c.args.found)) c.headers.view_is c.if_match.ensures in
+    let above = above_for (names c.args.path.now) c.args.self.now.caller.now c.is_none.result _ c.headers.view_is (none_from c.args.found c.is_none.result c.is_none.ensures) c.in_ok-folder_allowed.ensures in
     (follows_lent g.L.DavLockSystem.locks _ _ c.backend.view_is c.as_ref-ls.ensures.value
-    (asked_done c.args.headers.now c.args.path.now c.args.body.now c.args.self.now.caller.now (option_copied c.args.found) c.in_ok-deep.deep deep c.if_match.result one c.in_ok-verdict.verdict c.in_ok-verdict.was c.in_default.is c.in-Some-2.info (sym c.in_ok-info.ensures.ok ∙ c.in-Some-2.is) c.in-Some-token.token.now _ (sym (ap (λ w. w.token) c.caller.view_is) ∙ ap option_copied c.in-Some-token.is) c.in_ok-lock_of.ensures.lock))
+    (asked_done c.args.headers.now c.args.path.now c.args.body.now c.args.self.now.caller.now (option_copied c.args.found) c.in_ok-deep.deep deep c.if_match.result one c.in_ok-verdict.verdict c.in_ok-verdict.was c.in_default.is c.in-Some-2.info (sym c.in_ok-info.ensures.ok ∙ c.in-Some-2.is) c.in-Some-token.token.now (sym (ap (λ w. w.token) c.caller.view_is) ∙ ap option_copied c.in-Some-token.is) _ above c.in_ok-lock_of.ensures.lock))

@@ -5,6 +5,7 @@ use Rattle.dav_server.proofs.RunLemmas.{run_further, parts_of, steps_at, cut_at,
 use Rattle.dav_server.proofs.EachRequestLemmas.{reads_leave, only_creates, refusals_leave, loses_no_update, not_modified_tells, hrefs_lead_back}
 use Rattle.dav_server.proofs.EndingLemmas.{ends_no_lock}
 use Rattle.dav_server.proofs.ListLemmas.{shares_locks}
+use Rattle.dav_server.proofs.MembershipLemmas.{keeps_members}
 use Rattle.dav_server.proofs.StrangerLemmas.{passes_no_lock}
 use Rattle.dav_server.proofs.TurnLemmas.{ran_all, run_tells, none_showable, showable_further, showable_all}
 use Rattle.dav_server.proofs.davhandler.DavHandler.run.Goals as goal
@@ -72,4 +73,9 @@ returns-clause-updated g c =
 pub returns-clause-hrefs : goal.returns-clause-hrefs
 returns-clause-hrefs g c =
     hrefs_lead_back _ (map turn_of c.args.exchanges.now) _
+    (showable_all c.args.exchanges.now c.loop-exchange.exchange-index c.loop-exchange-test.false c.loop-exchange.invariant.2)
+
+pub returns-clause-members : goal.returns-clause-members
+returns-clause-members g c =
+    keeps_members _ (map turn_of c.args.exchanges.now) _
     (showable_all c.args.exchanges.now c.loop-exchange.exchange-index c.loop-exchange-test.false c.loop-exchange.invariant.2)

@@ -1,7 +1,7 @@
 use Rattle.std.proofs.Common.{◌≡◌, ◌+◌, ℕ, List, sym, subst}
 use Rattle.dav_core.specs.Path.{names}
 use Rattle.dav_core.specs.Locks.{Lock}
-use Rattle.dav_store.specs.LockIndex.{IsIndexOf, tally, times, path_keys}
+use Rattle.dav_store.specs.LockIndex.{Key, IsIndexOf, tally, times, path_keys}
 use Rattle.dav_store.proofs.IndexCalls.{index_shrunk}
 use Rattle.dav_store.proofs.memls.MemLsDavLockSystem.unlock.Goals as goal
 
@@ -12,4 +12,4 @@ pub invariant_of-self-2 : goal.invariant_of-self-2
 invariant_of-self-2 c =
     index_shrunk c.lower.new.index c.self.inside.locks.items c.unlock_in.new.locks.items (λ k. times k (path_keys c.lock.inside.deep (names c.lock.inside.path)))
     (c.lower.ensures (λ k. tally k c.self.inside.locks.items) c.self.invariant)
-    (subst (λ (l : Lock). (k : ℕ) → tally k c.self.inside.locks.items ≡ tally k c.unlock_in.new.locks.items + times k (path_keys l.deep (names l.path))) (sym c.lock.view_is) c.in_ok-lock.ensures.keys)
+    (subst (λ (l : Lock). (k : Key) → tally k c.self.inside.locks.items ≡ tally k c.unlock_in.new.locks.items + times k (path_keys l.deep (names l.path))) (sym c.lock.view_is) c.in_ok-lock.ensures.keys)

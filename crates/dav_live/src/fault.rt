@@ -1,0 +1,88 @@
+//! Why a server ends, and why it can't begin.
+use dav_journal::JournalError;
+use dav_wire::Stop;
+use std::alloc::{AllocError, AllocFailed};
+use std::io;
+
+/// Why a server ended.
+#[derive(Clone, Copy, Debug, PartialEq, Eq)]
+pub enum Fault {
+    /// The input ended.
+    Ended,
+    /// A report wasn't understood, or the pipes failed.
+    Pipe,
+    /// Memory ran out. Nothing was released since the last commit.
+    Memory,
+    /// The disk failed at a commit. Nothing was released since the one before.
+    Disk,
+}
+
+impl From<AllocError> for Fault {
+    fn from(_error: AllocError) -> Fault {
+        Fault::Memory
+    }
+}
+
+impl<T: Drop> From<AllocFailed<T>> for Fault {
+    fn from(_error: AllocFailed<T>) -> Fault {
+        Fault::Memory
+    }
+}
+
+impl From<io::Error> for Fault {
+    fn from(_error: io::Error) -> Fault {
+        Fault::Pipe
+    }
+}
+
+impl From<Stop> for Fault {
+    fn from(_stop: Stop) -> Fault {
+        Fault::Memory
+    }
+}
+
+/// Why a server can't begin. Nothing was changed.
+#[derive(Clone, Copy, Debug, PartialEq, Eq)]
+pub enum OpenError {
+    /// A setting is wrong: the prefix or the users.
+    Settings,
+    /// The state was kept under another prefix.
+    OtherPrefix,
+    /// The file isn't a state of this version.
+    Foreign,
+    /// The state is damaged, or a request is answered otherwise than it was.
+    Damaged,
+    /// The disk failed or is full.
+    Disk,
+    /// Memory ran out.
+    Memory,
+}
+
+impl From<AllocError> for OpenError {
+    fn from(_error: AllocError) -> OpenError {
+        OpenError::Memory
+    }
+}
+
+impl<T: Drop> From<AllocFailed<T>> for OpenError {
+    fn from(_error: AllocFailed<T>) -> OpenError {
+        OpenError::Memory
+    }
+}
+
+impl From<Stop> for OpenError {
+    fn from(_stop: Stop) -> OpenError {
+        OpenError::Memory
+    }
+}
+
+impl From<JournalError> for OpenError {
+    fn from(error: JournalError) -> OpenError {
+        match error {
+            JournalError::Io | JournalError::NoRoom => OpenError::Disk,
+            JournalError::Foreign => OpenError::Foreign,
+            JournalError::Damaged => OpenError::Damaged,
+            JournalError::Memory => OpenError::Memory,
+        }
+    }
+}

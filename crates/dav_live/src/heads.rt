@@ -1,0 +1,127 @@
+//! What is read of the bytes of a head before the handler gets it (RFC 9112, sections 3 and 5). The connection has seen that it is one.
+use std::alloc::{AllocError, Global};
+use std::str;
+
+/// The most names in a path.
+const MOST_NAMES: usize = 1024;
+
+// The method of a head.
+pub fn method_of(head: &[u8]) -> &[u8] {
+    head.trim_ascii_start()
+        .split(|b| *b == b' ')
+        .next()
+        .unwrap_or(&[])
+}
+
+// The target of a head.
+pub fn target_of(head: &[u8]) -> &[u8] {
+    head.trim_ascii_start()
+        .split(|b| *b == b' ')
+        .nth(1)
+        .unwrap_or(&[])
+}
+
+// The value of a field, where a line of a head has this name.
+fn value_in<'l>(line: &'l [u8], name: &[u8]) -> Option<&'l [u8]> {
+    let found = line.get(..name.len())?;
+    let rest = line.get(name.len()..)?;
+    match rest {
+        [b':', value @ ..] if found.eq_ignore_ascii_case(name) => Some(value.trim_ascii()),
+        _ => None,
+    }
+}
+
+// The value of the first field with a name.
+pub fn field<'h>(head: &'h [u8], name: &[u8]) -> Option<&'h [u8]> {
+    for line in head.split(|b| *b == b'\n') {
+        if let Some(value) = value_in(line, name) {
+            return Some(value);
+        }
+    }
+    None
+}
+
+// Whether a method's body is an element tree.
+pub fn takes_tree(method: &[u8]) -> bool {
+    method == b"PROPFIND".as_slice()
+        || method == b"PROPPATCH".as_slice()
+        || method == b"LOCK".as_slice()
+}
+
+// Whether a method changes nothing (RFC 9110, section 9.2.1).
+pub fn only_reads(method: &[u8]) -> bool {
+    method == b"GET".as_slice()
+        || method == b"HEAD".as_slice()
+        || method == b"OPTIONS".as_slice()
+        || method == b"PROPFIND".as_slice()
+}
+
+// Whether a target or a Destination has too many names.
+pub fn has_many_names(head: &[u8]) -> bool {
+    are_many(target_of(head)) || are_many(field(head, b"destination").unwrap_or(&[]))
+}
+
+fn are_many(text: &[u8]) -> bool {
+    text.split(|b| *b == b'/')
+        .filter(|name| !name.is_empty())
+        .count()
+        > MOST_NAMES
+}
+
+// The host of an authority, without its port.
+fn without_port(authority: &str) -> &str {
+    match authority.rsplit_once(':') {
+        Some((host, port)) if port.bytes().all(|b| b.is_ascii_digit()) => host,
+        _ => authority,
+    }
+}
+
+// Whether a head's Host is one of these names, or this machine's own; a head without one passes.
+pub fn is_for(head: &[u8], hosts: &[String]) -> bool {
+    let Some(value) = field(head, b"host") else {
+        return true;
+    };
+    let Ok(authority) = str::from_utf8(value) else {
+        return false;
+    };
+    let host = without_port(authority);
+    is_own(host)
+        || hosts
+            .iter()
+            .any(|name| host.eq_ignore_ascii_case(name.as_str()))
+}
+
+// Whether a name is this machine's own.
+fn is_own(host: &str) -> bool {
+    host.eq_ignore_ascii_case("localhost") || host == "127.0.0.1" || host == "[::1]"
+}
+
+// The seconds that one value of Timeout asks for; none for `Infinite` (RFC 4918, section 10.7).
+fn seconds_in(value: &str) -> Option<u64> {
+    value.trim().strip_prefix("Second-")?.parse::<u64>().ok()
+}
+
+// How long a lock is asked for, at most this long.
+fn asked_seconds(head: &[u8], most: u64) -> u64 {
+    let value = str::from_utf8(field(head, b"timeout").unwrap_or(&[])).unwrap_or("");
+    let first = match value.split_once(',') {
+        Some((first, _)) => first,
+        None => value,
+    };
+    seconds_in(first).unwrap_or(most).min(most)
+}
+
+// A head whose Timeout asks for a time that is at most this long.
+pub fn with_timeout(alloc: Global, head: &[u8], most: u64) -> Result<Vec<u8>, AllocError> {
+    let mut out = Vec::new(alloc);
+    let seconds = asked_seconds(head, most);
+    for line in head.trim_ascii().split(|b| *b == b'\n') {
+        if value_in(line, b"timeout").is_none() {
+            out.extend_from_slice(line.trim_ascii_end())?;
+            out.extend_from_slice(b"\r\n")?;
+        }
+    }
+    let text = format!(in alloc; "Timeout: Second-{seconds}\r\n\r\n")?;
+    out.extend_from_slice(text.as_bytes())?;
+    Ok(out)
+}

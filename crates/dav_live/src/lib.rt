@@ -1,0 +1,25 @@
+//! A live server: all connections and what is kept, behind one stream of reports and one of orders.
+//!
+//! A front moves bytes between sockets and this server. It reports what happened to each connection, and carries out one order for
+//! each report. Here the bytes are cut into requests, each is answered by the handler, and what may change something is in
+//! the journal and synced before any reply of its turn is handed out.
+#![tactic(auto)]
+
+mod basic;
+mod fault;
+mod frames;
+mod heads;
+mod leases;
+mod live;
+mod page;
+mod password;
+mod record;
+mod render;
+mod service;
+mod settings;
+mod users;
+
+pub use fault::{Fault, OpenError};
+pub use live::{Live, Watch};
+pub use settings::Settings;
+pub use users::Users;

@@ -1,0 +1,474 @@
+//! What answers the requests of all connections, and keeps those that may change something.
+use crate::basic::credentials_of;
+use crate::fault::{Fault, OpenError};
+use crate::heads::{
+    field, has_many_names, is_for, method_of, only_reads, takes_tree, target_of, with_timeout,
+};
+use crate::leases::{Lease, next_ended, note_locks, unlock_head};
+use crate::page::{ASKED, asking_head, page_answer};
+use crate::record::Record;
+use crate::render::{answer_of, bare_answer, unknown_user};
+use crate::settings::Settings;
+use crate::users::Users;
+use bytes::Bytes;
+use dav_core::fs::DavFileSystem;
+use dav_core::method::DavMethodSet;
+use dav_engine::{Body, Reply, ReplyBody};
+use dav_journal::{Journal, JournalError};
+use dav_server::davhandler::{DavHandler, HandlerError};
+use dav_server::exchange::{Exchange, GrantToken, LAST_MOMENT};
+use dav_store::memfs::MemFs;
+use dav_store::memls::MemLs;
+use dav_wire::{Answer, Answerer, Stop};
+use dav_xml::XmlError;
+use sqlite_disk::Disk;
+use std::alloc::{AllocError, Global};
+use std::str;
+
+/// The most bytes of a body that is XML.
+const MOST_XML: u64 = 1_048_576;
+
+/// The handler, the journal, and what a request needs besides its bytes.
+#[derive(Drop)]
+pub struct Service<D: Disk> {
+    alloc: Global,
+    settings: Settings,
+    users: Option<Users>,
+    handler: DavHandler<MemFs, MemLs>,
+    journal: Journal<D>,
+    /// The records since the last commit.
+    batch: Vec<u8>,
+    leases: Vec<Lease>,
+    /// How many tokens were handed in.
+    tokens: u64,
+    random: [u8; 16],
+    moment: u64,
+    /// Why it stopped.
+    fault: Fault,
+    /// Lines of the requests that were answered, where the settings ask for them.
+    log: String,
+}
+
+// The handler of an empty store.
+fn new_handler(alloc: Global, prefix: &str) -> Result<DavHandler<MemFs, MemLs>, OpenError> {
+    let fs = MemFs::new(alloc)?;
+    let ls = MemLs::new(alloc)?;
+    match DavHandler::new(alloc, prefix, DavMethodSet::all(), fs, Some(ls)) {
+        Ok(handler) => Ok(handler),
+        Err(HandlerError::BadPrefix) => Err(OpenError::Settings),
+        Err(HandlerError::Memory) => Err(OpenError::Memory),
+    }
+}
+
+// The body of a request with this method, as the handler takes it.
+fn body_of(alloc: Global, method: &[u8], body: Bytes) -> Result<Body, AllocError> {
+    if body.is_empty() {
+        return Ok(Body::None);
+    }
+    if !takes_tree(method) {
+        return Ok(Body::Bytes(body));
+    }
+    match dav_xml::read(alloc, body.as_slice()) {
+        Ok(tree) => Ok(Body::Tree(tree)),
+        Err(XmlError::Memory) => Err(AllocError),
+        Err(_) => Ok(Body::Malformed),
+    }
+}
+
+// The token of a text.
+fn token_of(alloc: Global, text: Option<&str>) -> Option<GrantToken> {
+    GrantToken::new(alloc, text?).ok()
+}
+
+// A request as the handler takes it.
+fn exchange_of<'r>(alloc: Global, record: &Record<'r>, body: Bytes) -> Result<Exchange<'r>, Stop> {
+    let body = body_of(alloc, method_of(record.head), body)?;
+    let token = token_of(alloc, record.token);
+    let moment = record.moment.min(LAST_MOMENT);
+    match Exchange::new(record.head, body, record.principal, moment, token) {
+        Ok(exchange) => Ok(exchange),
+        Err(_) => Err(Stop),
+    }
+}
+
+// Eight bytes as a number.
+fn number(bytes: &[u8]) -> u64 {
+    match bytes {
+        [a, b, c, d, e, f, g, h] => u64::from_be_bytes([*a, *b, *c, *d, *e, *f, *g, *h]),
+        _ => 0,
+    }
+}
+
+impl<D: Disk + Drop> Service<D> {
+    /// A service whose store is what the journal's requests make of an empty one.
+    pub fn open(
+        alloc: Global,
+        journal: Journal<D>,
+        users: Option<Users>,
+        settings: Settings,
+    ) -> Result<Service<D>, OpenError> {
+        let handler = new_handler(alloc, settings.prefix.as_str())?;
+        let mut service = Service {
+            alloc,
+            settings,
+            users,
+            handler,
+            journal,
+            batch: Vec::new(alloc),
+            leases: Vec::new(alloc),
+            tokens: 0,
+            random: [0; 16],
+            moment: 0,
+            fault: Fault::Memory,
+            log: String::new(alloc),
+        };
+        service.replay()?;
+        Ok(service)
+    }
+
+    // Plays what the journal has, and cuts off what isn't whole.
+    fn replay(&mut self) -> Result<(), OpenError> {
+        let Some(prefix) = self.journal.next(self.alloc)? else {
+            return self.begin();
+        };
+        if prefix.as_slice() != kept_prefix(self.settings.prefix.as_str()) {
+            return Err(OpenError::OtherPrefix);
+        }
+        for _ in 0..u64::MAX {
+            let Some(block) = self.journal.next(self.alloc)? else {
+                break;
+            };
+            self.play_block(&block)?;
+        }
+        self.journal.cut()?;
+        Ok(())
+    }
+
+    // Begins an empty journal: its first block is the prefix.
+    fn begin(&mut self) -> Result<(), OpenError> {
+        self.journal.cut()?;
+        let prefix = kept_prefix(self.settings.prefix.as_str());
+        self.journal.room(prefix.len())?;
+        self.journal.append(prefix)?;
+        self.journal.commit()?;
+        Ok(())
+    }
+
+    // Plays the records of a block.
+    fn play_block(&mut self, block: &[u8]) -> Result<(), OpenError> {
+        let mut rest = block;
+        for _ in 0..block.len() {
+            if rest.is_empty() {
+                break;
+            }
+            let Some((record, after)) = Record::read(rest) else {
+                return Err(OpenError::Damaged);
+            };
+            self.play(&record)?;
+            rest = after;
+        }
+        Ok(())
+    }
+
+    // Plays a record: the reply has to have the status that it had.
+    fn play(&mut self, record: &Record<'_>) -> Result<(), OpenError> {
+        self.moment = self.moment.max(record.moment);
+        if record.token.is_some() {
+            self.tokens = self.tokens.saturating_add(1);
+        }
+        let body = Bytes::copy_from_slice(self.alloc, record.body)?;
+        let reply = self.run(record, body)?;
+        if reply.status.as_u16() == record.status {
+            Ok(())
+        } else {
+            Err(OpenError::Damaged)
+        }
+    }
+
+    // Hands a request to the handler, and notes when the locks of which it tells end.
+    fn run(&mut self, record: &Record<'_>, body: Bytes) -> Result<Reply, Stop> {
+        let exchange = exchange_of(self.alloc, record, body)?;
+        let reply = self.handle(&exchange)?;
+        if method_of(record.head) == b"LOCK".as_slice() {
+            self.note_locks(&reply, record.moment)?;
+        }
+        Ok(reply)
+    }
+
+    // The reply of the handler, whose store had memory for all that it did.
+    fn handle(&mut self, exchange: &Exchange<'_>) -> Result<Reply, Stop> {
+        match self.handler.handle(self.alloc, exchange) {
+            Ok(reply) if !self.handler.fs().was_short() => Ok(reply),
+            _ => Err(Stop),
+        }
+    }
+
+    // Notes when the locks of which a reply tells end.
+    fn note_locks(&mut self, reply: &Reply, moment: u64) -> Result<(), Stop> {
+        match &reply.body {
+            ReplyBody::Tree(tree) => Ok(note_locks(self.alloc, &mut self.leases, tree, moment)?),
+            _ => Ok(()),
+        }
+    }
+
+    /// Takes the random bytes that tokens are made of.
+    pub fn hear_hello(&mut self, bytes: &[u8]) {
+        for (place, byte) in self.random.iter_mut().zip(bytes.iter()) {
+            *place = *byte;
+        }
+    }
+
+    /// Takes the moment of a report, and ends the locks whose time has passed. A clock that goes back stands still.
+    pub fn hear_moment(&mut self, seconds: u64) -> Result<(), Stop> {
+        let moment = seconds.min(LAST_MOMENT);
+        if moment <= self.moment {
+            return Ok(());
+        }
+        self.moment = moment;
+        for _ in 0..self.leases.len() {
+            let Some(lease) = next_ended(&mut self.leases, moment) else {
+                break;
+            };
+            if !self.end_lock(&lease)? {
+                self.leases.push(lease)?;
+                break;
+            }
+        }
+        Ok(())
+    }
+
+    // Ends a lock by a request of the server's own. False where the disk has no room for that.
+    fn end_lock(&mut self, lease: &Lease) -> Result<bool, Stop> {
+        let head = unlock_head(self.alloc, lease)?;
+        let record = Record {
+            moment: self.moment,
+            status: 0,
+            principal: None,
+            token: None,
+            head: head.as_bytes(),
+            body: &[],
+        };
+        Ok(self.keep(&record, Bytes::from_static(b""))?.is_some())
+    }
+
+    // Answers a request that may change something, and adds it to the batch. `None` where the disk has no room for it: then it isn't answered.
+    fn keep(&mut self, record: &Record<'_>, body: Bytes) -> Result<Option<Reply>, Stop> {
+        let size = self.batch.len().saturating_add(record.size());
+        match self.journal.room(size) {
+            Ok(()) => {}
+            Err(JournalError::NoRoom) => return Ok(None),
+            Err(_) => {
+                self.fault = Fault::Disk;
+                return Err(Stop);
+            }
+        }
+        let reply = self.run(record, body)?;
+        let mut record = *record;
+        record.status = reply.status.as_u16();
+        record.write(&mut self.batch)?;
+        Ok(Some(reply))
+    }
+
+    /// Makes sure that all that was answered is kept.
+    pub fn commit(&mut self) -> Result<(), Fault> {
+        if self.batch.is_empty() {
+            return Ok(());
+        }
+        if self.journal.append(&self.batch).is_err() || self.journal.commit().is_err() {
+            return Err(Fault::Disk);
+        }
+        self.batch.clear();
+        Ok(())
+    }
+
+    /// Why an answer stopped the server.
+    pub fn fault(&self) -> Fault {
+        self.fault
+    }
+
+    /// The lines of the requests that were answered since this was last asked.
+    pub fn log(&self) -> &str {
+        self.log.as_str()
+    }
+
+    /// Forgets these lines.
+    pub fn clear_log(&mut self) {
+        self.log.clear();
+    }
+
+    // The next token: a UUID of version 8 with 58 random bits and the count of tokens (RFC 9562, section 5.8).
+    fn next_token(&mut self) -> Result<String, AllocError> {
+        let count = self.tokens;
+        self.tokens = count.saturating_add(1);
+        let first = number(self.random.get(..8).unwrap_or(&[]));
+        let (a, b) = (first >> 32, first >> 16 & 0xffff);
+        let c = (first & 0x3ff) << 2 | count >> 62;
+        let d = 0x8000 | count >> 48 & 0x3fff;
+        let e = count & 0xffff_ffff_ffff;
+        format!(in self.alloc; "urn:uuid:{a:08x}-{b:04x}-8{c:03x}-{d:04x}-{e:012x}")
+    }
+
+    // Who asks, where users are known; `Err` where it is nobody who is.
+    fn principal_of(&mut self, head: &[u8]) -> Result<Option<String>, ()> {
+        let Some(users) = &mut self.users else {
+            return Ok(None);
+        };
+        let Some(value) = field(head, b"authorization") else {
+            return Err(());
+        };
+        let Some(told) = credentials_of(self.alloc, value) else {
+            return Err(());
+        };
+        if users.knows(told.name.as_str(), told.password.as_bytes()) {
+            Ok(Some(told.name))
+        } else {
+            Err(())
+        }
+    }
+
+    // Answers a request of somebody.
+    fn answer_for(
+        &mut self,
+        principal: Option<&str>,
+        head: &[u8],
+        body: Bytes,
+    ) -> Result<Answer, Stop> {
+        let method = method_of(head);
+        if method == b"LOCK".as_slice() {
+            return self.answer_lock(principal, head, body);
+        }
+        let kept = body.clone()?;
+        let record = Record {
+            moment: self.moment,
+            status: 0,
+            principal,
+            token: None,
+            head,
+            body: kept.as_slice(),
+        };
+        if !only_reads(method) {
+            return self.answer_kept(&record, body);
+        }
+        let reply = self.run(&record, body)?;
+        let is_page = reply.status.as_u16() == 405
+            && (method == b"GET".as_slice() || method == b"HEAD".as_slice());
+        if is_page {
+            self.answer_page(principal, head)
+        } else {
+            answer_of(self.alloc, reply)
+        }
+    }
+
+    // Answers a LOCK: its time is at most the longest, and one with a body gets a token.
+    fn answer_lock(
+        &mut self,
+        principal: Option<&str>,
+        head: &[u8],
+        body: Bytes,
+    ) -> Result<Answer, Stop> {
+        let head = with_timeout(self.alloc, head, self.settings.lock_time)?;
+        let token = if body.is_empty() {
+            None
+        } else {
+            Some(self.next_token()?)
+        };
+        let kept = body.clone()?;
+        let record = Record {
+            moment: self.moment,
+            status: 0,
+            principal,
+            token: token.as_deref(),
+            head: head.as_slice(),
+            body: kept.as_slice(),
+        };
+        self.answer_kept(&record, body)
+    }
+
+    // Answers a request that is kept; 507 where there is no room for it.
+    fn answer_kept(&mut self, record: &Record<'_>, body: Bytes) -> Result<Answer, Stop> {
+        match self.keep(record, body)? {
+            Some(reply) => answer_of(self.alloc, reply),
+            None => bare_answer(self.alloc, 507),
+        }
+    }
+
+    // Answers a GET or HEAD of a folder by a page.
+    fn answer_page(&mut self, principal: Option<&str>, head: &[u8]) -> Result<Answer, Stop> {
+        let asking = asking_head(self.alloc, target_of(head))?;
+        let record = Record {
+            moment: self.moment,
+            status: 0,
+            principal,
+            token: None,
+            head: &asking,
+            body: ASKED,
+        };
+        let reply = self.run(&record, Bytes::from_static(ASKED))?;
+        match &reply.body {
+            ReplyBody::Tree(told) if reply.status.as_u16() == 207 => page_answer(self.alloc, told),
+            _ => bare_answer(self.alloc, 405),
+        }
+    }
+
+    // Adds the line of a request.
+    fn add_line(
+        &mut self,
+        principal: Option<&str>,
+        head: &[u8],
+        answer: &Answer,
+    ) -> Result<(), Stop> {
+        if !self.settings.logs {
+            return Ok(());
+        }
+        let method = str::from_utf8(method_of(head)).unwrap_or("?");
+        let target = str::from_utf8(target_of(head)).unwrap_or("?");
+        let (name, status, len) = (principal.unwrap_or("-"), answer.status, answer.body.len());
+        let line = format!(in self.alloc; "{name} {method} {target} {status} {len}\n")?;
+        self.log.push_str(line.as_str())?;
+        Ok(())
+    }
+
+    // Answers a request that came for this host.
+    fn answer_known(&mut self, head: &[u8], body: Bytes) -> Result<Answer, Stop> {
+        let Ok(principal) = self.principal_of(head) else {
+            let answer = unknown_user(self.alloc)?;
+            self.add_line(None, head, &answer)?;
+            return Ok(answer);
+        };
+        let answer = if has_many_names(head) {
+            bare_answer(self.alloc, 414)?
+        } else {
+            self.answer_for(principal.as_deref(), head, body)?
+        };
+        self.add_line(principal.as_deref(), head, &answer)?;
+        Ok(answer)
+    }
+}
+
+// The prefix as the journal's first block has it.
+fn kept_prefix(prefix: &str) -> &[u8] {
+    if prefix.is_empty() {
+        b"/"
+    } else {
+        prefix.as_bytes()
+    }
+}
+
+impl<D: Disk + Drop> Answerer for Service<D> {
+    fn most_body(&self, head: &[u8]) -> u64 {
+        if takes_tree(method_of(head)) {
+            MOST_XML
+        } else {
+            self.settings.most_body
+        }
+    }
+
+    fn answer(&mut self, alloc: Global, head: &[u8], body: Bytes) -> Result<Answer, Stop> {
+        if is_for(head, &self.settings.hosts) {
+            return self.answer_known(head, body);
+        }
+        let answer = bare_answer(alloc, 421)?;
+        self.add_line(None, head, &answer)?;
+        Ok(answer)
+    }
+}

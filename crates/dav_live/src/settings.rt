@@ -1,0 +1,16 @@
+//! What a server is told when it begins.
+
+/// The settings of a server.
+#[derive(Drop)]
+pub struct Settings {
+    /// The prefix of its paths.
+    pub prefix: String,
+    /// The names of its host, besides those of the machine itself.
+    pub hosts: Vec<String>,
+    /// The most seconds for which a lock is granted.
+    pub lock_time: u64,
+    /// The most bytes of a body, but for XML.
+    pub most_body: u64,
+    /// Whether a line is written of each request.
+    pub logs: bool,
+}
