@@ -75,18 +75,18 @@ split_at : (xs ys : List ℕ) → split (xs ++ 47 ∷ ys) ≡ split xs ++ split 
 split_at [] ys = refl
 split_at (x ∷ xs) ys = split_step x (split (xs ++ 47 ∷ ys)) (split xs) (split ys) (x == 47) (split_at xs ys) (some_pieces xs)
 
-names_at : (xs ys : List ℕ) → names_in (xs ++ 47 ∷ ys) ≡ names_in xs ++ names_in ys
+pub names_at : (xs ys : List ℕ) → names_in (xs ++ 47 ∷ ys) ≡ names_in xs ++ names_in ys
 names_at xs ys = ap (filter is_nonempty) (split_at xs ys) ∙ filter-append is_nonempty (split xs) (split ys)
 
 no_slash : (n : List ℕ) → Clean n → All (λ b. (b == 47) ≡ false) n
 no_slash n clean = All-weaker (λ b. b ≢ 47) (λ b. (b == 47) ≡ false) (λ b h. grind (arith, nat_tests, h)) n clean
 
 -- the bytes of a segment have one name, the segment
-one_name : (n : List ℕ) → IsSegment n → names_in n ≡ n ∷ []
+pub one_name : (n : List ℕ) → IsSegment n → names_in n ≡ n ∷ []
 one_name [] segment = absurd (segment.0 refl)
 one_name (b ∷ n) segment = ap (filter is_nonempty) (slice_split_none (λ c. c == 47) (b ∷ n) (no_slash (b ∷ n) segment.1))
 
-names_other : (bytes : List ℕ) → bytes ≢ star → names_of bytes ≡ names_in bytes
+pub names_other : (bytes : List ℕ) → bytes ≢ star → names_of bytes ≡ names_in bytes
 names_other bytes other =
     elim (cases_Bool (bytes_eq bytes star)) [
       | inl e ↦ absurd (other ((bytes_eq-Decides bytes star).0 e))
@@ -97,7 +97,7 @@ never_empty : (xs ys : List ℕ) → xs ++ 47 ∷ ys ≢ []
 never_empty [] ys e = cc
 never_empty (x ∷ xs) ys e = cc
 
-not_star_at : (xs ys : List ℕ) → xs ++ 47 ∷ ys ≢ star
+pub not_star_at : (xs ys : List ℕ) → xs ++ 47 ∷ ys ≢ star
 not_star_at [] ys e = let same : ◌≡◌ {A = ℕ} 47 42 = cc in absurd (omega (arith, same))
 not_star_at (x ∷ xs) ys e = let rest : xs ++ 47 ∷ ys ≡ [] = cc in never_empty xs ys rest
 

@@ -1,8 +1,8 @@
 -- The end of a text: what is left of it without the bytes there that pass a test.
-use Rattle.std.proofs.Common.{◌≡◌, ℕ, ◌+◌, ◌-◌, ◌≤◌, ◌==◌, Bool, true, false, not, List, [], ◌∷◌, ◌++◌, length, take, drop, get_or, refl, sym, ap, ◌∙◌, inl, inr, arith, append_assoc, length-append, length-drop}
+use Rattle.std.proofs.Common.{◌≡◌, ℕ, ◌+◌, ◌-◌, ◌≤◌, ◌==◌, Bool, true, false, not, ◌||◌, List, [], ◌∷◌, ◌++◌, length, take, drop, get_or, refl, sym, ap, ◌∙◌, inl, inr, arith, append_assoc, length-append, length-drop}
 use Rattle.std.proofs.lemmas.Bool.{cases_Bool}
 use Rattle.std.proofs.lemmas.List.{take_more, take_all, take_at, take-take, drop-take, append-nil}
-use Rattle.dav_core.specs.Path.{is_nonempty}
+use Rattle.dav_core.specs.Path.{is_nonempty, is_root, names_of}
 use Rattle.dav_core.specs.PathEnds.{onto_end, without_end, before_last_name, parent_bytes}
 
 -- a byte at the end that passes is left out
@@ -57,7 +57,7 @@ pub parent_front : (bytes : List ℕ) → (rest : List ℕ) × (bytes ≡ parent
 parent_front bytes =
     let (a, e) = without_end_front (λ b. b == 47) bytes in
     let (b, f) = without_end_front (λ b. not (b == 47)) (without_end (λ b. b == 47) bytes) in
-    elim (cases_Bool (is_nonempty (before_last_name bytes))) [
+    elim (cases_Bool (is_nonempty (before_last_name bytes) || not (is_root (names_of bytes)))) [
       | inl h ↦ (b ++ a, rw h (e ∙ ap (λ ys. ys ++ a) f ∙ append_assoc (before_last_name bytes) b a))
       | inr h ↦ ([], rw h (sym (append-nil bytes)))
     ]

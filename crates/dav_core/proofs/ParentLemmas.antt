@@ -1,17 +1,17 @@
 -- The parent of a path: what the code takes off is the last segment, and the slashes after it.
-use Rattle.std.proofs.Common.{◌≡◌, ◌≢◌, ℕ, ◌==◌, Bool, true, false, not, cond, List, [], ◌∷◌, ◌++◌, All, ◌⊎◌, inl, inr, refl, sym, ap, subst, ◌∙◌, arith, append_assoc}
+use Rattle.std.proofs.Common.{◌≡◌, ◌≢◌, ℕ, ◌==◌, Bool, true, false, not, cond, if◌then◌else◌, List, [], ◌∷◌, ◌++◌, All, ◌⊎◌, inl, inr, refl, sym, ap, subst, ◌∙◌, arith, append_assoc, bytes_eq}
 use Rattle.std.proofs.lemmas.Bool.{cases_Bool, eqb-true}
 use Rattle.std.proofs.lemmas.Bool.Decides.{nat_tests}
 use Rattle.std.proofs.lemmas.List.{append-nil}
 use Rattle.std.proofs.lemmas.List.Elements.{All-contains, All-weaker, All-head, All-tail, All-cons, All-nil, Contains-push}
-use Rattle.dav_core.specs.Path.{Path, IsName, joined, path_bytes, is_collection, is_nonempty, parent_of, IsAbove, IsParent}
-use Rattle.dav_core.specs.PathEnds.{onto_end, without_end, before_last_name, parent_bytes}
-use Rattle.dav_core.specs.Laws.{ParentOfNames, OneParent}
+use Rattle.dav_core.specs.Path.{Path, IsName, IsSegment, joined, path_bytes, is_collection, is_nonempty, is_root, parent_of, star, names_in, names_of, IsAbove, IsParent}
+use Rattle.dav_core.specs.PathEnds.{onto_end, without_end, before_last_name, parent_by, parent_bytes}
+use Rattle.dav_core.specs.Laws.{ParentOfNames, ParentHasNames, OneParent}
 use Rattle.dav_core.proofs.TargetLemmas.{ending}
 use Rattle.dav_core.proofs.BufferLemmas.{snoc_cases, joined_push}
 use Rattle.dav_core.proofs.EndLemmas.{without_end_more, without_end_stop}
 use Rattle.dav_core.proofs.PathLemmas.{closed_at, open_at}
-use Rattle.dav_core.proofs.AddedLemmas.{name_is_segment}
+use Rattle.dav_core.proofs.AddedLemmas.{name_is_segment, names_at, names_other, not_star_at, one_name}
 use Rattle.dav_core.proofs.Tests.{no_slash}
 
 -- what is taken off the end of a text, and what the rest ends in
@@ -127,11 +127,20 @@ above_found bytes some =
       | inr (front, c, e, slash) ↦ above_by bytes a b front (e ∙ ap (λ d. front ++ d ∷ []) (slash_from c slash))
     ]
 
+empty_by : (xs : List ℕ) → is_nonempty xs ≡ false → xs ≡ []
+empty_by [] e = refl
+empty_by (x ∷ xs) e = cc
+
+-- where nothing is above, by whether the path has names
+alone_by : (bytes : List ℕ) → is_nonempty (before_last_name bytes) ≡ false → (root : Bool) → parent_by root bytes ≡ (if root then bytes else [])
+alone_by bytes none true = rw none refl
+alone_by bytes none false = rw none (empty_by (before_last_name bytes) none)
+
 pub parent_is : (bytes : List ℕ) → IsParent bytes (parent_bytes bytes)
 parent_is bytes =
     elim (cases_Bool (is_nonempty (before_last_name bytes))) [
       | inl some ↦ rw some (inl (above_found bytes some))
-      | inr none ↦ rw none (inr (refl, none_above bytes none))
+      | inr none ↦ inr (alone_by bytes none (is_root (names_of bytes)), none_above bytes none)
     ]
 
 pub one_parent : OneParent
@@ -147,15 +156,79 @@ parent_as bytes lent parent given same is h =
 
 -- ---- of names
 
-slashes : (closed : Bool) → All (λ b. b ≡ 47) (ending closed)
-slashes true = All-cons (λ b. b ≡ 47) 47 [] refl (All-nil (λ b. b ≡ 47))
-slashes false = All-nil (λ b. b ≡ 47)
-
 -- without the last name
 parent_of_push : (init : Path) (last : List ℕ) → parent_of (init ++ last ∷ []) ≡ init
 parent_of_push [] last = refl
 parent_of_push (x ∷ []) last = refl
 parent_of_push (x ∷ y ∷ init) last = ap (λ p. x ∷ p) (parent_of_push (y ∷ init) last)
+
+only_slashes : (bs : List ℕ) → All (λ b. b ≡ 47) bs → names_in bs ≡ []
+only_slashes [] all = refl
+only_slashes (b ∷ bs) all =
+    ap (λ (c : ℕ). names_in (c ∷ bs)) (All-head (λ c. c ≡ 47) b bs all) ∙ names_at [] bs ∙ only_slashes bs (All-tail (λ c. c ≡ 47) b bs all)
+
+-- slashes after a text add no name
+slashes_after : (n bs : List ℕ) → All (λ b. b ≡ 47) bs → names_in (n ++ bs) ≡ names_in n
+slashes_after n [] all = ap names_in (append-nil n)
+slashes_after n (b ∷ bs) all =
+    ap (λ (c : ℕ). names_in (n ++ c ∷ bs)) (All-head (λ c. c ≡ 47) b bs all) ∙ names_at n bs
+    ∙ ap (λ ns. names_in n ++ ns) (only_slashes bs (All-tail (λ c. c ≡ 47) b bs all)) ∙ append-nil (names_in n)
+
+one_is_last : (n : List ℕ) → IsSegment n → parent_of (names_in n) ≡ []
+one_is_last n segment = ap parent_of (one_name n segment)
+
+-- a text without slashes has one name at most
+few_at : (n : List ℕ) → All (λ b. b ≢ 47) n → parent_of (names_in n) ≡ []
+few_at [] clean = refl
+few_at (b ∷ n) clean = one_is_last (b ∷ n) ((λ e. cc), clean)
+
+few_names_in : (bytes : List ℕ) → is_nonempty (before_last_name bytes) ≡ false → parent_of (names_in bytes) ≡ []
+few_names_in bytes none =
+    let a = ends (λ b. b == 47) bytes in
+    let b = ends (λ b. not (b == 47)) (without_end (λ b. b == 47) bytes) in
+    let whole : bytes ≡ b.rest ++ a.rest = a.whole ∙ ap (λ ys. ys ++ a.rest) (b.whole ∙ ap (λ ys. ys ++ b.rest) (empty_by (before_last_name bytes) none)) in
+    ap (λ ys. parent_of (names_in ys)) whole
+    ∙ ap parent_of (slashes_after b.rest a.rest (All-weaker (λ c. (c == 47) ≡ true) (λ c. c ≡ 47) (λ c e. eqb-true c 47 e) a.rest a.all))
+    ∙ few_at b.rest (All-weaker (λ c. not (c == 47) ≡ true) (λ c. c ≢ 47) none_is_slash b.rest b.all)
+
+-- where nothing is above, there is one name at most
+few_by : (bytes : List ℕ) → parent_of (names_in bytes) ≡ [] → (is_star : Bool) → parent_of (cond is_star [] (names_in bytes)) ≡ []
+few_by bytes few true = refl
+few_by bytes few false = few
+
+nothing_above : (bytes : List ℕ) → ((q : List ℕ) → ¬ IsAbove q bytes) → parent_of (names_of bytes) ≡ []
+nothing_above bytes none =
+    elim (cases_Bool (is_nonempty (before_last_name bytes))) [
+      | inl some ↦ absurd (none (before_last_name bytes) (above_found bytes some))
+      | inr empty ↦ few_by bytes (few_names_in bytes empty) (bytes_eq bytes star)
+    ]
+
+no_names_by : (ns : Path) → is_root ns ≡ true → ns ≡ []
+no_names_by [] e = refl
+no_names_by (n ∷ ns) e = cc
+
+alone_names : (bytes parent : List ℕ) (root : Bool) → is_root (names_of bytes) ≡ root → parent ≡ (if root then bytes else []) → names_of parent ≡ []
+alone_names bytes parent true root is = ap names_of is ∙ no_names_by (names_of bytes) root
+alone_names bytes parent false root is = ap names_of is
+
+above_names : (bytes parent : List ℕ) → IsAbove parent bytes → names_of parent ≡ parent_of (names_of bytes)
+above_names bytes parent h =
+    let whole : bytes ≡ h.front ++ 47 ∷ (h.segment ++ h.slashes) = h.whole ∙ append_assoc parent h.segment h.slashes ∙ ap (λ ys. ys ++ (h.segment ++ h.slashes)) h.ends ∙ append_assoc h.front (47 ∷ []) (h.segment ++ h.slashes) in
+    let last : names_in (h.segment ++ h.slashes) ≡ h.segment ∷ [] = slashes_after h.segment h.slashes h.closing ∙ one_name h.segment h.named in
+    let all : names_of bytes ≡ names_in h.front ++ h.segment ∷ [] =
+    ap names_of whole ∙ names_other (h.front ++ 47 ∷ (h.segment ++ h.slashes)) (not_star_at h.front (h.segment ++ h.slashes)) ∙ names_at h.front (h.segment ++ h.slashes)
+    ∙ ap (λ ns. names_in h.front ++ ns) last in
+    ap names_of h.ends ∙ names_other (h.front ++ 47 ∷ []) (not_star_at h.front []) ∙ names_at h.front [] ∙ append-nil (names_in h.front)
+    ∙ sym (ap parent_of all ∙ parent_of_push (names_in h.front) h.segment)
+
+-- the parent has all names but the last
+pub parent_names : ParentHasNames
+parent_names bytes parent (inl h) = above_names bytes parent h
+parent_names bytes parent (inr h) = alone_names bytes parent (is_root (names_of bytes)) refl h.0 ∙ sym (nothing_above bytes h.1)
+
+slashes : (closed : Bool) → All (λ b. b ≡ 47) (ending closed)
+slashes true = All-cons (λ b. b ≡ 47) 47 [] refl (All-nil (λ b. b ≡ 47))
+slashes false = All-nil (λ b. b ≡ 47)
 
 -- names with a slash at the end
 closed_path : (init : Path) → path_bytes init true ≡ joined init ++ 47 ∷ []

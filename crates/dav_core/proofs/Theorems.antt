@@ -16,7 +16,7 @@ pub use Rattle.dav_core.proofs.NamedLemmas.{named_once}
 pub use Rattle.dav_core.proofs.NodesAfter.{find-prune, find-moved, adjust_keeps_order, left_true, right_true, sorted-prune, touched_is_modified, both_true, sorted-graft, sorted-moved}
 pub use Rattle.dav_core.proofs.NodesLemmas.{find-adjust, find-put_node, path-itself, same_path, turned, path_exact, path_total, sorted-change, sorted-put_node}
 pub use Rattle.dav_core.proofs.OutcomeLemmas.{read_or_refused}
-pub use Rattle.dav_core.proofs.ParentLemmas.{names_parent, one_parent}
+pub use Rattle.dav_core.proofs.ParentLemmas.{names_parent, one_parent, parent_names}
 pub use Rattle.dav_core.proofs.SharedLemmas.{granted_are_shared, unlocked_are_shared, refreshed_are_shared, deleted_are_shared, none_are_shared, All-without_first, All-change_first, CoveringWay, covering_way}
 pub use Rattle.dav_core.proofs.StepLemmas.{went_on, found, left, went_if}
 pub use Rattle.dav_core.proofs.TargetLemmas.{Leaves-names, names_kept, Reads-one, Reads-valid, Reads-allowed, refused_once}

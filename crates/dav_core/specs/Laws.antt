@@ -142,6 +142,10 @@ ParentOfNames =
     (ns : Path) (closed : Bool)
     → All IsName ns → IsParent (path_bytes ns closed) (path_bytes (parent_of ns) true)
 
+-- and, whatever the bytes of a path are, its parent has all of its names but the last
+abbrev pub ParentHasNames : Type 0
+ParentHasNames = (bytes parent : List ℕ) → IsParent bytes parent → names_of parent ≡ parent_of (names_of bytes)
+
 -- a path has one parent
 abbrev pub OneParent : Type 0
 OneParent = (bytes a b : List ℕ) → IsParent bytes a → IsParent bytes b → a ≡ b

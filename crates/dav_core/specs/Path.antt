@@ -147,10 +147,12 @@ pub record IsAbove (parent bytes : List ℕ) : Type 0 where
   pub closing : All (λ b. b ≡ 47) slashes
   pub whole : bytes ≡ parent ++ segment ++ slashes
 
--- The parent of a path: everything before its last segment. A path without a slash before a segment, as the root and the
--- star path, is its own parent.
+-- The parent of a path: everything before its last segment. A path without names, as the root and the star path, is its own
+-- parent; that of one name without a slash before it is empty.
 abbrev pub IsParent : List ℕ → List ℕ → Type 0
-IsParent bytes parent = IsAbove parent bytes ⊎ ((parent ≡ bytes) × ((q : List ℕ) → ¬ IsAbove q bytes))
+IsParent bytes parent =
+    IsAbove parent bytes
+    ⊎ ((parent ≡ (if is_root (names_of bytes) then bytes else [])) × ((q : List ℕ) → ¬ IsAbove q bytes))
 
 -- the last of the names, or nothing where there are none
 abbrev pub last_name : List ℕ → List ℕ

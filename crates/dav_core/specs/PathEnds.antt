@@ -1,6 +1,6 @@
 -- The end of a path, as the code takes it off.
-use Rattle.std.specs.Prelude.{ℕ, ◌==◌, Bool, not, if◌then◌else◌, List, [], ◌∷◌}
-use Rattle.dav_core.specs.Path.{is_nonempty}
+use Rattle.std.specs.Prelude.{ℕ, ◌==◌, Bool, not, ◌||◌, if◌then◌else◌, List, [], ◌∷◌}
+use Rattle.dav_core.specs.Path.{is_nonempty, is_root, names_of}
 
 -- a byte before a text, which is left out where it passes p and no text follows
 abbrev pub onto_end : (ℕ → Bool) → ℕ → List ℕ → List ℕ
@@ -16,6 +16,9 @@ without_end p (b ∷ bs) = onto_end p b (without_end p bs)
 abbrev pub before_last_name : List ℕ → List ℕ
 before_last_name bytes = without_end (λ b. not (b == 47)) (without_end (λ b. b == 47) bytes)
 
--- and that is the parent, where it isn't empty; else the path is its own parent
+-- and that is the parent; but where it is empty, a path without names is its own parent
+abbrev pub parent_by : Bool → List ℕ → List ℕ
+parent_by is_root bytes = if is_nonempty (before_last_name bytes) || not is_root then before_last_name bytes else bytes
+
 abbrev pub parent_bytes : List ℕ → List ℕ
-parent_bytes bytes = if is_nonempty (before_last_name bytes) then before_last_name bytes else bytes
+parent_bytes bytes = parent_by (is_root (names_of bytes)) bytes

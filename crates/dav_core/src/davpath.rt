@@ -163,8 +163,8 @@ impl DavPath {
         self.as_ref().as_rel_ospath()
     }
 
-    /// The parent, after the same prefix: the path up to and with the slash before its last name; the root and `*` are their
-    /// own parents.
+    /// The parent, after the same prefix: the path up to and with the slash before its last name, empty where that name is the
+    /// first and no slash is before it; the root and `*` are their own parents. It has all names but the last.
     pub fn parent(&self) -> Result<DavPath, NoMemory>
         ensures prefix { IfOk result (λ p. p.prefix ≡ self.now.prefix) }
         ensures parent { IfOk result (λ p. IsParent self.now.bytes p.bytes) }
@@ -314,7 +314,7 @@ pub struct DavPathRef<'a> {
 impl<'a> DavPathRef<'a> {
     ghost use Rattle.std.specs.Prelude.{◌≡◌, ◌≢◌, ⊤, [], None, IfOk, string_bytes, option_copied};
     ghost use Rattle.std.specs.List.{last_or};
-    ghost use Rattle.dav_core.specs.Path.{is_collection, last_name, names_of, IsParent, without_first_slash};
+    ghost use Rattle.dav_core.specs.Path.{is_collection, is_root, last_name, names_of, IsParent, without_first_slash};
     ghost use Rattle.dav_core.specs.PathRef.{ref_bytes, names_left, GivesText};
     ghost use Rattle.dav_core.specs.UrlText.{IsTextOf};
 
@@ -332,13 +332,21 @@ impl<'a> DavPathRef<'a> {
         ends::is_collection(self.bytes)
     }
 
-    /// The parent: the path up to and with the slash before its last name; the root and `*` are their own parents.
+    /// The parent: the path up to and with the slash before its last name, empty where that name is the first and no slash
+    /// is before it; the root and `*` are their own parents.
     pub fn parent(self) -> DavPathRef<'a>
         ensures { IsParent (ref_bytes self.entry) (ref_bytes result) }
     {
         DavPathRef {
-            bytes: ends::parent(self.bytes),
+            bytes: ends::parent(self.bytes, self.is_root()),
         }
+    }
+
+    // Whether the path has no names.
+    fn is_root(self) -> bool
+        ensures { result ≡ is_root (names_of (ref_bytes self.entry)) }
+    {
+        self.segments().next().is_none()
     }
 
     /// The last name; empty where there is none.

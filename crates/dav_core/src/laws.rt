@@ -3,7 +3,7 @@
 pub mod calls;
 
 ghost use Rattle.std.specs.Prelude.{◌≡◌, [], ◌∷◌};
-ghost use Rattle.dav_core.specs.Laws.{LeavesOnePath, LeavesNoFault, OneFault, ReadsOnePath, ReadIsNotRefused, OneRefusal, ReadOrRefused, KeepsNames, ReadsNames, StarHasNoNames, ReadsAgain, NamesReadAgain, SameText, SlashKeepsNames, AddsName, AddsSegment, SlashAddsNoName, MemberIsNoStar, FewNames, NamesAreSegments, NameIsSegment, ParentOfNames, OneParent, CutsAtNames, CutKeepsNames, OneCut, EmptyIsWorld, NewKeepsWorld, ChangeKeepsWorld, OneMethod, NameNames, MembersAreHad, SameMethodsSameSet, EqualToItself, EqualBothWays, EqualThrough};
+ghost use Rattle.dav_core.specs.Laws.{LeavesOnePath, LeavesNoFault, OneFault, ReadsOnePath, ReadIsNotRefused, OneRefusal, ReadOrRefused, KeepsNames, ReadsNames, StarHasNoNames, ReadsAgain, NamesReadAgain, SameText, SlashKeepsNames, AddsName, AddsSegment, SlashAddsNoName, MemberIsNoStar, FewNames, NamesAreSegments, NameIsSegment, ParentOfNames, ParentHasNames, OneParent, CutsAtNames, CutKeepsNames, OneCut, EmptyIsWorld, NewKeepsWorld, ChangeKeepsWorld, OneMethod, NameNames, MembersAreHad, SameMethodsSameSet, EqualToItself, EqualBothWays, EqualThrough};
 ghost use Rattle.dav_core.specs.LockLaws.{FreeHoldsExclusive, FreeHoldsOwn, FreeDeepHoldsBelow, FreeIsNoConflict, GrantedCanBeUnlocked, TakenBack, CoveringAreShared, GrantedAreShared, UnlockedAreShared, RefreshedAreShared, DeletedAreShared, UnlockTakesOne, RefreshChangesOne, DiscoveredAreCovering};
 ghost use Rattle.dav_core.specs.Method.{all_methods, methods_in};
 
@@ -49,8 +49,8 @@ pub fn equal_paths_are_alike()
     ensures transitive { EqualThrough }
 {}
 
-/// A slash at the end changes no name, a name or segment that is added is the last, and the parent has all names but the
-/// last. A path has no more names than bytes, and the path of a member is never `*`. A path that is cut after a prefix has
+/// A slash at the end changes no name, a name or segment that is added is the last, and the parent of any path has all names
+/// but the last. A path has no more names than bytes, and the path of a member is never `*`. A path that is cut after a prefix has
 /// the names that follow those of the prefix. A path has one parent, and a prefix cuts it in one way.
 pub fn names_are_added()
     ensures slash { SlashKeepsNames }
@@ -62,6 +62,7 @@ pub fn names_are_added()
     ensures parent { ParentOfNames }
     ensures cut { CutsAtNames }
     ensures after { CutKeepsNames }
+    ensures names { ParentHasNames }
     ensures one_parent { OneParent }
     ensures one_cut { OneCut }
 {}

@@ -9,11 +9,11 @@ use Rattle.dav_core.specs.declared.errors.DavError.TheVariants as dav
 use Rattle.dav_core.specs.declared.errors.ParseError.{ParseError}
 use Rattle.dav_core.specs.declared.errors.ParseError.TheVariants as parse
 use Rattle.dav_core.specs.CallLaws.{IsStorable}
-use Rattle.dav_core.specs.Path.{Path, PathText, IsName, names, names_of, full_bytes, path_bytes, parent_of, star, IsCut, HasNoCut, IsParent, without_slash}
+use Rattle.dav_core.specs.Path.{Path, PathText, IsName, names, names_of, full_bytes, path_bytes, star, IsCut, HasNoCut, without_slash}
 use Rattle.dav_core.specs.PathRef.{IsCutRefused}
 use Rattle.dav_core.specs.Status.{path_error}
 use Rattle.dav_core.specs.Target.{Reads}
-use Rattle.dav_core.proofs.Theorems.{cut_keeps_names, names_kept, Leaves-names, Reads-bytes, one_parent, names_parent}
+use Rattle.dav_core.proofs.Theorems.{cut_keeps_names, names_kept, Leaves-names, Reads-bytes}
 use Rattle.dav_headers.specs.Destination.{IsDestination, IsDestinationText, from_slash}
 use Rattle.dav_headers.specs.Value.{Decodes, only_text}
 use Rattle.dav_engine.specs.Copied.{IsPlain}
@@ -114,14 +114,3 @@ path_other (n ∷ ns) closed e = let same : ◌≡◌ {A = ℕ} 47 42 = cc in ab
 -- a plain path is no star path
 pub plain_other : (d : PathText) → IsPlain d → d.bytes ≢ star
 plain_other d plain e = path_other (names d) plain.is_closed (sym plain.bytes_are ∙ e)
-
-front_names : (ns : Path) → All IsName ns → All IsName (parent_of ns)
-front_names [] all = all
-front_names (x ∷ []) all = All-tail IsName x [] all
-front_names (x ∷ y ∷ ns) all = All-cons IsName x (parent_of (y ∷ ns)) (All-head IsName x (y ∷ ns) all) (front_names (y ∷ ns) (All-tail IsName x (y ∷ ns) all))
-
--- its parent has all names but the last
-pub plain_parent : (d parent : PathText) → IsPlain d → IsParent d.bytes parent.bytes → names parent ≡ parent_of (names d)
-plain_parent d parent plain is =
-    let above : IsParent d.bytes (path_bytes (parent_of (names d)) true) = subst (λ (b : List ℕ). IsParent b (path_bytes (parent_of (names d)) true)) (sym plain.bytes_are) (names_parent (names d) plain.is_closed plain.are_names) in
-    ap names_of (one_parent d.bytes parent.bytes (path_bytes (parent_of (names d)) true) is above) ∙ names_kept (parent_of (names d)) true (front_names (names d) plain.are_names)

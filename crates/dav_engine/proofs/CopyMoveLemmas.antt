@@ -19,7 +19,7 @@ use Rattle.dav_engine.specs.BackendView.{BackendView}
 use Rattle.dav_engine.specs.Client.{Client, requester}
 use Rattle.dav_engine.specs.Conditions.{Conditions, if_match_get_tokens}
 use Rattle.dav_engine.specs.ConditionView.{texts_of, tokens_or_status}
-use Rattle.dav_engine.specs.Copied.{Copied, copied, Copies, all_copied, some_left, no_memory, FollowsLater, IsPlain}
+use Rattle.dav_engine.specs.Copied.{Copied, copied, Copies, all_copied, some_left, no_memory, FollowsLater}
 use Rattle.dav_engine.specs.Copying.{CopyFault, copy_report, last_refusal, CopyWalk, copy_seen, copy_members, copy_listed, copy_inside, copy_kind, copy_looked, copy, copying, renaming}
 use Rattle.dav_engine.specs.CopyMove.{CopyHeaders, AreCopyHeaders, DestinationNames, is_move, copy_depth, destination_found, paths_free, folders_free, copy_free, copy_allowed, changes_members, is_replaced, clearing, drop_if, drop_if_moved, copied_status, copy_reply, bringing, bring_if_clear, copy_found, copy_or_move}
 use Rattle.dav_engine.specs.CopyView.{result_of}
@@ -501,18 +501,6 @@ clearing_stops deep d {there = there} {one} {old = old} {new} same is stop =
 pub brings_as : (moves deep : Bool) (now : ℕ) (p d : PathText) {seen there : Option DavMetaData} {old new : StoreState} {ls ms : Locks} {r : Result Response DavError}
     → seen ≡ there → Follows as_is (bring_if_clear moves deep now p d seen []) old ls r new ms → Follows as_is (bring_if_clear moves deep now p d there []) old ls r new ms
 brings_as moves deep now p d {old = old} {new} {ls} {ms} {r} is more = subst (λ (o : Option DavMetaData). Follows as_is (bring_if_clear moves deep now p d o []) old ls r new ms) is more
-
--- what Destination names is plain
-pub destination_plain : {h k : CopyHeaders} (d : PathText) → h ≡ k → h.destination ≡ Ok d → IfOk k.destination (λ q. IsPlain q) → IsPlain d
-destination_plain {h} {k} d same is plain =
-    subst (λ (r : Result PathText DavError). IfOk r (λ q. IsPlain q)) (sym (ap (λ (x : CopyHeaders). x.destination) same) ∙ is) plain
-
-any_plain : {prefix : List ℕ} {values : List FieldValue} (r : Result PathText DavError) → DestinationNames prefix values r → IfOk r (λ q. IsPlain q)
-any_plain (Ok d) named = (place_by d named refl).plain
-any_plain (Err e) named = tt
-
-pub headers_plain : {headers : Headers} {p : PathText} (h : CopyHeaders) → AreCopyHeaders headers p h → IfOk h.destination (λ q. IsPlain q)
-headers_plain h are = any_plain h.destination are.destination
 
 -- a part that was carried out on a store was carried out on the state of a backend of it
 pub copies_lent : {F A : Type 0} {plan : MethodPlan (List CopyFault)} {fs : F} {locks : Option A} {s t : StoreState} {ls : Locks} {before after : List PathStatus} {r : Result (Unit {0}) DavError} (old : BackendView F A)

@@ -4,7 +4,6 @@ ghost use Rattle.std.specs.Option.{option_copied};
 ghost use Rattle.dav_core.specs.Locks.{requester_of};
 ghost use Rattle.dav_core.specs.Path.{names, is_root};
 ghost use Rattle.dav_engine.specs.ConditionView.{locks_in};
-ghost use Rattle.dav_engine.specs.Copied.{IsPlain};
 ghost use Rattle.dav_engine.specs.Follows.{Sets};
 ghost use Rattle.dav_engine.specs.Method.{is_open, is_open_parent, require_parent, require_member};
 
@@ -46,7 +45,6 @@ pub fn is_parent_open<L: DavLockSystem>(
     principal: Option<&str>,
     tokens: &[String],
 ) -> Result<bool, NoMemory>
-    requires { IsPlain path.now }
     ensures { IfOk result (λ b. b ≡ is_open_parent
         (requester_of (map string_bytes tokens.now) false (option_copied principal.entry))
         (names path.now) (locks_in L.locks ls.entry)) }
@@ -67,7 +65,6 @@ pub fn parent_allowed<L: DavLockSystem>(
     tokens: &[String],
     locked: DavError,
 ) -> DavResult<()>
-    requires { IsPlain path.now }
     ensures { Sets (λ u. u) (require_parent wanted
         (requester_of (map string_bytes tokens.now) false (option_copied principal.entry))
         (names path.now) locked) (locks_in L.locks ls.entry) result (locks_in L.locks ls.entry) }
@@ -93,7 +90,6 @@ pub fn member_allowed<L: DavLockSystem>(
     tokens: &[String],
     locked: DavError,
 ) -> DavResult<()>
-    requires { IsPlain path.now }
     ensures { Sets (λ u. u) (require_member deep changes
         (requester_of (map string_bytes tokens.now) false (option_copied principal.entry))
         (names path.now) locked) (locks_in L.locks ls.entry) result (locks_in L.locks ls.entry) }

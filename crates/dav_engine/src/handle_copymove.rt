@@ -8,7 +8,7 @@ ghost use Rattle.dav_core.specs.World.{last_moment};
 ghost use Rattle.dav_core.specs.Path.{names, rest_after, is_at_or_under, star};
 ghost use Rattle.dav_engine.specs.AtWork.{KeepsLent, StaysLent, ServesFrom, CopyMoveOf};
 ghost use Rattle.dav_engine.specs.ConditionView.{locks_in};
-ghost use Rattle.dav_engine.specs.Copied.{Copies, FollowsLater, IsPlain};
+ghost use Rattle.dav_engine.specs.Copied.{Copies, FollowsLater};
 ghost use Rattle.dav_engine.specs.CopyMove as spec;
 ghost use Rattle.dav_engine.specs.CopyView.{result_of};
 ghost use Rattle.dav_engine.specs.Copying as walk;
@@ -95,7 +95,6 @@ fn destination_found<F: DavFileSystem>(
     overwrite: Option<bool>,
     destination: &DavPath,
 ) -> DavResult<Option<DavMetaData>>
-    requires plain { IsPlain destination.now }
     ensures { Makes as_is (spec.destination_found overwrite destination.now)
         (F.state fs.old) result (F.state fs.new) }
 {
@@ -161,8 +160,6 @@ fn folders_free<L: DavLockSystem>(
     principal: Option<&str>,
     tokens: &[String],
 ) -> DavResult<()>
-    requires source { IsPlain path.now }
-    requires destination { IsPlain destination.now }
     ensures { Sets (λ u. u) (spec.folders_free moves changes
         (requester_of (map string_bytes tokens.now) false (option_copied principal.entry))
         path.now destination.now)
@@ -186,8 +183,6 @@ fn copy_free<F: DavFileSystem, L: DavLockSystem>(
     found: &DavMetaData,
     there: Option<&DavMetaData>,
 ) -> DavResult<()>
-    requires source { IsPlain path.now }
-    requires destination { IsPlain destination.now }
     ensures { Heeds (locks_in L.locks ls.entry) (λ u. u)
         (spec.copy_free method deep conditions.now path.now destination.now caller.now found.now
         (option_copied there.entry))
@@ -220,8 +215,6 @@ fn copy_allowed<F: DavFileSystem, L: DavLockSystem>(
     caller: &Caller<'_>,
     found: &DavMetaData,
 ) -> DavResult<Option<DavMetaData>>
-    requires source { IsPlain path.now }
-    requires plain { IsPlain destination.now }
     ensures { Heeds (locks_in L.locks ls.entry) as_is
         (spec.copy_allowed method deep headers.now path.now destination.now caller.now found.now)
         (F.state fs.old) result (F.state fs.new) }
@@ -403,8 +396,6 @@ fn copy_found<F: DavFileSystem, L: DavLockSystem>(
 ) -> DavResult<Reply>
     requires moment { caller.now.moment ≤ last_moment }
     requires path { path.now.bytes ≢ star }
-    requires source { IsPlain path.now }
-    requires plain { IsPlain destination.now }
     ensures { Follows as_is (spec.copy_found method deep headers.now path.now destination.now
         caller.now found.now)
         (F.state fs.old) (option_map L.locks ls.old) result
@@ -459,8 +450,6 @@ fn copy_or_move<F: DavFileSystem, L: DavLockSystem>(
 ) -> DavResult<Reply>
     requires moment { caller.now.moment ≤ last_moment }
     requires path { path.now.bytes ≢ star }
-    requires source { IsPlain path.now }
-    requires plain { IfOk headers.now.destination (λ d. IsPlain d) }
     ensures { Follows as_is (spec.copy_or_move method headers.now path.now caller.now)
         (F.state fs.old) (option_map L.locks ls.old) result
         (F.state fs.new) (option_map L.locks ls.new) }
@@ -563,7 +552,6 @@ impl<'a, 'b, 'c, F: DavFileSystem, L: DavLockSystem> DavInner<'a, 'b, 'c, F, L> 
     ) -> DavResult<Reply>
         requires moment { self.old.caller.now.moment ≤ last_moment }
         requires path { request.now.path.bytes ≢ star }
-        requires plain { IsPlain request.now.path }
         ensures lent { StaysLent self.old self.new }
         ensures serves { ServesFrom (CopyMoveOf request.now) self.old result self.new }
     {

@@ -10,7 +10,6 @@ ghost use Rattle.dav_engine.specs.AtWork.{KeepsLent, StaysLent, ServesFrom, Dele
 ghost use Rattle.dav_engine.specs.ConditionView.{locks_in};
 ghost use Rattle.dav_engine.specs.Delete.{delete_allowed, delete_found, deleting};
 ghost use Rattle.dav_engine.specs.Delete as spec;
-ghost use Rattle.dav_engine.specs.Copied.{IsPlain};
 ghost use Rattle.dav_engine.specs.Follows.{as_is, Follows, Heeds};
 ghost use Rattle.dav_engine.specs.Headers.{Decodes};
 ghost use Rattle.dav_engine.specs.Removal.{removal};
@@ -76,7 +75,6 @@ fn allowed<F: DavFileSystem, L: DavLockSystem>(
     caller: &Caller<'_>,
     found: &DavMetaData,
 ) -> DavResult<()>
-    requires { IsPlain path.now }
     ensures { Heeds (locks_in L.locks ls.entry) (λ u. u)
         (delete_allowed conditions.now path.now caller.now found.now)
         (F.state fs.old) result (F.state fs.new) }
@@ -142,7 +140,6 @@ fn delete_found<F: DavFileSystem, L: DavLockSystem>(
 ) -> DavResult<Reply>
     requires moment { caller.now.moment ≤ last_moment }
     requires path { path.now.bytes ≢ star }
-    requires plain { IsPlain path.now }
     ensures { Follows as_is (delete_found deep conditions.now path.now caller.now found.now)
         (F.state fs.old) (option_map L.locks ls.old) result
         (F.state fs.new) (option_map L.locks ls.new) }
@@ -168,7 +165,6 @@ fn delete<F: DavFileSystem, L: DavLockSystem>(
 ) -> DavResult<Reply>
     requires moment { caller.now.moment ≤ last_moment }
     requires path { path.now.bytes ≢ star }
-    requires plain { IsPlain path.now }
     ensures { Follows as_is (deleting conditions.now depth path.now caller.now)
         (F.state fs.old) (option_map L.locks ls.old) result
         (F.state fs.new) (option_map L.locks ls.new) }
@@ -199,7 +195,6 @@ impl<'a, 'b, 'c, F: DavFileSystem, L: DavLockSystem> DavInner<'a, 'b, 'c, F, L> 
     ) -> DavResult<Reply>
         requires moment { self.old.caller.now.moment ≤ last_moment }
         requires path { request.now.path.bytes ≢ star }
-        requires plain { IsPlain request.now.path }
         ensures lent { StaysLent self.old self.new }
         ensures serves { ServesFrom (DeleteOf request.now) self.old result self.new }
     {

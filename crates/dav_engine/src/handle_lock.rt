@@ -14,7 +14,6 @@ ghost use Rattle.dav_engine.specs.AtWork.{KeepsLent, StaysLent, KeepsWorld, Foll
 ghost use Rattle.dav_engine.specs.Client.{requester};
 ghost use Rattle.dav_engine.specs.Conditions.{submitted};
 ghost use Rattle.dav_engine.specs.ConditionView.{texts_of, locks_in};
-ghost use Rattle.dav_engine.specs.Copied.{IsPlain};
 ghost use Rattle.dav_engine.specs.Folder.{location_found, with_location};
 ghost use Rattle.dav_engine.specs.Follows.{as_is, Sets, viewed};
 ghost use Rattle.dav_engine.specs.Lock as spec;
@@ -168,7 +167,6 @@ fn folder_allowed<L: DavLockSystem>(
     caller: &Caller<'_>,
     makes: bool,
 ) -> DavResult<()>
-    requires { IsPlain path.now }
     ensures { Sets (λ u. u) (require_parent makes
         (requester caller.now (submitted conditions.now.lists)) (names path.now)
         (DavError.Status 423)) (locks_in L.locks ls.entry) result (locks_in L.locks ls.entry) }
@@ -431,7 +429,6 @@ impl<'a, 'b, 'c, F: DavFileSystem, L: DavLockSystem> DavInner<'a, 'b, 'c, F, L> 
         found: Option<&DavMetaData>,
     ) -> DavResult<DavLock>
         requires moment { self.old.caller.now.moment ≤ last_moment }
-        requires plain { IsPlain path.now }
         ensures lent { KeepsLent self.old self.new }
         ensures plan { FollowsOn as_is (λ who. spec.asked_lock headers.now path.now body.now who
             (option_copied found.entry)) self.old result self.new }
@@ -476,7 +473,6 @@ impl<'a, 'b, 'c, F: DavFileSystem, L: DavLockSystem> DavInner<'a, 'b, 'c, F, L> 
         found: Option<&DavMetaData>,
     ) -> DavResult<Reply>
         requires moment { self.old.caller.now.moment ≤ last_moment }
-        requires plain { IsPlain path.now }
         ensures lent { StaysLent self.old self.new }
         ensures plan { FollowsOn as_is (λ who. spec.lock_new headers.now path.now
             (location_found (option_copied found.entry) request.now.path) body.now who
@@ -511,7 +507,6 @@ impl<'a, 'b, 'c, F: DavFileSystem, L: DavLockSystem> DavInner<'a, 'b, 'c, F, L> 
         found: Option<&DavMetaData>,
     ) -> DavResult<Reply>
         requires moment { self.old.caller.now.moment ≤ last_moment }
-        requires plain { IsPlain request.now.path }
         ensures lent { StaysLent self.old self.new }
         ensures plan { FollowsOn as_is (λ who. spec.lock_found headers.now request.now.path
             body.now who (option_copied found.entry)) self.old result self.new }
@@ -551,7 +546,6 @@ impl<'a, 'b, 'c, F: DavFileSystem, L: DavLockSystem> DavInner<'a, 'b, 'c, F, L> 
         body: &Body,
     ) -> DavResult<Reply>
         requires moment { self.old.caller.now.moment ≤ last_moment }
-        requires plain { IsPlain request.now.path }
         ensures lent { StaysLent self.old self.new }
         ensures serves { ServesFrom (LockOf request.now body.now) self.old result self.new }
         ensures memory { IsErrOf result DavError.Memory

@@ -4,7 +4,6 @@ ghost use Rattle.dav_core.specs.World.{last_moment};
 ghost use Rattle.dav_core.specs.Path.{names};
 ghost use Rattle.dav_engine.specs.AtWork.{KeepsLent, ServesFrom, MkcolOf};
 ghost use Rattle.dav_engine.specs.ConditionView.{locks_in};
-ghost use Rattle.dav_engine.specs.Copied.{IsPlain};
 ghost use Rattle.dav_engine.specs.Follows.{as_is, Heeds};
 ghost use Rattle.dav_engine.specs.Mkcol as spec;
 
@@ -57,7 +56,6 @@ fn allowed<F: DavFileSystem, L: DavLockSystem>(
     path: &DavPath,
     caller: &Caller<'_>,
 ) -> DavResult<()>
-    requires { IsPlain path.now }
     ensures { Heeds (locks_in L.locks ls.entry) (λ u. u)
         (spec.mkcol_allowed conditions.now path.now caller.now)
         (F.state fs.old) result (F.state fs.new) }
@@ -89,7 +87,6 @@ fn mkcol<F: DavFileSystem, L: DavLockSystem>(
     caller: &Caller<'_>,
 ) -> DavResult<Reply>
     requires moment { caller.now.moment ≤ last_moment }
-    requires plain { IsPlain path.now }
     ensures { Heeds (locks_in L.locks ls.entry) as_is
         (spec.mkcol conditions.now path.now caller.now)
         (F.state fs.old) result (F.state fs.new) }
@@ -116,7 +113,6 @@ impl<'a, 'b, 'c, F: DavFileSystem, L: DavLockSystem> DavInner<'a, 'b, 'c, F, L> 
         _body: &Body,
     ) -> DavResult<Reply>
         requires moment { self.old.caller.now.moment ≤ last_moment }
-        requires plain { IsPlain request.now.path }
         ensures lent { KeepsLent self.old self.new }
         ensures serves { ServesFrom (MkcolOf request.now) self.old result self.new }
     {

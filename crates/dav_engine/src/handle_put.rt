@@ -7,7 +7,6 @@ ghost use Rattle.dav_core.specs.Path.{names};
 ghost use Rattle.dav_engine.specs.AtWork.{KeepsLent, FollowsOn, ServesFrom, PutOf};
 ghost use Rattle.dav_engine.specs.Client.{requester};
 ghost use Rattle.dav_engine.specs.ConditionView.{locks_in};
-ghost use Rattle.dav_engine.specs.Copied.{IsPlain};
 ghost use Rattle.dav_engine.specs.Follows.{as_is, Makes};
 ghost use Rattle.dav_engine.specs.Plan.{Locks};
 ghost use Rattle.dav_engine.specs.Put as spec;
@@ -330,7 +329,6 @@ impl<'a, 'b, 'c, F: DavFileSystem, L: DavLockSystem> DavInner<'a, 'b, 'c, F, L> 
         body: &Body,
     ) -> DavResult<Reply>
         requires moment { self.old.caller.now.moment ≤ last_moment }
-        requires plain { IsPlain request.now.path }
         ensures lent { KeepsLent self.old self.new }
         ensures serves { ServesFrom (PutOf request.now body.now) self.old result self.new }
     {
@@ -351,7 +349,6 @@ impl<'a, 'b, 'c, F: DavFileSystem, L: DavLockSystem> DavInner<'a, 'b, 'c, F, L> 
         bytes: &Bytes,
     ) -> DavResult<Reply>
         requires moment { self.old.caller.now.moment ≤ last_moment }
-        requires plain { IsPlain request.now.path }
         ensures lent { KeepsLent self.old self.new }
         ensures plan { FollowsOn as_is (λ who. spec.put request.now.method headers.now
             (names request.now.path) who bytes.now) self.old result self.new }
@@ -381,7 +378,6 @@ impl<'a, 'b, 'c, F: DavFileSystem, L: DavLockSystem> DavInner<'a, 'b, 'c, F, L> 
         headers: &PutHeaders,
         bytes: &Bytes,
     ) -> DavResult<(Writing, bool)>
-        requires { IsPlain request.now.path }
         ensures lent { KeepsLent self.old self.new }
         ensures plan { FollowsOn as_is (λ who. spec.put_allowed request.now.method headers.now
             (names request.now.path) who bytes.now) self.old result self.new }

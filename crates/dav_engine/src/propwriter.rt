@@ -163,7 +163,7 @@ impl PropWriter {
     /// `allprop` for them and then all that every resource has; `propname` for names alone; `propertyupdate` for what became
     /// of changes. Under another name the given ones are followed by those that are told under `propname`.
     ///
-    /// `Memory` where memory runs out.
+    /// `Memory` where memory runs out; the reply then stays as it was.
     pub fn new(
         alloc: Global,
         request: &DavRequest,
@@ -175,6 +175,7 @@ impl PropWriter {
         ensures writer { IfOk result (λ w. w ≡ started (writer (telling_of name.now)
             request.now.headers (option_copied principal.entry) props.items)) }
         ensures reply { OnOk result (BeginsReply reply.old reply.new) }
+        ensures unchanged { OnErr result (reply.new ≡ reply.old) }
         ensures memory { IfErr result (λ e. e ≡ DavError.Memory) }
     {
         let telling = Telling::by_name(name);

@@ -1,5 +1,5 @@
 //! Replies (RFC 9110, sections 8 and 15).
-ghost use Rattle.std.specs.Prelude.{◌≡◌, ◌≤◌, codes, decimal, IfOk, IsOkAnd, OnOk};
+ghost use Rattle.std.specs.Prelude.{◌≡◌, ◌≤◌, codes, decimal, IfOk, IsOkAnd, OnOk, OnErr};
 ghost use Rattle.http_header.specs.HeaderMap.{insert};
 ghost use Rattle.http_header.specs.FieldValue.{plain_value};
 ghost use Rattle.dav_core.specs.Metadata.{tag_of};
@@ -66,7 +66,8 @@ pub fn set_header(
     name: HeaderName,
     value: HeaderValue,
 ) -> Result<(), NoMemory>
-    ensures { OnOk result (headers.new ≡ insert headers.old name value) }
+    ensures ok { OnOk result (headers.new ≡ insert headers.old name value) }
+    ensures err { OnErr result (headers.new ≡ headers.old) }
 {
     match headers.insert(name, value) {
         Ok(_) => Ok(()),
@@ -130,8 +131,9 @@ pub fn set_location(alloc: Global, headers: &mut HeaderMap, path: &DavPath) -> R
 
 /// Sets `content-type`: an element tree is sent as XML (RFC 4918, section 8.2).
 pub fn set_xml_type(headers: &mut HeaderMap) -> Result<(), NoMemory>
-    ensures { OnOk result (headers.new
+    ensures ok { OnOk result (headers.new
         ≡ insert headers.old (codes "content-type") (plain_value xml_type.1)) }
+    ensures err { OnErr result (headers.new ≡ headers.old) }
 {
     let xml = HeaderValue::from_static("application/xml; charset=utf-8");
     set_header(headers, names::CONTENT_TYPE(), xml)

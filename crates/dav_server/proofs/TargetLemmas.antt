@@ -16,8 +16,6 @@ use Rattle.dav_core.proofs.Theorems.{one_cut, Reads-one, Reads-valid, Reads-allo
 use Rattle.http_uri.proofs.UriLemmas.{cut_long}
 use Rattle.dav_server.specs.Target.{BeginsWithSlash, HasPathText, IsUnreadable, formless, invalid, climbing, TargetNames, server, reserved, unreadable, outside, path, OneOutcome}
 use Rattle.dav_server.specs.TargetCode.{GivesPath, GivesRead, GivesNamed, GivesCut, GivesTail}
-use Rattle.dav_engine.specs.Copied.{IsPlain}
-use Rattle.dav_engine.proofs.Theorems.{place_cut}
 
 -- a URI with these parts
 uri_of : (scheme authority behind : List ℕ) → Uri
@@ -240,8 +238,3 @@ read_no_star prefix text bytes p other (inr (ns, closed, named, is)) cut = cut_n
 pub target_is_path : {prefix target : List ℕ} {m : DavMethod} {p : PathText} → TargetNames prefix m target (Ok p) → m ≢ Options → p.bytes ≢ star
 target_is_path (server is options) other = absurd (other options)
 target_is_path {prefix} {target} (path {text} {bytes} {p} has reads cut) other = read_no_star (without_slash prefix) text bytes p (text_no_star target text has) reads cut
-
--- and it is one of names
-pub target_is_plain : {prefix target : List ℕ} {m : DavMethod} {p : PathText} → TargetNames prefix m target (Ok p) → m ≢ Options → IsPlain p
-target_is_plain (server is options) other = absurd (other options)
-target_is_plain {prefix} {target} (path {text} {bytes} {p} has reads cut) other = (place_cut text bytes (without_slash prefix) p (text_no_star target text has) reads cut).plain

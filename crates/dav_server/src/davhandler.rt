@@ -11,7 +11,6 @@ ghost use Rattle.dav_engine.specs.ConditionView.{locks_in};
 ghost use Rattle.dav_engine.specs.Lock.{is_absent};
 ghost use Rattle.dav_server.specs.Get.{GetOf};
 ghost use Rattle.dav_engine.specs.Response.{error_reply};
-ghost use Rattle.dav_engine.specs.Copied.{IsPlain};
 ghost use Rattle.dav_server.specs.HrefLaws.{ReplyLeadsBack};
 ghost use Rattle.dav_server.specs.Leaving.{SameContent, SafeLeaves, CreateOnlyLeaves, RefusedStatusLeaves, HasLockBody, AsksForLock, GrantsNothing};
 ghost use Rattle.dav_server.specs.Machine.{client, PlanOf, Means, MeansOf};
@@ -216,7 +215,6 @@ fn serve<F: DavFileSystem, L: DavLockSystem>(
     exchange: &Exchange<'_>,
 ) -> DavResult<Reply>
     requires path { request.now.method ≢ DavMethod.Options → request.now.path.bytes ≢ star }
-    requires plain { request.now.method ≢ DavMethod.Options → IsPlain request.now.path }
     requires served { IsServed request.now.method }
     ensures same { handler.new.server.settings ≡ handler.old.server.settings }
     ensures serves { Serves (PlanOf handler.old.server.settings.allowed request.now.headers

@@ -1,7 +1,7 @@
 //! The end of a path: the slash there, the last name, and what comes before it.
 ghost use Rattle.std.specs.Prelude.{◌≡◌, ◌≢◌, ℕ, List, MatchOption, ◌==◌, ◌++◌, [], ◌∷◌, not, if◌then◌else◌, OnOk, OnErr};
 ghost use Rattle.dav_core.specs.Path.{is_collection, without_first_slash, without_slash, trimmed, end_for};
-ghost use Rattle.dav_core.specs.PathEnds.{without_end, parent_bytes};
+ghost use Rattle.dav_core.specs.PathEnds.{without_end, parent_by};
 ghost use Rattle.dav_core.specs.PathRef.{CutsAt};
 
 use crate::errors::NoMemory;
@@ -93,12 +93,16 @@ fn through_last_slash(mut bytes: &[u8]) -> &[u8]
     bytes
 }
 
-/// The path up to and with the slash before its last name.
-pub(super) fn parent(bytes: &[u8]) -> &[u8]
-    ensures { result.now ≡ parent_bytes bytes.now }
+/// The path up to and with the slash before its last name; all of it where there is none and it has no names.
+pub(super) fn parent(bytes: &[u8], is_root: bool) -> &[u8]
+    ensures { result.now ≡ parent_by is_root bytes.now }
 {
     let front = through_last_slash(without_slashes(bytes));
-    if front.is_empty() { bytes } else { front }
+    if front.is_empty() && is_root {
+        bytes
+    } else {
+        front
+    }
 }
 
 /// Adds a slash, if it isn't there, and a name after it.

@@ -97,6 +97,12 @@ last |/a| -> |a|/| false true
 last |/| -> ||/| false true
 last |*| -> ||*| true false
 
+# The parent of a path with a slash added: of the one name that no slash is before it is empty
+above |/d/e| -> |/d/|
+above |/d| -> |/|
+above |/| -> |/|
+above |*| -> ||
+
 # The last name as text
 name |/| -> None
 name |*| -> None
@@ -217,6 +223,13 @@ fn last(alloc: Global, path: &DavPath) -> Result<String, NoMemory> {
     format!(in alloc; "{shown} {} {}", path.is_star(), parent.is_collection())
 }
 
+// The parent of a path with a slash added.
+fn above(alloc: Global, path: &DavPath) -> Result<String, NoMemory> {
+    let mut path = path.clone()?;
+    path.add_slash()?;
+    between_bars(alloc, &[path.parent()?.as_bytes()])
+}
+
 // The last name, the path, and the path without its first slash, as text.
 fn texts(alloc: Global, path: &DavPath) -> Result<String, NoMemory> {
     let (name, whole, inside) = (path.file_name(), path.as_pathbuf(), path.as_rel_ospath());
@@ -233,6 +246,7 @@ fn outcome_of_path(alloc: Global, name: &str, path: &DavPath) -> Result<String, 
         "slashes" => with_slashes(alloc, path),
         "collection" => format!(in alloc; "{}", path.is_collection()),
         "last" => last(alloc, path),
+        "above" => above(alloc, path),
         "name" => format!(in alloc; "{:?}", path.file_name()),
         "texts" => texts(alloc, path),
         _ => String::from_str(alloc, "nothing has this name"),
@@ -280,7 +294,7 @@ fn gives_paths(rt: HostRuntime) -> Result<(), Fail> {
             count = count.wrapping_add(1);
         }
     }
-    same(&rt, &count, &74);
+    same(&rt, &count, &78);
     Ok(())
 }
 

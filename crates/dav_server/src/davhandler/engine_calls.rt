@@ -2,7 +2,6 @@
 //! 9110 and RFC 4918.
 ghost use Rattle.std.specs.Prelude.{◌≤◌};
 ghost use Rattle.dav_core.specs.World.{last_moment};
-ghost use Rattle.dav_engine.specs.Copied.{IsPlain};
 
 use super::tests::{lock_for_anna, shown};
 use super::*;
@@ -197,22 +196,17 @@ pub(super) struct Engine<F: DavFileSystem + Drop, L: DavLockSystem + Drop> {
 impl<F: DavFileSystem + Drop, L: DavLockSystem + Drop> Engine<F, L> {
     /// The reply of a request's method.
     pub(super) fn handle(&mut self, alloc: Global, asked: &EngineRequest) -> DavResult<Reply> {
-        if asked.request.path.is_star() {
-            return Err(DavError::Status(StatusCode::FORBIDDEN));
-        }
-        self.handle_path(alloc, &asked.request, &asked.body)
-    }
-
-    // The reply of a request's method, where its target is a path.
-    fn handle_path(&mut self, alloc: Global, request: &DavRequest, body: &Body) -> DavResult<Reply>
-        requires { IsPlain request.now.path }
-    {
+        let request = &asked.request;
+        let body = &asked.body;
         let caller = &nobody(&request.path);
         let mut inner = DavInner {
             backend: &mut self.backend,
             allow: DavMethodSet::all(),
             caller,
         };
+        if request.path.is_star() {
+            return Err(DavError::Status(StatusCode::FORBIDDEN));
+        }
         match request.method {
             DavMethod::Put | DavMethod::Patch => inner.handle_put(alloc, request, body),
             DavMethod::MkCol => inner.handle_mkcol(alloc, request, body),

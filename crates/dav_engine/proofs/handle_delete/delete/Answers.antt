@@ -1,7 +1,6 @@
 use Rattle.std.proofs.Common.{sym, ◌∙◌}
 use Rattle.std.proofs.lemmas.Result.{err_from_is_err_and}
 use Rattle.dav_engine.proofs.DeleteLemmas.{depth_refused, metadata_refused, metadata_short, was_found}
-use Rattle.dav_engine.proofs.PlainLemmas.{closed_plain}
 use Rattle.dav_engine.proofs.handle_delete.delete.Goals as goal
 
 pub returns-in_err-deep : goal.returns-in_err-deep
@@ -20,6 +19,3 @@ returns-in_err-path g c =
 pub returns : goal.returns
 returns g c = was_found c.args.conditions.now c.args.depth c.args.path.now c.in_ok-path.path c.args.caller.now c.in_ok-deep.deep c.in-Ok.found _
     (sym c.whole_depth.ensures ∙ c.in_ok-deep.was) c.in-Ok.ensures.asks c.in_ok-path.ensures c.delete_found.ensures
-
-pub delete_found-requires-clause-plain : goal.delete_found-requires-clause-plain
-delete_found-requires-clause-plain g c = rw c.in_ok-path.ensures (closed_plain c.in-Ok.found.dir c.args.path.now c.requires.plain)

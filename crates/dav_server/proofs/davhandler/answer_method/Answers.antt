@@ -5,7 +5,7 @@ use Rattle.dav_engine.specs.Follows.{not_begun}
 use Rattle.dav_engine.specs.Lock.{is_absent}
 use Rattle.dav_server.specs.Machine.{client, PlanOf, not_allowed, no_path, no_body, body_for, taken_by}
 use Rattle.dav_server.proofs.StepLemmas.{serves_by, serves_error, path_at, handed_at}
-use Rattle.dav_server.proofs.TargetLemmas.{target_is_path, target_is_plain}
+use Rattle.dav_server.proofs.TargetLemmas.{target_is_path}
 use Rattle.dav_server.proofs.UngrantedLemmas.{lock_body}
 use Rattle.dav_server.proofs.davhandler.answer_method.Goals as goal
 
@@ -48,7 +48,7 @@ returns-clause-serves g c =
 pub serve-requires : goal.serve-requires
 serve-requires g c =
     let named = path_at c.args.method (Ok c.in_ok-path.path) (c.deref.ensures ∙ ap (λ h. h.server.settings.prefix) c.handler.view_is) c.target.ensures c.in_ok-path.ensures.path in
-    record { path = target_is_path named; plain = target_is_plain named; served = c.requires }
+    record { path = target_is_path named; served = c.requires }
 
 pub returns-clause-ungranted : goal.returns-clause-ungranted
 returns-clause-ungranted g c = λ memory lock has.

@@ -1,11 +1,7 @@
 use Rattle.dav_engine.specs.CopyMove.{is_copy_move}
 use Rattle.dav_engine.specs.Follows.{served}
-use Rattle.dav_engine.proofs.CopyMoveLemmas.{headers_plain}
 use Rattle.dav_engine.proofs.ModelLemmas.{serves_from}
 use Rattle.dav_engine.proofs.davinner.DavInner.handle_copymove.Goals as goal
-
-pub copy_or_move-requires-clause-plain : goal.copy_or_move-requires-clause-plain
-copy_or_move-requires-clause-plain g c = headers_plain c.in_ok-headers.headers c.in_ok-headers.ensures
 
 pub returns-clause-serves : goal.returns-clause-serves
 returns-clause-serves g c = serves_from c.args.self.now.backend.now c.backend.view_is (served _ (is_copy_move c.in_ok-headers.headers c.in_ok-headers.ensures) c.copy_or_move.ensures)
