@@ -22,7 +22,7 @@ use Rattle.dav_engine.specs.Copying.{CopyFault, refused_at, CopyWalk, copy_seen,
 use Rattle.dav_engine.specs.CopyMove.{CopyHeaders, DestinationNames, is_move, copy_depth, destination_found, source_free, copy_free, copy_allowed, changes_members, is_replaced, clearing, drop_if, drop_if_moved, copied_status, copy_reply, bringing, bring_if_clear, copy_found, copy_or_move, is_copy_move}
 use Rattle.dav_engine.specs.Folder.{closed, child_of, room_at, is_folder_found}
 use Rattle.dav_engine.specs.Guard.{folder_of, IsGuard, SubmitOnly}
-use Rattle.dav_engine.specs.Method.{MethodPlan, then as followed_by, ◌>>=◌, require, require_free, require_parent, gives, refused_as}
+use Rattle.dav_engine.specs.Method.{MethodPlan, then as followed_by, ◌>>=◌, require_free, require_parent, gives, refused_as}
 use Rattle.dav_engine.specs.Plan.{Done}
 use Rattle.dav_engine.specs.Response.{Response}
 use Rattle.dav_engine.specs.Removal.{Fault, removal}

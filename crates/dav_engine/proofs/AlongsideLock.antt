@@ -6,29 +6,24 @@ use Rattle.std.proofs.lemmas.Slice.Eq.{bytes_eq-Decides}
 use Rattle.dav_core.specs.declared.errors.FsError.{FsError}
 use Rattle.dav_core.specs.declared.errors.DavError.TheVariants as dav
 use Rattle.dav_core.specs.declared.fs.DavMetaData.{DavMetaData}
-use Rattle.dav_core.specs.declared.method.DavMethod.TheVariants as method
 use Rattle.dav_core.specs.Asking.{Metadata}
-use Rattle.dav_core.specs.Locks.{Lock, covers, is_grantable, named_lock, refreshed, refreshed_lock}
+use Rattle.dav_core.specs.Locks.{Lock, named_lock, refreshed, refreshed_lock}
 use Rattle.dav_core.specs.Path.{Path, PathText, names, names_in, star}
 use Rattle.dav_engine.specs.declared.request.Body.{Body}
 use Rattle.dav_engine.specs.Alongside.{SameResult, SameMetadata, Alongside, side_ok, side_err, side_asks, side_look, side_keep, SameAnswers}
 use Rattle.dav_engine.specs.AlongsidePlans.{LockGoesAlong}
 use Rattle.dav_engine.specs.AnswerParts.{answers_of}
 use Rattle.dav_engine.specs.Client.{Client, requester}
-use Rattle.dav_engine.specs.Conditions.{Conditions, Addressed, submitted, if_match}
-use Rattle.dav_engine.specs.Delete.{whole_depth}
+use Rattle.dav_engine.specs.Conditions.{Conditions, Addressed, submitted}
 use Rattle.dav_engine.specs.Folder.{closed, location_found}
 use Rattle.dav_engine.specs.Guard.{folder_of, IsGuard, IsInReach, Guards, SubmitOnly, no_list, a_list}
-use Rattle.dav_engine.specs.Lock.{one_token, token_to_refresh, keep_refreshed, lock_again, asked_lock, lock_new, is_absent, lock_found, lock, is_lock}
+use Rattle.dav_engine.specs.Lock.{one_token, token_to_refresh, keep_refreshed, lock_again, is_absent, lock_found, lock, is_lock}
 use Rattle.dav_engine.specs.LockHeaders.{LockHeaders, refreshed_for}
-use Rattle.dav_engine.specs.LockInfo.{lock_info}
-use Rattle.dav_engine.specs.Method.{MethodPlan, then as followed_by, ◌>>=◌, require_free, required, unless_status, gives, fails}
-use Rattle.dav_engine.specs.Plan.{Keep}
+use Rattle.dav_engine.specs.Method.{MethodPlan, then as followed_by, ◌>>=◌, require_free, gives}
 use Rattle.dav_engine.specs.Response.{Header, Response}
-use Rattle.dav_engine.proofs.AlongsidePlans.{AtBoth, holders, in_reach, only_lists, side_bind, side_then, side_lists, side_free}
+use Rattle.dav_engine.proofs.AlongsidePlans.{AtBoth, holders, in_reach, only_lists, side_bind, side_lists, side_free}
 use Rattle.dav_engine.proofs.ChildLemmas.{names_closed}
-use Rattle.dav_engine.proofs.GuardChanges.{granted_off, guard_refreshed}
-use Rattle.dav_engine.proofs.GuardedFolders.{covers_by, stands_guarded}
+use Rattle.dav_engine.proofs.GuardChanges.{guard_refreshed}
 
 -- ---- a path that gets a slash stays in the folder
 

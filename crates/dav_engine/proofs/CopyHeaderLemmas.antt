@@ -1,7 +1,7 @@
 -- What Destination names, and what kind of path that is.
 use Rattle.std.proofs.Common.{◌≡◌, ◌≢◌, inl, inr, ℕ, ◌==◌, ◌<◌, ◌++◌, Bool, true, false, List, [], ◌∷◌, All, Option, Some, None, Result, Ok, Err, cond, arith, refl, sym, ap, subst, ◌∙◌}
 use Rattle.std.proofs.lemmas.Bool.{eqb-true}
-use Rattle.std.proofs.lemmas.List.Elements.{All-cons, All-head, All-tail}
+use Rattle.std.proofs.lemmas.List.Elements.{All-tail}
 use Rattle.std.specs.Prelude.{IfOk, IsSomeAnd}
 use Rattle.http_header.specs.FieldValue.{FieldValue}
 use Rattle.dav_core.specs.declared.errors.DavError.{DavError}

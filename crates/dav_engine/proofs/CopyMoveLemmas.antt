@@ -1,5 +1,5 @@
 -- How code follows a COPY or MOVE.
-use Rattle.std.proofs.Common.{◌≡◌, ◌⊎◌, inl, inr, ℕ, ◌&&◌, ◌||◌, zero, suc, not, if◌then◌else◌, Bool, true, false, List, [], ◌∷◌, ◌++◌, map, string_bytes, String, Option, Some, None, Result, Ok, Err, refl, sym, ap, subst, ◌∙◌}
+use Rattle.std.proofs.Common.{◌≡◌, ◌≢◌, ◌⊎◌, inl, inr, ℕ, ◌&&◌, ◌||◌, zero, suc, not, if◌then◌else◌, Bool, true, false, List, [], ◌∷◌, ◌++◌, map, string_bytes, String, Option, Some, None, Result, Ok, Err, refl, sym, ap, subst, ◌∙◌}
 use Rattle.std.specs.Prelude.{IfOk, IfErr, ⊤}
 use Rattle.std.specs.Global.{Vec, Global}
 use Rattle.std.specs.List.{last_or}
@@ -13,7 +13,7 @@ use Rattle.dav_core.specs.declared.method.DavMethod.{DavMethod}
 use Rattle.dav_core.specs.Asking.{Call, StoreState, Asks, Metadata, Rename}
 use Rattle.dav_core.specs.Lists.{is_empty}
 use Rattle.dav_core.specs.Locks.{Requester, deleted, requester_of}
-use Rattle.dav_core.specs.Path.{Path, PathText, names, parent_of, is_at_or_under}
+use Rattle.dav_core.specs.Path.{Path, PathText, names, parent_of, is_at_or_under, star}
 use Rattle.http_header.specs.FieldValue.{FieldValue}
 use Rattle.dav_engine.specs.BackendView.{BackendView}
 use Rattle.dav_engine.specs.Client.{Client, requester}
@@ -32,7 +32,7 @@ use Rattle.dav_engine.specs.Plan.{Done, Locks, Ran, refused_done}
 use Rattle.dav_engine.specs.Removal.{Fault, report_of, removal}
 use Rattle.dav_engine.specs.Response.{Response}
 use Rattle.dav_engine.specs.Walked.{Walked, walked, StoppedIn}
-use Rattle.dav_engine.proofs.CopyHeaderLemmas.{place_by}
+use Rattle.dav_engine.proofs.CopyHeaderLemmas.{place_by, plain_other}
 use Rattle.dav_engine.proofs.CutPlans.{cut_in}
 use Rattle.dav_engine.proofs.Following.{ran_at, follows_done, follows_ask, follows_then, follows_err, follows_on, follows_out, follows_up_to}
 use Rattle.dav_engine.proofs.GuardLemmas.{follows_ok, follows_fails, guard_passed, guard_failed, guard_short, free_goes, locked_out, ends_free, ends_locked}
@@ -501,6 +501,18 @@ clearing_stops deep d {there = there} {one} {old = old} {new} same is stop =
 pub brings_as : (moves deep : Bool) (now : ℕ) (p d : PathText) {seen there : Option DavMetaData} {old new : StoreState} {ls ms : Locks} {r : Result Response DavError}
     → seen ≡ there → Follows as_is (bring_if_clear moves deep now p d seen []) old ls r new ms → Follows as_is (bring_if_clear moves deep now p d there []) old ls r new ms
 brings_as moves deep now p d {old = old} {new} {ls} {ms} {r} is more = subst (λ (o : Option DavMetaData). Follows as_is (bring_if_clear moves deep now p d o []) old ls r new ms) is more
+
+-- what Destination names isn't the star path
+pub destination_other : {h k : CopyHeaders} (d : PathText) → h ≡ k → h.destination ≡ Ok d → IfOk k.destination (λ q. q.bytes ≢ star) → d.bytes ≢ star
+destination_other {h} {k} d same is other =
+    subst (λ (r : Result PathText DavError). IfOk r (λ q. q.bytes ≢ star)) (sym (ap (λ (x : CopyHeaders). x.destination) same) ∙ is) other
+
+any_other : {prefix : List ℕ} {values : List FieldValue} (r : Result PathText DavError) → DestinationNames prefix values r → IfOk r (λ q. q.bytes ≢ star)
+any_other (Ok d) named = plain_other d (place_by d named refl).plain
+any_other (Err e) named = tt
+
+pub headers_other : {headers : Headers} {p : PathText} (h : CopyHeaders) → AreCopyHeaders headers p h → IfOk h.destination (λ q. q.bytes ≢ star)
+headers_other h are = any_other h.destination are.destination
 
 -- a part that was carried out on a store was carried out on the state of a backend of it
 pub copies_lent : {F A : Type 0} {plan : MethodPlan (List CopyFault)} {fs : F} {locks : Option A} {s t : StoreState} {ls : Locks} {before after : List PathStatus} {r : Result (Unit {0}) DavError} (old : BackendView F A)

@@ -20,7 +20,7 @@ use Rattle.dav_engine.specs.Method.{MethodPlan, ◌>>=◌, require_member, ask_f
 use Rattle.dav_engine.specs.Follows.{as_is, Follows, Sets, followed, gave_up, or_memory}
 use Rattle.dav_engine.specs.Folder.{closed}
 use Rattle.dav_engine.specs.Conditions.{Conditions, if_match_get_tokens}
-use Rattle.dav_engine.specs.ConditionView.{locks_in, texts_of, tokens_or_status}
+use Rattle.dav_engine.specs.ConditionView.{locks_in, tokens_or_status}
 use Rattle.dav_engine.specs.Delete.{delete_allowed, delete_found, deleting, whole_depth, drop_if_gone, delete_reply}
 use Rattle.dav_engine.specs.Multistatus.{PathStatus, last_error, multi_reply, status_reply}
 use Rattle.dav_engine.specs.Removal.{Fault, report_of, removal}

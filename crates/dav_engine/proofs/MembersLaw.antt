@@ -1,5 +1,5 @@
 -- A plan that leaves the list of a folder's members leaves it.
-use Rattle.std.proofs.Common.{◌≡◌, ◌≢◌, ◌++◌, ◌&&◌, ◌||◌, inl, inr, ◌⊎◌, append-nil, ℕ, Bool, true, false, not, true≢false, List, [], ◌∷◌, Option, Some, None, Result, Ok, Err, refl, sym, ap, subst, ◌∙◌}
+use Rattle.std.proofs.Common.{◌≡◌, ◌++◌, ◌&&◌, ◌||◌, inl, inr, append-nil, ℕ, Bool, true, false, not, true≢false, List, [], ◌∷◌, Option, Some, None, Result, Ok, Err, refl, sym, ap, subst, ◌∙◌}
 use Rattle.std.specs.Bool.{⊤}
 use Rattle.std.specs.Option.{option_map}
 use Rattle.dav_core.specs.declared.errors.FsError.{FsError}
@@ -7,15 +7,15 @@ use Rattle.dav_core.specs.declared.errors.DavError.{DavError}
 use Rattle.dav_core.specs.declared.fs.DavMetaData.{DavMetaData}
 use Rattle.dav_core.specs.Asking.{Call, Answer, StoreState, Asks, meaning, Metadata, ReadDir, EntryMetadata, CreateDir, RemoveDir, RemoveFile, Rename, Copy, HaveProps, PatchProps, GetProps, GetProp, GetQuota, SetAccessed, SetModified, Open, Read, Write, Seek, Flush, FileMetadata}
 use Rattle.dav_core.specs.CallLaws.{IsProper, IsStill}
-use Rattle.dav_core.specs.Handle.{Handle, Opening}
+use Rattle.dav_core.specs.Handle.{Handle}
 use Rattle.dav_core.specs.Locks.{Lock, Requester, is_held, is_free_parent, covers}
-use Rattle.dav_core.specs.Path.{Path, names, is_root, is_same_path, is_at_or_under, is_under, parent_of}
+use Rattle.dav_core.specs.Path.{Path, is_root, is_same_path, is_at_or_under, parent_of}
 use Rattle.dav_core.specs.Property.{Property, Patch}
 use Rattle.dav_core.specs.World.{World, Node, node_at, is_folder, is_folder_node, is_folder_kind, file_made_with, IsWorld}
 use Rattle.dav_core.proofs.Theorems.{same_path, path-itself, parent-append, members_same, nodes_stay, found, made_stands}
 use Rattle.dav_engine.specs.Guard.{folder_of, IsListed, Stands}
 use Rattle.dav_engine.specs.Inside.{content_of}
-use Rattle.dav_engine.specs.Members.{is_member, is_folder_or_member, SameMembers, BringsNoMember, LeavesMembers, MembersStay, stay_ok, stay_err, stay_reads, stay_found, stay_seeks, stay_call, stay_look, stay_keep, stay_last, PlansLeaveMembers, PlansLeaveMembersCut, ParentFreeIsNoMember}
+use Rattle.dav_engine.specs.Members.{is_member, is_folder_or_member, BringsNoMember, LeavesMembers, MembersStay, stay_ok, stay_err, stay_reads, stay_found, stay_seeks, stay_call, stay_look, stay_keep, stay_last, PlansLeaveMembers, PlansLeaveMembersCut, ParentFreeIsNoMember}
 use Rattle.dav_engine.specs.Method.{MethodPlan}
 use Rattle.dav_engine.specs.Plan.{Locks, Ran, ran_done, ran_ask, ran_look, ran_keep}
 use Rattle.dav_engine.specs.PlanLaws.{ample}
@@ -26,7 +26,7 @@ use Rattle.dav_engine.proofs.CallWorlds.{Did, stays, means, did, did_leave, asks
 use Rattle.dav_engine.proofs.FaultLemmas.{rest, at_path}
 use Rattle.dav_engine.proofs.GuardedFolders.{free_passes, not_root}
 use Rattle.dav_engine.proofs.PlanAnswers.{cuts_are_like_refusals}
-use Rattle.dav_engine.proofs.SparingCalls.{HasOpenFile, spared_all, opened_all_same, written_all_same}
+use Rattle.dav_engine.proofs.SparingCalls.{spared_all, opened_all_same, written_all_same}
 use Rattle.dav_engine.proofs.SparingLaw.{seek_same}
 
 -- ---- members

@@ -1,8 +1,8 @@
 -- The plans of requests that don't hold an exclusive lock leave the list of the members of its folder.
-use Rattle.std.proofs.Common.{◌≡◌, ◌≢◌, ◌++◌, ◌==◌, ◌||◌, ◌⊎◌, inl, inr, ℕ, zero, suc, Bool, true, false, not, true≢false, if◌then◌else◌, List, [], ◌∷◌, length, Option, Some, None, Result, Ok, Err, refl, sym, ap, subst, ◌∙◌}
+use Rattle.std.proofs.Common.{◌≡◌, ◌≢◌, ◌==◌, ◌||◌, inl, inr, ℕ, zero, suc, Bool, true, false, not, true≢false, if◌then◌else◌, List, [], ◌∷◌, length, Option, Some, None, Result, Ok, Err, refl, sym, subst, ◌∙◌}
 use Rattle.std.specs.Bool.{⊤}
-use Rattle.std.specs.Option.{is_some, is_none, unwrap_or}
-use Rattle.std.specs.Result.{result_ok, is_ok}
+use Rattle.std.specs.Option.{is_some, unwrap_or}
+use Rattle.std.specs.Result.{result_ok}
 use Rattle.dav_core.specs.declared.errors.FsError.{FsError}
 use Rattle.dav_core.specs.declared.errors.DavError.{DavError}
 use Rattle.dav_core.specs.declared.errors.DavError.TheVariants as dav
@@ -11,14 +11,13 @@ use Rattle.dav_core.specs.declared.method.DavMethod.{DavMethod}
 use Rattle.dav_core.specs.Asking.{Call, Metadata, ReadDir, EntryMetadata, CreateDir, RemoveDir, RemoveFile, Rename, Copy, HaveProps, PatchProps, GetProps, GetProp, GetQuota, SetAccessed, SetModified, Open, Read, Write, Seek, Flush, FileMetadata}
 use Rattle.std.specs.declared.io.traits.SeekFrom.TheVariants.{Start}
 use Rattle.dav_core.specs.Handle.{Handle, Opening}
-use Rattle.dav_core.specs.Locks.{Lock, covers, is_held, is_free_for, is_grantable}
+use Rattle.dav_core.specs.Locks.{Lock, covers, is_held, is_free_for}
 use Rattle.dav_core.specs.Path.{Path, PathText, star, names, is_at_or_under, parent_of, are_equal}
 use Rattle.dav_engine.specs.declared.put_headers.Writing.{Writing}
-use Rattle.dav_engine.specs.declared.request.Body.{Body}
 use Rattle.dav_engine.specs.Client.{Client, requester}
 use Rattle.dav_engine.specs.Conditions.{Conditions, submitted}
 use Rattle.dav_engine.specs.Copying.{CopyFault, CopyWalk, copy_kind, copy_looked, copy}
-use Rattle.dav_engine.specs.CopyMove.{CopyHeaders, DestinationNames, is_move, copy_depth, destination_found, is_replaced, changes_members, copy_free, clearing, drop_if, bringing, copy_reply, bring_if_clear, copy_found, copy_or_move, is_copy_move}
+use Rattle.dav_engine.specs.CopyMove.{CopyHeaders, is_move, copy_depth, destination_found, changes_members, copy_free, clearing, drop_if, bringing, copy_reply, bring_if_clear, copy_found, is_copy_move}
 use Rattle.dav_engine.specs.Delete.{whole_depth, is_delete}
 use Rattle.dav_engine.specs.Folder.{closed, is_folder_found, room_at}
 use Rattle.dav_engine.specs.Guard.{folder_of, IsListed}
@@ -26,14 +25,13 @@ use Rattle.dav_engine.specs.Lock.{is_lock}
 use Rattle.dav_engine.specs.Members.{is_member, is_folder_or_member, BringsNoMember, LeavesMembers, MembersStay, stay_ok, stay_err, stay_reads, stay_found, stay_seeks, stay_call, stay_look, stay_keep, stay_last, ReadingLeavesMembers, PutLeavesMembers, MkcolLeavesMembers, DeleteLeavesMembers, CopyMoveLeavesMembers, LockLeavesMembers, ProppatchLeavesMembers, UnlockLeavesMembers}
 use Rattle.dav_engine.specs.Method.{MethodPlan, then as followed_by, ◌>>=◌, require, gives, refused_as, ask_for}
 use Rattle.dav_engine.specs.Mkcol.{create_error, is_mkcol}
-use Rattle.dav_engine.specs.Plan.{Plan, Done, Ask, Look}
+use Rattle.dav_engine.specs.Plan.{Done, Ask}
 use Rattle.dav_engine.specs.Proppatch.{is_proppatch}
 use Rattle.dav_engine.specs.Put.{put_opening, unsatisfiable, sought, open_error, store, put_body, bytes_of_body, is_put}
 use Rattle.dav_engine.specs.Removal.{removal}
 use Rattle.dav_engine.specs.Response.{Response}
-use Rattle.dav_engine.specs.Sparing.{NoneUnder, Spares, OpenFile, Anything, AnyList, Sparing, spares_ok, spares_err, spares_reads, spares_call, spares_opens, spares_seeks, spares_writes, spares_look, spares_keep, spares_last}
+use Rattle.dav_engine.specs.Sparing.{NoneUnder, Spares, OpenFile, AnyList, Sparing, spares_ok, spares_err, spares_reads, spares_call, spares_opens, spares_seeks, spares_writes, spares_look, spares_keep, spares_last}
 use Rattle.dav_engine.specs.Unlock.{is_unlock}
-use Rattle.dav_engine.specs.WorldLaws.{OnlyReads}
 use Rattle.dav_engine.proofs.CopyHeaderLemmas.{place_by, plain_other}
 use Rattle.dav_engine.proofs.CopyWorld.{only_copy_free}
 use Rattle.dav_engine.proofs.EndingDelete.{still_listed}
@@ -48,7 +46,7 @@ use Rattle.dav_engine.proofs.SparingCopy.{spare_copy_free, spare_clearing, if_cl
 use Rattle.dav_engine.proofs.SparingDelete.{spare_deleting, free_outside_lock}
 use Rattle.dav_engine.proofs.SparingPlans.{At, IsOpenAbove, spare_reading, spare_put_checks, spare_mkcol_checks}
 use Rattle.dav_engine.proofs.UnlockPlans.{spare_unlock}
-use Rattle.dav_engine.proofs.WorldPlans.{Only, only_done, only_ask, only_look, only_then, only_bind}
+use Rattle.dav_engine.proofs.WorldPlans.{Only, only_done, only_ask, only_look}
 
 -- ---- parts
 

@@ -9,7 +9,7 @@ use Rattle.dav_core.specs.declared.fs.DavMetaData.{DavMetaData}
 use Rattle.dav_core.specs.Asking.{Call, Answer, meaning, next_refusal, StoreState, Asks, Metadata, ReadDir, EntryMetadata, CreateDir, RemoveDir, RemoveFile, Rename, Copy, HaveProps, PatchProps, GetProps, GetProp, GetQuota, Open, Read, Write, Seek, Flush, FileMetadata}
 use Rattle.dav_core.specs.Handle.{Handle, Opening}
 use Rattle.dav_core.specs.Locks.{Lock}
-use Rattle.dav_core.specs.Path.{Path, is_under}
+use Rattle.dav_core.specs.Path.{Path}
 use Rattle.dav_core.specs.World.{World, Node, node_at, is_folder_kind, last_number, IsWorld}
 use Rattle.dav_engine.specs.AnswerParts.{answers_of}
 use Rattle.dav_engine.specs.Guard.{folder_of, IsGuard, Guards, IsListed, Guarded, Stands}

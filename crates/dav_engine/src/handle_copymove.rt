@@ -396,6 +396,7 @@ fn copy_found<F: DavFileSystem, L: DavLockSystem>(
 ) -> DavResult<Reply>
     requires moment { caller.now.moment ≤ last_moment }
     requires path { path.now.bytes ≢ star }
+    requires destination { destination.now.bytes ≢ star }
     ensures { Follows as_is (spec.copy_found method deep headers.now path.now destination.now
         caller.now found.now)
         (F.state fs.old) (option_map L.locks ls.old) result
@@ -450,6 +451,7 @@ fn copy_or_move<F: DavFileSystem, L: DavLockSystem>(
 ) -> DavResult<Reply>
     requires moment { caller.now.moment ≤ last_moment }
     requires path { path.now.bytes ≢ star }
+    requires destination { IfOk headers.now.destination (λ d. d.bytes ≢ star) }
     ensures { Follows as_is (spec.copy_or_move method headers.now path.now caller.now)
         (F.state fs.old) (option_map L.locks ls.old) result
         (F.state fs.new) (option_map L.locks ls.new) }

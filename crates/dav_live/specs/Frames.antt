@@ -1,8 +1,19 @@
--- The orders to the front.
-use Rattle.std.specs.Prelude.{ℕ, List, [], ◌∷◌, ◌++◌, length}
-use Rattle.std.specs.Int.{w32, to_le_bytes}
+-- What passes between the front and this program; numbers are little-endian.
+use Rattle.std.specs.Prelude.{◌<◌, ◌≤◌, ◌^◌, ℕ, List, [], ◌∷◌, ◌++◌, length}
+use Rattle.std.specs.Int.{w32, w64, to_le_bytes}
 
--- what was ordered before, and then the slot, what to do when the bytes are sent, their length and the bytes; numbers are little-endian
+-- An order: what was ordered before, and then the slot, what to do when the bytes are sent, their length and the bytes.
 abbrev pub with_order : List ℕ → ℕ → ℕ → List ℕ → List ℕ
 with_order before slot next bytes =
     before ++ to_le_bytes w32 slot ++ next ∷ [] ++ to_le_bytes w32 (length bytes) ++ bytes
+
+-- A report: the slot, what happened there, how many bytes it tells, when, in seconds since 1970, and these bytes.
+abbrev pub report_bytes : ℕ → ℕ → ℕ → List ℕ → List ℕ
+report_bytes slot kind seconds told =
+    to_le_bytes w32 slot ++ kind ∷ [] ++ to_le_bytes w32 (length told) ++ to_le_bytes w64 seconds ++ told
+
+-- what a report may have: a slot of 32 bits, a time of 64, and at most so many bytes
+pub record IsReport (slot seconds : ℕ) (told : List ℕ) : Type 0 where
+  pub slot_fits : slot < 2 ^ 32
+  pub seconds_fit : seconds < 2 ^ 64
+  pub few : length told ≤ 65536

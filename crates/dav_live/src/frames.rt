@@ -1,6 +1,8 @@
 //! The reports of the front and the orders to it. Numbers are little-endian.
-ghost use Rattle.std.specs.Prelude.{◌≡◌, OnOk};
-ghost use Rattle.dav_live.specs.Frames.{with_order};
+ghost use Rattle.std.specs.Prelude.{◌≡◌, ◌≤◌, ◌<◌, ◌^◌, ◌+◌, ◌++◌, ℕ, List, OnOk, drop, get_or, length, take};
+ghost use Rattle.std.specs.Int.{w32, w64, from_le_bytes};
+ghost use Rattle.dav_live.specs.Frames.{IsReport, report_bytes, with_order};
+ghost use Rattle.dav_live.specs.declared.frames.Next.TheVariants as next;
 
 use std::alloc::AllocError;
 
@@ -52,7 +54,18 @@ pub enum Next {
 }
 
 // What stands at a place of the input.
-pub fn report_at(buffer: &[u8], from: usize) -> Next {
+pub fn report_at(buffer: &[u8], from: usize) -> Next
+    ensures back { (slot kind seconds : ℕ) (told rest : List ℕ) → IsReport slot seconds told
+        → from ≤ length buffer.now
+        → drop from buffer.now ≡ report_bytes slot kind seconds told ++ rest
+        → result ≡ next.Report (record {
+          slot = slot;
+          kind = kind;
+          seconds = seconds;
+          start = from + 17;
+          end = from + 17 + length told;
+        }) }
+{
     let Some(rest) = buffer.get(from..) else {
         return Next::Part;
     };
@@ -78,7 +91,14 @@ pub fn report_at(buffer: &[u8], from: usize) -> Next {
 }
 
 // The parts of a report's head.
-fn head_of(head: &[u8]) -> (u32, u8, usize, u64) {
+fn head_of(head: &[u8]) -> (u32, u8, usize, u64)
+    ensures slot { length head.now ≡ 17 → result.0 ≡ from_le_bytes w32 (take 4 head.now) }
+    ensures kind { length head.now ≡ 17 → result.1 ≡ get_or head.now 4 0 }
+    ensures len { length head.now ≡ 17
+        → result.2 ≡ from_le_bytes w32 (take 4 (drop 5 head.now)) }
+    ensures seconds { length head.now ≡ 17
+        → result.3 ≡ from_le_bytes w64 (drop 9 head.now) }
+{
     match head {
         [a, b, c, d, kind, e, f, g, h, i, j, k, l, m, n, o, p] => (
             u32::from_le_bytes([*a, *b, *c, *d]),

@@ -1,9 +1,16 @@
 //! Requests as the journal has them. Numbers are big-endian.
+ghost use Rattle.std.specs.Prelude.{◌≡◌, ◌≢◌, ◌++◌, ◌<◌, ◌^◌, ℕ, List, MatchOption, IfSome, OnOk, length, Option};
+ghost use Rattle.std.specs.Int.{w16, w64, from_be_bytes, to_be_bytes};
+ghost use Rattle.std.specs.Option.{option_copied};
+ghost use Rattle.std.specs.Str.{IsUtf8};
+ghost use Rattle.dav_live.specs.Records.{optional_bytes, text_bytes};
+
 use std::alloc::AllocError;
+use std::marker::Model;
 use std::str;
 
 /// A request that was answered: when, by whom, with which token for a lock, its head and body, and the status of the reply.
-#[derive(Clone, Copy, Debug)]
+#[derive(Drop)]
 pub struct Record<'a> {
     pub moment: u64,
     pub status: u16,
@@ -14,13 +21,18 @@ pub struct Record<'a> {
 }
 
 // Adds a text, with its length.
-fn put(out: &mut Vec<u8>, bytes: &[u8]) -> Result<(), AllocError> {
+fn put(out: &mut Vec<u8>, bytes: &[u8]) -> Result<(), AllocError>
+    ensures { OnOk result (out.new.items ≡ out.old.items ++ text_bytes bytes.now) }
+{
     out.extend_from_slice(&(bytes.len() as u64).to_be_bytes())?;
     out.extend_from_slice(bytes)
 }
 
 // Adds a text that may be missing.
-fn put_option(out: &mut Vec<u8>, text: Option<&str>) -> Result<(), AllocError> {
+fn put_option(out: &mut Vec<u8>, text: Option<&str>) -> Result<(), AllocError>
+    ensures { OnOk result (out.new.items
+        ≡ out.old.items ++ optional_bytes (option_copied text.entry)) }
+{
     match text {
         Some(text) => {
             out.push(1)?;
@@ -34,7 +46,9 @@ fn put_option(out: &mut Vec<u8>, text: Option<&str>) -> Result<(), AllocError> {
 }
 
 // Eight bytes as a number.
-fn number(bytes: &[u8]) -> u64 {
+fn number(bytes: &[u8]) -> u64
+    ensures { length bytes.now ≡ 8 → result ≡ from_be_bytes w64 bytes.now }
+{
     match bytes {
         [a, b, c, d, e, f, g, h] => u64::from_be_bytes([*a, *b, *c, *d, *e, *f, *g, *h]),
         _ => 0,
@@ -42,19 +56,38 @@ fn number(bytes: &[u8]) -> u64 {
 }
 
 // The text in front of bytes, and what follows it.
-fn taken(bytes: &[u8]) -> Option<(&[u8], &[u8])> {
+fn taken(bytes: &[u8]) -> Option<(&[u8], &[u8])>
+    ensures { MatchOption result
+        ((text rest : List ℕ) → bytes.now ≢ text_bytes text ++ rest)
+        (λ p. bytes.now ≡ text_bytes p.0.now ++ p.1.now) }
+{
     let len = usize::try_from(number(bytes.get(..8)?)).ok()?;
     let rest = bytes.get(8..)?;
     Some((rest.get(..len)?, rest.get(len..)?))
 }
 
+// The text in front of bytes, which is UTF-8, and what follows it.
+fn valid_text(bytes: &[u8]) -> Option<(&str, &[u8])>
+    ensures { MatchOption result
+        ((text rest : List ℕ) → IsUtf8 text → bytes.now ≢ text_bytes text ++ rest)
+        (λ p. bytes.now ≡ text_bytes p.0.now ++ p.1.now) }
+{
+    let (text, rest) = taken(bytes)?;
+    let text = str::from_utf8(text).ok()?;
+    Some((text, rest))
+}
+
 // The text in front of bytes that may be missing, and what follows it.
-fn taken_option(bytes: &[u8]) -> Option<(Option<&str>, &[u8])> {
+fn taken_option(bytes: &[u8]) -> Option<(Option<&str>, &[u8])>
+    ensures { MatchOption result
+        ((text : Option (List ℕ)) (rest : List ℕ) → IfSome text (λ t. IsUtf8 t)
+        → bytes.now ≢ optional_bytes text ++ rest)
+        (λ p. bytes.now ≡ optional_bytes (option_copied p.0) ++ p.1.now) }
+{
     match bytes {
         [0, rest @ ..] => Some((None, rest)),
         [1, rest @ ..] => {
-            let (text, rest) = taken(rest)?;
-            let text = str::from_utf8(text).ok()?;
+            let (text, rest) = valid_text(rest)?;
             Some((Some(text), rest))
         }
         _ => None,
@@ -64,7 +97,26 @@ fn taken_option(bytes: &[u8]) -> Option<(Option<&str>, &[u8])> {
 /// The most bytes of a record besides its texts.
 const AROUND: usize = 64;
 
+impl<'a> Model for Record<'a> {
+    ghost use Rattle.std.specs.Option.{option_copied};
+    ghost use Rattle.dav_live.specs.Records.{RecordView};
+
+    ghost Value = { RecordView };
+
+    ghost view = { λ r. record {
+      moment = r.moment;
+      status = r.status;
+      principal = option_copied r.principal;
+      token = option_copied r.token;
+      head = r.head.now;
+      body = r.body.now;
+    } };
+}
+
 impl<'a> Record<'a> {
+    ghost use Rattle.std.specs.Prelude.{◌≡◌, ◌++◌, ℕ, List, IfSome, IsSomeAnd, OnOk};
+    ghost use Rattle.dav_live.specs.Records.{IsRecord, RecordView, record_bytes};
+
     /// At least as many bytes as the record takes.
     pub fn size(&self) -> usize {
         let principal = self.principal.unwrap_or("").len();
@@ -77,7 +129,9 @@ impl<'a> Record<'a> {
     }
 
     /// Adds the record to bytes.
-    pub fn write(&self, out: &mut Vec<u8>) -> Result<(), AllocError> {
+    pub fn write(&self, out: &mut Vec<u8>) -> Result<(), AllocError>
+        ensures { OnOk result (out.new.items ≡ out.old.items ++ record_bytes self.now) }
+    {
         out.extend_from_slice(&self.moment.to_be_bytes())?;
         out.extend_from_slice(&self.status.to_be_bytes())?;
         put_option(out, self.principal)?;
@@ -87,10 +141,14 @@ impl<'a> Record<'a> {
     }
 
     /// The record in front of bytes, and what follows it.
-    pub fn read(bytes: &'a [u8]) -> Option<(Record<'a>, &'a [u8])> {
-        let moment = number(bytes.get(..8)?);
-        let status = status_of(bytes.get(8..10)?);
-        let (principal, token, rest) = who_in(bytes.get(10..)?)?;
+    pub fn read(bytes: &'a [u8]) -> Option<(Record<'a>, &'a [u8])>
+        ensures whole { IfSome result (λ p. bytes.now ≡ record_bytes p.0 ++ p.1.now) }
+        ensures back { (r : RecordView) (rest : List ℕ) → IsRecord r
+            → bytes.now ≡ record_bytes r ++ rest
+            → IsSomeAnd result (λ p. (p.0 ≡ r) × (p.1.now ≡ rest)) }
+    {
+        let (moment, status, rest) = when_in(bytes)?;
+        let (principal, token, rest) = who_in(rest)?;
         let (head, body, rest) = what_in(rest)?;
         let record = Record {
             moment,
@@ -105,22 +163,49 @@ impl<'a> Record<'a> {
 }
 
 // Two bytes as a status.
-fn status_of(bytes: &[u8]) -> u16 {
+fn status_of(bytes: &[u8]) -> u16
+    ensures { length bytes.now ≡ 2 → result ≡ from_be_bytes w16 bytes.now }
+{
     match bytes {
         [high, low] => u16::from_be_bytes([*high, *low]),
         _ => 0,
     }
 }
 
+// The moment and the status in front of bytes, and what follows them.
+fn when_in(bytes: &[u8]) -> Option<(u64, u16, &[u8])>
+    ensures { MatchOption result
+        ((moment status : ℕ) (rest : List ℕ) → bytes.now
+        ≢ to_be_bytes w64 moment ++ (to_be_bytes w16 status ++ rest))
+        (λ p. (bytes.now ≡ to_be_bytes w64 p.0 ++ (to_be_bytes w16 p.1 ++ p.2.now))
+        × (p.0 < 2 ^ 64) × (p.1 < 2 ^ 16)) }
+{
+    let moment = number(bytes.get(..8)?);
+    let rest = bytes.get(8..)?;
+    let status = status_of(rest.get(..2)?);
+    Some((moment, status, rest.get(2..)?))
+}
+
 // The principal and the token in front of bytes, and what follows them.
-fn who_in(bytes: &[u8]) -> Option<(Option<&str>, Option<&str>, &[u8])> {
+fn who_in(bytes: &[u8]) -> Option<(Option<&str>, Option<&str>, &[u8])>
+    ensures { MatchOption result
+        ((who token : Option (List ℕ)) (rest : List ℕ) → IfSome who (λ t. IsUtf8 t)
+        → IfSome token (λ t. IsUtf8 t)
+        → bytes.now ≢ optional_bytes who ++ (optional_bytes token ++ rest))
+        (λ p. bytes.now
+        ≡ optional_bytes (option_copied p.0) ++ (optional_bytes (option_copied p.1) ++ p.2.now)) }
+{
     let (principal, rest) = taken_option(bytes)?;
     let (token, rest) = taken_option(rest)?;
     Some((principal, token, rest))
 }
 
 // The head and the body in front of bytes, and what follows them.
-fn what_in(bytes: &[u8]) -> Option<(&[u8], &[u8], &[u8])> {
+fn what_in(bytes: &[u8]) -> Option<(&[u8], &[u8], &[u8])>
+    ensures { MatchOption result
+        ((head body rest : List ℕ) → bytes.now ≢ text_bytes head ++ (text_bytes body ++ rest))
+        (λ p. bytes.now ≡ text_bytes p.0.now ++ (text_bytes p.1.now ++ p.2.now)) }
+{
     let (head, rest) = taken(bytes)?;
     let (body, rest) = taken(rest)?;
     Some((head, body, rest))

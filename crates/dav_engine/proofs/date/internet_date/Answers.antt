@@ -1,4 +1,4 @@
-use Rattle.std.proofs.Common.{◌≡◌, ◌∙◌}
+use Rattle.std.proofs.Common.{◌∙◌}
 use Rattle.dav_engine.specs.Date.{date_of}
 use Rattle.dav_engine.proofs.DateLemmas.{dates_of_moments}
 use Rattle.dav_engine.proofs.InternetDates.{as_jiff_writes}

@@ -2,7 +2,7 @@ use Rattle.std.proofs.Common.{sym, ap, ◌∙◌}
 use Rattle.std.proofs.lemmas.Result.{err_from_is_err_and}
 use Rattle.dav_engine.specs.CopyMove.{copy_depth}
 use Rattle.dav_engine.specs.CopyView.{copy_headers_of}
-use Rattle.dav_engine.proofs.CopyMoveLemmas.{depth_refused, nowhere, source_refused, source_short, source_found}
+use Rattle.dav_engine.proofs.CopyMoveLemmas.{depth_refused, nowhere, source_refused, source_short, source_found, destination_other}
 use Rattle.dav_engine.proofs.handle_copymove.copy_or_move.Goals as goal
 
 pub returns-in_err-deep : goal.returns-in_err-deep
@@ -26,3 +26,6 @@ returns-in_err-path g c =
 pub returns : goal.returns
 returns g c =
     rw (← c.headers.view_is) (source_found c.args.method (copy_headers_of c.headers.inside) c.args.path.now c.args.caller.now c.in_ok-deep.deep (ap (λ b. copy_depth b c.headers.inside.depth) (sym c.is_move-moves.ensures) ∙ sym c.copy_depth.ensures ∙ c.in_ok-deep.was) _ c.in-Ok.is c.in_ok-path.path c.in-Ok-source_metadata.found _ c.in-Ok-source_metadata.ensures c.in_ok-path.ensures (rw (← c.headers.view_is) at c.copy_found.ensures))
+
+pub copy_found-requires-clause-destination : goal.copy_found-requires-clause-destination
+copy_found-requires-clause-destination g c = destination_other c.in-Ok.destination c.headers.view_is c.in-Ok.is c.requires.destination

@@ -1,0 +1,35 @@
+-- Requests as the journal has them; numbers are big-endian.
+use Rattle.std.specs.Prelude.{◌<◌, ◌^◌, IfSome, ℕ, List, [], ◌∷◌, ◌++◌, Option, Some, None, length}
+use Rattle.std.specs.Str.{IsUtf8}
+use Rattle.std.specs.Int.{w16, w64, to_be_bytes}
+
+-- a text: its length, and its bytes
+abbrev pub text_bytes : List ℕ → List ℕ
+text_bytes text = to_be_bytes w64 (length text) ++ text
+
+-- a text that may be missing: 0, or 1 and the text
+abbrev pub optional_bytes : Option (List ℕ) → List ℕ
+optional_bytes None = 0 ∷ []
+optional_bytes (Some text) = 1 ∷ text_bytes text
+
+-- what contracts see of a record: the moment, the status of the reply, the principal, the token for a lock, the head and the body
+pub record RecordView : Type 0 where
+  pub moment : ℕ
+  pub status : ℕ
+  pub principal : Option (List ℕ)
+  pub token : Option (List ℕ)
+  pub head : List ℕ
+  pub body : List ℕ
+
+-- a record: these in their order
+abbrev pub record_bytes : RecordView → List ℕ
+record_bytes r =
+    to_be_bytes w64 r.moment ++ (to_be_bytes w16 r.status ++ (optional_bytes r.principal ++ (optional_bytes r.token
+    ++ (text_bytes r.head ++ text_bytes r.body))))
+
+-- what can be kept: numbers of 64 and of 16 bits, and names that are UTF-8
+pub record IsRecord (r : RecordView) : Type 0 where
+  pub moment_fits : r.moment < 2 ^ 64
+  pub status_fits : r.status < 2 ^ 16
+  pub principal_is_text : IfSome r.principal (λ t. IsUtf8 t)
+  pub token_is_text : IfSome r.token (λ t. IsUtf8 t)
