@@ -31,6 +31,8 @@ mod engine_words;
 #[cfg(test)]
 mod property_calls;
 #[cfg(test)]
+mod recorded_calls;
+#[cfg(test)]
 pub(crate) mod tests;
 
 use crate::body::body_for;
