@@ -159,8 +159,8 @@ module _ (o : Option (List ℕ)) (s : ScriptContent) (read : IfSome o (λ text. 
       under None given which = tt
       under (Some text) given (inl nothing) =
           let (replies, left, run, lines_are) = are in
-          let some = (replies, some_of_all left run, ap (λ l. all ++ l) nothing ∙ append-nil all ∙ lines_are) in
-          (all ++ alone, inr (s, given.0, given.1, prefix, inl (promised_some s text (all ++ alone) given.1 some)), both)
+          let written : AreSomeRunReplies s (all ++ alone) = (replies, some_of_all left run, ap (λ l. all ++ l) nothing ∙ append-nil all ∙ lines_are) in
+          (all ++ alone, inr (s, given.0, given.1, prefix, inl (promised_some s text (all ++ alone) given.1 written)), both)
       under (Some text) given (inr first) =
           (all ++ alone, inr (s, given.0, given.1, prefix, inr (place, all, alone, is, promised_all s text all given.1 are, first, refl)), both)
 

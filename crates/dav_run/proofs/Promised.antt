@@ -1,5 +1,5 @@
 -- What is promised of the replies to a script.
-use Rattle.std.proofs.Common.{◌≡◌, ◌≤◌, ◌++◌, ℕ, zero, suc, true, false, List, [], ◌∷◌, map, Bool, Option, Some, None, if◌then◌else◌, IsSomeAnd, refl, sym, ap, subst, ◌∙◌, arith}
+use Rattle.std.proofs.Common.{◌≡◌, ◌≤◌, ◌++◌, ℕ, zero, suc, true, false, List, [], ◌∷◌, map, codes, Bool, Option, Some, None, if◌then◌else◌, IsSomeAnd, refl, sym, ap, subst, ◌∙◌, arith}
 use Rattle.std.proofs.lemmas.List.Elements.{All-nil, All-cons}
 use Rattle.std.specs.Option.{is_some}
 use Rattle.std.specs.Prelude.{max}
@@ -25,14 +25,14 @@ abbrev Showable : Turn → Type 0
 Showable t = t.asked.moment ≤ last_moment
 
 moment_small : (o : Option Data) (m : ℕ) → IsMoment o m → m ≤ last_moment
-moment_small None m is = omega (arith, is)
+moment_small None m is = let none : m ≡ 0 = is in omega (arith, none)
 moment_small (Some d) m is = is.1
 
 items_small : (ds : Items) (rs : List ScriptRequest) → AreItems IsRequest ds rs → AreShowable (map turn_for rs)
 items_small no_items [] are = All-nil Showable
 items_small no_items (r ∷ rs) are = absurd are
 items_small (item d ds) [] are = absurd are
-items_small (item d ds) (r ∷ rs) are = All-cons Showable (turn_for r) (map turn_for rs) (moment_small _ r.moment are.0.moment) (items_small ds rs are.1)
+items_small (item d ds) (r ∷ rs) are = All-cons Showable (turn_for r) (map turn_for rs) (moment_small (get (codes "moment") d) r.moment are.0.moment) (items_small ds rs are.1)
 
 array_small : (o : Option Items) (rs : List ScriptRequest) → IsSomeAnd o (λ ds. AreItems IsRequest ds rs) → AreShowable (map turn_for rs)
 array_small None rs are = absurd are
@@ -44,7 +44,7 @@ list_small (Some list) rs are = array_small (as_array list) rs are
 
 value_small : (o : Option Data) (s : ScriptContent) → IsSomeAnd o (λ d. IsScriptValue d s) → AreShowable (turns_for s)
 value_small None s is = absurd is
-value_small (Some d) s is = list_small _ s.requests is.requests
+value_small (Some d) s is = list_small (get (codes "requests") d) s.requests is.requests
 
 script_small : (text : List ℕ) (s : ScriptContent) → IsScript text s → AreShowable (turns_for s)
 script_small text s is = value_small (read text) s is.1

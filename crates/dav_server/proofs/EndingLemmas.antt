@@ -68,6 +68,7 @@ cut_keeps s x h {old} {ls = ls} stands other own (cut plan {new} {ms} means some
 
 pub no_lock_ends_cut : NoLockEndsCut
 no_lock_ends_cut s x old new ls ms h stands other own stops = cut_keeps s x h stands other own stops
+
 -- of a run, each request
 pub ends_no_lock : {old : Server} {ts : List Turn} {replies : List Response} (u : RunStep old ts replies) → Keeps kept (step_of u)
 ends_no_lock {old} u h stands other own =

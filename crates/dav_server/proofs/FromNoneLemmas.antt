@@ -33,6 +33,7 @@ module _ (old : Server) (front back : List Turn) (t : Turn) (ts : List Turn) (be
       let from_none = subst (λ l. Runs old.settings front old.state.store l before mid (Some ks)) empty ran in
       let tokens : All (λ l. IsHandedIn front l.token) ks = tokens_are_handed_in old.settings front old.state.store mid ks before from_none in
       other_than h t front (differ_before front back t (subst TokensDiffer is differ)) (listed_token (IsHandedIn front) h ks tokens stands)
+
 module _ (old : Server) (ts : List Turn) (replies : List Response) (differ : TokensDiffer ts) (empty : old.state.locks ≡ Some []) (u : RunStep old ts replies) (h : Lock) where
   own_at : (ls : Locks) → u.was.locks ≡ ls → Stands h ls → u.turn.asked.token ≢ Some h.token
   own_at None is stands = absurd stands

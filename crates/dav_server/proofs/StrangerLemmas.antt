@@ -121,6 +121,7 @@ cut_spares s x old ls h exclusive stands other small world (cut plan {new} {ms} 
 
 pub no_lock_is_passed_cut : NoLockIsPassedCut
 no_lock_is_passed_cut s x old new ls ms h exclusive stands other small world stops = cut_spares s x old ls h exclusive stands other small world stops
+
 -- of a run, each request
 pub passes_no_lock : (old : Server) (ts : List Turn) (replies : List Response) → AreShowable ts → IsWorld old.state.store.world → (u : RunStep old ts replies) → Keeps passed (step_of u)
 passes_no_lock old ts replies small world u h exclusive stands other =

@@ -95,12 +95,13 @@ fn answer_next<F: DavFileSystem, L: DavLockSystem>(
 impl<F: DavFileSystem, L: DavLockSystem> DavHandler<F, L> {
     /// Answers requests, one after another: the replies, the store and the locks are those of a run of the machine, which promises
     /// what the record `Promises` says. Requests that only read change nothing, nor do those that are answered 412 or 423 (of the
-    /// list a LOCK that is answered 412, where no lock has its token); a 304 is true; no update on condition of a tag is lost; what
-    /// is there is kept under If-None-Match `*`; equal entity tags show equal bytes (RFC 9110, sections 8.8.1, 9.2.1 and 13.1). No
-    /// request changes what an exclusive lock covers, nor which members the folder has that such a lock is on, of either depth,
-    /// unless it names the lock's token as the lock's principal; nor does it end a lock whose token it doesn't name, a request that
-    /// hands in the lock's token for a lock of its own aside; locks that cover one path stay shared (RFC 4918, sections 7 and 7.4);
-    /// and the href of each response of a multistatus leads to a path that its request is about (RFC 4918, section 8.3).
+    /// list a LOCK that is answered 412, where no lock has its token); what is there is kept under If-None-Match `*`; no request
+    /// ends a lock whose token it doesn't name, one that hands in the lock's token for a lock of its own aside; locks that cover
+    /// one path stay shared. From a world, as a new store holds one: a 304 is true; no update on condition of a tag is lost; equal
+    /// entity tags show equal bytes (RFC 9110, sections 8.8.1 and 13.1); no request changes what an exclusive lock covers, nor which
+    /// members the folder has that such a lock is on, of either depth, unless it names the lock's token as the lock's principal
+    /// (RFC 4918, sections 7 and 7.4); and the href of each response of a multistatus leads to a path that its request is about
+    /// (RFC 4918, section 8.3).
     ///
     /// `RunFault` where memory ran out outside the store, with the replies that were given before; they are those of a run
     /// of the machine, and of the next request at most the first calls of the store were made, each of them whole; one that only
