@@ -4,6 +4,7 @@ pub mod Refusals
 pub mod Headers
 pub mod Lines
 pub mod Places
+pub mod Promised
 pub mod Played
 pub mod AloneLemmas
 pub mod TreeLemmas

@@ -18,7 +18,8 @@ use Rattle.dav_run.specs.declared.play.Fault.{Fault}
 use Rattle.dav_run.specs.Script as script
 use Rattle.dav_run.specs.Script.{ScriptContent, IsShort, IsScript, IsScriptValue}
 use Rattle.dav_run.specs.Print.{line_of, lines_of}
-use Rattle.dav_run.specs.Play.{Plays, PlaysSome, IsPlayable, RunsSome, AreReplies, AreFirstReplies, AreAloneReplies, AreFirstAloneReplies, Follows}
+use Rattle.dav_run.specs.Play.{Plays, PlaysSome, IsPlayable, RunsSome, AreRunReplies, AreSomeRunReplies, AreAloneReplies, AreFirstAloneReplies, Follows}
+use Rattle.dav_run.proofs.Promised.{promised_all, promised_some}
 
 -- ---- a script has one prefix
 
@@ -62,9 +63,9 @@ pub some_of_all : {old : Server} {ts : List Turn} {replies : List Response} (new
 some_of_all {ts = ts} new run = (ts, [], new, sym (append-nil ts), run)
 
 pub some_of_part : {old : Server} {ts : List Turn} {replies : List Response} (new : Server) → AnswersSome old ts replies new → RunsSome old ts replies
-some_of_part {old} new (first, t, rest, mid, ks, parts, run, stop) =
-    let left : Server = record { settings = old.settings; state = record { store = mid; locks = ks } } in
-    (first, t ∷ rest, left, parts, run)
+some_of_part {old} new some =
+    let left : Server = record { settings = old.settings; state = some.was } in
+    (some.front, some.turn ∷ some.back, left, some.turns_are, some.earlier)
 
 -- the run of the first turns, where there are so many, and their replies
 run_first : {s : Settings} (k : ℕ) (ts : List Turn) {old new : StoreState} {ls ms : Locks} (replies : List Response) → Runs s ts old ls replies new ms
@@ -108,7 +109,7 @@ same_error is = cc
 
 module _ (o : Option (List ℕ)) (s : ScriptContent) (read : IfSome o (λ text. IsShort text × IsScript text s)) (before after : Option (List ℕ)) where
   -- all replies, and no run alone is asked for
-  pub played_all : s.alone ≡ None → IsPrefix s.prefix → (lines : List ℕ) × AreReplies s lines × Appends before after lines
+  pub played_all : s.alone ≡ None → IsPrefix s.prefix → (lines : List ℕ) × AreRunReplies s lines × Appends before after lines
       → IfSome o (λ text. (lines : List ℕ) × Plays text lines × Appends before after lines)
   played_all none prefix (lines, are, wrote) = under o read
     where
@@ -116,10 +117,10 @@ module _ (o : Option (List ℕ)) (s : ScriptContent) (read : IfSome o (λ text. 
       under None given = tt
       under (Some text) given =
           let follows = subst (λ (a : Option ℕ). Follows s a []) (sym none) refl in
-          (lines, (s, lines, [], given.0, given.1, prefix, are, follows, sym (append-nil lines)), wrote)
+          (lines, (s, lines, [], given.0, given.1, prefix, promised_all s text lines given.1 are, follows, sym (append-nil lines)), wrote)
 
   -- all replies, and all of the run alone
-  pub played_alone : (place : ℕ) (mid : Option (List ℕ)) → s.alone ≡ Some place → IsPrefix s.prefix → (all : List ℕ) × AreReplies s all × Appends before mid all
+  pub played_alone : (place : ℕ) (mid : Option (List ℕ)) → s.alone ≡ Some place → IsPrefix s.prefix → (all : List ℕ) × AreRunReplies s all × Appends before mid all
       → (alone : List ℕ) × AreAloneReplies s place alone × Appends mid after alone
       → IfSome o (λ text. (lines : List ℕ) × Plays text lines × Appends before after lines)
   played_alone place mid some prefix (all, are, wrote) (alone, follow, appended) = under o read
@@ -128,10 +129,10 @@ module _ (o : Option (List ℕ)) (s : ScriptContent) (read : IfSome o (λ text. 
       under None given = tt
       under (Some text) given =
           let follows = subst (λ (a : Option ℕ). Follows s a alone) (sym some) follow in
-          (all ++ alone, (s, all, alone, given.0, given.1, prefix, are, follows, refl), appends_both before mid after all alone wrote appended)
+          (all ++ alone, (s, all, alone, given.0, given.1, prefix, promised_all s text all given.1 are, follows, refl), appends_both before mid after all alone wrote appended)
 
   -- the first replies, or none
-  pub played_some : (lines : List ℕ) × ((lines ≡ []) ⊎ (IsPrefix s.prefix × AreFirstReplies s lines)) × Appends before after lines
+  pub played_some : (lines : List ℕ) × ((lines ≡ []) ⊎ (IsPrefix s.prefix × AreSomeRunReplies s lines)) × Appends before after lines
       → IfSome o (λ text. (lines : List ℕ) × PlaysSome text lines × Appends before after lines)
   played_some (lines, inl nothing, wrote) = under o
     where
@@ -142,10 +143,10 @@ module _ (o : Option (List ℕ)) (s : ScriptContent) (read : IfSome o (λ text. 
     where
       under : (p : Option (List ℕ)) → IfSome p (λ text. IsShort text × IsScript text s) → IfSome p (λ text. (lines : List ℕ) × PlaysSome text lines × Appends before after lines)
       under None given = tt
-      under (Some text) given = (lines, inr (s, given.0, given.1, some.0, inl some.1), wrote)
+      under (Some text) given = (lines, inr (s, given.0, given.1, some.0, inl (promised_some s text lines given.1 some.1)), wrote)
 
   -- all replies, and the first lines of the run alone, or none of them
-  pub played_some_alone : (place : ℕ) (mid : Option (List ℕ)) → s.alone ≡ Some place → IsPrefix s.prefix → (all : List ℕ) × AreReplies s all × Appends before mid all
+  pub played_some_alone : (place : ℕ) (mid : Option (List ℕ)) → s.alone ≡ Some place → IsPrefix s.prefix → (all : List ℕ) × AreRunReplies s all × Appends before mid all
       → (alone : List ℕ) × ((alone ≡ []) ⊎ AreFirstAloneReplies s place alone) × Appends mid after alone
       → IfSome o (λ text. (lines : List ℕ) × PlaysSome text lines × Appends before after lines)
   played_some_alone place mid is prefix (all, are, wrote) (alone, some, appended) = under o read some
@@ -158,9 +159,10 @@ module _ (o : Option (List ℕ)) (s : ScriptContent) (read : IfSome o (λ text. 
       under None given which = tt
       under (Some text) given (inl nothing) =
           let (replies, left, run, lines_are) = are in
-          (all ++ alone, inr (s, given.0, given.1, prefix, inl (replies, some_of_all left run, ap (λ l. all ++ l) nothing ∙ append-nil all ∙ lines_are)), both)
+          let written : AreSomeRunReplies s (all ++ alone) = (replies, some_of_all left run, ap (λ l. all ++ l) nothing ∙ append-nil all ∙ lines_are) in
+          (all ++ alone, inr (s, given.0, given.1, prefix, inl (promised_some s text (all ++ alone) given.1 written)), both)
       under (Some text) given (inr first) =
-          (all ++ alone, inr (s, given.0, given.1, prefix, inr (place, all, alone, is, are, first, refl)), both)
+          (all ++ alone, inr (s, given.0, given.1, prefix, inr (place, all, alone, is, promised_all s text all given.1 are, first, refl)), both)
 
 -- nothing was written before there was a script
 pub none_played : (o : Option (List ℕ)) (a : Option (List ℕ)) → IfSome o (λ text. (lines : List ℕ) × PlaysSome text lines × Appends a a lines)

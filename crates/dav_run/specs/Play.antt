@@ -1,12 +1,14 @@
 -- What is written when a script is played.
-use Rattle.std.specs.Prelude.{◌≡◌, ◌+◌, ◌⊎◌, ◌++◌, ℕ, max, List, [], map, take, drop, slice_get, if◌then◌else◌, Option, Some, None, IsSomeAnd, false}
+use Rattle.std.specs.Prelude.{◌≡◌, ◌≤◌, ◌+◌, ◌⊎◌, ◌++◌, ℕ, max, List, [], map, take, drop, slice_get, if◌then◌else◌, Option, Some, None, IsSomeAnd, true, false}
 use Rattle.dav_core.specs.Asking.{StoreState}
 use Rattle.dav_core.specs.Locks.{Lock}
 use Rattle.dav_core.specs.World.{empty_from}
 use Rattle.dav_engine.specs.Plan.{Locks, ServerState}
 use Rattle.dav_engine.specs.Response.{Response}
-use Rattle.dav_server.specs.Isolation.{Alone}
+use Rattle.dav_server.specs.Headline.{Headline}
+use Rattle.dav_server.specs.Isolation.{Alone, TokensDiffer}
 use Rattle.dav_server.specs.Machine.{Settings}
+use Rattle.dav_server.specs.Promises.{Promises}
 use Rattle.dav_server.specs.Run.{Turn}
 use Rattle.dav_server.specs.Server.{Server, AnswersAll}
 use Rattle.dav_server.specs.Setup.{IsPrefix}
@@ -53,8 +55,8 @@ IsPlayable text = (s : ScriptContent) × IsShort text × IsScript text s × IsPr
 -- ---- the run of all requests
 
 -- The lines are the replies of the machine's run of all requests of the script, from the server that it sets up.
-abbrev pub AreReplies : ScriptContent → List ℕ → Type 0
-AreReplies s lines =
+abbrev pub AreRunReplies : ScriptContent → List ℕ → Type 0
+AreRunReplies s lines =
     (replies : List Response) × (left : Server)
     × AnswersAll (new_server s) (turns_for s) replies left × (lines ≡ lines_of replies)
 
@@ -64,9 +66,27 @@ RunsSome old ts replies =
     (first : List Turn) × (rest : List Turn) × (left : Server) × (ts ≡ first ++ rest) × AnswersAll old first replies left
 
 -- The lines are the replies to the first requests of the script, perhaps to none.
-abbrev pub AreFirstReplies : ScriptContent → List ℕ → Type 0
-AreFirstReplies s lines =
+abbrev pub AreSomeRunReplies : ScriptContent → List ℕ → Type 0
+AreSomeRunReplies s lines =
     (replies : List Response) × RunsSome (new_server s) (turns_for s) replies × (lines ≡ lines_of replies)
+
+-- The lines are the replies of the machine's run of these requests, from the server that the script sets up, and of them is true what
+-- each run promises; and the headline, where the server has locks and begins empty, and no two requests hand in one token.
+pub record AreRepliesTo (s : ScriptContent) (ts : List Turn) (lines : List ℕ) : Type 0 where
+  pub replies : List Response
+  pub left : Server
+  pub run : AnswersAll (new_server s) ts replies left
+  pub promises : Promises (new_server s) ts replies
+  pub headline : s.locks ≡ true → s.next ≤ 1 → TokensDiffer ts → Headline (settings_for s) ts replies left
+  pub lines_are : lines ≡ lines_of replies
+
+-- they are those to all requests of the script
+abbrev pub AreReplies : ScriptContent → List ℕ → Type 0
+AreReplies s lines = AreRepliesTo s (turns_for s) lines
+
+-- they are those to its first requests, perhaps to none
+abbrev pub AreFirstReplies : ScriptContent → List ℕ → Type 0
+AreFirstReplies s lines = (first : List Turn) × (rest : List Turn) × (turns_for s ≡ first ++ rest) × AreRepliesTo s first lines
 
 -- ---- the run alone
 

@@ -9,7 +9,7 @@ ghost use Rattle.dav_server.specs.Isolation.{Alone};
 ghost use Rattle.dav_server.specs.Naming.{NamesLock};
 ghost use Rattle.dav_server.specs.Server.{AnswersAll};
 ghost use Rattle.dav_server.specs.Setup.{IsPrefix};
-ghost use Rattle.dav_run.specs.Play.{Plays, PlaysSome, IsPlayable, AreReplies, AreFirstReplies, AreAloneReplies, AreFirstAloneReplies, MayBeGranted, RunsSome, settings_for, new_state, turn_for, fault_status};
+ghost use Rattle.dav_run.specs.Play.{Plays, PlaysSome, IsPlayable, AreRunReplies, AreSomeRunReplies, AreAloneReplies, AreFirstAloneReplies, MayBeGranted, RunsSome, settings_for, new_state, turn_for, fault_status};
 ghost use Rattle.dav_run.specs.declared.play.Fault.TheVariants.{NotScript, Io, Memory};
 
 use crate::print::{alone_line, reply_line};
@@ -113,6 +113,9 @@ impl From<ScriptError> for Fault {
 /// its principal, run alone on a second server. Returns [`PLAYED`], or the status of the first fault: after
 /// [`OUT_OF_MEMORY`] the lines that were written are the first of these. Where memory ran out, but the replies before
 /// that can't be written, the status is [`IO_FAILED`].
+///
+/// Of the replies that are written the promises of [`DavHandler::run`] are true; and the headline of [`run_refused`] is, where the
+/// server begins empty and has locks, and no two requests hand in one token.
 pub fn play<R: Read, W: Write>(alloc: Global, reader: &mut R, writer: &mut W) -> u8
     ensures status { result ≤ 3 }
     ensures played { result ≡ 0 → IfSome (R.remaining reader.old) (λ text.
@@ -169,13 +172,13 @@ fn play_through<R: Read, W: Write>(
 // Plays all requests of a script on a new server, and writes the replies.
 fn play_all<W: Write>(alloc: Global, script: &Script, writer: &mut W) -> Result<(), Fault>
     ensures prefix { OnOk result (IsPrefix (script_content script.now).prefix) }
-    ensures played { OnOk result ((lines : List ℕ) × AreReplies (script_content script.now) lines
+    ensures played { OnOk result ((lines : List ℕ) × AreRunReplies (script_content script.now) lines
         × Appends (W.contents writer.old) (W.contents writer.new) lines) }
     ensures bad { IsErrOf result NotScript → ¬ IsPrefix (script_content script.now).prefix }
     ensures untouched { IsErrOf result NotScript → writer.new ≡ writer.old }
     ensures short { IsErrOf result Memory → (lines : List ℕ)
         × ((lines ≡ []) ⊎ (IsPrefix (script_content script.now).prefix
-        × AreFirstReplies (script_content script.now) lines))
+        × AreSomeRunReplies (script_content script.now) lines))
         × Appends (W.contents writer.old) (W.contents writer.new) lines }
 {
     let mut handler = server_of(alloc, script)?;

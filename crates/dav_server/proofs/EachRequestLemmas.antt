@@ -5,13 +5,14 @@ use Rattle.dav_core.specs.Path.{names}
 use Rattle.dav_core.specs.World.{World, IsWorld, node_at, last_moment}
 use Rattle.dav_engine.specs.Plan.{ServerState}
 use Rattle.dav_engine.specs.Response.{Response}
-use Rattle.dav_headers.specs.ETag.{tag_text}
-use Rattle.dav_server.specs.EachRequest.{ReadsLeaveAll, NotModifiedTells, LosesNoUpdate, OnlyCreates, RefusalsLeaveAll, HrefsLeadBack}
+use Rattle.dav_server.specs.EachRequest.{RunStep}
 use Rattle.dav_server.specs.Leaving.{SameContent, SafeLeaves, CreateOnlyLeaves, RefusedStatusLeaves}
 use Rattle.dav_server.specs.Machine.{Asked, Settings, Steps}
+use Rattle.dav_server.specs.Promises.{reading, created, refused, unmodified, updated, hrefs, Keeps, step_of}
 use Rattle.dav_server.specs.Run.{Turn, begun}
 use Rattle.dav_server.specs.Server.{Server}
-use Rattle.dav_server.specs.TagLaws.{AreShowable, ShownIn}
+use Rattle.dav_server.specs.Setup.{IsPrefix}
+use Rattle.dav_server.specs.TagLaws.{AreShowable}
 use Rattle.dav_server.proofs.HrefReplies.{step_leads_back}
 use Rattle.dav_server.proofs.MeansWorld.{begun_world, all_front, all_back, reads_leave_all, runs_keep_worlds}
 use Rattle.dav_server.proofs.NoLostUpdate.{no_lost_update}
@@ -31,7 +32,7 @@ create_only_leaves s x was now reply step p n is there = (
 )
 
 pub refused_status_leaves : (s : Settings) (x : Asked) (was now : ServerState) (reply : Response) → Steps s x was.store was.locks reply now.store now.locks → RefusedStatusLeaves x reply was now
-refused_status_leaves s x was now reply step refused = refused_leaves s x was.store now.store was.locks now.locks reply refused step
+refused_status_leaves s x was now reply step is = refused_leaves s x was.store now.store was.locks now.locks reply is step
 
 -- ---- a request of a run
 
@@ -42,42 +43,40 @@ at_begin t was = record { store = begun t.refusals was.store; locks = was.locks 
 same_content : (t : Turn) (was now : ServerState) → SameContent (at_begin t was) now → SameContent was now
 same_content t was now (world, locks) = (world ∙ begun_world t.refusals was.store, locks)
 
-pub reads_leave : (old : Server) (ts : List Turn) (replies : List Response) → ReadsLeaveAll old ts replies
-reads_leave old ts replies u safe = same_content u.turn u.was u.now (safe_leaves old.settings u.turn.asked (at_begin u.turn u.was) u.now u.reply u.stepped safe)
+pub reads_leave : {old : Server} {ts : List Turn} {replies : List Response} (u : RunStep old ts replies) → Keeps reading (step_of u)
+reads_leave {old} u safe = same_content u.turn u.was u.now (safe_leaves old.settings u.turn.asked (at_begin u.turn u.was) u.now u.reply u.stepped safe)
 
-pub only_creates : (old : Server) (ts : List Turn) (replies : List Response) → OnlyCreates old ts replies
-only_creates old ts replies u p n is there =
+pub only_creates : {old : Server} {ts : List Turn} {replies : List Response} (u : RunStep old ts replies) → Keeps created (step_of u)
+only_creates {old} u p n is there =
     let here = ap (λ (w : World). node_at w (names p)) (begun_world u.turn.refusals u.was.store) ∙ there in
     let (left, failed) = create_only_leaves old.settings u.turn.asked (at_begin u.turn u.was) u.now u.reply u.stepped p n is here in
     (same_content u.turn u.was u.now left, failed)
 
-pub refusals_leave : (old : Server) (ts : List Turn) (replies : List Response) → RefusalsLeaveAll old ts replies
-refusals_leave old ts replies u refused =
-    let (world, list) = refused_status_leaves old.settings u.turn.asked (at_begin u.turn u.was) u.now u.reply u.stepped refused in
+pub refusals_leave : {old : Server} {ts : List Turn} {replies : List Response} (u : RunStep old ts replies) → Keeps refused (step_of u)
+refusals_leave {old} u is =
+    let (world, list) = refused_status_leaves old.settings u.turn.asked (at_begin u.turn u.was) u.now u.reply u.stepped is in
     (world ∙ begun_world u.turn.refusals u.was.store, list)
 
-pub loses_no_update : (old : Server) (ts : List Turn) (replies : List Response) → AreShowable ts → LosesNoUpdate old ts replies
-loses_no_update old ts replies small u world p tag bytes told updates good =
-    let all : AreShowable (u.front ++ u.turn ∷ u.back) = subst AreShowable u.turns_are small in
-    let first : AreShowable u.front = all_front (λ t. t.asked.moment ≤ last_moment) u.front (u.turn ∷ u.back) all in
-    no_lost_update old.settings u.front u.turn old.state.store u.was.store u.now.store old.state.locks u.was.locks u.now.locks u.before u.reply p tag bytes
-    world first u.earlier told updates u.stepped good
+module _ (old : Server) (ts : List Turn) (replies : List Response) (small : AreShowable ts) (world : IsWorld old.state.store.world) (u : RunStep old ts replies) where
+  all_small : AreShowable (u.front ++ u.turn ∷ u.back)
+  all_small = subst AreShowable u.turns_are small
 
-pub not_modified_tells : (old : Server) (ts : List Turn) (replies : List Response) → AreShowable ts → NotModifiedTells old ts replies
-not_modified_tells old ts replies small u new ms world later p tag bytes is lacks shown =
-    let text = tag_text tag.weak tag.tag in
-    let all : AreShowable (u.front ++ u.turn ∷ u.back) = subst AreShowable u.turns_are small in
-    let by_turns : ShownIn (u.front ++ u.turn ∷ u.back) replies text bytes = subst (λ (l : List Turn). ShownIn l replies text bytes) u.turns_are shown in
-    let here : ShownIn (u.front ++ u.turn ∷ u.back) (u.before ++ u.reply ∷ u.after) text bytes =
-    subst (λ (l : List Response). ShownIn (u.front ++ u.turn ∷ u.back) l text bytes) u.replies_are by_turns in
-    not_modified_is_true old.settings u.front u.back u.turn old.state.store u.was.store u.now.store new old.state.locks u.was.locks u.now.locks ms
-    u.before u.after u.reply p tag bytes world all u.earlier u.stepped later is lacks here
+  front_small : AreShowable u.front
+  front_small = all_front (λ t. t.asked.moment ≤ last_moment) u.front (u.turn ∷ u.back) all_small
 
-pub hrefs_lead_back : (old : Server) (ts : List Turn) (replies : List Response) → AreShowable ts → HrefsLeadBack old ts replies
-hrefs_lead_back old ts replies small u fits world =
-    let all : AreShowable (u.front ++ u.turn ∷ u.back) = subst AreShowable u.turns_are small in
-    let first : AreShowable u.front = all_front (λ t. t.asked.moment ≤ last_moment) u.front (u.turn ∷ u.back) all in
-    let later : AreShowable (u.turn ∷ u.back) = all_back (λ t. t.asked.moment ≤ last_moment) u.front (u.turn ∷ u.back) all in
-    let kept = runs_keep_worlds old.settings u.front old.state.store u.was.store old.state.locks u.was.locks u.before world first u.earlier in
-    step_leads_back old.settings u.turn.asked (begun u.turn.refusals u.was.store) u.now.store u.was.locks u.now.locks u.reply u.stepped
-    fits (subst IsWorld (sym (begun_world u.turn.refusals u.was.store)) kept) (All-head (λ t. t.asked.moment ≤ last_moment) u.turn u.back later)
+  pub loses_no_update : Keeps updated (step_of u)
+  loses_no_update p tag bytes told updates good =
+      no_lost_update old.settings u.front u.turn old.state.store u.was.store u.now.store old.state.locks u.was.locks u.now.locks u.before u.reply p tag bytes
+      world front_small u.earlier told updates u.stepped good
+
+  pub not_modified_tells : Keeps unmodified (step_of u)
+  not_modified_tells end later p tag bytes is lacks shown =
+      not_modified_is_true old.settings u.front u.back u.turn old.state.store u.was.store u.now.store end.store old.state.locks u.was.locks u.now.locks end.locks
+      u.before u.after u.reply p tag bytes world all_small u.earlier u.stepped later is lacks shown
+
+  pub hrefs_lead_back : IsPrefix old.settings.prefix → Keeps hrefs (step_of u)
+  hrefs_lead_back fits =
+      let later : AreShowable (u.turn ∷ u.back) = all_back (λ t. t.asked.moment ≤ last_moment) u.front (u.turn ∷ u.back) all_small in
+      let kept = runs_keep_worlds old.settings u.front old.state.store u.was.store old.state.locks u.was.locks u.before world front_small u.earlier in
+      step_leads_back old.settings u.turn.asked (begun u.turn.refusals u.was.store) u.now.store u.was.locks u.now.locks u.reply u.stepped
+      fits (subst IsWorld (sym (begun_world u.turn.refusals u.was.store)) kept) (All-head (λ t. t.asked.moment ≤ last_moment) u.turn u.back later)

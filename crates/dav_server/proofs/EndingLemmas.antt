@@ -17,11 +17,13 @@ use Rattle.dav_engine.specs.Plan.{Locks}
 use Rattle.dav_engine.specs.Response.{Response}
 use Rattle.dav_engine.specs.SparingPlans.{IsStranger}
 use Rattle.dav_engine.proofs.Theorems.{kept_locks_stand, kept_locks_stand_cut, options_only_reads, reading_keeps_locks, put_keeps_locks, mkcol_keeps_locks, copymove_keeps_locks, delete_keeps_locks, lock_keeps_locks, unlock_keeps_locks, propfind_only_reads, proppatch_keeps_locks}
-use Rattle.dav_server.specs.Ending.{NoLockEnds, NoLockEndsCut, EndsNoLock}
+use Rattle.dav_server.specs.EachRequest.{RunStep}
+use Rattle.dav_server.specs.Ending.{NoLockEnds, NoLockEndsCut}
 use Rattle.dav_server.specs.Get.{get, is_get}
 use Rattle.dav_server.specs.Head.{Request, IsHead}
 use Rattle.dav_server.specs.Machine.{Settings, Asked, PlanOf, gets, heads, puts, patches, makes, deletes, copies, moves, offers, finds_properties, sets_properties, locks, releases, MeansOf, not_allowed, no_path, no_body, method, Means, no_head, no_method, known, StepCut, untouched, cut, steps}
 use Rattle.dav_server.specs.Naming.{NamesToken, by_lock_token}
+use Rattle.dav_server.specs.Promises.{kept, Keeps, step_of}
 use Rattle.dav_server.specs.Run.{Turn, begun}
 use Rattle.dav_server.specs.Server.{Server}
 use Rattle.dav_server.proofs.GetWorld.{get_is_reading}
@@ -67,7 +69,7 @@ cut_keeps s x h {old} {ls = ls} stands other own (cut plan {new} {ms} means some
 pub no_lock_ends_cut : NoLockEndsCut
 no_lock_ends_cut s x old new ls ms h stands other own stops = cut_keeps s x h stands other own stops
 
--- of a run, between any two requests
-pub ends_no_lock : (old : Server) (ts : List Turn) (replies : List Response) → EndsNoLock old ts replies
-ends_no_lock old ts replies front back t before after reply mid new ks ms h is given ran step stands other own =
-    no_lock_ends old.settings t.asked (begun t.refusals mid) new ks ms reply h stands other own step
+-- of a run, each request
+pub ends_no_lock : {old : Server} {ts : List Turn} {replies : List Response} (u : RunStep old ts replies) → Keeps kept (step_of u)
+ends_no_lock {old} u h stands other own =
+    no_lock_ends old.settings u.turn.asked (begun u.turn.refusals u.was.store) u.now.store u.was.locks u.now.locks u.reply h stands other own u.stepped

@@ -1,5 +1,5 @@
 -- Isolation in a run from no locks, from the grant on.
-use Rattle.std.proofs.Common.{◌≡◌, ◌≢◌, ◌++◌, ℕ, suc, true, List, [], ◌∷◌, All, AllPairs, Option, Some, None, refl, sym, ap, subst, ◌∙◌, append-nil, ◌≤◌, arith}
+use Rattle.std.proofs.Common.{◌≡◌, ◌≢◌, ◌++◌, ℕ, suc, true, List, [], ◌∷◌, All, AllPairs, Option, Some, None, refl, sym, ap, subst, ◌∙◌, ◌≤◌, arith}
 use Rattle.std.proofs.lemmas.List.Elements.{All-contains, All-cons, All-head, All-tail, All-weaker, Contains-append_right}
 use Rattle.std.specs.Option.{is_some}
 use Rattle.dav_core.specs.Locks.{Lock}
@@ -17,7 +17,7 @@ use Rattle.dav_server.specs.Run.{Turn, begun, Runs}
 use Rattle.dav_server.specs.Server.{Server}
 use Rattle.dav_server.specs.TagLaws.{AreShowable}
 use Rattle.dav_server.proofs.IsolationLemmas.{holders_are_alone}
-use Rattle.dav_server.proofs.ListLemmas.{shares_locks, steps_change_lists, tokens_are_handed_in}
+use Rattle.dav_server.proofs.ListLemmas.{run_shares, steps_change_lists, tokens_are_handed_in}
 use Rattle.dav_server.proofs.MeansWorld.{turn_keeps, run_keeps, all_front, all_back}
 
 -- two turns that hand in different tokens
@@ -55,7 +55,7 @@ is_isolated_from_grants old ts replies small loaded front later back us grant h 
     let kept = run_keeps world (all_front P front (grant ∷ (later ++ back)) all_small) ran in
     let after_grant = turn_keeps grant asked (All-head P grant (later ++ back) rest_small) kept.world step in
     let from_none = subst (λ (l : Locks). Runs old.settings front old.state.store l before asked (Some ks)) empty ran in
-    let shared : CoveringAreShared ks = shares_locks old front before front [] before [] asked [] ks (sym (append-nil front)) (sym (append-nil before)) empty none_are_shared ran in
+    let shared : CoveringAreShared ks = run_shares old.settings front old.state.store asked [] ks before none_are_shared from_none in
     let still : CoveringAreShared js = changes_keep_shared (client grant.asked) ks js (steps_change_lists old.settings grant.asked (begun grant.refusals asked) granted ks (Some js) reply step) shared in
     let tokens : All (λ l. IsHandedIn front l.token) ks = tokens_are_handed_in old.settings front old.state.store asked ks before from_none in
     let others : All (λ l. l.token ≢ h.token) ks = All-weaker (λ (l : Lock). IsHandedIn front l.token) (λ (l : Lock). l.token ≢ h.token)

@@ -42,6 +42,7 @@ pub mod IsolationLemmas
 pub mod GrantedRuns
 pub mod FromNoneLemmas
 pub mod EachRequestLemmas
+pub mod PromiseLemmas
 pub mod HeadlineLemmas
 pub mod AloneLemmas
 pub mod SpareLemmas

@@ -1,5 +1,5 @@
 -- The list of locks over whole runs.
-use Rattle.std.proofs.Common.{ℕ, List, All, Contains, Some, None, subst}
+use Rattle.std.proofs.Common.{◌≡◌, ℕ, List, All, Contains, Some, None, subst}
 use Rattle.std.proofs.lemmas.List.Elements.{All-nil, All-head, All-tail, All-contains_itself}
 use Rattle.dav_core.specs.declared.method.DavMethod.{DavMethod}
 use Rattle.dav_core.specs.declared.method.DavMethod.TheVariants.{Get, Head, Put, Patch, Copy, Move}
@@ -17,10 +17,12 @@ use Rattle.dav_engine.specs.Options.{options}
 use Rattle.dav_engine.specs.Plan.{Locks}
 use Rattle.dav_engine.specs.Response.{Response}
 use Rattle.dav_engine.proofs.Theorems.{lists_are_changed, lists_are_changed_cut, changes_keep_shared, tokens_after_all, options_only_reads, reading_changes_list, put_changes_list, mkcol_changes_list, copymove_changes_list, delete_changes_list, lock_changes_list, unlock_changes_list, propfind_only_reads, proppatch_changes_list}
+use Rattle.dav_server.specs.EachRequest.{RunStep}
 use Rattle.dav_server.specs.Get.{get, is_get}
 use Rattle.dav_server.specs.Head.{Request}
-use Rattle.dav_server.specs.LockLists.{StepsChangeLists, StepsChangeListsCut, SharesLocks, IsHandedIn, TokensAreHandedIn}
+use Rattle.dav_server.specs.LockLists.{StepsChangeLists, StepsChangeListsCut, IsHandedIn, TokensAreHandedIn}
 use Rattle.dav_server.specs.Machine.{Settings, Asked, client, PlanOf, gets, heads, puts, patches, makes, deletes, copies, moves, offers, finds_properties, sets_properties, locks, releases, MeansOf, not_allowed, no_path, no_body, method, Means, no_head, no_method, known, Steps, StepCut, untouched, cut, steps}
+use Rattle.dav_server.specs.Promises.{shared, Keeps, step_of}
 use Rattle.dav_server.specs.Run.{Turn, Runs, no_more, one_more}
 use Rattle.dav_server.specs.Server.{Server}
 use Rattle.dav_server.proofs.GetWorld.{get_is_reading}
@@ -79,10 +81,20 @@ module _ (s : Settings) where
     run_lasts {ls = Some ls} all g (one_more {t} {ts = us} {ks = ks} one more) =
         run_lasts (All-tail (Contains ts) t us all) (after_step ks (All-head (Contains ts) t us all) g one) more
 
-pub shares_locks : (old : Server) (ts : List Turn) (replies : List Response) → SharesLocks old ts replies
-shares_locks old ts replies front back before after mid ls ks is replied listed shared ran =
-    run_lasts old.settings CoveringAreShared front (λ t here ls ms changes was. changes_keep_shared (client t.asked) ls ms changes was)
-    (All-contains_itself front) shared (subst (λ (l : Locks). Runs old.settings front old.state.store l before mid (Some ks)) listed ran)
+-- from a list in which locks that cover one path are shared
+pub run_shares : (s : Settings) (ts : List Turn) (old new : StoreState) (ls ms : List Lock) (replies : List Response) → CoveringAreShared ls → Runs s ts old (Some ls) replies new (Some ms) → CoveringAreShared ms
+run_shares s ts old new ls ms replies covering ran =
+    run_lasts s CoveringAreShared ts (λ t here ls ms changes was. changes_keep_shared (client t.asked) ls ms changes was) (All-contains_itself ts) covering ran
+
+-- of a run, each request
+step_shares : {s : Settings} {x : Asked} {old new : StoreState} {reply : Response} (was now : Locks) (ls ms : List Lock) → was ≡ Some ls → now ≡ Some ms → Steps s x old was reply new now → CoveringAreShared ls → CoveringAreShared ms
+step_shares {s} {x} {old} {new} {reply} was now ls ms were are step covering =
+    let from_list = subst (λ (l : Locks). Steps s x old l reply new now) were step in
+    let to_list = subst (λ (l : Locks). Steps s x old (Some ls) reply new l) are from_list in
+    changes_keep_shared (client x) ls ms (steps_change_lists s x old new ls (Some ms) reply to_list) covering
+
+pub shares_locks : {old : Server} {ts : List Turn} {replies : List Response} (u : RunStep old ts replies) → Keeps shared (step_of u)
+shares_locks u ls ms were are covering = step_shares u.was.locks u.now.locks ls ms were are u.stepped covering
 
 pub tokens_are_handed_in : TokensAreHandedIn
 tokens_are_handed_in s ts old new ms replies ran =

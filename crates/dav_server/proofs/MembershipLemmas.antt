@@ -15,12 +15,14 @@ use Rattle.dav_engine.specs.Options.{options}
 use Rattle.dav_engine.specs.Plan.{Locks}
 use Rattle.dav_engine.specs.Response.{Response}
 use Rattle.dav_engine.proofs.Theorems.{plans_leave_members, plans_leave_members_cut, options_only_reads, propfind_only_reads, reading_leaves_members, put_leaves_members, mkcol_leaves_members, delete_leaves_members, copymove_leaves_members, lock_leaves_members, unlock_leaves_members, proppatch_leaves_members}
+use Rattle.dav_server.specs.EachRequest.{RunStep}
 use Rattle.dav_server.specs.Get.{get, is_get}
 use Rattle.dav_server.specs.Head.{Request, IsHead}
 use Rattle.dav_server.specs.Headers.{headers_of}
 use Rattle.dav_server.specs.Machine.{Settings, Asked, client, PlanOf, gets, heads, puts, patches, makes, deletes, copies, moves, offers, finds_properties, sets_properties, locks, releases, MeansOf, not_allowed, no_path, no_body, method, Means, no_head, no_method, known, StepCut, untouched, cut, steps}
-use Rattle.dav_server.specs.Membership.{MembersAreKept, MembersAreKeptCut, KeepsMembers}
+use Rattle.dav_server.specs.Membership.{MembersAreKept, MembersAreKeptCut}
 use Rattle.dav_server.specs.Naming.{NamesLock}
+use Rattle.dav_server.specs.Promises.{members, Keeps, step_of}
 use Rattle.dav_server.specs.Run.{Turn, begun}
 use Rattle.dav_server.specs.Server.{Server}
 use Rattle.dav_server.specs.TagLaws.{AreShowable}
@@ -70,8 +72,8 @@ pub members_are_kept_cut : MembersAreKeptCut
 members_are_kept_cut s x old new ls ms h exclusive stands other small world folder stops = cut_keeps s x old ls h exclusive stands other small world folder stops
 
 -- of a run, each request
-pub keeps_members : (old : Server) (ts : List Turn) (replies : List Response) → AreShowable ts → KeepsMembers old ts replies
-keeps_members old ts replies small u h world exclusive stands other folder =
+pub keeps_members : (old : Server) (ts : List Turn) (replies : List Response) → AreShowable ts → IsWorld old.state.store.world → (u : RunStep old ts replies) → Keeps members (step_of u)
+keeps_members old ts replies small world u h exclusive stands other folder =
     let P = λ (t : Turn). t.asked.moment ≤ last_moment in
     let all : AreShowable (u.front ++ u.turn ∷ u.back) = subst AreShowable u.turns_are small in
     let kept = run_keeps world (all_front P u.front (u.turn ∷ u.back) all) u.earlier in

@@ -1,5 +1,5 @@
--- What the clauses of a run ask of one step, and steps that keep all of them but one.
-use Rattle.std.proofs.Common.{◌≡◌, ◌≢◌, ◌++◌, ℕ, true, false, true≢false, List, [], ◌∷◌, All, Contains, codes, Some, Ok, inl, inr, refl, sym, ap, subst, ◌∙◌}
+-- Steps that keep all promises but one.
+use Rattle.std.proofs.Common.{◌≡◌, ◌≢◌, ℕ, true, false, true≢false, List, [], ◌∷◌, All, Contains, codes, Some, Ok, inl, inr, refl, sym, ap, subst, ◌∙◌}
 use Rattle.std.proofs.lemmas.List.Elements.{All-nil, All-cons, All-contains}
 use Rattle.std.specs.List.{zip}
 use Rattle.http_header.specs.FieldValue.{FieldValue}
@@ -8,7 +8,7 @@ use Rattle.dav_core.specs.declared.method.DavMethod.{DavMethod}
 use Rattle.dav_core.specs.declared.method.DavMethod.TheVariants.{Put, Patch}
 use Rattle.dav_core.specs.LockLaws.{CoveringAreShared}
 use Rattle.dav_core.specs.Locks.{Lock, covers}
-use Rattle.dav_core.specs.World.{World, is_folder}
+use Rattle.dav_core.specs.World.{World}
 use Rattle.dav_headers.specs.ETagList.{IsTagList, star as every_tag}
 use Rattle.dav_engine.specs.Guard.{folder_of, Stands}
 use Rattle.dav_engine.specs.Members.{SameMembers}
@@ -16,14 +16,12 @@ use Rattle.dav_engine.specs.Plan.{ServerState}
 use Rattle.dav_engine.specs.PropfindLaws.{responses_in}
 use Rattle.dav_engine.specs.Response.{Response}
 use Rattle.dav_engine.specs.Sparing.{Spared}
-use Rattle.dav_server.specs.EachRequest.{UnmodifiedFinds, UpdateFinds}
 use Rattle.dav_server.specs.Head.{Request, IsHead}
 use Rattle.dav_server.specs.Headers.{headers_of}
 use Rattle.dav_server.specs.HrefLaws.{TellsOfOne}
-use Rattle.dav_server.specs.Leaving.{SafeLeaves, CreateOnlyLeaves, RefusedStatusLeaves}
 use Rattle.dav_server.specs.Machine.{Asked}
 use Rattle.dav_server.specs.Method.{GivesServed}
-use Rattle.dav_server.specs.Naming.{NamesToken, NamesLock}
+use Rattle.dav_server.specs.Promises.{OneStep, Promise, reading, created, refused, unmodified, updated, passed, kept, shared, tags, hrefs, members, Keeps}
 use Rattle.dav_server.specs.Run.{Turn}
 use Rattle.dav_server.specs.TagLaws.{is_safe, Shows, EqualTagsShowEqualBytes}
 use Rattle.dav_server.specs.UpdateLaws.{is_update, IsSuccess}
@@ -31,51 +29,14 @@ use Rattle.dav_server.proofs.HeadLemmas.{one_head}
 use Rattle.dav_server.proofs.MeansWorld.{asks_one}
 use Rattle.dav_server.proofs.WorkedRun.{turn_with, settings, no_tags}
 
--- a request, the turns before it with their replies, its own reply, and the server before it and after it
-pub record Step : Type 0 where
-  pub turns : List Turn
-  pub replies : List Response
-  pub asked : Asked
-  pub reply : Response
-  pub was : ServerState
-  pub now : ServerState
-
--- the clauses of a run that ask something of each step, under the names that they have in the contract of a run
-pub data Clause : Type 0 where
-  reading : Clause
-  created : Clause
-  refused : Clause
-  unmodified : Clause
-  updated : Clause
-  passed : Clause
-  kept : Clause
-  shared : Clause
-  tags : Clause
-  hrefs : Clause
-  members : Clause
-
--- what each of them asks of a step
-abbrev pub Keeps : Clause → Step → Type 0
-Keeps reading s = SafeLeaves s.asked s.was s.now
-Keeps created s = CreateOnlyLeaves settings s.asked s.reply s.was s.now
-Keeps refused s = RefusedStatusLeaves s.asked s.reply s.was s.now
-Keeps unmodified s = UnmodifiedFinds settings (s.turns ++ turn_with s.asked ∷ []) (s.replies ++ s.reply ∷ []) s.asked s.reply s.was
-Keeps updated s = UpdateFinds settings s.turns s.replies s.asked s.reply s.was
-Keeps passed s = (h : Lock) → h.shared ≡ false → Stands h s.was.locks → ¬ NamesLock h s.asked → Spared (covers h) s.was.store.world s.now.store.world
-Keeps kept s = (h : Lock) → Stands h s.was.locks → ¬ NamesToken s.asked h.token → s.asked.token ≢ Some h.token → Stands h s.now.locks
-Keeps shared s = (ls ms : List Lock) → s.was.locks ≡ Some ls → s.now.locks ≡ Some ms → CoveringAreShared ls → CoveringAreShared ms
-Keeps tags s = EqualTagsShowEqualBytes (s.turns ++ turn_with s.asked ∷ []) (s.replies ++ s.reply ∷ [])
-Keeps hrefs s = All (TellsOfOne settings s.asked) (responses_in s.reply.body)
-Keeps members s = (h : Lock) → h.shared ≡ false → Stands h s.was.locks → ¬ NamesLock h s.asked → is_folder s.was.store.world (folder_of h) ≡ true → SameMembers (folder_of h) s.was.store.world s.now.store.world
-
 -- a step that keeps all of them
-abbrev pub KeepsAll : Step → Type 0
-KeepsAll s = (d : Clause) → Keeps d s
+abbrev pub KeepsAll : OneStep → Type 0
+KeepsAll s = (d : Promise) → Keeps d s
 
--- one that breaks this clause, and keeps all others
-pub record BreaksOnly (c : Clause) (s : Step) : Type 0 where
-  pub broken : ¬ Keeps c s
-  pub others : (d : Clause) → d ≢ c → Keeps d s
+-- one that breaks this promise, and keeps all others
+pub record BreaksOnly (p : Promise) (s : OneStep) : Type 0 where
+  pub broken : ¬ Keeps p s
+  pub others : (d : Promise) → d ≢ p → Keeps d s
 
 -- ---- what changes nothing
 
@@ -83,54 +44,54 @@ pub same_world : (h : Lock) (w : World) → Spared (covers h) w w
 same_world h w = record { same = λ q within. refl; above = λ p q under within is. is }
 
 -- where the list of locks stays, locks stand, and are shared as before
-pub stand : (s : Step) → s.now.locks ≡ s.was.locks → Keeps kept s
+pub stand : (s : OneStep) → s.now.locks ≡ s.was.locks → Keeps kept s
 stand s same h is unnamed fresh = subst (Stands h) (sym same) is
 
 pub some_list : {ls ms : List Lock} → Some ls ≡ Some ms → ls ≡ ms
 some_list is = cc
 
-pub as_shared : (s : Step) → s.now.locks ≡ s.was.locks → Keeps shared s
+pub as_shared : (s : OneStep) → s.now.locks ≡ s.was.locks → Keeps shared s
 as_shared s same ls ms were are shares = subst CoveringAreShared (some_list (sym were ∙ sym same ∙ are)) shares
 
 -- a reply that is no multistatus has no hrefs
-pub no_hrefs : (s : Step) → responses_in s.reply.body ≡ [] → Keeps hrefs s
-no_hrefs s none = subst (All (TellsOfOne settings s.asked)) (sym none) (All-nil (TellsOfOne settings s.asked))
+pub no_hrefs : (s : OneStep) → responses_in s.reply.body ≡ [] → Keeps hrefs s
+no_hrefs s none = subst (All (TellsOfOne s.settings s.turn.asked)) (sym none) (All-nil (TellsOfOne s.settings s.turn.asked))
 
 -- where no lock stands, none is passed
-pub none_passed : (s : Step) → s.was.locks ≡ Some [] → Keeps passed s
+pub none_passed : (s : OneStep) → s.was.locks ≡ Some [] → Keeps passed s
 none_passed s none h alone is unnamed = let on : Stands h (Some []) = subst (Stands h) none is in elim on [ ]
 
 -- where the world stays, so do the members of folders
-pub same_list : (s : Step) → s.now.store.world ≡ s.was.store.world → Keeps members s
+pub same_list : (s : OneStep) → s.now.store.world ≡ s.was.store.world → Keeps members s
 same_list s same h alone is unnamed folder =
     subst (λ (w : World). SameMembers (folder_of h) s.was.store.world w) (sym same) (record { folder = folder; listed = refl })
 
 -- where no lock stands, none is on a folder
-pub none_on : (s : Step) → s.was.locks ≡ Some [] → Keeps members s
+pub none_on : (s : OneStep) → s.was.locks ≡ Some [] → Keeps members s
 none_on s none h alone is unnamed folder = let on : Stands h (Some []) = subst (Stands h) none is in elim on [ ]
 
 -- ---- what is asked of other requests
 
 -- a request of this method, with this head
-module _ (s : Step) (r : Request) (m : DavMethod) (head : IsHead s.asked.head r) (served : GivesServed r.method (Ok m)) where
+module _ (s : OneStep) (r : Request) (m : DavMethod) (head : IsHead s.turn.asked.head r) (served : GivesServed r.method (Ok m)) where
   pub unsafe : is_safe m ≡ false → Keeps reading s
-  unsafe is (n, asks, safe) = absurd (true≢false (sym safe ∙ ap is_safe (sym (asks_one s.asked n asks head served)) ∙ is))
+  unsafe is (n, asks, safe) = absurd (true≢false (sym safe ∙ ap is_safe (sym (asks_one s.turn.asked n asks head served)) ∙ is))
 
   pub no_creation : m ≢ Put → m ≢ Patch → Keeps created s
-  no_creation no_put no_patch p n (q, k, also, has, inl writes, named, says) there = absurd (no_put (asks_one s.asked k (q, also, has) head served ∙ writes))
-  no_creation no_put no_patch p n (q, k, also, has, inr writes, named, says) there = absurd (no_patch (asks_one s.asked k (q, also, has) head served ∙ writes))
+  no_creation no_put no_patch p n (q, k, also, has, inl writes, named, says) there = absurd (no_put (asks_one s.turn.asked k (q, also, has) head served ∙ writes))
+  no_creation no_put no_patch p n (q, k, also, has, inr writes, named, says) there = absurd (no_patch (asks_one s.turn.asked k (q, also, has) head served ∙ writes))
 
   pub no_star : get_all (headers_of r.fields) (codes "if-none-match") ≡ [] → Keeps created s
   no_star empty p n (q, k, also, has, writes, named, says) there =
-      let same : q ≡ r = one_head s.asked.head q r also head in
+      let same : q ≡ r = one_head s.turn.asked.head q r also head in
       absurd (no_tags every_tag (subst (λ (values : List FieldValue). IsTagList values every_tag) (ap (λ (z : Request). get_all (headers_of z.fields) (codes "if-none-match")) same ∙ empty) says))
 
-pub answered : (s : Step) → s.reply.status ≢ 412 → s.reply.status ≢ 423 → Keeps refused s
+pub answered : (s : OneStep) → s.reply.status ≢ 412 → s.reply.status ≢ 423 → Keeps refused s
 answered s one other (inl is) = absurd (one is)
 answered s one other (inr is) = absurd (other is)
 
-pub no_304 : (s : Step) → s.reply.status ≢ 304 → Keeps unmodified s
-no_304 s other p tag bytes is lacks shown = absurd (other is)
+pub no_304 : (s : OneStep) → s.reply.status ≢ 304 → Keeps unmodified s
+no_304 s other end later p tag bytes is lacks shown = absurd (other is)
 
 -- ---- what was told
 
@@ -138,12 +99,12 @@ nothing : {X : Type 0} (x : X) → ¬ Contains [] x
 nothing x is = All-contains (λ y. ⊥) [] x (All-nil (λ y. ⊥)) is
 
 -- one that fails, or that asks for no update, finds no bytes
-pub no_success : (s : Step) → ¬ IsSuccess s.reply.status → Keeps updated s
+pub no_success : (s : OneStep) → ¬ IsSuccess s.reply.status → Keeps updated s
 no_success s fails p tag bytes told updates good = absurd (fails good)
 
-pub no_update : (s : Step) (r : Request) (m : DavMethod) → IsHead s.asked.head r → GivesServed r.method (Ok m) → is_update m ≡ false → Keeps updated s
+pub no_update : (s : OneStep) (r : Request) (m : DavMethod) → IsHead s.turn.asked.head r → GivesServed r.method (Ok m) → is_update m ≡ false → Keeps updated s
 no_update s r m head served is p tag bytes told (q, n, also, has, updates, named, asks) good =
-    absurd (true≢false (sym updates ∙ ap is_update (sym (asks_one s.asked n (q, also, has) head served)) ∙ is))
+    absurd (true≢false (sym updates ∙ ap is_update (sym (asks_one s.turn.asked n (q, also, has) head served)) ∙ is))
 
 -- all replies that show bytes show these
 abbrev pub ShowsOnly : List ℕ → Turn × Response → Type 0
@@ -159,8 +120,8 @@ one_text ts replies bytes all tag b c (t, r, has, get, shows) (u, q, also, got, 
 
 -- ---- a first request
 
-abbrev pub first_step : Asked → Response → ServerState → ServerState → Step
-first_step x reply was now = record { turns = []; replies = []; asked = x; reply = reply; was = was; now = now }
+abbrev pub first_step : Asked → Response → ServerState → ServerState → OneStep
+first_step x reply was now = record { settings = settings; front = []; turn = turn_with x; back = []; before = []; reply = reply; after = []; was = was; now = now }
 
 module _ (x : Asked) (reply : Response) (was now : ServerState) where
   -- nothing was told before it

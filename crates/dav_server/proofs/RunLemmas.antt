@@ -7,7 +7,7 @@ use Rattle.dav_engine.specs.Response.{Response}
 use Rattle.dav_core.specs.declared.errors.FsError.{FsError}
 use Rattle.dav_store.specs.Store.{Store, state_of}
 use Rattle.dav_server.specs.Refusals.{BehindList, behind}
-use Rattle.dav_server.specs.Server.{Server, at_turn, AddsReply, StopsIn}
+use Rattle.dav_server.specs.Server.{Server, at_turn, turn_of, AddsReply, StopsIn}
 use Rattle.dav_server.specs.Machine.{Asked, Settings, Steps, StepCut}
 use Rattle.dav_server.proofs.RefusalLemmas.{over_none}
 use Rattle.dav_server.specs.Run.{Turn, begun, Runs, no_more, one_more}
@@ -48,8 +48,16 @@ parts_of {X} view xs k x within here =
 pub steps_at : {s t : Settings} {x : Asked} {old new : StoreState} {ls ms : Locks} {reply : Response} → s ≡ t → Steps s x old ls reply new ms → Steps t x old ls reply new ms
 steps_at {x = x} {old} {new} {ls} {ms} {reply} same step = subst (λ u. Steps u x old ls reply new ms) same step
 
-pub cut_at : {s t : Settings} {x : Asked} {old new : StoreState} {ls ms : Locks} → s ≡ t → StepCut s x old ls new ms → StepCut t x old ls new ms
+cut_at : {s t : Settings} {x : Asked} {old new : StoreState} {ls ms : Locks} → s ≡ t → StepCut s x old ls new ms → StepCut t x old ls new ms
 cut_at {x = x} {old} {new} {ls} {ms} same step = subst (λ u. StepCut u x old ls new ms) same step
+
+-- memory ran out in the next turn, from the state that was left before it
+pub stops_at : (s : Settings) (t : Turn) (was new : Server) → was.settings ≡ s → StopsIn (at_turn t was) t.asked new → StopsIn (at_turn t (record { settings = s; state = was.state })) t.asked new
+stops_at s t was new same stops = record { cut = cut_at same stops.cut; reading = stops.reading; ungranted = stops.ungranted }
+
+-- the same for a turn without refusals of its own
+pub stops_plainly : (s : Settings) (x : Asked) (was new : Server) → was.settings ≡ s → StopsIn was x new → StopsIn (at_turn (turn_of x) (record { settings = s; state = was.state })) x new
+stops_plainly s x was new same stops = record { cut = cut_at same stops.cut; reading = stops.reading; ungranted = stops.ungranted }
 
 -- a run has an equal list of replies
 pub ran_to : {s : Settings} {ts : List Turn} {old new : StoreState} {ls ms : Locks} (before after : List Response) → after ≡ before → Runs s ts old ls before new ms → Runs s ts old ls after new ms

@@ -25,12 +25,14 @@ use Rattle.dav_engine.specs.Response.{Response}
 use Rattle.dav_engine.specs.Sparing.{SparesLock, SparesGuard, spares_err, Spared}
 use Rattle.dav_engine.specs.SparingPlans.{IsStranger, SparesBoth}
 use Rattle.dav_engine.proofs.Theorems.{sparing_leaves_covered, sparing_leaves_covered_cut, options_only_reads, reading_spares, put_spares, mkcol_spares, copymove_spares, delete_spares, lock_spares, unlock_spares, propfind_only_reads, proppatch_spares}
+use Rattle.dav_server.specs.EachRequest.{RunStep}
 use Rattle.dav_server.specs.Get.{get, is_get}
 use Rattle.dav_server.specs.Head.{Request, IsHead}
 use Rattle.dav_server.specs.Headers.{headers_of}
 use Rattle.dav_server.specs.Machine.{Settings, Asked, client, PlanOf, gets, heads, puts, patches, makes, deletes, copies, moves, offers, finds_properties, sets_properties, locks, releases, MeansOf, not_allowed, no_path, no_body, method, Means, no_head, no_method, known, StepCut, untouched, cut, steps}
 use Rattle.dav_server.specs.Naming.{NamesLock, by_if}
-use Rattle.dav_server.specs.Passing.{NoLockIsPassed, NoLockIsPassedCut, PassesNoLock}
+use Rattle.dav_server.specs.Passing.{NoLockIsPassed, NoLockIsPassedCut}
+use Rattle.dav_server.specs.Promises.{passed, Keeps, step_of}
 use Rattle.dav_server.specs.Run.{Turn, begun}
 use Rattle.dav_server.specs.Server.{Server}
 use Rattle.dav_server.specs.TagLaws.{AreShowable}
@@ -120,13 +122,13 @@ cut_spares s x old ls h exclusive stands other small world (cut plan {new} {ms} 
 pub no_lock_is_passed_cut : NoLockIsPassedCut
 no_lock_is_passed_cut s x old new ls ms h exclusive stands other small world stops = cut_spares s x old ls h exclusive stands other small world stops
 
--- of a run, between any two requests
-pub passes_no_lock : (old : Server) (ts : List Turn) (replies : List Response) → AreShowable ts → PassesNoLock old ts replies
-passes_no_lock old ts replies small front back t before after reply mid new ks ms h is given world ran step exclusive stands other =
+-- of a run, each request
+pub passes_no_lock : (old : Server) (ts : List Turn) (replies : List Response) → AreShowable ts → IsWorld old.state.store.world → (u : RunStep old ts replies) → Keeps passed (step_of u)
+passes_no_lock old ts replies small world u h exclusive stands other =
     let P = λ (t : Turn). t.asked.moment ≤ last_moment in
-    let all : AreShowable (front ++ t ∷ back) = subst AreShowable is small in
-    let kept = run_keeps world (all_front P front (t ∷ back) all) ran in
-    let moment = All-head P t back (all_back P front (t ∷ back) all) in
-    let same : (begun t.refusals mid).world ≡ mid.world = begun_world t.refusals mid in
-    subst (λ (w : World). Spared (covers h) w new.world) same
-    (no_lock_is_passed old.settings t.asked (begun t.refusals mid) new ks ms reply h exclusive stands other moment (subst IsWorld (sym same) kept.world) step)
+    let all : AreShowable (u.front ++ u.turn ∷ u.back) = subst AreShowable u.turns_are small in
+    let kept = run_keeps world (all_front P u.front (u.turn ∷ u.back) all) u.earlier in
+    let moment = All-head P u.turn u.back (all_back P u.front (u.turn ∷ u.back) all) in
+    let same : (begun u.turn.refusals u.was.store).world ≡ u.was.store.world = begun_world u.turn.refusals u.was.store in
+    subst (λ (w : World). Spared (covers h) w u.now.store.world) same
+    (no_lock_is_passed old.settings u.turn.asked (begun u.turn.refusals u.was.store) u.now.store u.was.locks u.now.locks u.reply h exclusive stands other moment (subst IsWorld (sym same) kept.world) u.stepped)

@@ -19,8 +19,9 @@ use Rattle.dav_engine.specs.Response.{Response}
 use Rattle.dav_engine.specs.Sparing.{Spared}
 use Rattle.dav_server.specs.Head.{Request, request_of_head}
 use Rattle.dav_server.specs.Naming.{NamesLock}
+use Rattle.dav_server.specs.Promises.{OneStep, Promise, reading, created, refused, unmodified, updated, passed, kept, shared, tags, hrefs, members, Keeps}
 use Rattle.dav_server.proofs.NeededForHeadline.{state}
-use Rattle.dav_server.proofs.OneStep.{Step, Clause, reading, created, refused, unmodified, updated, passed, kept, shared, tags, hrefs, members, Keeps, BreaksOnly, stand, as_shared, unsafe, no_creation, answered, no_304, no_hrefs, first_step, untold, no_tag}
+use Rattle.dav_server.proofs.OneStep.{BreaksOnly, stand, as_shared, unsafe, no_creation, answered, no_304, no_hrefs, first_step, untold, no_tag}
 use Rattle.dav_server.proofs.WorkedRun.{a, b, below, at_below, slash_below, lock, head_to, stranger_below, below_head, below_unnamed, after, filled, holding, makes_below}
 
 -- a lock of Depth 0 on the folder
@@ -37,7 +38,7 @@ asks_no_folder_above = do
   _ ← ask_or create_error (CreateDir below 1)
   gives (made at_below)
 
-abbrev pub adding : Step
+abbrev pub adding : OneStep
 adding = first_step stranger_below (made at_below) (state (holding after) one_list) (state (holding filled) one_list)
 
 abbrev pub add_request : Request
@@ -70,7 +71,7 @@ is_spared h stands = record {
 
 -- ---- the step
 
-all_but_members : (d : Clause) → d ≢ members → Keeps d adding
+all_but_members : (d : Promise) → d ≢ members → Keeps d adding
 all_but_members reading other = unsafe adding add_request MkCol below_head (tt, refl) refl
 all_but_members created other = no_creation adding add_request MkCol below_head (tt, refl) (λ e. cc) (λ e. cc)
 all_but_members refused other = answered adding (λ e. omega (arith, e)) (λ e. omega (arith, e))

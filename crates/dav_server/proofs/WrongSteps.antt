@@ -1,4 +1,4 @@
--- Steps that aren't the machine's: plans that do what a clause of a run rules out, and that the clause is false of what they leave.
+-- Steps that aren't the machine's: plans that do what a promise of a run rules out, and that the promise is false of what they leave.
 use Rattle.std.proofs.Common.{◌≡◌, ◌≢◌, ◌++◌, ◌<◌, ◌≤◌, ℕ, true, false, true≢false, not, List, [], ◌∷◌, length, get_or, codes, append-nil, length-append, Some, None, Result, Ok, Err, inl, inr, refl, sym, ap, subst, ◌∙◌, arith}
 use Rattle.std.proofs.lemmas.List.Elements.{All-nil, All-cons}
 use Rattle.std.proofs.lemmas.List.Sums.{AllPass-from_list_all}
@@ -36,10 +36,11 @@ use Rattle.dav_engine.specs.WorldLaws.{IsReading, reads_ask}
 use Rattle.dav_server.specs.Head.{Request, IsHead, request_of_head}
 use Rattle.dav_server.specs.Headers.{headers_of}
 use Rattle.dav_server.specs.Machine.{Asked, Means, no_head, no_method, known, Steps, steps}
+use Rattle.dav_server.specs.Promises.{OneStep, Promise, reading, created, refused, unmodified, updated, passed, kept, shared, tags, hrefs, members, Keeps}
 use Rattle.dav_server.specs.TagLaws.{HasMethod, Shows}
 use Rattle.dav_server.specs.WriteLaws.{IsCreateOnly}
 use Rattle.dav_server.proofs.NeededForHeadline.{state}
-use Rattle.dav_server.proofs.OneStep.{Step, Clause, reading, created, refused, unmodified, updated, passed, kept, shared, tags, hrefs, members, same_list, none_on, Keeps, KeepsAll, BreaksOnly, same_world, stand, some_list, as_shared, none_passed, unsafe, no_creation, answered, no_304, no_hrefs, no_update, first_step, untold, no_tag}
+use Rattle.dav_server.proofs.OneStep.{same_list, none_on, KeepsAll, BreaksOnly, same_world, stand, some_list, as_shared, none_passed, unsafe, no_creation, answered, no_304, no_hrefs, no_update, first_step, untold, no_tag}
 use Rattle.dav_server.proofs.WorkedGrant.{none}
 use Rattle.dav_server.proofs.WorkedRun.{a, slash_a, at_a, lock, head_of, head_with_method, head_with, text_a, target_at_a, stranger, stranger_head, holder, holder_request, own_head, unnamed_by, turn_with, settings, before, after, holding, one_lock, makes_a}
 
@@ -73,7 +74,7 @@ unfolding is_token_byte
 remove_head = (remove_short, head_of (codes "DELETE") slash_a [], (head_with_method (codes "DELETE") slash_a [] (omega arith) refl (omega arith) refl text_a (All-nil IsField), sym (append-nil _)), omega arith, refl)
 
 -- the lock stands before it and not after it, and its request doesn't name the token
-abbrev pub dropping : Step
+abbrev pub dropping : OneStep
 dropping = first_step remover (unlocked_reply []) (state (holding before) one_lock) (state (holding before) (Some []))
 
 gone : ¬ Stands lock (Some [])
@@ -82,7 +83,7 @@ gone is = elim is [ ]
 no_locks_shared : CoveringAreShared []
 no_locks_shared i j d less small = absurd (omega (arith, less, small))
 
-all_but_kept : (d : Clause) → d ≢ kept → Keeps d dropping
+all_but_kept : (d : Promise) → d ≢ kept → Keeps d dropping
 all_but_kept reading other = unsafe dropping remove_request Delete remove_head (tt, refl) refl
 all_but_kept created other = no_creation dropping remove_request Delete remove_head (tt, refl) (λ e. cc) (λ e. cc)
 all_but_kept refused other = answered dropping (λ e. omega (arith, e)) (λ e. omega (arith, e))
@@ -129,13 +130,13 @@ making_is_no_reading (reads_ask only more) = only
 other_world : after ≡ before → ⊥
 other_world same = let e : ◌≡◌ {A = ℕ} 2 1 = ap (λ (w : World). w.next) same in omega (arith, e)
 
-abbrev pub making : Step
+abbrev pub making : OneStep
 making = first_step getter (made at_a) (state (holding before) none) (state (holding after) none)
 
 abbrev pub get_request : Request
 get_request = request_of_head (head_of (codes "GET") slash_a [])
 
-all_but_reading : (d : Clause) → d ≢ reading → Keeps d making
+all_but_reading : (d : Promise) → d ≢ reading → Keeps d making
 all_but_reading reading other = absurd (other refl)
 all_but_reading created other = no_creation making get_request Get get_head (tt, refl) (λ e. cc) (λ e. cc)
 all_but_reading refused other = answered making (λ e. omega (arith, e)) (λ e. omega (arith, e))
@@ -174,13 +175,13 @@ refuses_late = do
   _ ← require_free false (requester_of [] false None) (a ∷ []) (dav.Status 423)
   gives (made at_a)
 
-abbrev pub late : Step
+abbrev pub late : OneStep
 late = first_step stranger (error_reply (dav.Status 423)) (state (holding before) one_shared) (state (holding after) one_shared)
 
 abbrev pub stranger_request : Request
 stranger_request = request_of_head (head_with [])
 
-all_but_refused : (d : Clause) → d ≢ refused → Keeps d late
+all_but_refused : (d : Promise) → d ≢ refused → Keeps d late
 all_but_refused reading other = unsafe late stranger_request MkCol stranger_head (tt, refl) refl
 all_but_refused created other = no_creation late stranger_request MkCol stranger_head (tt, refl) (λ e. cc) (λ e. cc)
 all_but_refused refused other = absurd (other refl)
@@ -276,10 +277,10 @@ empties = record { as_asked = refl; refusals = refl; short = refl }
 other_number : drained ≡ filled → ⊥
 other_number same = let e : ◌≡◌ {A = ℕ} 3 2 = ap (λ (w : World). w.next) same in omega (arith, e)
 
-abbrev pub blind : Step
+abbrev pub blind : OneStep
 blind = first_step creator (unlocked_reply []) (state refusing_once none) (state (holding drained) none)
 
-all_but_created : (d : Clause) → d ≢ created → Keeps d blind
+all_but_created : (d : Promise) → d ≢ created → Keeps d blind
 all_but_created reading other = unsafe blind put_request Put put_head (tt, refl) refl
 all_but_created created other = absurd (other refl)
 all_but_created refused other = answered blind (λ e. omega (arith, e)) (λ e. omega (arith, e))
@@ -311,17 +312,20 @@ shows bytes = record { status = refl; tag_is = (0, omega arith, refl); bytes_are
 
 -- two GETs that are answered so, with different bytes, and leave what is there
 module _ (bytes others : List ℕ) (differ : bytes ≢ others) where
-  abbrev pub again : Step
+  abbrev pub again : OneStep
   again = record {
-    turns = turn_with getter ∷ [];
-    replies = tagged bytes ∷ [];
-    asked = getter;
+    settings = settings;
+    front = turn_with getter ∷ [];
+    turn = turn_with getter;
+    back = [];
+    before = tagged bytes ∷ [];
     reply = tagged others;
+    after = [];
     was = state (holding filled) none;
     now = state (holding filled) none;
   }
 
-  all_but_tags : (d : Clause) → d ≢ tags → Keeps d again
+  all_but_tags : (d : Promise) → d ≢ tags → Keeps d again
   all_but_tags reading other = λ safe. (refl, refl)
   all_but_tags created other = no_creation again get_request Get get_head (tt, refl) (λ e. cc) (λ e. cc)
   all_but_tags refused other = answered again (λ e. omega (arith, e)) (λ e. omega (arith, e))
@@ -377,7 +381,7 @@ ends_so (ran_keep ran) is = cc
 is_refused : (old new : StoreState) (ls ms : Locks) (reply : Response) → Steps settings silent old ls reply new ms → reply.status ≡ 400
 is_refused old new ls ms reply (steps plan outcome means ran) = ap (λ (o : Result Response DavError). (reply_to o).status) (ends_so ran (refuses_it means))
 
-abbrev pub unheard : Step
+abbrev pub unheard : OneStep
 unheard = first_step silent (unlocked_reply []) (state (holding before) one_lock) (state (holding before) one_lock)
 
 never_safe : Keeps reading unheard
@@ -440,7 +444,7 @@ counts_apart : ¬ GoesAlong lock counts_locks
 counts_apart (side_look next) = differ (next (lock ∷ []) (lock ∷ elsewhere ∷ []) (guards_here refl no_others) (guards_here refl (another is_elsewhere no_others)))
 
 -- a step of the holder that is answered so, and changes nothing
-abbrev pub counting : Locks → Step
+abbrev pub counting : Locks → OneStep
 counting ls = first_step holder (counted ls) (state (holding before) ls) (state (holding before) ls)
 
 nothing_else : (ls : Locks) → KeepsAll (counting ls)

@@ -40,14 +40,15 @@ use Rattle.dav_server.specs.Head.{Request, IsHead, request_of_head}
 use Rattle.dav_server.specs.Headers.{headers_of}
 use Rattle.dav_server.specs.HrefLaws.{TellsOf, TellsOfOne}
 use Rattle.dav_server.specs.Machine.{Asked}
-use Rattle.dav_server.specs.Run.{Turn}
+use Rattle.dav_server.specs.Promises.{OneStep, Promise, reading, created, refused, unmodified, updated, passed, kept, shared, tags, hrefs, members, Keeps}
+use Rattle.dav_server.specs.Run.{Turn, no_more}
 use Rattle.dav_server.specs.TagLaws.{ShownIn, LacksTag}
 use Rattle.dav_server.specs.Target.{TargetNames, server, path}
 use Rattle.dav_server.specs.UpdateLaws.{IsSuccess, UpdatesIf}
 use Rattle.dav_server.proofs.NeededForHeadline.{state, covered_changes}
 use Rattle.dav_server.proofs.WorkedGrant.{locker, lock_head, none}
 use Rattle.dav_server.proofs.WorkedRun.{a, slash_a, at_a, lock, head_of, head_with_method, text_a, target_at_a, stranger, stranger_head, other_names, turn_with, settings, before, after, holding, one_lock, makes_a}
-use Rattle.dav_server.proofs.OneStep.{Step, Clause, reading, created, refused, unmodified, updated, passed, kept, shared, tags, hrefs, members, same_list, none_on, Keeps, BreaksOnly, same_world, stand, as_shared, none_passed, unsafe, no_creation, no_star, answered, no_304, no_hrefs, no_success, ShowsOnly, shows_nothing, one_text, first_step, untold, shows_once, no_tag}
+use Rattle.dav_server.proofs.OneStep.{same_list, none_on, BreaksOnly, same_world, stand, as_shared, none_passed, unsafe, no_creation, no_star, answered, no_304, no_hrefs, no_success, ShowsOnly, shows_nothing, one_text, first_step, untold, shows_once, no_tag}
 use Rattle.dav_server.proofs.WrongSteps.{remover, remove_request, remove_head, getter, is_get, stranger_request, emptying, filled, one_tag, tagged, shows}
 
 -- ---- a file that another client has changed
@@ -109,8 +110,8 @@ told_only : ShowsOnly (49 ∷ []) (turn_with getter, tagged (49 ∷ []))
 told_only tag others shows = let e : reply.Bytes (49 ∷ []) ≡ reply.Bytes others = shows.bytes_are in cc
 
 -- a step after those two replies, which shows nothing
-abbrev pub after_them : Asked → Response → ServerState → ServerState → Step
-after_them x reply was now = record { turns = earlier; replies = answers; asked = x; reply = reply; was = was; now = now }
+abbrev pub after_them : Asked → Response → ServerState → ServerState → OneStep
+after_them x reply was now = record { settings = settings; front = earlier; turn = turn_with x; back = []; before = answers; reply = reply; after = []; was = was; now = now }
 
 one_text_then : (x : Asked) (reply : Response) (was now : ServerState) → reply.status ≢ 200 → Keeps tags (after_them x reply was now)
 one_text_then x reply was now other =
@@ -175,10 +176,10 @@ finds_other = record { as_asked = refl; refusals = refl; short = refl }
 not_modified_fails : ¬ IsSuccess 304
 not_modified_fails good = let small : 304 < 300 = good.1 in omega (arith, small)
 
-abbrev pub unmodified_step : Step
+abbrev pub unmodified_step : OneStep
 unmodified_step = after_them rechecker (not_modified found_other) (state (holding rewritten) none) (state (holding rewritten) none)
 
-all_but_unmodified : (d : Clause) → d ≢ unmodified → Keeps d unmodified_step
+all_but_unmodified : (d : Promise) → d ≢ unmodified → Keeps d unmodified_step
 all_but_unmodified reading other = λ safe. (refl, refl)
 all_but_unmodified created other = λ p n is there. ((refl, refl), not_modified_fails)
 all_but_unmodified refused other = λ is. (refl, λ fresh. refl)
@@ -195,7 +196,7 @@ pub uncompared_304_is_false : Ran Asks never_compares (holding rewritten) none (
 uncompared_304_is_false = (
   ran_ask {c = Metadata (a ∷ [])} {answer = Ok found_other} (asked finds_other) ran_done,
   record {
-    broken = λ finds. first_byte_is_gone (finds at_a first_tag (49 ∷ []) refl lacks_first (shown_first (turn_with rechecker ∷ []) (not_modified found_other ∷ [])));
+    broken = λ finds. first_byte_is_gone (finds (state (holding rewritten) none) no_more at_a first_tag (49 ∷ []) refl lacks_first (shown_first (turn_with rechecker ∷ []) (not_modified found_other ∷ [])));
     others = all_but_unmodified;
   },
 )
@@ -253,10 +254,10 @@ empties_other : Answered (Open (a ∷ []) emptying 1) (holding rewritten) (Ok (o
 unfolding meaning
 empties_other = record { as_asked = refl; refusals = refl; short = refl }
 
-abbrev pub losing : Step
+abbrev pub losing : OneStep
 losing = after_them updater (unlocked_reply []) (state (holding rewritten) none) (state (holding overwritten) none)
 
-all_but_updated : (d : Clause) → d ≢ updated → Keeps d losing
+all_but_updated : (d : Promise) → d ≢ updated → Keeps d losing
 all_but_updated reading other = unsafe losing update_request Put update_head (tt, refl) refl
 all_but_updated created other = no_star losing update_request Put update_head (tt, refl) refl
 all_but_updated refused other = answered losing (λ e. omega (arith, e)) (λ e. omega (arith, e))
@@ -287,7 +288,7 @@ makes_unasked = do
   _ ← ask_or create_error (CreateDir (a ∷ []) 1)
   gives (made at_a)
 
-abbrev pub passing : Step
+abbrev pub passing : OneStep
 passing = first_step stranger (made at_a) (state (holding before) one_lock) (state (holding after) one_lock)
 
 -- nothing is there before it
@@ -295,7 +296,7 @@ no_folder : (h : Lock) → Stands h one_lock → is_folder before (folder_of h) 
 no_folder h (listed_here same) is = let folder : false ≡ true = ap (λ (l : Lock). is_folder before (folder_of l)) same ∙ is in cc
 no_folder h (listed_later out) is = elim out [ ]
 
-all_but_passed : (d : Clause) → d ≢ passed → Keeps d passing
+all_but_passed : (d : Promise) → d ≢ passed → Keeps d passing
 all_but_passed reading other = unsafe passing stranger_request MkCol stranger_head (tt, refl) refl
 all_but_passed created other = no_creation passing stranger_request MkCol stranger_head (tt, refl) (λ e. cc) (λ e. cc)
 all_but_passed refused other = answered passing (λ e. omega (arith, e)) (λ e. omega (arith, e))
@@ -337,7 +338,7 @@ other_locker = record locker { principal = Some (98 ∷ []); token = Some (117 �
 one_is_shared : CoveringAreShared (lock ∷ [])
 one_is_shared i j d less small = absurd (omega (arith, less, small))
 
-abbrev pub sharing : Step
+abbrev pub sharing : OneStep
 sharing = first_step other_locker (granted_reply false [] other_lock) (state (holding before) one_lock) (state (holding before) two_locks)
 
 still_stands : (h : Lock) → Stands h one_lock → Stands h two_locks
@@ -350,7 +351,7 @@ shows_tree tag others shows = absurd (let e : (granted_reply false [] other_lock
 abbrev lock_request : Request
 lock_request = request_of_head (head_of (codes "LOCK") slash_a [])
 
-all_but_shared : (d : Clause) → d ≢ shared → Keeps d sharing
+all_but_shared : (d : Promise) → d ≢ shared → Keeps d sharing
 all_but_shared reading other = unsafe sharing lock_request LockMethod lock_head (tt, refl) refl
 all_but_shared created other = no_creation sharing lock_request LockMethod lock_head (tt, refl) (λ e. cc) (λ e. cc)
 all_but_shared refused other = answered sharing (λ e. omega (arith, e)) (λ e. omega (arith, e))
@@ -405,7 +406,7 @@ barely_told = record { status = 207; headers = []; body = reply.Tree (dav_elemen
 abbrev pub tells_barely : MethodPlan Response
 tells_barely = gives barely_told
 
-abbrev pub barely : Step
+abbrev pub barely : OneStep
 barely = first_step remover barely_told (state (holding before) one_lock) (state (holding before) one_lock)
 
 no_href : (text : List ℕ) → ¬ (children_named (codes "href") bare_response ≡ dav_text (codes "href") text ∷ [])
@@ -414,7 +415,7 @@ no_href text is = cc
 tells_of_none : ¬ TellsOfOne settings remover bare_response
 tells_of_none (q, about, tells) = no_href tells.text tells.hrefs
 
-all_but_hrefs : (d : Clause) → d ≢ hrefs → Keeps d barely
+all_but_hrefs : (d : Promise) → d ≢ hrefs → Keeps d barely
 all_but_hrefs reading other = λ safe. (refl, refl)
 all_but_hrefs created other = no_creation barely remove_request Delete remove_head (tt, refl) (λ e. cc) (λ e. cc)
 all_but_hrefs refused other = answered barely (λ e. omega (arith, e)) (λ e. omega (arith, e))

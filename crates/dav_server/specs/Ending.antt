@@ -1,5 +1,5 @@
 -- No lock ends by a request that neither names its token nor hands it in for a lock of its own (RFC 4918, sections 6.5, 7 and 9.11).
-use Rattle.std.specs.Prelude.{◌≡◌, ◌≢◌, ◌++◌, List, ◌∷◌, Some}
+use Rattle.std.specs.Prelude.{◌≢◌, Some}
 use Rattle.dav_core.specs.Asking.{StoreState}
 use Rattle.dav_core.specs.Locks.{Lock}
 use Rattle.dav_engine.specs.Guard.{Stands}
@@ -7,8 +7,6 @@ use Rattle.dav_engine.specs.Plan.{Locks}
 use Rattle.dav_engine.specs.Response.{Response}
 use Rattle.dav_server.specs.Machine.{Asked, Settings, Steps, StepCut}
 use Rattle.dav_server.specs.Naming.{NamesToken}
-use Rattle.dav_server.specs.Run.{Turn, begun, Runs}
-use Rattle.dav_server.specs.Server.{Server}
 
 -- A lock that is in the list when a request begins is in the list after it, perhaps refreshed, unless the request names its
 -- token, or hands it in for a lock that it creates; whatever the store refuses.
@@ -22,11 +20,3 @@ abbrev pub NoLockEndsCut : Type 0
 NoLockEndsCut =
     (s : Settings) (x : Asked) (old new : StoreState) (ls ms : Locks) (h : Lock)
     → Stands h ls → ¬ NamesToken x h.token → x.token ≢ Some h.token → StepCut s x old ls new ms → Stands h ms
-
--- In a run of these turns: after the first of them, the next ends no lock.
-abbrev pub EndsNoLock : Server → List Turn → List Response → Type 0
-EndsNoLock old ts replies =
-    (front back : List Turn) (t : Turn) (before after : List Response) (reply : Response) (mid new : StoreState) (ks ms : Locks) (h : Lock)
-    → ts ≡ front ++ t ∷ back → replies ≡ before ++ reply ∷ after
-    → Runs old.settings front old.state.store old.state.locks before mid ks → Steps old.settings t.asked (begun t.refusals mid) ks reply new ms
-    → Stands h ks → ¬ NamesToken t.asked h.token → t.asked.token ≢ Some h.token → Stands h ms

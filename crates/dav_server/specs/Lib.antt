@@ -27,8 +27,8 @@ pub mod Membership
 pub mod Ending
 pub mod LockLists
 pub mod Isolation
-pub mod FromNone
 pub mod PathLaws
 pub mod HrefLaws
 pub mod EachRequest
+pub mod Promises
 pub mod Headline

@@ -1,15 +1,13 @@
 -- The list of locks over whole runs (RFC 4918, sections 6.1, 6.2 and 6.5).
-use Rattle.std.specs.Prelude.{◌≡◌, ℕ, ◌++◌, List, [], All, Contains, Some}
+use Rattle.std.specs.Prelude.{◌≡◌, ℕ, List, [], All, Contains, Some}
 use Rattle.dav_core.specs.Asking.{StoreState}
 use Rattle.dav_core.specs.Locks.{Lock}
-use Rattle.dav_core.specs.LockLaws.{CoveringAreShared}
 use Rattle.dav_engine.specs.Guard.{OnList}
 use Rattle.dav_engine.specs.ListChanges.{AreChanges}
 use Rattle.dav_engine.specs.Plan.{Locks}
 use Rattle.dav_engine.specs.Response.{Response}
 use Rattle.dav_server.specs.Machine.{Asked, Settings, Steps, StepCut, client}
 use Rattle.dav_server.specs.Run.{Turn, Runs}
-use Rattle.dav_server.specs.Server.{Server}
 
 -- A step changes the list by grants of a lock with the request's token where it may be granted, by refreshes, by unlocks and by
 -- ends of the locks at a path and below it alone.
@@ -23,13 +21,6 @@ abbrev pub StepsChangeListsCut : Type 0
 StepsChangeListsCut =
     (s : Settings) (x : Asked) (old new : StoreState) (ls : List Lock) (ms : Locks)
     → StepCut s x old (Some ls) new ms → OnList (AreChanges (client x) ls) ms
-
--- In a run of these turns, from a list in which locks that cover one path are shared: so they are after the first of them.
-abbrev pub SharesLocks : Server → List Turn → List Response → Type 0
-SharesLocks old ts replies =
-    (front back : List Turn) (before after : List Response) (mid : StoreState) (ls ks : List Lock)
-    → ts ≡ front ++ back → replies ≡ before ++ after → old.state.locks ≡ Some ls → CoveringAreShared ls
-    → Runs old.settings front old.state.store old.state.locks before mid (Some ks) → CoveringAreShared ks
 
 -- the token was handed in with one of these requests
 abbrev pub IsHandedIn : List Turn → List ℕ → Type 0

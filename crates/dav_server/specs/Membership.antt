@@ -1,5 +1,5 @@
 -- The list of a locked folder's members is changed by no request that doesn't name the lock's token (RFC 4918, section 7.4).
-use Rattle.std.specs.Prelude.{◌≡◌, ◌≤◌, false, true, List}
+use Rattle.std.specs.Prelude.{◌≡◌, ◌≤◌, false, true}
 use Rattle.dav_core.specs.Asking.{StoreState}
 use Rattle.dav_core.specs.Locks.{Lock}
 use Rattle.dav_core.specs.World.{IsWorld, is_folder, last_moment}
@@ -7,11 +7,8 @@ use Rattle.dav_engine.specs.Guard.{folder_of, Stands}
 use Rattle.dav_engine.specs.Members.{SameMembers}
 use Rattle.dav_engine.specs.Plan.{Locks}
 use Rattle.dav_engine.specs.Response.{Response}
-use Rattle.dav_server.specs.EachRequest.{RunStep}
 use Rattle.dav_server.specs.Machine.{Asked, Settings, Steps, StepCut}
 use Rattle.dav_server.specs.Naming.{NamesLock}
-use Rattle.dav_server.specs.Run.{Turn}
-use Rattle.dav_server.specs.Server.{Server}
 
 -- While an exclusive lock stands on a folder, of either depth, the folder stays, and so do its members: which names are directly below it
 -- and which of them are folders; unless the request names the lock's token as the lock's principal. Whatever else is in the list of locks,
@@ -28,10 +25,3 @@ MembersAreKeptCut =
     (s : Settings) (x : Asked) (old new : StoreState) (ls ms : Locks) (h : Lock)
     → h.shared ≡ false → Stands h ls → ¬ NamesLock h x → x.moment ≤ last_moment → IsWorld old.world → is_folder old.world (folder_of h) ≡ true
     → StepCut s x old ls new ms → SameMembers (folder_of h) old.world new.world
-
--- each request of a run, from a world on, keeps the members of such a folder
-abbrev pub KeepsMembers : Server → List Turn → List Response → Type 0
-KeepsMembers old ts replies =
-    (u : RunStep old ts replies) (h : Lock)
-    → IsWorld old.state.store.world → h.shared ≡ false → Stands h u.was.locks → ¬ NamesLock h u.turn.asked → is_folder u.was.store.world (folder_of h) ≡ true
-    → SameMembers (folder_of h) u.was.store.world u.now.store.world

@@ -1,5 +1,5 @@
 -- No exclusive lock is passed by a request that doesn't name its token (RFC 4918, section 7).
-use Rattle.std.specs.Prelude.{◌≡◌, ◌≤◌, ◌++◌, false, List, ◌∷◌}
+use Rattle.std.specs.Prelude.{◌≡◌, ◌≤◌, false}
 use Rattle.dav_core.specs.Asking.{StoreState}
 use Rattle.dav_core.specs.Locks.{Lock, covers}
 use Rattle.dav_core.specs.World.{IsWorld, last_moment}
@@ -9,8 +9,6 @@ use Rattle.dav_engine.specs.Response.{Response}
 use Rattle.dav_engine.specs.Sparing.{Spared}
 use Rattle.dav_server.specs.Machine.{Asked, Settings, Steps, StepCut}
 use Rattle.dav_server.specs.Naming.{NamesLock}
-use Rattle.dav_server.specs.Run.{Turn, begun, Runs}
-use Rattle.dav_server.specs.Server.{Server}
 
 -- What an exclusive lock covers when a request begins keeps its content, unless the request names the lock's token as the
 -- lock's principal; whatever else is in the list, and whatever the store refuses.
@@ -26,11 +24,3 @@ NoLockIsPassedCut =
     (s : Settings) (x : Asked) (old new : StoreState) (ls ms : Locks) (h : Lock)
     → h.shared ≡ false → Stands h ls → ¬ NamesLock h x → x.moment ≤ last_moment → IsWorld old.world
     → StepCut s x old ls new ms → Spared (covers h) old.world new.world
-
--- In a run of these turns, from a world on: after the first of them, the next passes no exclusive lock.
-abbrev pub PassesNoLock : Server → List Turn → List Response → Type 0
-PassesNoLock old ts replies =
-    (front back : List Turn) (t : Turn) (before after : List Response) (reply : Response) (mid new : StoreState) (ks ms : Locks) (h : Lock)
-    → ts ≡ front ++ t ∷ back → replies ≡ before ++ reply ∷ after → IsWorld old.state.store.world
-    → Runs old.settings front old.state.store old.state.locks before mid ks → Steps old.settings t.asked (begun t.refusals mid) ks reply new ms
-    → h.shared ≡ false → Stands h ks → ¬ NamesLock h t.asked → Spared (covers h) mid.world new.world

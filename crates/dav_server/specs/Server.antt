@@ -1,11 +1,10 @@
 -- Servers as contracts see them, and what they answer.
 use Rattle.std.specs.Prelude.{◌≡◌, ◌++◌, List, Option, [], ◌∷◌, map, None}
-use Rattle.dav_core.specs.World.{IsWorld}
 use Rattle.dav_engine.specs.Plan.{ServerState}
 use Rattle.dav_engine.specs.Response.{Response}
+use Rattle.dav_server.specs.Leaving.{SafeLeaves, GrantsNothing}
 use Rattle.dav_server.specs.Machine.{Asked, Settings, Steps, StepCut}
-use Rattle.dav_server.specs.Run.{Turn, begun, Runs, RanInPart}
-use Rattle.dav_server.specs.TagLaws.{EqualTagsShowEqualBytes}
+use Rattle.dav_server.specs.Run.{Turn, begun, Runs}
 
 -- a server: its settings, and its state
 pub record Server : Type 0 where
@@ -22,21 +21,16 @@ pub record HandlerView (F L : Type 0) : Type 0 where
 abbrev pub Answers : Server → Asked → Response → Server → Type 0
 Answers old x reply new = Steps old.settings x old.state.store old.state.locks reply new.state.store new.state.locks
 
--- memory ran out in that step
-abbrev pub StopsIn : Server → Asked → Server → Type 0
-StopsIn old x new = StepCut old.settings x old.state.store old.state.locks new.state.store new.state.locks
+-- Memory ran out in that step: each call of the store that was made is whole. A request that only reads has changed nothing; nor has a
+-- LOCK that asks for a new lock, where no lock has the token that it hands in.
+pub record StopsIn (old : Server) (x : Asked) (new : Server) : Type 0 where
+  pub cut : StepCut old.settings x old.state.store old.state.locks new.state.store new.state.locks
+  pub reading : SafeLeaves x old.state new.state
+  pub ungranted : GrantsNothing x old.state new.state
 
 -- the replies to these turns and the server that is left are those of a run of the machine
 abbrev pub AnswersAll : Server → List Turn → List Response → Server → Type 0
 AnswersAll old ts replies new = Runs old.settings ts old.state.store old.state.locks replies new.state.store new.state.locks
-
--- memory ran out in that run, after these replies
-abbrev pub AnswersSome : Server → List Turn → List Response → Server → Type 0
-AnswersSome old ts replies new = RanInPart old.settings ts old.state.store old.state.locks replies new.state.store new.state.locks
-
--- where the store holds a world, equal entity tags show equal bytes
-abbrev pub TagsTell : Server → List Turn → List Response → Type 0
-TagsTell old ts replies = IsWorld old.state.store.world → EqualTagsShowEqualBytes ts replies
 
 -- a request as a turn, without refusals of its own
 abbrev pub turn_of : Asked → Turn
@@ -48,6 +42,17 @@ turns xs = map turn_of xs
 -- the server when a turn begins
 abbrev pub at_turn : Turn → Server → Server
 at_turn t s = record s { state = record s.state { store = begun t.refusals s.state.store } }
+
+-- Memory ran out in that run, after these replies, perhaps none: they are those of a run of the first turns, and memory ran out in the
+-- next turn.
+pub record AnswersSome (old : Server) (ts : List Turn) (replies : List Response) (new : Server) : Type 0 where
+  pub front : List Turn
+  pub turn : Turn
+  pub back : List Turn
+  pub was : ServerState
+  pub turns_are : ts ≡ front ++ turn ∷ back
+  pub earlier : Runs old.settings front old.state.store old.state.locks replies was.store was.locks
+  pub stopped : StopsIn (at_turn turn (record { settings = old.settings; state = was })) turn.asked new
 
 -- the list has one more reply, that of a step from one server to the other
 abbrev pub AddsReply : Server → Asked → List Response → List Response → Server → Type 0

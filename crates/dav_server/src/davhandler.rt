@@ -12,7 +12,7 @@ ghost use Rattle.dav_engine.specs.Lock.{is_absent};
 ghost use Rattle.dav_server.specs.Get.{GetOf};
 ghost use Rattle.dav_engine.specs.Response.{error_reply};
 ghost use Rattle.dav_server.specs.HrefLaws.{ReplyLeadsBack};
-ghost use Rattle.dav_server.specs.Leaving.{SameContent, SafeLeaves, CreateOnlyLeaves, RefusedStatusLeaves, HasLockBody, AsksForLock, GrantsNothing};
+ghost use Rattle.dav_server.specs.Leaving.{SameContent, SafeLeaves, CreateOnlyLeaves, RefusedStatusLeaves, HasLockBody, AsksForLock};
 ghost use Rattle.dav_server.specs.Machine.{client, PlanOf, Means, MeansOf};
 ghost use Rattle.dav_server.specs.Method.{IsServed};
 ghost use Rattle.dav_server.specs.Server.{Answers, StopsIn};
@@ -318,8 +318,8 @@ impl<F: DavFileSystem, L: DavLockSystem> DavHandler<F, L> {
 
     /// Answers a request: the reply, the store and the locks are those of one step of the machine, from the bytes of the
     /// head on. A request that only reads changes nothing, nor does one that is answered 412 or 423 (of the list a LOCK
-    /// that is answered 412, where no lock has its token); and what is there is kept under If-None-Match `*`. The href of each response of a multistatus leads to a path that the
-    /// request is about.
+    /// that is answered 412, where no lock has its token); and what is there is kept under If-None-Match `*`. The href of each
+    /// response of a multistatus leads to a path that the request is about.
     ///
     /// `NoMemory` where memory ran out outside the store: then each call of the store that was made is whole, and the locks
     /// are as before, or as the request leaves them where the store refuses each later call. A request that only reads has changed
@@ -337,8 +337,6 @@ impl<F: DavFileSystem, L: DavLockSystem> DavHandler<F, L> {
         ensures hrefs { IfOk result (λ reply.
             ReplyLeadsBack self.old.server exchange.now reply) }
         ensures err { OnErr result (StopsIn self.old.server exchange.now self.new.server) }
-        ensures ungranted { OnErr result
-            (GrantsNothing exchange.now self.old.server.state self.new.server.state) }
     {
         match answer(self, alloc, exchange) {
             Ok(reply) => Ok(reply),

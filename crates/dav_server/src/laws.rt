@@ -5,6 +5,7 @@ ghost use Rattle.dav_server.specs.Headline.{HeadlineHolds};
 ghost use Rattle.dav_server.specs.HrefLaws.{TargetsAreServed, TextsLeadBack, StatusesLeadBack, PropertiesLeadBack, RepliesLeadBack, ListingsTellMembers};
 ghost use Rattle.dav_server.specs.Leaving.{CreateOnlyFails, ErrorsLeave};
 ghost use Rattle.dav_server.specs.PathLaws.{OneTextOnePath};
+ghost use Rattle.dav_server.specs.Promises.{RunsPromise};
 ghost use Rattle.dav_server.specs.Run.{RunsAreDetermined, RunsSplit, RunsJoin, RunsEnd, ShortnessIsKept, CutsAreLikeSteps, RequestsHavePlans, RequestsHaveRuns};
 ghost use Rattle.dav_server.specs.TagLaws.{TagsTellBytes, NotModifiedIsTrue, ReadingLeaves, ReadingLeavesCut, RunsKeepWorlds, RunsKeepWorldsCut};
 ghost use Rattle.dav_server.specs.Target.{OneOutcome};
@@ -166,6 +167,13 @@ pub fn refused_requests_leave_all()
 /// the store refuses it a file (RFC 9110, section 15; RFC 4918, section 9.10).
 pub fn errors_leave_all()
     ensures { ErrorsLeave }
+{}
+
+/// Each run of requests that are made at moments that HTTP can write keeps the promises of the record `Promises`, whatever the store refuses
+/// (RFC 9110, sections 8.8.1, 9.2.1, 13.1, 13.2.1 and 15.4.5; RFC 4918, sections 6.1, 6.2, 7, 7.4, 8.3, 9.11 and 10.4).
+#[tactic(auto, using(crate::proofs::PromiseLemmas::runs_promise))]
+pub fn runs_keep_promises()
+    ensures { RunsPromise }
 {}
 
 /// The headline: from an empty server whose store may refuse any call, while an exclusive lock of infinite depth stands on a

@@ -3,15 +3,10 @@ ghost use Rattle.std.specs.Option.{is_some};
 ghost use Rattle.std.specs.Prelude.{◌≡◌, ◌<◌, ◌≤◌, ◌++◌, ◌∷◌, [], true, vec_len, IfOk, IfErr, OnOk, OnErr};
 ghost use Rattle.std.specs.Vec.{vec_capacity};
 ghost use Rattle.dav_core.specs.World.{last_moment};
-ghost use Rattle.dav_server.specs.EachRequest.{HrefsLeadBack, LosesNoUpdate, NotModifiedTells, OnlyCreates, ReadsLeaveAll, RefusalsLeaveAll};
-ghost use Rattle.dav_server.specs.Ending.{EndsNoLock};
-ghost use Rattle.dav_server.specs.FromNone.{EndsNoLockFromNone, PassesNoLockFromNone};
 ghost use Rattle.dav_server.specs.Headline.{FromAnEmptyServer};
-ghost use Rattle.dav_server.specs.Isolation.{IsIsolated, IsIsolatedFromGrants};
-ghost use Rattle.dav_server.specs.LockLists.{SharesLocks};
-ghost use Rattle.dav_server.specs.Membership.{KeepsMembers};
-ghost use Rattle.dav_server.specs.Passing.{PassesNoLock};
-ghost use Rattle.dav_server.specs.Server.{AddsReply, AnswersAll, AnswersSome, StopsIn, TagsTell, at_turn, turns};
+ghost use Rattle.dav_server.specs.Isolation.{AreLoaded};
+ghost use Rattle.dav_server.specs.Promises.{Promises};
+ghost use Rattle.dav_server.specs.Server.{AddsReply, AnswersAll, AnswersSome, StopsIn, at_turn, turns};
 
 #[cfg(test)]
 mod bodies;
@@ -98,43 +93,25 @@ fn answer_next<F: DavFileSystem, L: DavLockSystem>(
 }
 
 impl<F: DavFileSystem, L: DavLockSystem> DavHandler<F, L> {
-    /// Answers requests, one after another: the replies, the store and the locks are those of a run of the machine. From a
-    /// world, equal entity tags show equal bytes; no request changes what an exclusive lock covers, nor which members the
-    /// folder has that such a lock is on, of either depth, unless it names the lock's token as the lock's principal (RFC 4918,
-    /// sections 7 and 7.4); nor does it end a lock whose token it doesn't name, a request that hands in the lock's token for a
-    /// lock of its own aside. Locks that cover one path stay shared. Requests that only read change nothing, nor do
-    /// those that are answered 412 or 423 (of the list a LOCK that is answered 412, where no lock has its token); a 304 is true; no update on condition of a tag
-    /// is lost; what is there is kept under If-None-Match `*` (RFC 9110, sections 9.2.1 and 13.1); and the href of each response of a
-    /// multistatus leads to a path that its request is about (RFC 4918, section 8.3).
+    /// Answers requests, one after another: the replies, the store and the locks are those of a run of the machine, which promises
+    /// what the record `Promises` says. Requests that only read change nothing, nor do those that are answered 412 or 423 (of the
+    /// list a LOCK that is answered 412, where no lock has its token); what is there is kept under If-None-Match `*`; no request
+    /// ends a lock whose token it doesn't name, one that hands in the lock's token for a lock of its own aside; locks that cover
+    /// one path stay shared. From a world, as a new store holds one: a 304 is true; no update on condition of a tag is lost; equal
+    /// entity tags show equal bytes (RFC 9110, sections 8.8.1 and 13.1); no request changes what an exclusive lock covers, nor which
+    /// members the folder has that such a lock is on, of either depth, unless it names the lock's token as the lock's principal
+    /// (RFC 4918, sections 7 and 7.4); and the href of each response of a multistatus leads to a path that its request is about
+    /// (RFC 4918, section 8.3).
     ///
     /// `RunFault` where memory ran out outside the store, with the replies that were given before; they are those of a run
-    /// of the machine, and of the next request at most the first calls of the store were made, each of them whole.
+    /// of the machine, and of the next request at most the first calls of the store were made, each of them whole; one that only
+    /// reads has changed nothing, and no lock was granted whose token its client doesn't learn.
     pub fn run(&mut self, alloc: Global, exchanges: &[Exchange<'_>]) -> Result<Vec<Reply>, RunFault>
         ensures same { self.new.server.settings ≡ self.old.server.settings }
         ensures run { IfOk result (λ replies.
             AnswersAll self.old.server (turns exchanges.now) replies.items self.new.server) }
-        ensures tags { IfOk result (λ replies.
-            TagsTell self.old.server (turns exchanges.now) replies.items) }
-        ensures passed { IfOk result (λ replies.
-            PassesNoLock self.old.server (turns exchanges.now) replies.items) }
-        ensures kept { IfOk result (λ replies.
-            EndsNoLock self.old.server (turns exchanges.now) replies.items) }
-        ensures shared { IfOk result (λ replies.
-            SharesLocks self.old.server (turns exchanges.now) replies.items) }
-        ensures reading { IfOk result (λ replies.
-            ReadsLeaveAll self.old.server (turns exchanges.now) replies.items) }
-        ensures unmodified { IfOk result (λ replies.
-            NotModifiedTells self.old.server (turns exchanges.now) replies.items) }
-        ensures updated { IfOk result (λ replies.
-            LosesNoUpdate self.old.server (turns exchanges.now) replies.items) }
-        ensures created { IfOk result (λ replies.
-            OnlyCreates self.old.server (turns exchanges.now) replies.items) }
-        ensures refused { IfOk result (λ replies.
-            RefusalsLeaveAll self.old.server (turns exchanges.now) replies.items) }
-        ensures hrefs { IfOk result (λ replies.
-            HrefsLeadBack self.old.server (turns exchanges.now) replies.items) }
-        ensures members { IfOk result (λ replies.
-            KeepsMembers self.old.server (turns exchanges.now) replies.items) }
+        ensures promises { IfOk result (λ replies.
+            Promises self.old.server (turns exchanges.now) replies.items) }
         ensures fault { IfErr result (λ fault.
             AnswersSome self.old.server (turns exchanges.now) fault.replies.items self.new.server) }
     {
@@ -173,21 +150,15 @@ fn answer_step(
 
 /// Answers requests, one after another, on a store in memory that refuses the calls which each step names: the replies, the
 /// store and the locks are those of a run of the machine, and where the store's `was_short` is false, no other run leaves
-/// it so. From a world, equal entity tags show equal bytes, whatever is refused, and no request changes what an exclusive
-/// lock covers, nor which members the folder has that such a lock is on, of either depth, unless it names the lock's token as
-/// the lock's principal; nor does any request end a lock whose token it
-/// doesn't name, a request that hands in the lock's token for a lock of its own aside. Locks that cover one path stay shared.
-/// While an exclusive lock of infinite depth stands on a folder, only its holder names it and no request hands in its token,
-/// the folder and the answers to the holder are as if the holder's requests were alone; from no locks on, it is enough that
-/// the lock was granted and that the tokens which are handed in differ. And then nothing that an exclusive lock covers changes,
-/// and no lock ends, unless the request names its token. All this in one piece, from an empty server on, is the clause `headline`.
-/// Requests that only read change nothing, nor do those that are answered 412 or 423 (of the list a LOCK that is answered 412, where
-/// no lock has its token); a 304
-/// is true; no update on condition of a tag is lost; what is there is kept under If-None-Match `*`; and the href of each
-/// response of a multistatus leads to a path that its request is about.
+/// it so. It promises what [`DavHandler::run`] does. And, since each step has its own refusals: while an exclusive lock of infinite
+/// depth stands on a folder, only its holder names it and no request hands in its token, the folder and the answers to the holder
+/// are as if the holder's requests were alone; from no locks on, it is enough that the lock was granted and that the tokens which
+/// are handed in differ, and then no lock ends unless the request names its token. All this in one piece, from an empty server on,
+/// is the clause `headline` (RFC 4918, sections 6.5 and 7).
 ///
 /// `RunFault` where memory ran out outside the store, with the replies that were given before; they are those of a run of
-/// the machine, and of the next request at most the first calls of the store were made, each of them whole.
+/// the machine, and of the next request at most the first calls of the store were made, each of them whole; one that only reads
+/// has changed nothing, and no lock was granted whose token its client doesn't learn.
 pub fn run_refused(
     handler: &mut DavHandler<Refusing<MemFs>, MemLs>,
     alloc: Global,
@@ -196,36 +167,9 @@ pub fn run_refused(
     ensures same { handler.new.server.settings ≡ handler.old.server.settings }
     ensures run { IfOk result (λ replies.
         AnswersAll handler.old.server steps.entry.items replies.items handler.new.server) }
-    ensures tags { IfOk result (λ replies.
-        TagsTell handler.old.server steps.entry.items replies.items) }
-    ensures passed { IfOk result (λ replies.
-        PassesNoLock handler.old.server steps.entry.items replies.items) }
-    ensures kept { IfOk result (λ replies.
-        EndsNoLock handler.old.server steps.entry.items replies.items) }
-    ensures shared { IfOk result (λ replies.
-        SharesLocks handler.old.server steps.entry.items replies.items) }
-    ensures isolated { IfOk result (λ replies.
-        IsIsolated handler.old.server steps.entry.items replies.items) }
-    ensures granted { IfOk result (λ replies.
-        IsIsolatedFromGrants handler.old.server steps.entry.items replies.items) }
-    ensures spared { IfOk result (λ replies.
-        PassesNoLockFromNone handler.old.server steps.entry.items replies.items) }
-    ensures standing { IfOk result (λ replies.
-        EndsNoLockFromNone handler.old.server steps.entry.items replies.items) }
-    ensures reading { IfOk result (λ replies.
-        ReadsLeaveAll handler.old.server steps.entry.items replies.items) }
-    ensures unmodified { IfOk result (λ replies.
-        NotModifiedTells handler.old.server steps.entry.items replies.items) }
-    ensures updated { IfOk result (λ replies.
-        LosesNoUpdate handler.old.server steps.entry.items replies.items) }
-    ensures created { IfOk result (λ replies.
-        OnlyCreates handler.old.server steps.entry.items replies.items) }
-    ensures refused { IfOk result (λ replies.
-        RefusalsLeaveAll handler.old.server steps.entry.items replies.items) }
-    ensures hrefs { IfOk result (λ replies.
-        HrefsLeadBack handler.old.server steps.entry.items replies.items) }
-    ensures members { IfOk result (λ replies.
-        KeepsMembers handler.old.server steps.entry.items replies.items) }
+    ensures promises { IfOk result (λ replies.
+        Promises handler.old.server steps.entry.items replies.items) }
+    ensures loaded { OnOk result (AreLoaded steps.entry.items) }
     ensures headline { IfOk result (λ replies. FromAnEmptyServer
         handler.old.server steps.entry.items replies.items handler.new.server) }
     ensures fault { IfErr result (λ fault.

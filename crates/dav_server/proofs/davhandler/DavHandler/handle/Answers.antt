@@ -1,5 +1,6 @@
 use Rattle.std.proofs.Common.{Err, ap}
 use Rattle.std.proofs.lemmas.Result.{IfOk-weaker}
+use Rattle.dav_server.specs.Server.{StopsIn}
 use Rattle.dav_server.proofs.CutSteps.{safe_leaves_cut}
 use Rattle.dav_server.proofs.EachRequestLemmas.{safe_leaves, create_only_leaves, refused_status_leaves}
 use Rattle.dav_server.proofs.HrefReplies.{step_leads_back}
@@ -14,7 +15,11 @@ pub returns-in-Err-clause-ok : goal.returns-in-Err-clause-ok
 returns-in-Err-clause-ok g c = IfOk-weaker _ _ _ (λ reply r. served_err c.in-Err.ensures.serves r.0 r.1) c.refuse.ensures
 
 pub returns-in-Err-clause-err : goal.returns-in-Err-clause-err
-returns-in-Err-clause-err g c = any_err _ (served_cut c.in-Err.ensures.serves)
+returns-in-Err-clause-err g c = any_err {P = StopsIn _ _ _} _ (record {
+  cut = served_cut c.in-Err.ensures.serves;
+  reading = safe_leaves_cut _ _ _ _ (served_cut c.in-Err.ensures.serves);
+  ungranted = grants_nothing _ _ _ _ _ c.in-Err.ensures.serves (λ is. c.in-Err.ensures.ungranted (ap Err is));
+})
 
 pub returns-in-Ok-clause-reading : goal.returns-in-Ok-clause-reading
 returns-in-Ok-clause-reading g c = safe_leaves _ _ _ _ _ (served_ok c.in-Ok.ensures.serves)
@@ -39,6 +44,3 @@ returns-in-Ok-clause-hrefs g c = step_leads_back _ _ _ _ _ _ _ (served_ok c.in-O
 
 pub returns-in-Err-clause-hrefs : goal.returns-in-Err-clause-hrefs
 returns-in-Err-clause-hrefs g c = IfOk-weaker _ _ _ (λ reply r. step_leads_back _ _ _ _ _ _ reply (served_err c.in-Err.ensures.serves r.0 r.1)) c.refuse.ensures
-
-pub returns-in-Err-clause-ungranted : goal.returns-in-Err-clause-ungranted
-returns-in-Err-clause-ungranted g c = any_err _ (grants_nothing _ _ _ _ _ c.in-Err.ensures.serves (λ is. c.in-Err.ensures.ungranted (ap Err is)))
