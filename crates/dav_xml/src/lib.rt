@@ -10,6 +10,8 @@ mod reading;
 mod references;
 mod scope;
 mod start;
+#[cfg(test)]
+mod tests;
 mod writing;
 
 pub use error::XmlError;

@@ -1,4 +1,7 @@
 //! Documents of element trees.
+ghost use Rattle.std.specs.Prelude.{◌≡◌, ◌++◌, OnOk};
+ghost use Rattle.dav_xml.specs.Spelling as spec;
+
 use crate::scope::declared_prefix;
 use dav_core::element::{Element, XmlNode};
 use std::alloc::{AllocError, Global};
@@ -57,7 +60,7 @@ fn write_element<'e>(
         for child in element.children.iter() {
             match child {
                 XmlNode::Element(child) => write_element(out, child, scopes)?,
-                XmlNode::Text(text) => escape(out, text.as_str())?,
+                XmlNode::Text(text) => push_escaped(out, text.as_str(), false)?,
             }
         }
         out.extend_from_slice(b"</")?;
@@ -115,31 +118,49 @@ fn write_name(out: &mut Vec<u8>, prefix: &str, name: &str) -> Result<(), AllocEr
     out.extend_from_slice(name.as_bytes())
 }
 
-fn write_attribute(
-    out: &mut Vec<u8>,
-    key: &str,
-    more: &str,
-    value: &str,
-) -> Result<(), AllocError> {
-    out.push(b' ')?;
+// An attribute, whose name is of two parts.
+fn write_attribute(out: &mut Vec<u8>, key: &str, more: &str, value: &str) -> Result<(), AllocError>
+    ensures { OnOk result (out.new.items
+        ≡ out.old.items ++ spec.attribute_spelling (key.now ++ more.now) value.now) }
+{
+    out.extend_from_slice(b" ")?;
     out.extend_from_slice(key.as_bytes())?;
     out.extend_from_slice(more.as_bytes())?;
     out.extend_from_slice(b"=\"")?;
-    escape(out, value)?;
-    out.push(b'"')?;
+    push_escaped(out, value, true)?;
+    out.extend_from_slice(b"\"")
+}
+
+// A text, or the value of an attribute.
+#[tactic(auto, unfolding(crate::specs::Spelling::escaped))]
+fn push_escaped(out: &mut Vec<u8>, text: &str, in_value: bool) -> Result<(), AllocError>
+    ensures { OnOk result (out.new.items ≡ out.old.items ++ spec.escaped in_value text.now) }
+{
+    let bytes = text.as_bytes();
+    for byte in bytes {
+        push_byte(out, *byte, in_value)?;
+    }
     Ok(())
 }
 
-fn escape(out: &mut Vec<u8>, text: &str) -> Result<(), AllocError> {
-    for byte in text.as_bytes() {
-        match *byte {
-            b'&' => out.extend_from_slice(b"&amp;")?,
-            b'<' => out.extend_from_slice(b"&lt;")?,
-            b'>' => out.extend_from_slice(b"&gt;")?,
-            b'"' => out.extend_from_slice(b"&quot;")?,
-            b'\r' => out.extend_from_slice(b"&#13;")?,
-            other => out.push(other)?,
-        }
+fn push_byte(out: &mut Vec<u8>, byte: u8, in_value: bool) -> Result<(), AllocError>
+    ensures { OnOk result (out.new.items ≡ out.old.items ++ spec.escaped_byte in_value byte) }
+{
+    if byte == b'&' {
+        out.extend_from_slice(b"&amp;")
+    } else if byte == b'<' {
+        out.extend_from_slice(b"&lt;")
+    } else if byte == b'>' {
+        out.extend_from_slice(b"&gt;")
+    } else if byte == b'"' {
+        out.extend_from_slice(b"&quot;")
+    } else if byte == b'\r' {
+        out.extend_from_slice(b"&#13;")
+    } else if in_value && byte == b'\n' {
+        out.extend_from_slice(b"&#10;")
+    } else if in_value && byte == b'\t' {
+        out.extend_from_slice(b"&#9;")
+    } else {
+        out.extend_from_slice(&[byte])
     }
-    Ok(())
 }
