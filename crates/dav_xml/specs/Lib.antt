@@ -1,1 +1,17 @@
+pub mod Read
+pub mod Bytes
+pub mod Classes
+pub mod References
+pub mod Names
+pub mod Token
+pub mod Markup
+pub mod Nesting
+pub mod NestingView
+pub mod Front
 pub mod Spelling
+pub mod Scopes
+pub mod Namespaces
+pub mod KeptView
+pub mod Flat
+pub mod Written
+pub mod PlaceView

@@ -1,24 +1,84 @@
--- How texts and the values of attributes are written (XML 1.0, sections 2.4, 2.11, 3.3.3 and 4.1).
-use Rattle.std.specs.Prelude.{ℕ, Bool, true, ◌&&◌, ◌==◌, if◌then◌else◌, List, [], ◌∷◌, ◌++◌, codes}
+-- How pieces of markup are written.
+use Rattle.std.specs.Prelude.{◌≡◌, ℕ, Bool, true, false, ◌&&◌, ◌==◌, if◌then◌else◌, List, [], ◌∷◌, ◌++◌, length, codes}
+use Rattle.std.specs.List.{list_all, AllByRecursion}
+use Rattle.std.specs.Str.Lossy.{utf8_valid_len}
+use Rattle.dav_xml.specs.Bytes.{is_space, is_name_start, is_name_byte}
+use Rattle.dav_xml.specs.Token.{Markup, opens, empty, closes, content, nothing}
 
--- A byte, or the reference that stands for it. A reader takes a carriage return for a line feed, and in the value of an attribute each
--- white space for a blank, unless it is a reference.
+-- A byte, or the reference that stands for it; white space is kept in an attribute's value by references.
 abbrev pub escaped_byte : Bool → ℕ → List ℕ
-escaped_byte in_value b =
+escaped_byte attribute b =
     if b == 38 then codes "&amp;"
     else if b == 60 then codes "&lt;"
     else if b == 62 then codes "&gt;"
     else if b == 34 then codes "&quot;"
     else if b == 13 then codes "&#13;"
-    else if in_value && b == 10 then codes "&#10;"
-    else if in_value && b == 9 then codes "&#9;"
+    else if attribute && b == 10 then codes "&#10;"
+    else if attribute && b == 9 then codes "&#9;"
     else b ∷ []
 
--- a text, or the value of an attribute
 unfoldable pub escaped : Bool → List ℕ → List ℕ
-escaped in_value [] = []
-escaped in_value (b ∷ bs) = escaped_byte in_value b ++ escaped in_value bs
+escaped attribute [] = []
+escaped attribute (b ∷ bs) = escaped_byte attribute b ++ escaped attribute bs
 
--- an attribute, with a blank before it
-abbrev pub attribute_spelling : List ℕ → List ℕ → List ℕ
-attribute_spelling name value = 32 ∷ (name ++ 61 ∷ 34 ∷ (escaped true value ++ 34 ∷ []))
+abbrev pub attribute_spelling : List ℕ × List ℕ → List ℕ
+attribute_spelling a = 32 ∷ (a.0 ++ 61 ∷ 34 ∷ (escaped true a.1 ++ 34 ∷ []))
+
+unfoldable pub attributes_spelling : List (List ℕ × List ℕ) → List ℕ
+attributes_spelling [] = []
+attributes_spelling (a ∷ others) = attribute_spelling a ++ attributes_spelling others
+
+-- a comment or an instruction is left out, and a CDATA section is written as text
+abbrev pub spelling : Markup → List ℕ
+spelling (opens name attributes) = 60 ∷ (name ++ (attributes_spelling attributes ++ 62 ∷ []))
+spelling (empty name attributes) = 60 ∷ (name ++ (attributes_spelling attributes ++ 47 ∷ 62 ∷ []))
+spelling (closes name) = 60 ∷ 47 ∷ (name ++ 62 ∷ [])
+spelling (content is_blank bytes) = escaped false bytes
+spelling nothing = []
+
+unfoldable pub spellings : List Markup → List ℕ
+spellings [] = []
+spellings (t ∷ ts) = spelling t ++ spellings ts
+
+-- [5] Name
+abbrev pub is_name : List ℕ → Bool
+is_name [] = false
+is_name (b ∷ bs) = is_name_start b && list_all is_name_byte (b ∷ bs)
+
+abbrev pub is_utf8 : List ℕ → Bool
+is_utf8 bytes = utf8_valid_len bytes == length bytes
+
+abbrev pub IsName : List ℕ → Type 0
+IsName name = (is_name name ≡ true) × (is_utf8 name ≡ true)
+
+pub record IsAttribute (a : List ℕ × List ℕ) : Type 0 where
+  pub name : IsName a.0
+  pub value : is_utf8 a.1 ≡ true
+
+abbrev pub AreAttributes : List (List ℕ × List ℕ) → Type 0
+AreAttributes attributes = AllByRecursion IsAttribute attributes
+
+-- a text comes next
+abbrev pub starts_text : List Markup → Bool
+starts_text [] = false
+starts_text (content is_blank bytes ∷ ts) = true
+starts_text (t ∷ ts) = false
+
+-- a text that is told as it is written, with no text behind it
+pub record IsText (is_blank : Bool) (bytes : List ℕ) (ts : List Markup) : Type 0 where
+  pub utf8 : is_utf8 bytes ≡ true
+  pub alone : starts_text ts ≡ false
+  pub blank : is_blank ≡ list_all is_space (escaped false bytes)
+
+-- Pieces that are written so that they are read again: tags, and texts of at least one byte with tags between them.
+abbrev pub IsSpelled : Markup → List Markup → Type 0
+IsSpelled (opens name attributes) ts = IsName name × AreAttributes attributes
+IsSpelled (empty name attributes) ts = IsName name × AreAttributes attributes
+IsSpelled (closes name) ts = IsName name
+IsSpelled (content is_blank []) ts = ⊥
+IsSpelled (content is_blank (b ∷ bs)) ts = IsText is_blank (b ∷ bs) ts
+IsSpelled nothing ts = ⊥
+
+abbrev pub AreSpelled : List Markup → Type 0
+AreSpelled [] = Unit {0}
+AreSpelled (t ∷ ts) = IsSpelled t ts × AreSpelled ts

@@ -3,27 +3,34 @@ use std::alloc::{AllocError, AllocFailed};
 use std::error::Error;
 use std::fmt;
 
-/// Why a text isn't read as an element tree.
+/// What is wrong with a text.
 #[derive(Clone, Copy, Debug, PartialEq, Eq)]
-pub enum XmlError {
-    /// It isn't a well-formed document of declared prefixes, or it has a document type.
+pub enum Fault {
+    /// It isn't a well-formed document of declared prefixes in UTF-8, or it has a document type.
     Malformed,
     /// It has more than 64 levels of elements.
     TooDeep,
-    /// It has more than 1 MiB, or an element has more than 256 attributes, or more than 256 prefixes are declared at one place.
+    /// It has more than 1 MiB, an element of more than 256 attributes, or more than 256 prefixes that are declared at one place.
     TooLarge,
+}
+
+/// Why a text isn't read as an element tree.
+#[derive(Clone, Copy, Debug, PartialEq, Eq)]
+pub enum XmlError {
     /// Memory ran out.
     Memory,
+    /// Something is wrong with the text.
+    Fault(Fault),
 }
 
 /// Writes the variant's name.
 impl fmt::Display for XmlError {
     fn fmt<W: fmt::Write>(&self, f: &mut fmt::Formatter<W>) -> fmt::Result {
         f.write_str(match self {
-            XmlError::Malformed => "Malformed",
-            XmlError::TooDeep => "TooDeep",
-            XmlError::TooLarge => "TooLarge",
             XmlError::Memory => "Memory",
+            XmlError::Fault(Fault::Malformed) => "Malformed",
+            XmlError::Fault(Fault::TooDeep) => "TooDeep",
+            XmlError::Fault(Fault::TooLarge) => "TooLarge",
         })
     }
 }

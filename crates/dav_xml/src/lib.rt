@@ -3,17 +3,22 @@
 //! A text is UTF-8, without a document type. Texts of blanks alone are dropped.
 #![tactic(auto)]
 
-mod characters;
+mod bytes;
 mod error;
+mod front;
+pub mod laws;
+mod markup;
 mod names;
-mod reading;
+mod namespaces;
+mod nesting;
 mod references;
 mod scope;
-mod start;
 #[cfg(test)]
 mod tests;
+mod token;
 mod writing;
+mod written;
 
-pub use error::XmlError;
-pub use reading::read;
+pub use error::{Fault, XmlError};
+pub use namespaces::read;
 pub use writing::write;

@@ -1,15 +1,23 @@
 //! Bodies as rows of text: how they are read, and what is written again.
 //!
-//! In a row `⇥` is a tab, `↵` a line feed and `␍` a carriage return.
+//! A row adds nothing to the proof of its test; a line of code adds seconds.
+mod bodies;
+mod grammar;
+mod limits;
+mod namespaces;
 mod values;
 
-use crate::{XmlError, read, write};
+use crate::{Fault, XmlError, read, write};
 use dav_core::element::{Element, XmlNode};
 use std::alloc::{AllocError, Global};
+use std::process::Abort;
 use std::test::Fail;
 
 // The most levels that are shown.
 const MOST: usize = 70;
+
+// The declaration that is written before each tree.
+const DECLARATION: &str = "<?xml version=\"1.0\" encoding=\"utf-8\"?>\n";
 
 // An element: its prefix and a bar, its namespace in braces, its name, its attributes; its texts in brackets.
 fn show(out: &mut String, element: &Element, depth: usize) -> Result<(), AllocError> {
@@ -57,9 +65,9 @@ fn shown(alloc: Global, body: &str) -> Result<String, AllocError> {
     let mut out = String::new(alloc);
     match read(alloc, body.as_bytes()) {
         Ok(element) => show(&mut out, &element, MOST)?,
-        Err(XmlError::Malformed) => out.push_str("!")?,
-        Err(XmlError::TooDeep) => out.push_str("! too deep")?,
-        Err(XmlError::TooLarge) => out.push_str("! too large")?,
+        Err(XmlError::Fault(Fault::Malformed)) => out.push_str("!")?,
+        Err(XmlError::Fault(Fault::TooDeep)) => out.push_str("! too deep")?,
+        Err(XmlError::Fault(Fault::TooLarge)) => out.push_str("! too large")?,
         Err(XmlError::Memory) => return Err(AllocError),
     }
     Ok(out)
@@ -71,12 +79,12 @@ fn again(alloc: Global, body: &str) -> Result<String, Fail> {
     let bytes = write(alloc, &element)?;
     let text = str::from_utf8(&bytes)?;
     let after = text
-        .strip_prefix("<?xml version=\"1.0\" encoding=\"utf-8\"?>\n")
+        .strip_prefix(DECLARATION)
         .ok_or("a reply without its declaration")?;
     Ok(String::from_str(alloc, after)?)
 }
 
-// A text with the control characters that its marks stand for.
+// A text with the control characters that its marks stand for: `⇥` is a tab, `↵` a line feed and `␍` a carriage return.
 fn marked(alloc: Global, text: &str) -> Result<String, AllocError> {
     let mut out = String::new(alloc);
     for c in text.chars() {
@@ -96,4 +104,38 @@ fn parts(row: &str) -> Option<(&str, &str)> {
         return None;
     }
     row.split_once(" -> ")
+}
+
+// Rows of bodies and of what is read of them; what is read is written so that the same is read again.
+fn see_read(rt: &impl Abort, alloc: Global, rows: &str) -> Result<(), Fail> {
+    for row in rows.lines() {
+        if let Some((body, wanted)) = parts(row) {
+            let body = marked(alloc, body)?;
+            let wanted = marked(alloc, wanted)?;
+            let found = shown(alloc, &body)?;
+            assert!(rt; found == wanted, "{row}\ngives: {found}");
+            if !wanted.starts_with('!') {
+                let written = again(alloc, &body)?;
+                let found = shown(alloc, &written)?;
+                assert!(rt;
+                    found == wanted,
+                    "{row}\nis written: {written}\ngives: {found}"
+                );
+            }
+        }
+    }
+    Ok(())
+}
+
+// Rows of bodies and of what is written of what is read of them.
+fn see_written(rt: &impl Abort, alloc: Global, rows: &str) -> Result<(), Fail> {
+    for row in rows.lines() {
+        if let Some((body, wanted)) = parts(row) {
+            let body = marked(alloc, body)?;
+            let wanted = marked(alloc, wanted)?;
+            let found = again(alloc, &body)?;
+            assert!(rt; found == wanted, "{row}\ngives: {found}");
+        }
+    }
+    Ok(())
 }

@@ -1,5 +1,5 @@
 //! White space in texts and in the values of attributes.
-use super::{again, marked, parts, shown};
+use super::{see_read, see_written};
 use std::test::Fail;
 
 // Sections 2.11 and 3.3.3: line ends are line feeds, and white space in a value is of blanks, unless it is of references.
@@ -54,26 +54,10 @@ const AGAIN: &str = "\
 
 #[test]
 fn white_space_is_read(rt: HostRuntime) -> Result<(), Fail> {
-    for row in READ.lines() {
-        if let Some((body, wanted)) = parts(row) {
-            let body = marked(rt.alloc(), body)?;
-            let wanted = marked(rt.alloc(), wanted)?;
-            let found = shown(rt.alloc(), &body)?;
-            assert!(rt; found == wanted, "{row}\ngives: {found}");
-        }
-    }
-    Ok(())
+    see_read(&rt, rt.alloc(), READ)
 }
 
 #[test]
 fn white_space_is_written(rt: HostRuntime) -> Result<(), Fail> {
-    for row in AGAIN.lines() {
-        if let Some((body, wanted)) = parts(row) {
-            let body = marked(rt.alloc(), body)?;
-            let wanted = marked(rt.alloc(), wanted)?;
-            let found = again(rt.alloc(), &body)?;
-            assert!(rt; found == wanted, "{row}\ngives: {found}");
-        }
-    }
-    Ok(())
+    see_written(&rt, rt.alloc(), AGAIN)
 }

@@ -1,0 +1,13 @@
+pub mod ElementLemmas
+pub mod Runs
+pub mod Resolving
+pub mod Many
+pub mod Stack
+pub mod Steps
+pub mod Utf8
+pub mod TextLemmas
+pub mod Escapes
+pub mod Spelled
+pub mod Nested
+pub mod Spellings
+pub mod Kept

@@ -1,0 +1,9 @@
+use Rattle.std.proofs.Common.{◌≡◌, [], drop, map}
+use Rattle.dav_core.specs.Element.{trees}
+use Rattle.dav_core.specs.ElementView.{node_tree}
+use Rattle.dav_xml.specs.Scopes.{pair_bytes}
+use Rattle.dav_xml.specs.Namespaces.{expanded_after}
+use Rattle.dav_xml.proofs.namespaces.+expands.Given as goal
+
+abbrev pub invariant-expanded_children-loop-child : goal.invariant-expanded_children-loop-child
+invariant-expanded_children-loop-child l = expanded_after (map pair_bytes l.scope) (map node_tree l.made.items) (trees (map node_tree (drop l.child-index l.child-items))) ≡ expanded_after (map pair_bytes l.scope) [] (trees (map node_tree l.child-items))

@@ -1,0 +1,8 @@
+use Rattle.std.proofs.Common.{◌≡◌, drop, map}
+use Rattle.dav_core.specs.ElementView.{attribute_bytes}
+use Rattle.dav_xml.specs.Scopes.{pair_bytes}
+use Rattle.dav_xml.specs.Namespaces.{within}
+use Rattle.dav_xml.proofs.namespaces.within.Given as goal
+
+abbrev pub invariant-loop-attribute : goal.invariant-loop-attribute
+invariant-loop-attribute l = within (map pair_bytes l.inner.items) (map attribute_bytes (drop l.attribute-index l.attributes)) ≡ within (map pair_bytes l.scope) (map attribute_bytes l.attributes)

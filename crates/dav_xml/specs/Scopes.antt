@@ -1,0 +1,52 @@
+-- The prefixes that are declared at one place (Namespaces in XML 1.0, sections 3, 5 and 6).
+use Rattle.std.specs.Prelude.{ℕ, Bool, not, ◌&&◌, ◌||◌, ◌==◌, if◌then◌else◌, List, [], ◌∷◌, length, bytes_eq, codes, Option, Some, None, Result, Ok, Err}
+use denote.Ref.{Bor}
+use Rattle.dav_xml.specs.declared.error.Fault.{Fault}
+use Rattle.dav_xml.specs.declared.error.Fault.TheVariants.{Malformed}
+use Rattle.dav_xml.specs.Read.{◌>>=◌}
+use Rattle.dav_xml.specs.Bytes.{after_text}
+use Rattle.dav_xml.specs.References.{utf8}
+use Rattle.dav_xml.specs.Markup.{first_or}
+use Rattle.dav_xml.specs.Names.{is_plain}
+
+-- prefixes with their namespaces, the innermost last; an empty prefix is that of names without one
+abbrev pub Scope : Type 0
+Scope = List (List ℕ × List ℕ)
+
+-- a prefix and its namespace, without where they lie in memory
+abbrev pub pair_bytes : Bor (List ℕ) × Bor (List ℕ) → List ℕ × List ℕ
+pair_bytes p = (p.0.now, p.1.now)
+
+-- the last that is declared, behind what was found before
+abbrev pub uri_after : Option (List ℕ) → List ℕ → Scope → Option (List ℕ)
+uri_after found prefix [] = found
+uri_after found prefix (d ∷ ds) = uri_after (if bytes_eq d.0 prefix then Some d.1 else found) prefix ds
+
+abbrev pub uri_of : List ℕ → Scope → Option (List ℕ)
+uri_of prefix scope = uri_after None prefix scope
+
+-- The namespaces that are bound to `xml` and to `xmlns` (section 3).
+abbrev pub xml_uri : List ℕ
+xml_uri = codes "http://www.w3.org/XML/1998/namespace"
+
+abbrev pub xmlns_uri : List ℕ
+xmlns_uri = codes "http://www.w3.org/2000/xmlns/"
+
+abbrev pub is_bound : List ℕ → Bool
+is_bound uri = bytes_eq uri xml_uri || bytes_eq uri xmlns_uri
+
+-- Whether a prefix may be declared with a namespace: none is undeclared, `xml` has its own alone, and `xmlns` none.
+abbrev pub may_declare : List ℕ → List ℕ → Bool
+may_declare prefix uri =
+    if bytes_eq prefix (codes "xml") then bytes_eq uri xml_uri
+    else (not (bytes_eq prefix (codes "xmlns")) && not (is_bound uri)) && (not (length uri == 0) && is_plain prefix)
+
+abbrev pub default_declared : List ℕ → Result (Option (List ℕ × List ℕ)) Fault
+default_declared uri = if is_bound uri then Err Malformed else Ok (Some ([], uri))
+
+abbrev pub prefix_declared : List ℕ → List ℕ → Result (Option (List ℕ × List ℕ)) Fault
+prefix_declared prefix uri = utf8 prefix >>= λ p. if may_declare p uri then Ok (Some (p, uri)) else Err Malformed
+
+-- What an attribute declares, if it declares anything.
+abbrev pub declared_by : List ℕ × List ℕ → Result (Option (List ℕ × List ℕ)) Fault
+declared_by a = if bytes_eq a.0 (codes "xmlns") then default_declared a.1 else first_or (after_text (codes "xmlns:") a.0) (λ prefix. prefix_declared prefix a.1) (Ok None)

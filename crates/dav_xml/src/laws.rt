@@ -1,0 +1,24 @@
+//! Laws of the definitions.
+ghost use Rattle.std.specs.Prelude.{◌≡◌, List, Ok};
+ghost use Rattle.dav_xml.specs.Token.{Markup};
+ghost use Rattle.dav_xml.specs.Markup.{tokens_of};
+ghost use Rattle.dav_xml.specs.Spelling.{AreSpelled, spellings};
+ghost use Rattle.dav_core.specs.Element.{ElementTree};
+ghost use Rattle.dav_xml.specs.Nesting.{nested};
+ghost use Rattle.dav_xml.specs.Flat.{flat, nested_tokens, IsRaw};
+
+/// Pieces of markup that are written are read again.
+pub fn spelled_is_read()
+    ensures { (ts : List Markup) → AreSpelled ts → tokens_of (spellings ts) ≡ Ok ts }
+{}
+
+/// The pieces of a tree of at most 64 levels are nested to that tree again.
+pub fn flat_is_nested()
+    ensures { (t : ElementTree) → IsRaw 64 t → nested (flat t) ≡ Ok t }
+{}
+
+/// A raw tree that is written is read again.
+pub fn raw_is_read()
+    ensures { (t : ElementTree) → IsRaw 64 t → AreSpelled (flat t)
+        → nested_tokens (spellings (flat t)) ≡ Ok t }
+{}
