@@ -263,9 +263,15 @@ impl<D: Disk + Drop> Service<D> {
             }
         }
         let reply = self.run(record, body)?;
-        let mut record = *record;
-        record.status = reply.status.as_u16();
-        record.write(&mut self.batch)?;
+        let answered = Record {
+            moment: record.moment,
+            status: reply.status.as_u16(),
+            principal: record.principal,
+            token: record.token,
+            head: record.head,
+            body: record.body,
+        };
+        answered.write(&mut self.batch)?;
         Ok(Some(reply))
     }
 
