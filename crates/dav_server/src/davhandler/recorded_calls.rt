@@ -1,4 +1,6 @@
 //! Which calls of the store each method makes, and in which order: those of the table in docs/SCRIPTS.md.
+ghost use Rattle.std.specs.Prelude.{◌≡◌};
+
 use super::engine_calls::{Engine, EngineRequest, request_of};
 use super::tests::lock_for_anna;
 use super::*;
