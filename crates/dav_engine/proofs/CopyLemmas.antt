@@ -15,10 +15,9 @@ use Rattle.dav_engine.specs.Folder.{child_of, room_at}
 use Rattle.dav_engine.specs.Method.{MethodPlan, gives}
 use Rattle.dav_engine.specs.Multistatus.{PathStatus}
 use Rattle.dav_engine.specs.Plan.{Done, Ask, ran_done, ran_ask}
-use Rattle.dav_engine.specs.Walked.{StoppedIn}
-use Rattle.dav_engine.proofs.CutPlans.{cut_first, cut_ask, cut_bind, cut_in}
+use Rattle.dav_engine.specs.Walked.{CutShort}
+use Rattle.dav_engine.proofs.CutWalks.{cut_at_once, cut_behind, cut_later, cut_in_first, cut_in_second}
 use Rattle.dav_engine.proofs.Following.{ran_bind}
-use Rattle.dav_engine.proofs.RemovalLemmas.{stopped_behind}
 use Rattle.dav_engine.proofs.RoomLemmas.{room_step, room_child}
 
 -- the last call of a part was answered, and that is no fault
@@ -34,8 +33,8 @@ call_fault go p e {answer} {before = before} one some is why =
     copied (go answer) (λ ls. ran_ask one ran_done) (is ∙ ap (λ faults. before ++ map copy_report faults) (sym some)) (why ∙ ap last_refusal (sym some))
 
 -- memory ran out before a part began
-pub none_made : {A : Type 0} (plan : MethodPlan A) {s : StoreState} → StoppedIn plan s s
-none_made plan = λ ls. cut_first
+pub none_made : (plan : MethodPlan (List CopyFault)) {s : StoreState} {before : List PathStatus} → CutShort copy_report plan s before before s
+none_made plan = cut_at_once refl
 
 pub is_file : (dir : Bool) → not dir ≡ true → dir ≡ false
 is_file true h = cc
@@ -98,10 +97,10 @@ module _ (deep : Bool) (now : ℕ) (top s d : PathText) (small : length s.bytes 
       subst (λ k. Copied (copy k deep now top s d) old before after last new) (sym (room_step s small))
       (subst (λ (t : Bool). Copied (Tested t) old before after last new) (sym is) one)
 
-  stops_by_test : {old new : StoreState} (b : Bool) → are_equal s top ≡ b → StoppedIn (Tested b) old new → StoppedIn (copying deep now top s d) old new
-  stops_by_test {old} {new} b is stop =
-      subst (λ k. StoppedIn (copy k deep now top s d) old new) (sym (room_step s small))
-      (subst (λ (t : Bool). StoppedIn (Tested t) old new) (sym is) stop)
+  stops_by_test : {old new : StoreState} {before after : List PathStatus} (b : Bool) → are_equal s top ≡ b → CutShort copy_report (Tested b) old before after new → CutShort copy_report (copying deep now top s d) old before after new
+  stops_by_test {old} {new} {before} {after} b is stop =
+      subst (λ k. CutShort copy_report (copy k deep now top s d) old before after new) (sym (room_step s small))
+      (subst (λ (t : Bool). CutShort copy_report (Tested t) old before after new) (sym is) stop)
 
   pub top_skipped : {old : StoreState} {before : List PathStatus} → are_equal s top ≡ true → Copied (copying deep now top s d) old before before None old
   top_skipped {before = before} is = by_test true is (copied [] (λ ls. ran_done) (sym (append-nil before)) refl)
@@ -111,8 +110,9 @@ module _ (deep : Bool) (now : ℕ) (top s d : PathText) (small : length s.bytes 
         → Asks (Metadata (names s)) old (Err e) new → (last ≡ Some e) × (after ≡ before ++ copy_report (s, e) ∷ []) → Copied (copying deep now top s d) old before after last new
     look_refused {e} one (why, is) = by_test false other (copied ((s, e) ∷ []) (λ ls. ran_ask one ran_done) is why)
 
-    pub look_stopped : {answer : Result DavMetaData FsError} {old new : StoreState} → Asks (Metadata (names s)) old answer new → StoppedIn (copying deep now top s d) old new
-    look_stopped one = stops_by_test false other (stopped_behind one)
+    pub look_stopped : {answer : Result DavMetaData FsError} {old new : StoreState} {before after : List PathStatus}
+        → Asks (Metadata (names s)) old answer new → after ≡ before → CutShort copy_report (copying deep now top s d) old before after new
+    look_stopped one same = stops_by_test false other (cut_behind one same)
 
     -- what was found is copied, by its kind
     module _ {m : DavMetaData} {old mid : StoreState} (one : Asks (Metadata (names s)) old (Ok m) mid) where
@@ -122,22 +122,23 @@ module _ (deep : Bool) (now : ℕ) (top s d : PathText) (small : length s.bytes 
       behind_look : {new : StoreState} {before after : List PathStatus} {last : Option FsError} → Copied (Kind m.dir) mid before after last new → Copied (copying deep now top s d) old before after last new
       behind_look (copied faults run is why) = by_test false other (copied faults (λ ls. ran_ask one (run ls)) is why)
 
-      stops_behind : {new : StoreState} → StoppedIn (Kind m.dir) mid new → StoppedIn (copying deep now top s d) old new
-      stops_behind stop = stops_by_test false other (λ ls. cut_ask _ one (stop ls))
+      stops_behind : {new : StoreState} {before after : List PathStatus} → CutShort copy_report (Kind m.dir) mid before after new → CutShort copy_report (copying deep now top s d) old before after new
+      stops_behind stop = stops_by_test false other (cut_later one stop)
 
       pub kind_copied : {new : StoreState} {before after : List PathStatus} {last : Option FsError} (dir : Bool) → m.dir ≡ dir → Copied (Kind dir) mid before after last new → Copied (copying deep now top s d) old before after last new
       kind_copied {new} {before} {after} {last} dir is more = behind_look (subst (λ (b : Bool). Copied (Kind b) mid before after last new) (sym is) more)
 
-      pub kind_stopped : {new : StoreState} (dir : Bool) → m.dir ≡ dir → StoppedIn (Kind dir) mid new → StoppedIn (copying deep now top s d) old new
-      kind_stopped {new} dir is more = stops_behind (subst (λ (b : Bool). StoppedIn (Kind b) mid new) (sym is) more)
+      pub kind_stopped : {new : StoreState} {before after : List PathStatus} (dir : Bool) → m.dir ≡ dir → CutShort copy_report (Kind dir) mid before after new → CutShort copy_report (copying deep now top s d) old before after new
+      kind_stopped {new} {before} {after} dir is more = stops_behind (subst (λ (b : Bool). CutShort copy_report (Kind b) mid before after new) (sym is) more)
 
 -- a folder alone, at Depth 0
 pub alone_copied : (deep : Bool) (walk : CopyWalk) (now : ℕ) (s d : PathText) {old new : StoreState} {before after : List PathStatus} {last : Option FsError}
     → deep ≡ false → Copied (copy_alone now d) old before after last new → Copied (copy_kind deep true walk now s d) old before after last new
 alone_copied deep walk now s d {old} {new} {before} {after} {last} is one = subst (λ b. Copied (copy_kind b true walk now s d) old before after last new) (sym is) one
 
-pub alone_stopped : (deep : Bool) (walk : CopyWalk) (now : ℕ) (s d : PathText) {old new : StoreState} → deep ≡ false → StoppedIn (copy_alone now d) old new → StoppedIn (copy_kind deep true walk now s d) old new
-alone_stopped deep walk now s d {old} {new} is stop = subst (λ b. StoppedIn (copy_kind b true walk now s d) old new) (sym is) stop
+pub alone_stopped : (deep : Bool) (walk : CopyWalk) (now : ℕ) (s d : PathText) {old new : StoreState} {before after : List PathStatus}
+    → deep ≡ false → CutShort copy_report (copy_alone now d) old before after new → CutShort copy_report (copy_kind deep true walk now s d) old before after new
+alone_stopped deep walk now s d {old} {new} {before} {after} is stop = subst (λ b. CutShort copy_report (copy_kind b true walk now s d) old before after new) (sym is) stop
 
 -- a folder with all that is in it
 pub deep_copied : (deep : Bool) (now : ℕ) (top s d : PathText) {old new : StoreState} {before after : List PathStatus} {last : Option FsError}
@@ -145,9 +146,9 @@ pub deep_copied : (deep : Bool) (now : ℕ) (top s d : PathText) {old new : Stor
 deep_copied deep now top s d {old} {new} {before} {after} {last} is one =
     subst (λ (x : Bool). Copied (copy_kind x true (λ a b. copy (room_at s - 1) x now top a b) now s d) old before after last new) (sym is) one
 
-pub deep_stopped : (deep : Bool) (now : ℕ) (top s d : PathText) {old new : StoreState}
-    → deep ≡ true → StoppedIn (copy_folder true (copy_below now top s) now s d) old new → StoppedIn (copy_kind deep true (λ a b. copy (room_at s - 1) deep now top a b) now s d) old new
-deep_stopped deep now top s d {old} {new} is stop = subst (λ (x : Bool). StoppedIn (copy_kind x true (λ a b. copy (room_at s - 1) x now top a b) now s d) old new) (sym is) stop
+pub deep_stopped : (deep : Bool) (now : ℕ) (top s d : PathText) {old new : StoreState} {before after : List PathStatus}
+    → deep ≡ true → CutShort copy_report (copy_folder true (copy_below now top s) now s d) old before after new → CutShort copy_report (copy_kind deep true (λ a b. copy (room_at s - 1) deep now top a b) now s d) old before after new
+deep_stopped deep now top s d {old} {new} {before} {after} is stop = subst (λ (x : Bool). CutShort copy_report (copy_kind x true (λ a b. copy (room_at s - 1) x now top a b) now s d) old before after new) (sym is) stop
 
 -- ---- a folder
 
@@ -156,23 +157,25 @@ module _ (walk : CopyWalk) (now : ℕ) (s d : PathText) where
       → Asks (CreateDir (names d) now) old (Err e) new → (last ≡ Some e) × (after ≡ before ++ copy_report (d, e) ∷ []) → Copied (copy_folder true walk now s d) old before after last new
   folder_refused {e} one (why, is) = copied ((d, e) ∷ []) (λ ls. ran_ask one ran_done) is why
 
-  pub folder_stopped : {answer : Result (Unit {0}) FsError} {old new : StoreState} → Asks (CreateDir (names d) now) old answer new → StoppedIn (copy_folder true walk now s d) old new
-  folder_stopped one = stopped_behind one
+  pub folder_stopped : {answer : Result (Unit {0}) FsError} {old new : StoreState} {before after : List PathStatus}
+      → Asks (CreateDir (names d) now) old answer new → after ≡ before → CutShort copy_report (copy_folder true walk now s d) old before after new
+  folder_stopped one same = cut_behind one same
 
   module _ {old mid : StoreState} (made : Asks (CreateDir (names d) now) old (Ok tt) mid) where
     pub list_refused : {e : FsError} {new : StoreState} {before after : List PathStatus} {last : Option FsError}
         → Asks (ReadDir (names s)) mid (Err e) new → (last ≡ Some e) × (after ≡ before ++ copy_report (s, e) ∷ []) → Copied (copy_folder true walk now s d) old before after last new
     list_refused {e} one (why, is) = copied ((s, e) ∷ []) (λ ls. ran_ask made (ran_ask one ran_done)) is why
 
-    pub list_stopped : {answer : Result (List (List ℕ × Bool)) FsError} {new : StoreState} → Asks (ReadDir (names s)) mid answer new → StoppedIn (copy_folder true walk now s d) old new
-    list_stopped one = λ ls. cut_ask _ made (stopped_behind one ls)
+    pub list_stopped : {answer : Result (List (List ℕ × Bool)) FsError} {new : StoreState} {before after : List PathStatus}
+        → Asks (ReadDir (names s)) mid answer new → after ≡ before → CutShort copy_report (copy_folder true walk now s d) old before after new
+    list_stopped one same = cut_later made (cut_behind one same)
 
     module _ {entries : List (List ℕ × Bool)} {after_list : StoreState} (one : Asks (ReadDir (names s)) mid (Ok entries) after_list) where
       pub inside_copied : {new : StoreState} {before after : List PathStatus} {last : Option FsError} → Copied (copy_members walk s d entries) after_list before after last new → Copied (copy_folder true walk now s d) old before after last new
       inside_copied (copied faults run is why) = copied faults (λ ls. ran_ask made (ran_ask one (run ls))) is why
 
-      pub inside_stopped : {new : StoreState} → StoppedIn (copy_members walk s d entries) after_list new → StoppedIn (copy_folder true walk now s d) old new
-      inside_stopped stop = λ ls. cut_ask _ made (cut_ask _ one (stop ls))
+      pub inside_stopped : {new : StoreState} {before after : List PathStatus} → CutShort copy_report (copy_members walk s d entries) after_list before after new → CutShort copy_report (copy_folder true walk now s d) old before after new
+      inside_stopped stop = cut_later made (cut_later one stop)
 
 -- ---- the members of a folder
 
@@ -232,11 +235,12 @@ module _ (walk : CopyWalk) (s d : PathText) where
         (is' ∙ ap (λ l. l ++ map copy_report gs) is ∙ append_assoc before (map copy_report fs) (map copy_report gs) ∙ ap (λ l. before ++ l) (sym (map_both fs gs)))
         (or_is why' why ∙ sym (refusal_both fs gs))
 
-    member_stops : {new : StoreState} → StoppedIn Member mid new → StoppedIn (Members (entry ∷ entries)) old new
-    member_stops stop = λ ls. cut_ask _ one (cut_in _ (stop ls) refl)
+    member_stops : {new : StoreState} {before after : List PathStatus} → CutShort copy_report Member mid before after new → CutShort copy_report (Members (entry ∷ entries)) old before after new
+    member_stops stop = cut_later one (cut_in_first (Members entries) stop)
 
-    rest_stops : {mid' new : StoreState} {before among : List PathStatus} {inside : Option FsError} → Copied Member mid before among inside mid' → StoppedIn (Members entries) mid' new → StoppedIn (Members (entry ∷ entries)) old new
-    rest_stops (copied fs run is why) stop = λ ls. cut_ask _ one (cut_bind _ (run ls) (cut_in _ (stop ls) refl))
+    rest_stops : {mid' new : StoreState} {before among after : List PathStatus} {inside : Option FsError}
+        → Copied Member mid before among inside mid' → CutShort copy_report (Members entries) mid' among after new → CutShort copy_report (Members (entry ∷ entries)) old before after new
+    rest_stops (copied fs run is why) stop = cut_later one (cut_in_second fs run is stop)
 
   -- ---- the loop over the members: however the rest goes, so all go
 
@@ -244,8 +248,9 @@ module _ (walk : CopyWalk) (s d : PathText) where
   Whole left all begin first old before last =
       (after : List PathStatus) (rest : Option FsError) (end : StoreState) → Copied (Members left) old before after rest end → Copied (Members all) begin first after (option_or rest last) end
 
-  abbrev pub Part : List (List ℕ × Bool) → List (List ℕ × Bool) → StoreState → StoreState → Type 0
-  Part left all begin old = (end : StoreState) → StoppedIn (Members left) old end → StoppedIn (Members all) begin end
+  abbrev pub Part : List (List ℕ × Bool) → List (List ℕ × Bool) → StoreState → List PathStatus → StoreState → List PathStatus → Type 0
+  Part left all begin first old before =
+      (after : List PathStatus) (end : StoreState) → CutShort copy_report (Members left) old before after end → CutShort copy_report (Members all) begin first after end
 
   pub whole_first : (all : List (List ℕ × Bool)) (begin : StoreState) (first : List PathStatus) → Whole all all begin first begin first None
   whole_first all begin first after rest end one = subst (λ r. Copied (Members all) begin first after r end) (sym (or_none rest)) one
@@ -257,12 +262,14 @@ module _ (walk : CopyWalk) (s d : PathText) where
         subst (λ r. Copied (Members all) begin first after r new) (sym why)
         (whole after (Some e) new (subst (λ l. Copied (Members l) old before after (Some e) new) (sym at) (unseen entry entries one (refl, is))))
 
-    pub part_unseen : {answer : Result DavMetaData FsError} {begin old new : StoreState} → Part left all begin old → Asks (EntryMetadata (names s ++ entry.0 ∷ [])) old answer new → StoppedIn (Members all) begin new
-    part_unseen {old = old} {new} part one = part new (subst (λ l. StoppedIn (Members l) old new) (sym at) (stopped_behind one))
+    pub part_unseen : {answer : Result DavMetaData FsError} {begin old new : StoreState} {first before after : List PathStatus} → Part left all begin first old before
+        → Asks (EntryMetadata (names s ++ entry.0 ∷ [])) old answer new → after ≡ before → CutShort copy_report (Members all) begin first after new
+    part_unseen {old = old} {new} {before = before} {after} part one same = part after new (subst (λ l. CutShort copy_report (Members l) old before after new) (sym at) (cut_behind one same))
 
     module _ {m : DavMetaData} {begin old mid : StoreState} (one : Asks (EntryMetadata (names s ++ entry.0 ∷ [])) old (Ok m) mid) where
-      pub part_member : {new : StoreState} → Part left all begin old → StoppedIn (walk (child_of s entry.0 m.dir) (child_of d entry.0 m.dir)) mid new → StoppedIn (Members all) begin new
-      part_member {new} part stop = part new (subst (λ l. StoppedIn (Members l) old new) (sym at) (member_stops entry entries one stop))
+      pub part_member : {new : StoreState} {first before after : List PathStatus} → Part left all begin first old before
+          → CutShort copy_report (walk (child_of s entry.0 m.dir) (child_of d entry.0 m.dir)) mid before after new → CutShort copy_report (Members all) begin first after new
+      part_member {new} {before = before} {after} part stop = part after new (subst (λ l. CutShort copy_report (Members l) old before after new) (sym at) (member_stops entry entries one stop))
 
       module _ {mid' : StoreState} {before among : List PathStatus} {inside : Option FsError} (done : Copied (walk (child_of s entry.0 m.dir) (child_of d entry.0 m.dir)) mid before among inside mid') where
         pub whole_more : {first : List PathStatus} {earlier last : Option FsError} → last ≡ option_or inside earlier → Whole left all begin first old before earlier → Whole entries all begin first mid' among last
@@ -270,8 +277,8 @@ module _ (walk : CopyWalk) (s d : PathText) where
             subst (λ r. Copied (Members all) begin first after r end) (or_more rest inside earlier ∙ ap (option_or rest) (sym is))
             (whole after (option_or rest inside) end (subst (λ l. Copied (Members l) old before after (option_or rest inside) end) (sym at) (and_more entry entries one done more)))
 
-        pub part_more : Part left all begin old → Part entries all begin mid'
-        part_more part end stop = part end (subst (λ l. StoppedIn (Members l) old end) (sym at) (rest_stops entry entries one done stop))
+        pub part_more : {first : List PathStatus} → Part left all begin first old before → Part entries all begin first mid' among
+        part_more part after end stop = part after end (subst (λ l. CutShort copy_report (Members l) old before after end) (sym at) (rest_stops entry entries one done stop))
 
   pub whole_ended : (left all : List (List ℕ × Bool)) {begin old : StoreState} {first before : List PathStatus} {last : Option FsError} → left ≡ [] → Whole left all begin first old before last → Copied (Members all) begin first before last old
   whole_ended left all {old = old} {before = before} none whole = whole before None old (subst (λ l. Copied (Members l) old before before None old) (sym none) none_left)
@@ -295,11 +302,12 @@ module _ (now : ℕ) (top s d from to : PathText) (name given : List ℕ) (dir :
       (subst (λ (a : PathText). Copied (copy (room_at s - 1) true now top a to) old before after last new) source_is
       (subst (λ k. Copied (copy k true now top from to) old before after last new) room_is one))
 
-  pub entry_stopped : {old new : StoreState} → StoppedIn (copying true now top from to) old new → StoppedIn (copy_below now top s (child_of s given dir) (child_of d given dir)) old new
-  entry_stopped {old} {new} one =
-      subst (λ (b : PathText). StoppedIn (copy (room_at s - 1) true now top (child_of s given dir) b) old new) place_is
-      (subst (λ (a : PathText). StoppedIn (copy (room_at s - 1) true now top a to) old new) source_is
-      (subst (λ k. StoppedIn (copy k true now top from to) old new) room_is one))
+  pub entry_stopped : {old new : StoreState} {before after : List PathStatus}
+      → CutShort copy_report (copying true now top from to) old before after new → CutShort copy_report (copy_below now top s (child_of s given dir) (child_of d given dir)) old before after new
+  entry_stopped {old} {new} {before} {after} one =
+      subst (λ (b : PathText). CutShort copy_report (copy (room_at s - 1) true now top (child_of s given dir) b) old before after new) place_is
+      (subst (λ (a : PathText). CutShort copy_report (copy (room_at s - 1) true now top a to) old before after new) source_is
+      (subst (λ k. CutShort copy_report (copy k true now top from to) old before after new) room_is one))
 
 -- the measure falls from a folder to its members
 pub source_smaller : (s from : PathText) (name : List ℕ) (dir : Bool) → length s.bytes < 2 ^ 64 → IsSegment name → s.bytes ≢ star → from ≡ child_of s name dir → 4 * room_at from + 3 < 4 * room_at s

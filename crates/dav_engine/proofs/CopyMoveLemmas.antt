@@ -31,7 +31,7 @@ use Rattle.dav_engine.specs.Multistatus.{PathStatus, multi_reply, status_reply}
 use Rattle.dav_engine.specs.Plan.{Done, Locks, Ran, refused_done}
 use Rattle.dav_engine.specs.Removal.{Fault, report_of, removal}
 use Rattle.dav_engine.specs.Response.{Response}
-use Rattle.dav_engine.specs.Walked.{Walked, walked, StoppedIn}
+use Rattle.dav_engine.specs.Walked.{Walked, walked, StoppedIn, CutShort}
 use Rattle.dav_engine.proofs.CopyHeaderLemmas.{place_by, plain_other}
 use Rattle.dav_engine.proofs.CutPlans.{cut_in}
 use Rattle.dav_engine.proofs.Following.{ran_at, follows_done, follows_ask, follows_then, follows_err, follows_on, follows_out, follows_up_to}
@@ -483,8 +483,8 @@ copies_by plan None r {old = old} {new} {before} {after} same is walk = all_copi
 copies_by plan (Some e) r {old = old} {new} {before} {after} same is walk = some_left e (subst (λ (w : Client). Copied (plan w.moment) old before after (Some e) new) same walk) is
 
 pub copies_short : (plan : ℕ → MethodPlan (List CopyFault)) {one who : Client} {old new : StoreState} {before after : List PathStatus}
-    → one ≡ who → StoppedIn (plan one.moment) old new → Copies (plan who.moment) old before after (Err dav.Memory) new
-copies_short plan {old = old} {new} same stop = no_memory (subst (λ (w : Client). StoppedIn (plan w.moment) old new) same stop) refl
+    → one ≡ who → CutShort copy_report (plan one.moment) old before after new → Copies (plan who.moment) old before after (Err dav.Memory) new
+copies_short plan {old = old} {new} {before} {after} same stop = no_memory (subst (λ (w : Client). CutShort copy_report (plan w.moment) old before after new) same stop) refl
 
 -- ---- with equal arguments
 

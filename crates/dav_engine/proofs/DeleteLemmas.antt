@@ -25,7 +25,7 @@ use Rattle.dav_engine.specs.Delete.{delete_allowed, delete_found, deleting, whol
 use Rattle.dav_engine.specs.Multistatus.{PathStatus, last_error, multi_reply, status_reply}
 use Rattle.dav_engine.specs.Removal.{Fault, report_of, removal}
 use Rattle.dav_engine.specs.Response.{Response}
-use Rattle.dav_engine.specs.Walked.{Walked, walked, StoppedIn, Removes, all_gone, some_stays, ran_out}
+use Rattle.dav_engine.specs.Walked.{Walked, walked, StoppedIn, CutShort, Removes, all_gone, some_stays, ran_out}
 use Rattle.dav_engine.proofs.CutPlans.{cut_in}
 use Rattle.dav_engine.proofs.Following.{ran_at, follows_done, follows_ask, follows_then, follows_err, follows_up_to}
 use Rattle.dav_engine.proofs.GuardLemmas.{follows_ok, follows_fails, guard_passed, guard_failed, guard_short, member_for}
@@ -180,5 +180,5 @@ some_stays_for {one} deep p dir {old} {new} {before} {after} same dirty is walk 
     some_stays (walked_for deep p dir same (subst (λ b. Walked (removal deep one.moment p dir) old before after b new) dirty walk)) (ap Err is)
 
 pub ran_out_for : {one who : Client} (deep : Bool) (p : PathText) (dir : Bool) {old new : StoreState} {before after : List PathStatus}
-    → one ≡ who → StoppedIn (removal deep one.moment p dir) old new → Removes (removal deep who.moment p dir) old before after (Err dav.Memory) new
-ran_out_for deep p dir same stop = ran_out (stopped_for deep p dir same stop) refl
+    → one ≡ who → CutShort report_of (removal deep one.moment p dir) old before after new → Removes (removal deep who.moment p dir) old before after (Err dav.Memory) new
+ran_out_for deep p dir {old} {new} {before} {after} same stop = ran_out (subst (λ w. CutShort report_of (removal deep w.moment p dir) old before after new) same stop) refl

@@ -8,6 +8,7 @@ pub mod InternetDates
 pub mod TellingLemmas
 pub mod DateLemmas
 pub mod CutPlans
+pub mod CutWalks
 pub mod Following
 pub mod PlanLemmas
 pub mod OnePlanLemmas
@@ -54,6 +55,7 @@ pub mod DeletedWorlds
 pub mod CopiedWorlds
 pub mod OneCopy
 pub mod UnrefusedCopies
+pub mod UnrefusedListings
 pub mod Theorems
 pub mod GuardedFolders
 pub mod InsideLemmas
@@ -99,5 +101,5 @@ pub mod HrefLemmas
 pub mod GroupLemmas
 pub mod LanguageLemmas
 pub mod ProppatchLemmas
-pub mod MembersTold
+pub mod ListingsTold
 pub mod PatchedWorlds

@@ -13,10 +13,11 @@ use Rattle.dav_core.specs.Status.{fs_status}
 use Rattle.dav_engine.specs.Folder.{child_of, room_at}
 use Rattle.dav_engine.specs.Method.{MethodPlan}
 use Rattle.dav_engine.specs.Multistatus.{PathStatus}
-use Rattle.dav_engine.specs.Plan.{Done, Ask, Locks, Ran, ran_done, ran_ask, Cut}
-use Rattle.dav_engine.proofs.CutPlans.{cut_first, cut_ask, cut_bind, cut_in}
-use Rattle.dav_engine.specs.Removal.{Fault, Stays, StaysWhole, StaysWith, report_of, refused_by, each, remove, remove_member, remove_listed, emptied_status}
-use Rattle.dav_engine.specs.Walked.{Walked, walked, StoppedIn}
+use Rattle.dav_engine.specs.Plan.{Done, Ask, Locks, Ran, ran_done, ran_ask}
+use Rattle.dav_engine.proofs.CutPlans.{cut_first, cut_ask}
+use Rattle.dav_engine.proofs.CutWalks.{cut_behind, cut_later, cut_inside, cut_clean, cut_in_first, cut_in_second, nothing_begins, begins_anyway}
+use Rattle.dav_engine.specs.Removal.{Fault, Stays, StaysWhole, StaysWith, report_of, refused_by, each, remove, remove_member, remove_listed, remove_emptied, emptied_status}
+use Rattle.dav_engine.specs.Walked.{Walked, walked, StoppedIn, AlwaysGives, gives_such, BeginWith, CutShort}
 use Rattle.dav_engine.specs.WalkView.{below}
 use Rattle.dav_engine.proofs.ChildLemmas.{slash_is_path}
 use Rattle.dav_engine.proofs.Following.{ran_bind}
@@ -43,16 +44,17 @@ by_room : (now : ℕ) (p : PathText) (room : ℕ) {old new : StoreState} {before
     → Walked (Folder now p) old before after clean new → Walked (remove room now p true) old before after clean new
 by_room now p room {old} {new} {before} {after} {clean} is one = subst (λ k. Walked (remove k now p true) old before after clean new) (sym is) one
 
-stopped_by_room : (now : ℕ) (p : PathText) (room : ℕ) {old new : StoreState} → room ≡ suc (room_at p - 1) → StoppedIn (Folder now p) old new → StoppedIn (remove room now p true) old new
-stopped_by_room now p room {old} {new} is one = subst (λ k. StoppedIn (remove k now p true) old new) (sym is) one
+stopped_by_room : (now : ℕ) (p : PathText) (room : ℕ) {old new : StoreState} {before after : List PathStatus} → room ≡ suc (room_at p - 1)
+    → CutShort report_of (Folder now p) old before after new → CutShort report_of (remove room now p true) old before after new
+stopped_by_room now p room {old} {new} {before} {after} is one = subst (λ k. CutShort report_of (remove k now p true) old before after new) (sym is) one
 
 pub listing_refused : (now : ℕ) (p : PathText) {e : FsError} {old new : StoreState} {before after : List PathStatus} → length p.bytes < 2 ^ 64
     → Asks (ReadDir (names p)) old (Err e) new → after ≡ before ++ (p, fs_status e) ∷ [] → Walked (remove (room_at p) now p true) old before after false new
 listing_refused now p {e} small one is = by_room now p (room_at p) (room_step p small) (walked (StaysWhole p (fs_status e) ∷ []) (λ ls. ran_ask one ran_done) is refl)
 
-pub listing_stopped : (now : ℕ) (p : PathText) {answer : Result (List (List ℕ × Bool)) FsError} {old new : StoreState} → length p.bytes < 2 ^ 64
-    → Asks (ReadDir (names p)) old answer new → StoppedIn (remove (room_at p) now p true) old new
-listing_stopped now p small one = stopped_by_room now p (room_at p) (room_step p small) (stopped_behind one)
+pub listing_stopped : (now : ℕ) (p : PathText) {answer : Result (List (List ℕ × Bool)) FsError} {old new : StoreState} {before after : List PathStatus} → length p.bytes < 2 ^ 64
+    → Asks (ReadDir (names p)) old answer new → after ≡ before → CutShort report_of (remove (room_at p) now p true) old before after new
+listing_stopped now p small one same = stopped_by_room now p (room_at p) (room_step p small) (cut_behind one same)
 
 left_by : (now : ℕ) (p : PathText) {entries : List (List ℕ × Bool)} {old mid new : StoreState} {before after : List PathStatus} (faults : List Fault)
     → Asks (ReadDir (names p)) old (Ok entries) mid → ((ls : Locks) → Ran Asks (each (remove_member (below now p) p) entries) mid ls (Ok faults) new ls)
@@ -91,21 +93,25 @@ pub folder_refused : (now : ℕ) (p : PathText) {entries : List (List ℕ × Boo
 folder_refused now p small one (walked faults run is clean) last told = by_room now p (room_at p) (room_step p small) (refused_by_it now p faults one run is clean last told)
 
 -- memory ran out in the members
-pub folder_stopped : (now : ℕ) (p : PathText) {entries : List (List ℕ × Bool)} {old mid new : StoreState} → length p.bytes < 2 ^ 64
-    → Asks (ReadDir (names p)) old (Ok entries) mid → StoppedIn (each (remove_member (below now p) p) entries) mid new → StoppedIn (remove (room_at p) now p true) old new
-folder_stopped now p small one stop = stopped_by_room now p (room_at p) (room_step p small) (λ ls. cut_ask _ one (cut_in _ (stop ls) refl))
+emptied_keeps : (now : ℕ) (p : PathText) (reports : List PathStatus) (faults : List Fault) → BeginWith report_of reports faults → AlwaysGives (BeginWith report_of reports) (remove_emptied now p faults)
+emptied_keeps now p reports (f ∷ faults) begins = gives_such begins
+emptied_keeps now p reports [] begins = subst (λ (rs : List PathStatus). AlwaysGives (BeginWith report_of rs) (remove_emptied now p [])) (sym (nothing_begins report_of reports begins)) (begins_anyway report_of (remove_emptied now p []))
 
-emptied_by : (now : ℕ) (p : PathText) {entries : List (List ℕ × Bool)} {answer : Result (Unit {0}) FsError} {old mid mid' new : StoreState} (faults : List Fault)
+pub folder_stopped : (now : ℕ) (p : PathText) {entries : List (List ℕ × Bool)} {old mid new : StoreState} {before after : List PathStatus} → length p.bytes < 2 ^ 64
+    → Asks (ReadDir (names p)) old (Ok entries) mid → CutShort report_of (each (remove_member (below now p) p) entries) mid before after new → CutShort report_of (remove (room_at p) now p true) old before after new
+folder_stopped now p small one stop = stopped_by_room now p (room_at p) (room_step p small) (cut_later one (cut_inside (remove_emptied now p) stop (emptied_keeps now p)))
+
+emptied_by : (now : ℕ) (p : PathText) {entries : List (List ℕ × Bool)} {answer : Result (Unit {0}) FsError} {old mid mid' new : StoreState} {before among after : List PathStatus} (faults : List Fault)
     → Asks (ReadDir (names p)) old (Ok entries) mid → ((ls : Locks) → Ran Asks (each (remove_member (below now p) p) entries) mid ls (Ok faults) mid' ls)
-    → true ≡ is_empty faults → Asks (RemoveDir (names p) now) mid' answer new → StoppedIn (Folder now p) old new
-emptied_by now p [] one run clean last = λ ls. cut_ask _ one (cut_bind _ (run ls) (cut_ask _ last cut_first))
-emptied_by now p (f ∷ faults) one run clean last = absurd (cc)
+    → among ≡ before ++ map report_of faults → true ≡ is_empty faults → Asks (RemoveDir (names p) now) mid' answer new → after ≡ among → CutShort report_of (Folder now p) old before after new
+emptied_by now p {before = before} [] one run is clean last same = cut_later one (cut_clean (remove_emptied now p) [] run (cut_behind last (same ∙ is ∙ append-nil before)))
+emptied_by now p (f ∷ faults) one run is clean last same = absurd (cc)
 
 -- or behind the folder's own removal
-pub emptied_stopped : (now : ℕ) (p : PathText) {entries : List (List ℕ × Bool)} {answer : Result (Unit {0}) FsError} {old mid mid' new : StoreState} {before after : List PathStatus} → length p.bytes < 2 ^ 64
-    → Asks (ReadDir (names p)) old (Ok entries) mid → Walked (each (remove_member (below now p) p) entries) mid before after true mid' → Asks (RemoveDir (names p) now) mid' answer new
-    → StoppedIn (remove (room_at p) now p true) old new
-emptied_stopped now p small one (walked faults run is clean) last = stopped_by_room now p (room_at p) (room_step p small) (emptied_by now p faults one run clean last)
+pub emptied_stopped : (now : ℕ) (p : PathText) {entries : List (List ℕ × Bool)} {answer : Result (Unit {0}) FsError} {old mid mid' new : StoreState} {before among after : List PathStatus} → length p.bytes < 2 ^ 64
+    → Asks (ReadDir (names p)) old (Ok entries) mid → Walked (each (remove_member (below now p) p) entries) mid before among true mid' → Asks (RemoveDir (names p) now) mid' answer new → after ≡ among
+    → CutShort report_of (remove (room_at p) now p true) old before after new
+emptied_stopped now p small one (walked faults run is clean) last same = stopped_by_room now p (room_at p) (room_step p small) (emptied_by now p faults one run is clean last same)
 
 -- ---- a member
 
@@ -124,11 +130,11 @@ pub member_walked : (now : ℕ) (p : PathText) (entry : List ℕ × Bool) {m : D
     → Walked (remove_member (below now p) p entry) old before after clean new
 member_walked now p entry {m} segment other one more = run_member now p entry (room_at (child_of p entry.0 m.dir)) (room_child p entry.0 m.dir segment other) one more
 
-pub member_stopped : (now : ℕ) (p : PathText) (entry : List ℕ × Bool) {m : DavMetaData} {old mid new : StoreState} → IsSegment entry.0 → p.bytes ≢ star
-    → Asks (EntryMetadata (names p ++ entry.0 ∷ [])) old (Ok m) mid → StoppedIn (remove (room_at (child_of p entry.0 m.dir)) now (child_of p entry.0 m.dir) m.dir) mid new
-    → StoppedIn (remove_member (below now p) p entry) old new
-member_stopped now p entry {m} {mid = mid} {new = new} segment other one stop =
-    λ ls. cut_ask _ one (subst (λ k. Cut Asks ls (remove k now (child_of p entry.0 m.dir) m.dir) mid ls new ls) (room_child p entry.0 m.dir segment other) (stop ls))
+pub member_stopped : (now : ℕ) (p : PathText) (entry : List ℕ × Bool) {m : DavMetaData} {old mid new : StoreState} {before after : List PathStatus} → IsSegment entry.0 → p.bytes ≢ star
+    → Asks (EntryMetadata (names p ++ entry.0 ∷ [])) old (Ok m) mid → CutShort report_of (remove (room_at (child_of p entry.0 m.dir)) now (child_of p entry.0 m.dir) m.dir) mid before after new
+    → CutShort report_of (remove_member (below now p) p entry) old before after new
+member_stopped now p entry {m} {mid = mid} {new} {before} {after} segment other one stop =
+    cut_later one (subst (λ k. CutShort report_of (remove k now (child_of p entry.0 m.dir) m.dir) mid before after new) (room_child p entry.0 m.dir segment other) stop)
 
 -- ---- members
 
@@ -153,12 +159,13 @@ one_walked f x xs {before = before} (walked fs run is c) (walked gs more is' c')
     (is' ∙ ap (λ l. l ++ map report_of gs) is ∙ append_assoc before (map report_of fs) (map report_of gs) ∙ ap (λ l. before ++ l) (sym (map_both fs gs)))
     (and_is c c' ∙ sym (clean_both fs gs))
 
-pub one_stopped : {X : Type 0} (f : X → MethodPlan (List Fault)) (x : X) (xs : List X) {old new : StoreState} → StoppedIn (f x) old new → StoppedIn (each f (x ∷ xs)) old new
-one_stopped f x xs stop = λ ls. cut_in _ (stop ls) refl
+pub one_stopped : {X : Type 0} (f : X → MethodPlan (List Fault)) (x : X) (xs : List X) {old new : StoreState} {before after : List PathStatus}
+    → CutShort report_of (f x) old before after new → CutShort report_of (each f (x ∷ xs)) old before after new
+one_stopped f x xs stop = cut_in_first (each f xs) stop
 
-pub more_stopped : {X : Type 0} (f : X → MethodPlan (List Fault)) (x : X) (xs : List X) {old mid new : StoreState} {before among : List PathStatus} {clean : Bool}
-    → Walked (f x) old before among clean mid → StoppedIn (each f xs) mid new → StoppedIn (each f (x ∷ xs)) old new
-more_stopped f x xs (walked fs run is c) stop = λ ls. cut_bind _ (run ls) (cut_in _ (stop ls) refl)
+pub more_stopped : {X : Type 0} (f : X → MethodPlan (List Fault)) (x : X) (xs : List X) {old mid new : StoreState} {before among after : List PathStatus} {clean : Bool}
+    → Walked (f x) old before among clean mid → CutShort report_of (each f xs) mid among after new → CutShort report_of (each f (x ∷ xs)) old before after new
+more_stopped f x xs (walked fs run is c) stop = cut_in_second fs run is stop
 
 and_more : (a b c : Bool) → (a && (b && c)) ≡ ((a && b) && c)
 and_more true b c = refl
@@ -174,10 +181,10 @@ each_more f x xs left all clean clean' {begin} {old} {first = first} {before = b
     subst (λ b. Walked (each f all) begin first after b end) (and_more clean inside rest ∙ ap (λ b. b && rest) (sym both))
     (whole after (inside && rest) end (subst (λ l. Walked (each f l) old before after (inside && rest) end) (sym at) (one_walked f x xs one more)))
 
-pub each_part : {X : Type 0} (f : X → MethodPlan (List Fault)) (x : X) (xs left all : List X) {begin old mid : StoreState} {before among : List PathStatus} {inside : Bool}
-    → left ≡ x ∷ xs → ((end : StoreState) → StoppedIn (each f left) old end → StoppedIn (each f all) begin end) → Walked (f x) old before among inside mid
-    → (end : StoreState) → StoppedIn (each f xs) mid end → StoppedIn (each f all) begin end
-each_part f x xs left all {old = old} at part one end stop = part end (subst (λ l. StoppedIn (each f l) old end) (sym at) (more_stopped f x xs one stop))
+pub each_part : {X : Type 0} (f : X → MethodPlan (List Fault)) (x : X) (xs left all : List X) {begin old mid : StoreState} {first before among : List PathStatus} {inside : Bool}
+    → left ≡ x ∷ xs → ((after : List PathStatus) (end : StoreState) → CutShort report_of (each f left) old before after end → CutShort report_of (each f all) begin first after end) → Walked (f x) old before among inside mid
+    → (after : List PathStatus) (end : StoreState) → CutShort report_of (each f xs) mid among after end → CutShort report_of (each f all) begin first after end
+each_part f x xs left all {old = old} {before = before} at part one after end stop = part after end (subst (λ l. CutShort report_of (each f l) old before after end) (sym at) (more_stopped f x xs one stop))
 
 -- ---- a file
 
@@ -188,8 +195,9 @@ pub file_refused : (room now : ℕ) (p : PathText) {e : FsError} {old new : Stor
     → Asks (RemoveFile (names p) now) old (Err e) new → after ≡ before ++ (p, fs_status e) ∷ [] → Walked (remove room now p false) old before after false new
 file_refused room now p one is = call_err (λ e. Stays p (fs_status e)) one is
 
-pub file_stopped : (room now : ℕ) (p : PathText) {answer : Result (Unit {0}) FsError} {old new : StoreState} → Asks (RemoveFile (names p) now) old answer new → StoppedIn (remove room now p false) old new
-file_stopped room now p one = stopped_behind one
+pub file_stopped : (room now : ℕ) (p : PathText) {answer : Result (Unit {0}) FsError} {old new : StoreState} {before after : List PathStatus}
+    → Asks (RemoveFile (names p) now) old answer new → after ≡ before → CutShort report_of (remove room now p false) old before after new
+file_stopped room now p one same = cut_behind one same
 
 -- what was told, by the status that it is
 pub told_as : (p : PathText) {s s' : ℕ} (before : List PathStatus) {after : List PathStatus} → after ≡ before ++ (p, s) ∷ [] → s ≡ s' → after ≡ before ++ (p, s') ∷ []
@@ -215,17 +223,17 @@ member_at now p child entry name {m} {old} {mid} {new} {before} {after} {clean} 
     let whole : child ≡ child_of p entry.0 m.dir = path ∙ ap (λ n. child_of p n m.dir) is in
     member_walked now p entry (subst IsSegment is segment) other one (subst (λ q. Walked (remove (room_at q) now q m.dir) mid before after clean new) whole more)
 
-pub member_stops : (now : ℕ) (p child : PathText) (entry : List ℕ × Bool) (name : List ℕ) {m : DavMetaData} {old mid new : StoreState} → p.bytes ≢ star
+pub member_stops : (now : ℕ) (p child : PathText) (entry : List ℕ × Bool) (name : List ℕ) {m : DavMetaData} {old mid new : StoreState} {before after : List PathStatus} → p.bytes ≢ star
     → IsSegment name → name ≡ entry.0 → child ≡ child_of p name m.dir → Asks (EntryMetadata (names p ++ entry.0 ∷ [])) old (Ok m) mid
-    → StoppedIn (remove (room_at child) now child m.dir) mid new → StoppedIn (remove_member (below now p) p entry) old new
-member_stops now p child entry name {m} {mid = mid} {new = new} other segment is path one stop =
+    → CutShort report_of (remove (room_at child) now child m.dir) mid before after new → CutShort report_of (remove_member (below now p) p entry) old before after new
+member_stops now p child entry name {m} {mid = mid} {new} {before} {after} other segment is path one stop =
     let whole : child ≡ child_of p entry.0 m.dir = path ∙ ap (λ n. child_of p n m.dir) is in
-    member_stopped now p entry (subst IsSegment is segment) other one (subst (λ q. StoppedIn (remove (room_at q) now q m.dir) mid new) whole stop)
+    member_stopped now p entry (subst IsSegment is segment) other one (subst (λ q. CutShort report_of (remove (room_at q) now q m.dir) mid before after new) whole stop)
 
 -- behind the look at a member
-pub looked : (now : ℕ) (p : PathText) (entry : List ℕ × Bool) {answer : Result DavMetaData FsError} {old new : StoreState}
-    → Asks (EntryMetadata (names p ++ entry.0 ∷ [])) old answer new → StoppedIn (remove_member (below now p) p entry) old new
-looked now p entry one = stopped_behind one
+pub looked : (now : ℕ) (p : PathText) (entry : List ℕ × Bool) {answer : Result DavMetaData FsError} {old new : StoreState} {before after : List PathStatus}
+    → Asks (EntryMetadata (names p ++ entry.0 ∷ [])) old answer new → after ≡ before → CutShort report_of (remove_member (below now p) p entry) old before after new
+looked now p entry one same = cut_behind one same
 
 -- the measure falls from a folder to its members
 pub child_smaller : (p child : PathText) (name : List ℕ) (dir : Bool) → length p.bytes < 2 ^ 64 → IsSegment name → p.bytes ≢ star → child ≡ child_of p name dir

@@ -29,7 +29,7 @@ pub use Rattle.dav_engine.proofs.LockPlans.{only_asked, only_token, lock_is_prop
 pub use Rattle.dav_engine.proofs.LockSparing.{lock_spares}
 pub use Rattle.dav_engine.proofs.LockWorlds.{lock_grants, lock_refreshes, refused_lock_leaves_all, early_refused_lock_leaves_all}
 pub use Rattle.dav_engine.proofs.LockTokenLemmas.{last_is, one_lock_token, token_said}
-pub use Rattle.dav_engine.proofs.MembersTold.{members_are_told}
+pub use Rattle.dav_engine.proofs.ListingsTold.{listings_are_whole}
 pub use Rattle.dav_engine.proofs.ModelLemmas.{serves_from}
 pub use Rattle.dav_engine.proofs.NumberLemmas.{spare_numbers_suffice}
 pub use Rattle.dav_engine.proofs.OnePlanLemmas.{one_conditions, one_put_plan, one_mkcol_plan, one_delete_plan, one_unlock_plan, one_lock_plan, one_place, one_copymove_plan, one_propfind_plan, one_proppatch_plan}
@@ -47,6 +47,7 @@ pub use Rattle.dav_engine.proofs.SparingLaw.{sparing_leaves_covered, sparing_lea
 pub use Rattle.dav_engine.proofs.SparingPlans.{reading_spares, put_spares, mkcol_spares}
 pub use Rattle.dav_engine.proofs.SparingProperties.{proppatch_spares}
 pub use Rattle.dav_engine.proofs.UnlockPlans.{unlock_is_proper, unlock_ends_lock, refused_unlock_leaves_all, unlock_spares, unlock_keeps_locks, unlock_goes_along}
+pub use Rattle.dav_engine.proofs.UnrefusedListings.{unrefused_runs_list}
 pub use Rattle.dav_engine.proofs.WorldPlans.{only_reads, reading_leaves, ran_split, ran_outcome, Only, only_done, only_ask, only_look, only_then, only_bind, only_require, only_proper, proper_keeps}
 pub use Rattle.dav_engine.proofs.WrongPlans.{put_without_a_look, proppatch_without_a_look, unprefixed_leads_nowhere, late_look_spares_nothing, mkcol_by_parent_spares_nothing, lock_above_is_no_reason, numbers_are_not_told, lock_unasked_leaves_no_guard, lock_of_depth_0_is_no_guard}
 pub use Rattle.dav_engine.proofs.MembersLaw.{plans_leave_members, plans_leave_members_cut, parent_free_is_no_member}

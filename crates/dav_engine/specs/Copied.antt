@@ -10,7 +10,7 @@ use Rattle.dav_engine.specs.Follows.{FollowsFrom}
 use Rattle.dav_engine.specs.Method.{MethodPlan}
 use Rattle.dav_engine.specs.Multistatus.{PathStatus}
 use Rattle.dav_engine.specs.Plan.{Locks, Ran}
-use Rattle.dav_engine.specs.Walked.{StoppedIn}
+use Rattle.dav_engine.specs.Walked.{CutShort}
 
 -- A plan was carried out, whatever the list of locks is, with these faults; they were reported after what was reported before,
 -- and the last of them has this reason.
@@ -23,7 +23,7 @@ pub data Copied (plan : MethodPlan (List CopyFault)) (old : StoreState) (before 
 pub data Copies (plan : MethodPlan (List CopyFault)) (old : StoreState) (before after : List PathStatus) (result : Result (Unit {0}) DavError) (new : StoreState) : Type 0 where
   all_copied : Copied plan old before after None new → result ≡ Ok tt → Copies plan old before after result new
   some_left : (e : FsError) → Copied plan old before after (Some e) new → result ≡ Err (dav.FsError e) → Copies plan old before after result new
-  no_memory : StoppedIn plan old new → result ≡ Err dav.Memory → Copies plan old before after result new
+  no_memory : CutShort copy_report plan old before after new → result ≡ Err dav.Memory → Copies plan old before after result new
 
 -- A part of a request was carried out, after the list of locks may have been changed: whatever list the request began with.
 abbrev pub FollowsLater : {A X : Type 0} → (X → A) → MethodPlan A → StoreState → Locks → Result X DavError → StoreState → Locks → Type 0

@@ -1,16 +1,18 @@
 -- Laws of PROPFIND: of which paths its responses are, and that their hrefs lead back there (RFC 4918, sections 9.1 and 14.7).
-use Rattle.std.specs.Prelude.{◌≡◌, ◌≢◌, ◌⊎◌, ℕ, ◌<◌, ◌^◌, ⊤, true, codes, List, [], ◌∷◌, All, length, map, Result, Ok}
+use Rattle.std.specs.Prelude.{◌≡◌, ◌≢◌, ◌⊎◌, ℕ, ◌<◌, ◌^◌, ◌++◌, ⊤, Bool, true, false, codes, List, [], ◌∷◌, All, length, map, Option, Some, None, Result, Ok}
 use Rattle.std.specs.Result.{is_ok}
 use Rattle.http_header.specs.HeaderMap.{get_all}
 use Rattle.dav_core.specs.declared.errors.FsError.{FsError}
+use Rattle.dav_core.specs.declared.errors.DavError.{DavError}
 use Rattle.dav_core.specs.declared.fs.DavMetaData.{DavMetaData}
 use Rattle.dav_core.specs.Asking.{Call, Answer, StoreState, Asks, ReadDir, EntryMetadata}
 use Rattle.dav_core.specs.Element.{ElementTree}
 use Rattle.dav_core.specs.Path.{Path, PathText, star, names, is_at_or_under}
 use Rattle.dav_core.specs.Target.{Reads}
-use Rattle.dav_core.specs.World.{World, is_folder, members, IsWorld}
+use Rattle.dav_core.specs.World.{World, is_folder, is_missing, members, IsWorld}
 use Rattle.dav_headers.specs.Depth.{IsDepth}
-use Rattle.dav_headers.specs.declared.depth.Depth.TheVariants.{One}
+use Rattle.dav_headers.specs.declared.depth.Depth.{Depth}
+use Rattle.dav_headers.specs.declared.depth.Depth.TheVariants.{Zero, One, Infinity}
 use Rattle.dav_engine.specs.declared.reply.ReplyBody.{ReplyBody}
 use Rattle.dav_engine.specs.declared.reply.ReplyBody.TheVariants as reply
 use Rattle.dav_engine.specs.declared.request.Body.{Body}
@@ -18,10 +20,10 @@ use Rattle.dav_engine.specs.AnswerParts.{children_named}
 use Rattle.dav_engine.specs.Client.{Client}
 use Rattle.dav_engine.specs.CopyView.{NamesBelow}
 use Rattle.dav_engine.specs.Folder.{closed, child_of}
-use Rattle.dav_engine.specs.Headers.{Headers}
+use Rattle.dav_engine.specs.Headers.{Headers, Decodes}
 use Rattle.dav_engine.specs.Method.{MethodPlan}
 use Rattle.dav_engine.specs.Multistatus.{dav_text}
-use Rattle.dav_engine.specs.Plan.{Locks, Ran}
+use Rattle.dav_engine.specs.Plan.{CallStep, Locks, Ran}
 use Rattle.dav_engine.specs.Properties.{Writer, QuotaKnown, WithQuota, properties_of}
 use Rattle.dav_engine.specs.Propfind.{IsPropfind}
 use Rattle.dav_engine.specs.Response.{Response}
@@ -66,23 +68,13 @@ ResponsesLeadBack =
     → IsServerPrefix prefix → IsTarget prefix target p → IsWorld old.world → IsPropfind headers p content who plan
     → Ran Asks plan old ls (Ok r) new ms → All (IsOfOneUnder prefix (names p)) (responses_in r.body)
 
--- ---- the members of a folder
+-- ---- what is told of
 
 -- responses are of these paths, in order
 pub data AreOf (prefix : List ℕ) : List PathText → List ElementTree → Type 0 where
   none_told : AreOf prefix [] []
   one_told : {p : PathText} {ps : List PathText} {response : ElementTree} {responses : List ElementTree}
       → IsOf prefix p response → AreOf prefix ps responses → AreOf prefix (p ∷ ps) (response ∷ responses)
-
--- the store doesn't refuse to list a folder, nor to tell of what it listed
-abbrev pub IsListing : (call : Call) → Result (Answer call) FsError → Type 0
-IsListing (ReadDir p) answer = is_ok answer ≡ true
-IsListing (EntryMetadata p) answer = is_ok answer ≡ true
-IsListing _ answer = ⊤
-
--- one call of a lawful store that refuses neither
-abbrev pub AsksListing : (call : Call) → StoreState → Result (Answer call) FsError → StoreState → Type 0
-AsksListing call old answer new = Asks call old answer new × IsListing call answer
 
 -- the path of what is there: that of a folder ends in a slash
 abbrev pub path_in : World → PathText → PathText
@@ -92,12 +84,60 @@ path_in w p = closed (is_folder w (names p)) p
 abbrev pub member_paths : World → PathText → List PathText
 member_paths w p = map (λ member. child_of p member.0 member.1) (members (names p) w.nodes)
 
--- At Depth 1 the responses are of the target, and then of its members, where the store refuses neither to list nor to tell of
--- what it listed, and the target has fewer than 2^64 names (RFC 4918, section 10.2).
-abbrev pub MembersAreTold : Type 0
-MembersAreTold =
-    (prefix target : List ℕ) (headers : Headers) (p : PathText) (content : Body) (who : Client) (plan : MethodPlan Response)
+-- These are the paths of these members of a path, in order, and behind each of them those of all that is below it.
+pub data AreWithAllBelow (w : World) : PathText → List (List ℕ × Bool) → List PathText → Type 0 where
+  no_member : {p : PathText} → AreWithAllBelow w p [] []
+  one_member : {p : PathText} {member : List ℕ × Bool} {others : List (List ℕ × Bool)} {below behind : List PathText}
+      → AreWithAllBelow w (child_of p member.0 member.1) (members (names (child_of p member.0 member.1)) w.nodes) below
+      → AreWithAllBelow w p others behind
+      → AreWithAllBelow w p (member ∷ others) (child_of p member.0 member.1 ∷ (below ++ behind))
+
+-- These are the paths of all that is below a path, each once, and a folder before what is in it.
+abbrev pub AreBelow : World → PathText → List PathText → Type 0
+AreBelow w p ps = AreWithAllBelow w p (members (names p) w.nodes) ps
+
+-- Of these paths a PROPFIND of this depth tells: at Depth 0 of its target, at Depth 1 also of the members, at Depth infinity also of all that
+-- is below it (RFC 4918, section 9.1), and without a depth of the members alone.
+pub data AreListed (w : World) (p : PathText) : Option Depth → List PathText → Type 0 where
+  itself : AreListed w p (Some Zero) (p ∷ [])
+  with_members : AreListed w p (Some One) (p ∷ member_paths w p)
+  members_alone : AreListed w p None (member_paths w p)
+  with_all_below : {ps : List PathText} → AreBelow w p ps → AreListed w p (Some Infinity) (p ∷ ps)
+
+-- ---- where nothing is refused
+
+-- the store doesn't refuse to list a folder that is there, nor to tell of what is there
+abbrev pub IsListing : World → (call : Call) → Result (Answer call) FsError → Type 0
+IsListing w (ReadDir p) answer = is_folder w p ≡ true → is_ok answer ≡ true
+IsListing w (EntryMetadata p) answer = is_missing w p ≡ false → is_ok answer ≡ true
+IsListing w _ answer = ⊤
+
+-- one call of a lawful store that refuses neither
+abbrev pub AsksListing : CallStep
+AsksListing call old answer new = Asks call old answer new × IsListing old.world call answer
+
+-- a store refuses neither where no refusal is left to come, and it doesn't run out of memory
+abbrev pub UnrefusedRunsList : Type 0
+UnrefusedRunsList =
+    (plan : MethodPlan Response) (old new : StoreState) (ls ms : Locks) (outcome : Result Response DavError)
+    → All (λ r. r ≡ None) old.refusals → new.short ≡ false → Ran Asks plan old ls outcome new ms → Ran AsksListing plan old ls outcome new ms
+
+-- A path that a PROPFIND of this depth may list has fewer names than 2^64, as each that memory can hold: what is listed is the target, and
+-- at Depth infinity all that is there.
+abbrev pub HasFewNames : Option Depth → World → PathText → Type 0
+HasFewNames (Some Infinity) w p = (q : Path) → is_missing w q ≡ false → length q < 2 ^ 64
+HasFewNames depth w p = length (names p) < 2 ^ 64
+
+-- The responses are those of what is listed at this depth.
+abbrev pub ListAll : List ℕ → World → PathText → Option Depth → List ElementTree → Type 0
+ListAll prefix w p depth responses = (ps : List PathText) × AreListed w p depth ps × AreOf prefix ps responses
+
+-- So are those of a PROPFIND that is answered 207, where the store refuses neither to list what is there nor to tell of it.
+abbrev pub ListingsAreWhole : Type 0
+ListingsAreWhole =
+    (prefix target : List ℕ) (headers : Headers) (depth : Option Depth) (p : PathText) (content : Body) (who : Client) (plan : MethodPlan Response)
     (old new : StoreState) (ls ms : Locks) (r : Response)
-    → IsServerPrefix prefix → IsTarget prefix target p → length (names p) < 2 ^ 64 → IsWorld old.world
-    → IsDepth (get_all headers (codes "depth")) One → IsPropfind headers p content who plan → Ran AsksListing plan old ls (Ok r) new ms
-    → AreOf prefix (path_in old.world p ∷ member_paths old.world (path_in old.world p)) (responses_in r.body)
+    → IsServerPrefix prefix → IsTarget prefix target p → IsWorld old.world
+    → Decodes IsDepth (get_all headers (codes "depth")) depth → HasFewNames depth old.world p
+    → IsPropfind headers p content who plan → Ran AsksListing plan old ls (Ok r) new ms → r.status ≡ 207
+    → ListAll prefix old.world (path_in old.world p) depth (responses_in r.body)

@@ -1,14 +1,16 @@
 -- What contracts say of code that carries out a walk, and adds what it reports to a collector.
 use Rattle.std.specs.Prelude.{◌≡◌, ◌++◌, Bool, true, false, List, map, Result, Ok, Err}
+use Rattle.dav_core.specs.declared.errors.FsError.{FsError}
 use Rattle.dav_core.specs.declared.errors.DavError.{DavError}
 use Rattle.dav_core.specs.declared.errors.DavError.TheVariants as dav
-use Rattle.dav_core.specs.Asking.{StoreState, Asks}
+use Rattle.dav_core.specs.Asking.{Call, Answer, StoreState, Asks}
 use Rattle.dav_core.specs.Lists.{is_empty}
+use Rattle.dav_core.specs.Locks.{Lock}
 use Rattle.dav_headers.specs.declared.depth.Depth.{Depth}
 use Rattle.dav_headers.specs.declared.depth.Depth.TheVariants.{Zero}
 use Rattle.dav_engine.specs.Method.{MethodPlan}
 use Rattle.dav_engine.specs.Multistatus.{PathStatus, last_error}
-use Rattle.dav_engine.specs.Plan.{Locks, Ran, Cut}
+use Rattle.dav_engine.specs.Plan.{Done, Ask, Look, Keep, Locks, Ran, RanUpTo, Cut}
 use Rattle.dav_engine.specs.Removal.{Fault, report_of}
 
 -- A walk was carried out, whatever the list of locks is, with these faults; they were reported after what was reported before,
@@ -21,12 +23,33 @@ pub data Walked (plan : MethodPlan (List Fault)) (old : StoreState) (before afte
 abbrev pub StoppedIn : {A : Type 0} → MethodPlan A → StoreState → StoreState → Type 0
 StoppedIn plan old new = (ls : Locks) → Cut Asks ls plan old ls new ls
 
+-- Whatever its calls are answered, the plan gives such a value, or fails.
+pub data AlwaysGives {A : Type 0} (P : A → Type 0) : MethodPlan A → Type 0 where
+  gives_such : {a : A} → P a → AlwaysGives P (Done (Ok a))
+  or_fails : {e : DavError} → AlwaysGives P (Done (Err e))
+  after_call : {c : Call} {go : Result (Answer c) FsError → MethodPlan A} → ((answer : Result (Answer c) FsError) → AlwaysGives P (go answer)) → AlwaysGives P (Ask c go)
+  after_look : {go : Locks → MethodPlan A} → ((ls : Locks) → AlwaysGives P (go ls)) → AlwaysGives P (Look go)
+  after_keep : {locks : List Lock} {rest : MethodPlan A} → AlwaysGives P rest → AlwaysGives P (Keep locks rest)
+
+-- the faults, as they are reported, begin with these reports
+abbrev pub BeginWith : {F : Type 0} → (F → PathStatus) → List PathStatus → List F → Type 0
+BeginWith report reports faults = (later : List PathStatus) × (map report faults ≡ reports ++ later)
+
+-- Memory ran out in a walk: its first calls were made, each whole, and `rest` is left. What was reported before stays reported, and what
+-- was reported after it are the first faults of the walk, whatever the calls of the rest would be answered.
+pub record CutShort {F : Type 0} (report : F → PathStatus) (plan : MethodPlan (List F)) (old : StoreState) (before after : List PathStatus) (new : StoreState) : Type 0 where
+  pub rest : MethodPlan (List F)
+  pub ran : (ls : Locks) → RanUpTo Asks plan old ls rest new ls
+  pub reports : List PathStatus
+  pub reported : after ≡ before ++ reports
+  pub first_faults : AlwaysGives (BeginWith report reports) rest
+
 -- What code that carries out a walk returns: nothing where there was no fault; else the status that was reported last; or
 -- memory ran out in the walk.
 pub data Removes (plan : MethodPlan (List Fault)) (old : StoreState) (before after : List PathStatus) (result : Result (Unit {0}) DavError) (new : StoreState) : Type 0 where
   all_gone : Walked plan old before after true new → result ≡ Ok tt → Removes plan old before after result new
   some_stays : Walked plan old before after false new → result ≡ Err (last_error after) → Removes plan old before after result new
-  ran_out : StoppedIn plan old new → result ≡ Err dav.Memory → Removes plan old before after result new
+  ran_out : CutShort report_of plan old before after new → result ≡ Err dav.Memory → Removes plan old before after result new
 
 -- whether a walk goes below a folder: at any depth but 0 (RFC 4918, section 10.2)
 abbrev pub goes_below : Depth → Bool

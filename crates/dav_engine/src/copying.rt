@@ -10,7 +10,7 @@ ghost use Rattle.dav_engine.specs.Copying.{copy_report, copy_folder, copy_member
 ghost use Rattle.dav_engine.specs.Copying as spec;
 ghost use Rattle.dav_engine.specs.CopyView.{copy_below};
 ghost use Rattle.dav_engine.specs.Folder.{child_of};
-ghost use Rattle.dav_engine.specs.Walked.{StoppedIn};
+ghost use Rattle.dav_engine.specs.Walked.{CutShort};
 ghost use Rattle.dav_engine.specs.WalkView.{entry_view};
 
 use crate::multierror::MultiError;
@@ -26,8 +26,9 @@ fn refused(
     error: FsError,
     errors: &mut MultiError,
 ) -> Result<Option<FsError>, NoMemory>
-    ensures { IfOk result (λ last. (last ≡ Some error)
+    ensures ok { IfOk result (λ last. (last ≡ Some error)
         × (errors.new ≡ errors.old ++ copy_report (path.now, error) ∷ [])) }
+    ensures err { OnErr result (errors.new ≡ errors.old) }
 {
     report(path, status_of(error), errors)?;
     Ok(Some(error))
@@ -46,9 +47,9 @@ fn copy_file<F: DavFileSystem>(
     ensures ok { IfOk result (λ last. Copied
         (spec.copy_file now source.now destination.now)
         (F.state fs.old) errors.old errors.new last (F.state fs.new)) }
-    ensures err { OnErr result (StoppedIn
+    ensures err { OnErr result (CutShort copy_report
         (spec.copy_file now source.now destination.now)
-        (F.state fs.old) (F.state fs.new)) }
+        (F.state fs.old) errors.old errors.new (F.state fs.new)) }
 {
     match fs.copy(alloc, source, destination, now) {
         Ok(()) => Ok(None),
@@ -75,9 +76,9 @@ fn copy_alone<F: DavFileSystem>(
     ensures ok { IfOk result (λ last. Copied
         (spec.copy_alone now destination.now)
         (F.state fs.old) errors.old errors.new last (F.state fs.new)) }
-    ensures err { OnErr result (StoppedIn
+    ensures err { OnErr result (CutShort copy_report
         (spec.copy_alone now destination.now)
-        (F.state fs.old) (F.state fs.new)) }
+        (F.state fs.old) errors.old errors.new (F.state fs.new)) }
 {
     match fs.create_dir(alloc, destination, now) {
         Ok(()) => Ok(None),
@@ -107,9 +108,9 @@ fn copy_one<F: DavFileSystem>(
     ensures ok { IfOk result (λ last. Copied
         (spec.copying deep now top.now source.now destination.now)
         (F.state fs.old) errors.old errors.new last (F.state fs.new)) }
-    ensures err { OnErr result (StoppedIn
+    ensures err { OnErr result (CutShort copy_report
         (spec.copying deep now top.now source.now destination.now)
-        (F.state fs.old) (F.state fs.new)) }
+        (F.state fs.old) errors.old errors.new (F.state fs.new)) }
 {
     let _bytes = source.as_ref().as_bytes().len();
     if source == top {
@@ -144,9 +145,9 @@ fn copy_folder<F: DavFileSystem>(
     ensures ok { IfOk result (λ last. Copied
         (copy_folder true (copy_below now top.now source.now) now source.now destination.now)
         (F.state fs.old) errors.old errors.new last (F.state fs.new)) }
-    ensures err { OnErr result (StoppedIn
+    ensures err { OnErr result (CutShort copy_report
         (copy_folder true (copy_below now top.now source.now) now source.now destination.now)
-        (F.state fs.old) (F.state fs.new)) }
+        (F.state fs.old) errors.old errors.new (F.state fs.new)) }
 {
     match fs.create_dir(alloc, destination, now) {
         Ok(()) => {}
@@ -177,10 +178,10 @@ fn copy_each<F: DavFileSystem>(
         (copy_members (copy_below now top.now source.now) source.now destination.now
         (map (entry_view F.Entry.entry_name F.Entry.entry_dir) entries.now))
         (F.state fs.old) errors.old errors.new last (F.state fs.new)) }
-    ensures err { OnErr result (StoppedIn
+    ensures err { OnErr result (CutShort copy_report
         (copy_members (copy_below now top.now source.now) source.now destination.now
         (map (entry_view F.Entry.entry_name F.Entry.entry_dir) entries.now))
-        (F.state fs.old) (F.state fs.new)) }
+        (F.state fs.old) errors.old errors.new (F.state fs.new)) }
 {
     let mut last = None;
     for entry in entries {
@@ -224,11 +225,11 @@ fn copy_entry<F: DavFileSystem>(
         (child_of source.now (F.Entry.entry_name entry.now) dir)
         (child_of destination.now (F.Entry.entry_name entry.now) dir))
         (F.state fs.old) errors.old errors.new last (F.state fs.new)) }
-    ensures err { OnErr result (StoppedIn
+    ensures err { OnErr result (CutShort copy_report
         (copy_below now top.now source.now
         (child_of source.now (F.Entry.entry_name entry.now) dir)
         (child_of destination.now (F.Entry.entry_name entry.now) dir))
-        (F.state fs.old) (F.state fs.new)) }
+        (F.state fs.old) errors.old errors.new (F.state fs.new)) }
 {
     let _bytes = source.as_ref().as_bytes().len();
     let name = entry.name();
@@ -253,9 +254,9 @@ pub fn copying<F: DavFileSystem>(
     ensures ok { IfOk result (λ last. Copied
         (spec.copying deep now top.now source.now destination.now)
         (F.state fs.old) errors.old errors.new last (F.state fs.new)) }
-    ensures err { OnErr result (StoppedIn
+    ensures err { OnErr result (CutShort copy_report
         (spec.copying deep now top.now source.now destination.now)
-        (F.state fs.old) (F.state fs.new)) }
+        (F.state fs.old) errors.old errors.new (F.state fs.new)) }
 {
     copy_one(fs, alloc, deep, top, source, destination, now, errors)
 }
@@ -273,9 +274,9 @@ pub fn renaming<F: DavFileSystem>(
     ensures ok { IfOk result (λ last. Copied
         (spec.renaming now source.now destination.now)
         (F.state fs.old) errors.old errors.new last (F.state fs.new)) }
-    ensures err { OnErr result ((e : Refusal)
+    ensures err { OnErr result (((e : Refusal)
         × Asks (Rename (names source.now) (names destination.now) now)
-        (F.state fs.old) (Err e) (F.state fs.new)) }
+        (F.state fs.old) (Err e) (F.state fs.new)) × (errors.new ≡ errors.old)) }
 {
     match fs.rename(alloc, source, destination, now) {
         Ok(()) => Ok(None),

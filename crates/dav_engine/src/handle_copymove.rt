@@ -576,7 +576,8 @@ impl<'a, 'b, 'c, F: DavFileSystem, L: DavLockSystem> DavInner<'a, 'b, 'c, F, L> 
     /// with its status. The locks stay.
     ///
     /// Where something wasn't copied, the error is the refusal that was added last; `Memory` where an allocation fails, and
-    /// then the copy stops there.
+    /// then the copy stops there: what the collector had stays, and behind it are the first paths that weren't copied, as they were
+    /// added so far.
     pub fn do_copy(
         &mut self,
         alloc: Global,
@@ -601,7 +602,7 @@ impl<'a, 'b, 'c, F: DavFileSystem, L: DavLockSystem> DavInner<'a, 'b, 'c, F, L> 
 
     /// Moves what is at a path to another path, with everything below it (RFC 4918, section 9.9). The locks stay. Where the
     /// store refuses it, the path is added to the collector with its status, and the refusal is the error; `Memory` where an
-    /// allocation fails.
+    /// allocation fails, and the collector then stays as it was.
     pub fn do_move(
         &mut self,
         alloc: Global,

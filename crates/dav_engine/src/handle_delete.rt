@@ -217,7 +217,7 @@ impl<'a, 'b, 'c, F: DavFileSystem, L: DavLockSystem> DavInner<'a, 'b, 'c, F, L> 
     /// the collector with its status; a folder that stays because of what is in it isn't added. The locks stay.
     ///
     /// Where something stays, the error is the status that was added last; `Memory` where an allocation fails, and then the
-    /// removal stops there.
+    /// removal stops there: what the collector had stays, and behind it are the first paths that stay, as they were added so far.
     pub fn delete_items(
         &mut self,
         alloc: Global,

@@ -6,7 +6,7 @@ ghost use Rattle.dav_engine.specs.LanguageLaws.{AcceptedLanguagesAreRead};
 ghost use Rattle.dav_engine.specs.LockLaws.{LockGrants, LockRefreshes, RefusedLockLeavesAll, EarlyRefusedLockLeavesAll};
 ghost use Rattle.dav_engine.specs.OnePlan.{OneReadingOfConditions, OnePutPlan, OneMkcolPlan, OneDeletePlan, OneUnlockPlan, OneLockPlan, OneCopyMovePlan, OnePropfindPlan, OneProppatchPlan};
 ghost use Rattle.dav_engine.specs.PlanLaws.{PlansAreDetermined, PlansEnd, WantIsLikeRefusals, CutsAreLikeRefusals};
-ghost use Rattle.dav_engine.specs.PropfindLaws.{PropertiesLeadBack, ResponsesLeadBack, MembersAreTold};
+ghost use Rattle.dav_engine.specs.PropfindLaws.{PropertiesLeadBack, ResponsesLeadBack, ListingsAreWhole, UnrefusedRunsList};
 ghost use Rattle.dav_engine.specs.ProppatchLaws.{RefusedProppatchLeavesAll, ProppatchMakesAllOrNone};
 ghost use Rattle.dav_engine.specs.RemovalLaws.{RemovalsLeaveSurvivors, ReportedAreThere, DeletesLeaveSurvivors, NoContentMeansGone, RefusedDeleteLeavesAll};
 ghost use Rattle.dav_engine.specs.UnlockLaws.{UnlockEndsLock, RefusedUnlockLeavesAll};
@@ -202,13 +202,16 @@ pub fn locks_are_granted_or_refreshed()
 {}
 
 /// Hrefs lead back: the one href of what is told of a path, as the target of a request, is to this path; and each response to a
-/// PROPFIND is of a path at its target or below it, whatever the store refuses. At Depth 1 the responses are of the target and then
-/// of its members, each once, where the store refuses neither to list nor to tell of what it listed, and the target has fewer than
-/// 2^64 names (RFC 4918, sections 8.3, 9.1, 10.2 and 14.7).
+/// PROPFIND is of a path at its target or below it, whatever the store refuses. Where it refuses neither to list what is there nor to
+/// tell of it, the responses are, each once, of the target at Depth 0, of it and its members at Depth 1, of these alone without a
+/// depth, and at Depth infinity of the target and all that is below it, a folder before what is in it; a path has fewer names than
+/// 2^64. A store to which no refusal is left to come, and that doesn't run out of memory, is such (RFC 4918, sections 8.3, 9.1, 10.2
+/// and 14.7).
 pub fn hrefs_lead_back()
     ensures properties { PropertiesLeadBack }
     ensures responses { ResponsesLeadBack }
-    ensures members { MembersAreTold }
+    ensures listings { ListingsAreWhole }
+    ensures unrefused { UnrefusedRunsList }
 {}
 
 /// A PROPPATCH that is answered made all changes that are to be stored, and answers each with 200; or it made none, and answers one

@@ -223,11 +223,12 @@ impl PropWriter {
         ensures err { OnErr result (StopsWith (locks_in L.locks ls.entry)
             (properties_of self.old.writer path.now meta.now self.old.quota)
             (F.state fs.old) (F.state fs.new)) }
-        ensures stays { OnErr result (self.new ≡ record self.old { quota = self.new.quota }) }
+        ensures stays { OnErr result (self.new ≡ self.old) }
     {
-        let known = &mut self.quota;
-        let response = response_of(fs, ls, alloc, &self.writer, path, meta, known)?;
+        let mut known = self.quota;
+        let response = response_of(fs, ls, alloc, &self.writer, path, meta, &mut known)?;
         self.waiting.push(response)?;
+        self.quota = known;
         Ok(())
     }
 
@@ -235,7 +236,7 @@ impl PropWriter {
     /// properties that are told and found, and then all that the store keeps there. What isn't found is left out, and where
     /// nothing is, there is no status. The quota is asked for once, at the first property that wants it.
     ///
-    /// `Memory` where memory runs out; the responses then stay as they were.
+    /// `Memory` where memory runs out; the responses then stay as they were, and so does what is known of the quota.
     pub fn write_props<F: DavFileSystem, L: DavLockSystem>(
         &mut self,
         alloc: Global,
@@ -252,7 +253,7 @@ impl PropWriter {
         ensures err { OnErr result (StopsWith (locks_in L.locks ls.entry)
             (properties_of self.old.writer path.now meta.now self.old.quota)
             (F.state fs.old) (F.state fs.new)) }
-        ensures stays { OnErr result (self.new ≡ record self.old { quota = self.new.quota }) }
+        ensures stays { OnErr result (self.new ≡ self.old) }
         ensures memory { IfErr result (λ e. e ≡ DavError.Memory) }
     {
         Ok(self.tell(alloc, fs, ls, path, meta)?)

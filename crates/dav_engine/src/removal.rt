@@ -4,8 +4,8 @@ ghost use Rattle.dav_core.specs.World.{last_moment};
 ghost use Rattle.dav_core.specs.Path.{names, star};
 ghost use Rattle.dav_core.specs.Status.{fs_status};
 ghost use Rattle.dav_engine.specs.Folder.{child_of, room_at};
-ghost use Rattle.dav_engine.specs.Removal.{remove, removal, remove_member, each, emptied_status};
-ghost use Rattle.dav_engine.specs.Walked.{Walked, StoppedIn};
+ghost use Rattle.dav_engine.specs.Removal.{remove, removal, remove_member, each, emptied_status, report_of};
+ghost use Rattle.dav_engine.specs.Walked.{Walked, CutShort};
 ghost use Rattle.dav_engine.specs.WalkView.{below, entry_view};
 
 use crate::multierror::MultiError;
@@ -21,7 +21,8 @@ pub(crate) fn report(
     status: StatusCode,
     errors: &mut MultiError,
 ) -> Result<(), NoMemory>
-    ensures { OnOk result (errors.new ≡ errors.old ++ (path.now, status) ∷ []) }
+    ensures ok { OnOk result (errors.new ≡ errors.old ++ (path.now, status) ∷ []) }
+    ensures err { OnErr result (errors.new ≡ errors.old) }
 {
     errors.add_status(path, status)
 }
@@ -67,8 +68,8 @@ fn remove_one<F: DavFileSystem>(
     requires path { path.now.bytes ≢ star }
     ensures ok { IfOk result (λ clean. Walked (remove (room_at path.now) now path.now dir)
         (F.state fs.old) errors.old errors.new clean (F.state fs.new)) }
-    ensures err { OnErr result (StoppedIn (remove (room_at path.now) now path.now dir)
-        (F.state fs.old) (F.state fs.new)) }
+    ensures err { OnErr result (CutShort report_of (remove (room_at path.now) now path.now dir)
+        (F.state fs.old) errors.old errors.new (F.state fs.new)) }
 {
     if !dir {
         return match fs.remove_file(path, now) {
@@ -116,10 +117,10 @@ fn remove_each<F: DavFileSystem>(
         (each (remove_member (below now path.now) path.now)
         (map (entry_view F.Entry.entry_name F.Entry.entry_dir) entries.now))
         (F.state fs.old) errors.old errors.new clean (F.state fs.new)) }
-    ensures err { OnErr result (StoppedIn
+    ensures err { OnErr result (CutShort report_of
         (each (remove_member (below now path.now) path.now)
         (map (entry_view F.Entry.entry_name F.Entry.entry_dir) entries.now))
-        (F.state fs.old) (F.state fs.new)) }
+        (F.state fs.old) errors.old errors.new (F.state fs.new)) }
 {
     let mut clean = true;
     for entry in entries {
@@ -146,10 +147,10 @@ fn remove_entry<F: DavFileSystem>(
         (remove_member (below now path.now) path.now
         (entry_view F.Entry.entry_name F.Entry.entry_dir entry.now))
         (F.state fs.old) errors.old errors.new clean (F.state fs.new)) }
-    ensures err { OnErr result (StoppedIn
+    ensures err { OnErr result (CutShort report_of
         (remove_member (below now path.now) path.now
         (entry_view F.Entry.entry_name F.Entry.entry_dir entry.now))
-        (F.state fs.old) (F.state fs.new)) }
+        (F.state fs.old) errors.old errors.new (F.state fs.new)) }
 {
     let meta = match fs.entry_metadata(entry) {
         Ok(meta) => meta,
@@ -178,8 +179,8 @@ pub fn removal<F: DavFileSystem>(
     requires path { path.now.bytes ≢ star }
     ensures ok { IfOk result (λ clean. Walked (removal deep now path.now dir)
         (F.state fs.old) errors.old errors.new clean (F.state fs.new)) }
-    ensures err { OnErr result (StoppedIn (removal deep now path.now dir)
-        (F.state fs.old) (F.state fs.new)) }
+    ensures err { OnErr result (CutShort report_of (removal deep now path.now dir)
+        (F.state fs.old) errors.old errors.new (F.state fs.new)) }
 {
     if deep {
         return remove_one(fs, alloc, path, dir, now, errors);

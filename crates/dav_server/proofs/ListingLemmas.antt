@@ -1,5 +1,5 @@
--- What a PROPFIND of Depth 1 tells, from the bytes of its head on.
-use Rattle.std.proofs.Common.{◌≡◌, ℕ, ◌<◌, ◌^◌, List, ◌∷◌, length, codes, Result, Ok, Err, inl, refl, sym, ap, subst, ◌∙◌, arith}
+-- What a PROPFIND tells of, from the bytes of its head on.
+use Rattle.std.proofs.Common.{◌≡◌, ℕ, false, List, All, codes, Option, None, Result, Ok, Err, inl, refl, sym, ap, subst, ◌∙◌, arith}
 use Rattle.http_header.specs.HeaderMap.{get_all}
 use Rattle.dav_core.specs.declared.errors.DavError.{DavError}
 use Rattle.dav_core.specs.declared.errors.DavError.TheVariants as dav
@@ -7,23 +7,24 @@ use Rattle.dav_core.specs.declared.method.DavMethod.{DavMethod}
 use Rattle.dav_core.specs.declared.method.DavMethod.TheVariants.{PropFind}
 use Rattle.dav_core.specs.Asking.{StoreState}
 use Rattle.dav_core.specs.Element.{ElementTree}
-use Rattle.dav_core.specs.Path.{PathText, names}
+use Rattle.dav_core.specs.Path.{PathText}
 use Rattle.dav_core.specs.Status.{dav_status}
-use Rattle.dav_core.specs.World.{IsWorld}
+use Rattle.dav_core.specs.World.{World, IsWorld}
 use Rattle.dav_headers.specs.Depth.{IsDepth}
-use Rattle.dav_headers.specs.declared.depth.Depth.TheVariants.{One}
+use Rattle.dav_headers.specs.declared.depth.Depth.{Depth}
 use Rattle.dav_engine.specs.declared.request.Body.{Body}
+use Rattle.dav_engine.specs.Headers.{Decodes}
 use Rattle.dav_engine.specs.Method.{MethodPlan, fails}
 use Rattle.dav_engine.specs.Plan.{Locks, Ran, ran_done}
 use Rattle.dav_engine.specs.Propfind.{IsPropfind, is_propfind}
-use Rattle.dav_engine.specs.PropfindLaws.{IsOf, AreOf, none_told, one_told, AsksListing, path_in, member_paths, responses_in}
+use Rattle.dav_engine.specs.PropfindLaws.{IsOf, AreOf, none_told, one_told, ListAll, AsksListing, HasFewNames, path_in, responses_in}
 use Rattle.dav_engine.specs.Response.{Response, reply_to}
-use Rattle.dav_engine.proofs.Theorems.{members_are_told}
+use Rattle.dav_engine.proofs.Theorems.{listings_are_whole as plans_list_all, unrefused_runs_list}
 use Rattle.dav_server.specs.Head.{Request}
 use Rattle.dav_server.specs.Headers.{headers_of}
 use Rattle.dav_server.specs.Holder.{IsFor}
-use Rattle.dav_server.specs.HrefLaws.{TellsOf, TellOf, none_told as none_told_of, one_told as one_told_of, ListingsTellMembers}
-use Rattle.dav_server.specs.Machine.{Settings, Asked, client, taken_by, PlanOf, finds_properties, MeansOf, not_allowed, no_path, no_body, method, Means, no_head, no_method, known, steps}
+use Rattle.dav_server.specs.HrefLaws.{TellsOf, TellOf, none_told as none_told_of, one_told as one_told_of, TellAll, ListingsAreWhole}
+use Rattle.dav_server.specs.Machine.{Settings, Asked, client, taken_by, PlanOf, finds_properties, MeansOf, not_allowed, no_path, no_body, method, Means, no_head, no_method, known, Steps, steps}
 use Rattle.dav_server.specs.Method.{GivesServed}
 use Rattle.dav_server.specs.Setup.{IsPrefix}
 use Rattle.dav_server.specs.Target.{path}
@@ -49,6 +50,9 @@ tell_of : (prefix : List ℕ) {ps : List PathText} {responses : List ElementTree
 tell_of prefix none_told = none_told_of
 tell_of prefix (one_told {p} {response = response} is more) = one_told_of (tells_of prefix p response is) (tell_of prefix more)
 
+tell_all : (prefix : List ℕ) (w : World) (p : PathText) (depth : Option Depth) (responses : List ElementTree) → ListAll prefix w p depth responses → TellAll prefix w p depth responses
+tell_all prefix w p depth responses (ps, listed, are) = (ps, listed, tell_of prefix are)
+
 -- ---- a request
 
 -- the outcome of a plan that is done
@@ -60,9 +64,9 @@ weaker (Ok reply) is = tt
 weaker (Err e) is = is
 
 module _ (s : Settings) (x : Asked) (r : Request) (p : PathText) (fits : IsPrefix s.prefix) (is_for : IsFor s x r PropFind p) (old : StoreState) (world : IsWorld old.world)
-    (depth : IsDepth (get_all (headers_of r.fields) (codes "depth")) One) (small : length (names p) < 2 ^ 64) where
+    (depth : Option Depth) (read : Decodes IsDepth (get_all (headers_of r.fields) (codes "depth")) depth) (few : HasFewNames depth old.world p) where
   abbrev Told : Response → Type 0
-  Told reply = TellOf s.prefix (path_in old.world p ∷ member_paths old.world (path_in old.world p)) (responses_in reply.body)
+  Told reply = TellAll s.prefix old.world (path_in old.world p) depth (responses_in reply.body)
 
   -- an error is answered with another status
   failed : {e : DavError} {outcome : Result Response DavError} → outcome ≡ Err e → IsFailure e → (reply_to outcome).status ≡ 207 → Told (reply_to outcome)
@@ -75,7 +79,8 @@ module _ (s : Settings) (x : Asked) (r : Request) (p : PathText) (fits : IsPrefi
   answered (Err e) is fails ran status = failed {outcome = Err e} refl fails status
   answered {body} {plan} {new} {ls} {ms} (Ok reply) is fails ran status =
       let named = named_by {m = PropFind} (λ e. cc) is_for.target in
-      tell_of s.prefix (members_are_told s.prefix named.text (headers_of r.fields) p body (client x) plan old new ls ms reply (server_prefix s.prefix fits) named.target small world depth is ran)
+      tell_all s.prefix old.world (path_in old.world p) depth (responses_in reply.body)
+      (plans_list_all s.prefix named.text (headers_of r.fields) depth p body (client x) plan old new ls ms reply (server_prefix s.prefix fits) named.target world read few is ran status)
 
   outcome_of : {body : Body} {plan : MethodPlan Response} {new : StoreState} {ls ms : Locks} (outcome : Result Response DavError)
       → IsPropfind (headers_of r.fields) p body (client x) plan → Ran AsksListing plan old ls outcome new ms → Outcome IsFailure Any outcome
@@ -104,6 +109,14 @@ module _ (s : Settings) (x : Asked) (r : Request) (p : PathText) (fits : IsPrefi
       let same : m ≡ PropFind = one_method r.method m PropFind (subst (λ (h : Request). GivesServed h.method (Ok m)) request gives) is_for.method in
       of_told outcome (subst (λ (k : DavMethod). MeansOf s x r k plan) same (subst (λ (h : Request). MeansOf s x h m plan) request means)) ran status
 
-pub listings_tell_members : ListingsTellMembers
-listings_tell_members s x r p old new ls ms reply fits world is_for depth small (steps plan outcome means ran) status =
-    told s x r p fits is_for old world depth small outcome means ran status
+pub listings_are_whole : ListingsAreWhole
+listings_are_whole s x r p depth old new ls ms reply fits world is_for read few (steps plan outcome means ran) status =
+    told s x r p fits is_for old world depth read few outcome means ran status
+
+pub reply_is_whole : (s : Settings) (x : Asked) (old new : StoreState) (ls ms : Locks) (reply : Response) → Steps s x old ls reply new ms
+    → (r : Request) (p : PathText) (depth : Option Depth) → IsPrefix s.prefix → IsWorld old.world → IsFor s x r PropFind p
+    → Decodes IsDepth (get_all (headers_of r.fields) (codes "depth")) depth → HasFewNames depth old.world p
+    → All (λ e. e ≡ None) old.refusals → new.short ≡ false → reply.status ≡ 207
+    → TellAll s.prefix old.world (path_in old.world p) depth (responses_in reply.body)
+reply_is_whole s x old new ls ms reply (steps plan outcome means ran) r p depth fits world is_for read few none unset status =
+    told s x r p fits is_for old world depth read few outcome means (unrefused_runs_list plan old new ls ms outcome none unset ran) status

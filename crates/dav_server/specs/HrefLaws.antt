@@ -1,5 +1,5 @@
 -- Hrefs lead back: each of a multistatus, as the target of a request, names the path that it tells of (RFC 4918, sections 8.3 and 14.7).
-use Rattle.std.specs.Prelude.{◌≡◌, ◌≢◌, ◌⊎◌, ℕ, ◌<◌, ◌≤◌, ◌^◌, Bool, true, List, [], ◌∷◌, All, length, map, codes, Ok}
+use Rattle.std.specs.Prelude.{◌≡◌, ◌≢◌, ◌⊎◌, ℕ, ◌≤◌, Bool, true, false, List, [], ◌∷◌, All, map, codes, Option, None, Ok}
 use Rattle.http_header.specs.HeaderMap.{get_all}
 use Rattle.dav_core.specs.declared.method.DavMethod.{DavMethod}
 use Rattle.dav_core.specs.declared.method.DavMethod.TheVariants.{PropFind, Copy, Move}
@@ -8,15 +8,16 @@ use Rattle.dav_core.specs.CallLaws.{IsStorable}
 use Rattle.dav_core.specs.Element.{ElementTree}
 use Rattle.dav_core.specs.Path.{PathText, names, star, path_bytes, full_bytes, without_slash, is_at_or_under}
 use Rattle.dav_core.specs.UrlText.{path_text}
-use Rattle.dav_core.specs.World.{IsWorld, last_moment}
+use Rattle.dav_core.specs.World.{World, IsWorld, last_moment}
 use Rattle.dav_headers.specs.Depth.{IsDepth}
-use Rattle.dav_headers.specs.declared.depth.Depth.TheVariants.{One}
+use Rattle.dav_headers.specs.declared.depth.Depth.{Depth}
 use Rattle.dav_engine.specs.AnswerParts.{children_named}
 use Rattle.dav_engine.specs.CopyMove.{DestinationNames}
+use Rattle.dav_engine.specs.Headers.{Decodes}
 use Rattle.dav_engine.specs.Multistatus.{PathStatus, dav_text, multistatus_reply}
 use Rattle.dav_engine.specs.Plan.{Locks}
 use Rattle.dav_engine.specs.Properties.{Group, property_response}
-use Rattle.dav_engine.specs.PropfindLaws.{AsksListing, path_in, member_paths, responses_in}
+use Rattle.dav_engine.specs.PropfindLaws.{AreListed, AsksListing, HasFewNames, path_in, responses_in}
 use Rattle.dav_engine.specs.Response.{Response}
 use Rattle.dav_server.specs.Head.{Request}
 use Rattle.dav_server.specs.Headers.{headers_of}
@@ -99,14 +100,29 @@ abbrev pub ReplyLeadsBack : Server → Asked → Response → Type 0
 ReplyLeadsBack old x reply =
     IsPrefix old.settings.prefix → IsWorld old.state.store.world → x.moment ≤ last_moment → All (TellsOfOne old.settings x) (responses_in reply.body)
 
--- ---- the members of a folder
+-- ---- what is listed
 
--- A PROPFIND of Depth 1 that is answered 207 tells of its target, and then of each member of it, once and in order, where the store
--- refuses neither to list nor to tell of what it listed, and the target has fewer than 2^64 names (RFC 4918, sections 9.1 and 10.2).
-abbrev pub ListingsTellMembers : Type 0
-ListingsTellMembers =
-    (s : Settings) (x : Asked) (r : Request) (p : PathText) (old new : StoreState) (ls ms : Locks) (reply : Response)
+-- The responses tell, in order, of what a PROPFIND of this depth lists.
+abbrev pub TellAll : List ℕ → World → PathText → Option Depth → List ElementTree → Type 0
+TellAll prefix w p depth responses = (ps : List PathText) × AreListed w p depth ps × TellOf prefix ps responses
+
+-- So do those of a PROPFIND that is answered 207, where the store refuses neither to list what is there nor to tell of it: at Depth 0 of its
+-- target, at Depth 1 also of the members, at Depth infinity of all that is below it (RFC 4918, sections 9.1 and 10.2), and without a depth
+-- of the members alone.
+abbrev pub ListingsAreWhole : Type 0
+ListingsAreWhole =
+    (s : Settings) (x : Asked) (r : Request) (p : PathText) (depth : Option Depth) (old new : StoreState) (ls ms : Locks) (reply : Response)
     → IsPrefix s.prefix → IsWorld old.world → IsFor s x r PropFind p
-    → IsDepth (get_all (headers_of r.fields) (codes "depth")) One → length (names p) < 2 ^ 64
+    → Decodes IsDepth (get_all (headers_of r.fields) (codes "depth")) depth → HasFewNames depth old.world p
     → StepsBy AsksListing s x old ls reply new ms → reply.status ≡ 207
-    → TellOf s.prefix (path_in old.world p ∷ member_paths old.world (path_in old.world p)) (responses_in reply.body)
+    → TellAll s.prefix old.world (path_in old.world p) depth (responses_in reply.body)
+
+-- So do those of this reply of a server whose prefix is one and whose store holds a world, where no refusal is left to come, and the store
+-- hasn't run out of memory when it is given.
+abbrev pub ReplyIsWhole : Server → Asked → Response → Server → Type 0
+ReplyIsWhole old x reply new =
+    (r : Request) (p : PathText) (depth : Option Depth)
+    → IsPrefix old.settings.prefix → IsWorld old.state.store.world → IsFor old.settings x r PropFind p
+    → Decodes IsDepth (get_all (headers_of r.fields) (codes "depth")) depth → HasFewNames depth old.state.store.world p
+    → All (λ e. e ≡ None) old.state.store.refusals → new.state.store.short ≡ false → reply.status ≡ 207
+    → TellAll old.settings.prefix old.state.store.world (path_in old.state.store.world p) depth (responses_in reply.body)

@@ -11,7 +11,7 @@ ghost use Rattle.dav_engine.specs.ConditionView.{locks_in};
 ghost use Rattle.dav_engine.specs.Lock.{is_absent};
 ghost use Rattle.dav_server.specs.Get.{GetOf};
 ghost use Rattle.dav_engine.specs.Response.{error_reply};
-ghost use Rattle.dav_server.specs.HrefLaws.{ReplyLeadsBack};
+ghost use Rattle.dav_server.specs.HrefLaws.{ReplyLeadsBack, ReplyIsWhole};
 ghost use Rattle.dav_server.specs.Leaving.{SameContent, SafeLeaves, CreateOnlyLeaves, RefusedStatusLeaves, HasLockBody, AsksForLock};
 ghost use Rattle.dav_server.specs.Machine.{client, PlanOf, Means, MeansOf};
 ghost use Rattle.dav_server.specs.Method.{IsServed};
@@ -319,7 +319,8 @@ impl<F: DavFileSystem, L: DavLockSystem> DavHandler<F, L> {
     /// Answers a request: the reply, the store and the locks are those of one step of the machine, from the bytes of the
     /// head on. A request that only reads changes nothing, nor does one that is answered 412 or 423 (of the list a LOCK
     /// that is answered 412, where no lock has its token); and what is there is kept under If-None-Match `*`. The href of each
-    /// response of a multistatus leads to a path that the request is about.
+    /// response of a multistatus leads to a path that the request is about; a PROPFIND that is answered 207 tells of all that its
+    /// depth asks for, each once, where the store refuses no call and doesn't run out of memory.
     ///
     /// `NoMemory` where memory ran out outside the store: then each call of the store that was made is whole, and the locks
     /// are as before, or as the request leaves them where the store refuses each later call. A request that only reads has changed
@@ -336,6 +337,8 @@ impl<F: DavFileSystem, L: DavLockSystem> DavHandler<F, L> {
             exchange.now reply self.old.server.state self.new.server.state) }
         ensures hrefs { IfOk result (λ reply.
             ReplyLeadsBack self.old.server exchange.now reply) }
+        ensures listing { IfOk result (λ reply.
+            ReplyIsWhole self.old.server exchange.now reply self.new.server) }
         ensures err { OnErr result (StopsIn self.old.server exchange.now self.new.server) }
     {
         match answer(self, alloc, exchange) {

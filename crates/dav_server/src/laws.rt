@@ -2,7 +2,7 @@
 ghost use Rattle.dav_server.specs.Head.{OneHead};
 ghost use Rattle.dav_server.specs.Headers.{KeepsValues};
 ghost use Rattle.dav_server.specs.Headline.{HeadlineHolds};
-ghost use Rattle.dav_server.specs.HrefLaws.{TargetsAreServed, TextsLeadBack, StatusesLeadBack, PropertiesLeadBack, RepliesLeadBack, ListingsTellMembers};
+ghost use Rattle.dav_server.specs.HrefLaws.{TargetsAreServed, TextsLeadBack, StatusesLeadBack, PropertiesLeadBack, RepliesLeadBack, ListingsAreWhole};
 ghost use Rattle.dav_server.specs.Leaving.{CreateOnlyFails, ErrorsLeave};
 ghost use Rattle.dav_server.specs.PathLaws.{OneTextOnePath};
 ghost use Rattle.dav_server.specs.Promises.{RunsPromise};
@@ -111,12 +111,13 @@ pub fn not_modified_is_true()
     ensures { NotModifiedIsTrue }
 {}
 
-/// A PROPFIND of Depth 1 that is answered 207 tells of its target, and then of each member of it, once and in order, each by an href that
-/// leads to it, where the store refuses neither to list nor to tell of what it listed, and the target has fewer than 2^64 names (RFC 4918,
-/// sections 9.1 and 10.2).
-#[tactic(auto, using(crate::proofs::ListingLemmas::listings_tell_members))]
-pub fn listings_tell_of_members()
-    ensures { ListingsTellMembers }
+/// A PROPFIND that is answered 207 tells, each once and in order, of its target at Depth 0, also of each member at Depth 1, of the members
+/// alone without a depth, and at Depth infinity of the target and of all that is below it, a folder before what is in it; each by an href
+/// that leads to it. So it is where the store refuses neither to list what is there nor to tell of it, and what is listed has fewer than
+/// 2^64 names (RFC 4918, sections 9.1 and 10.2).
+#[tactic(auto, using(crate::proofs::ListingLemmas::listings_are_whole))]
+pub fn listings_are_whole()
+    ensures { ListingsAreWhole }
 {}
 
 /// GET, HEAD, OPTIONS and PROPFIND leave the world and the list of locks, whatever the store refuses, and where memory runs out (RFC

@@ -11,7 +11,7 @@ pub copy_each-loop-entry-init : goal.copy_each-loop-entry-init
 copy_each-loop-entry-init g t c =
     let view = entry_view g.F.Entry.DavDirEntry.entry_name g.F.Entry.DavDirEntry.entry_dir in
     let walk = copy_below c.args.now c.args.top.now c.args.source.now in
-    (whole_first walk c.args.source.now c.args.destination.now (map view c.args.entries.now) (g.F.DavFileSystem.state c.args.fs.now) c.args.errors.now, λ end stop. stop)
+    (whole_first walk c.args.source.now c.args.destination.now (map view c.args.entries.now) (g.F.DavFileSystem.state c.args.fs.now) c.args.errors.now, λ after end stop. stop)
 
 pub copy_each-returns-in-Err-clause-ok : goal.copy_each-returns-in-Err-clause-ok
 copy_each-returns-in-Err-clause-ok g t c =
@@ -22,7 +22,7 @@ copy_each-returns-in-Err-clause-ok g t c =
     let x = c.entry-item.result in
     let here = from_place view es i x c.loop-entry-test.true c.entry-item.is in
     let folder = subst (λ e. g.F.Entry.DavDirEntry.entry_folder e ≡ names c.args.source.now) (sym c.entry-item.is) (c.requires.folder i x c.loop-entry-test.true) in
-    ok_by c.refused.result (λ last h. whole_unseen walk c.args.source.now c.args.destination.now (view x) (map view (drop (i + 1) es)) (map view (drop i es)) (map view es) here c.loop-entry.invariant.0 (rw folder at c.in-Err.ensures.asks) h) c.refused.ensures
+    ok_by c.refused.result (λ last h. whole_unseen walk c.args.source.now c.args.destination.now (view x) (map view (drop (i + 1) es)) (map view (drop i es)) (map view es) here c.loop-entry.invariant.0 (rw folder at c.in-Err.ensures.asks) h) c.refused.ensures.ok
 
 pub copy_each-returns-in-Err-clause-err : goal.copy_each-returns-in-Err-clause-err
 copy_each-returns-in-Err-clause-err g t c =
@@ -33,7 +33,7 @@ copy_each-returns-in-Err-clause-err g t c =
     let x = c.entry-item.result in
     let here = from_place view es i x c.loop-entry-test.true c.entry-item.is in
     let folder = subst (λ e. g.F.Entry.DavDirEntry.entry_folder e ≡ names c.args.source.now) (sym c.entry-item.is) (c.requires.folder i x c.loop-entry-test.true) in
-    any_err c.refused.result (part_unseen walk c.args.source.now c.args.destination.now (view x) (map view (drop (i + 1) es)) (map view (drop i es)) (map view es) here c.loop-entry.invariant.1 (rw folder at c.in-Err.ensures.asks))
+    err_by c.refused.result (λ same. part_unseen walk c.args.source.now c.args.destination.now (view x) (map view (drop (i + 1) es)) (map view (drop i es)) (map view es) here c.loop-entry.invariant.1 (rw folder at c.in-Err.ensures.asks) same) c.refused.ensures.err
 
 pub copy_each-returns-in_err-inside-clause-err : goal.copy_each-returns-in_err-inside-clause-err
 copy_each-returns-in_err-inside-clause-err g t c =
@@ -96,11 +96,11 @@ copy_entry-returns-clause-err g t c =
 
 pub copy_folder-returns-in-Err-clause-ok : goal.copy_folder-returns-in-Err-clause-ok
 copy_folder-returns-in-Err-clause-ok g t c =
-    ok_by c.refused.result (λ last h. folder_refused (copy_below c.args.now c.args.top.now c.args.source.now) c.args.now c.args.source.now c.args.destination.now c.in-Err.ensures h) c.refused.ensures
+    ok_by c.refused.result (λ last h. folder_refused (copy_below c.args.now c.args.top.now c.args.source.now) c.args.now c.args.source.now c.args.destination.now c.in-Err.ensures h) c.refused.ensures.ok
 
 pub copy_folder-returns-in-Err-clause-err : goal.copy_folder-returns-in-Err-clause-err
 copy_folder-returns-in-Err-clause-err g t c =
-    any_err c.refused.result (folder_stopped (copy_below c.args.now c.args.top.now c.args.source.now) c.args.now c.args.source.now c.args.destination.now c.in-Err.ensures)
+    err_by c.refused.result (λ same. folder_stopped (copy_below c.args.now c.args.top.now c.args.source.now) c.args.now c.args.source.now c.args.destination.now c.in-Err.ensures same) c.refused.ensures.err
 
 pub copy_folder-returns-in-Ok-read_dir-clause-ok : goal.copy_folder-returns-in-Ok-read_dir-clause-ok
 copy_folder-returns-in-Ok-read_dir-clause-ok g t c =
@@ -112,11 +112,11 @@ copy_folder-returns-in-Ok-read_dir-clause-err g t c =
 
 pub copy_folder-returns-in-Err-read_dir-clause-ok : goal.copy_folder-returns-in-Err-read_dir-clause-ok
 copy_folder-returns-in-Err-read_dir-clause-ok g t c =
-    ok_by c.refused-in-Err-read_dir.result (λ last h. list_refused (copy_below c.args.now c.args.top.now c.args.source.now) c.args.now c.args.source.now c.args.destination.now c.in-Ok.ensures c.in-Err-read_dir.ensures.asks h) c.refused-in-Err-read_dir.ensures
+    ok_by c.refused-in-Err-read_dir.result (λ last h. list_refused (copy_below c.args.now c.args.top.now c.args.source.now) c.args.now c.args.source.now c.args.destination.now c.in-Ok.ensures c.in-Err-read_dir.ensures.asks h) c.refused-in-Err-read_dir.ensures.ok
 
 pub copy_folder-returns-in-Err-read_dir-clause-err : goal.copy_folder-returns-in-Err-read_dir-clause-err
 copy_folder-returns-in-Err-read_dir-clause-err g t c =
-    any_err c.refused-in-Err-read_dir.result (list_stopped (copy_below c.args.now c.args.top.now c.args.source.now) c.args.now c.args.source.now c.args.destination.now c.in-Ok.ensures c.in-Err-read_dir.ensures.asks)
+    err_by c.refused-in-Err-read_dir.result (λ same. list_stopped (copy_below c.args.now c.args.top.now c.args.source.now) c.args.now c.args.source.now c.args.destination.now c.in-Ok.ensures c.in-Err-read_dir.ensures.asks same) c.refused-in-Err-read_dir.ensures.err
 
 pub copy_one-returns-then-eq-clause-ok : goal.copy_one-returns-then-eq-clause-ok
 copy_one-returns-then-eq-clause-ok g t c =
@@ -127,13 +127,13 @@ pub copy_one-returns-in-Err-clause-ok : goal.copy_one-returns-in-Err-clause-ok
 copy_one-returns-in-Err-clause-ok g t c =
     let small : length c.args.source.now.bytes < 2 ^ 64 = search (rules, c.as_ref.ensures, c.as_bytes-bytes.ensures) in
     let other : are_equal c.args.source.now c.args.top.now ≡ false = sym c.eq.ensures ∙ c.if-eq.false in
-    ok_by c.refused.result (λ last h. look_refused c.args.deep c.args.now c.args.top.now c.args.source.now c.args.destination.now small other c.in-Err.ensures.asks h) c.refused.ensures
+    ok_by c.refused.result (λ last h. look_refused c.args.deep c.args.now c.args.top.now c.args.source.now c.args.destination.now small other c.in-Err.ensures.asks h) c.refused.ensures.ok
 
 pub copy_one-returns-in-Err-clause-err : goal.copy_one-returns-in-Err-clause-err
 copy_one-returns-in-Err-clause-err g t c =
     let small : length c.args.source.now.bytes < 2 ^ 64 = search (rules, c.as_ref.ensures, c.as_bytes-bytes.ensures) in
     let other : are_equal c.args.source.now c.args.top.now ≡ false = sym c.eq.ensures ∙ c.if-eq.false in
-    any_err c.refused.result (look_stopped c.args.deep c.args.now c.args.top.now c.args.source.now c.args.destination.now small other c.in-Err.ensures.asks)
+    err_by c.refused.result (λ same. look_stopped c.args.deep c.args.now c.args.top.now c.args.source.now c.args.destination.now small other c.in-Err.ensures.asks same) c.refused.ensures.err
 
 pub copy_one-returns-then-not-meta-clause-ok : goal.copy_one-returns-then-not-meta-clause-ok
 copy_one-returns-then-not-meta-clause-ok g t c =

@@ -24,4 +24,4 @@ invariant-copy_each-loop-entry g l =
     let view = entry_view g.F.Entry.DavDirEntry.entry_name g.F.Entry.DavDirEntry.entry_dir in
     let walk = copy_below l.now l.top l.source in
     Whole walk l.source l.destination (map view (drop l.entry-index l.entries)) (map view l.fn.entries) (state l.fn.fs) l.fn.errors (state l.fs) l.errors l.last
-    × Part walk l.source l.destination (map view (drop l.entry-index l.entries)) (map view l.fn.entries) (state l.fn.fs) (state l.fs)
+    × Part walk l.source l.destination (map view (drop l.entry-index l.entries)) (map view l.fn.entries) (state l.fn.fs) l.fn.errors (state l.fs) l.errors

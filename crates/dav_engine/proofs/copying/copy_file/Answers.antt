@@ -1,12 +1,13 @@
 use Rattle.dav_engine.proofs.CopyLemmas.{file_copied, file_refused}
-use Rattle.dav_engine.proofs.RemovalLemmas.{stopped_behind, any_err, ok_by}
+use Rattle.dav_engine.proofs.CutWalks.{cut_behind}
+use Rattle.dav_engine.proofs.RemovalLemmas.{err_by, ok_by}
 use Rattle.dav_engine.proofs.copying.copy_file.Goals as goal
 
 pub returns-in-Ok-clause-ok : goal.returns-in-Ok-clause-ok
 returns-in-Ok-clause-ok g c = file_copied c.args.now c.args.source.now c.args.destination.now c.in-Ok.ensures
 
 pub returns-in-Err-clause-ok : goal.returns-in-Err-clause-ok
-returns-in-Err-clause-ok g c = ok_by c.refused.result (λ last h. file_refused c.args.now c.args.source.now c.args.destination.now c.in-Err.ensures h) c.refused.ensures
+returns-in-Err-clause-ok g c = ok_by c.refused.result (λ last h. file_refused c.args.now c.args.source.now c.args.destination.now c.in-Err.ensures h) c.refused.ensures.ok
 
 pub returns-in-Err-clause-err : goal.returns-in-Err-clause-err
-returns-in-Err-clause-err g c = any_err c.refused.result (stopped_behind c.in-Err.ensures)
+returns-in-Err-clause-err g c = err_by c.refused.result (λ same. cut_behind c.in-Err.ensures same) c.refused.ensures.err

@@ -1,4 +1,5 @@
 use Rattle.dav_engine.proofs.RemovalLemmas.{ok_by, err_by}
+use Rattle.dav_engine.proofs.CutWalks.{cut_stops}
 use Rattle.dav_engine.proofs.CopyMoveLemmas.{nothing_cleared, all_cleared, clearing_stopped}
 use Rattle.dav_engine.proofs.handle_copymove.clearing.Goals as goal
 
@@ -12,4 +13,4 @@ returns-clause-ok g c =
 
 pub returns-clause-err : goal.returns-clause-err
 returns-clause-err g c =
-    err_by c.removal.result (λ stop. clearing_stopped c.args.deep c.args.now c.args.destination.now _ c.is_replaced.result c.is_replaced.ensures c.if-not-is_replaced.false c.is_folder_found.ensures stop) c.removal.ensures.err
+    err_by c.removal.result (λ stop. clearing_stopped c.args.deep c.args.now c.args.destination.now _ c.is_replaced.result c.is_replaced.ensures c.if-not-is_replaced.false c.is_folder_found.ensures (cut_stops stop)) c.removal.ensures.err

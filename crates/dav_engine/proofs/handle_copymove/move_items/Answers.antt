@@ -2,13 +2,13 @@ use Rattle.std.proofs.Common.{ℕ}
 use Rattle.std.proofs.lemmas.Result.{err_from_is_err_and}
 use Rattle.dav_engine.specs.Copying.{renaming}
 use Rattle.dav_engine.proofs.CopyMoveLemmas.{copies_by, copies_short}
-use Rattle.dav_engine.proofs.RemovalLemmas.{stopped_behind}
+use Rattle.dav_engine.proofs.CutWalks.{cut_behind}
 use Rattle.dav_engine.proofs.handle_copymove.move_items.Goals as goal
 
 pub returns-in_err-last : goal.returns-in_err-last
 returns-in_err-last g c =
     let p = err_from_is_err_and c.from_residual.result c.from_residual.ensures.1 in
-    rw (p.1, p.2) (copies_short (λ (now : ℕ). renaming now c.args.source.now c.args.destination.now) c.caller.view_is (stopped_behind c.in_err-last.ensures.err.1))
+    rw (p.1, p.2) (copies_short (λ (now : ℕ). renaming now c.args.source.now c.args.destination.now) c.caller.view_is (cut_behind c.in_err-last.ensures.err.0.1 c.in_err-last.ensures.err.1))
 
 pub returns : goal.returns
 returns g c =

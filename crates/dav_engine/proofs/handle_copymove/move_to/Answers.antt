@@ -6,7 +6,7 @@ use Rattle.dav_engine.proofs.handle_copymove.move_to.Goals as goal
 pub returns-in_err-renaming : goal.returns-in_err-renaming
 returns-in_err-renaming g c =
     let p = err_from_is_err_and c.from_residual.result c.from_residual.ensures.1 in
-    rw (p.1, p.2) (move_short c.args.deep c.args.now c.args.path.now c.args.destination.now c.args.status c.in_err-renaming.ensures.err.0 c.in_err-renaming.ensures.err.1)
+    rw (p.1, p.2) (move_short c.args.deep c.args.now c.args.path.now c.args.destination.now c.args.status c.in_err-renaming.ensures.err.0.0 c.in_err-renaming.ensures.err.0.1)
 
 pub returns-then-is_some : goal.returns-then-is_some
 returns-then-is_some g c =

@@ -1,6 +1,7 @@
 use Rattle.std.proofs.Common.{◌∙◌}
 use Rattle.std.proofs.lemmas.Result.{err_from_is_err_and}
 use Rattle.dav_engine.specs.Delete.{delete_allowed}
+use Rattle.dav_engine.proofs.CutWalks.{cut_stops}
 use Rattle.dav_engine.proofs.DeleteLemmas.{held_locks, found_refused, found_stopped, found_stays, found_gone, walked_for, stopped_for}
 use Rattle.dav_engine.proofs.handle_delete.delete_found.Goals as goal
 
@@ -17,7 +18,7 @@ returns-in_err-removal g c =
     let judged = delete_allowed c.args.conditions.now c.args.path.now c.args.caller.now c.args.found.now in
     rw (p.1, p.2) (found_stopped c.args.deep c.args.conditions.now c.args.path.now c.args.caller.now c.args.found.now
     (held_locks g.L.DavLockSystem.locks _ _ judged c.as_ref.ensures.value c.in_ok-allowed.ensures)
-    (stopped_for c.args.deep c.args.path.now c.args.found.now.dir c.caller.view_is c.in_err-removal.ensures.err))
+    (stopped_for c.args.deep c.args.path.now c.args.found.now.dir c.caller.view_is (cut_stops c.in_err-removal.ensures.err)))
 
 pub returns-then-not-branch : goal.returns-then-not-branch
 returns-then-not-branch g c =

@@ -1,4 +1,4 @@
-use Rattle.std.proofs.Common.{rules, ◌≡◌, ◌≢◌, ◌<◌, ◌^◌, ◌+◌, ◌&&◌, ◌*◌, map, drop, length}
+use Rattle.std.proofs.Common.{refl, rules, ◌≡◌, ◌≢◌, ◌<◌, ◌^◌, ◌+◌, ◌&&◌, ◌*◌, map, drop, length}
 use Rattle.dav_core.specs.Path.{star}
 use Rattle.dav_engine.specs.Folder.{room_at}
 use Rattle.dav_engine.specs.Removal.{remove_member}
@@ -11,16 +11,16 @@ pub remove_one-returns-in-Ok-clause-ok : goal.remove_one-returns-in-Ok-clause-ok
 remove_one-returns-in-Ok-clause-ok g t c = rw c.if-not-dir.true (file_gone (room_at c.args.path.now) c.args.now c.args.path.now c.in-Ok.ensures)
 
 pub remove_one-returns-in_ok-report-in-Err-clause-ok : goal.remove_one-returns-in_ok-report-in-Err-clause-ok
-remove_one-returns-in_ok-report-in-Err-clause-ok g t c = rw c.if-not-dir.true (file_refused (room_at c.args.path.now) c.args.now c.args.path.now c.in-Err.ensures (told_as c.args.path.now _ c.in_ok-report-in-Err.ensures c.status_of.ensures))
+remove_one-returns-in_ok-report-in-Err-clause-ok g t c = rw c.if-not-dir.true (file_refused (room_at c.args.path.now) c.args.now c.args.path.now c.in-Err.ensures (told_as c.args.path.now _ c.in_ok-report-in-Err.ensures.ok c.status_of.ensures))
 
 pub remove_one-returns-in_err-report-in-Err-clause-err : goal.remove_one-returns-in_err-report-in-Err-clause-err
-remove_one-returns-in_err-report-in-Err-clause-err g t c = rw c.if-not-dir.true (any_err _ (file_stopped (room_at c.args.path.now) c.args.now c.args.path.now c.in-Err.ensures))
+remove_one-returns-in_err-report-in-Err-clause-err g t c = rw c.if-not-dir.true (any_err _ (file_stopped (room_at c.args.path.now) c.args.now c.args.path.now c.in-Err.ensures c.in_err-report-in-Err.ensures.err))
 
 pub remove_one-returns-in_err-report-in-Err-read_dir-clause-err : goal.remove_one-returns-in_err-report-in-Err-read_dir-clause-err
-remove_one-returns-in_err-report-in-Err-read_dir-clause-err g t c = let small : length c.args.path.now.bytes < 2 ^ 64 = search (rules, c.as_ref.ensures, c.as_bytes-bytes.ensures) in rw c.if-not-dir.false (any_err _ (listing_stopped c.args.now c.args.path.now small c.in-Err-read_dir.ensures.asks))
+remove_one-returns-in_err-report-in-Err-read_dir-clause-err g t c = let small : length c.args.path.now.bytes < 2 ^ 64 = search (rules, c.as_ref.ensures, c.as_bytes-bytes.ensures) in rw c.if-not-dir.false (any_err _ (listing_stopped c.args.now c.args.path.now small c.in-Err-read_dir.ensures.asks c.in_err-report-in-Err-read_dir.ensures.err))
 
 pub remove_one-returns-in-Err-read_dir-clause-ok : goal.remove_one-returns-in-Err-read_dir-clause-ok
-remove_one-returns-in-Err-read_dir-clause-ok g t c = let small : length c.args.path.now.bytes < 2 ^ 64 = search (rules, c.as_ref.ensures, c.as_bytes-bytes.ensures) in rw c.if-not-dir.false (listing_refused c.args.now c.args.path.now small c.in-Err-read_dir.ensures.asks (told_as c.args.path.now _ c.in_ok-report-in-Err-read_dir.ensures c.status_of-in-Err-read_dir.ensures))
+remove_one-returns-in-Err-read_dir-clause-ok g t c = let small : length c.args.path.now.bytes < 2 ^ 64 = search (rules, c.as_ref.ensures, c.as_bytes-bytes.ensures) in rw c.if-not-dir.false (listing_refused c.args.now c.args.path.now small c.in-Err-read_dir.ensures.asks (told_as c.args.path.now _ c.in_ok-report-in-Err-read_dir.ensures.ok c.status_of-in-Err-read_dir.ensures))
 
 pub remove_one-returns-in_err-remove_each-clause-err : goal.remove_one-returns-in_err-remove_each-clause-err
 remove_one-returns-in_err-remove_each-clause-err g t c = let small : length c.args.path.now.bytes < 2 ^ 64 = search (rules, c.as_ref.ensures, c.as_bytes-bytes.ensures) in rw c.if-not-dir.false (any_err _ (folder_stopped c.args.now c.args.path.now small c.in-Ok-read_dir.ensures.asks (rw c.deref.ensures.value at c.in_err-remove_each.ensures.err)))
@@ -32,19 +32,19 @@ pub remove_one-returns-in-Ok-remove_dir-clause-ok : goal.remove_one-returns-in-O
 remove_one-returns-in-Ok-remove_dir-clause-ok g t c = let small : length c.args.path.now.bytes < 2 ^ 64 = search (rules, c.as_ref.ensures, c.as_bytes-bytes.ensures) in rw c.if-not-dir.false (folder_gone c.args.now c.args.path.now small c.in-Ok-read_dir.ensures.asks (rw (c.deref.ensures.value, c.if-not-branch.false) at c.in_ok-remove_each.ensures.ok) c.in-Ok-remove_dir.ensures)
 
 pub remove_one-returns-in_err-report-in-Err-remove_dir-clause-err : goal.remove_one-returns-in_err-report-in-Err-remove_dir-clause-err
-remove_one-returns-in_err-report-in-Err-remove_dir-clause-err g t c = let small : length c.args.path.now.bytes < 2 ^ 64 = search (rules, c.as_ref.ensures, c.as_bytes-bytes.ensures) in rw c.if-not-dir.false (any_err _ (emptied_stopped c.args.now c.args.path.now small c.in-Ok-read_dir.ensures.asks (rw (c.deref.ensures.value, c.if-not-branch.false) at c.in_ok-remove_each.ensures.ok) c.in-Err-remove_dir.ensures))
+remove_one-returns-in_err-report-in-Err-remove_dir-clause-err g t c = let small : length c.args.path.now.bytes < 2 ^ 64 = search (rules, c.as_ref.ensures, c.as_bytes-bytes.ensures) in rw c.if-not-dir.false (any_err _ (emptied_stopped c.args.now c.args.path.now small c.in-Ok-read_dir.ensures.asks (rw (c.deref.ensures.value, c.if-not-branch.false) at c.in_ok-remove_each.ensures.ok) c.in-Err-remove_dir.ensures c.in_err-report-in-Err-remove_dir.ensures.err))
 
 pub remove_one-returns-clause-ok : goal.remove_one-returns-clause-ok
-remove_one-returns-clause-ok g t c = let small : length c.args.path.now.bytes < 2 ^ 64 = search (rules, c.as_ref.ensures, c.as_bytes-bytes.ensures) in rw c.if-not-dir.false (folder_refused c.args.now c.args.path.now small c.in-Ok-read_dir.ensures.asks (rw (c.deref.ensures.value, c.if-not-branch.false) at c.in_ok-remove_each.ensures.ok) c.in-Err-remove_dir.ensures (told_as c.args.path.now _ c.in_ok-report-in-Err-remove_dir.ensures c.status_emptied.ensures))
+remove_one-returns-clause-ok g t c = let small : length c.args.path.now.bytes < 2 ^ 64 = search (rules, c.as_ref.ensures, c.as_bytes-bytes.ensures) in rw c.if-not-dir.false (folder_refused c.args.now c.args.path.now small c.in-Ok-read_dir.ensures.asks (rw (c.deref.ensures.value, c.if-not-branch.false) at c.in_ok-remove_each.ensures.ok) c.in-Err-remove_dir.ensures (told_as c.args.path.now _ c.in_ok-report-in-Err-remove_dir.ensures.ok c.status_emptied.ensures))
 
 pub remove_entry-returns-in_err-report-in-Err-clause-err : goal.remove_entry-returns-in_err-report-in-Err-clause-err
-remove_entry-returns-in_err-report-in-Err-clause-err g t c = any_err _ (looked c.args.now c.args.path.now (g.F.Entry.DavDirEntry.entry_name c.args.entry.now, g.F.Entry.DavDirEntry.entry_dir c.args.entry.now) (rw c.requires.folder at c.in-Err.ensures.asks))
+remove_entry-returns-in_err-report-in-Err-clause-err g t c = any_err _ (looked c.args.now c.args.path.now (g.F.Entry.DavDirEntry.entry_name c.args.entry.now, g.F.Entry.DavDirEntry.entry_dir c.args.entry.now) (rw c.requires.folder at c.in-Err.ensures.asks) c.in_err-report-in-Err.ensures.err)
 
 pub remove_entry-returns-in-Err-clause-ok : goal.remove_entry-returns-in-Err-clause-ok
-remove_entry-returns-in-Err-clause-ok g t c = member_refused c.args.now c.args.path.now (g.F.Entry.DavDirEntry.entry_name c.args.entry.now, g.F.Entry.DavDirEntry.entry_dir c.args.entry.now) (rw c.requires.folder at c.in-Err.ensures.asks) (told_as c.args.path.now _ c.in_ok-report-in-Err.ensures c.status_of.ensures)
+remove_entry-returns-in-Err-clause-ok g t c = member_refused c.args.now c.args.path.now (g.F.Entry.DavDirEntry.entry_name c.args.entry.now, g.F.Entry.DavDirEntry.entry_dir c.args.entry.now) (rw c.requires.folder at c.in-Err.ensures.asks) (told_as c.args.path.now _ c.in_ok-report-in-Err.ensures.ok c.status_of.ensures)
 
 pub remove_entry-returns-in_err-child-clause-err : goal.remove_entry-returns-in_err-child-clause-err
-remove_entry-returns-in_err-child-clause-err g t c = any_err _ (looked c.args.now c.args.path.now (g.F.Entry.DavDirEntry.entry_name c.args.entry.now, g.F.Entry.DavDirEntry.entry_dir c.args.entry.now) (rw c.requires.folder at c.in-Ok.ensures.asks))
+remove_entry-returns-in_err-child-clause-err g t c = any_err _ (looked c.args.now c.args.path.now (g.F.Entry.DavDirEntry.entry_name c.args.entry.now, g.F.Entry.DavDirEntry.entry_dir c.args.entry.now) (rw c.requires.folder at c.in-Ok.ensures.asks) refl)
 
 pub remove_entry-returns-clause-ok : goal.remove_entry-returns-clause-ok
 remove_entry-returns-clause-ok g t c = ok_by _ (λ clean inside. member_at c.args.now c.args.path.now c.in_ok-child.child (g.F.Entry.DavDirEntry.entry_name c.args.entry.now, g.F.Entry.DavDirEntry.entry_dir c.args.entry.now) c.name.result.now c.requires.path c.name.ensures.segment c.name.ensures.value c.in_ok-child.ensures (rw c.requires.folder at c.in-Ok.ensures.asks) inside) c.remove_one.ensures.ok
@@ -60,7 +60,7 @@ remove_each-returns-in_err-inside-clause-err g t c =
     let x = c.entry-item.result in
     let here = from_place view es i x c.loop-entry-test.true c.entry-item.is in
     let f = remove_member (below c.args.now c.args.path.now) c.args.path.now in
-    any_err _ (c.loop-entry.invariant.1 _ (rw here (one_stopped f (view x) (map view (drop (i + 1) es)) c.in_err-inside.ensures.err)))
+    any_err _ (c.loop-entry.invariant.1 _ _ (rw here (one_stopped f (view x) (map view (drop (i + 1) es)) c.in_err-inside.ensures.err)))
 
 pub remove_each-returns-clause-ok : goal.remove_each-returns-clause-ok
 remove_each-returns-clause-ok g t c =
@@ -70,7 +70,7 @@ remove_each-returns-clause-ok g t c =
     all_ended (remove_member (below c.args.now c.args.path.now) c.args.path.now) (map view (drop i es)) (map view es) c.loop-entry.clean (from_end view es i c.loop-entry-test.false) c.loop-entry.invariant.0
 
 pub remove_each-loop-entry-init : goal.remove_each-loop-entry-init
-remove_each-loop-entry-init g t c = (λ after rest end more. more, λ end more. more)
+remove_each-loop-entry-init g t c = (λ after rest end more. more, λ after end more. more)
 
 pub remove_each-loop-entry-preserved : goal.remove_each-loop-entry-preserved
 remove_each-loop-entry-preserved g t c =

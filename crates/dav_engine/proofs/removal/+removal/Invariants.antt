@@ -2,8 +2,8 @@ use Rattle.std.proofs.Common.{◌+◌, ◌*◌, ◌&&◌, Bool, List, map, drop}
 use Rattle.dav_core.specs.Asking.{StoreState}
 use Rattle.dav_engine.specs.Multistatus.{PathStatus}
 use Rattle.dav_engine.specs.Folder.{room_at}
-use Rattle.dav_engine.specs.Removal.{each, remove_member}
-use Rattle.dav_engine.specs.Walked.{Walked, StoppedIn}
+use Rattle.dav_engine.specs.Removal.{each, remove_member, report_of}
+use Rattle.dav_engine.specs.Walked.{Walked, CutShort}
 use Rattle.dav_engine.specs.WalkView.{below, entry_view}
 use Rattle.dav_engine.proofs.removal.+removal.Given as goal
 
@@ -24,4 +24,5 @@ invariant-remove_each-loop-entry g l =
     let f = remove_member (below l.now l.path) l.path in
     ((after : List PathStatus) (rest : Bool) (end : StoreState) → Walked (each f (map view (drop l.entry-index l.entries))) (state l.fs) l.errors after rest end
     → Walked (each f (map view l.fn.entries)) (state l.fn.fs) l.fn.errors after (l.clean && rest) end)
-    × ((end : StoreState) → StoppedIn (each f (map view (drop l.entry-index l.entries))) (state l.fs) end → StoppedIn (each f (map view l.fn.entries)) (state l.fn.fs) end)
+    × ((after : List PathStatus) (end : StoreState) → CutShort report_of (each f (map view (drop l.entry-index l.entries))) (state l.fs) l.errors after end
+    → CutShort report_of (each f (map view l.fn.entries)) (state l.fn.fs) l.fn.errors after end)

@@ -4,6 +4,7 @@ use Rattle.dav_server.specs.Server.{StopsIn}
 use Rattle.dav_server.proofs.CutSteps.{safe_leaves_cut}
 use Rattle.dav_server.proofs.EachRequestLemmas.{safe_leaves, create_only_leaves, refused_status_leaves}
 use Rattle.dav_server.proofs.HrefReplies.{step_leads_back}
+use Rattle.dav_server.proofs.ListingLemmas.{reply_is_whole}
 use Rattle.dav_server.proofs.StepLemmas.{served_ok, served_err, served_cut, any_err}
 use Rattle.dav_server.proofs.UngrantedLemmas.{grants_nothing}
 use Rattle.dav_server.proofs.davhandler.DavHandler.handle.Goals as goal
@@ -44,3 +45,9 @@ returns-in-Ok-clause-hrefs g c = step_leads_back _ _ _ _ _ _ _ (served_ok c.in-O
 
 pub returns-in-Err-clause-hrefs : goal.returns-in-Err-clause-hrefs
 returns-in-Err-clause-hrefs g c = IfOk-weaker _ _ _ (λ reply r. step_leads_back _ _ _ _ _ _ reply (served_err c.in-Err.ensures.serves r.0 r.1)) c.refuse.ensures
+
+pub returns-in-Ok-clause-listing : goal.returns-in-Ok-clause-listing
+returns-in-Ok-clause-listing g c = reply_is_whole _ _ _ _ _ _ _ (served_ok c.in-Ok.ensures.serves)
+
+pub returns-in-Err-clause-listing : goal.returns-in-Err-clause-listing
+returns-in-Err-clause-listing g c = IfOk-weaker _ _ _ (λ reply r. reply_is_whole _ _ _ _ _ _ reply (served_err c.in-Err.ensures.serves r.0 r.1)) c.refuse.ensures
