@@ -1838,10 +1838,25 @@ def no_number(_):
     raise NotScript
 
 
+def other_number(text):
+    """A number that a script has no use for. It may stand where it doesn't count, unless it is past every float."""
+    need(abs(float(text)) != float("inf"))
+    return float(text)
+
+
 def plain_number(text):
-    """Plain digits within 64 bits are numbers, nothing else is."""
-    need(not text.startswith("-") and int(text) <= LAST_NUMBER)
+    """Plain digits within 64 bits are whole numbers, nothing else is."""
+    if text.startswith("-") or len(text) > 20 or int(text) > LAST_NUMBER:
+        return other_number(text)
     return int(text)
+
+
+def last_values(pairs):
+    """Of a member that comes twice the last one counts; the others have to be texts that can be written, too."""
+    members = dict(pairs)
+    if len(members) < len(pairs):
+        json.dumps(pairs, ensure_ascii=False).encode("utf-8")
+    return members
 
 
 def members_of(value, names):
@@ -1865,7 +1880,7 @@ def read_json(data):
     try:
         text = data.decode("utf-8")
         need(nesting(text) <= DEEPEST_SCRIPT and not text.startswith("\ufeff"))
-        value = json.loads(text, parse_int=plain_number, parse_float=no_number, parse_constant=no_number)
+        value = json.loads(text, object_pairs_hook=last_values, parse_int=plain_number, parse_float=other_number, parse_constant=no_number)
         json.dumps(value, ensure_ascii=False).encode("utf-8")
         return value
     except (ValueError, RecursionError):
