@@ -32,9 +32,10 @@ pub struct Live<D: Disk> {
     service: Service<D>,
 }
 
-// The reports that weren't taken yet, and the orders that weren't handed out yet.
+// What was read last, the reports that weren't taken yet, and the orders that weren't handed out yet.
 #[derive(Drop)]
 struct Pipe {
+    piece: Vec<u8>,
     input: Vec<u8>,
     orders: Vec<u8>,
 }
@@ -83,7 +84,11 @@ impl<D: Disk + Drop> Live<D> {
         writer: &mut W,
         watch: &mut L,
     ) -> Fault {
+        let Ok(piece) = piece(self.alloc) else {
+            return Fault::Memory;
+        };
         let mut pipe = Pipe {
+            piece,
             input: Vec::new(self.alloc),
             orders: Vec::new(self.alloc),
         };
@@ -103,7 +108,7 @@ impl<D: Disk + Drop> Live<D> {
         writer: &mut W,
         watch: &mut L,
     ) -> Result<(), Fault> {
-        read_more(&mut pipe.input, reader)?;
+        read_more(pipe, reader)?;
         watch.begin();
         let used = self.turn(&pipe.input, &mut pipe.orders)?;
         drop_front(&mut pipe.input, used);
@@ -182,14 +187,21 @@ impl<D: Disk + Drop> Live<D> {
     }
 }
 
+// Room for what is read at once, 64 KiB.
+fn piece(alloc: Global) -> Result<Vec<u8>, AllocError> {
+    let mut piece = Vec::new(alloc);
+    piece.resize(65536, 0)?;
+    Ok(piece)
+}
+
 // Reads once.
-fn read_more<R: Read>(input: &mut Vec<u8>, reader: &mut R) -> Result<(), Fault> {
-    let mut piece = [0u8; 65536];
-    let count = reader.read(&mut piece)?;
+fn read_more<R: Read>(pipe: &mut Pipe, reader: &mut R) -> Result<(), Fault> {
+    let count = reader.read(&mut pipe.piece)?;
     if count == 0 {
         return Err(Fault::Ended);
     }
-    input.extend_from_slice(piece.get(..count).unwrap_or(&[]))?;
+    let came = pipe.piece.get(..count).unwrap_or(&[]);
+    pipe.input.extend_from_slice(came)?;
     Ok(())
 }
 
