@@ -14,6 +14,7 @@ pub mod TreeNumbers
 pub mod TreeClimbs
 pub mod TreeForest
 pub mod TreeNodes
+pub mod NumberedLemmas
 pub mod TreeHangs
 pub mod TreePlaces
 pub mod TreeKept

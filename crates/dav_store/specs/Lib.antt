@@ -6,6 +6,8 @@ pub mod Answered
 pub mod Listed
 pub mod LockCalls
 pub mod Tree
+pub mod Numbered
+pub mod NumberedLends
 pub mod TreeLaws
 pub mod TreeLends
 pub mod Entries

@@ -11,6 +11,7 @@ use Rattle.std.specs.Map.{keys_of, lookup, set_value, remove_entry}
 use Rattle.std.specs.Coded.{Coded, code_by, coded×, coded_list, coded_ℕ}
 use Rattle.indexmap.specs.IndexMap.{insert_entry as put_key}
 use Rattle.dav_core.specs.Numbers.{max_u64}
+use Rattle.dav_store.specs.Numbered.{AreClones}
 use Rattle.dav_core.specs.declared.errors.FsError.{FsError}
 use Rattle.dav_core.specs.declared.errors.FsError.TheVariants.{NotFound, Exists, Forbidden, GeneralFailure, InsufficientStorage}
 
@@ -43,6 +44,12 @@ module _ {K : Type 0} where
   abbrev pub first_number : List (K × ℕ) → Option ℕ
   first_number [] = None
   first_number (e ∷ es) = Some e.1
+
+  -- the child, where there is one alone
+  abbrev pub only_child : List (K × ℕ) → Option (K × ℕ)
+  only_child [] = None
+  only_child (e ∷ []) = Some e
+  only_child (e ∷ d ∷ es) = None
 
   -- whether a number is found among the children under some key
   abbrev pub IsFoundUnderKey : (K → K → Bool) → List (K × ℕ) → ℕ → Type 0
@@ -276,8 +283,7 @@ module _ {K D : Type 0} (is_key : K → K → Type 0) (is_value : D → D → Ty
   -- a tree again: the same numbers, and clones of the nodes
   abbrev pub IsCloneOfTree : Tree K D → Tree K D → Type 0
   IsCloneOfTree old new =
-      (new.last ≡ old.last)
-      × AllZip (λ e c. (c.0 ≡ e.0) × IsCloneOfNode e.1 c.1) old.nodes new.nodes
+      (new.last ≡ old.last) × AreClones IsCloneOfNode old.nodes new.nodes
 
 -- the number of the child under a key of these bytes
 abbrev pub child_of_bytes : {Z D : Type 0} → Tree (Vec ℕ Z) D → ℕ → List ℕ → Option ℕ

@@ -14,6 +14,7 @@ ghost use Rattle.dav_core.specs.declared.errors.FsError.TheVariants.{NotFound as
 pub mod children;
 pub mod node;
 mod nodes;
+mod numbered;
 #[cfg(test)]
 mod tests;
 

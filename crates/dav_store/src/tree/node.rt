@@ -2,10 +2,12 @@
 ghost use Rattle.std.specs.Prelude.{◌≡◌, ◌==◌, position, IfOk, IfErr, OnOk, OnErr, OnSome, nat_eq};
 ghost use Rattle.std.specs.Borrow.{sem};
 ghost use Rattle.std.specs.Map.{lookup};
+ghost use Rattle.std.specs.Map.Iter.{deref_pair};
+ghost use Rattle.std.specs.Option.{option_map};
 ghost use Rattle.std.specs.List.{AllZip};
 ghost use Rattle.std.specs.Cmp.Lexicographic.{pointwise};
 ghost use Rattle.indexmap.specs.IndexMap.{insert_entry};
-ghost use Rattle.dav_store.specs.Tree.{leaf, has_some, IsFoundUnderKey, first_number, without_place, IsListedAs};
+ghost use Rattle.dav_store.specs.Tree.{leaf, has_some, IsFoundUnderKey, first_number, only_child, without_place, IsListedAs};
 
 use indexmap::IndexMap;
 use std::alloc::{AllocError, Global};
@@ -104,6 +106,17 @@ impl<K: Eq + Hash, D> Node<K, D> {
         }
     }
 
+    // The key and the number of its child, where it has one alone.
+    fn only(&self) -> Option<(&K, &u64)>
+        ensures { option_map deref_pair result ≡ only_child self.now.children }
+    {
+        if self.children.len() == 1 {
+            self.children.get_index(0)
+        } else {
+            None
+        }
+    }
+
     // The place of the child of a number.
     pub(crate) fn place(&self, number: u64) -> Option<usize>
         ensures { result ≡ position (λ e. e.1 == number) self.now.children }
@@ -180,6 +193,13 @@ impl<D> Node<Vec<u8>, D> {
     pub(crate) fn child_of_bytes(&self, key: &[u8]) -> Option<u64>
         ensures { result ≡ lookup (λ k. pointwise nat_eq key.now k.items) self.now.children }
     {
-        self.children.get(key).copied()
+        match self.only() {
+            Some((only, number)) => if key == only.as_slice() {
+                Some(*number)
+            } else {
+                None
+            },
+            None => self.children.get(key).copied(),
+        }
     }
 }

@@ -9,16 +9,16 @@ ghost use Rattle.dav_store.specs.Tree.{IsRooted, root_id, single, node, value_of
 
 use super::ROOT_ID;
 use super::node::Node;
+use super::numbered::Numbered;
 use dav_core::errors::{FsError, FsResult};
 use std::alloc::{AllocError, Global};
-use std::collections::BTreeMap;
 use std::hash::Hash;
 use std::marker::Model;
 
 /// Nodes by their numbers, and the last number that was handed out.
 #[derive(Drop)]
 pub struct Nodes<K: Eq + Hash, D> {
-    by_number: BTreeMap<u64, Node<K, D>>,
+    by_number: Numbered<Node<K, D>>,
     last: u64,
 }
 
@@ -29,9 +29,9 @@ impl<K: Eq + Hash, D> Model for Nodes<K, D> {
 
     ghost coded = { coded_tree K.code D.code };
 
-    ghost view = { λ t. record { nodes = t.by_number.entries; last = t.last } };
+    ghost view = { λ t. record { nodes = t.by_number; last = t.last } };
 
-    ghost invariant = { λ t. NoneAbove {K = K} {D = D} (record { nodes = t.by_number.entries; last = t.last }) };
+    ghost invariant = { λ t. NoneAbove {K = K} {D = D} (record { nodes = t.by_number; last = t.last }) };
 }
 
 impl<K: Eq + Hash + Clone + Drop, D: Clone + Drop> Clone for Nodes<K, D> {
@@ -54,8 +54,8 @@ impl<K: Eq + Hash + Drop, D: Drop> Nodes<K, D> {
     pub fn new(alloc: Global, value: D) -> Result<Nodes<K, D>, AllocError>
         ensures { IfOk result (λ t. t ≡ single value) }
     {
-        let mut by_number = BTreeMap::new(alloc);
-        let _ = by_number.insert(ROOT_ID, Node::new(alloc, 0, value))?;
+        let mut by_number = Numbered::new(alloc);
+        by_number.insert(ROOT_ID, Node::new(alloc, 0, value))?;
         Ok(Nodes {
             by_number,
             last: ROOT_ID,
@@ -73,16 +73,17 @@ impl<K: Eq + Hash + Drop, D: Drop> Nodes<K, D> {
     pub fn node(&self, id: u64) -> Option<&Node<K, D>>
         ensures { option_copied result ≡ node self.now id }
     {
-        self.by_number.get(&id)
+        self.by_number.get(id)
     }
 
     // The value of a node, to be written.
+    #[tactic(auto, using(crate::proofs::TreeSteps::miss_set_value))]
     pub fn value_mut(&mut self, id: u64) -> FsResult<&mut D>
         ensures* writes_back { sem 𝓛 (lends_value_in K.row D.row K.Hash self.entry id result) }
         ensures value { option_copied_mut (result_ok result) ≡ value_of self.old id }
         ensures err { IfErr result (λ e. e ≡ Missing) }
     {
-        match self.by_number.get_mut(&id) {
+        match self.by_number.get_mut(id) {
             Some(n) => Ok(n.value_mut()),
             None => Err(FsError::NotFound),
         }
@@ -196,33 +197,36 @@ impl<K: Eq + Hash + Drop, D: Drop> Nodes<K, D> {
     }
 
     // Makes room for one child more of a node, which nobody sees.
+    #[tactic(auto, using(crate::proofs::TreeSteps::miss_set_value))]
     pub fn reserve(&mut self, parent: u64) -> Result<(), AllocError>
         ensures { self.new ≡ self.old }
     {
-        if let Some(n) = self.by_number.get_mut(&parent) {
+        if let Some(n) = self.by_number.get_mut(parent) {
             n.reserve()?;
         }
         Ok(())
     }
 
     // A node gets this child under a key.
+    #[tactic(auto, using(crate::proofs::TreeSteps::miss_set_value))]
     pub fn link(&mut self, parent: u64, key: K, id: u64) -> Result<(), AllocError>
         ensures ok { OnOk result (self.new ≡ linked K.eq self.old parent key id) }
         ensures err { OnErr result (self.new ≡ self.old) }
         ensures new { OnErr result (child K.eq self.old parent key ≡ None) }
     {
-        if let Some(n) = self.by_number.get_mut(&parent) {
+        if let Some(n) = self.by_number.get_mut(parent) {
             n.link(key, id)?;
         }
         Ok(())
     }
 
     // The child at a place goes.
+    #[tactic(auto, using(crate::proofs::TreeSteps::miss_set_value))]
     fn unlink_at(&mut self, parent: u64, place: Option<usize>)
         ensures { self.new ≡ unlinked_at self.old parent place }
     {
         if let Some(i) = place {
-            if let Some(n) = self.by_number.get_mut(&parent) {
+            if let Some(n) = self.by_number.get_mut(parent) {
                 n.unlink_at(i);
             }
         }
@@ -242,16 +246,17 @@ impl<K: Eq + Hash + Drop, D: Drop> Nodes<K, D> {
     fn seat(&mut self, id: u64, parent: u64)
         ensures { self.new ≡ seated self.old id parent }
     {
-        if let Some(n) = self.by_number.get_mut(&id) {
+        if let Some(n) = self.by_number.get_mut(id) {
             n.set_parent(parent);
         }
     }
 
     // The node of a number goes.
+    #[tactic(auto, using(crate::proofs::TreeNumbers::miss_remove_entry))]
     pub fn remove(&mut self, id: u64)
         ensures { self.new ≡ without self.old id }
     {
-        let _ = self.by_number.remove(&id);
+        self.by_number.remove(id);
     }
 
     // A node that has no children goes.
@@ -289,13 +294,14 @@ impl<K: Eq + Hash + Drop, D: Drop> Nodes<K, D> {
     }
 
     // One node more, which is nobody's child yet. Where memory runs out, nothing changes.
+    #[tactic(auto, using(crate::proofs::TreeNumbers::miss_insert_entry, crate::proofs::TreeNodes::same_no))]
     pub fn grow(&mut self, alloc: Global, parent: u64, value: D) -> Result<(), AllocError>
         requires { self.old.last < max_u64 }
         ensures ok { OnOk result (self.new ≡ grown self.old parent value) }
         ensures err { OnErr result (self.new ≡ self.old) }
     {
         let id = self.last + 1;
-        let _ = self.by_number.insert(id, Node::new(alloc, parent, value))?;
+        self.by_number.insert(id, Node::new(alloc, parent, value))?;
         self.last = id;
         Ok(())
     }
@@ -305,7 +311,7 @@ impl<K: Eq + Hash + Drop, D: Drop> Nodes<K, D> {
         requires { 0 < self.old.last }
         ensures { self.new ≡ shrunk self.old }
     {
-        let _ = self.by_number.remove(&self.last);
+        self.by_number.remove(self.last);
         self.last -= 1;
     }
 
