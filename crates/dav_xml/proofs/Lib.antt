@@ -11,3 +11,6 @@ pub mod Spelled
 pub mod Nested
 pub mod Spellings
 pub mod Kept
+pub mod Legal
+pub mod LegalTrees
+pub mod Documents

@@ -15,3 +15,4 @@ pub mod KeptView
 pub mod Flat
 pub mod Written
 pub mod PlaceView
+pub mod Legal
