@@ -1,13 +1,10 @@
 -- What is written behind the declaration is read again.
 use Rattle.std.proofs.Common.{◌≡◌, ℕ, zero, suc, ◌≤◌, Bool, true, false, not, cond, ◌&&◌, ◌==◌, ltb, ◌<◌, List, [], ◌∷◌, ◌++◌, length, codes, Option, Some, None, Result, Ok, Err, refl, sym, ap, subst, ◌∙◌, append_assoc, arith}
 use Rattle.std.proofs.lemmas.Bool.{le-ltb, and_parts, or_parts, and_right}
-use Rattle.std.proofs.lemmas.Bool.Decides.{nat_tests}
 use Rattle.std.proofs.lemmas.List.{append-nil}
 use Rattle.std.proofs.lemmas.List.Folds.{list_any-append}
 use lib.Utf8.{encode}
-use Rattle.dav_xml.specs.References.{is_char}
 use Rattle.std.specs.List.{list_all, list_any, AllByRecursion}
-use Rattle.std.specs.Prelude.{nat_le}
 use Rattle.dav_core.specs.Element.{ElementTree, ElementTrees, element, text, no_trees, tree_then}
 use Rattle.dav_xml.specs.declared.error.Fault.{Fault}
 use Rattle.dav_xml.specs.declared.error.Fault.TheVariants.{Malformed, TooLarge}
@@ -22,7 +19,7 @@ use Rattle.dav_xml.specs.Front.{is_declaration, lines, are_chars, after_mark, te
 use Rattle.dav_xml.specs.Written.{declaration}
 use Rattle.dav_xml.specs.Legal.{IsLegal, IsLegalName, IsLegalAttribute, HasLegal, HaveLegal}
 use Rattle.dav_xml.proofs.Legal.{legal_chars, legal_utf8}
-use Rattle.dav_xml.proofs.LegalTrees.{legal_append, legal_nil, legal_one, legal_more, legal_tree, tree_no_return, HasNoReturn}
+use Rattle.dav_xml.proofs.LegalTrees.{legal_append, legal_one, legal_word, legal_tree, tree_no_return, HasNoReturn}
 use Rattle.dav_xml.proofs.Spelled.{attributes_again, all_again}
 use Rattle.dav_xml.proofs.Nested.{nested_again}
 
@@ -109,21 +106,6 @@ no_more : attribute_at [] ≡ Err Malformed
 unfolding attribute_at
 no_more = refl
 
-abbrev is_plain_byte : ℕ → Bool
-is_plain_byte b = nat_le 32 b && nat_le b 126
-
-small : (b : ℕ) → is_plain_byte b ≡ true → b < 128
-small b e = grind (arith, nat_tests)
-
-plain : (b : ℕ) → is_plain_byte b ≡ true → is_char b ≡ true
-plain b e = grind (arith, nat_tests)
-
-legal_word : (bs : List ℕ) → list_all is_plain_byte bs ≡ true → IsLegal bs
-legal_word [] e = legal_nil
-legal_word (b ∷ bs) e =
-    let parts = and_parts (is_plain_byte b) (list_all is_plain_byte bs) e in
-    legal_more b bs (small b parts.0) (plain b parts.0) (legal_word bs parts.1)
-
 told_is : attributes_at telling ≡ (told, [])
 told_is =
     let version : IsAttribute (codes "version", codes "1.0") = record { name = (refl, legal_utf8 (codes "version") (legal_word (codes "version") refl)); value = legal_utf8 (codes "1.0") (legal_word (codes "1.0") refl) } in
@@ -161,9 +143,9 @@ raw_again t h k le =
     let few : ltb 0x10_0000 (length bytes) ≡ false = le-ltb 0x10_0000 (length bytes) le in
     let chars : are_chars bytes ≡ true = legal_chars bytes (legal_append declaration (spellings (flat t)) legal_declaration (legal_tree t k)) in
     let front : (cond (ltb 0x10_0000 (length bytes)) (Err TooLarge) (cond (are_chars bytes) (after_declaration (after_mark (lines false bytes))) (Err Malformed))) ≡ Ok (10 ∷ spellings (flat t)) =
-        ap (λ (b : Bool). cond b (Err TooLarge) (cond (are_chars bytes) (after_declaration (after_mark (lines false bytes))) (Err Malformed))) few
-        ∙ ap (λ (b : Bool). cond b (after_declaration (after_mark (lines false bytes))) (Err Malformed)) chars
-        ∙ ap (λ (bs : List ℕ). after_declaration (after_mark bs)) (unlined bytes (document_no_return t k)) ∙ past (spellings (flat t)) in
+    ap (λ (b : Bool). cond b (Err TooLarge) (cond (are_chars bytes) (after_declaration (after_mark (lines false bytes))) (Err Malformed))) few
+    ∙ ap (λ (b : Bool). cond b (after_declaration (after_mark (lines false bytes))) (Err Malformed)) chars
+    ∙ ap (λ (bs : List ℕ). after_declaration (after_mark bs)) (unlined bytes (document_no_return t k)) ∙ past (spellings (flat t)) in
     ap (λ (r : Result (List ℕ) Fault). r >>= λ rest. tokens_of rest >>= nested) front
     ∙ ap (λ (bs : List ℕ). tokens_of bs >>= nested) (sym (fed_spells t))
     ∙ ap (λ (r : Result (List Markup) Fault). r >>= nested) (all_again (fed t) (fed_spelled 64 t h k)) ∙ fed_nested t ∙ nested_again t h

@@ -91,10 +91,10 @@ unmarked c last rest e le ge there = encode_cases (Unmarked last rest) c
     (λ lt. passed_low last c rest (not_mark c (omega arith)) there)
     (λ b lt. passed_low last (192 + c / 64) (next c ∷ rest) (not_mark (192 + c / 64) (omega arith)) (passed_low last (next c) rest (not_mark (next c) (omega arith)) there))
     (λ b lt. passed last (224 + c / 4096) (next (c / 64) ∷ next c ∷ rest) (three_here c last rest e le ge lt)
-        (passed_low last (next (c / 64)) (next c ∷ rest) (not_mark (next (c / 64)) (omega arith)) (passed_low last (next c) rest (not_mark (next c) (omega arith)) there)))
+    (passed_low last (next (c / 64)) (next c ∷ rest) (not_mark (next (c / 64)) (omega arith)) (passed_low last (next c) rest (not_mark (next c) (omega arith)) there)))
     (λ b. passed_low last (240 + c / 262144) (next (c / 4096) ∷ next (c / 64) ∷ next c ∷ rest) (not_mark_late (240 + c / 262144) (omega arith))
-        (passed_low last (next (c / 4096)) (next (c / 64) ∷ next c ∷ rest) (not_mark (next (c / 4096)) (omega arith))
-        (passed_low last (next (c / 64)) (next c ∷ rest) (not_mark (next (c / 64)) (omega arith)) (passed_low last (next c) rest (not_mark (next c) (omega arith)) there))))
+    (passed_low last (next (c / 4096)) (next (c / 64) ∷ next c ∷ rest) (not_mark (next (c / 4096)) (omega arith))
+    (passed_low last (next (c / 64)) (next c ∷ rest) (not_mark (next (c / 64)) (omega arith)) (passed_low last (next c) rest (not_mark (next c) (omega arith)) there))))
 
 all_printed : (cs : List ℕ) → list_all is_char cs ≡ true → Printed (encode_utf8_all cs)
 all_printed [] e = refl

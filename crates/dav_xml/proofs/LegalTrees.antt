@@ -1,5 +1,5 @@
 -- What is written of a tree of legal texts is legal.
-use Rattle.std.proofs.Common.{◌≡◌, ℕ, ◌+◌, ◌/◌, ◌%◌, ◌<◌, ◌≤◌, Bool, true, false, cond, ◌&&◌, ◌==◌, List, [], ◌∷◌, ◌++◌, length, codes, Option, refl, sym, ap, subst, ◌∙◌, append_assoc, arith}
+use Rattle.std.proofs.Common.{◌≡◌, ℕ, ◌+◌, ◌/◌, ◌%◌, ◌<◌, ◌≤◌, Bool, true, false, cond, ◌&&◌, ◌==◌, List, [], ◌∷◌, ◌++◌, length, codes, nat_le, Option, refl, sym, ap, subst, ◌∙◌, append_assoc, arith}
 use Rattle.std.proofs.lemmas.Bool.{eq-eqb, and_parts, and_from, or_from}
 use Rattle.std.proofs.lemmas.Bool.Decides.{nat_tests}
 use Rattle.std.proofs.lemmas.Str.{utf8_valid_len-IsUtf8, encodes-append, encode_ascii}
@@ -35,6 +35,22 @@ legal_one c lt e = record { characters = c ∷ []; legal = rw e refl; spelled = 
 -- one more byte of ASCII
 pub legal_more : (c : ℕ) (bs : List ℕ) → c < 128 → is_char c ≡ true → IsLegal bs → IsLegal (c ∷ bs)
 legal_more c bs lt e h = legal_append (c ∷ []) bs (legal_one c lt e) h
+
+abbrev is_plain_byte : ℕ → Bool
+is_plain_byte b = nat_le 32 b && nat_le b 126
+
+small : (b : ℕ) → is_plain_byte b ≡ true → b < 128
+small b e = grind (arith, nat_tests)
+
+plain : (b : ℕ) → is_plain_byte b ≡ true → is_char b ≡ true
+plain b e = grind (arith, nat_tests)
+
+-- a word of ASCII
+pub legal_word : (bs : List ℕ) → list_all is_plain_byte bs ≡ true → IsLegal bs
+legal_word [] e = legal_nil
+legal_word (b ∷ bs) e =
+    let parts = and_parts (is_plain_byte b) (list_all is_plain_byte bs) e in
+    legal_more b bs (small b parts.0) (plain b parts.0) (legal_word bs parts.1)
 
 abbrev Escaped : List ℕ → ℕ → Type 0
 Escaped bytes b = b < 128 → is_char b ≡ true → IsLegal bytes
@@ -86,10 +102,10 @@ legal_character attribute c e = encode_cases (OfCharacter attribute c) c
     (λ lt is. subst IsLegal (sym (one_escaped attribute c)) (legal_byte attribute c lt e))
     (λ le lt is. same_legal c _ _ e is (high_more attribute (192 + c / 64) (next c ∷ []) (omega arith) (high_more attribute (next c) [] (omega arith) (none_escaped attribute))))
     (λ le lt is. same_legal c _ _ e is (high_more attribute (224 + c / 4096) (next (c / 64) ∷ next c ∷ []) (omega arith)
-        (high_more attribute (next (c / 64)) (next c ∷ []) (omega arith) (high_more attribute (next c) [] (omega arith) (none_escaped attribute)))))
+    (high_more attribute (next (c / 64)) (next c ∷ []) (omega arith) (high_more attribute (next c) [] (omega arith) (none_escaped attribute)))))
     (λ le is. same_legal c _ _ e is (high_more attribute (240 + c / 262144) (next (c / 4096) ∷ next (c / 64) ∷ next c ∷ []) (omega arith)
-        (high_more attribute (next (c / 4096)) (next (c / 64) ∷ next c ∷ []) (omega arith)
-        (high_more attribute (next (c / 64)) (next c ∷ []) (omega arith) (high_more attribute (next c) [] (omega arith) (none_escaped attribute))))))
+    (high_more attribute (next (c / 4096)) (next (c / 64) ∷ next c ∷ []) (omega arith)
+    (high_more attribute (next (c / 64)) (next c ∷ []) (omega arith) (high_more attribute (next c) [] (omega arith) (none_escaped attribute))))))
     refl
 
 legal_characters : (attribute : Bool) (cs : List ℕ) → list_all is_char cs ≡ true → IsLegal (escaped attribute (encode_utf8_all cs))

@@ -14,3 +14,8 @@ pub mod Kept
 pub mod Legal
 pub mod LegalTrees
 pub mod Documents
+pub mod Declared
+pub mod KeptAgain
+pub mod PlacedAgain
+pub mod PlainNames
+pub mod RoundTrip

@@ -16,3 +16,4 @@ pub mod Flat
 pub mod Written
 pub mod PlaceView
 pub mod Legal
+pub mod Expanded
