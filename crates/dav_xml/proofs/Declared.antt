@@ -1,6 +1,6 @@
 -- Prefixes and their declarations.
-use Rattle.std.proofs.Common.{◌≡◌, ℕ, Bool, true, false, cond, ◌&&◌, ◌||◌, ◌==◌, not, List, [], ◌∷◌, ◌++◌, length, codes, bytes_eq, Option, Some, None, option_map, Result, Ok, Err, refl, sym, ap, subst, ◌∙◌, append_assoc}
-use Rattle.std.proofs.lemmas.Bool.{eq-eqb, eqb-true, and_parts, false_from_ne_true}
+use Rattle.std.proofs.Common.{◌≡◌, ℕ, Bool, true, false, cond, ◌==◌, List, [], ◌∷◌, ◌++◌, codes, bytes_eq, Option, Some, None, Result, Ok, Err, refl, sym, ap, subst, ◌∙◌}
+use Rattle.std.proofs.lemmas.Bool.{eqb-true, and_parts, false_from_ne_true}
 use Rattle.std.specs.List.{AllByRecursion}
 use Rattle.std.proofs.lemmas.Str.{chars-nil}
 use Rattle.dav_core.specs.Element.{xmlns_name}
@@ -12,9 +12,9 @@ use Rattle.dav_xml.specs.Markup.{first_or}
 use Rattle.dav_xml.specs.References.{utf8}
 use Rattle.dav_xml.specs.Names.{are_plain, is_plain, plain_name}
 use Rattle.dav_xml.specs.Scopes.{Scope, xml_uri, uri_after, uri_of, is_bound, may_declare, default_declared, prefix_declared, declared_by}
-use Rattle.dav_xml.specs.Namespaces.{name_parts, qualified, declared_uri, uri_in, declaring, has_attribute, are_distinct}
-use Rattle.dav_xml.specs.Written.{declared_prefix, declares, with_prefix, opened, other_added, others_after}
-use Rattle.dav_xml.specs.Expanded.{IsPlain, IsDeclarable}
+use Rattle.dav_xml.specs.Namespaces.{name_parts, qualified, declared_uri, uri_in, declaring}
+use Rattle.dav_xml.specs.Written.{declared_prefix}
+use Rattle.dav_xml.specs.Expanded.{IsDeclarable}
 use Rattle.dav_xml.proofs.Nested.{same_bytes}
 use Rattle.dav_xml.proofs.Escapes.{by_test}
 

@@ -1,21 +1,21 @@
 -- What is written behind the declaration is read again.
-use Rattle.std.proofs.Common.{◌≡◌, ℕ, zero, suc, ◌≤◌, Bool, true, false, not, cond, ◌&&◌, ◌==◌, ltb, ◌<◌, List, [], ◌∷◌, ◌++◌, length, codes, Option, Some, None, Result, Ok, Err, refl, sym, ap, subst, ◌∙◌, append_assoc, arith}
-use Rattle.std.proofs.lemmas.Bool.{le-ltb, and_parts, or_parts, and_right}
+use Rattle.std.proofs.Common.{◌≡◌, ℕ, zero, suc, ◌≤◌, Bool, true, false, not, cond, ◌&&◌, ◌==◌, ltb, List, [], ◌∷◌, ◌++◌, length, codes, Some, None, Result, Ok, Err, refl, sym, ap, subst, ◌∙◌, append_assoc, arith}
+use Rattle.std.proofs.lemmas.Bool.{le-ltb, or_parts, and_right}
 use Rattle.std.proofs.lemmas.List.{append-nil}
 use Rattle.std.proofs.lemmas.List.Folds.{list_any-append}
 use lib.Utf8.{encode}
-use Rattle.std.specs.List.{list_all, list_any, AllByRecursion}
+use Rattle.std.specs.List.{list_any, AllByRecursion}
 use Rattle.dav_core.specs.Element.{ElementTree, ElementTrees, element, text, no_trees, tree_then}
 use Rattle.dav_xml.specs.declared.error.Fault.{Fault}
 use Rattle.dav_xml.specs.declared.error.Fault.TheVariants.{Malformed, TooLarge}
-use Rattle.dav_xml.specs.Read.{◌>>=◌, needed}
-use Rattle.dav_xml.specs.Bytes.{is_space, split_text, after_space}
-use Rattle.dav_xml.specs.Token.{Markup, opens, empty, closes, content}
+use Rattle.dav_xml.specs.Read.{◌>>=◌}
+use Rattle.dav_xml.specs.Bytes.{after_space}
+use Rattle.dav_xml.specs.Token.{Markup, closes, content}
 use Rattle.dav_xml.specs.Markup.{many, attribute_at, attributes_at, tokens_of}
-use Rattle.dav_xml.specs.Spelling.{escaped, attribute_spelling, attributes_spelling, spellings, IsName, IsAttribute, AreAttributes, IsText, starts_text, IsSpelled, AreSpelled}
-use Rattle.dav_xml.specs.Nesting.{Open, steps, nested, root_of}
+use Rattle.dav_xml.specs.Spelling.{escaped, attributes_spelling, spellings, IsName, IsAttribute, AreAttributes, starts_text, AreSpelled}
+use Rattle.dav_xml.specs.Nesting.{steps, nested}
 use Rattle.dav_xml.specs.Flat.{flat, flats, IsRaw, AreRaw}
-use Rattle.dav_xml.specs.Front.{is_declaration, lines, are_chars, after_mark, tells, declaration_at, after_declaration, raw_document}
+use Rattle.dav_xml.specs.Front.{is_declaration, lines, are_chars, after_mark, tells, after_declaration, raw_document}
 use Rattle.dav_xml.specs.Written.{declaration}
 use Rattle.dav_xml.specs.Legal.{IsLegal, IsLegalName, IsLegalAttribute, HasLegal, HaveLegal}
 use Rattle.dav_xml.proofs.Legal.{legal_chars, legal_utf8}

@@ -1,8 +1,8 @@
 -- What is written of a tree of legal texts is legal.
-use Rattle.std.proofs.Common.{◌≡◌, ℕ, ◌+◌, ◌/◌, ◌%◌, ◌<◌, ◌≤◌, Bool, true, false, cond, ◌&&◌, ◌==◌, List, [], ◌∷◌, ◌++◌, length, codes, nat_le, Option, refl, sym, ap, subst, ◌∙◌, append_assoc, arith}
-use Rattle.std.proofs.lemmas.Bool.{eq-eqb, and_parts, and_from, or_from}
+use Rattle.std.proofs.Common.{◌≡◌, ℕ, ◌+◌, ◌/◌, ◌<◌, ◌≤◌, Bool, true, false, ◌&&◌, ◌==◌, List, [], ◌∷◌, ◌++◌, codes, nat_le, Option, refl, sym, ap, subst, ◌∙◌, arith}
+use Rattle.std.proofs.lemmas.Bool.{and_parts, and_from, or_from}
 use Rattle.std.proofs.lemmas.Bool.Decides.{nat_tests}
-use Rattle.std.proofs.lemmas.Str.{utf8_valid_len-IsUtf8, encodes-append, encode_ascii}
+use Rattle.std.proofs.lemmas.Str.{encodes-append, encode_ascii}
 use Rattle.std.proofs.lemmas.List.{append-nil}
 use Rattle.std.proofs.lemmas.List.Folds.{list_all-append, list_any-append}
 use Rattle.std.specs.List.{list_all, list_any, AllByRecursion}
@@ -11,13 +11,13 @@ use lib.Utf8.{encode, next}
 use Rattle.dav_core.specs.Element.{ElementTree, ElementTrees, element, text, no_trees, tree_then}
 use Rattle.dav_xml.specs.Bytes.{is_name_start, is_name_byte}
 use Rattle.dav_xml.specs.References.{is_char}
-use Rattle.dav_xml.specs.Token.{Markup, opens, empty, closes, content}
+use Rattle.dav_xml.specs.Token.{opens, empty, closes}
 use Rattle.dav_xml.specs.Spelling.{escaped_byte, escaped, attribute_spelling, attributes_spelling, spelling, spellings}
 use Rattle.dav_xml.specs.Flat.{flat, flats}
 use Rattle.dav_xml.specs.Legal.{IsLegal, IsLegalName, IsLegalAttribute, HasLegal, HaveLegal}
-use Rattle.dav_xml.proofs.Escapes.{Plain, escape_cases, escaped_append, lacks_13}
+use Rattle.dav_xml.proofs.Escapes.{escape_cases, escaped_append, lacks_13}
 use Rattle.dav_xml.proofs.Legal.{encode_cases}
-use Rattle.dav_xml.proofs.Spellings.{spellings_append, one_spelled, element_spelled, children_spelled, text_spelled}
+use Rattle.dav_xml.proofs.Spellings.{one_spelled, element_spelled, children_spelled, text_spelled}
 
 pub legal_append : (xs ys : List ℕ) → IsLegal xs → IsLegal ys → IsLegal (xs ++ ys)
 legal_append xs ys h k = record {

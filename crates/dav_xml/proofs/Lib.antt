@@ -18,4 +18,5 @@ pub mod Declared
 pub mod KeptAgain
 pub mod PlacedAgain
 pub mod PlainNames
+pub mod DroppedAgain
 pub mod RoundTrip

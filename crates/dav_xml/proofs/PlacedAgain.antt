@@ -1,22 +1,19 @@
 -- An element that is written has the namespace and the attributes that are read again.
-use Rattle.std.proofs.Common.{◌≡◌, ℕ, Bool, true, false, cond, not, ◌&&◌, ◌||◌, ◌==◌, ◌⊎◌, inl, inr, List, [], ◌∷◌, ◌++◌, length, codes, bytes_eq, Option, Some, None, Result, Ok, Err, refl, sym, ap, subst, ◌∙◌, append_assoc}
+use Rattle.std.proofs.Common.{◌≡◌, ℕ, Bool, true, false, cond, not, ◌||◌, ◌⊎◌, inl, inr, List, [], ◌∷◌, ◌++◌, bytes_eq, Option, Some, None, Result, Ok, refl, sym, ap, subst, ◌∙◌, append_assoc}
 use Rattle.std.proofs.lemmas.List.{append-nil}
-use Rattle.std.proofs.lemmas.Bool.{or_parts, and_parts, and_right, and_from}
+use Rattle.std.proofs.lemmas.Bool.{or_parts, and_parts, and_from}
 use Rattle.std.specs.List.{AllByRecursion}
 use Rattle.dav_core.specs.Element.{xmlns_name}
 use Rattle.dav_xml.specs.declared.error.Fault.{Fault}
-use Rattle.dav_xml.specs.declared.error.Fault.TheVariants.{Malformed}
 use Rattle.dav_xml.specs.Read.{◌>>=◌}
-use Rattle.dav_xml.specs.References.{utf8}
 use Rattle.dav_xml.specs.Legal.{IsLegalAttribute}
-use Rattle.dav_xml.specs.Scopes.{Scope, xml_uri, uri_of, is_bound, may_declare, declared_by}
-use Rattle.dav_xml.specs.Names.{is_plain}
-use Rattle.dav_xml.specs.Namespaces.{default_of, uri_in, namespace_of, declaring, has_attribute, are_distinct, with_declared, within_step, within, Expanded, kept_after}
-use Rattle.dav_xml.specs.Written.{declared_prefix, declares, with_prefix, opened, or_empty, wanted, other_added, others_after, has_uri, is_in_scope, placed, place_of}
-use Rattle.dav_xml.specs.Expanded.{IsDeclarable, IsExpandedName, AreKept}
+use Rattle.dav_xml.specs.Scopes.{Scope, uri_of, declared_by}
+use Rattle.dav_xml.specs.Namespaces.{uri_in, namespace_of, declaring, has_attribute, are_distinct, with_declared, within, Expanded, kept_after}
+use Rattle.dav_xml.specs.Written.{declared_prefix, declares, with_prefix, opened, or_empty, others_after, has_uri, is_in_scope, placed}
+use Rattle.dav_xml.specs.Expanded.{AreKept}
 use Rattle.dav_xml.proofs.Escapes.{by_test}
 use Rattle.dav_xml.proofs.Nested.{same_bytes}
-use Rattle.dav_xml.proofs.Declared.{ok_or_else, bytes_same, bytes_differ, bytes_other, bytes_turned, uri_here, uri_there, prefix_declares, uri_in_by, uri_in_from}
+use Rattle.dav_xml.proofs.Declared.{bytes_same, bytes_differ, bytes_other, bytes_turned, uri_here, uri_there, prefix_declares, uri_in_by}
 use Rattle.dav_xml.proofs.KeptAgain.{IsGood, plainly, declares_one, Settles, has_attribute_append, declared_step, GoesOn, goes_on}
 
 declaring_declares : (q : List ℕ) → declared_prefix (declaring q) ≡ Some q
@@ -72,6 +69,9 @@ settled s own (a ∷ bs) q scope h either = one (λ next before. settled s own b
             (λ same j. let both : Some r ≡ Some q = sym (prefix_declares r) ∙ ap (λ (b : List ℕ × List ℕ). declared_prefix b.0) (sym is) ∙ ap declared_prefix (bytes_same a.0 (declaring q) same) in absurd (bytes_other r q e (some_same r q both)))
             (λ no j. j) k)
 
+pub found_there : (prefix uri : List ℕ) (scope : Scope) → has_uri (uri_of prefix (scope ++ (prefix, uri) ∷ [])) uri ≡ true
+found_there prefix uri scope = ap (λ (u : Option (List ℕ)). has_uri u uri) (uri_here prefix uri scope) ∙ same_bytes uri
+
 -- ---- attributes
 
 pub not_declared : (s : Scope) (own : Option (List ℕ)) (bs : List (List ℕ × List ℕ)) (name : List ℕ) → AllByRecursion (IsGood s own) bs → declared_prefix name ≡ Some (or_empty own) → has_attribute name bs ≡ false
@@ -107,7 +107,7 @@ distinct_more (a ∷ bs) d h e =
     or_false true = refl
     or_false false = refl
 
-all_more : (P : List ℕ × List ℕ → Type 0) (bs : List (List ℕ × List ℕ)) (d : List ℕ × List ℕ) → AllByRecursion P bs → P d → AllByRecursion P (bs ++ d ∷ [])
+pub all_more : (P : List ℕ × List ℕ → Type 0) (bs : List (List ℕ × List ℕ)) (d : List ℕ × List ℕ) → AllByRecursion P bs → P d → AllByRecursion P (bs ++ d ∷ [])
 all_more P [] d h one = (one, tt)
 all_more P (b ∷ bs) d h one = (h.0, all_more P bs d h.1 one)
 

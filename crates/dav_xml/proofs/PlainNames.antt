@@ -1,5 +1,5 @@
 -- Names without a colon, as bytes.
-use Rattle.std.proofs.Common.{◌≡◌, ℕ, zero, suc, ◌+◌, ◌/◌, ◌%◌, ◌<◌, ◌≤◌, Bool, true, false, cond, not, ◌&&◌, ◌||◌, ◌==◌, List, [], ◌∷◌, ◌++◌, length, take, codes, Option, Some, None, Result, Ok, Err, refl, sym, ap, subst, ◌∙◌, append_assoc, arith, take_at, chars}
+use Rattle.std.proofs.Common.{◌≡◌, ℕ, zero, suc, ◌+◌, ◌/◌, ◌<◌, ◌≤◌, Bool, true, false, cond, not, ◌||◌, ◌==◌, List, [], ◌∷◌, ◌++◌, length, take, codes, Option, Some, None, Result, Ok, Err, refl, sym, ap, subst, ◌∙◌, arith, take_at, chars}
 use Rattle.std.proofs.lemmas.Bool.{eqb-true, and_parts, and_from}
 use Rattle.std.proofs.lemmas.Bool.Decides.{nat_tests}
 use Rattle.std.proofs.lemmas.List.{append-nil}
@@ -13,7 +13,7 @@ use Rattle.dav_xml.specs.declared.error.Fault.{Fault}
 use Rattle.dav_xml.specs.declared.error.Fault.TheVariants.{Malformed}
 use Rattle.dav_xml.specs.Read.{◌>>=◌}
 use Rattle.dav_xml.specs.Bytes.{is_name_start, is_name_byte, behind, split_byte}
-use Rattle.dav_xml.specs.References.{is_char, utf8}
+use Rattle.dav_xml.specs.References.{is_char}
 use Rattle.dav_xml.specs.Names.{is_within, is_later, may_begin, may_continue, are_plain, is_plain, plain_name}
 use Rattle.dav_xml.specs.Spelling.{is_name}
 use Rattle.dav_xml.specs.Legal.{IsLegal, IsLegalName}

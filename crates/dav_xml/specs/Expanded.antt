@@ -1,12 +1,12 @@
 -- Trees with expanded names, as reading gives them (Namespaces in XML 1.0).
-use Rattle.std.specs.Prelude.{◌≡◌, ℕ, zero, suc, ◌≤◌, Bool, true, false, List, [], ◌∷◌, length, Option, Some, None, Ok}
+use Rattle.std.specs.Prelude.{◌≡◌, ℕ, zero, suc, ◌≤◌, Bool, true, false, List, [], ◌∷◌, length, ◌⊎◌, Option, Some, None, Ok}
 use Rattle.std.specs.List.{AllByRecursion}
 use Rattle.dav_core.specs.Element.{ElementTree, ElementTrees, element, text, no_trees, tree_then, xmlns_name}
 use Rattle.dav_xml.specs.Names.{plain_name}
 use Rattle.dav_xml.specs.Legal.{IsLegal, IsLegalAttribute}
 use Rattle.dav_xml.specs.Scopes.{Scope, declared_by}
-use Rattle.dav_xml.specs.Namespaces.{Expanded, namespace_of, are_distinct, kept_after}
-use Rattle.dav_xml.specs.Written.{opened}
+use Rattle.dav_xml.specs.Namespaces.{Expanded, namespace_of, has_attribute, are_distinct, kept_after}
+use Rattle.dav_xml.specs.Written.{opened, or_empty, wanted, is_in_scope, place_of}
 
 -- a name without a colon ([4] NCName)
 abbrev pub IsPlain : List ℕ → Type 0
@@ -62,3 +62,52 @@ abbrev mutual
   pub AreFew : Scope → ElementTrees → Type 0
   AreFew scope no_trees = Unit {0}
   AreFew scope (tree_then t ts) = IsFew scope t × AreFew scope ts
+
+-- ---- trees that are sent
+
+-- an attribute that declares a prefix
+pub record IsDeclaration (a : List ℕ × List ℕ) : Type 0 where
+  pub prefix : List ℕ
+  pub named : a.0 ≡ xmlns_name prefix
+  pub declared : declared_by a ≡ Ok (Some (prefix, a.1))
+  pub legal : IsLegalAttribute a
+
+-- The attributes declare prefixes alone, each once, and the element's own only with the namespace that it has.
+pub record AreDeclarations (scope : Scope) (prefix namespace : Option (List ℕ)) (attributes : List (List ℕ × List ℕ)) : Type 0 where
+  pub all : AllByRecursion IsDeclaration attributes
+  pub distinct : are_distinct attributes ≡ true
+  pub own : (has_attribute (xmlns_name (or_empty prefix)) attributes ≡ false) ⊎ (is_in_scope (opened scope attributes) (or_empty prefix) (or_empty namespace) ≡ true)
+
+-- Attributes that are sent, and those that are read of them: all of them, or none of declarations alone.
+pub data ReadAs (scope : Scope) (prefix namespace : Option (List ℕ)) (attributes meant : List (List ℕ × List ℕ)) : Type 0 where
+  all_kept : AreKept prefix namespace attributes → meant ≡ attributes → ReadAs scope prefix namespace attributes meant
+  none_kept : AreDeclarations scope prefix namespace attributes → meant ≡ [] → ReadAs scope prefix namespace attributes meant
+
+-- An element that is sent within a scope, by its name, prefix, namespace and attributes, and the namespace and the attributes that are read of it.
+pub record ElementMeans (scope : Scope) (name : List ℕ) (prefix namespace : Option (List ℕ)) (attributes : List (List ℕ × List ℕ)) (found : Option (List ℕ)) (meant : List (List ℕ × List ℕ)) : Type 0 where
+  pub plain : IsPlain name
+  pub expanded : IsExpandedName prefix found
+  pub wants : wanted (opened scope attributes) (or_empty prefix) namespace ≡ or_empty found
+  pub read_as : ReadAs scope prefix found attributes meant
+
+abbrev mutual
+  -- A tree of at most n levels that is sent within a scope, and the tree that is read of it: of the same names, prefixes and texts, with the
+  -- namespaces that the prefixes have.
+  pub Means : ℕ → Scope → ElementTree → ElementTree → Type 0
+  Means zero scope (element name prefix namespace attributes children) u = ⊥
+  Means (suc n) scope (element name prefix namespace attributes children) (element name1 prefix1 found meant children1) =
+      (name1 ≡ name) × ((prefix1 ≡ prefix) × (ElementMeans scope name prefix namespace attributes found meant
+      × AllMean n false (place_of scope (or_empty prefix) namespace attributes).1 children children1))
+  Means (suc n) scope (element name prefix namespace attributes children) (text bytes) = ⊥
+  Means n scope (text bytes) u = ⊥
+
+  -- Children, where a text may have come last. No text is empty, and none follows another.
+  pub AllMean : ℕ → Bool → Scope → ElementTrees → ElementTrees → Type 0
+  AllMean n texted scope no_trees no_trees = Unit {0}
+  AllMean n texted scope no_trees (tree_then u us) = ⊥
+  AllMean n texted scope (tree_then t ts) no_trees = ⊥
+  AllMean n texted scope (tree_then (element name prefix namespace attributes children) ts) (tree_then u us) =
+      Means n scope (element name prefix namespace attributes children) u × AllMean n false scope ts us
+  AllMean n true scope (tree_then (text bytes) ts) (tree_then u us) = ⊥
+  AllMean n false scope (tree_then (text []) ts) (tree_then u us) = ⊥
+  AllMean n false scope (tree_then (text (b ∷ bs)) ts) (tree_then u us) = IsLegal (b ∷ bs) × ((u ≡ text (b ∷ bs)) × AllMean n true scope ts us)

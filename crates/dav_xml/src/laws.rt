@@ -1,5 +1,5 @@
 //! Laws of the definitions.
-ghost use Rattle.std.specs.Prelude.{◌≡◌, ◌++◌, ◌≤◌, [], length, List, Ok};
+ghost use Rattle.std.specs.Prelude.{◌≡◌, ◌++◌, ◌≤◌, [], ℕ, length, List, Ok};
 ghost use Rattle.dav_xml.specs.Token.{Markup};
 ghost use Rattle.dav_xml.specs.Markup.{tokens_of};
 ghost use Rattle.dav_xml.specs.Spelling.{AreSpelled, spellings};
@@ -9,7 +9,8 @@ ghost use Rattle.dav_xml.specs.Flat.{flat, nested_tokens, IsRaw};
 ghost use Rattle.dav_xml.specs.Front.{raw_document};
 ghost use Rattle.dav_xml.specs.Written.{declaration, document_of, written};
 ghost use Rattle.dav_xml.specs.Namespaces.{document};
-ghost use Rattle.dav_xml.specs.Expanded.{IsExpanded, IsFew};
+ghost use Rattle.dav_xml.specs.Scopes.{Scope};
+ghost use Rattle.dav_xml.specs.Expanded.{IsExpanded, IsFew, Means};
 ghost use Rattle.dav_xml.specs.Legal.{HasLegal};
 
 /// Pieces of markup that are written are read again.
@@ -36,9 +37,14 @@ pub fn written_is_read_raw()
         → raw_document (declaration ++ spellings (flat t)) ≡ Ok t }
 {}
 
-/// What is written of a tree with expanded names is read again as that tree, where each element has at most 256 attributes and
-/// is within at most 256 declarations, and the whole has at most 1 MiB.
+/// What is written of a tree of at most 64 levels is read again as the tree that it means, where each element has at most 256
+/// attributes and is within at most 256 declarations, and the whole has at most 1 MiB.
 pub fn written_is_read()
-    ensures { (t : ElementTree) → IsExpanded 64 t → IsFew [] (written [] t)
-        → length (document_of t) ≤ 0x10_0000 → document (document_of t) ≡ Ok t }
+    ensures { (t u : ElementTree) → Means 64 [] t u → IsFew [] (written [] t)
+        → length (document_of t) ≤ 0x10_0000 → document (document_of t) ≡ Ok u }
+{}
+
+/// A tree with expanded names means itself, wherever it is sent: so what is written of it is read again as the same tree.
+pub fn expanded_means_itself()
+    ensures { (n : ℕ) (scope : Scope) (t : ElementTree) → IsExpanded n t → Means n scope t t }
 {}
