@@ -1,5 +1,5 @@
 -- What is escaped is resolved again, and has no marks of markup.
-use Rattle.std.proofs.Common.{◌≡◌, ℕ, Bool, true, false, cond, ◌&&◌, ◌||◌, ◌==◌, List, [], ◌∷◌, ◌++◌, codes, Some, None, Result, Ok, refl, sym, ap, subst, ◌∙◌, encode_utf8}
+use Rattle.std.proofs.Common.{◌≡◌, ℕ, Bool, true, false, cond, ◌&&◌, ◌||◌, ◌==◌, List, [], ◌∷◌, ◌++◌, codes, Some, None, Result, Ok, refl, sym, ap, subst, ◌∙◌, append_assoc, encode_utf8}
 use Rattle.std.proofs.lemmas.Bool.{eqb-true, and_parts}
 use Rattle.std.proofs.lemmas.List.Folds.{list_any-append}
 use Rattle.std.specs.List.{list_any}
@@ -82,6 +82,11 @@ unfolding resolved_in escaped
 resolves attribute [] = refl
 resolves attribute (b ∷ bs) = byte_resolves attribute b (escaped attribute bs) bs (resolves attribute bs)
 
+pub escaped_append : (attribute : Bool) (xs ys : List ℕ) → escaped attribute (xs ++ ys) ≡ escaped attribute xs ++ escaped attribute ys
+unfolding escaped
+escaped_append attribute [] ys = refl
+escaped_append attribute (x ∷ xs) ys = ap (λ (bs : List ℕ). escaped_byte attribute x ++ bs) (escaped_append attribute xs ys) ∙ sym (append_assoc (escaped_byte attribute x) (escaped attribute xs) (escaped attribute ys))
+
 -- ---- bytes that are missing
 
 pub record Lacks (q : ℕ) (bytes : List ℕ) : Type 0 where
@@ -112,6 +117,12 @@ lacks_60 attribute bs = all_lack attribute 60 (byte_lacks_60 attribute) bs
 
 pub lacks_62 : (attribute : Bool) (bs : List ℕ) → list_any (λ x. x == 62) (escaped attribute bs) ≡ false
 lacks_62 attribute bs = all_lack attribute 62 (byte_lacks_62 attribute) bs
+
+byte_lacks_13 : (attribute : Bool) (b : ℕ) → lacking 13 (escaped_byte attribute b) b
+byte_lacks_13 attribute = escape_cases attribute (lacking 13) refl refl refl refl refl refl refl (λ b p. plain_lacks 13 b p.n13)
+
+pub lacks_13 : (attribute : Bool) (bs : List ℕ) → list_any (λ x. x == 13) (escaped attribute bs) ≡ false
+lacks_13 attribute bs = all_lack attribute 13 (byte_lacks_13 attribute) bs
 
 pub lacks_34 : (attribute : Bool) (bs : List ℕ) → list_any (λ x. x == 34) (escaped attribute bs) ≡ false
 lacks_34 attribute bs = all_lack attribute 34 (byte_lacks_34 attribute) bs

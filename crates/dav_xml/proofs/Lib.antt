@@ -11,3 +11,12 @@ pub mod Spelled
 pub mod Nested
 pub mod Spellings
 pub mod Kept
+pub mod Legal
+pub mod LegalTrees
+pub mod Documents
+pub mod Declared
+pub mod KeptAgain
+pub mod PlacedAgain
+pub mod PlainNames
+pub mod DroppedAgain
+pub mod RoundTrip

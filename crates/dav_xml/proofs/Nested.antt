@@ -38,7 +38,7 @@ with_text_new : (b : List ℕ) (cs : List ElementTree) → ends_text cs ≡ fals
 with_text_new b [] e = refl
 with_text_new b (c ∷ cs) e = after_new b c cs e
 
-same_bytes : (bs : List ℕ) → bytes_eq bs bs ≡ true
+pub same_bytes : (bs : List ℕ) → bytes_eq bs bs ≡ true
 same_bytes [] = refl
 same_bytes (b ∷ bs) = rw (eq-eqb b b refl) (same_bytes bs)
 

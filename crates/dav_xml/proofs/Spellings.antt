@@ -16,7 +16,7 @@ unfolding spellings
 spellings_append [] us = refl
 spellings_append (t ∷ ts) us = ap (λ (bs : List ℕ). spelling t ++ bs) (spellings_append ts us) ∙ sym (append_assoc (spelling t) (spellings ts) (spellings us))
 
-one_spelled : (t : Markup) → spellings (t ∷ []) ≡ spelling t
+pub one_spelled : (t : Markup) → spellings (t ∷ []) ≡ spelling t
 unfolding spellings
 one_spelled t = append-nil (spelling t)
 

@@ -15,3 +15,5 @@ pub mod KeptView
 pub mod Flat
 pub mod Written
 pub mod PlaceView
+pub mod Legal
+pub mod Expanded

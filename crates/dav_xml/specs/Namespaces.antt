@@ -1,10 +1,9 @@
 -- From names as they are written to names with their namespaces (Namespaces in XML 1.0).
 use Rattle.std.specs.Prelude.{ℕ, Bool, true, false, not, ◌&&◌, ◌||◌, nat_lt, if◌then◌else◌, List, [], ◌∷◌, ◌++◌, length, bytes_eq, codes, Option, Some, None, Result, Ok, Err}
-use Rattle.std.specs.List.{list_all}
 use Rattle.dav_xml.specs.declared.error.Fault.{Fault}
 use Rattle.dav_xml.specs.declared.error.Fault.TheVariants.{Malformed, TooLarge}
 use Rattle.dav_xml.specs.Read.{◌>>=◌}
-use Rattle.dav_xml.specs.Bytes.{is_space, split_byte}
+use Rattle.dav_xml.specs.Bytes.{split_byte}
 use Rattle.dav_xml.specs.Names.{plain_name}
 use Rattle.dav_xml.specs.Scopes.{Scope, uri_of, xml_uri, declared_by}
 use Rattle.dav_xml.specs.Front.{raw_document}
@@ -131,11 +130,6 @@ expanded scope name attributes children = do
   kept ← kept_after scope parts.0 ([], []) attributes
   Ok (element parts.1 parts.0 namespace kept.0 (trees children))
 
--- a text of white space alone
-abbrev pub is_blank : ElementTree → Bool
-is_blank (element name prefix namespace attributes children) = false
-is_blank (text bytes) = list_all is_space bytes
-
 abbrev mutual
   -- The tree with expanded names, in a scope.
   pub expanded_tree : Scope → ElementTree → Result ElementTree Fault
@@ -143,11 +137,10 @@ abbrev mutual
       inside scope attributes >>= λ inner. expanded_after inner [] children >>= λ others. expanded inner name attributes others
   expanded_tree scope (text bytes) = Ok (text bytes)
 
-  -- Children behind those that were expanded before. Texts of white space alone are left out.
+  -- children behind those that were expanded before
   pub expanded_after : Scope → List ElementTree → ElementTrees → Result (List ElementTree) Fault
   expanded_after scope made no_trees = Ok made
-  expanded_after scope made (tree_then t ts) =
-      if is_blank t then expanded_after scope made ts else (expanded_tree scope t >>= λ u. expanded_after scope (made ++ u ∷ []) ts)
+  expanded_after scope made (tree_then t ts) = expanded_tree scope t >>= λ u. expanded_after scope (made ++ u ∷ []) ts
 
 -- The tree of a document (XML 1.0, and Namespaces in XML 1.0).
 unfoldable pub document : List ℕ → Result ElementTree Fault

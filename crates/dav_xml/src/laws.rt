@@ -1,11 +1,17 @@
 //! Laws of the definitions.
-ghost use Rattle.std.specs.Prelude.{◌≡◌, List, Ok};
+ghost use Rattle.std.specs.Prelude.{◌≡◌, ◌++◌, ◌≤◌, [], ℕ, length, List, Ok};
 ghost use Rattle.dav_xml.specs.Token.{Markup};
 ghost use Rattle.dav_xml.specs.Markup.{tokens_of};
 ghost use Rattle.dav_xml.specs.Spelling.{AreSpelled, spellings};
 ghost use Rattle.dav_core.specs.Element.{ElementTree};
 ghost use Rattle.dav_xml.specs.Nesting.{nested};
 ghost use Rattle.dav_xml.specs.Flat.{flat, nested_tokens, IsRaw};
+ghost use Rattle.dav_xml.specs.Front.{raw_document};
+ghost use Rattle.dav_xml.specs.Written.{declaration, document_of, written};
+ghost use Rattle.dav_xml.specs.Namespaces.{document};
+ghost use Rattle.dav_xml.specs.Scopes.{Scope};
+ghost use Rattle.dav_xml.specs.Expanded.{IsExpanded, IsFew, Means};
+ghost use Rattle.dav_xml.specs.Legal.{HasLegal};
 
 /// Pieces of markup that are written are read again.
 pub fn spelled_is_read()
@@ -21,4 +27,24 @@ pub fn flat_is_nested()
 pub fn raw_is_read()
     ensures { (t : ElementTree) → IsRaw 64 t → AreSpelled (flat t)
         → nested_tokens (spellings (flat t)) ≡ Ok t }
+{}
+
+/// What is written of a tree of names as they stand, of legal characters, at most 64 levels and at most 1 MiB in all, is read
+/// again through all that comes before the namespaces.
+pub fn written_is_read_raw()
+    ensures { (t : ElementTree) → IsRaw 64 t → HasLegal t
+        → length (declaration ++ spellings (flat t)) ≤ 0x10_0000
+        → raw_document (declaration ++ spellings (flat t)) ≡ Ok t }
+{}
+
+/// What is written of a tree of at most 64 levels is read again as the tree that it means, where each element has at most 256
+/// attributes and is within at most 256 declarations, and the whole has at most 1 MiB.
+pub fn written_is_read()
+    ensures { (t u : ElementTree) → Means 64 [] t u → IsFew [] (written [] t)
+        → length (document_of t) ≤ 0x10_0000 → document (document_of t) ≡ Ok u }
+{}
+
+/// A tree with expanded names means itself, wherever it is sent: so what is written of it is read again as the same tree.
+pub fn expanded_means_itself()
+    ensures { (n : ℕ) (scope : Scope) (t : ElementTree) → IsExpanded n t → Means n scope t t }
 {}

@@ -1,6 +1,6 @@
 //! XML texts to element trees, and back (XML 1.0; Namespaces in XML 1.0).
 //!
-//! A text is UTF-8, without a document type. Texts of blanks alone are dropped.
+//! A text is UTF-8, without a document type. Blanks between elements are texts of the tree too.
 #![tactic(auto)]
 
 mod bytes;

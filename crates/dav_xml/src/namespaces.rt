@@ -1,15 +1,13 @@
 //! From names as they are written to names with their namespaces.
 ghost use Rattle.std.specs.Prelude.{◌≡◌, ◌++◌, ◌∷◌, [], None, map, option_map, string_bytes, Ok};
-ghost use Rattle.std.specs.List.{list_all};
 ghost use Rattle.dav_core.specs.Element.{trees};
 ghost use Rattle.dav_core.specs.ElementView.{attribute_bytes, node_tree};
-ghost use Rattle.dav_xml.specs.Bytes.{is_space as is_white};
 ghost use Rattle.dav_xml.specs.Read.{Gives};
 ghost use Rattle.dav_xml.specs.Scopes.{pair_bytes};
 ghost use Rattle.dav_xml.specs.KeptView.{kept_view};
 ghost use Rattle.dav_xml.specs.Namespaces as spec;
 
-use crate::bytes::{is_space, split_byte};
+use crate::bytes::split_byte;
 use crate::error::{Fault, XmlError};
 use crate::front::read_raw;
 use crate::names::plain_name;
@@ -335,25 +333,6 @@ fn expanded(
     })
 }
 
-fn is_white_text(text: &str) -> bool
-    ensures { result ≡ list_all is_white text.now }
-{
-    text.as_bytes().iter().all(|b| is_space(*b))
-}
-
-fn is_blank(node: &XmlNode) -> bool
-    ensures { result ≡ spec.is_blank (node_tree node.now) }
-{
-    match node {
-        XmlNode::Element(element) => {
-            // Reading a field lets the checker know that the tree is an element.
-            let _ = &element.name;
-            false
-        }
-        XmlNode::Text(text) => is_white_text(text),
-    }
-}
-
 // The tree with expanded names, in a scope.
 #[cycle(expands)]
 fn expanded_tree<'s>(
@@ -379,9 +358,7 @@ fn expanded_children<'s>(
 {
     let mut made = Vec::new(alloc);
     for child in children {
-        if !is_blank(child) {
-            made.push(expanded_node(alloc, scope, child)?)?;
-        }
+        made.push(expanded_node(alloc, scope, child)?)?;
     }
     Ok(made)
 }
@@ -411,8 +388,8 @@ fn expanded_root(alloc: Global, tree: &Element) -> Result<Element, XmlError>
 /// The element tree of a document (XML 1.0; Namespaces in XML 1.0).
 ///
 /// It has UTF-8, no document type, and at most 1 MiB, 64 levels of elements, 256 attributes of an element and 256 prefixes that
-/// are declared at one place. Texts of white space alone are left out, and of the declarations those stay that the prefix of an
-/// attribute needs, unless it is that of its element.
+/// are declared at one place. Texts stay as they are, also those of white space alone, and of the declarations those stay that the
+/// prefix of an attribute needs, unless it is that of its element.
 ///
 /// `Malformed` where it isn't well-formed, isn't in UTF-8, or has a document type or a prefix that isn't declared; `TooDeep` and
 /// `TooLarge` past the limits; `Memory` where memory runs out.

@@ -86,11 +86,11 @@ const AGAIN: &str = "\
 # elements
 <a/> -> <a/>
 <a></a> -> <a/>
-<a> </a > -> <a/>
+<a> </a > -> <a> </a>
 <a b='1' c=\"2\"/> -> <a b=\"1\" c=\"2\"/>
 <a>x<!-- -->y<b/>z</a> -> <a>xy<b/>z</a>
 <a><![CDATA[<&>]]></a> -> <a>&lt;&amp;&gt;</a>
-<a>↵<b/>↵</a> -> <a><b/></a>
+<a>↵<b/>↵</a> -> <a>↵<b/>↵</a>
 <a>é&#233;</a> -> <a>éé</a>
 # namespaces
 <p:a xmlns:p='u'/> -> <p:a xmlns:p=\"u\"/>

@@ -1,0 +1,32 @@
+-- Texts that a document may have (XML 1.0, section 2.2), and trees of them.
+use Rattle.std.specs.Prelude.{◌≡◌, ℕ, true, List}
+use Rattle.std.specs.List.{list_all, AllByRecursion}
+use Rattle.std.specs.Str.{encode_utf8_all}
+use Rattle.dav_core.specs.Element.{ElementTree, ElementTrees, element, text, no_trees, tree_then}
+use Rattle.dav_xml.specs.References.{is_char}
+use Rattle.dav_xml.specs.Spelling.{is_name}
+
+-- [2] Char: the bytes are the UTF-8 of such characters
+pub record IsLegal (bytes : List ℕ) : Type 0 where
+  pub characters : List ℕ
+  pub legal : list_all is_char characters ≡ true
+  pub spelled : encode_utf8_all characters ≡ bytes
+
+-- [5] Name, of legal characters
+pub record IsLegalName (bytes : List ℕ) : Type 0 where
+  pub name : is_name bytes ≡ true
+  pub legal : IsLegal bytes
+
+pub record IsLegalAttribute (a : List ℕ × List ℕ) : Type 0 where
+  pub name : IsLegalName a.0
+  pub value : IsLegal a.1
+
+abbrev mutual
+  -- A tree of such names, values and texts.
+  pub HasLegal : ElementTree → Type 0
+  HasLegal (element name prefix namespace attributes children) = IsLegalName name × (AllByRecursion IsLegalAttribute attributes × HaveLegal children)
+  HasLegal (text bytes) = IsLegal bytes
+
+  pub HaveLegal : ElementTrees → Type 0
+  HaveLegal no_trees = Unit {0}
+  HaveLegal (tree_then t ts) = HasLegal t × HaveLegal ts
