@@ -119,7 +119,7 @@ module _ {Z D : Type 0} where
     by None = refl
     by (Some x) = refl
 
-  parent_bare : (t : Tree (Vec ℕ Z) D) (n : ℕ) → parent_of (bare t) n ≡ parent_of t n
+  pub parent_bare : (t : Tree (Vec ℕ Z) D) (n : ℕ) → parent_of (bare t) n ≡ parent_of t n
   parent_bare t n = ap (λ o. option_map_or (λ x. x.parent) o 0) (node_bare t n) ∙ by (node t n) where
     by : (o : Option (Node (Vec ℕ Z) D)) → option_map_or (λ x. x.parent) (option_map bare_node o) 0 ≡ option_map_or (λ x. x.parent) o 0
     by None = refl

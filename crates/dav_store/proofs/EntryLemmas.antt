@@ -8,7 +8,9 @@ use Rattle.dav_core.specs.Path.{Path, path_cmp, parent_of, is_nonempty, name_cmp
 use Rattle.dav_core.specs.World.{Node as Seen, Nodes, is_folder_node, is_folder_kind, adjust, members}
 use Rattle.std.specs.HashMap.{HashMap, get}
 use Rattle.std.specs.Prelude.{nat_eq}
-use Rattle.dav_store.specs.Entries.{IsKept}
+use Rattle.dav_store.specs.Entries.{IsKept, Held}
+use Rattle.std.specs.Prelude.{Result, Ok, Err}
+use Rattle.std.specs.Result.{OnOk, OnErr}
 use Rattle.dav_store.specs.Placed.{IsMadeMap}
 use Rattle.dav_store.proofs.PlacedCalls.{grown_valued, placed_valued, placed_unchanged}
 use Rattle.dav_store.proofs.MadeMaps.{made_valued}
@@ -17,12 +19,36 @@ use Rattle.dav_store.proofs.TreeLooks.{others_valued, value_valued}
 use Rattle.dav_core.proofs.Theorems.{parent-append, name-itself as name-itself_cmp, members_stand_below}
 use Rattle.std.specs.Map.{lookup}
 use Rattle.std.specs.Option.{option_map_or}
-use Rattle.dav_store.specs.Tree.{Tree, value_of, with_value, has_children, has_some, children_of, node, Node}
+use Rattle.dav_store.specs.Tree.{Tree, value_of, with_node, with_value, has_children, has_some, children_of, node, Node}
 use Rattle.dav_store.specs.Placed.{named, placed, found, stands, bare, bare_children, is_same_name, IsGrown}
 use Rattle.dav_store.proofs.Walks.{walk-push}
 use Rattle.dav_store.proofs.Placing.{find-placed, named_from, name-itself}
 use Rattle.dav_store.proofs.TreePaths.{then_same, none-below, found-push, some_is}
 use Rattle.dav_store.proofs.BareTrees.{value_bare, valued_bare, children_bare}
+
+-- the parts of what is held
+pub nodes_of : {a b : Held} → a ≡ b → a.nodes ≡ b.nodes
+nodes_of e = ap (λ (h : Held). h.nodes) e
+
+pub last_of : {a b : Held} → a ≡ b → a.last ≡ b.last
+last_of e = ap (λ (h : Held). h.last) e
+
+pub held : {a b : Held} → a.nodes ≡ b.nodes → a.last ≡ b.last → a ≡ b
+held p q = λ i. record { nodes = p i; last = q i }
+
+pub on_ok_held : {A E : Type 0} (r : Result A E) (a b : Held) → OnOk r (a.nodes ≡ b.nodes) → a.last ≡ b.last → OnOk r (a ≡ b)
+on_ok_held (Ok x) a b h l = held h l
+on_ok_held (Err e) a b h l = tt
+
+pub on_err_held : {A E : Type 0} (r : Result A E) (a b : Held) → OnErr r (a.nodes ≡ b.nodes) → a.last ≡ b.last → OnErr r (a ≡ b)
+on_err_held (Ok x) a b h l = tt
+on_err_held (Err e) a b h l = held h l
+
+pub last_with_value : {K D : Type 0} (t : Tree K D) (n : ℕ) (v : D) → (with_value t n v).last ≡ t.last
+last_with_value {K} {D} t n v = by (node t n) where
+  by : (o : Option (Node K D)) → (option_map_or (λ x. with_node t n (record x { value = v })) o t).last ≡ t.last
+  by None = refl
+  by (Some x) = refl
 
 pub empty : (r : Path) → r ++ [] ≡ r
 empty [] = refl

@@ -1,14 +1,14 @@
 -- The parts of a store in memory after a node came, went or was moved.
-use Rattle.std.proofs.Common.{◌≡◌, ℕ, ◌+◌, ◌==◌, ◌&&◌, Bool, true, false, cond, List, [], ◌∷◌, ◌++◌, Option, Some, None, refl, sym, ap, subst, ◌∙◌, ⊎_elim, arith, if◌then◌else◌}
+use Rattle.std.proofs.Common.{◌≡◌, ℕ, ◌+◌, ◌<◌, ◌==◌, ◌&&◌, Bool, true, false, cond, List, [], ◌∷◌, ◌++◌, Option, Some, None, refl, sym, ap, subst, ◌∙◌, ⊎_elim, arith, if◌then◌else◌}
 use Rattle.std.specs.Prelude.{Vec, nat_eq, is_none, Result, Ok, Err}
-use Rattle.std.specs.Option.{option_and_then, option_map, IsSome, is_some}
+use Rattle.std.specs.Option.{option_and_then, option_map, IsSome, IfSome, is_some}
 use Rattle.std.specs.HashMap.{HashMap, get}
 use Rattle.std.specs.Result.{IsOk, OnOk}
 use Rattle.std.specs.FinMap.{find, put}
 use Rattle.dav_core.specs.Path.{Path, path_cmp, parent_of, IsSegment, is_root, is_nonempty, name_cmp}
 use Rattle.dav_core.specs.World.{Node as Seen, Nodes, is_folder_node, is_folder_kind, prune, moved as moved_nodes, file_made_with, members}
 use Rattle.dav_core.proofs.Theorems.{shape}
-use Rattle.dav_store.specs.Tree.{Tree, Node, node, value_of, single, leaf, added, deleted, moved, Does, DoesOrLacks, delete_refusal, has_children, has_some, children_of, root_id}
+use Rattle.dav_store.specs.Tree.{Tree, Node, node, value_of, single, leaf, child, key_refusal, add_refusal, added, deleted, moved, Does, DoesOrLacks, delete_refusal, has_children, has_some, children_of, root_id}
 use Rattle.dav_store.specs.Placed.{named, placed, found, bare, is_same_name, IsGrown, IsMadeMap, IsChild}
 use Rattle.dav_store.specs.Entries.{IsKept}
 use Rattle.dav_store.specs.Makings.{AreMadeBefore}
@@ -16,22 +16,30 @@ use Rattle.dav_store.proofs.MadeBefore.{before_found}
 use Rattle.dav_store.proofs.Walks.{inner}
 use Rattle.dav_store.proofs.TreeSingle.{named_single}
 use Rattle.dav_store.proofs.Placing.{number_is, named_from, name-itself, root_there}
-use Rattle.dav_store.proofs.TreePaths.{then_same, some_is, none-below, found-push}
+use Rattle.dav_store.proofs.TreePaths.{found_there, then_same, some_is, none-below, found-push}
 use Rattle.dav_store.proofs.TreeCalls.{node_of_value, none_of_value, is_added, is_deleted, is_moved}
 use Rattle.dav_store.proofs.PlacedCalls.{grown_with, placed_with, grown_without, placed_without, grown_elsewhere, placed_elsewhere}
 use Rattle.dav_store.proofs.MadeMaps.{made_added, made_removed, made_same_values, if_file, file_by_map}
 use Rattle.dav_store.proofs.TreeMoved.{IsMoved}
-use Rattle.dav_store.proofs.TreeNumbers.{begins_at_the_root}
-use Rattle.std.specs.List.{IsDistinct, AllZip}
-use Rattle.dav_store.proofs.EntryLemmas.{value_some, member_named, child_at, children_known}
+use Rattle.std.specs.List.{AllZip}
+use Rattle.dav_store.proofs.EntryLemmas.{value_some, value_none, member_named, child_at, children_known}
 use Rattle.dav_core.specs.declared.errors.FsError.{FsError}
-use Rattle.dav_core.specs.declared.errors.FsError.TheVariants.{NotFound, Exists, Forbidden, InsufficientStorage}
-use Rattle.std.specs.Map.{lookup, keys_of}
+use Rattle.dav_core.specs.declared.errors.FsError.TheVariants.{NotFound, Exists, Forbidden, GeneralFailure, InsufficientStorage}
+use Rattle.std.specs.Map.{lookup}
 use Rattle.std.specs.BTreeMap.{is_at}
 use Rattle.std.specs.Ordering.{nat_cmp}
-use Rattle.std.proofs.lemmas.Bool.{eqb-true, eq-eqb, cases_Bool}
-use Rattle.std.specs.Option.{option_map_or}
-use Rattle.dav_store.proofs.BareTrees.{value_bare, added_bare, deleted_bare, moved_bare, same_bytes}
+use Rattle.std.proofs.lemmas.Bool.{eqb-true, eq-eqb, ne_eqb, cases_Bool}
+use Rattle.std.specs.Option.{option_map_or, option_or}
+use Rattle.dav_core.specs.Numbers.{max_u64}
+use Rattle.dav_store.proofs.BareTrees.{value_bare, named_bare, added_bare, deleted_bare, moved_bare, same_bytes}
+
+pub folder_there : (o : Option Seen) → is_folder_node o ≡ true → IsSome o
+folder_there None h = cc
+folder_there (Some x) h = refl
+
+pub none_in : {K : Type 0} (o : Option (Node K Seen)) → IsSome (option_map (λ x. x.value) o) → is_none o ≡ false
+none_in None h = let no : false ≡ true = h in cc
+none_in (Some x) h = refl
 
 folder_node : (t : Tree (List ℕ) Seen) (p : ℕ) → is_folder_node (value_of t p) ≡ true → (x : Node (List ℕ) Seen) × (node t p ≡ Some x)
 folder_node t p h = by (value_of t p) refl h where
@@ -105,10 +113,6 @@ module _ {Z S : Type 0} (t : Tree (Vec ℕ Z) Seen) (made : HashMap ℕ ℕ S) (
     }
 
 -- ---- the root alone, and a copy
-folder_there : (o : Option Seen) → is_folder_node o ≡ true → IsSome o
-folder_there None h = cc
-folder_there (Some x) h = refl
-
 grown_single : (root : Seen) → is_folder_kind root.kind ≡ true → IsGrown (single {K = List ℕ} root)
 grown_single root folder = named_single folder_there root folder
 
@@ -163,6 +167,23 @@ below_root t made kept ns view [] free =
     let clash : true ≡ false = sym root ∙ free in cc
 below_root t made kept ns view (x ∷ q) free = refl
 
+-- what stands somewhere is found
+pub stands_found : {Z : Type 0} (t : Tree (Vec ℕ Z) Seen) (grown : IsGrown (bare t)) (ns : Nodes) → placed (bare t) ≡ ns → (q : Path) → IsSome (find path_cmp q ns) → IsSome (found (bare t) q)
+stands_found t grown ns view q some = by (found (bare t) q) refl where
+  by : (o : Option ℕ) → found (bare t) q ≡ o → IsSome o
+  by None e = let no : false ≡ true = sym (ap is_some (value_none t grown ns view q None (sym e) refl)) ∙ some in cc
+  by (Some n) e = refl
+
+pub node_found : {Z : Type 0} (t : Tree (Vec ℕ Z) Seen) → IsGrown (bare t) → (q : Path) (n : ℕ) → found (bare t) q ≡ Some n → IsSome (node t n)
+node_found {Z} t grown q n at = by (node t n) (ap is_some (sym (value_bare t n)) ∙ found_there (bare t) grown q n at) where
+  by : (o : Option (Node (Vec ℕ Z) Seen)) → IsSome (option_map (λ x. x.value) o) → IsSome o
+  by None h = h
+  by (Some x) h = refl
+
+pub some_given : {X : Type 0} (o : Option X) (P : Type 0) → IsSome o → IfSome o (λ _. P) → P
+some_given None P some h = let no : false ≡ true = some in cc
+some_given (Some x) P some h = h
+
 -- ---- a node that may be removed
 is_side : (b c : Bool) → (b && c) ≡ false → b ≡ true → c ≡ false
 is_side true c e h = e
@@ -197,6 +218,16 @@ module _ {Z S : Type 0} (t : Tree (Vec ℕ Z) Seen) (made : HashMap ℕ ℕ S) (
         by k P cut None e = let clash : None ≡ Some id = sym (none-below (bare t) P (k ∷ []) e) ∙ ap (found (bare t)) (sym cut) ∙ sym here ∙ is in cc
         by k P cut (Some p) e = (P, k, p, cut, e, sym (found-push (bare t) P p k e) ∙ ap (found (bare t)) (sym cut) ∙ sym here ∙ is)
 
+  no_children : (cs : List (List ℕ × ℕ)) → children_of (bare t) id ≡ cs → has_some cs ≡ false
+  no_children [] e = refl
+  no_children (c ∷ cs) e =
+      let child : named (bare t) id c.0 ≡ Some c.1 = named_from (bare t) id c.0 ∙ ap (lookup (is_same_name c.0)) e ∙ ap (λ b. cond b (Some c.1) (lookup (is_same_name c.0) cs)) (name-itself c.0) in
+      let clash : None ≡ Some c.1 = sym (leaf_here c.0) ∙ child in cc
+
+  -- it has no children
+  pub childless : has_children t id ≡ false
+  childless = sym (children_known t kept.grown ns view q at here id is) ∙ no_children (children_of (bare t) id) refl
+
   -- so it is deleted
   pub not_refused : delete_refusal t id ≡ None
   not_refused =
@@ -206,24 +237,11 @@ module _ {Z S : Type 0} (t : Tree (Vec ℕ Z) Seen) (made : HashMap ℕ ℕ S) (
         seat_child : IsChild (bare t) seat_here.2 seat_here.1 id
         seat_child = kept.grown.children seat_here.2 seat_here.1 id seat_here.5
 
-        none_in : (o : Option (Node (Vec ℕ Z) Seen)) → IsSome (option_map (λ x. x.value) o) → is_none o ≡ false
-        none_in None h = let no : false ≡ true = h in cc
-        none_in (Some x) h = refl
-
         node_there : is_none (node t id) ≡ false
         node_there = none_in (node t id) (ap is_some (sym (value_bare t id)) ∙ seat_child.there)
 
         not_root : (id == root_id) ≡ false
         not_root = ⊎_elim (λ a. absurd (seat_child.not_root (eqb-true id root_id a))) (λ a. a) (cases_Bool (id == root_id))
-
-        no_children : (cs : List (List ℕ × ℕ)) → children_of (bare t) id ≡ cs → has_some cs ≡ false
-        no_children [] e = refl
-        no_children (c ∷ cs) e =
-            let child : named (bare t) id c.0 ≡ Some c.1 = named_from (bare t) id c.0 ∙ ap (lookup (is_same_name c.0)) e ∙ ap (λ b. cond b (Some c.1) (lookup (is_same_name c.0) cs)) (name-itself c.0) in
-            let clash : None ≡ Some c.1 = sym (leaf_here c.0) ∙ child in cc
-
-        childless : has_children t id ≡ false
-        childless = sym (children_known t kept.grown ns view q at here id is) ∙ no_children (children_of (bare t) id) refl
 
   pub view_pruned : placed (bare (deleted t id)) ≡ prune q ns
   view_pruned =
@@ -251,6 +269,12 @@ pub answered_new : {X Y : Type 0} (takes : Bool) (refusal : Option FsError) (ans
 answered_new takes None answer y done old new result is does =
     ⊎_elim (λ d. let same : Ok y ≡ Ok answer = sym is ∙ d.0 in (d.1, cc, refl)) (λ l. let clash : Ok y ≡ Err InsufficientStorage = sym is ∙ l.1 in cc) does
 answered_new takes (Some x) answer y done old new result is does = let clash : Ok y ≡ Err x = sym is ∙ does.0 in cc
+
+-- a call that no rule refuses lacks memory where it doesn't answer
+pub lacks_memory : {X Y : Type 0} (takes : Bool) (refusal : Option FsError) (answer : Y) (done old new : X) (result : Result Y FsError) (e : FsError) → refusal ≡ None → result ≡ Err e → DoesOrLacks takes refusal answer done result old new → e ≡ InsufficientStorage
+lacks_memory takes refusal answer done old new result e free is does =
+    ⊎_elim (λ d. let clash : Ok answer ≡ Err e = sym d.0 ∙ is in cc) (λ l. let same : Err e ≡ Err InsufficientStorage = sym is ∙ l.1 in cc)
+    (subst (λ r. DoesOrLacks takes r answer done result old new) free does)
 
 pub on_ok : {A E : Type 0} (r : Result A E) (P : Type 0) → IsOk r → OnOk r P → P
 on_ok (Ok x) P i h = h
@@ -299,6 +323,21 @@ module _ {Z S : Type 0} (t : Tree (Vec ℕ Z) Seen) (made : HashMap ℕ ℕ S) (
           let at : Some m ≡ found (bare t) q = sym (ap (found (bare t)) at_new ∙ found-push (bare t) (parent_of q) id k.items above_is ∙ e) in
           let stands_there : find path_cmp q ns ≡ value_of t m = value_some t kept.grown ns view q (Some m) at m refl in
           let clash : None ≡ Some v.0 = sym free ∙ stands_there ∙ sym (value_bare t m) ∙ v.1 in cc
+
+    -- so it is added, or memory lacks
+    pub put_not_refused : t.last < max_u64 → add_refusal same_bytes t id k false ≡ None
+    put_not_refused more =
+        ap (λ b. if b then Some NotFound else option_or (key_refusal same_bytes t id k false) (if t.last == max_u64 then Some GeneralFailure else None)) there
+        ∙ ap (λ o. option_or (option_map_or (λ old. Some Exists) o None) (if t.last == max_u64 then Some GeneralFailure else None)) no_child
+        ∙ ap (λ b. if b then Some GeneralFailure else None) not_last where
+          there : is_none (node t id) ≡ false
+          there = none_in (node t id) (ap is_some (sym (value_bare t id)) ∙ folder_there (value_of (bare t) id) is_under_folder)
+
+          no_child : child same_bytes t id k ≡ None
+          no_child = sym (named_bare t id k.items) ∙ is_free
+
+          not_last : (t.last == max_u64) ≡ false
+          not_last = ne_eqb t.last max_u64 (λ e. absurd (omega (arith, more, e)))
 
     pub view_put : placed (bare (added same_bytes t id k v)) ≡ put path_cmp q v ns
     view_put =

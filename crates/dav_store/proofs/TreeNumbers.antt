@@ -75,7 +75,7 @@ module _ {K D : Type 0} where
   child_put eq t n k m =
       if_there (node t n) (λ x. with_node t n (record x { children = put_key eq x.children k m })) t (λ x. changed t n (record x { children = put_key eq x.children k m }))
 
-  hands_out_none_deleted : (t : Tree K D) (n : ℕ) → HandsOutNone t (deleted t n)
+  pub hands_out_none_deleted : (t : Tree K D) (n : ℕ) → HandsOutNone t (deleted t n)
   hands_out_none_deleted t n = none_in_turn t (unlinked t n) (deleted t n) (child_removed t (parent_of t n) (place_of t (parent_of t n) n)) (removed (unlinked t n) n)
 
   over : (eq : K → K → Bool) (t : Tree K D) (n parent : ℕ) (k : K) → HandsOutNone t (moved_over eq t n parent k)
@@ -91,7 +91,7 @@ module _ {K D : Type 0} where
   stays_or_not t u true h = same_tree t
   stays_or_not t u false h = h
 
-  hands_out_none_moved : (eq : K → K → Bool) (t : Tree K D) (n parent : ℕ) (k : K) → HandsOutNone t (moved eq t n parent k)
+  pub hands_out_none_moved : (eq : K → K → Bool) (t : Tree K D) (n parent : ℕ) (k : K) → HandsOutNone t (moved eq t n parent k)
   hands_out_none_moved eq t n parent k = stays_or_not t (moved_over eq t n parent k) (is_child eq t parent k n) (over eq t n parent k)
 
   pub still_none_above : (t u : Tree K D) → HandsOutNone t u → NoneAbove t → NoneAbove u
@@ -103,7 +103,7 @@ module _ {K D : Type 0} where
   next_then_none : (a b c : Tree K D) → HandsOutNext a b → HandsOutNone b c → HandsOutNext a c
   next_then_none a b c f g = (g.0 ∙ f.0, λ n other e. g.1 n (f.1 n other e))
 
-  next_added : (eq : K → K → Bool) (t : Tree K D) (parent : ℕ) (k : K) (value : D) → HandsOutNext t (added eq t parent k value)
+  pub next_added : (eq : K → K → Bool) (t : Tree K D) (parent : ℕ) (k : K) (value : D) → HandsOutNext t (added eq t parent k value)
   next_added eq t parent k value =
       let a = grown t parent value in
       let b = linked eq a parent k (t.last + 1) in

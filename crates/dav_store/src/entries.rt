@@ -1,6 +1,7 @@
 //! Paths and their nodes, as a store in memory keeps them: a tree whose keys are names.
 ghost use Rattle.std.specs.Prelude.{◌≡◌, ◌∷◌, ◌++◌, [], true, IfOk, option_copied};
 ghost use Rattle.std.specs.FinMap.{find};
+ghost use Rattle.dav_core.specs.declared.errors.FsError.TheVariants.{InsufficientStorage as Lacking};
 ghost use Rattle.dav_core.specs.Path.{names, path_cmp, parent_of, is_nonempty};
 ghost use Rattle.dav_core.specs.World.{is_folder_kind, is_folder_node, is_file_node, file_made_with, members};
 
@@ -12,8 +13,8 @@ use crate::names::{Name, Names};
 use crate::node::Node;
 use crate::tree::{ROOT_ID, Tree};
 use dav_core::davpath::DavPath;
-use dav_core::errors::NoMemory;
-use std::alloc::Global;
+use dav_core::errors::{FsError, NoMemory};
+use std::alloc::{AllocError, Global};
 use std::collections::HashMap;
 use std::marker::Model;
 
@@ -26,15 +27,13 @@ pub struct Entries {
 }
 
 impl Model for Entries {
-    ghost use Rattle.dav_core.specs.World.{Nodes};
-    ghost use Rattle.dav_store.specs.Entries.{coded_nodes, IsKept};
-    ghost use Rattle.dav_store.specs.Placed.{placed, bare};
+    ghost use Rattle.dav_store.specs.Entries.{Held, coded_held, held_in, IsKept};
 
-    ghost Value = { Nodes };
+    ghost Value = { Held };
 
-    ghost coded = { coded_nodes };
+    ghost coded = { coded_held };
 
-    ghost view = { λ s. placed (bare s.tree) };
+    ghost view = { λ s. held_in s.tree };
 
     ghost invariant = { λ s. IsKept s.tree s.made };
 }
@@ -52,10 +51,20 @@ impl Clone for Entries {
     }
 }
 
+// What a tree answers where memory runs out, which is the only error that counts as that.
+fn want_of_memory(error: FsError) -> NoMemory
+    requires { error ≡ Lacking }
+{
+    match error {
+        FsError::InsufficientStorage => AllocError,
+        _ => unreachable!(),
+    }
+}
+
 /// The root alone, a folder.
 pub fn of_root(alloc: Global, root: Node) -> Result<Entries, NoMemory>
     requires { is_folder_kind root.kind ≡ true }
-    ensures { IfOk result (λ es. es ≡ ([], root) ∷ []) }
+    ensures { IfOk result (λ es. es ≡ record { nodes = ([], root) ∷ []; last = 1 }) }
 {
     let mut made = HashMap::new(alloc);
     let _ = made.insert(root.creation_number(), ROOT_ID)?;
@@ -67,14 +76,14 @@ pub fn of_root(alloc: Global, root: Node) -> Result<Entries, NoMemory>
 
 /// The node at a path.
 pub fn node_at<'a>(entries: &'a Entries, path: &DavPath) -> Option<&'a Node>
-    ensures { option_copied result ≡ find path_cmp (names path.now) entries.now }
+    ensures { option_copied result ≡ find path_cmp (names path.now) entries.now.nodes }
 {
     finding::value(&entries.tree, finding::find(&entries.tree, path).at)
 }
 
 /// Whether there is a folder at a path.
 pub fn is_folder(entries: &Entries, path: &DavPath) -> bool
-    ensures { result ≡ is_folder_node (find path_cmp (names path.now) entries.now) }
+    ensures { result ≡ is_folder_node (find path_cmp (names path.now) entries.now.nodes) }
 {
     match node_at(entries, path) {
         Some(node) => node.is_folder(),
@@ -84,7 +93,7 @@ pub fn is_folder(entries: &Entries, path: &DavPath) -> bool
 
 /// Whether there is a file at a path.
 pub fn is_file(entries: &Entries, path: &DavPath) -> bool
-    ensures { result ≡ is_file_node (find path_cmp (names path.now) entries.now) }
+    ensures { result ≡ is_file_node (find path_cmp (names path.now) entries.now.nodes) }
 {
     match node_at(entries, path) {
         Some(node) => !node.is_folder(),
@@ -94,7 +103,8 @@ pub fn is_file(entries: &Entries, path: &DavPath) -> bool
 
 /// Whether there is a folder above a path.
 pub fn has_folder(entries: &Entries, path: &DavPath) -> bool
-    ensures { result ≡ is_folder_node (find path_cmp (parent_of (names path.now)) entries.now) }
+    ensures { result
+        ≡ is_folder_node (find path_cmp (parent_of (names path.now)) entries.now.nodes) }
 {
     match finding::value(&entries.tree, finding::find(&entries.tree, path).above) {
         Some(node) => node.is_folder(),
@@ -104,7 +114,7 @@ pub fn has_folder(entries: &Entries, path: &DavPath) -> bool
 
 /// The node at a name in a folder.
 pub fn member_at<'a>(entries: &'a Entries, folder: &Names, name: &Name) -> Option<&'a Node>
-    ensures { option_copied result ≡ find path_cmp (folder.now ++ name.now ∷ []) entries.now }
+    ensures { option_copied result ≡ find path_cmp (folder.now ++ name.now ∷ []) entries.now.nodes }
 {
     finding::value(
         &entries.tree,
@@ -114,7 +124,7 @@ pub fn member_at<'a>(entries: &'a Entries, folder: &Names, name: &Name) -> Optio
 
 /// Whether a folder has members.
 pub fn has_members(entries: &Entries, path: &DavPath) -> bool
-    ensures { result ≡ is_nonempty (members (names path.now) entries.now) }
+    ensures { result ≡ is_nonempty (members (names path.now) entries.now.nodes) }
 {
     match finding::find(&entries.tree, path).at {
         Some(id) => entries.tree.has_children(id),
@@ -124,7 +134,7 @@ pub fn has_members(entries: &Entries, path: &DavPath) -> bool
 
 /// The file that was created under this change number.
 pub fn file_made_with(entries: &Entries, made: u64) -> Option<&Node>
-    ensures { option_copied result ≡ file_made_with made entries.now }
+    ensures { option_copied result ≡ file_made_with made entries.now.nodes }
 {
     match finding::value(&entries.tree, entries.made.get(&made).copied()) {
         Some(node) => if node.is_folder() { None } else { Some(node) },

@@ -40,15 +40,15 @@ pub struct MemFs {
 impl Model for MemFs {
     ghost use Rattle.dav_store.specs.Store.{Store};
     ghost use Rattle.dav_store.specs.StoreCode.{coded_store};
-    ghost use Rattle.dav_store.specs.Makings.{AreMadeBefore};
+    ghost use Rattle.dav_store.specs.Makings.{IsNumbered};
 
     ghost Value = { Store };
 
     ghost coded = { coded_store };
 
-    ghost view = { λ s. record { world = record { nodes = s.entries; next = s.next }; short = s.short } };
+    ghost view = { λ s. record { world = record { nodes = s.entries.nodes; next = s.next }; short = s.short } };
 
-    ghost invariant = { λ s. AreMadeBefore s.next s.entries };
+    ghost invariant = { λ s. IsNumbered s.next s.entries };
 }
 
 /// An independent copy: a change to one doesn't change the other.
@@ -136,7 +136,7 @@ pub struct MemEntry {
 // The entries of a folder, in order.
 fn list(alloc: Global, entries: &Entries, path: &DavPath) -> Result<Vec<MemEntry>, NoMemory>
     ensures members { IfOk result (λ list. map (λ e. (e.name, e.dir)) list.items
-        ≡ members (names path.now) entries.now) }
+        ≡ members (names path.now) entries.now.nodes) }
     ensures folder { IfOk result
         (λ list. map (λ e. e.folder) list.items ≡ map (λ _. names path.now) list.items) }
 {

@@ -3,6 +3,7 @@ use Rattle.std.proofs.lemmas.Map.Entries.{entries_from_clone}
 use Rattle.dav_store.specs.Placed.{placed}
 use Rattle.dav_store.proofs.BareTrees.{bare_cloned}
 use Rattle.dav_store.proofs.KeptCalls.{kept_cloned, items_cloned}
+use Rattle.dav_store.proofs.EntryLemmas.{held}
 use Rattle.dav_store.proofs.entries.EntriesClone.clone.Goals as goal
 
 pub invariant_of-result : goal.invariant_of-result
@@ -14,5 +15,5 @@ invariant_of-result c =
 pub returns : goal.returns
 returns c = record {
   cases = sym c.self.view_is
-      ∙ ap placed (sym (bare_cloned _ _ (λ a b h. items_cloned _ (λ x y e. cc) a.items b.items h.0) (λ a b h. cc) c.self.inside.tree c.in_ok-clone.field-0 c.in_ok-clone.ensures.cases));
+      ∙ held (ap placed (sym (bare_cloned _ _ (λ a b h. items_cloned _ (λ x y e. cc) a.items b.items h.0) (λ a b h. cc) c.self.inside.tree c.in_ok-clone.field-0 c.in_ok-clone.ensures.cases))) (sym c.in_ok-clone.ensures.cases.0);
 }

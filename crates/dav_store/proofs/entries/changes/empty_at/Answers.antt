@@ -1,22 +1,31 @@
-use Rattle.std.proofs.Common.{sym, ap, ◌∙◌}
+use Rattle.std.proofs.Common.{refl, sym, ap, ◌∙◌}
 use Rattle.dav_core.specs.Path.{names}
 use Rattle.dav_core.specs.World.{Node as Seen, is_folder_kind}
 use Rattle.dav_core.specs.Calls.{emptied}
 use Rattle.dav_store.proofs.EntryLemmas.{kept_valued, view_valued, unchanged_none, unchanged_lacking, file_there}
+use Rattle.dav_store.proofs.EntryLemmas.{nodes_of, last_of, held, last_with_value}
 use Rattle.dav_store.proofs.entries.changes.empty_at.Goals as goal
 
 pub invariant_of-entries : goal.invariant_of-entries
 invariant_of-entries c =
     kept_valued c.entries.inside.tree c.entries.inside.made c.entries.invariant (names c.args.path.now) c.find.result.at c.find.ensures.at c.in-Some.id c.in-Some.is c.in-Ok.node.now c.empty.new.self c.in-Ok.ensures.value
-    (ap (λ (n : Seen). is_folder_kind n.kind) c.empty.ensures ∙ sym (file_there c.entries.inside.tree c.entries.invariant.grown c.args.entries.now c.entries.view_is (names c.args.path.now) c.find.result.at c.find.ensures.at c.in-Some.id c.in-Some.is c.in-Ok.node.now c.in-Ok.ensures.value c.requires.file)) (ap (λ (n : Seen). n.made) c.empty.ensures)
+    (ap (λ (n : Seen). is_folder_kind n.kind) c.empty.ensures ∙ sym (file_there c.entries.inside.tree c.entries.invariant.grown c.args.entries.now.nodes (nodes_of c.entries.view_is) (names c.args.path.now) c.find.result.at c.find.ensures.at c.in-Some.id c.in-Some.is c.in-Ok.node.now c.in-Ok.ensures.value c.requires.file)) (ap (λ (n : Seen). n.made) c.empty.ensures)
 
 pub returns-in-Ok : goal.returns-in-Ok
 returns-in-Ok c =
-    view_valued c.entries.inside.tree c.entries.inside.made c.entries.invariant (names c.args.path.now) c.find.result.at c.find.ensures.at c.in-Some.id c.in-Some.is c.in-Ok.node.now c.empty.new.self c.in-Ok.ensures.value
-    (ap (λ (n : Seen). is_folder_kind n.kind) c.empty.ensures ∙ sym (file_there c.entries.inside.tree c.entries.invariant.grown c.args.entries.now c.entries.view_is (names c.args.path.now) c.find.result.at c.find.ensures.at c.in-Some.id c.in-Some.is c.in-Ok.node.now c.in-Ok.ensures.value c.requires.file)) c.args.entries.now c.entries.view_is (emptied c.args.number c.args.now) (c.empty.ensures)
+    held
+    (view_valued c.entries.inside.tree c.entries.inside.made c.entries.invariant (names c.args.path.now) c.find.result.at c.find.ensures.at c.in-Some.id c.in-Some.is c.in-Ok.node.now c.empty.new.self c.in-Ok.ensures.value
+    (ap (λ (n : Seen). is_folder_kind n.kind) c.empty.ensures ∙ sym (file_there c.entries.inside.tree c.entries.invariant.grown c.args.entries.now.nodes (nodes_of c.entries.view_is) (names c.args.path.now) c.find.result.at c.find.ensures.at c.in-Some.id c.in-Some.is c.in-Ok.node.now c.in-Ok.ensures.value c.requires.file)) c.args.entries.now.nodes (nodes_of c.entries.view_is) (emptied c.args.number c.args.now) (c.empty.ensures))
+    (last_with_value c.entries.inside.tree c.in-Some.id c.empty.new.self ∙ last_of c.entries.view_is)
 
 pub returns-in_default-get_node_mut : goal.returns-in_default-get_node_mut
-returns-in_default-get_node_mut c = c.entries.view_is ∙ unchanged_lacking c.entries.inside.tree c.entries.inside.made c.entries.invariant (names c.args.path.now) c.find.result.at c.find.ensures.at c.args.entries.now c.entries.view_is (emptied c.args.number c.args.now) c.in-Some.id c.in-Some.is c.in_default-get_node_mut.ensures.value
+returns-in_default-get_node_mut c =
+    held
+    ((nodes_of c.entries.view_is) ∙ unchanged_lacking c.entries.inside.tree c.entries.inside.made c.entries.invariant (names c.args.path.now) c.find.result.at c.find.ensures.at c.args.entries.now.nodes (nodes_of c.entries.view_is) (emptied c.args.number c.args.now) c.in-Some.id c.in-Some.is c.in_default-get_node_mut.ensures.value)
+    (last_of c.entries.view_is)
 
 pub returns-in_default : goal.returns-in_default
-returns-in_default c = unchanged_none c.entries.inside.tree c.entries.inside.made c.entries.invariant (names c.args.path.now) c.find.result.at c.find.ensures.at c.args.entries.now c.entries.view_is (emptied c.args.number c.args.now) c.in_default.is
+returns-in_default c =
+    held
+    (unchanged_none c.entries.inside.tree c.entries.inside.made c.entries.invariant (names c.args.path.now) c.find.result.at c.find.ensures.at c.args.entries.now.nodes (nodes_of c.entries.view_is) (emptied c.args.number c.args.now) c.in_default.is)
+    refl

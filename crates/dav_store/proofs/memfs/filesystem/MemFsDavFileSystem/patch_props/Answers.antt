@@ -6,6 +6,7 @@ use Rattle.dav_store.proofs.AskingLemmas.{asks_patch_props}
 use Rattle.std.specs.FinMap.{find}
 use Rattle.dav_core.specs.Calls.{repatched}
 use Rattle.dav_store.proofs.MadeBefore.{before_adjusted}
+use Rattle.dav_store.proofs.EntryLemmas.{nodes_of, last_of}
 use Rattle.dav_store.proofs.memfs.filesystem.MemFsDavFileSystem.patch_props.Goals as goal
 
 pub returns-in_default : goal.returns-in_default
@@ -19,7 +20,11 @@ returns c = asks_patch_props (names c.args.path.now) (map patch_of c.args.patche
 
 pub invariant_of-self-2 : goal.invariant_of-self-2
 invariant_of-self-2 c =
-    let there : find path_cmp (names c.args.path.now) c.self.inside.entries ≡ Some c.in-Some.node.now = grind (arith, common_steps) in
+    let there : find path_cmp (names c.args.path.now) c.self.inside.entries.nodes ≡ Some c.in-Some.node.now = grind (arith, common_steps) in
     let patched_is = c.in-Ok.ensures.0 ∙ ap (patched (map patch_of c.args.patches.items)) c.properties.ensures in
-    before_adjusted c.self.inside.next (names c.args.path.now) (repatched (map patch_of c.args.patches.items)) c.self.inside.entries c.set_properties_at.new.entries (λ v. refl)
-    (c.set_properties_at.ensures c.in-Some.node.now (map patch_of c.args.patches.items) there patched_is) c.self.invariant
+    let set = c.set_properties_at.ensures c.in-Some.node.now (map patch_of c.args.patches.items) there patched_is in
+    record {
+      made = before_adjusted c.self.inside.next (names c.args.path.now) (repatched (map patch_of c.args.patches.items)) c.self.inside.entries.nodes c.set_properties_at.new.entries.nodes (λ v. refl)
+          (nodes_of set) c.self.invariant.made;
+      tree = omega (arith, last_of set, c.self.invariant.tree);
+    }

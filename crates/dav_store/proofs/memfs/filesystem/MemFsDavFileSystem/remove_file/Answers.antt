@@ -4,6 +4,7 @@ use Rattle.dav_core.specs.Path.{names}
 use Rattle.dav_store.proofs.AskingLemmas.{asks_remove_file}
 use Rattle.dav_store.specs.Makings.{AreMadeBefore}
 use Rattle.dav_store.proofs.MadeBefore.{before_pruned, before_touched}
+use Rattle.dav_store.proofs.EntryLemmas.{nodes_of, last_of}
 use Rattle.dav_store.proofs.memfs.filesystem.MemFsDavFileSystem.remove_file.Goals as goal
 
 pub returns-then-is_none : goal.returns-then-is_none
@@ -17,5 +18,8 @@ returns c = asks_remove_file (names c.args.path.now) c.args.now c.args.self.now 
 
 pub invariant_of-self : goal.invariant_of-self
 invariant_of-self c =
-    before_touched c.self.inside.next (names c.args.path.now) c.args.now c.prune.new.entries c.touch_folder.new.entries c.touch_folder.ensures
-    (subst (AreMadeBefore c.self.inside.next) (sym c.prune.ensures) (before_pruned c.self.inside.next (names c.args.path.now) c.self.inside.entries c.self.invariant))
+    record {
+      made = before_touched c.self.inside.next (names c.args.path.now) c.args.now c.prune.new.entries.nodes c.touch_folder.new.entries.nodes (nodes_of c.touch_folder.ensures)
+          (subst (AreMadeBefore c.self.inside.next) (sym (nodes_of c.prune.ensures)) (before_pruned c.self.inside.next (names c.args.path.now) c.self.inside.entries.nodes c.self.invariant.made));
+      tree = omega (arith, last_of c.touch_folder.ensures, last_of c.prune.ensures, c.self.invariant.tree);
+    }

@@ -6,6 +6,7 @@ use Rattle.dav_core.proofs.Theorems.{from_rest, path-itself}
 use Rattle.dav_store.proofs.AskingLemmas.{asks_rename}
 use Rattle.dav_store.specs.Makings.{AreMadeBefore}
 use Rattle.dav_store.proofs.MadeBefore.{before_moved, before_touched}
+use Rattle.dav_store.proofs.EntryLemmas.{nodes_of, last_of}
 use Rattle.dav_store.proofs.memfs.filesystem.MemFsDavFileSystem.rename.Goals as goal
 
 -- a path that isn't another, nor under it, isn't at or under it
@@ -43,6 +44,9 @@ returns c = asks_rename (names c.args.from.now) (names c.args.to.now) c.args.now
 
 pub invariant_of-self-2 : goal.invariant_of-self-2
 invariant_of-self-2 c =
-    let moved = subst (AreMadeBefore c.self.inside.next) (sym c.in_default.ensures.ok) (before_moved c.self.inside.next (names c.args.from.now) (names c.args.to.now) c.self.inside.entries c.self.invariant) in
-    let changed = before_touched c.self.inside.next (names c.args.to.now) c.args.now c.move_nodes.new.entries c.touch_folder.new.entries c.touch_folder.ensures moved in
-    before_touched c.self.inside.next (names c.args.from.now) c.args.now c.touch_folder.new.entries c.touch_folder-2.new.entries c.touch_folder-2.ensures changed
+    let moved = subst (AreMadeBefore c.self.inside.next) (sym (nodes_of c.in_default.ensures.ok)) (before_moved c.self.inside.next (names c.args.from.now) (names c.args.to.now) c.self.inside.entries.nodes c.self.invariant.made) in
+    let changed = before_touched c.self.inside.next (names c.args.to.now) c.args.now c.move_nodes.new.entries.nodes c.touch_folder.new.entries.nodes (nodes_of c.touch_folder.ensures) moved in
+    record {
+      made = before_touched c.self.inside.next (names c.args.from.now) c.args.now c.touch_folder.new.entries.nodes c.touch_folder-2.new.entries.nodes (nodes_of c.touch_folder-2.ensures) changed;
+      tree = omega (arith, last_of c.touch_folder-2.ensures, last_of c.touch_folder.ensures, last_of c.in_default.ensures.ok, c.self.invariant.tree);
+    }
