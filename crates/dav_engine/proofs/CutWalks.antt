@@ -1,6 +1,6 @@
 -- Walks that memory cuts short, step by step.
 use Rattle.std.proofs.Common.{◌≡◌, List, [], ◌∷◌, ◌++◌, map, Result, Ok, Err, inl, refl, sym, ap, ◌∙◌, append_assoc}
-use Rattle.std.proofs.lemmas.List.{append-nil}
+use Rattle.std.proofs.lemmas.List.{append-nil, map-append}
 use Rattle.dav_core.specs.declared.errors.FsError.{FsError}
 use Rattle.dav_core.specs.Asking.{Call, Answer, StoreState, Asks}
 use Rattle.dav_engine.specs.Method.{MethodPlan, ◌>>=◌, gives}
@@ -30,15 +30,11 @@ module _ {F : Type 0} (report : F → PathStatus) where
   pub begins_anyway : (plan : MethodPlan (List F)) → AlwaysGives (BeginWith report []) plan
   begins_anyway plan = always_any (λ faults. (map report faults, refl)) plan
 
-  map_both : (fs gs : List F) → map report (fs ++ gs) ≡ map report fs ++ map report gs
-  map_both [] gs = refl
-  map_both (f ∷ fs) gs = ap (λ l. report f ∷ l) (map_both fs gs)
-
   begins_more : (reports : List PathStatus) (fs gs : List F) → BeginWith report reports fs → BeginWith report reports (fs ++ gs)
-  begins_more reports fs gs (later, is) = (later ++ map report gs, map_both fs gs ∙ ap (λ l. l ++ map report gs) is ∙ append_assoc reports later (map report gs))
+  begins_more reports fs gs (later, is) = (later ++ map report gs, map-append report fs gs ∙ ap (λ l. l ++ map report gs) is ∙ append_assoc reports later (map report gs))
 
   begins_behind : (reports : List PathStatus) (fs gs : List F) → BeginWith report reports gs → BeginWith report (map report fs ++ reports) (fs ++ gs)
-  begins_behind reports fs gs (later, is) = (later, map_both fs gs ∙ ap (λ l. map report fs ++ l) is ∙ sym (append_assoc (map report fs) reports later))
+  begins_behind reports fs gs (later, is) = (later, map-append report fs gs ∙ ap (λ l. map report fs ++ l) is ∙ sym (append_assoc (map report fs) reports later))
 
   -- without faults there is no report
   pub nothing_begins : (reports : List PathStatus) → BeginWith report reports [] → reports ≡ []

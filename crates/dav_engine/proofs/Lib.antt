@@ -1,5 +1,6 @@
 pub mod FindLemmas
 pub mod StatusLemmas
+pub mod StoredLemmas
 pub mod KeptLemmas
 pub mod FoundLemmas
 pub mod TellLemmas

@@ -114,7 +114,7 @@ said w v (FileMetadata file) a d listing = tt
 some_one : {A : Type 0} {a b : A} → ◌≡◌ {A = Option A} (Some a) (Some b) → a ≡ b
 some_one same = cc
 
-ends_as : {Known : (c : Call) → Result (Answer c) FsError → Type 0} {A : Type 0} {P Q : A → Type 0} {plan : MethodPlan A} → ((a : A) → P a → Q a) → Ends Known P plan → Ends Known Q plan
+pub ends_as : {Known : (c : Call) → Result (Answer c) FsError → Type 0} {A : Type 0} {P Q : A → Type 0} {plan : MethodPlan A} → ((a : A) → P a → Q a) → Ends Known P plan → Ends Known Q plan
 ends_as more (ends_ok {a} p) = ends_ok (more a p)
 ends_as more ends_err = ends_err
 ends_as more (ends_ask {c} only next) = ends_ask {c = c} only (λ answer known. ends_as more (next answer known))

@@ -122,7 +122,7 @@ module _ (w : Writer) where
     only_listed p known (Err e) = only_done
     only_listed p known (Ok entries) = only_members p known entries
 
-  only_below : (deep : Bool) (room : ℕ) (p : PathText) (dir : Bool) (known : QuotaKnown) → Only IsQuestion (tell_below deep room w p dir known)
+  pub only_below : (deep : Bool) (room : ℕ) (p : PathText) (dir : Bool) (known : QuotaKnown) → Only IsQuestion (tell_below deep room w p dir known)
   only_below deep room p false known = only_done
   only_below deep zero p true known = only_done
   only_below deep (suc room) p true known =

@@ -46,6 +46,7 @@ pub use Rattle.dav_engine.proofs.SparingDelete.{delete_spares}
 pub use Rattle.dav_engine.proofs.SparingLaw.{sparing_leaves_covered, sparing_leaves_covered_cut, sparing_leaves_inside}
 pub use Rattle.dav_engine.proofs.SparingPlans.{reading_spares, put_spares, mkcol_spares}
 pub use Rattle.dav_engine.proofs.SparingProperties.{proppatch_spares}
+pub use Rattle.dav_engine.proofs.StoredLemmas.{patched_is_kept, kept_is_told}
 pub use Rattle.dav_engine.proofs.UnlockPlans.{unlock_is_proper, unlock_ends_lock, refused_unlock_leaves_all, unlock_spares, unlock_keeps_locks, unlock_goes_along}
 pub use Rattle.dav_engine.proofs.UnrefusedListings.{unrefused_runs_list}
 pub use Rattle.dav_engine.proofs.WorldPlans.{only_reads, reading_leaves, ran_split, ran_outcome, Only, only_done, only_ask, only_look, only_then, only_bind, only_require, only_proper, proper_keeps}

@@ -12,7 +12,7 @@ use Rattle.dav_engine.specs.Plan.{Plan, Locks, Ran, ran_done, ran_ask, ran_look,
 use Rattle.dav_engine.specs.PropfindLaws.{IsListing, AsksListing, UnrefusedRunsList}
 use Rattle.dav_engine.proofs.PlanLemmas.{ran_unset}
 
-abbrev IsNone : Option FsError → Type 0
+abbrev pub IsNone : Option FsError → Type 0
 IsNone r = r ≡ None
 
 unrefused : (c : Call) (w : World) (rs : List (Option FsError)) → All IsNone rs → ask c w rs ≡ answered w (meaning c w)
@@ -21,7 +21,7 @@ unrefused c w (None ∷ rs) none = refl
 unrefused c w (Some e ∷ rs) none = let clash : Some e ≡ None = All-head IsNone (Some e) rs none in cc
 
 -- what is answered is what the call means
-answer_is : {c : Call} {old new : StoreState} {a : Result (Answer c) FsError} → All IsNone old.refusals → new.short ≡ false → Asks c old a new → a ≡ (answered old.world (meaning c old.world)).0
+pub answer_is : {c : Call} {old new : StoreState} {a : Result (Answer c) FsError} → All IsNone old.refusals → new.short ≡ false → Asks c old a new → a ≡ (answered old.world (meaning c old.world)).0
 answer_is {c} {old} none unset (asked h) = ap (λ (r : Result (Answer c) FsError × World). r.0) (h.as_asked ∙ unrefused c old.world old.refusals none)
 answer_is none unset (ran_short h) = absurd (true≢false (sym h.short ∙ unset))
 
@@ -66,7 +66,7 @@ rest_none : (rs : List (Option FsError)) → All IsNone rs → All IsNone (rest_
 rest_none [] none = none
 rest_none (r ∷ rs) none = All-tail IsNone r rs none
 
-left_none : {c : Call} {old new : StoreState} {a : Result (Answer c) FsError} → Asks c old a new → All IsNone old.refusals → All IsNone new.refusals
+pub left_none : {c : Call} {old new : StoreState} {a : Result (Answer c) FsError} → Asks c old a new → All IsNone old.refusals → All IsNone new.refusals
 left_none {old = old} (asked h) none = subst (All IsNone) (sym h.refusals) (rest_none old.refusals none)
 left_none {old = old} (ran_short h) none = subst (All IsNone) (sym h.refusals) (rest_none old.refusals none)
 

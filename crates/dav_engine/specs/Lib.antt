@@ -56,6 +56,7 @@ pub mod StateCode
 pub mod CallerView
 pub mod Inside
 pub mod Guard
+pub mod StoredLaws
 pub mod Sparing
 pub mod SparingPlans
 pub mod Members

@@ -6,6 +6,7 @@ ghost use Rattle.dav_engine.specs.LanguageLaws.{AcceptedLanguagesAreRead};
 ghost use Rattle.dav_engine.specs.LockLaws.{LockGrants, LockRefreshes, RefusedLockLeavesAll, EarlyRefusedLockLeavesAll};
 ghost use Rattle.dav_engine.specs.OnePlan.{OneReadingOfConditions, OnePutPlan, OneMkcolPlan, OneDeletePlan, OneUnlockPlan, OneLockPlan, OneCopyMovePlan, OnePropfindPlan, OneProppatchPlan};
 ghost use Rattle.dav_engine.specs.PlanLaws.{PlansAreDetermined, PlansEnd, WantIsLikeRefusals, CutsAreLikeRefusals};
+ghost use Rattle.dav_engine.specs.StoredLaws.{SetIsKept, PatchedIsKept, KeptIsTold};
 ghost use Rattle.dav_engine.specs.PropfindLaws.{PropertiesLeadBack, ResponsesLeadBack, ListingsAreWhole, UnrefusedRunsList};
 ghost use Rattle.dav_engine.specs.ProppatchLaws.{RefusedProppatchLeavesAll, ProppatchMakesAllOrNone};
 ghost use Rattle.dav_engine.specs.RemovalLaws.{RemovalsLeaveSurvivors, ReportedAreThere, DeletesLeaveSurvivors, NoContentMeansGone, RefusedDeleteLeavesAll};
@@ -212,6 +213,15 @@ pub fn hrefs_lead_back()
     ensures responses { ResponsesLeadBack }
     ensures listings { ListingsAreWhole }
     ensures unrefused { UnrefusedRunsList }
+{}
+
+/// A property that a client stores is told again, as the same element: after changes that were made at a path, as by a PROPPATCH that
+/// answers 200 for each property, what is there keeps each element that they set last; and each PROPFIND with a depth, whatever it asks for, tells of its target each element that is kept,
+/// whole, where it is answered 207, no refusal is left to come and memory suffices (RFC 4918, sections 4, 9.1 and 9.2).
+pub fn stored_properties_are_told()
+    ensures set { SetIsKept }
+    ensures patched { PatchedIsKept }
+    ensures told { KeptIsTold }
 {}
 
 /// A PROPPATCH that is answered made all changes that are to be stored, and answers each with 200; or it made none, and answers one

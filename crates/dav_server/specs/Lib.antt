@@ -29,6 +29,7 @@ pub mod LockLists
 pub mod Isolation
 pub mod PathLaws
 pub mod HrefLaws
+pub mod StoredLaws
 pub mod EachRequest
 pub mod Promises
 pub mod Headline

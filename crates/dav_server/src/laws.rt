@@ -2,6 +2,7 @@
 ghost use Rattle.dav_server.specs.Head.{OneHead};
 ghost use Rattle.dav_server.specs.Headers.{KeepsValues};
 ghost use Rattle.dav_server.specs.Headline.{HeadlineHolds};
+ghost use Rattle.dav_server.specs.StoredLaws.{PatchesAreMade, StoredComesBack};
 ghost use Rattle.dav_server.specs.HrefLaws.{TargetsAreServed, TextsLeadBack, StatusesLeadBack, PropertiesLeadBack, RepliesLeadBack, ListingsAreWhole};
 ghost use Rattle.dav_server.specs.Leaving.{CreateOnlyFails, ErrorsLeave};
 ghost use Rattle.dav_server.specs.PathLaws.{OneTextOnePath};
@@ -118,6 +119,15 @@ pub fn not_modified_is_true()
 #[tactic(auto, using(crate::proofs::ListingLemmas::listings_are_whole))]
 pub fn listings_are_whole()
     ensures { ListingsAreWhole }
+{}
+
+/// A property that a client stores comes back as the same element: a PROPPATCH that is answered 207 made all changes of its body that
+/// were to be stored, or none; and each element that it stored of what is at a path, a PROPFIND of the path with a depth tells next, in its
+/// first response, whatever it asks for, where it is answered 207, no refusal is left to come and memory suffices (RFC 4918, sections 4,
+/// 9.1 and 9.2).
+pub fn stored_properties_come_back()
+    ensures patched { PatchesAreMade }
+    ensures told { StoredComesBack }
 {}
 
 /// GET, HEAD, OPTIONS and PROPFIND leave the world and the list of locks, whatever the store refuses, and where memory runs out (RFC
