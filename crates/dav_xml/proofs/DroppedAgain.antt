@@ -14,8 +14,8 @@ use Rattle.dav_xml.specs.Expanded.{IsDeclaration, AreDeclarations}
 use Rattle.dav_xml.proofs.Escapes.{by_test}
 use Rattle.dav_xml.proofs.Nested.{same_bytes}
 use Rattle.dav_xml.proofs.Declared.{bytes_differ, prefix_declares}
-use Rattle.dav_xml.proofs.KeptAgain.{declared_step}
-use Rattle.dav_xml.proofs.PlacedAgain.{found_there, IsAgain, IsOwn, opened_more, distinct_more, all_more}
+use Rattle.dav_xml.proofs.KeptAgain.{distinct_more, declared_step}
+use Rattle.dav_xml.proofs.PlacedAgain.{found_there, IsAgain, IsOwn, opened_more, all_more}
 
 prefix_of : (a : List ℕ × List ℕ) (d : IsDeclaration a) → declared_prefix a.0 ≡ Some d.prefix
 prefix_of a d = ap declared_prefix d.named ∙ prefix_declares d.prefix

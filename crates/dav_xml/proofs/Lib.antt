@@ -20,3 +20,4 @@ pub mod PlacedAgain
 pub mod PlainNames
 pub mod DroppedAgain
 pub mod RoundTrip
+pub mod QualifiedNames
