@@ -1,7 +1,6 @@
 -- An element that is written has the namespace and the attributes that are read again.
-use Rattle.std.proofs.Common.{◌≡◌, ℕ, Bool, true, false, cond, not, ◌||◌, ◌⊎◌, inl, inr, List, [], ◌∷◌, ◌++◌, bytes_eq, Option, Some, None, Result, Ok, refl, sym, ap, subst, ◌∙◌, append_assoc}
+use Rattle.std.proofs.Common.{◌≡◌, ℕ, Bool, true, false, cond, ◌||◌, ◌⊎◌, inl, inr, List, [], ◌∷◌, ◌++◌, bytes_eq, Option, Some, None, Result, Ok, refl, sym, ap, subst, ◌∙◌, append_assoc}
 use Rattle.std.proofs.lemmas.List.{append-nil}
-use Rattle.std.proofs.lemmas.Bool.{or_parts, and_parts, and_from}
 use Rattle.std.specs.List.{AllByRecursion}
 use Rattle.dav_core.specs.Element.{xmlns_name}
 use Rattle.dav_xml.specs.declared.error.Fault.{Fault}
@@ -13,8 +12,8 @@ use Rattle.dav_xml.specs.Written.{declared_prefix, declares, with_prefix, opened
 use Rattle.dav_xml.specs.Expanded.{AreKept}
 use Rattle.dav_xml.proofs.Escapes.{by_test}
 use Rattle.dav_xml.proofs.Nested.{same_bytes}
-use Rattle.dav_xml.proofs.Declared.{bytes_same, bytes_differ, bytes_other, bytes_turned, uri_here, uri_there, prefix_declares, uri_in_by}
-use Rattle.dav_xml.proofs.KeptAgain.{IsGood, plainly, declares_one, Settles, has_attribute_append, distinct_more, declared_step, GoesOn, goes_on}
+use Rattle.dav_xml.proofs.Declared.{bytes_same, bytes_differ, bytes_other, uri_here, uri_there, prefix_declares, uri_in_by}
+use Rattle.dav_xml.proofs.KeptAgain.{IsGood, plainly, declares_one, Settles, distinct_more, declared_step, GoesOn, goes_on}
 
 declaring_declares : (q : List ℕ) → declared_prefix (declaring q) ≡ Some q
 declaring_declares q = refl

@@ -1,13 +1,11 @@
 -- Qualified names that are read.
-use Rattle.std.proofs.Common.{◌≡◌, ℕ, Bool, true, false, cond, ◌==◌, List, [], ◌∷◌, ◌++◌, length, Option, Some, None, Result, Ok, Err, refl, sym, ap, subst, ◌∙◌}
-use Rattle.std.proofs.lemmas.Bool.{eqb-true, and_from}
-use Rattle.std.specs.List.{list_all}
+use Rattle.std.proofs.Common.{◌≡◌, ℕ, cond, ◌==◌, List, [], ◌∷◌, ◌++◌, length, Option, Some, None, Result, Ok, Err, refl, sym, ap, subst, ◌∙◌}
+use Rattle.std.proofs.lemmas.Bool.{eqb-true}
 use Rattle.std.specs.Str.Lossy.{utf8_valid_len}
 use Rattle.dav_xml.specs.declared.error.Fault.{Fault}
 use Rattle.dav_xml.specs.declared.error.Fault.TheVariants.{Malformed}
 use Rattle.dav_xml.specs.Read.{◌>>=◌}
-use Rattle.dav_xml.specs.Bytes.{is_name_byte, behind, split_byte}
-use Rattle.dav_xml.specs.References.{utf8}
+use Rattle.dav_xml.specs.Bytes.{behind, split_byte}
 use Rattle.dav_xml.specs.Names.{is_plain, plain_name}
 use Rattle.dav_xml.specs.Legal.{IsLegalName}
 use Rattle.dav_xml.specs.Namespaces.{name_parts, qualified}
