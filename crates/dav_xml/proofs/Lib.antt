@@ -21,3 +21,6 @@ pub mod PlainNames
 pub mod DroppedAgain
 pub mod RoundTrip
 pub mod QualifiedNames
+pub mod ReadTrees
+pub mod NestedRaw
+pub mod ReadAgain

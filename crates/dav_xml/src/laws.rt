@@ -11,7 +11,7 @@ ghost use Rattle.dav_xml.specs.Written.{declaration, document_of, written};
 ghost use Rattle.dav_xml.specs.Namespaces.{document};
 ghost use Rattle.dav_xml.specs.Scopes.{Scope};
 ghost use Rattle.dav_xml.specs.Expanded.{IsExpanded, IsFew, Means};
-ghost use Rattle.dav_xml.specs.Legal.{HasLegal};
+ghost use Rattle.dav_xml.specs.Legal.{HasLegal, HasLegalTexts};
 
 /// Pieces of markup that are written are read again.
 pub fn spelled_is_read()
@@ -21,6 +21,16 @@ pub fn spelled_is_read()
 /// The pieces of a tree of at most 64 levels are nested to that tree again.
 pub fn flat_is_nested()
     ensures { (t : ElementTree) → IsRaw 64 t → nested (flat t) ≡ Ok t }
+{}
+
+/// Pieces that are nested give a tree of at most 64 levels, without an empty text or a text behind another.
+pub fn nested_is_raw()
+    ensures { (ts : List Markup) (t : ElementTree) → nested ts ≡ Ok t → IsRaw 64 t }
+{}
+
+/// Pieces that are nested to a tree, and the tree's own pieces, are nested to the same.
+pub fn nested_is_flat()
+    ensures { (ts : List Markup) (t : ElementTree) → nested ts ≡ Ok t → nested (flat t) ≡ nested ts }
 {}
 
 /// A raw tree that is written is read again.
@@ -47,4 +57,18 @@ pub fn written_is_read()
 /// A tree with expanded names means itself, wherever it is sent: so what is written of it is read again as the same tree.
 pub fn expanded_means_itself()
     ensures { (n : ℕ) (scope : Scope) (t : ElementTree) → IsExpanded n t → Means n scope t t }
+{}
+
+/// What is read has at most 64 levels and expanded names, where its texts, values and namespaces are of legal characters.
+pub fn read_is_expanded()
+    ensures { (bytes : List ℕ) (t : ElementTree) → document bytes ≡ Ok t → HasLegalTexts t
+        → IsExpanded 64 t }
+{}
+
+/// What was read is written so that the same is read again: where its texts, values and namespaces are of legal characters, each
+/// element that is written has at most 256 attributes and is within at most 256 declarations, and the whole has at most 1 MiB.
+pub fn read_is_read_again()
+    ensures { (bytes : List ℕ) (t : ElementTree) → document bytes ≡ Ok t → HasLegalTexts t
+        → IsFew [] (written [] t) → length (document_of t) ≤ 0x10_0000
+        → document (document_of t) ≡ Ok t }
 {}
