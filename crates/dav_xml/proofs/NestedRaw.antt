@@ -1,15 +1,15 @@
 -- Trees that are nested have at most 64 levels, no empty text, and no text behind another.
-use Rattle.std.proofs.Common.{◌≡◌, ℕ, zero, suc, ◌+◌, ◌<◌, ◌≤◌, Bool, true, false, cond, ◌&&◌, ◌==◌, leb, List, [], ◌∷◌, ◌++◌, length, bytes_eq, Option, Some, None, is_some, Result, Ok, Err, refl, sym, ap, subst, ◌∙◌, arith}
+use Rattle.std.proofs.Common.{◌≡◌, ℕ, zero, suc, ◌+◌, ◌<◌, Bool, true, false, cond, ◌&&◌, ◌==◌, leb, List, [], ◌∷◌, ◌++◌, length, bytes_eq, Option, Some, None, is_some, Result, Ok, Err, refl, sym, ap, subst, arith}
 use Rattle.std.proofs.lemmas.Bool.{leb-false}
 use Rattle.dav_core.specs.Element.{ElementTree, ElementTrees, element, text, no_trees, tree_then, tree_list, trees, name_of, with_child}
 use Rattle.dav_xml.specs.declared.error.Fault.{Fault}
 use Rattle.dav_xml.specs.declared.error.Fault.TheVariants.{Malformed, TooDeep}
 use Rattle.dav_xml.specs.Read.{◌>>=◌}
 use Rattle.dav_xml.specs.Token.{Markup, opens, empty, closes, content, nothing}
-use Rattle.dav_xml.specs.Nesting.{Open, raw, opened, ended, closed, text_behind, with_text, text_after, text_added, text_in, step, steps, root_of, nested}
+use Rattle.dav_xml.specs.Nesting.{Open, raw, opened, ended, closed, with_text, text_after, text_added, text_in, step, steps, root_of, nested}
 use Rattle.dav_xml.specs.Flat.{IsRaw, AreRaw}
 use Rattle.dav_xml.proofs.Escapes.{by_test}
-use Rattle.dav_xml.proofs.ElementLemmas.{tree_list_trees, trees_tree_list}
+use Rattle.dav_xml.proofs.ElementLemmas.{trees_tree_list}
 
 -- ---- children
 

@@ -1,5 +1,5 @@
 -- What is read is written so that the same is read again.
-use Rattle.std.proofs.Common.{◌≡◌, ℕ, ◌≤◌, Bool, true, false, cond, ltb, List, [], ◌∷◌, length, Result, Ok, Err, refl, ◌∙◌}
+use Rattle.std.proofs.Common.{◌≡◌, ℕ, ◌≤◌, false, cond, ltb, List, [], length, Result, Ok, Err, refl}
 use Rattle.dav_core.specs.Element.{ElementTree}
 use Rattle.dav_xml.specs.declared.error.Fault.{Fault}
 use Rattle.dav_xml.specs.declared.error.Fault.TheVariants.{Malformed, TooLarge}

@@ -1,11 +1,11 @@
 -- Trees that are read have expanded names.
 use Rattle.std.proofs.Common.{◌≡◌, ℕ, zero, suc, Bool, true, false, cond, not, ◌&&◌, ◌==◌, ltb, List, [], ◌∷◌, ◌++◌, length, codes, bytes_eq, Option, Some, None, Result, Ok, Err, refl, sym, ap, subst, ◌∙◌, append_assoc}
 use Rattle.std.proofs.lemmas.List.{append-nil}
-use Rattle.std.proofs.lemmas.Bool.{eqb-true, and_parts, and_right}
+use Rattle.std.proofs.lemmas.Bool.{eqb-true, and_right}
 use Rattle.std.proofs.lemmas.Str.{chars-nil}
 use Rattle.std.specs.List.{AllByRecursion}
 use Rattle.std.specs.Str.Lossy.{utf8_valid_len}
-use Rattle.dav_core.specs.Element.{ElementTree, ElementTrees, element, text, trees, tree_list, no_trees, tree_then, xmlns_name}
+use Rattle.dav_core.specs.Element.{ElementTree, ElementTrees, element, text, trees, no_trees, tree_then, xmlns_name}
 use Rattle.dav_xml.specs.declared.error.Fault.{Fault}
 use Rattle.dav_xml.specs.declared.error.Fault.TheVariants.{Malformed, TooLarge}
 use Rattle.dav_xml.specs.Read.{◌>>=◌}
@@ -15,17 +15,16 @@ use Rattle.dav_xml.specs.References.{utf8}
 use Rattle.dav_xml.specs.Names.{is_plain, are_plain}
 use Rattle.dav_xml.specs.Legal.{IsLegal, IsLegalName, IsLegalAttribute, HasLegalTexts, HaveLegalTexts, IsLegalIfAny}
 use Rattle.dav_xml.specs.Flat.{IsRaw, AreRaw}
-use Rattle.dav_xml.specs.Scopes.{Scope, xml_uri, xmlns_uri, uri_of, is_bound, may_declare, default_declared, prefix_declared, declared_by}
-use Rattle.dav_xml.specs.Namespaces.{qualified, default_of, declared_uri, uri_in, namespace_of, are_distinct, with_declared, within, few, inside, Expanded, Kept, kept_after, expanded, expanded_tree, expanded_after}
+use Rattle.dav_xml.specs.Scopes.{Scope, xml_uri, uri_of, is_bound, may_declare, default_declared, prefix_declared, declared_by}
+use Rattle.dav_xml.specs.Namespaces.{qualified, default_of, declared_uri, uri_in, namespace_of, are_distinct, with_declared, within, few, inside, Kept, kept_after, expanded, expanded_tree, expanded_after}
 use Rattle.dav_xml.specs.Expanded.{IsPlain, IsDeclarable, IsExpandedName, AreKept, IsExpanded, AreExpanded}
 use Rattle.dav_xml.proofs.Escapes.{by_test}
 use Rattle.dav_xml.proofs.Nested.{same_bytes}
-use Rattle.dav_xml.proofs.ElementLemmas.{trees_tree_list}
 use Rattle.dav_xml.proofs.LegalTrees.{legal_word}
 use Rattle.dav_xml.proofs.Legal.{legal_utf8}
 use Rattle.dav_xml.proofs.Declared.{ok_or_else, declared_if, bytes_same, found_of, found_declarable}
-use Rattle.dav_xml.proofs.KeptAgain.{GoesOn, goes_on, all_fresh}
-use Rattle.dav_xml.proofs.QualifiedNames.{OfQualified, of_qualified}
+use Rattle.dav_xml.proofs.KeptAgain.{goes_on, all_fresh}
+use Rattle.dav_xml.proofs.QualifiedNames.{of_qualified}
 
 -- ---- declarations
 

@@ -30,7 +30,8 @@ pub fn nested_is_raw()
 
 /// Pieces that are nested to a tree, and the tree's own pieces, are nested to the same.
 pub fn nested_is_flat()
-    ensures { (ts : List Markup) (t : ElementTree) → nested ts ≡ Ok t → nested (flat t) ≡ nested ts }
+    ensures { (ts : List Markup) (t : ElementTree) → nested ts ≡ Ok t
+        → nested (flat t) ≡ nested ts }
 {}
 
 /// A raw tree that is written is read again.
