@@ -24,3 +24,4 @@ pub mod QualifiedNames
 pub mod ReadTrees
 pub mod NestedRaw
 pub mod ReadAgain
+pub mod SentElements
