@@ -1,5 +1,5 @@
 -- Declarations alone are read as no attributes.
-use Rattle.std.proofs.Common.{◌≡◌, ℕ, Bool, true, false, cond, ◌||◌, inl, inr, ◌⊎◌, List, [], ◌∷◌, ◌++◌, bytes_eq, Option, Some, None, Result, Ok, Err, refl, sym, ap, subst, ◌∙◌, append_assoc}
+use Rattle.std.proofs.Common.{◌≡◌, ℕ, Bool, true, false, cond, inl, inr, ◌⊎◌, List, [], ◌∷◌, ◌++◌, bytes_eq, Option, Some, Result, Ok, refl, sym, ap, subst, ◌∙◌, append_assoc}
 use Rattle.std.proofs.lemmas.List.{append-nil}
 use Rattle.std.proofs.lemmas.Bool.{or_parts}
 use Rattle.std.specs.List.{AllByRecursion}
@@ -14,8 +14,8 @@ use Rattle.dav_xml.specs.Expanded.{IsDeclaration, AreDeclarations}
 use Rattle.dav_xml.proofs.Escapes.{by_test}
 use Rattle.dav_xml.proofs.Nested.{same_bytes}
 use Rattle.dav_xml.proofs.Declared.{bytes_differ, prefix_declares}
-use Rattle.dav_xml.proofs.KeptAgain.{declared_step}
-use Rattle.dav_xml.proofs.PlacedAgain.{found_there, IsAgain, IsOwn, opened_more, distinct_more, all_more}
+use Rattle.dav_xml.proofs.KeptAgain.{distinct_more, declared_step}
+use Rattle.dav_xml.proofs.PlacedAgain.{found_there, IsAgain, IsOwn, opened_more, all_more}
 
 prefix_of : (a : List ℕ × List ℕ) (d : IsDeclaration a) → declared_prefix a.0 ≡ Some d.prefix
 prefix_of a d = ap declared_prefix d.named ∙ prefix_declares d.prefix

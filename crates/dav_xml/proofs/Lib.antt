@@ -20,3 +20,8 @@ pub mod PlacedAgain
 pub mod PlainNames
 pub mod DroppedAgain
 pub mod RoundTrip
+pub mod QualifiedNames
+pub mod ReadTrees
+pub mod NestedRaw
+pub mod ReadAgain
+pub mod SentElements

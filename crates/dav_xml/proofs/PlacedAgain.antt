@@ -1,7 +1,6 @@
 -- An element that is written has the namespace and the attributes that are read again.
-use Rattle.std.proofs.Common.{◌≡◌, ℕ, Bool, true, false, cond, not, ◌||◌, ◌⊎◌, inl, inr, List, [], ◌∷◌, ◌++◌, bytes_eq, Option, Some, None, Result, Ok, refl, sym, ap, subst, ◌∙◌, append_assoc}
+use Rattle.std.proofs.Common.{◌≡◌, ℕ, Bool, true, false, cond, ◌||◌, ◌⊎◌, inl, inr, List, [], ◌∷◌, ◌++◌, bytes_eq, Option, Some, None, Result, Ok, refl, sym, ap, subst, ◌∙◌, append_assoc}
 use Rattle.std.proofs.lemmas.List.{append-nil}
-use Rattle.std.proofs.lemmas.Bool.{or_parts, and_parts, and_from}
 use Rattle.std.specs.List.{AllByRecursion}
 use Rattle.dav_core.specs.Element.{xmlns_name}
 use Rattle.dav_xml.specs.declared.error.Fault.{Fault}
@@ -13,8 +12,8 @@ use Rattle.dav_xml.specs.Written.{declared_prefix, declares, with_prefix, opened
 use Rattle.dav_xml.specs.Expanded.{AreKept}
 use Rattle.dav_xml.proofs.Escapes.{by_test}
 use Rattle.dav_xml.proofs.Nested.{same_bytes}
-use Rattle.dav_xml.proofs.Declared.{bytes_same, bytes_differ, bytes_other, bytes_turned, uri_here, uri_there, prefix_declares, uri_in_by}
-use Rattle.dav_xml.proofs.KeptAgain.{IsGood, plainly, declares_one, Settles, has_attribute_append, declared_step, GoesOn, goes_on}
+use Rattle.dav_xml.proofs.Declared.{bytes_same, bytes_differ, bytes_other, uri_here, uri_there, prefix_declares, uri_in_by}
+use Rattle.dav_xml.proofs.KeptAgain.{IsGood, plainly, declares_one, Settles, distinct_more, declared_step, GoesOn, goes_on}
 
 declaring_declares : (q : List ℕ) → declared_prefix (declaring q) ≡ Some q
 declaring_declares q = refl
@@ -94,19 +93,6 @@ others_all s own (a ∷ bs) made h =
     one (declares_one q uri is other here declared) =
         ap (λ (b : List ℕ × List ℕ). declares (or_empty own) (declared_prefix b.0)) is ∙ ap (declares (or_empty own)) (prefix_declares q) ∙ other
 
-pub distinct_more : (bs : List (List ℕ × List ℕ)) (d : List ℕ × List ℕ) → are_distinct bs ≡ true → has_attribute d.0 bs ≡ false → are_distinct (bs ++ d ∷ []) ≡ true
-distinct_more [] d h e = refl
-distinct_more (a ∷ bs) d h e =
-    let parts = and_parts (not (has_attribute a.0 bs)) (are_distinct bs) h in
-    let apart = or_parts (bytes_eq a.0 d.0) (has_attribute d.0 bs) e in
-    let none : has_attribute a.0 (bs ++ d ∷ []) ≡ has_attribute a.0 bs =
-    has_attribute_append a.0 bs (d ∷ []) ∙ ap (λ (t : Bool). has_attribute a.0 bs || (t || false)) (bytes_turned a.0 d.0 apart.0) ∙ or_false (has_attribute a.0 bs) in
-    and_from (not (has_attribute a.0 (bs ++ d ∷ []))) (are_distinct (bs ++ d ∷ [])) (ap (λ (t : Bool). not t) none ∙ parts.0) (distinct_more bs d parts.1 apart.1)
-  where
-    or_false : (t : Bool) → (t || false) ≡ t
-    or_false true = refl
-    or_false false = refl
-
 pub all_more : (P : List ℕ × List ℕ → Type 0) (bs : List (List ℕ × List ℕ)) (d : List ℕ × List ℕ) → AllByRecursion P bs → P d → AllByRecursion P (bs ++ d ∷ [])
 all_more P [] d h one = (one, tt)
 all_more P (b ∷ bs) d h one = (h.0, all_more P bs d h.1 one)
@@ -132,7 +118,7 @@ module _ (scope : Scope) (prefix namespace : Option (List ℕ)) (bs : List (List
   abbrev inner : Scope
   inner = opened scope bs
 
-  abbrev goes : GoesOn k.scope prefix [] [] bs k.names
+  abbrev goes : GoesOn k.scope prefix k.given [] [] bs k.names
   goes = goes_on k.scope prefix bs k.names k.declarable k.given [] [] k.kept
 
   good : AllByRecursion (IsGood k.scope prefix) bs

@@ -181,13 +181,16 @@ joined_legal (b ∷ front) name h e k l =
       legal = legal_append (b ∷ front) name h.legal l;
     }
 
+pub name_behind : (prefix name : List ℕ) → IsPlain prefix → IsPlain name → IsLegalName (prefix ++ 58 ∷ name)
+name_behind prefix name hp h =
+    let own = of_plain prefix hp in
+    let local = of_plain name h in
+    joined_legal prefix (58 ∷ name) own.legal own.bytes_follow (and_from (is_name_byte 58) (list_all is_name_byte name) refl local.bytes_follow) (legal_more 58 name (omega arith) refl local.legal.legal)
+
 pub written_name : (prefix : Option (List ℕ)) (name : List ℕ) → IsPlain name → ((p : List ℕ) → prefix ≡ Some p → IsPlain p) → IsLegalName (name_with (or_empty prefix) name)
 written_name None name h hp = (of_plain name h).legal
 written_name (Some []) name h hp = (of_plain name h).legal
-written_name (Some (b ∷ p)) name h hp =
-    let own = of_plain (b ∷ p) (hp (b ∷ p) refl) in
-    let local = of_plain name h in
-    joined_legal (b ∷ p) (58 ∷ name) own.legal own.bytes_follow (and_from (is_name_byte 58) (list_all is_name_byte name) refl local.bytes_follow) (legal_more 58 name (omega arith) refl local.legal.legal)
+written_name (Some (b ∷ p)) name h hp = name_behind (b ∷ p) name (hp (b ∷ p) refl) h
 
 pub declaring_name : (prefix : Option (List ℕ)) → ((p : List ℕ) → prefix ≡ Some p → IsPlain p) → IsLegalName (xmlns_name (or_empty prefix))
 declaring_name None hp = record { name = refl; legal = legal_word (codes "xmlns") refl }

@@ -9,7 +9,7 @@ use Rattle.dav_xml.specs.Read.{◌>>=◌}
 use Rattle.dav_xml.specs.References.{utf8}
 use Rattle.dav_xml.specs.Names.{is_plain}
 use Rattle.dav_xml.specs.Scopes.{Scope, xml_uri, uri_of, is_bound, may_declare}
-use Rattle.dav_xml.specs.Legal.{HasLegal, HaveLegal}
+use Rattle.dav_xml.specs.Legal.{IsLegal, HasLegal, HaveLegal}
 use Rattle.dav_xml.specs.Flat.{IsRaw, AreRaw}
 use Rattle.dav_xml.specs.Namespaces.{qualified, default_of, declared_uri, uri_in, namespace_of, are_distinct, within, few, inside, Expanded, Kept, kept_after, expanded, expanded_tree, expanded_after, document}
 use Rattle.dav_xml.specs.Written.{opened, or_empty, wanted, name_with, has_uri, placed, place_of, written, written_after, document_of}
@@ -48,10 +48,10 @@ default_named : (o : Option (List ℕ)) (b : ℕ) (uri : List ℕ) → has_uri o
 default_named None b uri e = absurd (some_bytes b uri e)
 default_named (Some found) b uri e = ap (λ (u : List ℕ). default_of (Some u)) (bytes_same found (b ∷ uri) e)
 
-own_default : (s : Scope) (b : ℕ) (uri : List ℕ) → IsDeclarable ([], b ∷ uri) → IsOwn s None (Some (b ∷ uri)) (b ∷ uri)
+own_default : (s : Scope) (b : ℕ) (uri : List ℕ) → IsDeclarable ([], b ∷ uri) × IsLegal (b ∷ uri) → IsOwn s None (Some (b ∷ uri)) (b ∷ uri)
 own_default s b uri h = record {
-  declares = h.declared;
-  legal = record { name = declaring_name None no_prefix; value = h.legal };
+  declares = h.0.declared;
+  legal = record { name = declaring_name None no_prefix; value = h.1 };
   named = λ other e. ap (λ (o : Option (List ℕ)). Ok o) (default_named (uri_of [] other) b uri e);
   own_too = λ other e p is. absurd cc;
 }
@@ -76,13 +76,13 @@ uri_named : (r : Result (List ℕ) Fault) (uri : List ℕ) → (r >>= λ u. name
 uri_named (Err f) uri h = absurd cc
 uri_named (Ok u) uri h = let same : Some u ≡ Some uri = ap (λ (r : Result (Option (List ℕ)) Fault). ok_or_else None r) h in let inner : u ≡ uri = cc in ap (λ (x : List ℕ). Ok x) inner
 
-own_prefixed : (s : Scope) (p uri : List ℕ) → IsPlain p → IsDeclarable (p, uri) → namespace_of s (Some p) ≡ Ok (Some uri) → IsOwn s (Some p) (Some uri) uri
-own_prefixed s [] uri hp h own = absurd (nonempty [] [] hp refl)
-own_prefixed s (b ∷ p) uri hp h own =
+own_prefixed : (s : Scope) (p uri : List ℕ) → IsPlain p → IsDeclarable (p, uri) → IsLegal uri → namespace_of s (Some p) ≡ Ok (Some uri) → IsOwn s (Some p) (Some uri) uri
+own_prefixed s [] uri hp h l own = absurd (nonempty [] [] hp refl)
+own_prefixed s (b ∷ p) uri hp h l own =
     let before : uri_in s (b ∷ p) ≡ Ok uri = uri_named (uri_in s (b ∷ p)) uri own in
     record {
       declares = h.declared;
-      legal = record { name = declaring_name (Some (b ∷ p)) (λ q is. let same : b ∷ p ≡ q = cc in subst IsPlain same hp); value = h.legal };
+      legal = record { name = declaring_name (Some (b ∷ p)) (λ q is. let same : b ∷ p ≡ q = cc in subst IsPlain same hp); value = l };
       named = λ other e. ap (λ (r : Result (List ℕ) Fault). r >>= λ u. named_as u) (uri_in_from s other (b ∷ p) uri (has_namespace b p uri h (uri_of (b ∷ p) other) e) before);
       own_too = λ other e q is.
           let same : b ∷ p ≡ q = cc in
@@ -117,7 +117,7 @@ own_of None (Some []) h = absurd h
 own_of None (Some (b ∷ uri)) h = own_default [] b uri h
 own_of (Some p) None h = absurd h
 own_of (Some []) (Some uri) h = absurd (nonempty [] [] h.0 refl)
-own_of (Some (b ∷ p)) (Some uri) h = own_prefixed ((b ∷ p, uri) ∷ []) (b ∷ p) uri h.0 h.1 (named_there b p uri h.1)
+own_of (Some (b ∷ p)) (Some uri) h = own_prefixed ((b ∷ p, uri) ∷ []) (b ∷ p) uri h.0 h.1.0 h.1.1 (named_there b p uri h.1.0)
 
 kept_again : (scope : Scope) (prefix namespace : Option (List ℕ)) (bs : List (List ℕ × List ℕ)) (k : AreKept prefix namespace bs) → IsExpandedName prefix namespace
     → IsAgain scope prefix namespace bs k.names (placed (opened scope bs) (or_empty prefix) (or_empty namespace) bs)
@@ -125,7 +125,7 @@ kept_again scope None None bs k h = placed_again scope None None bs k [] (own_no
 kept_again scope None (Some []) bs k h = absurd h
 kept_again scope None (Some (b ∷ uri)) bs k h = placed_again scope None (Some (b ∷ uri)) bs k (b ∷ uri) (own_default k.scope b uri h)
 kept_again scope (Some p) None bs k h = absurd h
-kept_again scope (Some p) (Some uri) bs k h = placed_again scope (Some p) (Some uri) bs k uri (own_prefixed k.scope p uri h.0 h.1 k.own)
+kept_again scope (Some p) (Some uri) bs k h = placed_again scope (Some p) (Some uri) bs k uri (own_prefixed k.scope p uri h.0 h.1.0 h.1.1 k.own)
 
 pub record PlaceAgain (scope : Scope) (prefix found : Option (List ℕ)) (meant : List (List ℕ × List ℕ)) (place : List (List ℕ × List ℕ) × Scope) : Type 0 where
   pub names : List Expanded

@@ -38,9 +38,9 @@ pub child_pushed : (out before now : List ℕ) (t : ElementTree) (ts : ElementTr
 child_pushed out before now t ts all e so_far =
     ap (λ (bs : List ℕ). bs ++ spellings (flats ts)) e ∙ append_assoc before (spellings (flat t)) (spellings (flats ts)) ∙ ap (λ (bs : List ℕ). before ++ bs) (sym (children_spelled t ts)) ∙ so_far
 
-pub none_left : (before all : List ℕ) → before ++ spellings (flats no_trees) ≡ all → before ≡ all
+pub ended : (before all : List ℕ) → before ++ spellings (flats no_trees) ≡ all → before ≡ all
 unfolding spellings
-none_left before all so_far = sym (append-nil before) ∙ so_far
+ended before all so_far = sym (append-nil before) ∙ so_far
 
 -- an element with children, and one without
 pub element_pushed : (a b c d name name1 name2 : List ℕ) (prefix namespace : Option (List ℕ)) (attributes attributes1 : List (List ℕ × List ℕ)) (t : ElementTree) (ts : ElementTrees)
@@ -65,7 +65,7 @@ child_turn before now all items i x lt is e so_far =
 pub all_pushed : (before all : List ℕ) (items : List XmlNode) (i : ℕ) → length items ≤ i → before ++ spellings (flats (trees (map node_tree (drop i items)))) ≡ all → before ≡ all
 all_pushed before all items i le so_far =
     let nil : drop i items ≡ [] = nil_from_length (drop i items) (omega (arith, length-drop i items)) in
-    none_left before all (ap (λ (ys : List XmlNode). before ++ spellings (flats (trees (map node_tree ys)))) (sym nil) ∙ so_far)
+    ended before all (ap (λ (ys : List XmlNode). before ++ spellings (flats (trees (map node_tree ys)))) (sym nil) ∙ so_far)
 
 -- by the list of children
 pub with_children_pushed : (a b c d name name1 name2 : List ℕ) (prefix namespace : Option (List ℕ)) (attributes attributes1 : List (List ℕ × List ℕ)) (items : List XmlNode) → (length items ≡ 0 → ⊥)

@@ -15,15 +15,14 @@ IsPlain name = plain_name name ≡ Ok name
 -- an attribute may declare this prefix with this namespace
 pub record IsDeclarable (d : List ℕ × List ℕ) : Type 0 where
   pub declared : declared_by (xmlns_name d.0, d.1) ≡ Ok (Some d)
-  pub legal : IsLegal d.1
 
 -- A prefix with its namespace. A name without a prefix may have one or none, and a prefix has one.
 abbrev pub IsExpandedName : Option (List ℕ) → Option (List ℕ) → Type 0
 IsExpandedName None None = Unit {0}
 IsExpandedName None (Some []) = ⊥
-IsExpandedName None (Some (b ∷ uri)) = IsDeclarable ([], b ∷ uri)
+IsExpandedName None (Some (b ∷ uri)) = IsDeclarable ([], b ∷ uri) × IsLegal (b ∷ uri)
 IsExpandedName (Some prefix) None = ⊥
-IsExpandedName (Some prefix) (Some uri) = IsPlain prefix × IsDeclarable (prefix, uri)
+IsExpandedName (Some prefix) (Some uri) = IsPlain prefix × (IsDeclarable (prefix, uri) × IsLegal uri)
 
 -- The attributes are those that are kept of an element with that prefix and namespace, in some scope.
 pub record AreKept (prefix namespace : Option (List ℕ)) (attributes : List (List ℕ × List ℕ)) : Type 0 where

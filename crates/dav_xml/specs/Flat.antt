@@ -5,7 +5,7 @@ use Rattle.dav_xml.specs.Read.{◌>>=◌}
 use Rattle.dav_xml.specs.Markup.{tokens_of}
 use Rattle.dav_xml.specs.Nesting.{nested}
 use Rattle.dav_xml.specs.Bytes.{is_space}
-use Rattle.dav_xml.specs.Spelling.{escaped}
+use Rattle.dav_xml.specs.Spelling.{escaped, spellings}
 use Rattle.std.specs.List.{list_all}
 use Rattle.dav_xml.specs.Token.{Markup, opens, empty, closes, content}
 use Rattle.dav_core.specs.Element.{ElementTree, ElementTrees, element, text, no_trees, tree_then}
@@ -20,6 +20,10 @@ abbrev mutual
   pub flats : ElementTrees → List Markup
   flats no_trees = []
   flats (tree_then t ts) = flat t ++ flats ts
+
+-- how a tree is written
+abbrev pub tree_spelling : ElementTree → List ℕ
+tree_spelling t = spellings (flat t)
 
 abbrev mutual
   -- An element of at most n levels whose names have no namespaces yet. No text is empty, and none follows another.

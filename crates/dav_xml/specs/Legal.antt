@@ -1,5 +1,5 @@
 -- Texts that a document may have (XML 1.0, section 2.2), and trees of them.
-use Rattle.std.specs.Prelude.{◌≡◌, ℕ, true, List}
+use Rattle.std.specs.Prelude.{◌≡◌, ℕ, true, List, Option, Some, None}
 use Rattle.std.specs.List.{list_all, AllByRecursion}
 use Rattle.std.specs.Str.{encode_utf8_all}
 use Rattle.dav_core.specs.Element.{ElementTree, ElementTrees, element, text, no_trees, tree_then}
@@ -30,3 +30,17 @@ abbrev mutual
   pub HaveLegal : ElementTrees → Type 0
   HaveLegal no_trees = Unit {0}
   HaveLegal (tree_then t ts) = HasLegal t × HaveLegal ts
+
+abbrev pub IsLegalIfAny : Option (List ℕ) → Type 0
+IsLegalIfAny None = Unit {0}
+IsLegalIfAny (Some bytes) = IsLegal bytes
+
+abbrev mutual
+  -- A tree whose namespaces, values and texts are of legal characters.
+  pub HasLegalTexts : ElementTree → Type 0
+  HasLegalTexts (element name prefix namespace attributes children) = IsLegalIfAny namespace × (AllByRecursion (λ a. IsLegal a.1) attributes × HaveLegalTexts children)
+  HasLegalTexts (text bytes) = IsLegal bytes
+
+  pub HaveLegalTexts : ElementTrees → Type 0
+  HaveLegalTexts no_trees = Unit {0}
+  HaveLegalTexts (tree_then t ts) = HasLegalTexts t × HaveLegalTexts ts

@@ -1,5 +1,5 @@
 -- The prefixes that are declared at one place (Namespaces in XML 1.0, sections 3, 5 and 6).
-use Rattle.std.specs.Prelude.{ℕ, Bool, not, ◌&&◌, ◌||◌, ◌==◌, if◌then◌else◌, List, [], ◌∷◌, length, bytes_eq, codes, Option, Some, None, Result, Ok, Err}
+use Rattle.std.specs.Prelude.{ℕ, Bool, not, ◌&&◌, map, ◌||◌, ◌==◌, if◌then◌else◌, List, [], ◌∷◌, length, bytes_eq, codes, Option, Some, None, Result, Ok, Err}
 use denote.Ref.{Bor}
 use Rattle.dav_xml.specs.declared.error.Fault.{Fault}
 use Rattle.dav_xml.specs.declared.error.Fault.TheVariants.{Malformed}
@@ -16,6 +16,9 @@ Scope = List (List ℕ × List ℕ)
 -- a prefix and its namespace, without where they lie in memory
 abbrev pub pair_bytes : Bor (List ℕ) × Bor (List ℕ) → List ℕ × List ℕ
 pair_bytes p = (p.0.now, p.1.now)
+
+abbrev pub pairs : List (Bor (List ℕ) × Bor (List ℕ)) → Scope
+pairs ds = map pair_bytes ds
 
 -- the last that is declared, behind what was found before
 abbrev pub uri_after : Option (List ℕ) → List ℕ → Scope → Option (List ℕ)

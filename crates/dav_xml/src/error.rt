@@ -1,41 +1,31 @@
 //! Why a text isn't read.
 use std::alloc::{AllocError, AllocFailed};
-use std::error::Error;
-use std::fmt;
+use thiserror::Error;
 
 /// What is wrong with a text.
-#[derive(Clone, Copy, Debug, PartialEq, Eq)]
+#[derive(Clone, Copy, Debug, PartialEq, Eq, Error)]
 pub enum Fault {
     /// It isn't a well-formed document of declared prefixes in UTF-8, or it has a document type.
+    #[error("Malformed")]
     Malformed,
     /// It has more than 64 levels of elements.
+    #[error("TooDeep")]
     TooDeep,
     /// It has more than 1 MiB, an element of more than 256 attributes, or more than 256 prefixes that are declared at one place.
+    #[error("TooLarge")]
     TooLarge,
 }
 
 /// Why a text isn't read as an element tree.
-#[derive(Clone, Copy, Debug, PartialEq, Eq)]
+#[derive(Clone, Copy, Debug, PartialEq, Eq, Error)]
 pub enum XmlError {
     /// Memory ran out.
+    #[error("Memory")]
     Memory,
     /// Something is wrong with the text.
+    #[error("{0}")]
     Fault(Fault),
 }
-
-/// Writes the variant's name.
-impl fmt::Display for XmlError {
-    fn fmt<W: fmt::Write>(&self, f: &mut fmt::Formatter<W>) -> fmt::Result {
-        f.write_str(match self {
-            XmlError::Memory => "Memory",
-            XmlError::Fault(Fault::Malformed) => "Malformed",
-            XmlError::Fault(Fault::TooDeep) => "TooDeep",
-            XmlError::Fault(Fault::TooLarge) => "TooLarge",
-        })
-    }
-}
-
-impl Error for XmlError {}
 
 impl From<AllocError> for XmlError {
     ghost use Rattle.std.specs.Prelude.{◌≡◌};

@@ -1,17 +1,17 @@
 //! Laws of the definitions.
-ghost use Rattle.std.specs.Prelude.{◌≡◌, ◌++◌, ◌≤◌, [], ℕ, length, List, Ok};
+ghost use Rattle.std.specs.Prelude.{◌≡◌, ◌++◌, ◌≤◌, ◌∷◌, [], false, suc, ℕ, codes, length, List, None, Ok, Some};
 ghost use Rattle.dav_xml.specs.Token.{Markup};
 ghost use Rattle.dav_xml.specs.Markup.{tokens_of};
 ghost use Rattle.dav_xml.specs.Spelling.{AreSpelled, spellings};
-ghost use Rattle.dav_core.specs.Element.{ElementTree};
+ghost use Rattle.dav_core.specs.Element.{ElementTree, ElementTrees, element};
 ghost use Rattle.dav_xml.specs.Nesting.{nested};
 ghost use Rattle.dav_xml.specs.Flat.{flat, nested_tokens, IsRaw};
 ghost use Rattle.dav_xml.specs.Front.{raw_document};
 ghost use Rattle.dav_xml.specs.Written.{declaration, document_of, written};
 ghost use Rattle.dav_xml.specs.Namespaces.{document};
-ghost use Rattle.dav_xml.specs.Scopes.{Scope};
-ghost use Rattle.dav_xml.specs.Expanded.{IsExpanded, IsFew, Means};
-ghost use Rattle.dav_xml.specs.Legal.{HasLegal};
+ghost use Rattle.dav_xml.specs.Scopes.{Scope, uri_of};
+ghost use Rattle.dav_xml.specs.Expanded.{AllMean, IsExpanded, IsFew, IsPlain, Means};
+ghost use Rattle.dav_xml.specs.Legal.{HasLegal, HasLegalTexts};
 
 /// Pieces of markup that are written are read again.
 pub fn spelled_is_read()
@@ -21,6 +21,17 @@ pub fn spelled_is_read()
 /// The pieces of a tree of at most 64 levels are nested to that tree again.
 pub fn flat_is_nested()
     ensures { (t : ElementTree) → IsRaw 64 t → nested (flat t) ≡ Ok t }
+{}
+
+/// Pieces that are nested give a tree of at most 64 levels, without an empty text or a text behind another.
+pub fn nested_is_raw()
+    ensures { (ts : List Markup) (t : ElementTree) → nested ts ≡ Ok t → IsRaw 64 t }
+{}
+
+/// Pieces that are nested to a tree, and the tree's own pieces, are nested to the same.
+pub fn nested_is_flat()
+    ensures { (ts : List Markup) (t : ElementTree) → nested ts ≡ Ok t
+        → nested (flat t) ≡ nested ts }
 {}
 
 /// A raw tree that is written is read again.
@@ -47,4 +58,35 @@ pub fn written_is_read()
 /// A tree with expanded names means itself, wherever it is sent: so what is written of it is read again as the same tree.
 pub fn expanded_means_itself()
     ensures { (n : ℕ) (scope : Scope) (t : ElementTree) → IsExpanded n t → Means n scope t t }
+{}
+
+/// An element with the prefix `D`, without a namespace and attributes, is read with the namespace `DAV:` where that is declared.
+pub fn dav_element_means()
+    ensures { (n : ℕ) (scope : Scope) (name : List ℕ) (children meant : ElementTrees) → IsPlain name
+        → uri_of (codes "D") scope ≡ Some (codes "DAV:") → AllMean n false scope children meant
+        → Means (suc n) scope (element name (Some (codes "D")) None [] children)
+        (element name (Some (codes "D")) (Some (codes "DAV:")) [] meant) }
+{}
+
+/// So is the outermost element of a reply, which declares the prefix.
+pub fn dav_root_means()
+    ensures { (n : ℕ) (name : List ℕ) (children meant : ElementTrees) → IsPlain name
+        → AllMean n false ((codes "D", codes "DAV:") ∷ []) children meant
+        → Means (suc n) [] (element name (Some (codes "D")) None
+        ((codes "xmlns:D", codes "DAV:") ∷ []) children)
+        (element name (Some (codes "D")) (Some (codes "DAV:")) [] meant) }
+{}
+
+/// What is read has at most 64 levels and expanded names, where its texts, values and namespaces are of legal characters.
+pub fn read_is_expanded()
+    ensures { (bytes : List ℕ) (t : ElementTree) → document bytes ≡ Ok t → HasLegalTexts t
+        → IsExpanded 64 t }
+{}
+
+/// What was read is written so that the same is read again: where its texts, values and namespaces are of legal characters, each
+/// element that is written has at most 256 attributes and is within at most 256 declarations, and the whole has at most 1 MiB.
+pub fn read_is_read_again()
+    ensures { (bytes : List ℕ) (t : ElementTree) → document bytes ≡ Ok t → HasLegalTexts t
+        → IsFew [] (written [] t) → length (document_of t) ≤ 0x10_0000
+        → document (document_of t) ≡ Ok t }
 {}

@@ -3,7 +3,7 @@ ghost use Rattle.std.specs.Prelude.{◌≡◌, ◌++◌, ◌∷◌, [], None, ma
 ghost use Rattle.dav_core.specs.Element.{trees};
 ghost use Rattle.dav_core.specs.ElementView.{attribute_bytes, node_tree};
 ghost use Rattle.dav_xml.specs.Read.{Gives};
-ghost use Rattle.dav_xml.specs.Scopes.{pair_bytes};
+ghost use Rattle.dav_xml.specs.Scopes.{pair_bytes, pairs};
 ghost use Rattle.dav_xml.specs.KeptView.{kept_view};
 ghost use Rattle.dav_xml.specs.Namespaces as spec;
 
@@ -139,7 +139,7 @@ fn within<'s>(
 }
 
 fn few<'s>(scope: Vec<(&'s [u8], &'s str)>) -> Result<Vec<(&'s [u8], &'s str)>, XmlError>
-    ensures { Gives (λ v. map pair_bytes v.items) result (spec.few (map pair_bytes scope.entry.items)) }
+    ensures { Gives (λ v. pairs v.items) result (spec.few (pairs scope.entry.items)) }
 {
     if scope.len() > 256 {
         return Err(XmlError::Fault(Fault::TooLarge));

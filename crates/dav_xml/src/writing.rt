@@ -5,7 +5,7 @@ ghost use Rattle.dav_xml.specs.Token.{opens, empty, closes};
 ghost use Rattle.dav_core.specs.Element.{trees};
 ghost use Rattle.dav_core.specs.ElementView.{node_tree};
 ghost use Rattle.dav_xml.specs.Spelling as spec;
-ghost use Rattle.dav_xml.specs.Flat.{flat, flats};
+ghost use Rattle.dav_xml.specs.Flat.{flat, flats, tree_spelling};
 ghost use Rattle.dav_xml.specs.Written.{declaration, document_of};
 
 use crate::written::written;
@@ -121,7 +121,7 @@ fn push_element(out: &mut Vec<u8>, element: &Element) -> Result<(), AllocError>
 }
 
 #[cycle(writes)]
-#[tactic(auto, using(crate::proofs::Spellings::children_spelled, crate::proofs::Spellings::none_left))]
+#[tactic(auto, using(crate::proofs::Spellings::children_spelled, crate::proofs::Spellings::ended))]
 fn push_children(out: &mut Vec<u8>, children: &Vec<XmlNode>) -> Result<(), AllocError>
     ensures { OnOk result (out.new.items ≡ out.old.items
         ++ spec.spellings (flats (trees (map node_tree children.now.items)))) }
@@ -135,7 +135,7 @@ fn push_children(out: &mut Vec<u8>, children: &Vec<XmlNode>) -> Result<(), Alloc
 #[cycle(writes)]
 #[tactic(auto, using(crate::proofs::Spellings::text_spelled))]
 fn push_node(out: &mut Vec<u8>, node: &XmlNode) -> Result<(), AllocError>
-    ensures { OnOk result (out.new.items ≡ out.old.items ++ spec.spellings (flat (node_tree node.now))) }
+    ensures { OnOk result (out.new.items ≡ out.old.items ++ tree_spelling (node_tree node.now)) }
 {
     match node {
         XmlNode::Element(element) => push_element(out, element),
