@@ -8,7 +8,7 @@ use Rattle.dav_engine.specs.Plan.{Locks, ServerState}
 use Rattle.dav_engine.specs.PlanLaws.{CutsAreLikeRefusals}
 use Rattle.dav_engine.specs.Response.{reply_to}
 use Rattle.dav_server.specs.Leaving.{SafeLeaves}
-use Rattle.dav_server.specs.Machine.{Asked, Settings, StepCut, untouched, cut, Steps, steps}
+use Rattle.dav_server.specs.Machine.{Asked, Settings, StepCut, untouched, cut, steps}
 use Rattle.dav_server.specs.Run.{Turn, CutsAreLikeSteps}
 use Rattle.dav_server.specs.TagLaws.{HasMethod, is_safe, AreShowable, ReadingLeavesCut, RunsKeepWorldsCut}
 use Rattle.dav_server.proofs.MeansWorld.{begun_world, all_front, all_back, run_keeps, step_keeps, cut_reads, means_reads}

@@ -10,7 +10,7 @@ use Rattle.dav_engine.specs.declared.request.Body.{Body}
 use Rattle.dav_engine.specs.declared.request.Body.TheVariants as body
 use Rattle.dav_engine.specs.Alongside.{side_err}
 use Rattle.dav_engine.specs.AlongsidePlans.{SubmitsAlone, GoesAlong}
-use Rattle.dav_engine.specs.Conditions.{Conditions, AreConditions}
+use Rattle.dav_engine.specs.Conditions.{Conditions}
 use Rattle.dav_engine.specs.CopyMove.{DestinationNames}
 use Rattle.dav_engine.specs.Guard.{IsGuard, IsInReach, IsInside}
 use Rattle.dav_engine.specs.Headers.{Headers}

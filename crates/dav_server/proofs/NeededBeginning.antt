@@ -1,5 +1,5 @@
 -- That a server begins without locks is needed: a run of one that begins with a lock, which a request ends without naming its token.
-use Rattle.std.proofs.Common.{◌≤◌, true, false, true≢false, [], ◌∷◌, length, codes, append-nil, Some, None, Err, refl, sym, ap, arith}
+use Rattle.std.proofs.Common.{◌≤◌, true≢false, [], ◌∷◌, length, codes, append-nil, Some, None, Err, refl, sym, ap, arith}
 use Rattle.std.proofs.lemmas.List.Elements.{All-nil}
 use Rattle.std.proofs.lemmas.List.Kept.{AllPairs-cons}
 use Rattle.httparse.specs.Grammar.{IsField, is_token_byte, print_request}

@@ -1,5 +1,5 @@
 -- What a run promises.
-use Rattle.std.proofs.Common.{List, Some, [], ◌≡◌, ◌++◌, ◌∷◌, subst}
+use Rattle.std.proofs.Common.{List, ◌≡◌, ◌++◌, ◌∷◌, subst}
 use Rattle.dav_engine.specs.Response.{Response}
 use Rattle.dav_server.specs.EachRequest.{RunStep}
 use Rattle.dav_server.specs.Promises.{Promise, reading, created, refused, unmodified, updated, passed, kept, shared, tags, hrefs, members, Keeps, From, step_of, RunsPromise}

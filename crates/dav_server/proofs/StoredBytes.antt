@@ -24,7 +24,7 @@ use Rattle.dav_engine.specs.declared.put_headers.Bounds.TheVariants.{Whole}
 use Rattle.dav_engine.specs.declared.put_headers.Writing.{Writing}
 use Rattle.dav_engine.specs.Client.{Client, requester}
 use Rattle.dav_engine.specs.Conditions.{guarded}
-use Rattle.dav_engine.specs.Method.{◌>>=◌, gives, require, require_free, refused_as, answer_of, ask_for, require_member}
+use Rattle.dav_engine.specs.Method.{◌>>=◌, gives, require, refused_as, answer_of, ask_for, require_member}
 use Rattle.dav_engine.specs.Plan.{Locks, Ran, ran_ask}
 use Rattle.dav_engine.specs.Put.{PutHeaders, written_by, bounded_by, writing_of, put_opening, open_error, written, is_announced, stored, store, put_allowed, put_body}
 use Rattle.dav_engine.specs.Response.{Response, Header, etag, last_modified, content_length}

@@ -6,7 +6,7 @@ use Rattle.http_header.specs.HeaderMap.{get_all}
 use Rattle.dav_core.specs.declared.errors.DavError.{DavError}
 use Rattle.dav_core.specs.declared.errors.DavError.TheVariants as dav
 use Rattle.dav_core.specs.declared.method.DavMethod.{DavMethod}
-use Rattle.dav_core.specs.declared.method.DavMethod.TheVariants.{Options, PropFind, PropPatch}
+use Rattle.dav_core.specs.declared.method.DavMethod.TheVariants.{PropFind, PropPatch}
 use Rattle.dav_core.specs.Asking.{StoreState, Asks}
 use Rattle.dav_core.specs.Element.{ElementTree}
 use Rattle.dav_core.specs.Path.{PathText, star, names, path_bytes, joined}
@@ -30,7 +30,7 @@ use Rattle.dav_server.specs.Head.{Request}
 use Rattle.dav_server.specs.Headers.{headers_of}
 use Rattle.dav_server.specs.Holder.{IsFor}
 use Rattle.dav_server.specs.HrefLaws.{IsServed}
-use Rattle.dav_server.specs.Machine.{Settings, Asked, client, taken_by, body_for, PlanOf, finds_properties, sets_properties, MeansOf, not_allowed, no_path, no_body, method, Means, no_head, no_method, known, Steps, steps}
+use Rattle.dav_server.specs.Machine.{Settings, Asked, client, taken_by, body_for, PlanOf, finds_properties, sets_properties, MeansOf, not_allowed, no_path, no_body, method, Means, no_head, no_method, known, steps}
 use Rattle.dav_server.specs.Method.{GivesServed}
 use Rattle.dav_server.specs.StoredLaws.{Patched, PatchesAreMade, Stores, TellsFirst, StoredComesBack}
 use Rattle.dav_server.proofs.FindStatuses.{ends_propfind}

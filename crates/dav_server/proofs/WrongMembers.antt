@@ -1,5 +1,5 @@
 -- A step that isn't the machine's: another client makes a member of a folder whose list of members a lock of Depth 0 guards.
-use Rattle.std.proofs.Common.{◌≡◌, ◌≢◌, ◌||◌, ℕ, Bool, true, false, if◌then◌else◌, List, [], ◌∷◌, Option, Some, None, Ok, refl, sym, ap, subst, ◌∙◌, arith}
+use Rattle.std.proofs.Common.{◌≡◌, ◌≢◌, ℕ, Bool, true, false, if◌then◌else◌, List, [], ◌∷◌, Some, None, Ok, refl, sym, ap, subst, ◌∙◌, arith}
 use Rattle.std.proofs.Math.Bool.{or-false}
 use Rattle.std.specs.Option.{option_map}
 use Rattle.dav_core.specs.declared.errors.DavError.TheVariants as dav
@@ -7,7 +7,7 @@ use Rattle.dav_core.specs.declared.method.DavMethod.TheVariants.{MkCol}
 use Rattle.dav_core.specs.Asking.{Asks, asked, CreateDir}
 use Rattle.dav_core.specs.Locks.{Lock, covers, requester_of}
 use Rattle.dav_core.specs.Path.{Path, rest_after, has_names, is_same_path, is_under}
-use Rattle.dav_core.specs.World.{World, node_at, is_folder}
+use Rattle.dav_core.specs.World.{node_at, is_folder}
 use Rattle.dav_core.proofs.Theorems.{same_path}
 use Rattle.dav_engine.specs.Guard.{Stands, listed_here, listed_later}
 use Rattle.dav_engine.specs.Inside.{content_of}
@@ -18,7 +18,6 @@ use Rattle.dav_engine.specs.Plan.{Locks, Ran, ran_done, ran_ask, ran_look}
 use Rattle.dav_engine.specs.Response.{Response}
 use Rattle.dav_engine.specs.Sparing.{Spared}
 use Rattle.dav_server.specs.Head.{Request, request_of_head}
-use Rattle.dav_server.specs.Naming.{NamesLock}
 use Rattle.dav_server.specs.Promises.{OneStep, Promise, reading, created, refused, unmodified, updated, passed, kept, shared, tags, hrefs, members, Keeps}
 use Rattle.dav_server.proofs.NeededForHeadline.{state}
 use Rattle.dav_server.proofs.OneStep.{BreaksOnly, stand, as_shared, unsafe, no_creation, answered, no_304, no_hrefs, first_step, untold, no_tag}
