@@ -1,37 +1,27 @@
 //! Why a journal can't be read or written.
 use std::alloc::AllocError;
-use std::error::Error;
-use std::{fmt, io};
+use std::io;
+use thiserror::Error;
 
 /// Why a journal can't be read or written.
-#[derive(Clone, Copy, Debug, PartialEq, Eq)]
+#[derive(Clone, Copy, Debug, PartialEq, Eq, Error)]
 pub enum JournalError {
     /// The file couldn't be read, written or synced.
+    #[error("Io")]
     Io,
     /// There is no room for the block.
+    #[error("NoRoom")]
     NoRoom,
     /// The file isn't a journal of this version.
+    #[error("Foreign")]
     Foreign,
     /// A block is damaged, and blocks follow it.
+    #[error("Damaged")]
     Damaged,
     /// Memory ran out.
+    #[error("Memory")]
     Memory,
 }
-
-/// Writes the variant's name.
-impl fmt::Display for JournalError {
-    fn fmt<W: fmt::Write>(&self, f: &mut fmt::Formatter<W>) -> fmt::Result {
-        f.write_str(match self {
-            JournalError::Io => "Io",
-            JournalError::NoRoom => "NoRoom",
-            JournalError::Foreign => "Foreign",
-            JournalError::Damaged => "Damaged",
-            JournalError::Memory => "Memory",
-        })
-    }
-}
-
-impl Error for JournalError {}
 
 impl From<AllocError> for JournalError {
     fn from(_error: AllocError) -> JournalError {

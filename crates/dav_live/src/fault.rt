@@ -3,17 +3,22 @@ use dav_journal::JournalError;
 use dav_wire::Stop;
 use std::alloc::{AllocError, AllocFailed};
 use std::io;
+use thiserror::Error;
 
 /// Why a server ended.
-#[derive(Clone, Copy, Debug, PartialEq, Eq)]
+#[derive(Clone, Copy, Debug, PartialEq, Eq, Error)]
 pub enum Fault {
     /// The input ended.
+    #[error("Ended")]
     Ended,
     /// A report wasn't understood, or the pipes failed.
+    #[error("Pipe")]
     Pipe,
     /// Memory ran out. Nothing was released since the last commit.
+    #[error("Memory")]
     Memory,
     /// The disk failed at a commit. Nothing was released since the one before.
+    #[error("Disk")]
     Disk,
 }
 
@@ -42,19 +47,25 @@ impl From<Stop> for Fault {
 }
 
 /// Why a server can't begin. Nothing was changed.
-#[derive(Clone, Copy, Debug, PartialEq, Eq)]
+#[derive(Clone, Copy, Debug, PartialEq, Eq, Error)]
 pub enum OpenError {
     /// A setting is wrong: the prefix or the users.
+    #[error("Settings")]
     Settings,
     /// The state was kept under another prefix.
+    #[error("OtherPrefix")]
     OtherPrefix,
     /// The file isn't a state of this version.
+    #[error("Foreign")]
     Foreign,
     /// The state is damaged, or a request is answered otherwise than it was.
+    #[error("Damaged")]
     Damaged,
     /// The disk failed or is full.
+    #[error("Disk")]
     Disk,
     /// Memory ran out.
+    #[error("Memory")]
     Memory,
 }
 
