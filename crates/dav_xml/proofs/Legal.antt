@@ -45,7 +45,7 @@ high b le = grind (arith, nat_tests)
 low : (c : ℕ) → is_char c ≡ true → is_printed c ≡ true
 low c e = grind (arith, nat_tests)
 
-printed : (c : ℕ) → is_char c ≡ true → Printed (encode c)
+pub printed : (c : ℕ) → is_char c ≡ true → Printed (encode c)
 printed c e = encode_cases Printed c
     (λ lt. rw (low c e) refl)
     (λ le lt. rw (high (192 + c / 64) (omega arith), high (next c) (omega arith)) refl)
@@ -86,7 +86,7 @@ three_here c last rest e le ge lt =
     not_late : (c : ℕ) → is_char c ≡ true → 65534 ≤ c → c < 65536 → ⊥
     not_late c e le lt = grind (arith, nat_tests)
 
-unmarked : (c last : ℕ) (rest : List ℕ) → is_char c ≡ true → 190 ≤ last → last ≤ 191 → split_text (mark last) rest ≡ None → Unmarked last rest (encode c)
+pub unmarked : (c last : ℕ) (rest : List ℕ) → is_char c ≡ true → 190 ≤ last → last ≤ 191 → split_text (mark last) rest ≡ None → Unmarked last rest (encode c)
 unmarked c last rest e le ge there = encode_cases (Unmarked last rest) c
     (λ lt. passed_low last c rest (not_mark c (omega arith)) there)
     (λ b lt. passed_low last (192 + c / 64) (next c ∷ rest) (not_mark (192 + c / 64) (omega arith)) (passed_low last (next c) rest (not_mark (next c) (omega arith)) there))

@@ -25,3 +25,8 @@ pub mod ReadTrees
 pub mod NestedRaw
 pub mod ReadAgain
 pub mod SentElements
+pub mod Clean
+pub mod CleanReferences
+pub mod CleanTokens
+pub mod NestedLegal
+pub mod ReadLegal

@@ -42,7 +42,7 @@ all_valid bs (suc m) e h = by_test (is_utf8 (take (suc m) bs)) (λ t. is_utf8 (t
     whole : take (suc m) bs ≡ bs
     whole = ap (λ (n : ℕ). take n bs) (sym e) ∙ ap (take (length bs)) (sym (append-nil bs)) ∙ take_at bs [] (length bs) refl
 
-is_text_utf8 : (bs : List ℕ) → (utf8_valid_len bs == length bs) ≡ true → IsUtf8 bs
+pub is_text_utf8 : (bs : List ℕ) → (utf8_valid_len bs == length bs) ≡ true → IsUtf8 bs
 unfolding utf8_valid_len
 is_text_utf8 bs e = all_valid bs (length bs) refl (eqb-true (valid_len_up_to bs (length bs)) (length bs) e)
 

@@ -27,7 +27,7 @@ pub plain_is : (bytes name : List ℕ) → plain_name bytes ≡ Ok name → IsPl
 plain_is bytes name h = ap plain_name (plain_same bytes name h) ∙ h
 
 -- the text of what was split at a byte
-abbrev whole : ℕ → Option (List ℕ × List ℕ) → List ℕ → List ℕ
+abbrev pub whole : ℕ → Option (List ℕ × List ℕ) → List ℕ → List ℕ
 whole q None bytes = bytes
 whole q (Some p) bytes = p.0 ++ q ∷ p.1
 
@@ -35,7 +35,7 @@ whole_behind : (q x : ℕ) (o : Option (List ℕ × List ℕ)) (xs : List ℕ) �
 whole_behind q x None xs = refl
 whole_behind q x (Some p) xs = refl
 
-split_whole : (q : ℕ) (bytes : List ℕ) → whole q (split_byte q bytes) bytes ≡ bytes
+pub split_whole : (q : ℕ) (bytes : List ℕ) → whole q (split_byte q bytes) bytes ≡ bytes
 split_whole q [] = refl
 split_whole q (x ∷ xs) = by_test (x == q) (λ t. whole q (cond t (Some ([], xs)) (behind (x ∷ []) (split_byte q xs))) (x ∷ xs) ≡ x ∷ xs)
     (λ is. ap (λ (y : ℕ). y ∷ xs) (sym (eqb-true x q is))) (λ other. whole_behind q x (split_byte q xs) xs ∙ ap (λ (ys : List ℕ). x ∷ ys) (split_whole q xs))

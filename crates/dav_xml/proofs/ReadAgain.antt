@@ -15,6 +15,7 @@ use Rattle.dav_xml.specs.Written.{written, document_of}
 use Rattle.dav_xml.specs.Expanded.{IsExpanded, IsFew}
 use Rattle.dav_xml.proofs.NestedRaw.{nested_raw}
 use Rattle.dav_xml.proofs.ReadTrees.{read_tree}
+use Rattle.dav_xml.proofs.ReadLegal.{read_legal}
 use Rattle.dav_xml.proofs.RoundTrip.{means_itself, document_again}
 
 on_tokens : (t : ElementTree) (r : Result (List Markup) Fault) → (r >>= nested) ≡ Ok t → IsRaw 64 t
@@ -33,9 +34,9 @@ on_raw : (t : ElementTree) (r : Result ElementTree Fault) → ((raw : ElementTre
 on_raw t (Err f) one e l = absurd cc
 on_raw t (Ok raw) one e l = read_tree 64 raw [] t tt (one raw refl) e l
 
-pub read_is_expanded : (bytes : List ℕ) (t : ElementTree) → document bytes ≡ Ok t → HasLegalTexts t → IsExpanded 64 t
+pub read_is_expanded : (bytes : List ℕ) (t : ElementTree) → document bytes ≡ Ok t → IsExpanded 64 t
 unfolding document
-read_is_expanded bytes t e l = on_raw t (raw_document bytes) (λ raw is. raw_is_raw bytes raw is) e l
+read_is_expanded bytes t e = on_raw t (raw_document bytes) (λ raw is. raw_is_raw bytes raw is) e (read_legal bytes t e)
 
-pub read_again : (bytes : List ℕ) (t : ElementTree) → document bytes ≡ Ok t → HasLegalTexts t → IsFew [] (written [] t) → length (document_of t) ≤ 0x10_0000 → document (document_of t) ≡ Ok t
-read_again bytes t e l le short = document_again t t (means_itself 64 [] t (read_is_expanded bytes t e l)) le short
+pub read_again : (bytes : List ℕ) (t : ElementTree) → document bytes ≡ Ok t → IsFew [] (written [] t) → length (document_of t) ≤ 0x10_0000 → document (document_of t) ≡ Ok t
+read_again bytes t e le short = document_again t t (means_itself 64 [] t (read_is_expanded bytes t e)) le short

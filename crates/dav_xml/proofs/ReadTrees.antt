@@ -28,7 +28,7 @@ use Rattle.dav_xml.proofs.QualifiedNames.{of_qualified}
 
 -- ---- declarations
 
-after_joined : (ws bs rest : List ℕ) → after_text ws bs ≡ Some rest → bs ≡ ws ++ rest
+pub after_joined : (ws bs rest : List ℕ) → after_text ws bs ≡ Some rest → bs ≡ ws ++ rest
 after_joined [] bs rest e = cc
 after_joined (w ∷ ws) [] rest e = absurd cc
 after_joined (w ∷ ws) (b ∷ bs) rest e = by_test (b == w) (λ t. (b == w) ≡ t → cond t (after_text ws bs) None ≡ Some rest → (b ∷ bs) ≡ w ∷ (ws ++ rest))
@@ -48,7 +48,7 @@ some_declared d = Ok (Some d)
 same_pair : (d e : List ℕ × List ℕ) → some_declared d ≡ some_declared e → d ≡ e
 same_pair d e h = ap (pair_or d) h
 
-abbrev declaration_of : List ℕ × List ℕ → List ℕ × List ℕ
+abbrev pub declaration_of : List ℕ × List ℕ → List ℕ × List ℕ
 declaration_of d = (xmlns_name d.0, d.1)
 
 not_nothing : (uri : List ℕ) → may_declare [] uri ≡ false
@@ -58,7 +58,7 @@ not_nothing uri =
     ∙ ap (λ (t : Bool). (not (bytes_eq [] (codes "xmlns")) && not (is_bound uri)) && t) (and_right (not (length uri == 0)) false refl)
     ∙ and_right (not (bytes_eq [] (codes "xmlns")) && not (is_bound uri)) false refl
 
-utf8_same : (bytes p : List ℕ) → utf8 bytes ≡ Ok p → bytes ≡ p
+pub utf8_same : (bytes p : List ℕ) → utf8 bytes ≡ Ok p → bytes ≡ p
 utf8_same bytes p h = by_test (utf8_valid_len bytes == length bytes) (λ t. cond {A = Result (List ℕ) Fault} t (Ok bytes) (Err Malformed) ≡ Ok p → bytes ≡ p) (λ e k. ap (ok_or_else []) k) (λ e k. absurd cc) h
 
 -- a prefix that is declared
@@ -86,7 +86,7 @@ by_default : (a d : List ℕ × List ℕ) → a.0 ≡ codes "xmlns" → default_
 by_default a d e h = ap (λ (n : List ℕ). (n, a.1)) e ∙ by_test (is_bound a.1) (λ t. cond {A = Declared} t (Err Malformed) (Ok (Some ([], a.1))) ≡ some_declared d → (codes "xmlns", a.1) ≡ declaration_of d)
     (λ f k. absurd cc) (λ f k. ap declaration_of (same_pair ([], a.1) d k)) h
 
-declaration_is : (a d : List ℕ × List ℕ) → declared_by a ≡ some_declared d → a ≡ declaration_of d
+pub declaration_is : (a d : List ℕ × List ℕ) → declared_by a ≡ some_declared d → a ≡ declaration_of d
 declaration_is a d h =
     by_test (bytes_eq a.0 (codes "xmlns")) (λ t. bytes_eq a.0 (codes "xmlns") ≡ t → cond {A = Declared} t (default_declared a.1) (first_or (after_text (codes "xmlns:") a.0) (λ prefix. prefix_declared prefix a.1) (Ok None)) ≡ some_declared d → a ≡ declaration_of d)
     (λ e k j. by_default a d (bytes_same a.0 (codes "xmlns") e) j) (λ e k j. by_prefix a d (after_text (codes "xmlns:") a.0) refl j) refl h
@@ -121,7 +121,7 @@ few_same : (r : Result Scope Fault) (inner : Scope) → (r >>= few) ≡ Ok inner
 few_same (Err f) inner h = absurd cc
 few_same (Ok s) inner h = by_test (ltb 256 (length s)) (λ t. cond {A = Result Scope Fault} t (Err TooLarge) (Ok s) ≡ scope_ok inner → scope_ok s ≡ scope_ok inner) (λ e k. absurd cc) (λ e k. k) h
 
-of_inside : (scope : Scope) (attributes : List (List ℕ × List ℕ)) (inner : Scope) → inside scope attributes ≡ Ok inner → OfInside scope attributes inner
+pub of_inside : (scope : Scope) (attributes : List (List ℕ × List ℕ)) (inner : Scope) → inside scope attributes ≡ Ok inner → OfInside scope attributes inner
 of_inside scope attributes inner h =
     by_test (ltb 256 (length attributes)) (λ t. cond {A = Result Scope Fault} t (Err TooLarge) (cond (are_distinct attributes) (within scope attributes >>= few) (Err Malformed)) ≡ Ok inner → OfInside scope attributes inner)
     (λ e k. absurd cc) (λ e k. by_test (are_distinct attributes) (λ t. are_distinct attributes ≡ t → cond {A = Result Scope Fault} t (within scope attributes >>= few) (Err Malformed) ≡ Ok inner → OfInside scope attributes inner)

@@ -77,16 +77,19 @@ pub fn dav_root_means()
         (element name (Some (codes "D")) (Some (codes "DAV:")) [] meant) }
 {}
 
-/// What is read has at most 64 levels and expanded names, where its texts, values and namespaces are of legal characters.
+/// What is read has at most 64 levels and expanded names, and is of legal characters.
 pub fn read_is_expanded()
-    ensures { (bytes : List ℕ) (t : ElementTree) → document bytes ≡ Ok t → HasLegalTexts t
-        → IsExpanded 64 t }
+    ensures { (bytes : List ℕ) (t : ElementTree) → document bytes ≡ Ok t → IsExpanded 64 t }
 {}
 
-/// What was read is written so that the same is read again: where its texts, values and namespaces are of legal characters, each
-/// element that is written has at most 256 attributes and is within at most 256 declarations, and the whole has at most 1 MiB.
+/// The namespaces, values and texts of what is read are of legal characters, those that references stand for too.
+pub fn read_is_legal()
+    ensures { (bytes : List ℕ) (t : ElementTree) → document bytes ≡ Ok t → HasLegalTexts t }
+{}
+
+/// What was read is written so that the same is read again, where each element that is written has at most 256 attributes and is
+/// within at most 256 declarations, and the whole has at most 1 MiB.
 pub fn read_is_read_again()
-    ensures { (bytes : List ℕ) (t : ElementTree) → document bytes ≡ Ok t → HasLegalTexts t
-        → IsFew [] (written [] t) → length (document_of t) ≤ 0x10_0000
-        → document (document_of t) ≡ Ok t }
+    ensures { (bytes : List ℕ) (t : ElementTree) → document bytes ≡ Ok t → IsFew [] (written [] t)
+        → length (document_of t) ≤ 0x10_0000 → document (document_of t) ≡ Ok t }
 {}

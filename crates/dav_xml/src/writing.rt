@@ -1,5 +1,5 @@
 //! Trees with names as they are written, as bytes.
-ghost use Rattle.std.specs.Prelude.{◌≡◌, ◌++◌, ◌∷◌, [], map, string_bytes, OnOk, IfOk};
+ghost use Rattle.std.specs.Prelude.{◌≡◌, ◌++◌, ◌∷◌, [], map, OnOk, IfOk};
 ghost use Rattle.dav_core.specs.ElementView.{attribute_bytes};
 ghost use Rattle.dav_xml.specs.Token.{opens, empty, closes};
 ghost use Rattle.dav_core.specs.Element.{trees};

@@ -15,6 +15,9 @@ const ROWS: &str = "\
 \u{feff}<?xml version=\"1.0\"?><D:lockinfo xmlns:D=\"DAV:\"><D:locktype><D:write /></D:locktype></D:lockinfo> -> (D|{DAV:}lockinfo(D|{DAV:}locktype(D|{DAV:}write)))
 # macOS
 <?xml version=\"1.0\" encoding=\"utf-8\"?>↵<D:propfind xmlns:D=\"DAV:\">↵<D:prop>↵<D:getlastmodified/>↵<D:resourcetype/>↵</D:prop>↵</D:propfind>↵ -> (D|{DAV:}propfind[↵](D|{DAV:}prop[↵](D|{DAV:}getlastmodified)[↵](D|{DAV:}resourcetype)[↵])[↵])
+# white space within a property's value and between the protocol's elements
+<D:propertyupdate xmlns:D=\"DAV:\">↵ <D:set>↵<D:prop><x:a xmlns:x='u'> <x:b>↵</x:b>⇥</x:a></D:prop>↵</D:set></D:propertyupdate> -> (D|{DAV:}propertyupdate[↵ ](D|{DAV:}set[↵](D|{DAV:}prop(x|{u}a[ ](x|{u}b[↵])[⇥]))[↵]))
+<D:owner xmlns:D=\"DAV:\"> &#32;↵</D:owner> -> (D|{DAV:}owner[  ↵])
 # a property with attributes (RFC 4918, 4.3)
 <x:author xmlns:x='http://example.com/ns'><x:name>Jane Doe</x:name> <x:uri type='email' added='2005-11-26'>mailto:jane.doe@example.com</x:uri></x:author> -> (x|{http://example.com/ns}author(x|{http://example.com/ns}name[Jane Doe])[ ](x|{http://example.com/ns}uri type=email added=2005-11-26[mailto:jane.doe@example.com]))
 ";
