@@ -69,10 +69,14 @@ class Server:
             return [int(word) for word in it.read().split()]
 
     def kill(self):
-        for pid in [*self.children(), self.process.pid]:
+        """Ends it by SIGKILL, and waits until the kernel has let go of the state, which it locks for the program."""
+        children = self.children()
+        for pid in [*children, self.process.pid]:
             with contextlib.suppress(ProcessLookupError):
                 os.kill(pid, signal.SIGKILL)
         self.process.wait()
+        while any(os.path.exists(f"/proc/{pid}/stat") for pid in children):
+            time.sleep(0.01)
 
     def is_up(self):
         return self.process.poll() is None
