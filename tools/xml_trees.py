@@ -3,8 +3,8 @@
 usage: no program; `tree_of(text)` is the element of an XML text, and `text_of(element)` the XML text of an element
 
 A tree has the form of docs/SCRIPTS.md: name, prefix, namespace, attributes, children. Reading is Python's expat; what is kept of a text is
-what the live server's reader keeps: texts are joined over comments and CDATA sections, texts of white space alone are left out, and
-of the declarations those stay that the prefix of an attribute needs, unless it is that of its element.
+what the live server's reader keeps: texts are joined over comments and CDATA sections, and of the declarations those stay that the
+prefix of an attribute needs, unless it is that of its element.
 """
 import re
 from xml.parsers import expat
@@ -69,8 +69,7 @@ class Reader:
         self.open.append(element)
 
     def end(self, _):
-        element = self.open.pop()
-        element["children"] = [child for child in element["children"] if not isinstance(child, str) or child.strip(" \t\r\n")]
+        self.open.pop()
 
     def text(self, data):
         children = self.open[-1]["children"]
