@@ -10,7 +10,7 @@ use Rattle.dav_core.specs.Handle.{Handle, Opening, opened}
 use Rattle.dav_core.specs.Meaning.{Meaning}
 use Rattle.dav_core.specs.Calls.{rename, open_at, emptied, without}
 use Rattle.dav_core.specs.Asking.{Call, Open, meaning}
-use Rattle.dav_core.specs.CallLaws.{IsProper, TakesAway, brought, path_after, IsUnchanged, IsStill, MayChange, OthersAreUnchanged, NodesFollowRenames, NodesStay, NodesWereThere, NumbersTellBytes, NumbersLookBack, MadeStands, StandsFor, OpenedStands, OpenedIsOpenFile, OpenFilesStay, TakenNeverReturn}
+use Rattle.dav_core.specs.CallLaws.{IsProper, TakesAway, brought, path_after, IsUnchanged, IsSameNode, MayChange, OthersAreUnchanged, NodesFollowRenames, NodesStay, NodesWereThere, NumbersTellBytes, NumbersLookBack, MadeStands, IsOpenOn, OpenedStands, OpenedIsOpenFile, OpenFilesStay, TakenNeverReturn}
 use Rattle.dav_core.proofs.NodesLemmas.{CameFrom, back-adjust, back-put, find-adjust, find-put_node, same_path, path-itself, apart}
 use Rattle.dav_core.proofs.FrontLemmas.{from_rest, no_rest}
 use Rattle.dav_core.proofs.CarriedLemmas.{Same, Same-adjust, Same-modified, back-prune, stays-prune, stays-moved, arrives-moved, renamed_world, back-renamed}
@@ -43,7 +43,7 @@ after-touched p now ns q n stood =
 unchanged_twice : (a b c : Node) → IsUnchanged a b → IsUnchanged b c → IsUnchanged a c
 unchanged_twice a b c first second = second ∙ ap (λ (x : Node). record x { modified = c.modified }) first
 
-unchanged_still : (n m : Node) → IsUnchanged n m → IsStill n m
+unchanged_still : (n m : Node) → IsUnchanged n m → IsSameNode n m
 unchanged_still n m is = (ap (λ (x : Node). x.made) is, ap (λ (x : Node). is_folder_kind x.kind) is)
 
 module _ (w : World) (from to : Path) (now : ℕ) where
@@ -98,20 +98,20 @@ decided false h = refl
 
 -- the node n is still at q
 abbrev Stays : World → Path → Node → Type 0
-Stays new q n = (m : Node) × (node_at new q ≡ Some m) × IsStill n m
+Stays new q n = (m : Node) × (node_at new q ≡ Some m) × IsSameNode n m
 
 -- a change at one path that keeps the node the one that it is
 stays-adjusted : (w : World) (p : Path) (f : Node → Node) (next : ℕ) (q : Path) (n : Node) → node_at w q ≡ Some n
-    → ((m : Node) → node_at w p ≡ Some m → IsStill m (f m)) → Stays (record { nodes = adjust p f w.nodes; next = next }) q n
+    → ((m : Node) → node_at w p ≡ Some m → IsSameNode m (f m)) → Stays (record { nodes = adjust p f w.nodes; next = next }) q n
 stays-adjusted w p f next q n stood keeps =
     let (m, there, how) = after-adjust p f w.nodes q n stood in (
       m,
       there,
-      elim how as (λ _. IsStill n m) [
+      elim how as (λ _. IsSameNode n m) [
         | inl e ↦ (ap (λ (x : Node). x.made) e, ap (λ (x : Node). is_folder_kind x.kind) e)
         | inr e ↦
-            let still : IsStill n (f n) = keeps n (ap (λ (x : Path). node_at w x) e.0 ∙ stood) in
-            subst (λ (x : Node). IsStill n x) (sym e.1) still
+            let still : IsSameNode n (f n) = keeps n (ap (λ (x : Path). node_at w x) e.0 ∙ stood) in
+            subst (λ (x : Node). IsSameNode n x) (sym e.1) still
       ],
     )
 
@@ -123,7 +123,7 @@ stays-touched p now ns next q n stood =
 not_put : (w : World) (p q : Path) (n : Node) → node_at w p ≡ None → node_at w q ≡ Some n → is_same_path q p ≡ false
 not_put w p q n none stood = apart q p (λ e. let clash : None ≡ Some n = sym none ∙ ap (node_at w) (sym e) ∙ stood in cc)
 
-renumbered_still : (number : ℕ) (n m : Node) → Renumbers number n m → IsStill n m
+renumbered_still : (number : ℕ) (n m : Node) → Renumbers number n m → IsSameNode n m
 renumbered_still number n m r = (r.made, r.kind)
 
 still_there : (old new : World) (p q : Path) (n : Node) → new ≡ old → q ≡ p → Stays old p n → Stays new q n
@@ -201,7 +201,7 @@ others_are_unchanged call w r p n world h stood kept left_alone = step_rests cal
 -- by the call, or was made by it.
 data Comes (w : World) (m : Node) : Type 0 where
   stayed : (s : Path) (n : Node) → node_at w s ≡ Some n → m.made ≡ n.made → m.number ≡ n.number → m.kind ≡ n.kind → Comes w m
-  changed : (s : Path) (n : Node) → node_at w s ≡ Some n → IsStill n m → m.number ≡ w.next → Comes w m
+  changed : (s : Path) (n : Node) → node_at w s ≡ Some n → IsSameNode n m → m.number ≡ w.next → Comes w m
   born : m.made ≡ w.next → m.number ≡ w.next → Comes w m
 
 comes_same : (w : World) (m : Node) (s : Path) (n : Node) → node_at w s ≡ Some n → Same n m → Comes w m
@@ -250,7 +250,7 @@ comes call w new proper world (renames from to now a b out folder sound takes br
     let (s, n, came, stood, same) = back-renamed w from to now small q m (ap (λ (x : World). node_at x q) (sym is) ∙ h) in
     comes_same w m s n stood same
 
-were_there : (w : World) (m : Node) → m.made < w.next → Comes w m → (p : Path) × (n : Node) × (node_at w p ≡ Some n) × IsStill n m
+were_there : (w : World) (m : Node) → m.made < w.next → Comes w m → (p : Path) × (n : Node) × (node_at w p ≡ Some n) × IsSameNode n m
 were_there w m older (stayed s n stood made number kind) = (s, n, stood, (made, ap is_folder_kind kind))
 were_there w m older (changed s n stood still number) = (s, n, stood, still)
 were_there w m older (born made number) = absurd (omega (arith, older, made))
@@ -303,7 +303,7 @@ module _ (w : World) (p : Path) (how : Opening) (now : ℕ) (r : Handle × World
       let a_new : Node = fresh w.next (File []) now in
       let (m, there, same) = after-touched p now (put path_cmp p a_new w.nodes) p a_new
       (find-put_node p p a_new w.nodes ∙ ap (λ b. cond b (Some a_new) (find path_cmp p w.nodes)) (path-itself p)) in
-      let still : IsStill a_new m = unchanged_still a_new m same in
+      let still : IsSameNode a_new m = unchanged_still a_new m same in
       (m, ap (λ (x : World). node_at x p) is ∙ there, still.0 ∙ ap (λ (x : Handle). x.made) (sym handle), still.1)
   opened_by (Some n) there h =
       let (file, h1) = went_on (is_folder_kind n.kind) Forbidden _ r h in
@@ -332,7 +332,7 @@ unfolding meaning
 opened_at p how now w r h = opened_by w p how now r (node_at w p) refl h
 
 -- an open file with the number under which the file at a path was created refers to that file
-stands_for : (w : World) (file : Handle) (p : Path) (n : Node) → IsWorld w → node_at w p ≡ Some n → n.made ≡ file.made → is_folder_kind n.kind ≡ false → StandsFor w file p n
+stands_for : (w : World) (file : Handle) (p : Path) (n : Node) → IsWorld w → node_at w p ≡ Some n → n.made ≡ file.made → is_folder_kind n.kind ≡ false → IsOpenOn w file p n
 stands_for w file p n world there made is_file = (subst (λ k. file_made_with k w.nodes ≡ Some n) made (stands_made w world p n there is_file), there)
 
 pub opened_stands : OpenedStands

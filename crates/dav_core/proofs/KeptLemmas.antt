@@ -6,7 +6,7 @@ use Rattle.dav_core.specs.World.{World, Node, Nodes, node_at, adjust, file_made_
 use Rattle.dav_core.specs.Meaning.{at_node}
 use Rattle.dav_core.specs.Calls.{metadata, metadata_of}
 use Rattle.dav_core.specs.Asking.{Call, Metadata, ReadDir, EntryMetadata, CreateDir, RemoveDir, RemoveFile, Rename, Copy, HaveProps, PatchProps, GetProps, GetProp, GetQuota, SetAccessed, SetModified, Open, Read, Write, Seek, Flush, FileMetadata, meaning}
-use Rattle.dav_core.specs.CallLaws.{CallsKeepWorlds, NumbersRise, CanBeShown, TimesAreShown, IsProper}
+use Rattle.dav_core.specs.CallLaws.{CallsKeepWorlds, NumbersRise, TimesAreDates, TimesAreShown, IsProper}
 use Rattle.dav_core.proofs.WorldLemmas.{new_keeps_world, change_keeps_world}
 use Rattle.dav_core.proofs.CarriedLemmas.{same_keeps, without_keeps, renamed_keeps}
 use Rattle.dav_core.proofs.MadeLemmas.{made_stands, change_made}
@@ -51,13 +51,13 @@ next_by call w new (renames from to now a b out folder sound takes brings is) = 
 pub numbers_rise : NumbersRise
 numbers_rise call w r h = next_by call w r.1 (steps call w r h)
 
-told_of : (w : World) (o : Option Node) (r : DavMetaData × World) → ((n : Node) → o ≡ Some n → CanBeShown (metadata_of n)) → at_node o (λ n. Ok (metadata_of n, w)) ≡ Ok r → CanBeShown r.0
+told_of : (w : World) (o : Option Node) (r : DavMetaData × World) → ((n : Node) → o ≡ Some n → TimesAreDates (metadata_of n)) → at_node o (λ n. Ok (metadata_of n, w)) ≡ Ok r → TimesAreDates r.0
 told_of w None r shown h = cc
 told_of w (Some n) r shown h =
     let same : metadata_of n ≡ r.0 = cc in
-    subst CanBeShown same (shown n refl)
+    subst TimesAreDates same (shown n refl)
 
-told_at : (w : World) → IsWorld w → (p : Path) (r : DavMetaData × World) → metadata w p ≡ Ok r → CanBeShown r.0
+told_at : (w : World) → IsWorld w → (p : Path) (r : DavMetaData × World) → metadata w p ≡ Ok r → TimesAreDates r.0
 told_at w world p r h = told_of w (node_at w p) r (λ n stood. ((world.sound p n stood).created, (world.sound p n stood).modified)) h
 
 pub times_are_shown : TimesAreShown

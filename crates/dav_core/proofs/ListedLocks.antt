@@ -6,7 +6,7 @@ use Rattle.std.proofs.lemmas.Slice.Eq.{bytes_eq-Decides}
 use Rattle.dav_core.specs.Lists.{without_first, change_first}
 use Rattle.dav_core.specs.Path.{Path, names, fronts, is_at_or_under, is_same_path}
 use Rattle.dav_core.specs.Locks.{Lock, has_token_at, lock_front, refreshed_lock}
-use Rattle.dav_core.specs.LockLaws.{IsMeant, UnlockTakesOne, RefreshChangesOne}
+use Rattle.dav_core.specs.LockLaws.{IsNamedLock, UnlockTakesOne, RefreshChangesOne}
 use Rattle.dav_core.proofs.NodesLemmas.{same_path}
 use Rattle.dav_core.proofs.FrontLemmas.{rest_after-append}
 use Rattle.std.proofs.lemmas.Bool.{and_parts}
@@ -85,7 +85,7 @@ first_front [] test q h = root_only test q (test []) refl h
 first_front (x ∷ p) test q h = front_step test x p q (test []) refl (first_front p (λ y. test (x ∷ y))) h
 
 -- a lock with this token on a front of the path is one that they can mean
-is_meant : (token : List ℕ) (p q rest : Path) (l : Lock) → p ≡ q ++ rest → has_token_at token q l ≡ true → IsMeant token p l
+is_meant : (token : List ℕ) (p q rest : Path) (l : Lock) → p ≡ q ++ rest → has_token_at token q l ≡ true → IsNamedLock token p l
 is_meant token p q rest l e h =
     let (same, at) = and_parts (bytes_eq l.token token) (is_same_path (names l.path) q) h in
     record {

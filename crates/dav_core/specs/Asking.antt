@@ -13,7 +13,7 @@ use Rattle.dav_core.specs.Meaning.{Meaning}
 use Rattle.dav_core.specs.Calls.{metadata, read_dir, create_dir, remove_dir, remove_file, rename, copy, patch_props, get_props, get_prop, open_file, read_bytes, write_bytes, seek, flush, file_metadata}
 
 -- The calls of a store, with their arguments. A number at the end is the moment of the call; that of Read is the most
--- bytes to read, and that of SetAccessed and SetModified the time to set.
+-- bytes to read, and that of SetAccessed and SetModified the time to set (RFC 4331, section 3).
 pub data Call : Type 0 where
   Metadata : Path → Call
   ReadDir : Path → Call
@@ -37,7 +37,7 @@ pub data Call : Type 0 where
   Flush : Handle → Call
   FileMetadata : Handle → Call
 
--- What a call answers when it isn't refused. A call that moves the position of an open file answers the file as it is then.
+-- What a call answers when it isn't refused. A call that moves the position of an open file answers the file as it is then (RFC 4331, section 3).
 abbrev pub Answer : Call → Type 0
 Answer (Metadata p) = DavMetaData
 Answer (ReadDir p) = List (List ℕ × Bool)
@@ -61,7 +61,7 @@ Answer (Seek file to) = ℕ × Handle
 Answer (Flush file) = Unit {0}
 Answer (FileMetadata file) = DavMetaData
 
--- what a call means: every store has properties; reporting quotas and setting times are not implemented
+-- what a call means: every store has properties; reporting quotas and setting times are not implemented (RFC 4331, section 3)
 unfoldable pub meaning : (call : Call) → World → Meaning (Answer call)
 meaning (Metadata p) w = metadata w p
 meaning (ReadDir p) w = read_dir w p

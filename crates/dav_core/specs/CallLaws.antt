@@ -50,19 +50,23 @@ PutStands = (p : Path) (n : Node) (q : Path) (ns : Nodes) → find path_cmp q (p
 abbrev pub KeepsOrder : (Nodes → Nodes) → Type 0
 KeepsOrder change = (ns : Nodes) → T (is_sorted path_cmp ns) → T (is_sorted path_cmp (change ns))
 
+-- the list of nodes without those at a path and below it is in the order of their paths
 abbrev pub PruneKeepsOrder : Type 0
 PruneKeepsOrder = (p : Path) → KeepsOrder (prune p)
 
+-- the list of nodes with copies of others grafted in is in the order of their paths
 abbrev pub GraftKeepsOrder : Type 0
 GraftKeepsOrder = (p t : Path) → KeepsOrder (graft p t)
 
--- the first of the two may be in any order
+-- the union of two lists of nodes is in the order of their paths, whatever the order of the first is
 abbrev pub UnionKeepsOrder : Type 0
 UnionKeepsOrder = (es : Nodes) → KeepsOrder (union es)
 
+-- the list of nodes of which some moved is in the order of their paths
 abbrev pub MovedKeepsOrder : Type 0
 MovedKeepsOrder = (from to : Path) → KeepsOrder (moved from to)
 
+-- the list of nodes of which some changed is in the order of their paths
 abbrev pub AdjustKeepsOrder : Type 0
 AdjustKeepsOrder = (p : Path) (f : Node → Node) → KeepsOrder (adjust p f)
 
@@ -71,7 +75,7 @@ abbrev pub IsStorable : Path → Type 0
 IsStorable p = All IsName p × All (All (λ b. b < 256)) p
 
 -- A call that a caller may make: each path at which it may put something is one where a node may be, and each moment that
--- it may store can be shown as an HTTP date.
+-- it may store can be shown as an HTTP date (RFC 9110, section 5.6.7).
 abbrev pub IsProper : Call → Type 0
 IsProper (CreateDir p now) = IsStorable p × (now ≤ last_moment)
 IsProper (RemoveDir p now) = now ≤ last_moment
@@ -82,26 +86,26 @@ IsProper (Open p how now) = IsStorable p × (now ≤ last_moment)
 IsProper (Write file bytes now) = now ≤ last_moment
 IsProper _ = ⊤
 
--- a world stays a world after each call that a caller may make
+-- a world stays a world after each call that a caller may make (RFC 4918, section 5.1)
 abbrev pub CallsKeepWorlds : Type 0
 CallsKeepWorlds = (call : Call) (w : World) (r : Answer call × World) → IsProper call → IsWorld w → meaning call w ≡ Ok r → IsWorld r.1
 
--- the next change number never falls
+-- the next change number never falls (RFC 4918, section 5.1)
 abbrev pub NumbersRise : Type 0
 NumbersRise = (call : Call) (w : World) (r : Answer call × World) → meaning call w ≡ Ok r → w.next ≤ r.1.next
 
 -- both times can be shown as HTTP dates
-abbrev pub CanBeShown : DavMetaData → Type 0
-CanBeShown told = (told.created ≤ last_moment) × (told.modified ≤ last_moment)
+abbrev pub TimesAreDates : DavMetaData → Type 0
+TimesAreDates told = (told.created ≤ last_moment) × (told.modified ≤ last_moment)
 
 -- where a call answers the metadata of a node, its times can be shown as HTTP dates
 abbrev pub ShowsTimes : (call : Call) → Answer call → Type 0
-ShowsTimes (Metadata p) told = CanBeShown told
-ShowsTimes (EntryMetadata p) told = CanBeShown told
-ShowsTimes (FileMetadata file) told = CanBeShown told
+ShowsTimes (Metadata p) told = TimesAreDates told
+ShowsTimes (EntryMetadata p) told = TimesAreDates told
+ShowsTimes (FileMetadata file) told = TimesAreDates told
 ShowsTimes _ _ = ⊤
 
--- in a world, the times that a call answers can be shown as HTTP dates
+-- in a world, the times that a call answers can be shown as HTTP dates (RFC 4918, section 5.1)
 abbrev pub TimesAreShown : Type 0
 TimesAreShown = (call : Call) (w : World) (r : Answer call × World) → IsWorld w → meaning call w ≡ Ok r → ShowsTimes call r.0
 
@@ -137,17 +141,17 @@ CanBeAsked =
     (call : Call) (old : StoreState)
     → (answer : Result (Answer call) FsError) × (new : StoreState) × Asks call old answer new × (new.short ≡ old.short)
 
--- the first member of p under a name is the node of this name directly below p, if there is one
+-- the first member of p under a name is the node of this name directly below p, if there is one (RFC 4918, section 5.2)
 abbrev pub MembersStandBelow : Type 0
 MembersStandBelow =
     (p : Path) (name : List ℕ) (ns : Nodes)
     → find name_cmp name (members p ns) ≡ option_map (λ n. is_folder_kind n.kind) (find path_cmp (p ++ name ∷ []) ns)
 
--- in a world the names of members strictly rise in the order of their bytes, so each is listed once
+-- in a world the names of members strictly rise in the order of their bytes, so each is listed once (RFC 4918, section 5.2)
 abbrev pub MembersRise : Type 0
 MembersRise = (p : Path) (w : World) → IsWorld w → T (is_sorted name_cmp (members p w.nodes))
 
--- in a world a name is listed, as that of a folder or of a file, exactly where there is such a node directly below p
+-- in a world a name is listed, as that of a folder or of a file, exactly where there is such a node directly below p (RFC 4918, section 5.2)
 abbrev pub ListsWhatStands : Type 0
 ListsWhatStands =
     (p : Path) (name : List ℕ) (dir : Bool) (w : World)
@@ -182,24 +186,24 @@ abbrev pub IsUnchanged : Node → Node → Type 0
 IsUnchanged n m = m ≡ record n { modified = m.modified }
 
 -- m is n after a call: it was created under the same change number, and is still a folder, or still a file
-abbrev pub IsStill : Node → Node → Type 0
-IsStill n m = (m.made ≡ n.made) × (is_folder_kind m.kind ≡ is_folder_kind n.kind)
+abbrev pub IsSameNode : Node → Node → Type 0
+IsSameNode n m = (m.made ≡ n.made) × (is_folder_kind m.kind ≡ is_folder_kind n.kind)
 
--- what a rename doesn't take away is where the rename moved it, with its bytes, properties and numbers
+-- what a rename doesn't take away is where the rename moved it, with its bytes, properties and numbers (RFC 4918, section 9.9)
 abbrev pub NodesFollowRenames : Type 0
 NodesFollowRenames =
     (from to : Path) (now : ℕ) (w : World) (r : Unit {0} × World) (p : Path) (n : Node)
     → meaning (Rename from to now) w ≡ Ok r → node_at w p ≡ Some n → is_at_or_under p to ≡ false
     → (m : Node) × (node_at r.1 (path_after from to p) ≡ Some m) × IsUnchanged n m
 
--- what a call doesn't take away is still there: a rename may have moved it, all other calls leave it where it was
+-- what a call doesn't take away is still there: a rename may have moved it, all other calls leave it where it was (RFC 4918, section 9.9)
 abbrev pub NodesStay : Type 0
 NodesStay =
     (call : Call) (w : World) (r : Answer call × World) (p : Path) (n : Node)
     → IsProper call → IsWorld w → meaning call w ≡ Ok r → node_at w p ≡ Some n → ¬ TakesAway call p
-    → (m : Node) × (node_at r.1 (brought call p) ≡ Some m) × IsStill n m
+    → (m : Node) × (node_at r.1 (brought call p) ≡ Some m) × IsSameNode n m
 
--- what a call neither takes away nor may change is as it was, but for the moment of its last change
+-- what a call neither takes away nor may change is as it was, but for the moment of its last change (RFC 4918, section 9.9)
 abbrev pub OthersAreUnchanged : Type 0
 OthersAreUnchanged =
     (call : Call) (w : World) (r : Answer call × World) (p : Path) (n : Node)
@@ -211,22 +215,22 @@ abbrev pub NodesWereThere : Type 0
 NodesWereThere =
     (call : Call) (w : World) (r : Answer call × World) (q : Path) (m : Node)
     → IsProper call → IsWorld w → meaning call w ≡ Ok r → node_at r.1 q ≡ Some m → m.made < w.next
-    → (p : Path) × (n : Node) × (node_at w p ≡ Some n) × IsStill n m
+    → (p : Path) × (n : Node) × (node_at w p ≡ Some n) × IsSameNode n m
 
--- and what a call takes away is gone
+-- what a call takes away is gone after it
 abbrev pub TakenIsGone : Type 0
 TakenIsGone =
     (call : Call) (w : World) (r : Answer call × World) (p q : Path) (n m : Node)
     → IsProper call → IsWorld w → meaning call w ≡ Ok r → node_at w p ≡ Some n → TakesAway call p → node_at r.1 q ≡ Some m → m.made ≢ n.made
 
--- what has the same change number before and after a call is the same node with the same bytes
+-- what has the same change number before and after a call is the same node with the same bytes (RFC 9110, section 8.8.1)
 abbrev pub NumbersTellBytes : Type 0
 NumbersTellBytes =
     (call : Call) (w : World) (r : Answer call × World) (p q : Path) (n m : Node)
     → IsProper call → IsWorld w → meaning call w ≡ Ok r → node_at w p ≡ Some n → node_at r.1 q ≡ Some m
     → n.number ≡ m.number → (m.made ≡ n.made) × (m.kind ≡ n.kind)
 
--- what has an older change number after a call had it before, and is the same node with the same bytes
+-- what has an older change number after a call had it before, and is the same node with the same bytes (RFC 9110, section 8.8.1)
 abbrev pub NumbersLookBack : Type 0
 NumbersLookBack =
     (call : Call) (w : World) (r : Answer call × World) (q : Path) (m : Node)
@@ -241,27 +245,27 @@ MadeStands =
     → (file_made_with made w.nodes ≡ Some n) ↔ ((p : Path) × (node_at w p ≡ Some n) × (n.made ≡ made) × (is_folder_kind n.kind ≡ false))
 
 -- the open file refers to the file n, which is at p
-abbrev pub StandsFor : World → Handle → Path → Node → Type 0
-StandsFor w file p n = (file_made_with file.made w.nodes ≡ Some n) × (node_at w p ≡ Some n)
+abbrev pub IsOpenOn : World → Handle → Path → Node → Type 0
+IsOpenOn w file p n = (file_made_with file.made w.nodes ≡ Some n) × (node_at w p ≡ Some n)
 
 -- an open that succeeds gives an open file that refers to the file at the path
 abbrev pub OpenedStands : Type 0
 OpenedStands =
     (p : Path) (how : Opening) (now : ℕ) (w : World) (r : Handle × World)
-    → IsProper (Open p how now) → IsWorld w → meaning (Open p how now) w ≡ Ok r → (n : Node) × StandsFor r.1 r.0 p n
+    → IsProper (Open p how now) → IsWorld w → meaning (Open p how now) w ≡ Ok r → (n : Node) × IsOpenOn r.1 r.0 p n
 
 -- An open file refers to the same file after each call that doesn't take the file away, also where a rename moved it.
 abbrev pub OpenFilesStay : Type 0
 OpenFilesStay =
     (call : Call) (w : World) (r : Answer call × World) (file : Handle) (p : Path) (n : Node)
-    → IsProper call → IsWorld w → meaning call w ≡ Ok r → StandsFor w file p n → ¬ TakesAway call p
-    → (m : Node) × StandsFor r.1 file (brought call p) m × IsStill n m
+    → IsProper call → IsWorld w → meaning call w ≡ Ok r → IsOpenOn w file p n → ¬ TakesAway call p
+    → (m : Node) × IsOpenOn r.1 file (brought call p) m × IsSameNode n m
 
 -- After a call that takes its file away, an open file refers to none.
 abbrev pub TakenFilesAreGone : Type 0
 TakenFilesAreGone =
     (call : Call) (w : World) (r : Answer call × World) (file : Handle) (p : Path) (n : Node)
-    → IsProper call → IsWorld w → meaning call w ≡ Ok r → StandsFor w file p n → TakesAway call p → file_made_with file.made r.1.nodes ≡ None
+    → IsProper call → IsWorld w → meaning call w ≡ Ok r → IsOpenOn w file p n → TakesAway call p → file_made_with file.made r.1.nodes ≡ None
 
 -- the change number by which the open file refers to its file was handed out
 abbrev pub IsOpenFile : World → Handle → Type 0
@@ -273,7 +277,7 @@ OpenedIsOpenFile =
     (p : Path) (how : Opening) (now : ℕ) (w : World) (r : Handle × World)
     → IsProper (Open p how now) → IsWorld w → meaning (Open p how now) w ≡ Ok r → IsOpenFile r.1 r.0
 
--- and one that refers to no file refers to none after each call: its file never comes back
+-- a handle that refers to no file refers to none after each call: its file never comes back
 abbrev pub TakenNeverReturn : Type 0
 TakenNeverReturn =
     (call : Call) (w : World) (r : Answer call × World) (file : Handle)
@@ -288,19 +292,19 @@ pub record IsCopy (source : Node) (number now : ℕ) (m : Node) : Type 0 where
   pub created : m.created ≡ now
   pub modified : m.modified ≡ now
 
--- a copy that succeeds puts a copy of what is at `from` at `to`, with the next change number
+-- a copy that succeeds puts a copy of what is at `from` at `to`, with the next change number (RFC 4918, sections 9.8 and 9.6)
 abbrev pub CopyBrings : Type 0
 CopyBrings =
     (from to : Path) (now : ℕ) (w : World) (r : Unit {0} × World) (source : Node)
     → meaning (Copy from to now) w ≡ Ok r → node_at w from ≡ Some source → (m : Node) × (node_at r.1 to ≡ Some m) × IsCopy source w.next now m
 
--- nothing is copied over a folder
+-- nothing is copied over a folder (RFC 4918, sections 9.8 and 9.6)
 abbrev pub CopySparesFolders : Type 0
 CopySparesFolders =
     (from to : Path) (now : ℕ) (w : World)
     → is_missing w from ≡ false → is_folder w to ≡ true → meaning (Copy from to now) w ≡ Err Forbidden
 
--- a folder with members isn't removed
+-- a folder with members isn't removed (RFC 4918, sections 9.8 and 9.6)
 abbrev pub RemovalSparesMembers : Type 0
 RemovalSparesMembers =
     (p : Path) (now : ℕ) (w : World)

@@ -16,16 +16,18 @@ use Rattle.dav_core.specs.Meaning.{Meaning, refuse_if, at_node, numbered}
 abbrev pub metadata_of : Node → DavMetaData
 metadata_of n = record { len = length (bytes_of n.kind); dir = is_folder_kind n.kind; created = n.created; modified = n.modified; number = Some n.number }
 
+-- what is reported of a folder or file; NotFound where nothing is there (RFC 4918, sections 15.1, 15.4, 15.6 and 15.7)
 abbrev pub metadata : World → Path → Meaning DavMetaData
 metadata w p = at_node (node_at w p) (λ n. Ok (metadata_of n, w))
 
--- the names in a folder, in the order of their bytes, each with whether it is a folder
+-- the names in a folder, in the order of their bytes, each with whether it is a folder (RFC 4918, section 5.2)
 abbrev pub read_dir : World → Path → Meaning (List (List ℕ × Bool))
 read_dir w p =
     refuse_if (is_missing w p) NotFound
     (refuse_if (is_file w p) Forbidden
     (Ok (members p w.nodes, w)))
 
+-- a new folder; Exists where something is there, NotFound without a folder above (RFC 4918, section 9.3)
 abbrev pub create_dir : World → Path → ℕ → Meaning (Unit {0})
 create_dir w p now =
     refuse_if (not (is_missing w p)) Exists
@@ -36,12 +38,14 @@ create_dir w p now =
 abbrev pub without : World → Path → ℕ → World
 without w p now = record w { nodes = touched p now (prune p w.nodes) }
 
+-- a file is removed; NotFound where nothing is there, Forbidden for a folder (RFC 4918, section 9.6)
 abbrev pub remove_file : World → Path → ℕ → Meaning (Unit {0})
 remove_file w p now =
     refuse_if (is_missing w p) NotFound
     (refuse_if (is_folder w p) Forbidden
     (Ok (tt, without w p now)))
 
+-- a folder without members is removed; Forbidden for the root and for a file, NotFound where nothing is there, Exists where it has members (RFC 4918, section 9.6)
 abbrev pub remove_dir : World → Path → ℕ → Meaning (Unit {0})
 remove_dir w p now =
     refuse_if (is_root p) Forbidden
@@ -50,7 +54,7 @@ remove_dir w p now =
     (refuse_if (has_members w p) Exists
     (Ok (tt, without w p now)))))
 
--- what is at `from` or below it goes to `to`, in the place of what is there; all nodes keep their numbers
+-- what is at `from` or below it goes to `to`, in the place of what is there; all nodes keep their numbers (RFC 4918, section 9.9)
 abbrev pub rename : World → Path → Path → ℕ → Meaning (Unit {0})
 rename w from to now =
     refuse_if (is_root from || is_root to) Forbidden
@@ -70,7 +74,7 @@ abbrev pub with_copy : World → Path → Node → Option Node → ℕ → World
 with_copy w to source None now = with_new w to source.kind source.properties now
 with_copy w to source (Some n) now = record { nodes = adjust to (copied_over source w.next now) w.nodes; next = w.next + 1 }
 
--- the bytes and dead properties of a file go to another path
+-- the bytes and dead properties of a file go to another path (RFC 4918, section 9.8)
 abbrev pub copy : World → Path → Path → ℕ → Meaning (Unit {0})
 copy w from to now =
     at_node (node_at w from) (λ source.
@@ -104,6 +108,7 @@ abbrev pub open_at : World → Path → Opening → ℕ → Option Node → Mean
 open_at w p how now None = open_missing w p how now
 open_at w p how now (Some n) = open_found w p how now n
 
+-- opening what is there, or making an empty file where that is asked
 abbrev pub open_file : World → Path → Opening → ℕ → Meaning Handle
 open_file w p how now = open_at w p how now (node_at w p)
 
@@ -141,9 +146,11 @@ seek w file to =
     at_node (file_made_with file.made w.nodes) (λ n.
     sought file (place_for to file.position (length (bytes_of n.kind))) w)
 
+-- what was written is flushed: NotFound where the file is gone
 abbrev pub flush : World → Handle → Meaning (Unit {0})
 flush w file = at_node (file_made_with file.made w.nodes) (λ n. Ok (tt, w))
 
+-- what is reported of the file that an open file stands for: NotFound where it is gone
 abbrev pub file_metadata : World → Handle → Meaning DavMetaData
 file_metadata w file = at_node (file_made_with file.made w.nodes) (λ n. Ok (metadata_of n, w))
 
@@ -151,13 +158,13 @@ file_metadata w file = at_node (file_made_with file.made w.nodes) (λ n. Ok (met
 abbrev pub repatched : List Patch → Node → Node
 repatched patches n = record n { properties = patched patches n.properties }
 
--- each change is answered 200, with its property, in order
+-- each change is answered 200, with its property, in order (RFC 4918, section 9.2)
 abbrev pub patch_props : World → Path → List Patch → Meaning (List (ℕ × Property))
 patch_props w p patches =
     at_node (node_at w p) (λ n.
     Ok (map (λ patch. (200, without_xml (patched_property patch))) patches, record w { nodes = adjust p (repatched patches) w.nodes }))
 
--- the properties in order of namespace and name
+-- the properties in order of namespace and name (RFC 4918, section 9.1)
 abbrev pub get_props : World → Path → Bool → Meaning (List Property)
 get_props w p content = at_node (node_at w p) (λ n. Ok (map (shown_property content) n.properties, w))
 
@@ -166,6 +173,6 @@ stored_tree None w = Err NotFound
 stored_tree (Some None) w = Err NotFound
 stored_tree (Some (Some tree)) w = Ok (tree, w)
 
--- the element of one property; one that is stored without an element is not found
+-- the element of one property; one that is stored without an element is not found (RFC 4918, section 9.1)
 abbrev pub get_prop : World → Path → PropertyKey → Meaning ElementTree
 get_prop w p key = at_node (node_at w p) (λ n. stored_tree (find key_cmp key n.properties) w)

@@ -3,12 +3,13 @@ use Rattle.std.specs.Prelude.{ℕ, suc, max, ◌==◌, ◌++◌, Bool, true, fal
 use Rattle.std.specs.List.{filter, filter_map, concat, before_first, after_first, list_any}
 
 mutual
-  -- An element: its name, prefix and namespace, its attributes in order, and its children; or a text among the children.
+  -- An element: its name, prefix and namespace, its attributes in order, and its children; or a text among the children
+  -- (RFC 4918, section 14; XML 1.0, 3).
   pub data ElementTree : Type 0 where
     element : (name : List ℕ) (prefix namespace : Option (List ℕ)) (attributes : List (List ℕ × List ℕ)) (children : ElementTrees) → ElementTree
     text : (bytes : List ℕ) → ElementTree
 
-  -- children, in order
+  -- children, in order (RFC 4918, section 14; XML 1.0, 3)
   pub data ElementTrees : Type 0 where
     no_trees : ElementTrees
     tree_then : (first : ElementTree) (rest : ElementTrees) → ElementTrees
@@ -35,28 +36,31 @@ abbrev pub namespace_of : ElementTree → Option (List ℕ)
 namespace_of (element name prefix namespace attributes children) = namespace
 namespace_of (text bytes) = None
 
+-- the attributes of an element, in order (XML 1.0, section 3.1)
 abbrev pub attributes_of : ElementTree → List (List ℕ × List ℕ)
 attributes_of (element name prefix namespace attributes children) = attributes
 attributes_of (text bytes) = []
 
+-- the children of an element, in order (XML 1.0, section 3.1)
 abbrev pub children_of : ElementTree → List ElementTree
 children_of (element name prefix namespace attributes children) = tree_list children
 children_of (text bytes) = []
 
--- The same element with other attributes, and with other children.
+-- An element with other attributes, and one with other children (XML 1.0, 3.1).
 abbrev pub with_attributes : ElementTree → List (List ℕ × List ℕ) → ElementTree
 with_attributes (element name prefix namespace attributes children) others = element name prefix namespace others children
 with_attributes (text bytes) others = text bytes
 
+-- an element with other children (XML 1.0, section 3.1)
 abbrev pub with_children : ElementTree → List ElementTree → ElementTree
 with_children (element name prefix namespace attributes children) others = element name prefix namespace attributes (trees others)
 with_children (text bytes) others = text bytes
 
--- the same element with one more child, after the others
+-- an element with one more child, after the others (XML 1.0, 3.1)
 abbrev pub with_child : ElementTree → ElementTree → ElementTree
 with_child e child = with_children e (children_of e ++ child ∷ [])
 
--- An element without attributes and children, whose name has that prefix.
+-- An element without attributes and children, whose name has that prefix (Namespaces in XML 1.0, 4).
 abbrev pub named : Option (List ℕ) → List ℕ → ElementTree
 named prefix name = element name prefix None [] no_trees
 
@@ -72,7 +76,7 @@ abbrev pub xmlns_name : List ℕ → List ℕ
 xmlns_name [] = codes "xmlns"
 xmlns_name (b ∷ prefix) = codes "xmlns:" ++ b ∷ prefix
 
--- The first attribute of that name gets this value; a new one is added at the end.
+-- The first attribute of that name gets this value; a new one is added at the end (Namespaces in XML 1.0, 3).
 abbrev pub set_attribute : List ℕ → List ℕ → List (List ℕ × List ℕ) → List (List ℕ × List ℕ)
 set_attribute name value [] = (name, value) ∷ []
 set_attribute name value (a ∷ others) = if bytes_eq a.0 name then (name, value) ∷ others else a ∷ set_attribute name value others
@@ -94,7 +98,7 @@ abbrev pub is_element : ElementTree → Bool
 is_element (element name prefix namespace attributes children) = true
 is_element (text bytes) = false
 
--- The child elements, in order.
+-- The child elements, in order (XML 1.0, 3.1).
 abbrev pub child_elements : ElementTree → List ElementTree
 child_elements e = filter is_element (children_of e)
 

@@ -59,5 +59,6 @@ mutual
   trees_code_inj no_trees (tree_then y ys) e = absurd (suc-ne-zero 0 (sym (ap is_pair e)))
   trees_code_inj (tree_then x xs) no_trees e = absurd (suc-ne-zero 0 (ap is_pair e))
 
+-- how the logic stores a tree, one to one; nothing but the checker needs it
 abbrev pub coded_tree : Coded ElementTree
 coded_tree = record { code = tree_code; inj = tree_code_inj }

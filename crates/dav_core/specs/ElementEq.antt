@@ -20,7 +20,7 @@ tag_eq x y =
     && pointwise attribute_eq (attributes_of x) (attributes_of y)
 
 abbrev mutual
-  -- and so are the children, one by one
+  -- two trees are equal where their names, prefixes, namespaces and attributes are, and their children one by one
   pub tree_eq : ElementTree → ElementTree → Bool
   tree_eq (element n p s a c) (element m q t b d) = tag_eq (element n p s a c) (element m q t b d) && trees_eq c d
   tree_eq (text a) (text b) = bytes_eq a b

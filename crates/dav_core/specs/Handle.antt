@@ -5,6 +5,7 @@ use Rattle.std.specs.declared.io.traits.SeekFrom.{SeekFrom}
 use Rattle.std.specs.declared.io.traits.SeekFrom.TheVariants.{Start, End, Current}
 use Rattle.dav_core.specs.Numbers.{max_u64}
 
+-- An open file: the number with which its file was made, the place where the next read or write begins, and whether it reads, writes and appends.
 pub record Handle : Type 0 where
   pub made : ℕ
   pub position : ℕ

@@ -1,6 +1,7 @@
 -- Lists without items, and lists in which one item is left out or changed.
 use Rattle.std.specs.Prelude.{Bool, true, false, List, [], ◌∷◌, if◌then◌else◌}
 
+-- a list has no items
 abbrev pub is_empty : {X : Type 0} → List X → Bool
 is_empty [] = true
 is_empty (x ∷ xs) = false

@@ -5,36 +5,36 @@ use Rattle.std.specs.List.{list_all}
 use Rattle.dav_core.specs.Path.{Path, names, is_at_or_under}
 use Rattle.dav_core.specs.Locks.{Lock, Requester, covers, is_held, is_free, is_free_deep, is_free_for, conflicts, is_grantable, unlocked, refreshed, refreshed_lock, discovered, deleted}
 
--- where a path is free, the requester holds each exclusive lock that covers it
+-- where a path is free, the requester holds each exclusive lock that covers it (RFC 4918, section 7.5)
 abbrev pub FreeHoldsExclusive : Type 0
 FreeHoldsExclusive =
     (who : Requester) (p : Path) (ls : List Lock) (l : Lock)
     → is_free who p ls ≡ true → Contains ls l → covers l p ≡ true → l.shared ≡ false → is_held who l ≡ true
 
--- where a path is free, the requester holds each exclusive lock that is on it, whatever the lock's depth is
+-- where a path is free, the requester holds each exclusive lock that is on it, whatever the lock's depth is (RFC 4918, section 7.5)
 abbrev pub FreeHoldsOwn : Type 0
 FreeHoldsOwn =
     (who : Requester) (p : Path) (ls : List Lock) (l : Lock)
     → is_free who p ls ≡ true → Contains ls l → names l.path ≡ p → l.shared ≡ false → is_held who l ≡ true
 
--- where it is free with everything below, the requester holds each lock at it and below it too
+-- where it is free with everything below, the requester holds each lock at it and below it too (RFC 4918, section 7.5)
 abbrev pub FreeDeepHoldsBelow : Type 0
 FreeDeepHoldsBelow =
     (who : Requester) (p : Path) (ls : List Lock) (l : Lock)
     → is_free_deep who p ls ≡ true → Contains ls l → is_at_or_under (names l.path) p ≡ true → is_held who l ≡ true
 
--- a path is free exactly where no lock conflicts
+-- a path is free exactly where no lock conflicts (RFC 4918, section 7.5)
 abbrev pub FreeIsNoConflict : Type 0
 FreeIsNoConflict =
     (deep : Bool) (who : Requester) (p : Path) (ls : List Lock)
     → is_free_for deep who p ls ≡ list_all (λ l. not (conflicts deep who p ls l)) ls
 
--- a lock that was just granted can be unlocked by its token and path
+-- a lock that was just granted can be unlocked by its token and path (RFC 4918, section 9.11)
 abbrev pub GrantedCanBeUnlocked : Type 0
 GrantedCanBeUnlocked =
     (l : Lock) (ls : List Lock) → is_some (unlocked l.token (names l.path) (ls ++ l ∷ [])) ≡ true
 
--- and where no other lock has its token, that leaves the list as it was before
+-- where no other lock has its token, granting a lock and taking it back leaves the list as it was before (RFC 4918, section 9.11)
 abbrev pub TakenBack : Type 0
 TakenBack =
     (l : Lock) (ls : List Lock)
@@ -44,30 +44,30 @@ TakenBack =
 abbrev pub CoveringAreShared : List Lock → Type 0
 CoveringAreShared = AllPairs (λ l m. (p : Path) → covers l p ≡ true → covers m p ≡ true → (l.shared ≡ true) × (m.shared ≡ true))
 
--- they still do after one more lock was granted that may be
+-- locks that cover one path are still shared after one more lock was granted that may be (RFC 4918, section 6.2)
 abbrev pub GrantedAreShared : Type 0
 GrantedAreShared =
     (new : Lock) (ls : List Lock)
     → CoveringAreShared ls → is_grantable new ls ≡ true → CoveringAreShared (ls ++ new ∷ [])
 
--- after one was unlocked
+-- after one was unlocked (RFC 4918, section 6.2)
 abbrev pub UnlockedAreShared : Type 0
 UnlockedAreShared =
     (token : List ℕ) (p : Path) (ls left : List Lock)
     → CoveringAreShared ls → unlocked token p ls ≡ Some left → CoveringAreShared left
 
--- after one got a new timeout
+-- after one got a new timeout (RFC 4918, section 6.2)
 abbrev pub RefreshedAreShared : Type 0
 RefreshedAreShared =
     (token : List ℕ) (p : Path) (timeout : Option ℕ) (now : ℕ) (ls new : List Lock)
     → CoveringAreShared ls → refreshed token p timeout now ls ≡ Some new → CoveringAreShared new
 
--- and after those at a path and below it were deleted
+-- locks that cover one path are still shared after those at a path and below it were deleted (RFC 4918, section 6.2)
 abbrev pub DeletedAreShared : Type 0
 DeletedAreShared = (p : Path) (ls : List Lock) → CoveringAreShared ls → CoveringAreShared (deleted p ls)
 
--- a lock that a token and a path can mean: it has the token, and is on the path or above it
-pub record IsMeant (token : List ℕ) (p : Path) (l : Lock) : Type 0 where
+-- a lock that a token and a path can mean: it has the token, and is on the path or above it (RFC 4918, sections 6.8, 9.10.2 and 9.11)
+pub record IsNamedLock (token : List ℕ) (p : Path) (l : Lock) : Type 0 where
   pub token_is : l.token ≡ token
   pub above : is_at_or_under p (names l.path) ≡ true
 
@@ -76,7 +76,7 @@ abbrev pub UnlockTakesOne : Type 0
 UnlockTakesOne =
     (token : List ℕ) (p : Path) (ls left : List Lock)
     → unlocked token p ls ≡ Some left
-    → (l : Lock) × (front : List Lock) × (back : List Lock) × IsMeant token p l × (ls ≡ front ++ l ∷ back) × (left ≡ front ++ back)
+    → (l : Lock) × (front : List Lock) × (back : List Lock) × IsNamedLock token p l × (ls ≡ front ++ l ∷ back) × (left ≡ front ++ back)
 
 -- a refresh gives one lock that is meant a new timeout, and changes nothing else of it; all locks keep their places
 -- (RFC 4918, section 9.10.2)
@@ -84,7 +84,7 @@ abbrev pub RefreshChangesOne : Type 0
 RefreshChangesOne =
     (token : List ℕ) (p : Path) (timeout : Option ℕ) (now : ℕ) (ls new : List Lock)
     → refreshed token p timeout now ls ≡ Some new
-    → (l : Lock) × (front : List Lock) × (back : List Lock) × IsMeant token p l
+    → (l : Lock) × (front : List Lock) × (back : List Lock) × IsNamedLock token p l
     × (ls ≡ front ++ l ∷ back) × (new ≡ front ++ refreshed_lock timeout now l ∷ back)
 
 -- the locks that are listed for a path are those of the list that cover it (RFC 4918, section 6.8)

@@ -8,7 +8,8 @@ use Rattle.dav_core.specs.Lists.{is_empty, without_first, change_first}
 use Rattle.dav_core.specs.Path.{Path, PathText, names, is_root, parent_of, is_same_path, is_under, is_at_or_under, fronts}
 
 -- A lock: its token, the path that it is on, its principal, the element in which its owner describes itself, when it ends
--- and after how many seconds, whether it is shared, and whether it is of infinite depth, on everything below its path too.
+-- and after how many seconds, whether it is shared, and whether it is of infinite depth, on everything below its path too
+-- (RFC 4918, sections 6.1 to 6.6).
 pub record Lock : Type 0 where
   pub token : List ℕ
   pub path : PathText
@@ -19,29 +20,29 @@ pub record Lock : Type 0 where
   pub shared : Bool
   pub deep : Bool
 
--- a lock covers its path, and where it is of infinite depth everything below it
+-- a lock covers its path, and where it is of infinite depth everything below it (RFC 4918, section 6.1)
 abbrev pub covers : Lock → Path → Bool
 covers l p = is_same_path (names l.path) p || (l.deep && is_under p (names l.path))
 
--- the locks of the list that cover a path
+-- the locks of the list that cover a path (RFC 4918, section 6.1)
 abbrev pub covering : Path → List Lock → List Lock
 covering p ls = filter (λ l. covers l p) ls
 
--- the locks of the list that are below a path
+-- the locks of the list that are below a path (RFC 4918, section 6.1)
 abbrev pub locks_below : Path → List Lock → List Lock
 locks_below p ls = filter (λ l. is_under (names l.path) p) ls
 
--- Who may hold a lock: anyone who submits its token, or only the one with this principal, which may be none.
+-- Who may hold a lock: anyone who submits its token, or only the one with this principal, which may be none (RFC 4918, sections 6.4 and 7.5).
 pub data Claimant : Type 0 where
   Anyone : Claimant
   By : Option (List ℕ) → Claimant
 
--- A requester: the tokens that it submits, and the principal that it claims, where that is checked.
+-- A requester: the tokens that it submits, and the principal that it claims, where that is checked (RFC 4918, sections 6.4 and 7.5).
 pub record Requester : Type 0 where
   pub tokens : List (List ℕ)
   pub principal : Claimant
 
--- the requester that submits these tokens, with a principal that is ignored or checked
+-- the requester that submits these tokens, with a principal that is ignored or checked (RFC 4918, section 6.4)
 abbrev pub requester_of : List (List ℕ) → Bool → Option (List ℕ) → Requester
 requester_of tokens ignored principal = record { tokens = tokens; principal = if ignored then Anyone else By principal }
 
@@ -52,17 +53,17 @@ abbrev pub is_of : Claimant → Lock → Bool
 is_of Anyone l = true
 is_of (By principal) l = is_same_principal l.principal principal
 
--- a requester holds a lock if it submits the lock's token, and is the lock's principal where that is checked
+-- a requester holds a lock if it submits the lock's token, and is the lock's principal where that is checked (RFC 4918, sections 6.4 and 7.5)
 abbrev pub is_held : Requester → Lock → Bool
 is_held who l = list_any (bytes_eq l.token) who.tokens && is_of who.principal l
 
--- A path is free for a requester that holds every exclusive lock covering it, and at least one covering lock if there is any.
+-- A path is free for a requester that holds every exclusive lock covering it, and at least one covering lock if there is any (RFC 4918, section 7.5).
 abbrev pub is_free : Requester → Path → List Lock → Bool
 is_free who p ls =
     list_all (λ l. is_held who l || l.shared) (covering p ls)
     && (list_any (is_held who) (covering p ls) || is_empty (covering p ls))
 
--- a path is free with everything below: it is free, and the requester holds every lock at it or below it
+-- a path is free with everything below: it is free, and the requester holds every lock at it or below it (RFC 4918, sections 7.4 and 9.6.1)
 abbrev pub is_free_deep : Requester → Path → List Lock → Bool
 is_free_deep who p ls = is_free who p ls && list_all (λ l. is_held who l || not (is_at_or_under (names l.path) p)) ls
 
@@ -75,35 +76,35 @@ abbrev pub is_free_parent : Requester → Path → List Lock → Bool
 is_free_parent who p ls = is_root p || is_free who (parent_of p) ls
 
 -- A lock conflicts: the requester doesn't hold it, and it covers the path and is exclusive, or covers it while no covering
--- lock is held; or it is at the path or below it, where the path is checked with everything below.
+-- lock is held; or it is at the path or below it, where the path is checked with everything below (RFC 4918, section 16).
 abbrev pub conflicts : Bool → Requester → Path → List Lock → Lock → Bool
 conflicts deep who p ls l =
     not (is_held who l)
     && ((covers l p && (not l.shared || not (list_any (is_held who) (covering p ls))))
     || (deep && is_at_or_under (names l.path) p))
 
--- The answer to a check whether a path is free: yes, or one lock that conflicts.
+-- The answer to a check whether a path is free: yes, or one lock that conflicts (RFC 4918, section 16).
 pub data Checks (deep : Bool) (who : Requester) (p : Path) (ls : List Lock) : Result (Unit {0}) Lock → Type 0 where
   free : is_free_for deep who p ls ≡ true → Checks deep who p ls (Ok tt)
   conflicting : {l : Lock} → Contains ls l → conflicts deep who p ls l ≡ true → Checks deep who p ls (Err l)
 
--- an answer that lends the lock that conflicts
+-- an answer that lends the lock that conflicts (RFC 4918, section 6.4)
 abbrev pub lent : Result (Unit {0}) (Bor Lock) → Result (Unit {0}) Lock
 lent (Ok u) = Ok u
 lent (Err l) = Err l.now
 
 -- A lock may be granted: an exclusive one where no lock covers its path, a shared one where no exclusive lock does;
--- and one of infinite depth only where no lock is below its path either.
+-- and one of infinite depth only where no lock is below its path either (RFC 4918, sections 9.10.3 and 9.10.5).
 abbrev pub is_grantable : Lock → List Lock → Bool
 is_grantable new ls =
     list_all (λ l. l.shared && new.shared) (covering (names new.path) ls)
     && (not new.deep || is_empty (locks_below (names new.path) ls))
 
--- the moment when a lock ends that has this timeout, in seconds; none without a timeout
+-- the moment when a lock ends that has this timeout, in seconds; none without a timeout (RFC 4918, sections 6.6 and 9.10)
 abbrev pub ends_at : ℕ → Option ℕ → Option ℕ
 ends_at now timeout = option_map (λ seconds. now + seconds) timeout
 
--- a lock as it is granted
+-- a lock as it is granted (RFC 4918, sections 6.6 and 9.10)
 abbrev pub new_lock : List ℕ → PathText → Option (List ℕ) → Option ElementTree → Option ℕ → Bool → Bool → ℕ → Lock
 new_lock token path principal owner timeout shared deep now = record {
   token = token;
@@ -116,7 +117,7 @@ new_lock token path principal owner timeout shared deep now = record {
   deep = deep;
 }
 
--- the lock with a new timeout; it stays the lock that it was
+-- the lock with a new timeout; it stays the lock that it was (RFC 4918, section 9.10.2)
 abbrev pub refreshed_lock : Option ℕ → ℕ → Lock → Lock
 refreshed_lock timeout now l = record l { timeout_at = ends_at now timeout; timeout = timeout }
 
@@ -124,26 +125,27 @@ refreshed_lock timeout now l = record l { timeout_at = ends_at now timeout; time
 abbrev pub has_token_at : List ℕ → Path → Lock → Bool
 has_token_at token p l = bytes_eq l.token token && is_same_path (names l.path) p
 
--- The path of the lock that a token and a path mean: the shortest front of the path at which a lock has the token.
+-- The path of the lock that a token and a path mean: the shortest front of the path at which a lock has the token (RFC 4918, section 9.11).
 abbrev pub lock_front : List ℕ → Path → List Lock → Option Path
 lock_front token p ls = first (λ q. list_any (has_token_at token q) ls) (fronts p)
 
--- and the lock that they mean: the first with the token that was granted there
+-- the lock that a token and a path mean: the first with the token that was granted at the shortest front of the path where a lock has it
+-- (RFC 4918, section 9.11)
 abbrev pub named_lock : List ℕ → Path → List Lock → Option Lock
 named_lock token p ls = option_and_then (λ q. first (has_token_at token q) ls) (lock_front token p ls)
 
--- the list without the lock that is meant; none where none is
+-- the list without the lock that is meant; none where none is (RFC 4918, sections 9.10.2 and 9.11)
 abbrev pub unlocked : List ℕ → Path → List Lock → Option (List Lock)
 unlocked token p ls = option_map (λ q. without_first (has_token_at token q) ls) (lock_front token p ls)
 
--- the list with a new timeout of the lock that is meant; none where none is
+-- the list with a new timeout of the lock that is meant; none where none is (RFC 4918, sections 9.10.2 and 9.11)
 abbrev pub refreshed : List ℕ → Path → Option ℕ → ℕ → List Lock → Option (List Lock)
 refreshed token p timeout now ls = option_map (λ q. change_first (has_token_at token q) (refreshed_lock timeout now) ls) (lock_front token p ls)
 
--- the locks that cover a path, the shortest path first, and of one path the first that was granted
+-- the locks that cover a path, the shortest path first, and of one path the first that was granted (RFC 4918, sections 6.8 and 9.6)
 abbrev pub discovered : Path → List Lock → List Lock
 discovered p ls = flat_map (λ q. filter (λ l. is_same_path (names l.path) q && covers l p) ls) (fronts p)
 
--- the list without the locks at a path and below it
+-- the list without the locks at a path and below it (RFC 4918, sections 6.8 and 9.6)
 abbrev pub deleted : Path → List Lock → List Lock
 deleted p ls = filter (λ l. not (is_at_or_under (names l.path) p)) ls

@@ -5,6 +5,7 @@ use Rattle.dav_core.specs.declared.errors.FsError.{FsError}
 use Rattle.dav_core.specs.declared.errors.FsError.TheVariants.{NotFound, GeneralFailure}
 use Rattle.dav_core.specs.World.{World, Node, last_number}
 
+-- what a call means: an answer and the world after it, or an error, with which nothing changes
 abbrev pub Meaning : Type 0 → Type 0
 Meaning A = Result (A × World) FsError
 

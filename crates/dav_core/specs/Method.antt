@@ -10,7 +10,7 @@ use Rattle.dav_core.specs.declared.errors.DavError.TheVariants as dav
 use Rattle.dav_core.specs.declared.method.DavMethod.{DavMethod}
 use Rattle.dav_core.specs.declared.method.DavMethod.TheVariants.{Head, Get, Put, Patch, Options, PropFind, PropPatch, MkCol, Copy, Move, Delete, Lock, Unlock, Report, MkCalendar, MkAddressbook}
 
--- all methods, in order
+-- all methods, in order (RFC 9110, section 9.1)
 abbrev pub all_methods : List DavMethod
 all_methods =
     Head ∷ Get ∷ Put ∷ Patch ∷ Options ∷ PropFind ∷ PropPatch ∷ MkCol ∷ Copy ∷ Move ∷ Delete ∷ Lock ∷ Unlock
@@ -35,7 +35,7 @@ method_name Report = codes "REPORT"
 method_name MkCalendar = codes "MKCALENDAR"
 method_name MkAddressbook = codes "MKADDRESSBOOK"
 
--- the method whose name the text is, byte for byte; `UnknownDavMethod` where it is the name of none
+-- the method whose name the text is, byte for byte; `UnknownDavMethod` where it is the name of none (RFC 9110, section 9.1)
 abbrev pub GivesMethod : List ℕ → Result DavMethod DavError → Type 0
 GivesMethod text (Ok m) = text ≡ method_name m
 GivesMethod text (Err e) = (e ≡ dav.UnknownDavMethod) × ((m : DavMethod) → text ≢ method_name m)
@@ -44,7 +44,7 @@ GivesMethod text (Err e) = (e ≡ dav.UnknownDavMethod) × ((m : DavMethod) → 
 abbrev pub NamesMethod : List ℕ → DavMethod → Type 0
 NamesMethod text m = map to_ascii_lowercase text ≡ map to_ascii_lowercase (method_name m)
 
--- the text is some method's name, ASCII case ignored
+-- the text is some method's name, ASCII case ignored (RFC 9110, section 9.1)
 abbrev pub IsMethodName : List ℕ → Type 0
 IsMethodName text = (m : DavMethod) × NamesMethod text m
 
@@ -71,6 +71,7 @@ place_of MkAddressbook = 15
 abbrev pub bit_of : DavMethod → ℕ
 bit_of m = 2 ^ place_of m
 
+-- the set has the method: the bit at the method's place is 1
 abbrev pub Has : ℕ → DavMethod → Type 0
 Has set m = bit_at set (place_of m) ≡ 1
 
@@ -78,7 +79,7 @@ Has set m = bit_at set (place_of m) ≡ 1
 abbrev pub methods_in : ℕ → List DavMethod
 methods_in set = filter (λ m. bit_at set (place_of m) == 1) all_methods
 
--- the bytes of texts that are lent
+-- the bytes of texts that are lent (RFC 9110, section 9.1)
 abbrev pub texts_of : List (Bor (List ℕ)) → List (List ℕ)
 texts_of = map (λ t. t.now)
 

@@ -18,11 +18,11 @@ IsBlank p = (p ≡ []) ⊎ (p ≡ 46 ∷ [])
 abbrev pub IsBarred : ℕ → Type 0
 IsBarred b = (b ≡ 0) ⊎ (b ≡ 47)
 
--- there is a zero byte or a slash in it
+-- a name that no file can have: there is a zero byte or a slash in it
 abbrev pub IsBad : List ℕ → Type 0
 IsBad p = (b : ℕ) × IsBarred b × Contains p b
 
--- A name: nonempty bytes without a zero byte and without a slash, not `.` and not `..`.
+-- A name: nonempty bytes without a zero byte and without a slash, not `.` and not `..` (RFC 3986, section 3.3).
 pub record IsName (p : List ℕ) : Type 0 where
   pub clean : All (λ b. (b ≢ 0) × (b ≢ 47)) p
   pub not_blank : ¬ IsBlank p
@@ -32,7 +32,7 @@ pub record IsName (p : List ℕ) : Type 0 where
 abbrev pub IsSegment : List ℕ → Type 0
 IsSegment p = (p ≢ []) × All (λ b. b ≢ 47) p
 
--- A path: the names from the root down. The root is the empty list.
+-- A path: the names from the root down. The root is the empty list (RFC 3986, section 3.3).
 abbrev pub Path : Type 0
 Path = List (List ℕ)
 
@@ -40,6 +40,7 @@ Path = List (List ℕ)
 abbrev pub name_cmp : List ℕ → List ℕ → Ordering
 name_cmp = slice_cmp nat_cmp
 
+-- paths in order: name by name, names by their bytes, a path before what is below it
 abbrev pub path_cmp : Path → Path → Ordering
 path_cmp = slice_cmp name_cmp
 
@@ -65,6 +66,7 @@ has_names (Some (x ∷ rest)) = true
 abbrev pub is_under : Path → Path → Bool
 is_under q p = has_names (rest_after p q)
 
+-- the path has no names: it is the root
 abbrev pub is_root : Path → Bool
 is_root [] = true
 is_root (x ∷ p) = false
@@ -91,7 +93,7 @@ parent_of (x ∷ y ∷ p) = x ∷ parent_of (y ∷ p)
 abbrev pub joined : Path → List ℕ
 joined names = flat_map (λ n. 47 ∷ n) names
 
--- and, where it is closed, a slash at the end. Without names it is one slash.
+-- and, where it is closed, a slash at the end. Without names it is one slash (RFC 3986, section 3.3).
 abbrev pub path_bytes : Path → Bool → List ℕ
 path_bytes [] closed = 47 ∷ []
 path_bytes (n ∷ ns) closed = joined (n ∷ ns) ++ (if closed then 47 ∷ [] else [])
@@ -108,10 +110,11 @@ is_nonempty (x ∷ xs) = true
 abbrev pub names_in : List ℕ → Path
 names_in bytes = filter is_nonempty (slice_split (λ b. b == 47) bytes)
 
+-- the names in the bytes of a path: what is between slashes and isn't empty; the star path `*` has none (RFC 9110, section 7.1)
 abbrev pub names_of : List ℕ → Path
 names_of bytes = if bytes_eq bytes star then [] else names_in bytes
 
--- the path ends in a slash, as that of a collection
+-- the path ends in a slash, as that of a collection (RFC 4918, section 5.2)
 abbrev pub is_collection : List ℕ → Bool
 is_collection bytes = ends_with ◌==◌ bytes (47 ∷ [])
 
@@ -119,11 +122,11 @@ is_collection bytes = ends_with ◌==◌ bytes (47 ∷ [])
 abbrev pub end_for : Bool → List ℕ
 end_for is_collection = if is_collection then [] else 47 ∷ []
 
--- the path with a slash at the end
+-- the path with a slash at the end (RFC 4918, section 5.2)
 abbrev pub with_slash : List ℕ → List ℕ
 with_slash bytes = bytes ++ end_for (is_collection bytes)
 
--- without the one slash at the end
+-- without the one slash at the end (RFC 4918, section 5.2)
 abbrev pub without_slash : List ℕ → List ℕ
 without_slash bytes = if is_collection bytes then take (length bytes - 1) bytes else bytes
 
@@ -132,12 +135,12 @@ abbrev pub without_first_slash : List ℕ → List ℕ
 without_first_slash [] = []
 without_first_slash (b ∷ bs) = if b == 47 then bs else b ∷ bs
 
--- a path longer than one byte, without the one slash at its end
+-- a path longer than one byte, without the one slash at its end (RFC 4918, section 5.2)
 abbrev pub trimmed : List ℕ → List ℕ
 trimmed bytes = if nat_lt 1 (length bytes) then without_slash bytes else bytes
 
 -- A path ends in a segment below this parent: the parent ends in a slash, the segment follows it, and slashes or nothing
--- follow the segment.
+-- follow the segment (RFC 3986, section 3.3).
 pub record IsAbove (parent bytes : List ℕ) : Type 0 where
   pub front : List ℕ
   pub segment : List ℕ
@@ -148,7 +151,7 @@ pub record IsAbove (parent bytes : List ℕ) : Type 0 where
   pub whole : bytes ≡ parent ++ segment ++ slashes
 
 -- The parent of a path: everything before its last segment. A path without names, as the root and the star path, is its own
--- parent; that of one name without a slash before it is empty.
+-- parent; that of one name without a slash before it is empty (RFC 3986, section 3.3).
 abbrev pub IsParent : List ℕ → List ℕ → Type 0
 IsParent bytes parent =
     IsAbove parent bytes

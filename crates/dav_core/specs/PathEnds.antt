@@ -16,7 +16,7 @@ without_end p (b ∷ bs) = onto_end p b (without_end p bs)
 abbrev pub before_last_name : List ℕ → List ℕ
 before_last_name bytes = without_end (λ b. not (b == 47)) (without_end (λ b. b == 47) bytes)
 
--- and that is the parent; but where it is empty, a path without names is its own parent
+-- the parent of a path: what is before its last name; but where that is empty, a path without names is its own parent
 abbrev pub parent_by : Bool → List ℕ → List ℕ
 parent_by is_root bytes = if is_nonempty (before_last_name bytes) || not is_root then before_last_name bytes else bytes
 

@@ -16,18 +16,18 @@ PropertyKey = List ℕ × List ℕ
 abbrev pub key_cmp : PropertyKey → PropertyKey → Ordering
 key_cmp a b = ordering_then (name_cmp a.0 b.0) (name_cmp a.1 b.1)
 
--- Properties in order of their keys, each with its element where it has one.
+-- Properties in order of their keys, each with its element where it has one (RFC 4918, section 4).
 abbrev pub Properties : Type 0
 Properties = List (PropertyKey × Option ElementTree)
 
--- A property as it is handed over: its name, prefix and namespace, and its element where it has one.
+-- A property as it is handed over: its name, prefix and namespace, and its element where it has one (RFC 4918, section 4).
 pub record Property : Type 0 where
   pub name : List ℕ
   pub prefix : Option (List ℕ)
   pub namespace : Option (List ℕ)
   pub xml : Option ElementTree
 
--- the key of a property: no namespace and an empty one are the same
+-- the key of a property: no namespace and an empty one are the same (RFC 4918, section 4)
 abbrev pub property_key : Property → PropertyKey
 property_key p = (unwrap_or p.namespace [], p.name)
 
@@ -43,7 +43,7 @@ pub data Patch : Type 0 where
   SetTo : Property → Patch
   Remove : Property → Patch
 
--- a property that is set, or removed
+-- a property that is set, or removed (RFC 4918, section 9.2)
 abbrev pub patch_of : Bool × Property → Patch
 patch_of (true, p) = SetTo p
 patch_of (false, p) = Remove p
@@ -58,7 +58,7 @@ abbrev pub patched_by : Patch → Properties → Properties
 patched_by (SetTo p) ps = put key_cmp (property_key p) p.xml ps
 patched_by (Remove p) ps = filter (λ e. not (is_same_key (property_key p) e.0)) ps
 
--- the properties after all changes, in their order
+-- the properties after all changes, in their order (RFC 4918, section 9.2)
 abbrev pub patched : List Patch → Properties → Properties
 patched [] ps = ps
 patched (patch ∷ patches) ps = patched patches (patched_by patch ps)
@@ -76,7 +76,7 @@ shown_property content e = record {
   xml = if content then e.1 else None;
 }
 
--- The property of that name in a namespace whose element declares the namespace and has one text.
+-- The property of that name in a namespace whose element declares the namespace and has one text (RFC 4918, section 14.18).
 abbrev pub text_property : List ℕ → List ℕ → List ℕ → List ℕ → Property
 text_property name prefix namespace value = record {
   name = name;

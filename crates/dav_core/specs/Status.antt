@@ -7,7 +7,7 @@ use Rattle.dav_core.specs.declared.errors.FsError.TheVariants as fs
 use Rattle.dav_core.specs.declared.errors.DavError.{DavError}
 use Rattle.dav_core.specs.declared.errors.DavError.TheVariants as dav
 
--- the status of a store's error
+-- the status of a store's error (RFC 9110, sections 15.5 and 15.6; RFC 4918, sections 9.3.1, 9.8.5 and 11.5; RFC 5842, section 7.2)
 abbrev pub fs_status : FsError → ℕ
 fs_status fs.NotImplemented = 501
 fs_status fs.GeneralFailure = 500
@@ -20,7 +20,7 @@ fs_status fs.PathTooLong = 414
 fs_status fs.TooLarge = 413
 fs_status fs.IsRemote = 502
 
--- the status of a method's error
+-- the status of a method's error (RFC 9110, section 15; RFC 4918, section 11.5)
 abbrev pub dav_status : DavError → ℕ
 dav_status dav.XmlParseError = 400
 dav_status dav.InvalidPath = 400
@@ -46,7 +46,7 @@ must_close (dav.StatusClose status) = true
 must_close (dav.FsError e) = false
 must_close dav.Memory = false
 
--- what a method answers for a text that names no path, or none at or below the prefix
+-- what a method answers for a text that names no path, or none at or below the prefix (RFC 4918, section 9.8.5)
 abbrev pub path_error : ParseError → DavError
 path_error parse.InvalidPath = dav.InvalidPath
 path_error parse.PrefixMismatch = dav.IllegalPath

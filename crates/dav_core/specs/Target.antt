@@ -6,24 +6,24 @@ use Rattle.dav_core.specs.declared.errors.ParseError.{ParseError}
 use Rattle.dav_core.specs.declared.errors.ParseError.TheVariants.{InvalidPath, PrefixMismatch, ForbiddenPath, Memory}
 use Rattle.dav_core.specs.Path.{Path, parent_piece, IsBlank, IsBad, IsName, path_bytes, star}
 
--- Names and `..` that pair off like opening and closing brackets, with blank pieces between them.
+-- Names and `..` that pair off like opening and closing brackets, with blank pieces between them (RFC 3986, section 5.2.4).
 pub data Cancels : List (List ℕ) → Type 0 where
   nothing : Cancels []
   blank : {p : List ℕ} {ps : List (List ℕ)} → IsBlank p → Cancels ps → Cancels (p ∷ ps)
   pair : {n : List ℕ} {inside after : List (List ℕ)} → IsName n → Cancels inside → Cancels after → Cancels (n ∷ (inside ++ parent_piece ∷ after))
 
--- The names without a partner are these, in order.
+-- The names without a partner are these, in order (RFC 3986, section 5.2.4).
 abbrev pub Leaves : List (List ℕ) → Path → Type 0
 Leaves ps [] = Cancels ps
 Leaves ps (n ∷ ns) =
     (front : List (List ℕ)) × (rest : List (List ℕ))
     × Cancels front × IsName n × (ps ≡ front ++ n ∷ rest) × Leaves rest ns
 
--- the first piece that refuses is a `..` without a partner
+-- the first piece that refuses is a `..` without a partner (RFC 3986, sections 3.3 and 5.2.4)
 abbrev pub Climbs : List (List ℕ) → Type 0
 Climbs ps = (front : List (List ℕ)) × (back : List (List ℕ)) × Cancels front × (ps ≡ front ++ parent_piece ∷ back)
 
--- the first piece that refuses holds a zero byte or a slash
+-- the first piece that refuses holds a zero byte or a slash (RFC 3986, sections 3.3 and 5.2.4)
 abbrev pub HasBadPiece : List (List ℕ) → Type 0
 HasBadPiece ps =
     (front : List (List ℕ)) × (names : Path) × (bad : List ℕ) × (back : List (List ℕ))
@@ -53,7 +53,7 @@ abbrev pub IsClosed : List ℕ → Bool → Type 0
 IsClosed text true = EndsInSlash text
 IsClosed text false = ¬ EndsInSlash text
 
--- The text names the path: its names, and whether it is closed by a slash.
+-- The text names the path: its names, and whether it is closed by a slash (RFC 3986, sections 2.1, 3.3, 3.4).
 pub record NamesPath (src : List ℕ) (names : Path) (closed : Bool) : Type 0 where
   pub rooted : IsRooted src
   pub leaves : Leaves (pieces_of src) names

@@ -15,7 +15,7 @@ pub data Kind : Type 0 where
   File : List ℕ → Kind
 
 -- A folder or file: the change number under which it was created, the last change number that it took, what it is,
--- its dead properties, and when it was created and last changed, in seconds since 1970.
+-- its dead properties, and when it was created and last changed, in seconds since 1970 (RFC 4918, section 5).
 pub record Node : Type 0 where
   pub made : ℕ
   pub number : ℕ
@@ -28,6 +28,7 @@ pub record Node : Type 0 where
 abbrev pub Nodes : Type 0
 Nodes = List (Path × Node)
 
+-- What is stored: a finite map from paths to nodes, kept as a list in order of the paths, and the number that the next change takes (RFC 4918, section 5).
 pub record World : Type 0 where
   pub nodes : Nodes
   pub next : ℕ
@@ -85,7 +86,7 @@ members p = filter_map (λ e. option_map (λ name. (name, is_folder_kind e.1.kin
 abbrev pub has_members : World → Path → Bool
 has_members w p = is_nonempty (members p w.nodes)
 
--- it is a file that was created under this change number
+-- a node is a file that was created under this change number
 abbrev pub is_file_made_with : ℕ → Path × Node → Bool
 is_file_made_with made e = (e.1.made == made) && not (is_folder_kind e.1.kind)
 
@@ -128,7 +129,7 @@ pub record IsSound (p : Path) (n : Node) : Type 0 where
   pub modified : n.modified ≤ last_moment
 
 -- What makes a map a world: a tree of sound nodes, in which no node has a number that another one has, the root was
--- created under number 0, and the next number is at most the last.
+-- created under number 0, and the next number is at most the last (RFC 4918, section 5.1; RFC 9110, section 5.6.7).
 pub record IsWorld (w : World) : Type 0 where
   pub tree : IsTree w.nodes
   pub numbers : IsNumbered (λ n. n.number) w
@@ -142,7 +143,7 @@ pub record IsWorld (w : World) : Type 0 where
 abbrev pub fresh : ℕ → Kind → ℕ → Node
 fresh number kind now = record { made = number; number = number; kind = kind; properties = []; created = now; modified = now }
 
--- the empty world: the root, with number 0 and both times 0, and the number that the next change takes
+-- the empty world: the root, with number 0 and both times 0, and the number that the next change takes (RFC 9110, section 5.6.7)
 abbrev pub empty_from : ℕ → World
 empty_from next = record { nodes = ([], fresh 0 Folder 0) ∷ []; next = next }
 

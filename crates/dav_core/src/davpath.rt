@@ -3,6 +3,7 @@ ghost use Rattle.std.specs.Prelude.{◌≡◌, ◌≢◌, ℕ, ◌==◌, ◌↔�
 ghost use Rattle.std.specs.List.{prefix_len};
 ghost use Rattle.dav_core.specs.Path.{star, names_in};
 
+mod below;
 mod ends;
 mod reading;
 #[cfg(test)]
@@ -10,6 +11,7 @@ mod tests;
 mod url_text;
 
 use crate::errors::{NoMemory, ParseError};
+use below::rest_after;
 use ends::{lacks_slash, push_after_slash, trimmed, without_first_slash, without_slash};
 use http_uri::Uri;
 use reading::{before_query, close, ends_in_slash, is_rooted, len_before, read_names};
@@ -40,7 +42,7 @@ impl Model for DavPath {
 
 impl DavPath {
     ghost use Rattle.std.specs.Prelude.{◌≡◌, ◌≢◌, ◌++◌, ⊤, Some, if◌then◌else◌, [], IfOk, IfErr, OnOk, OnErr, string_bytes};
-    ghost use Rattle.dav_core.specs.Path.{full_bytes, is_collection, last_name, names, IsCut, IsParent, with_bytes, with_slash, without_first_slash, without_slash};
+    ghost use Rattle.dav_core.specs.Path.{full_bytes, is_at_or_under, is_collection, is_root, is_under, last_name, names, IsCut, IsParent, with_bytes, with_slash, without_first_slash, without_slash};
     ghost use Rattle.dav_core.specs.Target.{Reads, IsRefused};
     ghost use Rattle.dav_core.specs.PathRef.{ref_bytes, names_left, GivesText, IsCutRefused};
     ghost use Rattle.dav_core.specs.UrlText.{IsTextOf};
@@ -126,6 +128,31 @@ impl DavPath {
         ensures { names_left result ≡ names self.now }
     {
         self.as_ref().segments()
+    }
+
+    /// Whether it has no names: it is the root, or `*`.
+    pub fn is_root(&self) -> bool
+        ensures { result ≡ is_root (names self.now) }
+    {
+        self.as_ref().is_root()
+    }
+
+    /// Whether its names begin with those of another path: it is that path, or is below it (RFC 4918, section 5.2). Prefixes and slashes
+    /// at the end don't count.
+    pub fn is_at_or_under(&self, other: &DavPath) -> bool
+        ensures { result ≡ is_at_or_under (names self.now) (names other.now) }
+    {
+        rest_after(other.segments(), self.segments()).is_some()
+    }
+
+    /// Whether it is below another path, and not that path itself.
+    pub fn is_under(&self, other: &DavPath) -> bool
+        ensures { result ≡ is_under (names self.now) (names other.now) }
+    {
+        match rest_after(other.segments(), self.segments()) {
+            Some(mut rest) => rest.next().is_some(),
+            None => false,
+        }
     }
 
     /// The path after its prefix in a URL, as `DavPathRef::as_url_string` writes it.

@@ -15,19 +15,19 @@ use Rattle.dav_core.specs.Locks.{Lock}
 use Rattle.dav_core.specs.Path.{Path, PathText, star, names, names_in, is_at_or_under, parent_of, are_equal}
 use Rattle.dav_core.proofs.Theorems.{parent-append}
 use Rattle.dav_engine.specs.Alongside.{SameResult, SameMetadata, Alongside, side_ok, side_err, side_asks, side_look, side_keep, SameAnswers}
-use Rattle.dav_engine.specs.AlongsidePlans.{CopyMoveGoesAlong}
-use Rattle.dav_engine.specs.Client.{Client, requester}
+use Rattle.dav_engine.specs.IsolatedPlans.{CopyMoveIsIsolated}
+use Rattle.dav_engine.specs.Caller.{Caller, requester}
 use Rattle.dav_engine.specs.Conditions.{Conditions, Addressed}
-use Rattle.dav_engine.specs.Copying.{CopyFault, refused_at, CopyWalk, copy_seen, copy_members, copy_listed, copy_inside, alone_faults, copy_kind, copy_looked, copy}
-use Rattle.dav_engine.specs.CopyMove.{CopyHeaders, DestinationNames, is_move, copy_depth, destination_found, source_free, copy_free, copy_allowed, changes_members, is_replaced, clearing, drop_if, drop_if_moved, copied_status, copy_reply, bringing, bring_if_clear, copy_found, copy_or_move, is_copy_move}
+use Rattle.dav_engine.specs.Copying.{CopyFault, refused_at, CopyWalk, copy_seen, copy_members, copy_listed, copy_inside, faults_at_depth_0, copy_kind, copy_looked, copy}
+use Rattle.dav_engine.specs.CopyMove.{CopyHeaders, DestinationNames, is_move, copy_depth, destination_found, source_free, copy_free, copy_allowed, changes_members, is_replaced, clearing, drop_if, drop_if_moved, copied_status, copy_reply, transfer_reply, transfer_if_cleared, copy_found, copy_or_move, is_copy_move}
 use Rattle.dav_engine.specs.Folder.{closed, child_of, room_at, is_folder_found}
 use Rattle.dav_engine.specs.Guard.{folder_of, IsGuard, SubmitOnly}
 use Rattle.dav_engine.specs.Method.{MethodPlan, then as followed_by, ◌>>=◌, require_free, require_parent, gives, refused_as}
 use Rattle.dav_engine.specs.Plan.{Done}
-use Rattle.dav_engine.specs.Response.{Response}
+use Rattle.dav_engine.specs.Reply.{Reply}
 use Rattle.dav_engine.specs.Removal.{Fault, removal}
 use Rattle.dav_engine.proofs.AlongsideDelete.{SidePart, IsIn, member_in, side_removal, guards_still}
-use Rattle.dav_engine.proofs.AlongsidePlans.{AtBoth, AreTold, told_results, found_same, holders, in_reach, in_side, only_lists, side_bind, side_then, side_require, side_guarded, side_free, side_parent}
+use Rattle.dav_engine.proofs.IsolatedPlans.{AtBoth, AreTold, told_results, found_same, holders, in_reach, in_side, only_lists, side_bind, side_then, side_require, side_guarded, side_free, side_parent}
 use Rattle.dav_engine.proofs.ChildLemmas.{names_closed, closed_is_path, slash_is_path}
 use Rattle.dav_engine.proofs.CopyHeaderLemmas.{place_by, plain_other}
 use Rattle.dav_engine.proofs.FaultLemmas.{not_above}
@@ -70,9 +70,9 @@ module _ (h : Lock) where
     side_inside (Ok u) (Err f) same = absurd same
     side_inside (Err e) (Ok v) same = absurd same
 
-    side_alone : (a b : Result (Unit {0}) FsError) → SameResult (λ z w. ⊤) a b → SidePart h (gives (alone_faults d a)) (gives (alone_faults d b))
+    side_alone : (a b : Result (Unit {0}) FsError) → SameResult (λ z w. ⊤) a b → SidePart h (gives (faults_at_depth_0 d a)) (gives (faults_at_depth_0 d b))
     side_alone (Ok u) (Ok v) same = side_ok (refl, refl)
-    side_alone (Err e) (Err f) same = side_ok (refl, ap (λ (z : FsError). alone_faults d (Err z)) same)
+    side_alone (Err e) (Err f) same = side_ok (refl, ap (λ (z : FsError). faults_at_depth_0 d (Err z)) same)
     side_alone (Ok u) (Err f) same = absurd same
     side_alone (Err e) (Ok v) same = absurd same
 
@@ -145,7 +145,7 @@ module _ (h : Lock) (d : PathText) (z : List ℕ) (r : Path) (place : IsIn h d (
 abbrev IsBelow : Lock → PathText → Type 0
 IsBelow h p = (w : List ℕ) × (v : Path) × IsIn h p (w ∷ v)
 
-module _ (h : Lock) (guard : IsGuard h) (who : Client) {lists : List Addressed} (only : SubmitOnly h lists) (p d : PathText) (x : Path) (z : List ℕ) (r : Path) (from : p.bytes ≢ star) (to : d.bytes ≢ star) (at : IsIn h p x) (place : IsIn h d (z ∷ r)) where
+module _ (h : Lock) (guard : IsGuard h) (who : Caller) {lists : List Addressed} (only : SubmitOnly h lists) (p d : PathText) (x : Path) (z : List ℕ) (r : Path) (from : p.bytes ≢ star) (to : d.bytes ≢ star) (at : IsIn h p x) (place : IsIn h d (z ∷ r)) where
   free_at : (q : PathText) (rest : Path) (ts us : List (List ℕ)) → IsIn h q rest → ts ≡ us → SidePart h (require_free true (requester who ts) (names q) (dav.Status 423)) (require_free true (requester who us) (names q) (dav.Status 423))
   free_at q rest ts us is same =
       subst (λ (r : Path). SidePart h (require_free true (requester who ts) r (dav.Status 423)) (require_free true (requester who us) r (dav.Status 423))) (sym is) (side_free h guard true who rest (dav.Status 423) ts us same)
@@ -190,7 +190,7 @@ module _ (h : Lock) (guard : IsGuard h) (who : Client) {lists : List Addressed} 
       (subst (λ (k : Bool). SidePart h (clearing deep now d a) (if is_replaced deep a then removal true now d k else gives [])) (told_folder a b told)
       (side_if h (is_replaced deep a) (removal true now d (is_folder_found a)) (gives []) (side_removal h true now d (is_folder_found a) (z ∷ r) to place) (side_ok (refl, refl))))
 
-  abbrev Whole : MethodPlan Response → MethodPlan Response → Type 0
+  abbrev Whole : MethodPlan Reply → MethodPlan Reply → Type 0
   Whole plan plan' = Alongside h true (λ file. SameAnswers) None plan plan'
 
   side_dropped : (b : Bool) → is_at_or_under (folder_of h) (names d) ≡ false → SidePart h (drop_if b d) (drop_if b d)
@@ -202,7 +202,7 @@ module _ (h : Lock) (guard : IsGuard h) (who : Client) {lists : List Addressed} 
   replied status (f ∷ []) = side_ok refl
   replied status (f ∷ g ∷ faults) = side_ok refl
 
-  abbrev after : ℕ → Result (Unit {0}) FsError → MethodPlan Response
+  abbrev after : ℕ → Result (Unit {0}) FsError → MethodPlan Reply
   after status moved = (drop_if_moved p (refused_at p moved) >>= (λ u. gives (refused_at p moved))) >>= (λ faults. Done (copy_reply p status faults))
 
   -- the locks of the source end
@@ -214,29 +214,29 @@ module _ (h : Lock) (guard : IsGuard h) (who : Client) {lists : List Addressed} 
   side_moved status below (Ok u) (Err f) same = absurd same
   side_moved status below (Err e) (Ok v) same = absurd same
 
-  side_bringing : (moves deep : Bool) (now status : ℕ) → (moves ≡ true → IsBelow h p) → Whole (bringing moves deep now p d status) (bringing moves deep now p d status)
+  side_bringing : (moves deep : Bool) (now status : ℕ) → (moves ≡ true → IsBelow h p) → Whole (transfer_reply moves deep now p d status) (transfer_reply moves deep now p d status)
   side_bringing true deep now status below = side_asks {c = Rename (names p) (names d) now} ((x, at), (z ∷ r, place)) (side_moved status (below refl))
   side_bringing false deep now status below =
       side_bind _ _ (side_copy h (room_at p) deep now d p d x (z ∷ r) from to at place) (λ faults others same.
       subst (λ (fs : List CopyFault). Whole (Done (copy_reply p status faults)) (Done (copy_reply p status fs))) same (replied status faults))
 
   side_bring : (moves deep : Bool) (now : ℕ) (a b : Option DavMetaData) (faults : List Fault) → (moves ≡ true → IsBelow h p) → AreTold a b
-      → Whole (bring_if_clear moves deep now p d a faults) (bring_if_clear moves deep now p d b faults)
+      → Whole (transfer_if_cleared moves deep now p d a faults) (transfer_if_cleared moves deep now p d b faults)
   side_bring moves deep now a b (f ∷ []) below told = side_ok refl
   side_bring moves deep now a b (f ∷ g ∷ faults) below told = side_ok refl
   side_bring moves deep now a b [] below told =
-      side_bind (λ u. bringing moves deep now p d (copied_status a)) (λ u. bringing moves deep now p d (copied_status b))
+      side_bind (λ u. transfer_reply moves deep now p d (copied_status a)) (λ u. transfer_reply moves deep now p d (copied_status b))
       (subst (λ (k : Bool). SidePart h (drop_if (is_replaced deep a) d) (drop_if k d)) (told_replaced deep a b told) (side_dropped (is_replaced deep a) off_place)) (λ u v _.
-      subst (λ (n : ℕ). Whole (bringing moves deep now p d (copied_status a)) (bringing moves deep now p d n)) (told_status a b told) (side_bringing moves deep now (copied_status a) below))
+      subst (λ (n : ℕ). Whole (transfer_reply moves deep now p d (copied_status a)) (transfer_reply moves deep now p d n)) (told_status a b told) (side_bringing moves deep now (copied_status a) below))
 
   side_copied : (m : DavMethod) (deep : Bool) (k : CopyHeaders) (a b : DavMetaData) → (is_move m ≡ true → IsBelow h p) → k.conditions ≡ holders lists → Whole (copy_found m deep k p d who a) (copy_found m deep k p d who b)
   side_copied m deep k a b below is =
       side_bind {Q = AreTold} _ _ (side_allowed m deep k a b below is) (λ there others told.
       side_bind _ _ (side_clearing deep who.moment there others told) (λ faults left same.
-      subst (λ (fs : List Fault). Whole (bring_if_clear (is_move m) deep who.moment p d there faults) (bring_if_clear (is_move m) deep who.moment p d others fs)) same
+      subst (λ (fs : List Fault). Whole (transfer_if_cleared (is_move m) deep who.moment p d there faults) (transfer_if_cleared (is_move m) deep who.moment p d others fs)) same
       (side_bring (is_move m) deep who.moment there others faults below told)))
 
-module _ (h : Lock) (guard : IsGuard h) (who : Client) {lists : List Addressed} (only : SubmitOnly h lists) (m : DavMethod) (k : CopyHeaders) (is : k.conditions ≡ holders lists) (p : PathText) (x : Path) (from : p.bytes ≢ star) (at : IsIn h p x) (below : is_move m ≡ true → IsBelow h p) where
+module _ (h : Lock) (guard : IsGuard h) (who : Caller) {lists : List Addressed} (only : SubmitOnly h lists) (m : DavMethod) (k : CopyHeaders) (is : k.conditions ≡ holders lists) (p : PathText) (x : Path) (from : p.bytes ≢ star) (at : IsIn h p x) (below : is_move m ≡ true → IsBelow h p) where
   below_closed : (dir : Bool) → is_move m ≡ true → IsBelow h (closed dir p)
   below_closed dir moves = let (w, v, is) = below moves in (w, v, names_closed dir p from ∙ is)
 
@@ -249,7 +249,7 @@ module _ (h : Lock) (guard : IsGuard h) (who : Client) {lists : List Addressed} 
   side_told deep d z r to place (Ok a) (Err f) same = absurd same
   side_told deep d z r to place (Err e) (Ok b) same = absurd same
 
-  side_to : (r : Result PathText DavError) (f : PathText → MethodPlan Response) → ((d : PathText) → r ≡ Ok d → Alongside h true (λ file. SameAnswers) None (f d) (f d)) → Alongside h true (λ file. SameAnswers) None (followed_by r f) (followed_by r f)
+  side_to : (r : Result PathText DavError) (f : PathText → MethodPlan Reply) → ((d : PathText) → r ≡ Ok d → Alongside h true (λ file. SameAnswers) None (f d) (f d)) → Alongside h true (λ file. SameAnswers) None (followed_by r f) (followed_by r f)
   side_to (Ok d) f more = more d refl
   side_to (Err e) f more = side_err
 
@@ -263,7 +263,7 @@ moves_is : (m : DavMethod) → is_move m ≡ true → m ≡ Move
 moves_is Move is = refl
 moves_is _ is = absurd (true≢false (sym is))
 
-pub copymove_goes_along : CopyMoveGoesAlong
+pub copymove_goes_along : CopyMoveIsIsolated
 copymove_goes_along h m headers p who plan guard other inside within reach alone (is_copy_move k are) =
     let (x, at) = in_reach h (names p) within in
     side_whole h guard who alone.only m k (only_lists alone k.conditions are.conditions) p x other at (λ moves. in_side h (names p) (inside (moves_is m moves))) (λ d named.

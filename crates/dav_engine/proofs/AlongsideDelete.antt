@@ -11,8 +11,8 @@ use Rattle.dav_core.specs.Locks.{Lock, deleted}
 use Rattle.dav_core.specs.Path.{Path, PathText, star, names, names_in, is_at_or_under}
 use Rattle.dav_core.specs.Status.{fs_status}
 use Rattle.dav_engine.specs.Alongside.{SameResult, SameMetadata, Alongside, side_ok, side_err, side_asks, side_look, side_keep, SameAnswers}
-use Rattle.dav_engine.specs.AlongsidePlans.{GoesAlong, DeleteGoesAlong}
-use Rattle.dav_engine.specs.Client.{Client, requester}
+use Rattle.dav_engine.specs.IsolatedPlans.{IsIsolatedPlan, DeleteIsIsolated}
+use Rattle.dav_engine.specs.Caller.{Caller, requester}
 use Rattle.dav_engine.specs.Conditions.{Conditions, Addressed}
 use Rattle.dav_engine.specs.Delete.{whole_depth, drop_if_gone, delete_reply, delete_found, deleting, is_delete}
 use Rattle.dav_engine.specs.Folder.{closed, child_of, room_at}
@@ -20,7 +20,7 @@ use Rattle.dav_engine.specs.Guard.{folder_of, IsGuard, Guards, SubmitOnly}
 use Rattle.dav_engine.specs.Method.{MethodPlan, then as followed_by, ◌>>=◌, require_member, gives, ask_for, refused_as}
 use Rattle.dav_engine.specs.Plan.{Done}
 use Rattle.dav_engine.specs.Removal.{Fault, StaysWhole, StaysWith, Stays, refused_by, emptied_status, Walk, each, remove, removal, remove_member, remove_found, remove_listed, remove_emptied}
-use Rattle.dav_engine.proofs.AlongsidePlans.{AtBoth, holders, in_side, only_lists, side_bind, side_then, side_guarded, side_free_member}
+use Rattle.dav_engine.proofs.IsolatedPlans.{AtBoth, holders, in_side, only_lists, side_bind, side_then, side_guarded, side_free_member}
 use Rattle.dav_engine.proofs.ChildLemmas.{names_closed, closed_is_path, slash_is_path, names_member}
 use Rattle.dav_engine.proofs.EndingDelete.{still_listed}
 use Rattle.dav_engine.proofs.FaultLemmas.{not_above}
@@ -116,7 +116,7 @@ module _ (h : Lock) (guard : IsGuard h) where
       let outside : is_at_or_under (folder_of h) (names p) ≡ false = ap (is_at_or_under (folder_of h)) at ∙ not_above (folder_of h) x rest in
       side_look (λ ls ks g g'. side_keep (guards_still h (names p) ls outside g) (guards_still h (names p) ks outside g') (side_ok refl))
 
-  module _ (who : Client) {lists : List Addressed} (only : SubmitOnly h lists) where
+  module _ (who : Caller) {lists : List Addressed} (only : SubmitOnly h lists) where
     side_checked : (p : PathText) (x : List ℕ) (rest : Path) (ts us : List (List ℕ)) → IsIn h p (x ∷ rest) → ts ≡ us
         → SidePart h (require_member true true (requester who ts) (names p) (dav.Status 423)) (require_member true true (requester who us) (names p) (dav.Status 423))
     side_checked p x rest ts us at same =
@@ -147,8 +147,8 @@ module _ (h : Lock) (guard : IsGuard h) where
     side_deleting depth p x rest other at =
         side_then depth depth _ _ refl (λ deep. side_asks {c = Metadata (names p)} (x ∷ rest, at) (λ a b told. side_told deep p x rest a b other at told))
 
-pub delete_goes_along : DeleteGoesAlong
+pub delete_goes_along : DeleteIsIsolated
 delete_goes_along h headers p who plan guard other within alone (is_delete k are) =
     let (x, rest, at) = in_side h (names p) within in
-    subst (λ (c : Conditions). GoesAlong h (deleting c k.depth p who)) (sym (only_lists alone k.conditions are.conditions))
+    subst (λ (c : Conditions). IsIsolatedPlan h (deleting c k.depth p who)) (sym (only_lists alone k.conditions are.conditions))
     (side_deleting h guard who alone.only (whole_depth k.depth) p x rest other at)

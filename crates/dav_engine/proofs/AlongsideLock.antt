@@ -11,17 +11,17 @@ use Rattle.dav_core.specs.Locks.{Lock, named_lock, refreshed, refreshed_lock}
 use Rattle.dav_core.specs.Path.{Path, PathText, names, names_in, star}
 use Rattle.dav_engine.specs.declared.request.Body.{Body}
 use Rattle.dav_engine.specs.Alongside.{SameResult, SameMetadata, Alongside, side_ok, side_err, side_asks, side_look, side_keep, SameAnswers}
-use Rattle.dav_engine.specs.AlongsidePlans.{LockGoesAlong}
+use Rattle.dav_engine.specs.IsolatedPlans.{LockIsIsolated}
 use Rattle.dav_engine.specs.AnswerParts.{answers_of}
-use Rattle.dav_engine.specs.Client.{Client, requester}
+use Rattle.dav_engine.specs.Caller.{Caller, requester}
 use Rattle.dav_engine.specs.Conditions.{Conditions, Addressed, submitted}
 use Rattle.dav_engine.specs.Folder.{closed, location_found}
 use Rattle.dav_engine.specs.Guard.{folder_of, IsGuard, IsInReach, Guards, SubmitOnly, no_list, a_list}
 use Rattle.dav_engine.specs.Lock.{one_token, token_to_refresh, keep_refreshed, lock_again, is_absent, lock_found, lock, is_lock}
 use Rattle.dav_engine.specs.LockHeaders.{LockHeaders, refreshed_for}
 use Rattle.dav_engine.specs.Method.{MethodPlan, then as followed_by, ◌>>=◌, require_free, gives}
-use Rattle.dav_engine.specs.Response.{Header, Response}
-use Rattle.dav_engine.proofs.AlongsidePlans.{AtBoth, holders, in_reach, only_lists, side_bind, side_lists, side_free}
+use Rattle.dav_engine.specs.Reply.{Header, Reply}
+use Rattle.dav_engine.proofs.IsolatedPlans.{AtBoth, holders, in_reach, only_lists, side_bind, side_lists, side_free}
 use Rattle.dav_engine.proofs.ChildLemmas.{names_closed}
 use Rattle.dav_engine.proofs.GuardChanges.{guard_refreshed}
 
@@ -48,12 +48,12 @@ module _ (h : Lock) (guard : IsGuard h) where
   abbrev SidePart : {A : Type 0} → (A → A → Type 0) → MethodPlan A → MethodPlan A → Type 0
   SidePart Q plan plan' = Alongside h false (AtBoth None Q) None plan plan'
 
-  abbrev SideWhole : MethodPlan Response → MethodPlan Response → Type 0
+  abbrev SideWhole : MethodPlan Reply → MethodPlan Reply → Type 0
   SideWhole plan plan' = Alongside h true (λ file. SameAnswers) None plan plan'
 
   -- ---- the guard is refreshed
 
-  side_kept : (a b : Option Lock) (c d : Option (List Lock)) (l : Lock) (left right : List Lock) (reply : Lock → Response) → a ≡ Some l → b ≡ Some l → c ≡ Some left → d ≡ Some right → Guards h left → Guards h right
+  side_kept : (a b : Option Lock) (c d : Option (List Lock)) (l : Lock) (left right : List Lock) (reply : Lock → Reply) → a ≡ Some l → b ≡ Some l → c ≡ Some left → d ≡ Some right → Guards h left → Guards h right
       → SideWhole (keep_refreshed a c >>= (λ m. gives (reply m))) (keep_refreshed b d >>= (λ m. gives (reply m)))
   side_kept (Some x) (Some y) (Some ls) (Some ks) l left right reply one two three four g g' =
       let first : x ≡ l = cc in
@@ -74,7 +74,7 @@ module _ (h : Lock) (guard : IsGuard h) where
     left_as : (ls left : List Lock) → refreshed h.token (folder_of h ++ rest) timeout now ls ≡ Some left → refreshed token q timeout now ls ≡ Some left
     left_as ls left is = ap (λ t. refreshed t q timeout now ls) own ∙ ap (λ x. refreshed h.token x timeout now ls) at ∙ is
 
-  side_renewed : (t u : List ℕ) (q : Path) (rest : Path) (timeout : Option ℕ) (now : ℕ) (reply : Lock → Response) (ls ks : List Lock) → t ≡ h.token → u ≡ h.token → q ≡ folder_of h ++ rest → Guards h ls → Guards h ks
+  side_renewed : (t u : List ℕ) (q : Path) (rest : Path) (timeout : Option ℕ) (now : ℕ) (reply : Lock → Reply) (ls ks : List Lock) → t ≡ h.token → u ≡ h.token → q ≡ folder_of h ++ rest → Guards h ls → Guards h ks
       → SideWhole (keep_refreshed (option_map (refreshed_lock timeout now) (named_lock t q ls)) (refreshed t q timeout now ls) >>= (λ m. gives (reply m)))
       (keep_refreshed (option_map (refreshed_lock timeout now) (named_lock u q ks)) (refreshed u q timeout now ks) >>= (λ m. gives (reply m)))
   side_renewed t u q rest timeout now reply ls ks own also at g g' =
@@ -84,11 +84,11 @@ module _ (h : Lock) (guard : IsGuard h) where
       (refreshed_lock timeout now h) left right reply (found_as t q rest timeout now own at ls named) (found_as u q rest timeout now also at ks named')
       (left_as t q rest timeout now own at ls left is) (left_as u q rest timeout now also at ks right is') guards guards'
 
-  side_first : (b : Bool) (one one' other other' : MethodPlan Response) → b ≡ true → SideWhole one one' → SideWhole (if b then one else other) (if b then one' else other')
+  side_first : (b : Bool) (one one' other other' : MethodPlan Reply) → b ≡ true → SideWhole one one' → SideWhole (if b then one else other) (if b then one' else other')
   side_first true one one' other other' is side = side
   side_first false one one' other other' is side = absurd (true≢false (sym is))
 
-  module _ (k : LockHeaders) {lists : List Addressed} (conditions : k.conditions ≡ holders lists) (only : SubmitOnly h lists) (content : Body) (who : Client) where
+  module _ (k : LockHeaders) {lists : List Addressed} (conditions : k.conditions ≡ holders lists) (only : SubmitOnly h lists) (content : Body) (who : Caller) where
     -- what follows the tokens that are submitted
     abbrev with_token : Path → List ℕ → MethodPlan (List ℕ)
     with_token q token = do
@@ -146,5 +146,5 @@ module _ (h : Lock) (guard : IsGuard h) where
       side_lock : (p : PathText) → IsInReach h (names p) → SideWhole (lock k p content who) (lock k p content who)
       side_lock p within = side_look (λ ls ks g g'. side_asks {c = Metadata (names p)} (in_reach h (names p) within) (λ a b told. side_found p within a b told))
 
-pub lock_goes_along : LockGoesAlong
+pub lock_goes_along : LockIsIsolated
 lock_goes_along h headers p body who plan guard within absent alone (is_lock k are) = side_lock h guard k (only_lists alone k.conditions are.conditions) alone.only body who absent p within

@@ -19,9 +19,9 @@ use Rattle.dav_core.proofs.Theorems.{member_is_no_star}
 use Rattle.dav_engine.specs.declared.reply.ReplyBody.TheVariants as reply
 use Rattle.dav_engine.specs.declared.request.Body.{Body}
 use Rattle.dav_engine.specs.Alongside.{SameResult, SameMetadata, Alongside, side_ok, side_err, side_asks, side_look, SameAnswers}
-use Rattle.dav_engine.specs.AlongsidePlans.{GoesAlong, PropfindGoesAlong, ProppatchGoesAlong}
+use Rattle.dav_engine.specs.IsolatedPlans.{IsIsolatedPlan, PropfindIsIsolated, ProppatchIsIsolated}
 use Rattle.dav_engine.specs.AnswerParts.{StatusItem, property_name, items_of, items_in, allow_in, answers_of}
-use Rattle.dav_engine.specs.Client.{Client, requester}
+use Rattle.dav_engine.specs.Caller.{Caller, requester}
 use Rattle.dav_engine.specs.Conditions.{Conditions, Addressed}
 use Rattle.dav_engine.specs.Folder.{closed, child_of, location_found, room_at}
 use Rattle.dav_engine.specs.Guard.{folder_of, IsGuard, IsInReach, SubmitOnly}
@@ -30,13 +30,13 @@ use Rattle.dav_engine.specs.LockTree.{locks_found, locks_supported}
 use Rattle.dav_engine.specs.Method.{MethodPlan, then as followed_by, ◌>>=◌, require_free, required, gives, refused_as}
 use Rattle.dav_engine.specs.Multistatus.{href, status_element, xml_type}
 use Rattle.dav_engine.specs.Plan.{Locks, Done}
-use Rattle.dav_engine.specs.Properties.{dav_space, apache_space, microsoft_space, is_in, Telling, Requested, AllProperties, NamesAlone, Outcomes, Others, Writer, writer, has_values, Source, Here, Nowhere, AvailableQuota, UsedQuota, InStore, tag_source, resource_type, locks_told, dav_source, windows_source, source, Quota, QuotaKnown, quota_once, available_told, used_told, has_properties, kept_if, kept_property, WithQuota, found_in, found_property, with_found, found_properties, kept_elements, all_kept_if, all_kept, found_groups, property_response, properties_of, told_by}
-use Rattle.dav_engine.specs.Propfind.{Responses, Below, Query, query_in, tell_member, tell_found, tell_members, tell_listed, tell_below, tell_itself, tells_itself, tells_members, is_infinite, is_served_depth, uncached, propfind_reply, FindHeaders, propfind_found, propfind_if, is_propfind}
+use Rattle.dav_engine.specs.Properties.{dav_space, apache_space, microsoft_space, is_in, Telling, Requested, AllProperties, NamesAlone, Outcomes, Others, Writer, writer, has_values, Source, Here, Nowhere, AvailableQuota, UsedQuota, InStore, tag_source, resource_type, locks_told, dav_source, windows_source, source, Quota, QuotaKnown, cached_quota, available_told, used_told, has_properties, kept_if, kept_property, WithQuota, found_in, found_property, with_found, found_properties, kept_elements, stored_properties, all_kept, found_groups, property_response, properties_of, told_by}
+use Rattle.dav_engine.specs.Propfind.{Responses, Below, Query, query_in, tell_member, tell_if_found, tell_members, tell_listed, tell_below, tell_itself, tells_itself, tells_members, is_infinite, is_served_depth, uncached, propfind_reply, FindHeaders, propfind_found, propfind_if, is_propfind}
 use Rattle.dav_engine.specs.Proppatch.{Change, changes_in, as_patch, answered_at_once, to_store, has_refused, store_changes, all_done, change_all, Told, proppatch_reply, patch_properties, proppatch_found, proppatch, is_proppatch}
-use Rattle.dav_engine.specs.Response.{Header, Response}
+use Rattle.dav_engine.specs.Reply.{Header, Reply}
 use Rattle.dav_engine.proofs.AlongsideDelete.{IsIn, member_in}
 use Rattle.dav_engine.proofs.AlongsideLock.{closed_in}
-use Rattle.dav_engine.proofs.AlongsidePlans.{AtBoth, holders, in_reach, only_lists, side_bind, side_then, side_guarded, side_free}
+use Rattle.dav_engine.proofs.IsolatedPlans.{AtBoth, holders, in_reach, only_lists, side_bind, side_then, side_guarded, side_free}
 use Rattle.dav_engine.proofs.ChildLemmas.{slash_is_path}
 
 first_of : (b c : Bool) → (b && c) ≡ true → b ≡ true
@@ -205,10 +205,10 @@ module _ (h : Lock) where
   abbrev SidePart : {A : Type 0} → (A → A → Type 0) → MethodPlan A → MethodPlan A → Type 0
   SidePart Q plan plan' = Alongside h false (AtBoth None Q) None plan plan'
 
-  abbrev SideWhole : MethodPlan Response → MethodPlan Response → Type 0
+  abbrev SideWhole : MethodPlan Reply → MethodPlan Reply → Type 0
   SideWhole plan plan' = Alongside h true (λ file. SameAnswers) None plan plan'
 
-  side_quota : (known known' : QuotaKnown) → known ≡ known' → SidePart (λ x y. x ≡ y) (quota_once known) (quota_once known')
+  side_quota : (known known' : QuotaKnown) → known ≡ known' → SidePart (λ x y. x ≡ y) (cached_quota known) (cached_quota known')
   side_quota None None same = side_asks {c = GetQuota} tt (λ a b told. side_ok (refl, ok_same a b told))
   side_quota (Some quota) (Some other) same = side_ok (refl, (let is : quota ≡ other = cc in is))
   side_quota None (Some other) same = cc
@@ -231,7 +231,7 @@ module _ (h : Lock) where
     side_kept Outcomes e = side_ok (refl, refl)
     side_kept Others e = side_ok (refl, refl)
 
-    side_all_if : (b c : Bool) → b ≡ c → SidePart (λ x y. x ≡ y) (all_kept_if p b) (all_kept_if p c)
+    side_all_if : (b c : Bool) → b ≡ c → SidePart (λ x y. x ≡ y) (stored_properties p b) (stored_properties p c)
     side_all_if false false same = side_ok (refl, refl)
     side_all_if true true same = side_asks {c = GetProps (names p) true} (rest, at) (λ a b told. side_ok (refl, ap kept_elements (ok_same a b told)))
     side_all_if true false same = cc
@@ -295,7 +295,7 @@ module _ (h : Lock) where
           side_ok (refl, (joined_items (one.0 ∷ []) (two.0 ∷ []) more.0 others.0 is.0 are.0, are.1))))
 
       side_seen : (p : PathText) (rest : Path) (name : List ℕ) (a b : Result DavMetaData FsError) (known known' : QuotaKnown) → p.bytes ≢ star → IsIn h p rest → SameResult SameMetadata a b → known ≡ known'
-          → SidePart SameTold (tell_found below w p name known a) (tell_found below w p name known' b)
+          → SidePart SameTold (tell_if_found below w p name known a) (tell_if_found below w p name known' b)
       side_seen p rest name (Ok m) (Ok n) known known' other at told same =
           subst (λ (d : Bool). SidePart SameTold (tell_member below w (child_of p name m.dir) m known) (tell_member below w (child_of p name d) n known')) told.dir
           (side_member (child_of p name m.dir) (rest ++ names_in name) m n known known' (slash_is_path p name m.dir) (member_in h p rest name m.dir other at) told same)
@@ -339,7 +339,7 @@ module _ (h : Lock) where
 
   -- ---- PROPFIND
 
-  module _ (k : FindHeaders) (headers : Headers) (content : Body) (who : Client) where
+  module _ (k : FindHeaders) (headers : Headers) (content : Body) (who : Caller) where
     side_find_found : (q : PathText) (rest : Path) (location : List Header) (m n : DavMetaData) → (m.dir ≡ true → q.bytes ≢ star) → IsIn h q rest → SameMetadata m n
         → SideWhole (propfind_found k headers q location content who m) (propfind_found k headers q location content who n)
     side_find_found q rest location m n other at told =
@@ -364,7 +364,7 @@ module _ (h : Lock) where
     side_propfind p within false = side_ok refl
     side_propfind p within true = side_asks {c = Metadata (names p)} (in_reach h (names p) within) (λ a b told. side_looked p within a b told)
 
-pub propfind_goes_along : PropfindGoesAlong
+pub propfind_goes_along : PropfindIsIsolated
 propfind_goes_along h headers p content who plan within (is_propfind k are) = side_propfind h k headers content who p within (is_served_depth k)
 
 -- ---- PROPPATCH
@@ -395,10 +395,10 @@ module _ (h : Lock) (guard : IsGuard h) where
         (side_bind _ _ (side_change_all (has_refused (answered_at_once b changes)) (answered_at_once b changes) (to_store b changes)) (λ told others alike.
         side_ok (ap (λ (t : List Told). answers_of (proppatch_reply location p t)) alike))))
       where
-        patching : Bool → MethodPlan Response
+        patching : Bool → MethodPlan Reply
         patching has = change_all p (has_refused (answered_at_once has changes)) (answered_at_once has changes) (to_store has changes) >>= (λ told. gives (proppatch_reply location p told))
 
-  module _ (who : Client) (content : Body) {lists : List Addressed} (only : SubmitOnly h lists) where
+  module _ (who : Caller) (content : Body) {lists : List Addressed} (only : SubmitOnly h lists) where
     side_patch_found : (p : PathText) (rest : Path) (location : List Header) (m n : DavMetaData) → IsIn h p rest
         → SideWhole h (proppatch_found (holders lists) p location content who m) (proppatch_found (holders lists) p location content who n)
     side_patch_found p rest location m n at =
@@ -420,7 +420,7 @@ module _ (h : Lock) (guard : IsGuard h) where
     side_patch_looked p within (Ok m) (Err f) same = absurd same
     side_patch_looked p within (Err e) (Ok n) same = absurd same
 
-pub proppatch_goes_along : ProppatchGoesAlong
+pub proppatch_goes_along : ProppatchIsIsolated
 proppatch_goes_along h headers p content who plan guard within alone (is_proppatch c are) =
-    subst (λ (d : Conditions). GoesAlong h (proppatch d p content who)) (sym (only_lists alone c are))
+    subst (λ (d : Conditions). IsIsolatedPlan h (proppatch d p content who)) (sym (only_lists alone c are))
     (side_asks {c = Metadata (names p)} (in_reach h (names p) within) (λ a b told. side_patch_looked h guard who content alone.only p within a b told))

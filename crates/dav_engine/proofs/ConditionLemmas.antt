@@ -24,9 +24,9 @@ use Rattle.dav_engine.specs.Plan.{Locks, ran_look}
 use Rattle.dav_engine.specs.Method.{MethodPlan}
 use Rattle.dav_engine.specs.Follows.{Follows, followed}
 use Rattle.dav_engine.specs.Conditions as spec
-use Rattle.dav_engine.specs.Conditions.{Addressed, AreAddressed, SpeaksOf, while_true, while_false, condition_holds, all_hold, some_holds, item_holds}
+use Rattle.dav_engine.specs.Conditions.{Addressed, AreAddressed, SpeaksOf, and_then, or_else, condition_holds, all_hold, some_holds, item_holds}
 use Rattle.dav_engine.specs.ConditionView.{locks_in, list_of}
-use Rattle.dav_engine.specs.declared.conditional.Addressed as listed
+use Rattle.dav_engine.specs.declared.conditions.Addressed as listed
 use Rattle.dav_headers.proofs.Theorems.{drop_turn}
 use Rattle.dav_engine.proofs.Following.{ran_at, follows_done, follows_then, follows_err}
 
@@ -76,9 +76,9 @@ goes_on false false other = sym other
 -- an item was evaluated, and then the rest of the list
 pub all_hold_more : (p : Option Path) (c : Condition) (cs : List Condition) (b : Bool) {s t u : StoreState} {ls : Locks} {r : Result Bool DavError}
     → Follows (λ (b : Bool). b) (item_holds p c.item) s ls (Ok b) t ls
-    → Follows (λ (b : Bool). b) (while_true (condition_holds c.negated b) (all_hold p cs)) t ls r u ls
+    → Follows (λ (b : Bool). b) (and_then (condition_holds c.negated b) (all_hold p cs)) t ls r u ls
     → Follows (λ (b : Bool). b) (all_hold p (c ∷ cs)) s ls r u ls
-all_hold_more p c cs b one rest = follows_then (λ holds. while_true (condition_holds c.negated holds) (all_hold p cs)) one rest
+all_hold_more p c cs b one rest = follows_then (λ holds. and_then (condition_holds c.negated holds) (all_hold p cs)) one rest
 
 -- Whatever the rest of a plan results in, the whole plan results in.
 abbrev pub Leads : MethodPlan Bool → StoreState → MethodPlan Bool → StoreState → Locks → Type 0
@@ -105,29 +105,29 @@ pub condition_held : (p : Option Path) (c : Condition) (cs : List Condition) (b 
     → Follows (λ (b : Bool). b) (all_hold p cs) t ls r u ls
     → Follows (λ (b : Bool). b) (all_hold p (c ∷ cs)) s ls r u ls
 condition_held p c cs b {s} {t} {u} {ls} {r} other one rest =
-    all_hold_more p c cs b one (subst (λ (d : Bool). Follows (λ (b : Bool). b) (while_true d (all_hold p cs)) t ls r u ls) (sym (goes_on c.negated b other)) rest)
+    all_hold_more p c cs b one (subst (λ (d : Bool). Follows (λ (b : Bool). b) (and_then d (all_hold p cs)) t ls r u ls) (sym (goes_on c.negated b other)) rest)
 
 -- a condition doesn't hold: nor does the list
 pub condition_failed : (p : Option Path) (c : Condition) (cs : List Condition) (b : Bool) {s t : StoreState} {ls : Locks}
     → beq b c.negated ≡ true → Follows (λ (b : Bool). b) (item_holds p c.item) s ls (Ok b) t ls
     → Follows (λ (b : Bool). b) (all_hold p (c ∷ cs)) s ls (Ok false) t ls
 condition_failed p c cs b {s} {t} {ls} is one =
-    all_hold_more p c cs b one (subst (λ (d : Bool). Follows (λ (b : Bool). b) (while_true d (all_hold p cs)) t ls (Ok false) t ls) (sym (settled c.negated b is)) (follows_done refl))
+    all_hold_more p c cs b one (subst (λ (d : Bool). Follows (λ (b : Bool). b) (and_then d (all_hold p cs)) t ls (Ok false) t ls) (sym (settled c.negated b is)) (follows_done refl))
 
 -- memory ran out at a condition
 pub condition_stopped : (p : Option Path) (c : Condition) (cs : List Condition) {s t : StoreState} {ls : Locks}
     → Follows (λ (b : Bool). b) (item_holds p c.item) s ls (Err dav.Memory) t ls
     → Follows (λ (b : Bool). b) (all_hold p (c ∷ cs)) s ls (Err dav.Memory) t ls
-condition_stopped p c cs one = follows_err (λ holds. while_true (condition_holds c.negated holds) (all_hold p cs)) dav.Memory one
+condition_stopped p c cs one = follows_err (λ holds. and_then (condition_holds c.negated holds) (all_hold p cs)) dav.Memory one
 
 -- ---- lists
 
 -- a list was evaluated, and then the other lists
 pub some_holds_more : (l : Addressed) (more : List Addressed) (b : Bool) {s t u : StoreState} {ls : Locks} {r : Result Bool DavError}
     → Follows (λ (b : Bool). b) (all_hold l.path l.conditions) s ls (Ok b) t ls
-    → Follows (λ (b : Bool). b) (while_false b (some_holds more)) t ls r u ls
+    → Follows (λ (b : Bool). b) (or_else b (some_holds more)) t ls r u ls
     → Follows (λ (b : Bool). b) (some_holds (l ∷ more)) s ls r u ls
-some_holds_more l more b one rest = follows_then (λ holds. while_false holds (some_holds more)) one rest
+some_holds_more l more b one rest = follows_then (λ holds. or_else holds (some_holds more)) one rest
 
 -- a borrowed list and its conditions have the same outcome
 lent_list : (x : listed.Addressed) (cs : List IfCondition) {s t : StoreState} {ls : Locks} {r : Result Bool DavError} → cs ≡ x.conditions.items
@@ -155,7 +155,7 @@ list_failed x cs more true same is one rest = absurd (true≢false is)
 pub list_stopped : (x : listed.Addressed) (cs : List IfCondition) (more : List Addressed) {s t : StoreState} {ls : Locks} → cs ≡ x.conditions.items
     → Follows (λ (b : Bool). b) (all_hold (option_map names x.path) (map condition_value cs)) s ls (Err dav.Memory) t ls
     → Follows (λ (b : Bool). b) (some_holds (list_of x ∷ more)) s ls (Err dav.Memory) t ls
-list_stopped x cs more same one = follows_err (λ holds. while_false holds (some_holds more)) dav.Memory (lent_list x cs same one)
+list_stopped x cs more same one = follows_err (λ holds. or_else holds (some_holds more)) dav.Memory (lent_list x cs same one)
 
 -- ---- the ends of loops
 

@@ -15,18 +15,18 @@ use Rattle.dav_core.specs.Path.{Path, PathText, names, parent_of, is_at_or_under
 use Rattle.dav_core.specs.World.{World, Node, node_at, is_folder, is_folder_node, is_missing, last_moment, IsWorld}
 use Rattle.dav_headers.specs.declared.depth.Depth.{Depth}
 use Rattle.dav_headers.specs.declared.depth.Depth.TheVariants.{Zero, One, Default, Infinity}
-use Rattle.dav_engine.specs.Client.{Client}
+use Rattle.dav_engine.specs.Caller.{Caller}
 use Rattle.dav_engine.specs.Copied.{IsPlain}
 use Rattle.dav_engine.specs.Copying.{CopyFault, copying}
 use Rattle.dav_engine.specs.CopyLaws.{copied_properties, is_below_fault, IsCopied, IsCopyFrom, LeavesCopies, OnlyCopies, CopyLeaves, not_cleared, has_copied, CopyLeavesCopies}
-use Rattle.dav_engine.specs.CopyMove.{CopyHeaders, is_move, copy_depth, destination_found, copy_free, copy_allowed, clearing, drop_if, copy_reply, bringing, bring_if_clear, copy_found, copy_or_move}
+use Rattle.dav_engine.specs.CopyMove.{CopyHeaders, is_move, copy_depth, destination_found, copy_free, copy_allowed, clearing, drop_if, copy_reply, transfer_reply, transfer_if_cleared, copy_found, copy_or_move}
 use Rattle.dav_engine.specs.Folder.{closed, is_folder_found}
 use Rattle.dav_engine.specs.Method.{MethodPlan, answer_of, then as followed_by, ◌>>=◌, require, refused_as, ask_for, gives}
 use Rattle.dav_engine.specs.Multistatus.{multi_reply}
 use Rattle.dav_engine.specs.Plan.{Done, Locks, Ran}
 use Rattle.dav_engine.specs.Removal.{Fault, report_of, removal}
 use Rattle.dav_engine.specs.RemovalLaws.{timeless, timeless_at, LeavesSurvivors}
-use Rattle.dav_engine.specs.Response.{Response}
+use Rattle.dav_engine.specs.Reply.{Reply}
 use Rattle.dav_engine.proofs.CallWorlds.{did, did_leave}
 use Rattle.dav_engine.proofs.ChildLemmas.{names_closed}
 use Rattle.dav_engine.proofs.CopiedLemmas.{at_append, at_itself, only_copies, copies_leave_copies}
@@ -85,7 +85,7 @@ not_true : (b : Bool) → not b ≡ true → b ≡ false
 not_true true h = cc
 not_true false h = refl
 
-allowed_by : (m : DavMethod) (deep : Bool) (h : CopyHeaders) (p d : PathText) (who : Client) (found : DavMetaData) {old new : StoreState} {ls ms : Locks} {there : Option DavMetaData}
+allowed_by : (m : DavMethod) (deep : Bool) (h : CopyHeaders) (p d : PathText) (who : Caller) (found : DavMetaData) {old new : StoreState} {ls ms : Locks} {there : Option DavMetaData}
     → Ran Asks (copy_allowed m deep h p d who found) old ls (Ok there) new ms → Allowed (names p) (names d) there old new ls ms
 allowed_by m deep h p d who found {old} {there = there} ran =
     let (world, locks) = reading_leaves (only_reads look_reads (only_copy_allowed m deep h p d who found)) ran in
@@ -112,15 +112,15 @@ pub record Emptied (found : Bool) (d : Path) (old new : World) : Type 0 where
   pub was : found ≡ true → is_missing old d ≡ false
 
 -- the destination was cleared, and the rest of the run; or something stays there
-pub data ClearedFirst (moves : Bool) (now : ℕ) (p d : PathText) (w : World) (ls : Locks) (r : Response) (new : StoreState) (ms : Locks) : Type 0 where
+pub data ClearedFirst (moves : Bool) (now : ℕ) (p d : PathText) (w : World) (ls : Locks) (r : Reply) (new : StoreState) (ms : Locks) : Type 0 where
   something_stays : (f : Fault) (faults : List Fault) → LeavesSurvivors (names d) (f ∷ faults) w new.world
       → Ok r ≡ multi_reply p (map report_of (f ∷ faults)) → ms ≡ ls → ClearedFirst moves now p d w ls r new ms
   was_cleared : (found : Bool) (mid : StoreState) (ks : Locks) → Emptied found (names d) w mid.world → ks ≡ (if found then option_map (deleted (names d)) ls else ls)
-      → Ran Asks (bringing moves true now p d (if found then 204 else 201)) mid ks (Ok r) new ms → ClearedFirst moves now p d w ls r new ms
+      → Ran Asks (transfer_reply moves true now p d (if found then 204 else 201)) mid ks (Ok r) new ms → ClearedFirst moves now p d w ls r new ms
 
-cleared_by : (moves : Bool) (now : ℕ) (p d : PathText) (there : DavMetaData) (faults : List Fault) (w : World) {mid new : StoreState} {ls ks ms : Locks} {r : Response}
+cleared_by : (moves : Bool) (now : ℕ) (p d : PathText) (there : DavMetaData) (faults : List Fault) (w : World) {mid new : StoreState} {ls ks ms : Locks} {r : Reply}
     → IsWorld mid.world → w.next ≤ mid.world.next → is_missing w (names d) ≡ false → ks ≡ ls → LeavesSurvivors (names d) faults w mid.world
-    → Ran Asks (bring_if_clear moves true now p d (Some there) faults) mid ks (Ok r) new ms → ClearedFirst moves now p d w ls r new ms
+    → Ran Asks (transfer_if_cleared moves true now p d (Some there) faults) mid ks (Ok r) new ms → ClearedFirst moves now p d w ls r new ms
 cleared_by moves now p d there (f ∷ faults) w world next was locks left ran =
     let ends = finish ran in
     something_stays f faults (subst (λ (s : StoreState). LeavesSurvivors (names d) (f ∷ faults) w s.world) (sym ends.1) left) ends.0 (ends.2 ∙ locks)
@@ -138,9 +138,9 @@ cleared_by moves now p d there [] w {mid} {ls = ls} world next was locks left ra
     }))
     (drop.locks ∙ ap (option_map (deleted (names d))) locks) a.more
 
-clears : (moves : Bool) (now : ℕ) (p d : PathText) (there : Option DavMetaData) {old new : StoreState} {ls ms : Locks} {r : Response}
+clears : (moves : Bool) (now : ℕ) (p d : PathText) (there : Option DavMetaData) {old new : StoreState} {ls ms : Locks} {r : Reply}
     → IsWorld old.world → now ≤ last_moment → IsPlain d → Told old.world (names d) there
-    → Ran Asks (clearing true now d there >>= (λ faults. bring_if_clear moves true now p d there faults)) old ls (Ok r) new ms → ClearedFirst moves now p d old.world ls r new ms
+    → Ran Asks (clearing true now d there >>= (λ faults. transfer_if_cleared moves true now p d there faults)) old ls (Ok r) new ms → ClearedFirst moves now p d old.world ls r new ms
 clears moves now p d None {old} {ls = ls} world small plain told ran =
     was_cleared false old ls
     (record {
@@ -211,7 +211,7 @@ module _ (p d : Path) (found : Bool) (faults : List CopyFault) (old mid new : Wo
 -- ---- the whole
 
 -- a run of a COPY or MOVE that a reply ends: what was found, and what comes after the checks
-pub record Started (m : DavMethod) (now : ℕ) (p d : PathText) (deep : Bool) (old : StoreState) (ls : Locks) (r : Response) (new : StoreState) (ms : Locks) : Type 0 where
+pub record Started (m : DavMethod) (now : ℕ) (p d : PathText) (deep : Bool) (old : StoreState) (ls : Locks) (r : Reply) (new : StoreState) (ms : Locks) : Type 0 where
   pub dir : Bool
   pub is : dir ≡ is_folder old.world (names p)
   pub off : is_at_or_under (names (closed dir p)) (names d) ≡ false
@@ -219,9 +219,9 @@ pub record Started (m : DavMethod) (now : ℕ) (p d : PathText) (deep : Bool) (o
   pub told : Told old.world (names d) there
   pub mid : StoreState
   pub same : mid.world ≡ old.world
-  pub rest : Ran Asks (clearing deep now d there >>= (λ faults. bring_if_clear (is_move m) deep now (closed dir p) d there faults)) mid ls (Ok r) new ms
+  pub rest : Ran Asks (clearing deep now d there >>= (λ faults. transfer_if_cleared (is_move m) deep now (closed dir p) d there faults)) mid ls (Ok r) new ms
 
-answer_started : (m : DavMethod) (h : CopyHeaders) (p d : PathText) (who : Client) (deep : Bool) (answer : Result DavMetaData FsError) {old mid new : StoreState} {ls ms : Locks} {r : Response}
+answer_started : (m : DavMethod) (h : CopyHeaders) (p d : PathText) (who : Caller) (deep : Bool) (answer : Result DavMetaData FsError) {old mid new : StoreState} {ls ms : Locks} {r : Reply}
     → Asks (Metadata (names p)) old answer mid
     → Ran Asks (followed_by (refused_as dav.FsError answer) (λ found. copy_found m deep h (closed found.dir p) d who found)) mid ls (Ok r) new ms → Started m who.moment p d deep old ls r new ms
 answer_started m h p d who deep (Err e) one ran = let ends = finish ran in let clash = ends.0 in cc
@@ -237,10 +237,10 @@ answer_started m h p d who deep (Ok found) {old} {mid} {new} {ls} {ms} {r} one r
       told = subst (λ (w : World). Told w (names d) a.value) looked.same known.told;
       mid = a.mid;
       same = known.world ∙ looked.same;
-      rest = subst (λ (l : Locks). Ran Asks (clearing deep who.moment d a.value >>= (λ faults. bring_if_clear (is_move m) deep who.moment (closed found.dir p) d a.value faults)) a.mid l (Ok r) new ms) known.locks a.more;
+      rest = subst (λ (l : Locks). Ran Asks (clearing deep who.moment d a.value >>= (λ faults. transfer_if_cleared (is_move m) deep who.moment (closed found.dir p) d a.value faults)) a.mid l (Ok r) new ms) known.locks a.more;
     }
 
-pub started : (m : DavMethod) (h : CopyHeaders) (p d : PathText) (who : Client) (wanted : Bool) {old new : StoreState} {ls ms : Locks} {r : Response}
+pub started : (m : DavMethod) (h : CopyHeaders) (p d : PathText) (who : Caller) (wanted : Bool) {old new : StoreState} {ls ms : Locks} {r : Reply}
     → ((deep : Bool) → copy_depth (is_move m) h.depth ≡ Ok deep → deep ≡ wanted) → h.destination ≡ Ok d
     → Ran Asks (copy_or_move m h p who) old ls (Ok r) new ms → Started m who.moment p d wanted old ls r new ms
 started m h p d who wanted {old} {new} {ls} {ms} {r} whole is ran =
@@ -259,13 +259,13 @@ started m h p d who wanted {old} {new} {ls} {ms} {r} whole is ran =
     answer_started m h p d who wanted f.answer {mid = f.mid} f.one f.more
 
 -- the same with everything below: the destination was cleared, or something stays there
-pub record Began (m : DavMethod) (now : ℕ) (p d : PathText) (old : StoreState) (ls : Locks) (r : Response) (new : StoreState) (ms : Locks) : Type 0 where
+pub record Began (m : DavMethod) (now : ℕ) (p d : PathText) (old : StoreState) (ls : Locks) (r : Reply) (new : StoreState) (ms : Locks) : Type 0 where
   pub dir : Bool
   pub is : dir ≡ is_folder old.world (names p)
   pub off : is_at_or_under (names (closed dir p)) (names d) ≡ false
   pub rest : ClearedFirst (is_move m) now (closed dir p) d old.world ls r new ms
 
-pub began : (m : DavMethod) (h : CopyHeaders) (p d : PathText) (who : Client) {old new : StoreState} {ls ms : Locks} {r : Response}
+pub began : (m : DavMethod) (h : CopyHeaders) (p d : PathText) (who : Caller) {old new : StoreState} {ls ms : Locks} {r : Reply}
     → IsWorld old.world → who.moment ≤ last_moment → IsPlain d → ((deep : Bool) → copy_depth (is_move m) h.depth ≡ Ok deep → deep ≡ true) → h.destination ≡ Ok d
     → Ran Asks (copy_or_move m h p who) old ls (Ok r) new ms → Began m who.moment p d old ls r new ms
 began m h p d who {old} {new} {ls} {ms} {r} world small plain whole is ran =
@@ -288,7 +288,7 @@ whole (Some Zero) deep other h = absurd (other refl)
 whole (Some One) deep other h = cc
 whole (Some Infinity) deep other h = cc
 
-brings : (now : ℕ) (dir : Bool) (p d : PathText) {old new : StoreState} {ls ms : Locks} {r : Response} → IsWorld old.world → now ≤ last_moment → IsPlain p → IsPlain d → IsStorable (names d) → p.prefix ≡ d.prefix
+brings : (now : ℕ) (dir : Bool) (p d : PathText) {old new : StoreState} {ls ms : Locks} {r : Reply} → IsWorld old.world → now ≤ last_moment → IsPlain p → IsPlain d → IsStorable (names d) → p.prefix ≡ d.prefix
     → is_at_or_under (names (closed dir p)) (names d) ≡ false → dir ≡ is_folder old.world (names p) → ClearedFirst false now (closed dir p) d old.world ls r new ms → CopyLeaves p d old new ls ms r
 brings now dir p d {old} {new} {ls} {ms} {r} world small plain place storable prefix off is (something_stays f faults left told locks) =
     not_cleared f faults left (told ∙ ap (λ b. multi_reply (closed b p) (map report_of (f ∷ faults))) is) locks

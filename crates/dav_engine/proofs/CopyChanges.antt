@@ -5,9 +5,9 @@ use Rattle.dav_core.specs.declared.fs.DavMetaData.{DavMetaData}
 use Rattle.dav_core.specs.declared.method.DavMethod.{DavMethod}
 use Rattle.dav_core.specs.Locks.{Lock}
 use Rattle.dav_core.specs.Path.{PathText, names}
-use Rattle.dav_engine.specs.Client.{Client}
+use Rattle.dav_engine.specs.Caller.{Caller}
 use Rattle.dav_engine.specs.Copying.{CopyFault, renaming}
-use Rattle.dav_engine.specs.CopyMove.{CopyHeaders, is_move, copy_depth, is_replaced, clearing, drop_if, drop_if_moved, brought, bring_if_clear, copy_found, is_copy_move}
+use Rattle.dav_engine.specs.CopyMove.{CopyHeaders, is_move, copy_depth, is_replaced, clearing, drop_if, drop_if_moved, transfer, transfer_if_cleared, copy_found, is_copy_move}
 use Rattle.dav_engine.specs.Folder.{closed, room_at, is_folder_found}
 use Rattle.dav_engine.specs.ListChanges.{ChangesList, changes_done, changes_ask, changes_look, changes_list, drops, CopyMoveChangesList}
 use Rattle.dav_engine.specs.Method.{◌>>=◌, gives, refused_as}
@@ -18,7 +18,7 @@ use Rattle.dav_engine.proofs.CopyWorld.{only_copy_allowed}
 use Rattle.dav_engine.proofs.DeleteWorld.{only_removal}
 use Rattle.dav_engine.proofs.ListChangeLemmas.{changes_only, changes_then, changes_bind}
 
-module _ (who : Client) where
+module _ (who : Caller) where
   changes_drop : (ls : List Lock) (b : Bool) (d : PathText) → ChangesList who ls (drop_if b d)
   changes_drop ls true d = changes_look (changes_list (drops (names d)) changes_done)
   changes_drop ls false d = changes_done
@@ -27,7 +27,7 @@ module _ (who : Client) where
   changes_moved ls p [] = changes_look (changes_list (drops (names p)) changes_done)
   changes_moved ls p (f ∷ faults) = changes_done
 
-  changes_brought : (ls : List Lock) (moves deep : Bool) (now : ℕ) (p d : PathText) → ChangesList who ls (brought moves deep now p d)
+  changes_brought : (ls : List Lock) (moves deep : Bool) (now : ℕ) (p d : PathText) → ChangesList who ls (transfer moves deep now p d)
   changes_brought ls true deep now p d =
       changes_bind {plan = renaming now p d} (λ faults. drop_if_moved p faults >>= (λ u. gives faults)) (changes_ask (λ answer. changes_done))
       (λ ks faults. changes_bind (λ u. gives faults) (changes_moved ks p faults) (λ js u. changes_done))
@@ -39,7 +39,7 @@ module _ (who : Client) where
     changes_if true = changes_only (only_removal true now d (is_folder_found there))
     changes_if false = changes_done
 
-  changes_bring : (ls : List Lock) (moves deep : Bool) (now : ℕ) (p d : PathText) (there : Option DavMetaData) (faults : List Fault) → ChangesList who ls (bring_if_clear moves deep now p d there faults)
+  changes_bring : (ls : List Lock) (moves deep : Bool) (now : ℕ) (p d : PathText) (there : Option DavMetaData) (faults : List Fault) → ChangesList who ls (transfer_if_cleared moves deep now p d there faults)
   changes_bring ls moves deep now p d there (f ∷ faults) = changes_done
   changes_bring ls moves deep now p d there [] =
       changes_bind _ (changes_drop ls (is_replaced deep there) d) (λ ks u. changes_bind _ (changes_brought ks moves deep now p d) (λ js faults. changes_done))

@@ -10,10 +10,10 @@ use Rattle.dav_core.specs.Asking.{Metadata, StoreState, Asks}
 use Rattle.dav_core.specs.Locks.{deleted}
 use Rattle.dav_core.specs.Path.{Path, PathText, names, are_equal}
 use Rattle.dav_core.specs.World.{World}
-use Rattle.dav_engine.specs.Client.{Client}
+use Rattle.dav_engine.specs.Caller.{Caller}
 use Rattle.dav_engine.specs.Copying.{CopyFault, CopyWalk, copy_report, copy, copy_looked, copy_kind, copy_inside, copy_listed, copy_members, copy_seen, renaming}
 use Rattle.dav_engine.specs.CopyLaws.{RefusedCopyMoveLeavesAll}
-use Rattle.dav_engine.specs.CopyMove.{CopyHeaders, is_move, copy_depth, copy_allowed, is_replaced, clearing, drop_if, drop_if_moved, brought, copied_status, copy_reply, bring_if_clear, copy_found}
+use Rattle.dav_engine.specs.CopyMove.{CopyHeaders, is_move, copy_depth, copy_allowed, is_replaced, clearing, drop_if, drop_if_moved, transfer, copied_status, copy_reply, transfer_if_cleared, copy_found}
 use Rattle.dav_engine.specs.Folder.{closed, child_of, room_at, is_folder_found}
 use Rattle.dav_engine.specs.Method.{MethodPlan, then as followed_by, ◌>>=◌, refused_as, ask_for, gives, set_by}
 use Rattle.dav_engine.specs.Multistatus.{PathStatus, multi_reply}
@@ -87,7 +87,7 @@ moved_ends : (p : PathText) (faults : List CopyFault) → Ends (drop_if_moved p 
 moved_ends p [] = gives_look (λ ls. list_ends (names p) ls)
 moved_ends p (f ∷ faults) = gives_done tt
 
-brought_ends : (moves deep : Bool) (now : ℕ) (p d : PathText) → Ends (brought moves deep now p d)
+brought_ends : (moves deep : Bool) (now : ℕ) (p d : PathText) → Ends (transfer moves deep now p d)
 brought_ends true deep now p d =
     ends_bind (renaming now p d) (λ faults. drop_if_moved p faults >>= (λ u. gives faults)) (gives_ask (λ moved. gives_done tt))
     (λ faults. ends_bind (drop_if_moved p faults) (λ u. gives faults) (moved_ends p faults) (λ u. gives_done tt))
@@ -101,11 +101,11 @@ reply_ends : (p : PathText) (status : ℕ) (faults : List CopyFault) → Ends (D
 reply_ends p status [] = gives_done tt
 reply_ends p status (f ∷ faults) = multi_ends p (copy_report f) (map copy_report faults)
 
-bring_ends : (moves deep : Bool) (now : ℕ) (p d : PathText) (there : Option DavMetaData) (faults : List Fault) → Ends (bring_if_clear moves deep now p d there faults)
+bring_ends : (moves deep : Bool) (now : ℕ) (p d : PathText) (there : Option DavMetaData) (faults : List Fault) → Ends (transfer_if_cleared moves deep now p d there faults)
 bring_ends moves deep now p d there (f ∷ faults) = multi_ends p (report_of f) (map report_of faults)
 bring_ends moves deep now p d there [] =
     ends_bind (drop_if (is_replaced deep there) d) _ (drop_ends (is_replaced deep there) d) (λ u.
-    ends_bind (brought moves deep now p d) _ (brought_ends moves deep now p d) (λ faults. reply_ends p (copied_status there) faults))
+    ends_bind (transfer moves deep now p d) _ (brought_ends moves deep now p d) (λ faults. reply_ends p (copied_status there) faults))
 
 removal_ends : (now : ℕ) (d : PathText) (dir : Bool) → Ends (removal true now d dir)
 removal_ends now d dir = gives_weaker (gives_errors true now d dir) where
@@ -122,13 +122,13 @@ clearing_ends deep now d there = ends_if (is_replaced deep there) (removal true 
 
 after_allowed : (moves deep : Bool) (now : ℕ) (p d : PathText) (o : Result (Option DavMetaData) DavError) (w : World) {mid new : StoreState} {ls ks ms : Locks} {e : DavError}
     → (mid.world ≡ w) × (ks ≡ ls)
-    → Ran Asks (followed_by o (λ there. clearing deep now d there >>= (λ faults. bring_if_clear moves deep now p d there faults))) mid ks (Err e) new ms
+    → Ran Asks (followed_by o (λ there. clearing deep now d there >>= (λ faults. transfer_if_cleared moves deep now p d there faults))) mid ks (Err e) new ms
     → (new.world ≡ w) × (ms ≡ ls)
 after_allowed moves deep now p d (Err x) w left ran = let ends = finish ran in (ap (λ (s : StoreState). s.world) ends.1 ∙ left.0, ends.2 ∙ left.1)
 after_allowed moves deep now p d (Ok there) w left ran =
     absurd (never_errs (ends_bind (clearing deep now d there) _ (clearing_ends deep now d there) (λ faults. bring_ends moves deep now p d there faults)) ran)
 
-after_answer : (m : DavMethod) (deep : Bool) (h : CopyHeaders) (p d : PathText) (who : Client) (answer : Result DavMetaData FsError) (w : World) {mid new : StoreState} {ls ms : Locks} {e : DavError} → mid.world ≡ w
+after_answer : (m : DavMethod) (deep : Bool) (h : CopyHeaders) (p d : PathText) (who : Caller) (answer : Result DavMetaData FsError) (w : World) {mid new : StoreState} {ls ms : Locks} {e : DavError} → mid.world ≡ w
     → Ran Asks (followed_by (refused_as dav.FsError answer) (λ found. copy_found m deep h (closed found.dir p) d who found)) mid ls (Err e) new ms
     → (new.world ≡ w) × (ms ≡ ls)
 after_answer m deep h p d who (Err x) w same ran = let ends = finish ran in (ap (λ (s : StoreState). s.world) ends.1 ∙ same, ends.2)
@@ -138,7 +138,7 @@ after_answer m deep h p d who (Ok found) w same ran =
     let (world, locks) = reading_leaves (only_reads look_reads (only_copy_allowed m deep h q d who found)) s.first in
     after_allowed (is_move m) deep who.moment q d s.outcome w (world ∙ same, locks) s.rest
 
-after_place : (m : DavMethod) (deep : Bool) (h : CopyHeaders) (p : PathText) (who : Client) (place : Result PathText DavError) {old new : StoreState} {ls ms : Locks} {e : DavError}
+after_place : (m : DavMethod) (deep : Bool) (h : CopyHeaders) (p : PathText) (who : Caller) (place : Result PathText DavError) {old new : StoreState} {ls ms : Locks} {e : DavError}
     → Ran Asks (followed_by place (λ d. ask_for (Metadata (names p)) >>= (λ found. copy_found m deep h (closed found.dir p) d who found))) old ls (Err e) new ms
     → (new.world ≡ old.world) × (ms ≡ ls)
 after_place m deep h p who (Err x) ran = let ends = finish ran in (ap (λ (s : StoreState). s.world) ends.1, ends.2)
@@ -146,7 +146,7 @@ after_place m deep h p who (Ok d) {old} ran =
     let f = first ran in
     after_answer m deep h p d who f.answer old.world (did_leave (Metadata (names p)) old.world f.mid.world f.answer tt (did f.one)) f.more
 
-after_depth : (m : DavMethod) (deep : Result Bool DavError) (h : CopyHeaders) (p : PathText) (who : Client) {old new : StoreState} {ls ms : Locks} {e : DavError}
+after_depth : (m : DavMethod) (deep : Result Bool DavError) (h : CopyHeaders) (p : PathText) (who : Caller) {old new : StoreState} {ls ms : Locks} {e : DavError}
     → Ran Asks (followed_by deep (λ b. Done h.destination >>= (λ d. ask_for (Metadata (names p)) >>= (λ found. copy_found m b h (closed found.dir p) d who found)))) old ls (Err e) new ms
     → (new.world ≡ old.world) × (ms ≡ ls)
 after_depth m (Err x) h p who ran = let ends = finish ran in (ap (λ (s : StoreState). s.world) ends.1, ends.2)

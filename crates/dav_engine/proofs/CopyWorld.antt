@@ -13,10 +13,10 @@ use Rattle.dav_core.specs.CallLaws.{IsStorable}
 use Rattle.dav_core.specs.Path.{Path, PathText, IsName, names, star, is_at_or_under, are_equal}
 use Rattle.dav_core.specs.World.{last_moment}
 use Rattle.dav_core.proofs.Theorems.{name_is_segment}
-use Rattle.dav_engine.specs.Client.{Client, requester}
+use Rattle.dav_engine.specs.Caller.{Caller, requester}
 use Rattle.dav_engine.specs.Conditions.{Conditions, guarded}
 use Rattle.dav_engine.specs.Copying.{CopyFault, CopyWalk, copy_seen, copy_members, copy_listed, copy_inside, copy_kind, copy_looked, copy, renaming}
-use Rattle.dav_engine.specs.CopyMove.{CopyHeaders, is_move, copy_depth, destination_found, source_free, copy_free, copy_allowed, is_replaced, clearing, drop_if, drop_if_moved, brought, bring_if_clear, copy_found, is_copy_move, paths_free, changes_members}
+use Rattle.dav_engine.specs.CopyMove.{CopyHeaders, is_move, copy_depth, destination_found, source_free, copy_free, copy_allowed, is_replaced, clearing, drop_if, drop_if_moved, transfer, transfer_if_cleared, copy_found, is_copy_move, paths_free, changes_members}
 use Rattle.dav_engine.specs.Folder.{closed, child_of, room_at, is_folder_found}
 use Rattle.dav_engine.specs.Method.{MethodPlan, then as followed_by, ◌>>=◌, require, refused_as, gives, require_parent}
 use Rattle.dav_engine.specs.Removal.{Fault, removal}
@@ -34,11 +34,11 @@ only_destination overwrite d =
     only_ask looks (λ above. only_bind (require (is_folder_found (result_ok above)) (dav.Status 409)) _ (only_require (is_folder_found (result_ok above)) (dav.Status 409)) (λ u.
     only_ask looks (λ there. only_bind (require (unwrap_or overwrite true || not (is_ok there)) (dav.Status 412)) _ (only_require (unwrap_or overwrite true || not (is_ok there)) (dav.Status 412)) (λ v. only_done))))
 
-only_source : (moves : Bool) (who : Client) (tokens : List (List ℕ)) (p : PathText) → Only IsLook (source_free moves who tokens p)
+only_source : (moves : Bool) (who : Caller) (tokens : List (List ℕ)) (p : PathText) → Only IsLook (source_free moves who tokens p)
 only_source true who tokens p = only_free true (requester who tokens) (names p) (dav.Status 423)
 only_source false who tokens p = only_done
 
-pub only_copy_free : (m : DavMethod) (deep : Bool) (c : Conditions) (p d : PathText) (who : Client) (found : DavMetaData) (there : Option DavMetaData) → Only IsLook (copy_free m deep c p d who found there)
+pub only_copy_free : (m : DavMethod) (deep : Bool) (c : Conditions) (p d : PathText) (who : Caller) (found : DavMetaData) (there : Option DavMetaData) → Only IsLook (copy_free m deep c p d who found there)
 only_copy_free m deep c p d who found there =
     only_bind (guarded dav.Status m c (Some found)) _ (only_guarded dav.Status m c (Some found)) (λ tokens.
     only_bind (paths_free (is_move m) who tokens p d) _
@@ -46,7 +46,7 @@ only_copy_free m deep c p d who found there =
     only_bind (require_parent (is_move m) (requester who tokens) (names p) (dav.Status 423)) _ (only_parent (is_move m) (requester who tokens) (names p) (dav.Status 423)) (λ v.
     only_parent (changes_members (is_move m) deep there) (requester who tokens) (names d) (dav.Status 423))))
 
-pub only_copy_allowed : (m : DavMethod) (deep : Bool) (h : CopyHeaders) (p d : PathText) (who : Client) (found : DavMetaData) → Only IsLook (copy_allowed m deep h p d who found)
+pub only_copy_allowed : (m : DavMethod) (deep : Bool) (h : CopyHeaders) (p d : PathText) (who : Caller) (found : DavMetaData) → Only IsLook (copy_allowed m deep h p d who found)
 only_copy_allowed m deep h p d who found =
     only_bind (destination_found h.overwrite d) _ (only_destination h.overwrite d) (λ there.
     only_bind (require (not (is_at_or_under (names p) (names d))) (dav.Status 403)) _ (only_require (not (is_at_or_under (names p) (names d))) (dav.Status 403)) (λ u.
@@ -124,18 +124,18 @@ module _ (now : ℕ) (small : now ≤ last_moment) where
   proper_moved p [] = proper_change _
   proper_moved p (f ∷ faults) = proper_done
 
-  proper_brought : (moves deep : Bool) (p d : PathText) → AtPlace d → IsProperPlan (brought moves deep now p d)
+  proper_brought : (moves deep : Bool) (p d : PathText) → AtPlace d → IsProperPlan (transfer moves deep now p d)
   proper_brought true deep p d at =
       proper_bind (renaming now p d) (λ faults. drop_if_moved p faults >>= (λ u. gives faults)) (proper_ask (at.storable, small) (λ moved tells. proper_done))
       (λ faults. proper_bind (drop_if_moved p faults) (λ u. gives faults) (proper_moved p faults) (λ u. proper_done))
   proper_brought false deep p d at = proper_copy (room_at p) deep d p d at
 
-  proper_bring : (moves deep : Bool) (p d : PathText) (there : Option DavMetaData) (faults : List Fault) → AtPlace d → IsProperPlan (bring_if_clear moves deep now p d there faults)
+  proper_bring : (moves deep : Bool) (p d : PathText) (there : Option DavMetaData) (faults : List Fault) → AtPlace d → IsProperPlan (transfer_if_cleared moves deep now p d there faults)
   proper_bring moves deep p d there (f ∷ faults) at = proper_done
   proper_bring moves deep p d there [] at =
-      proper_bind (drop_if (is_replaced deep there) d) _ (proper_drop (is_replaced deep there) d) (λ u. proper_bind (brought moves deep now p d) _ (proper_brought moves deep p d at) (λ faults. proper_done))
+      proper_bind (drop_if (is_replaced deep there) d) _ (proper_drop (is_replaced deep there) d) (λ u. proper_bind (transfer moves deep now p d) _ (proper_brought moves deep p d at) (λ faults. proper_done))
 
-proper_found : (m : DavMethod) (deep : Bool) (h : CopyHeaders) (p d : PathText) (who : Client) (found : DavMetaData) → who.moment ≤ last_moment → AtPlace d → IsProperPlan (copy_found m deep h p d who found)
+proper_found : (m : DavMethod) (deep : Bool) (h : CopyHeaders) (p d : PathText) (who : Caller) (found : DavMetaData) → who.moment ≤ last_moment → AtPlace d → IsProperPlan (copy_found m deep h p d who found)
 proper_found m deep h p d who found small at =
     proper_bind (copy_allowed m deep h p d who found) _ (only_proper look_proper (only_copy_allowed m deep h p d who found)) (λ there.
     proper_bind (clearing deep who.moment d there) _ (proper_clearing who.moment small deep d there) (λ faults. proper_bring who.moment small (is_move m) deep p d there faults at))

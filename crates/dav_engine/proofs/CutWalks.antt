@@ -1,12 +1,13 @@
 -- Walks that memory cuts short, step by step.
 use Rattle.std.proofs.Common.{◌≡◌, List, [], ◌∷◌, ◌++◌, map, Result, Ok, Err, inl, refl, sym, ap, ◌∙◌, append_assoc}
+use Rattle.std.specs.Prelude.{IsErrAnd}
 use Rattle.std.proofs.lemmas.List.{append-nil, map-append}
 use Rattle.dav_core.specs.declared.errors.FsError.{FsError}
 use Rattle.dav_core.specs.Asking.{Call, Answer, StoreState, Asks}
 use Rattle.dav_engine.specs.Method.{MethodPlan, ◌>>=◌, gives}
 use Rattle.dav_engine.specs.Multistatus.{PathStatus}
-use Rattle.dav_engine.specs.Plan.{Done, Ask, Look, Keep, Locks, Ran, up_to_here, up_to_ask}
-use Rattle.dav_engine.specs.Walked.{AlwaysGives, gives_such, or_fails, after_call, after_look, after_keep, BeginWith, CutShort, StoppedIn}
+use Rattle.dav_engine.specs.Plan.{Done, Ask, Look, Keep, Locks, Ran, ran_ask, up_to_here, up_to_ask}
+use Rattle.dav_engine.specs.Walked.{walked, Walks, AlwaysGives, gives_such, or_fails, after_call, after_look, after_keep, BeginWith, CutShort, StoppedIn}
 use Rattle.dav_engine.proofs.CutPlans.{up_to_in, up_to_bind}
 
 -- ---- what plans give
@@ -90,3 +91,18 @@ module _ {F : Type 0} {report : F → PathStatus} where
   -- a walk that is cut short leaves the list of locks
   pub cut_stops : {plan : MethodPlan (List F)} {old new : StoreState} {before after : List PathStatus} → CutShort report plan old before after new → StoppedIn plan old new
   cut_stops stop = λ ls. record { rest = stop.rest; locks = ls; ran = stop.ran ls; list = inl refl }
+
+-- ---- both outcomes
+
+module _ {F X E : Type 0} (report : F → PathStatus) (outcome : List F → X) where
+  -- behind a call
+  pub walks_later : {c : Call} (go : Result (Answer c) FsError → MethodPlan (List F)) (r : Result X E) (new : StoreState) (before after : List PathStatus) {answer : Result (Answer c) FsError} {old mid : StoreState}
+      → Asks c old answer mid → Walks report outcome (go answer) mid before after r new → Walks report outcome (Ask c go) old before after r new
+  walks_later go (Ok value) new before after one (walked faults run is what) = walked faults (λ ls. ran_ask one (run ls)) is what
+  walks_later go (Err e) new before after one stop = cut_later one stop
+
+  -- the exit of a `?`
+  pub cut_out : (Q : E → Type 0) {plan : MethodPlan (List F)} {old new : StoreState} {before after : List PathStatus} (r : Result X E)
+      → IsErrAnd r Q → CutShort report plan old before after new → Walks report outcome plan old before after r new
+  cut_out Q (Ok value) out stop = absurd out
+  cut_out Q (Err e) out stop = stop

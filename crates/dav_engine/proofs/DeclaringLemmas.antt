@@ -3,7 +3,7 @@ use Rattle.std.proofs.Common.{◌≡◌, ℕ, ◌++◌, Bool, true, false, List,
 use Rattle.std.specs.Prelude.{IfOk, IsOkAnd}
 use Rattle.std.specs.List.{list_any}
 use Rattle.dav_core.specs.Element.{ElementTree, attributes_of, set_attribute, with_attributes, xmlns_name}
-use Rattle.dav_engine.specs.Declaring.{declared, declares, opened}
+use Rattle.dav_engine.specs.Declaring.{declared, declares_namespaces, opened}
 use Rattle.dav_engine.specs.Multistatus.{multistatus}
 use Rattle.dav_engine.specs.Properties.{Telling, Requested, AllProperties, NamesAlone, Outcomes, Others, Space, apache_space, microsoft_space, is_in, declaration}
 
@@ -39,7 +39,7 @@ by_tests false false true false = refl
 by_tests false false false true = refl
 by_tests false false false false = refl
 
-all_tests : (telling : Telling) (es : List ElementTree) → true ≡ declares telling
+all_tests : (telling : Telling) (es : List ElementTree) → true ≡ declares_namespaces telling
     → declared (codes "oc") owncloud_space es (declared (codes "nc") nextcloud_space es (declared (codes "Z") microsoft_space es (declared (codes "A") apache_space es (multistatus []))))
     ≡ opened telling es
 all_tests Requested es is = by_tests (list_any (is_in apache_space) es) (list_any (is_in microsoft_space) es) (list_any (is_in nextcloud_space) es) (list_any (is_in owncloud_space) es)
@@ -49,7 +49,7 @@ all_tests Others es is = by_tests (list_any (is_in apache_space) es) (list_any (
 all_tests Outcomes es is = absurd (cc)
 
 -- the four steps that declare namespaces
-pub opened_is : (telling : Telling) (es : List ElementTree) (e0 e1 e2 e3 e4 : ElementTree) → true ≡ declares telling → e0 ≡ multistatus []
+pub opened_is : (telling : Telling) (es : List ElementTree) (e0 e1 e2 e3 e4 : ElementTree) → true ≡ declares_namespaces telling → e0 ≡ multistatus []
     → e1 ≡ declared (codes "A") apache_space es e0 → e2 ≡ declared (codes "Z") microsoft_space es e1 → e3 ≡ declared (codes "nc") nextcloud_space es e2
     → e4 ≡ declared (codes "oc") owncloud_space es e3 → e4 ≡ opened telling es
 opened_is telling es e0 e1 e2 e3 e4 is zero one two three four =
@@ -57,7 +57,7 @@ opened_is telling es e0 e1 e2 e3 e4 is zero one two three four =
     (one ∙ ap (declared (codes "A") apache_space es) zero))) ∙ all_tests telling es is
 
 -- the same where memory may have run out before
-pub opened_by : {E : Type 0} (telling : Telling) (es : List ElementTree) (r0 r1 r2 r3 r4 : Result ElementTree E) → true ≡ declares telling → IfOk r0 (λ e. e ≡ multistatus [])
+pub opened_by : {E : Type 0} (telling : Telling) (es : List ElementTree) (r0 r1 r2 r3 r4 : Result ElementTree E) → true ≡ declares_namespaces telling → IfOk r0 (λ e. e ≡ multistatus [])
     → IfOk r1 (λ e. IsOkAnd r0 (λ root. e ≡ declared (codes "A") apache_space es root)) → IfOk r2 (λ e. IsOkAnd r1 (λ root. e ≡ declared (codes "Z") microsoft_space es root))
     → IfOk r3 (λ e. IsOkAnd r2 (λ root. e ≡ declared (codes "nc") nextcloud_space es root)) → IfOk r4 (λ e. IsOkAnd r3 (λ root. e ≡ declared (codes "oc") owncloud_space es root))
     → IfOk r4 (λ e. e ≡ opened telling es)
@@ -69,7 +69,7 @@ opened_by telling es (Err e) (Ok e1) (Ok e2) (Ok e3) (Ok e4) is zero one two thr
 opened_by telling es (Ok e0) (Ok e1) (Ok e2) (Ok e3) (Ok e4) is zero one two three four = opened_is telling es e0 e1 e2 e3 e4 is zero one two three four
 
 -- where outcomes are told, none is declared
-pub opened_plain : (telling : Telling) (es : List ElementTree) (e : ElementTree) → false ≡ declares telling → e ≡ multistatus [] → e ≡ opened telling es
+pub opened_plain : (telling : Telling) (es : List ElementTree) (e : ElementTree) → false ≡ declares_namespaces telling → e ≡ multistatus [] → e ≡ opened telling es
 opened_plain Outcomes es e is same = same
 opened_plain Requested es e is same = absurd (cc)
 opened_plain AllProperties es e is same = absurd (cc)
@@ -77,6 +77,6 @@ opened_plain NamesAlone es e is same = absurd (cc)
 opened_plain Others es e is same = absurd (cc)
 
 -- the same where memory may have run out before
-pub opened_plain_by : {E : Type 0} (telling : Telling) (es : List ElementTree) (r : Result ElementTree E) → false ≡ declares telling → IfOk r (λ e. e ≡ multistatus []) → IfOk r (λ e. e ≡ opened telling es)
+pub opened_plain_by : {E : Type 0} (telling : Telling) (es : List ElementTree) (r : Result ElementTree E) → false ≡ declares_namespaces telling → IfOk r (λ e. e ≡ multistatus []) → IfOk r (λ e. e ≡ opened telling es)
 opened_plain_by telling es (Ok e) is same = opened_plain telling es e is same
 opened_plain_by telling es (Err e) is same = tt

@@ -10,7 +10,7 @@ use Rattle.dav_core.specs.CallLaws.{IsProper}
 use Rattle.dav_core.specs.Locks.{Lock}
 use Rattle.dav_core.specs.Path.{PathText, names}
 use Rattle.dav_core.specs.World.{last_moment}
-use Rattle.dav_engine.specs.Client.{Client, requester}
+use Rattle.dav_engine.specs.Caller.{Caller, requester}
 use Rattle.dav_engine.specs.Conditions.{Conditions, guarded}
 use Rattle.dav_engine.specs.Delete.{DeleteHeaders, whole_depth, delete_allowed, drop_if_gone, delete_found, delete, is_delete}
 use Rattle.dav_engine.specs.Folder.{closed, child_of, room_at}
@@ -100,7 +100,7 @@ removal_proper now small (FileMetadata file) is = absurd is
 pub proper_removal : (deep : Bool) (now : ℕ) (p : PathText) (dir : Bool) → now ≤ last_moment → IsProperPlan (removal deep now p dir)
 proper_removal deep now p dir small = only_proper (removal_proper now small) (only_removal deep now p dir)
 
-pub only_delete_allowed : (c : Conditions) (p : PathText) (who : Client) (found : DavMetaData) → Only IsLook (delete_allowed c p who found)
+pub only_delete_allowed : (c : Conditions) (p : PathText) (who : Caller) (found : DavMetaData) → Only IsLook (delete_allowed c p who found)
 only_delete_allowed c p who found =
     only_bind (guarded dav.Status Delete c (Some found)) _ (only_guarded dav.Status Delete c (Some found)) (λ tokens. only_member true true (requester who tokens) (names p) (dav.Status 423))
 
@@ -108,14 +108,14 @@ proper_dropped : (p : PathText) (faults : List Fault) → IsProperPlan (drop_if_
 proper_dropped p [] = proper_change _
 proper_dropped p (f ∷ faults) = proper_done
 
-proper_delete_found : (deep : Bool) (c : Conditions) (p : PathText) (who : Client) (found : DavMetaData) → who.moment ≤ last_moment → IsProperPlan (delete_found deep c p who found)
+proper_delete_found : (deep : Bool) (c : Conditions) (p : PathText) (who : Caller) (found : DavMetaData) → who.moment ≤ last_moment → IsProperPlan (delete_found deep c p who found)
 proper_delete_found deep c p who found small =
     proper_bind (delete_allowed c p who found) _ (only_proper look_proper (only_delete_allowed c p who found)) (λ free.
     proper_bind (removal deep who.moment p found.dir) _ (proper_removal deep who.moment p found.dir small) (λ faults.
     proper_bind (drop_if_gone p faults) _ (proper_dropped p faults) (λ told. proper_done)))
 
 -- DELETE at a moment that can be shown makes calls that a caller may make
-pub proper_delete : (h : DeleteHeaders) (p : PathText) (who : Client) → who.moment ≤ last_moment → IsProperPlan (delete h p who)
+pub proper_delete : (h : DeleteHeaders) (p : PathText) (who : Caller) → who.moment ≤ last_moment → IsProperPlan (delete h p who)
 proper_delete h p who small =
     proper_then (whole_depth h.depth) _ (λ deep. proper_ask tt (λ answer tells.
     proper_then (refused_as dav.FsError answer) _ (λ found. proper_delete_found deep h.conditions (closed found.dir p) who found small)))

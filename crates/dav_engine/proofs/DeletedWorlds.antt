@@ -13,7 +13,7 @@ use Rattle.dav_core.specs.Path.{Path, PathText, names, star, is_at_or_under, are
 use Rattle.dav_core.specs.Status.{fs_status}
 use Rattle.dav_core.specs.Locks.{Lock, deleted}
 use Rattle.dav_core.specs.World.{World, Node, node_at, is_folder, IsWorld}
-use Rattle.dav_engine.specs.Client.{Client}
+use Rattle.dav_engine.specs.Caller.{Caller}
 use Rattle.dav_engine.specs.Conditions.{Conditions}
 use Rattle.dav_engine.specs.Delete.{DeleteHeaders, whole_depth, delete_allowed, drop_if_gone, delete_reply, delete_found}
 use Rattle.dav_engine.specs.Folder.{closed}
@@ -22,7 +22,7 @@ use Rattle.dav_engine.specs.Multistatus.{PathStatus, multi_reply, one_reply, sta
 use Rattle.dav_engine.specs.Plan.{Plan, Done, Look, Keep, Locks, kept, Ran, ran_look, ran_keep}
 use Rattle.dav_core.proofs.Theorems.{found}
 use Rattle.dav_engine.specs.Removal.{Fault, report_of, fault_path, removal}
-use Rattle.dav_engine.specs.Response.{Response}
+use Rattle.dav_engine.specs.Reply.{Reply}
 use Rattle.dav_engine.specs.RemovalLaws.{timeless, timeless_at, LeavesSurvivors, IsErrorReport, AreErrorReports, NoContentMeansGone, locks_after, DeleteLeaves, DeletesLeaveSurvivors, RefusedDeleteLeavesAll}
 use Rattle.dav_engine.proofs.CallWorlds.{did, did_leave}
 use Rattle.dav_engine.proofs.ChildLemmas.{names_closed, closed_is_path}
@@ -90,7 +90,7 @@ gives_errors deep now p dir = gives_removal (λ status. 400 ≤ status) error_st
 
 -- ---- a DELETE that a reply ends
 
-found_leaves : (deep : Bool) (c : Conditions) (p : PathText) (who : Client) (m : DavMetaData) {old new : StoreState} {ls ms : Locks} {r : Response}
+found_leaves : (deep : Bool) (c : Conditions) (p : PathText) (who : Caller) (m : DavMetaData) {old new : StoreState} {ls ms : Locks} {r : Reply}
     → IsWorld old.world → p.bytes ≢ star → node_at old.world (names p) ≢ None → m.dir ≡ is_folder old.world (names p) → Ran Asks (delete_found deep c (closed m.dir p) who m) old ls (Ok r) new ms
     → (faults : List Fault) × DeleteLeaves p faults old new ls ms r
 found_leaves deep c p who m {old} {new} {ls} {ms} {r} world other here dir ran =
@@ -122,7 +122,7 @@ found_leaves deep c p who m {old} {new} {ls} {ms} {r} world other here dir ran =
       },
     )
 
-answer_leaves : (deep : Bool) (h : DeleteHeaders) (p : PathText) (who : Client) (answer : Result DavMetaData FsError) {old mid new : StoreState} {ls ms : Locks} {r : Response}
+answer_leaves : (deep : Bool) (h : DeleteHeaders) (p : PathText) (who : Caller) (answer : Result DavMetaData FsError) {old mid new : StoreState} {ls ms : Locks} {r : Reply}
     → IsWorld old.world → p.bytes ≢ star → Asks (Metadata (names p)) old answer mid
     → Ran Asks (followed_by (refused_as dav.FsError answer) (λ found. delete_found deep h.conditions (closed found.dir p) who found)) mid ls (Ok r) new ms
     → (faults : List Fault) × DeleteLeaves p faults old new ls ms r
@@ -141,7 +141,7 @@ answer_leaves deep h p who (Ok m) {old} {mid} {new} {ls} {ms} {r} world other on
       },
     )
 
-depth_leaves : (deep : Result Bool DavError) (h : DeleteHeaders) (p : PathText) (who : Client) {old new : StoreState} {ls ms : Locks} {r : Response}
+depth_leaves : (deep : Result Bool DavError) (h : DeleteHeaders) (p : PathText) (who : Caller) {old new : StoreState} {ls ms : Locks} {r : Reply}
     → IsWorld old.world → p.bytes ≢ star
     → Ran Asks (followed_by deep (λ d. ask_for (Metadata (names p)) >>= (λ found. delete_found d h.conditions (closed found.dir p) who found))) old ls (Ok r) new ms
     → (faults : List Fault) × DeleteLeaves p faults old new ls ms r
@@ -165,17 +165,17 @@ one_status : (b : Bool) (t : PathStatus) (p : PathText) → 400 ≤ t.1 → (if 
 one_status true t p error is = absurd (omega (arith, error, is))
 one_status false t p error is = absurd (omega (arith, is))
 
-error_reply_status : (p : PathText) (f : Fault) (faults : List Fault) (r : Response) → IsErrorReport f → Ok r ≡ multi_reply p (map report_of (f ∷ faults)) → r.status ≢ 204
+error_reply_status : (p : PathText) (f : Fault) (faults : List Fault) (r : Reply) → IsErrorReport f → Ok r ≡ multi_reply p (map report_of (f ∷ faults)) → r.status ≢ 204
 error_reply_status p f [] r error is status =
     let same : r ≡ one_reply p (report_of f) = let whole : Ok r ≡ Ok (one_reply p (report_of f)) = is in cc in
-    one_status (are_equal (report_of f).0 p) (report_of f) p error (sym (ap (λ (x : Response). x.status) same) ∙ status)
+    one_status (are_equal (report_of f).0 p) (report_of f) p error (sym (ap (λ (x : Reply). x.status) same) ∙ status)
 error_reply_status p f (g ∷ faults) r error is status =
     let items = map report_of (f ∷ g ∷ faults) in
     let same : r ≡ multistatus_reply items = let whole : Ok r ≡ Ok (multistatus_reply items) = is in cc in
-    let clash : 207 ≡ 204 = sym (ap (λ (x : Response). x.status) same) ∙ status in
+    let clash : 207 ≡ 204 = sym (ap (λ (x : Reply). x.status) same) ∙ status in
     absurd (omega (arith, clash))
 
-gone_by : (p : PathText) (q : Path) (faults : List Fault) {old new : StoreState} {ls ms : Locks} {r : Response} → DeleteLeaves p faults old new ls ms r → r.status ≡ 204 → is_at_or_under q (names p) ≡ true → node_at new.world q ≡ None
+gone_by : (p : PathText) (q : Path) (faults : List Fault) {old new : StoreState} {ls ms : Locks} {r : Reply} → DeleteLeaves p faults old new ls ms r → r.status ≡ 204 → is_at_or_under q (names p) ≡ true → node_at new.world q ≡ None
 gone_by p q [] left status within = none_left (names p) q left.survivors within
 gone_by p q (f ∷ faults) {old} {r = r} left status within =
     absurd (error_reply_status (closed (is_folder old.world (names p)) p) f faults r (All-head IsErrorReport f faults left.errors) left.reply status)
@@ -200,7 +200,7 @@ gives_dropped : (q : PathText) (faults : List Fault) → Gives (λ r. ⊤) (drop
 gives_dropped q [] = gives_look (λ ls. gives_dropping q ls)
 gives_dropped q (f ∷ faults) = gives_reply q (report_of f) (map report_of faults)
 
-after_allowed : (deep : Bool) (q : PathText) (who : Client) (dir : Bool) (o : Result (Unit {0}) DavError) (w : World) {mid new : StoreState} {ls ks ms : Locks} {e : DavError}
+after_allowed : (deep : Bool) (q : PathText) (who : Caller) (dir : Bool) (o : Result (Unit {0}) DavError) (w : World) {mid new : StoreState} {ls ks ms : Locks} {e : DavError}
     → (mid.world ≡ w) × (ks ≡ ls)
     → Ran Asks (followed_by o (λ free. removal deep who.moment q dir >>= (λ faults. drop_if_gone q faults >>= (λ done. Done (delete_reply q faults))))) mid ks (Err e) new ms
     → (new.world ≡ w) × (ms ≡ ls)
@@ -208,7 +208,7 @@ after_allowed deep q who dir (Err x) w left ran = let ends = finish ran in (ap (
 after_allowed deep q who dir (Ok free) w left ran =
     absurd (never_errs (gives_bind (removal deep who.moment q dir) _ (gives_errors deep who.moment q dir) (λ faults errors. gives_dropped q faults)) ran)
 
-after_answer : (deep : Bool) (h : DeleteHeaders) (p : PathText) (who : Client) (answer : Result DavMetaData FsError) (w : World) {mid new : StoreState} {ls ms : Locks} {e : DavError} → mid.world ≡ w
+after_answer : (deep : Bool) (h : DeleteHeaders) (p : PathText) (who : Caller) (answer : Result DavMetaData FsError) (w : World) {mid new : StoreState} {ls ms : Locks} {e : DavError} → mid.world ≡ w
     → Ran Asks (followed_by (refused_as dav.FsError answer) (λ found. delete_found deep h.conditions (closed found.dir p) who found)) mid ls (Err e) new ms
     → (new.world ≡ w) × (ms ≡ ls)
 after_answer deep h p who (Err x) w same ran = let ends = finish ran in (ap (λ (s : StoreState). s.world) ends.1 ∙ same, ends.2)
@@ -218,7 +218,7 @@ after_answer deep h p who (Ok m) w same ran =
     let (world, locks) = reading_leaves (only_reads look_reads (only_delete_allowed h.conditions q who m)) s.first in
     after_allowed deep q who m.dir s.outcome w (world ∙ same, locks) s.rest
 
-after_depth : (deep : Result Bool DavError) (h : DeleteHeaders) (p : PathText) (who : Client) {old new : StoreState} {ls ms : Locks} {e : DavError}
+after_depth : (deep : Result Bool DavError) (h : DeleteHeaders) (p : PathText) (who : Caller) {old new : StoreState} {ls ms : Locks} {e : DavError}
     → Ran Asks (followed_by deep (λ d. ask_for (Metadata (names p)) >>= (λ found. delete_found d h.conditions (closed found.dir p) who found))) old ls (Err e) new ms
     → (new.world ≡ old.world) × (ms ≡ ls)
 after_depth (Err x) h p who ran = let ends = finish ran in (ap (λ (s : StoreState). s.world) ends.1, ends.2)

@@ -5,10 +5,10 @@ use Rattle.dav_core.specs.declared.fs.DavMetaData.{DavMetaData}
 use Rattle.dav_core.specs.declared.method.DavMethod.{DavMethod}
 use Rattle.dav_core.specs.Locks.{Lock, is_held}
 use Rattle.dav_core.specs.Path.{PathText, names, is_at_or_under}
-use Rattle.dav_engine.specs.Client.{Client, requester}
+use Rattle.dav_engine.specs.Caller.{Caller, requester}
 use Rattle.dav_engine.specs.Conditions.{Conditions, submitted}
 use Rattle.dav_engine.specs.Copying.{CopyFault, renaming}
-use Rattle.dav_engine.specs.CopyMove.{CopyHeaders, is_move, copy_depth, source_free, copy_free, copy_allowed, is_replaced, clearing, drop_if, drop_if_moved, brought, bring_if_clear, copy_found, is_copy_move, changes_members}
+use Rattle.dav_engine.specs.CopyMove.{CopyHeaders, is_move, copy_depth, source_free, copy_free, copy_allowed, is_replaced, clearing, drop_if, drop_if_moved, transfer, transfer_if_cleared, copy_found, is_copy_move, changes_members}
 use Rattle.dav_engine.specs.Ending.{KeepsLock, keeps_done, keeps_ask, keeps_look, keeps_list, CopyMoveKeepsLocks}
 use Rattle.dav_engine.specs.Folder.{closed, room_at, is_folder_found}
 use Rattle.dav_engine.specs.Guard.{IsListed}
@@ -26,7 +26,7 @@ use Rattle.dav_engine.proofs.PutWorld.{only_guarded}
 use Rattle.dav_engine.proofs.SparingPlans.{spare_guarded}
 use Rattle.dav_engine.proofs.WorldPlans.{only_require}
 
-module _ (h : Lock) (who : Client) (c : Conditions) (unheld : is_held (requester who (submitted c.lists)) h ≡ false) (p d : PathText) where
+module _ (h : Lock) (who : Caller) (c : Conditions) (unheld : is_held (requester who (submitted c.lists)) h ≡ false) (p d : PathText) where
   abbrev Off : PathText → Type 0
   Off q = Elsewhere h who c unheld (names q)
 
@@ -65,7 +65,7 @@ module _ (h : Lock) (who : Client) (c : Conditions) (unheld : is_held (requester
   moved [] off = keeps_look (λ ls listed. keeps_list (still_listed h (names p) off ls listed) keeps_done)
   moved (f ∷ faults) off = keeps_done
 
-  brings : (moves deep : Bool) (now : ℕ) → BothOff moves → KeepsLock h (brought moves deep now p d)
+  brings : (moves deep : Bool) (now : ℕ) → BothOff moves → KeepsLock h (transfer moves deep now p d)
   brings true deep now off =
       keeps_bind {plan = renaming now p d} (λ faults. drop_if_moved p faults >>= (λ u. gives faults)) (keeps_ask (λ answer. keeps_done))
       (λ faults. keeps_bind (λ u. gives faults) (moved faults (off.source refl)) (λ u. keeps_done))
@@ -77,11 +77,11 @@ module _ (h : Lock) (who : Client) (c : Conditions) (unheld : is_held (requester
     keeps_if true = keeps_only (only_removal true now d (is_folder_found there))
     keeps_if false = keeps_done
 
-  if_clear : (moves deep : Bool) (now : ℕ) (there : Option DavMetaData) (faults : List Fault) → BothOff moves → KeepsLock h (bring_if_clear moves deep now p d there faults)
+  if_clear : (moves deep : Bool) (now : ℕ) (there : Option DavMetaData) (faults : List Fault) → BothOff moves → KeepsLock h (transfer_if_cleared moves deep now p d there faults)
   if_clear moves deep now there (f ∷ faults) off = keeps_done
   if_clear moves deep now there [] off = keeps_bind _ (dropped (is_replaced deep there) off.place) (λ u. keeps_bind _ (brings moves deep now off) (λ faults. keeps_done))
 
-module _ (h : Lock) (who : Client) (k : CopyHeaders) (unheld : is_held (requester who (submitted k.conditions.lists)) h ≡ false) (p d : PathText) where
+module _ (h : Lock) (who : Caller) (k : CopyHeaders) (unheld : is_held (requester who (submitted k.conditions.lists)) h ≡ false) (p d : PathText) where
   allowed : (m : DavMethod) (deep : Bool) (found : DavMetaData) → Gives h (λ there. BothOff h who k.conditions unheld p d (is_move m)) (copy_allowed m deep k p d who found)
   allowed m deep found =
       gives_bind _ (gives_any (only_destination k.overwrite d)) (λ there _.

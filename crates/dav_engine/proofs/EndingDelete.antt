@@ -8,7 +8,7 @@ use Rattle.dav_core.specs.declared.method.DavMethod.TheVariants.{Delete}
 use Rattle.dav_core.specs.Asking.{Call, Answer}
 use Rattle.dav_core.specs.Locks.{Lock, is_held, deleted, Requester}
 use Rattle.dav_core.specs.Path.{Path, PathText, names, is_at_or_under}
-use Rattle.dav_engine.specs.Client.{Client, requester}
+use Rattle.dav_engine.specs.Caller.{Caller, requester}
 use Rattle.dav_engine.specs.Conditions.{Conditions, submitted}
 use Rattle.dav_engine.specs.Delete.{whole_depth, delete_allowed, drop_if_gone, delete_reply, delete_found, is_delete}
 use Rattle.dav_engine.specs.Ending.{KeepsLock, keeps_done, keeps_ask, keeps_look, keeps_list, DeleteKeepsLocks}
@@ -86,7 +86,7 @@ pub gives_parent : {h : Lock} {Q : Type 0} → Q → (wanted : Bool) (who : Requ
 gives_parent q false who p e = gives_ok q
 gives_parent q true who p e = gives_look (λ ls listed. gives_test q (is_open_parent who p (Some ls)) e)
 
-module _ (h : Lock) (who : Client) (c : Conditions) (unheld : is_held (requester who (submitted c.lists)) h ≡ false) where
+module _ (h : Lock) (who : Caller) (c : Conditions) (unheld : is_held (requester who (submitted c.lists)) h ≡ false) where
   abbrev pub Elsewhere : Path → Type 0
   Elsewhere p = is_at_or_under (folder_of h) p ≡ false
 

@@ -7,7 +7,7 @@ use Rattle.dav_core.specs.Asking.{StoreState, Write}
 use Rattle.dav_core.specs.Handle.{Handle, Opening}
 use Rattle.dav_core.specs.Locks.{Lock}
 use Rattle.dav_core.specs.Path.{Path, PathText, names}
-use Rattle.dav_engine.specs.Client.{Client}
+use Rattle.dav_engine.specs.Caller.{Caller}
 use Rattle.dav_engine.specs.Conditions.{Conditions}
 use Rattle.dav_engine.specs.Ending.{KeepsLock, keeps_done, keeps_ask, keeps_look, keeps_list, KeptLocksStand, KeptLocksStandCut, ReadingKeepsLocks, PutKeepsLocks, MkcolKeepsLocks}
 use Rattle.dav_engine.specs.Guard.{Stands}
@@ -15,7 +15,7 @@ use Rattle.dav_engine.specs.Method.{MethodPlan, then as followed_by, ◌>>=◌, 
 use Rattle.dav_engine.specs.Mkcol.{mkcol, create_error, is_mkcol}
 use Rattle.dav_engine.specs.Plan.{Plan, CallStep, Locks, Ran, ran_done, ran_ask, ran_look, ran_keep, Refused, refused_done, refused_ask, refused_look, refused_keep, RanUpTo, up_to_here, up_to_ask, up_to_look, up_to_keep}
 use Rattle.dav_engine.specs.Put.{PutHeaders, put_opening, open_error, unsatisfiable, sought, store, put_body, bytes_of_body, is_put}
-use Rattle.dav_engine.specs.Response.{Response}
+use Rattle.dav_engine.specs.Reply.{Reply}
 use Rattle.dav_engine.specs.WorldLaws.{IsReading, reads_done, reads_ask, reads_look}
 use Rattle.dav_engine.proofs.PutWorld.{look_reads, only_put_allowed, only_mkcol_allowed}
 use Rattle.dav_engine.proofs.WorldPlans.{only_reads}
@@ -52,8 +52,8 @@ pub kept_locks_stand : KeptLocksStand
 kept_locks_stand h plan old new ls ms a keeps ran stands = kept_stands h keeps ran stands
 
 -- where memory runs out: the list is that of the beginning, or what the rest leaves where each of its calls is refused
-stands_cut : (h : Lock) {step : CallStep} {plan : MethodPlan Response} {old new : StoreState} {ls ms : Locks} → KeepsLock h plan → Stands h ls
-    → (rest : MethodPlan Response) (locks : Locks) → RanUpTo step plan old ls rest new locks → ((ms ≡ ls) ⊎ ((outcome : Result Response DavError) × Refused rest locks outcome ms)) → Stands h ms
+stands_cut : (h : Lock) {step : CallStep} {plan : MethodPlan Reply} {old new : StoreState} {ls ms : Locks} → KeepsLock h plan → Stands h ls
+    → (rest : MethodPlan Reply) (locks : Locks) → RanUpTo step plan old ls rest new locks → ((ms ≡ ls) ⊎ ((outcome : Result Reply DavError) × Refused rest locks outcome ms)) → Stands h ms
 stands_cut h keeps stands rest locks ran (inl same) = subst (Stands h) (sym same) stands
 stands_cut h keeps stands rest locks ran (inr (outcome, refused)) = let (still, there) = kept_up_to h keeps ran stands in kept_refused h still refused there
 
@@ -97,13 +97,13 @@ module _ (h : Lock) where
       keeps_bind _ (keeps_written (length bytes == 0) file bytes now) (λ file.
       keeps_ask (λ answer. keeps_then (refused_as dav.FsError answer) _ (λ done. keeps_ask (λ answer. keeps_done)))))))
 
-  keeps_put : (m : DavMethod) (headers : PutHeaders) (p : Path) (who : Client) (bytes : Option (List ℕ)) → KeepsLock h (put_body m headers p who bytes)
+  keeps_put : (m : DavMethod) (headers : PutHeaders) (p : Path) (who : Caller) (bytes : Option (List ℕ)) → KeepsLock h (put_body m headers p who bytes)
   keeps_put m headers p who None = keeps_done
   keeps_put m headers p who (Some bytes) =
       keeps_bind _ (keeps_reading (only_reads look_reads (only_put_allowed m headers p who bytes))) (λ allowed.
       keeps_store (put_opening headers allowed.0) allowed.0.from p bytes who.moment allowed.1)
 
-  keeps_mkcol : (c : Conditions) (p : PathText) (who : Client) → KeepsLock h (mkcol c p who)
+  keeps_mkcol : (c : Conditions) (p : PathText) (who : Caller) → KeepsLock h (mkcol c p who)
   keeps_mkcol c p who =
       keeps_bind _ (keeps_reading (only_reads look_reads (only_mkcol_allowed c p who))) (λ allowed.
       keeps_ask (λ answer. keeps_then (refused_as create_error answer) _ (λ done. keeps_done)))

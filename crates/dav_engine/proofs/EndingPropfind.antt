@@ -7,15 +7,15 @@ use Rattle.dav_core.specs.Element.{ElementTree}
 use Rattle.dav_core.specs.Path.{PathText}
 use Rattle.dav_engine.specs.Folder.{child_of}
 use Rattle.dav_engine.specs.Method.{MethodPlan}
-use Rattle.dav_engine.specs.Properties.{Telling, Requested, AllProperties, NamesAlone, Outcomes, Others, Source, Here, Nowhere, AvailableQuota, UsedQuota, InStore, Writer, QuotaKnown, source, quota_once, has_properties, kept_if, kept_property, found_in, found_property, found_properties, all_kept_if, all_kept, properties_of}
-use Rattle.dav_engine.specs.Propfind.{Below, tell_member, tell_found, tell_members, tell_listed, tell_below, tell_itself}
+use Rattle.dav_engine.specs.Properties.{Telling, Requested, AllProperties, NamesAlone, Outcomes, Others, Source, Here, Nowhere, AvailableQuota, UsedQuota, InStore, Writer, QuotaKnown, source, cached_quota, has_properties, kept_if, kept_property, found_in, found_property, found_properties, stored_properties, all_kept, properties_of}
+use Rattle.dav_engine.specs.Propfind.{Below, tell_member, tell_if_found, tell_members, tell_listed, tell_below, tell_itself}
 use Rattle.dav_engine.proofs.RemovalReports.{Gives, gives_done, gives_ask, gives_look, gives_bind}
 
 -- no error ends the plan, whatever it gives
 abbrev pub Answered : {A : Type 0} → MethodPlan A → Type 0
 Answered plan = Gives (λ a. ⊤) plan
 
-answered_quota : (known : QuotaKnown) → Answered (quota_once known)
+answered_quota : (known : QuotaKnown) → Answered (cached_quota known)
 answered_quota (Some quota) = gives_done tt
 answered_quota None = gives_ask (λ answer. gives_done tt)
 
@@ -33,7 +33,7 @@ answered_kept NamesAlone p e = gives_done tt
 answered_kept Outcomes p e = gives_done tt
 answered_kept Others p e = gives_done tt
 
-answered_all_if : (p : PathText) (has : Bool) → Answered (all_kept_if p has)
+answered_all_if : (p : PathText) (has : Bool) → Answered (stored_properties p has)
 answered_all_if p false = gives_done tt
 answered_all_if p true = gives_ask (λ answer. gives_done tt)
 
@@ -44,8 +44,8 @@ module _ (w : Writer) where
   answered_found_in : (e : ElementTree) (p : PathText) (m : DavMetaData) (known : QuotaKnown) (s : Source) → Answered (found_in w e p m known s)
   answered_found_in e p m known (Here told) = gives_done tt
   answered_found_in e p m known Nowhere = gives_done tt
-  answered_found_in e p m known AvailableQuota = gives_bind (quota_once known) _ (answered_quota known) (λ quota any. gives_done tt)
-  answered_found_in e p m known UsedQuota = gives_bind (quota_once known) _ (answered_quota known) (λ quota any. gives_done tt)
+  answered_found_in e p m known AvailableQuota = gives_bind (cached_quota known) _ (answered_quota known) (λ quota any. gives_done tt)
+  answered_found_in e p m known UsedQuota = gives_bind (cached_quota known) _ (answered_quota known) (λ quota any. gives_done tt)
   answered_found_in e p m known InStore = gives_bind (kept_property w.telling p e) _ (answered_kept w.telling p e) (λ kept any. gives_done tt)
 
   answered_found : (p : PathText) (m : DavMetaData) (known : QuotaKnown) (e : ElementTree) → Answered (found_property w p m known e)
@@ -68,14 +68,14 @@ module _ (w : Writer) where
         gives_bind (properties_of w p m known) _ (answered_properties p m known) (λ one any.
         gives_bind (below p m.dir one.1) _ (walk p m.dir one.1) (λ more any. gives_done tt))
 
-    answered_seen : (p : PathText) (name : List ℕ) (known : QuotaKnown) (seen : Result DavMetaData FsError) → Answered (tell_found below w p name known seen)
+    answered_seen : (p : PathText) (name : List ℕ) (known : QuotaKnown) (seen : Result DavMetaData FsError) → Answered (tell_if_found below w p name known seen)
     answered_seen p name known (Err e) = gives_done tt
     answered_seen p name known (Ok m) = answered_member (child_of p name m.dir) m known
 
     answered_members : (p : PathText) (known : QuotaKnown) (entries : List (List ℕ × Bool)) → Answered (tell_members below w p known entries)
     answered_members p known [] = gives_done tt
     answered_members p known (entry ∷ entries) = gives_ask (λ seen.
-        gives_bind (tell_found below w p entry.0 known seen) _ (answered_seen p entry.0 known seen) (λ one any.
+        gives_bind (tell_if_found below w p entry.0 known seen) _ (answered_seen p entry.0 known seen) (λ one any.
         gives_bind (tell_members below w p one.1 entries) _ (answered_members p one.1 entries) (λ more any. gives_done tt)))
 
     answered_listed : (p : PathText) (known : QuotaKnown) (listed : Result (List (List ℕ × Bool)) FsError) → Answered (tell_listed below w p known listed)

@@ -8,22 +8,22 @@ use Rattle.dav_core.specs.Asking.{StoreState, Asks, Metadata}
 use Rattle.dav_core.specs.Element.{ElementTree}
 use Rattle.dav_core.specs.Path.{PathText, names}
 use Rattle.dav_engine.specs.declared.request.Body.{Body}
-use Rattle.dav_engine.specs.Client.{Client}
-use Rattle.dav_engine.specs.FindView.{told_at}
+use Rattle.dav_engine.specs.Caller.{Caller}
+use Rattle.dav_engine.specs.FindView.{response_at}
 use Rattle.dav_engine.specs.Folder.{closed, location_found, room_at}
 use Rattle.dav_engine.specs.Follows.{as_is, Follows, followed, gave_up}
-use Rattle.dav_engine.specs.Giving.{GivesWith, StopsWith}
 use Rattle.dav_engine.specs.Headers.{Headers}
 use Rattle.dav_engine.specs.Method.{MethodPlan, ◌>>=◌, gives, required}
 use Rattle.dav_engine.specs.Plan.{Done, Ask, Look, Keep, Locks, Ran, ran_done, Cut}
 use Rattle.dav_engine.specs.Propfind.{FindHeaders, Query, Responses, query_in, tell_itself, tell_below, tells_itself, tells_members, is_infinite, is_served_depth, finite_depth, propfind_reply, propfind_found, propfind_if, propfind}
 use Rattle.dav_engine.specs.Properties.{Writer, writer, WithQuota, properties_of}
-use Rattle.dav_engine.specs.Response.{Response, Header}
-use Rattle.dav_engine.specs.Writing.{Writing, started, Tells, alone}
+use Rattle.dav_engine.specs.Reply.{Reply, Header}
+use Rattle.dav_engine.specs.PropWriter.{PropWriter, started, alone}
 use Rattle.dav_engine.proofs.CutPlans.{cut_first, cut_bind, cut_in}
 use Rattle.dav_engine.proofs.Following.{ran_at, ran_bind, follows_ask, follows_done}
+use Rattle.dav_engine.proofs.PartLemmas.{Gave, Stopped}
 use Rattle.dav_engine.proofs.GuardLemmas.{follows_ok, follows_fails}
-use Rattle.dav_engine.proofs.TellLemmas.{more_and_more, nothing_told, same_writer}
+use Rattle.dav_engine.proofs.TellLemmas.{Told, more_and_more, nothing_told, same_writer}
 
 -- parts of a plan are carried out in their order, however they are grouped
 same_order : {A B C : Type 0} (plan : MethodPlan A) (f : A → MethodPlan B) (g : B → MethodPlan C) → ((plan >>= f) >>= g) ≡ (plan >>= (λ a. f a >>= g))
@@ -44,20 +44,16 @@ module _ (locks : Locks) (h : FindHeaders) (w : Writer) (p : PathText) (m : DavM
   abbrev one_response : WithQuota ElementTree → MethodPlan Responses
   one_response one = gives (one.0 ∷ [], one.1)
 
-  pub itself_told : (old mid : Writing) {s t : StoreState} → true ≡ tells_itself h.depth → old ≡ started w
-      → Tells locks alone (properties_of old.writer p m) old mid s t → Tells locks as_is (λ known. itself) (started w) mid s t
+  pub itself_told : (old mid : PropWriter) {s t : StoreState} → true ≡ tells_itself h.depth → old ≡ started w
+      → Told locks alone (properties_of old.writer p m) old mid s t → Told locks as_is (λ known. itself) (started w) mid s t
   itself_told old mid {s} {t} said fresh one =
-      let here : Tells locks alone (properties_of w p m) (started w) mid s t = subst (λ (o : Writing). Tells locks alone (properties_of o.writer p m) o mid s t) fresh one in
-      record {
-        told = here.told ∷ [];
-        gives = subst (λ b. GivesWith locks (tell_itself b w p m) s (here.told ∷ [], mid.quota) t) said (ran_bind one_response here.gives ran_done);
-        after = here.after;
-      }
+      let here : Told locks alone (properties_of w p m) (started w) mid s t = subst (λ (o : PropWriter). Told locks alone (properties_of o.writer p m) o mid s t) fresh one in
+      (here.0 ∷ [], subst (λ b. Gave locks (tell_itself b w p m) s (here.0 ∷ [], mid.quota) t) said (ran_bind one_response here.1 ran_done), here.2)
 
-  pub itself_untold : (mid : Writing) {s : StoreState} → false ≡ tells_itself h.depth → mid ≡ started w → Tells locks as_is (λ known. itself) (started w) mid s s
+  pub itself_untold : (mid : PropWriter) {s : StoreState} → false ≡ tells_itself h.depth → mid ≡ started w → Told locks as_is (λ known. itself) (started w) mid s s
   itself_untold mid {s} said fresh =
-      subst (λ (o : Writing). Tells locks as_is (λ known. itself) (started w) o s s) (sym fresh)
-      (nothing_told locks (λ known. itself) (started w) (subst (λ b. GivesWith locks (tell_itself b w p m) s ([], None) s) said ran_done))
+      subst (λ (o : PropWriter). Told locks as_is (λ known. itself) (started w) o s s) (sym fresh)
+      (nothing_told locks (λ known. itself) (started w) (subst (λ b. Gave locks (tell_itself b w p m) s ([], None) s) said ran_done))
 
   -- what follows the resource itself, and what follows what is below it
   abbrev both : Responses → Responses → MethodPlan Responses
@@ -68,80 +64,76 @@ module _ (locks : Locks) (h : FindHeaders) (w : Writer) (p : PathText) (m : DavM
     more ← tell_below (is_infinite h.depth) (room_at p) w p (m.dir && tells_members h.depth) one.1
     both one more
 
-  pub itself_stopped : (old : Writing) {s t : StoreState} → true ≡ tells_itself h.depth → old ≡ started w
-      → StopsWith locks (properties_of old.writer p m old.quota) s t → StopsWith locks (told_at h w p m) s t
+  pub itself_stopped : (old : PropWriter) {s t : StoreState} → true ≡ tells_itself h.depth → old ≡ started w
+      → Stopped locks (properties_of old.writer p m old.quota) s t → Stopped locks (response_at h w p m) s t
   itself_stopped old {s} {t} said fresh stop =
-      let here : StopsWith locks (properties_of w p m None) s t = subst (λ (o : Writing). StopsWith locks (properties_of o.writer p m o.quota) s t) fresh stop in
-      cut_in and_below (subst (λ b. StopsWith locks (tell_itself b w p m) s t) said (cut_in one_response here refl)) refl
+      let here : Stopped locks (properties_of w p m None) s t = subst (λ (o : PropWriter). Stopped locks (properties_of o.writer p m o.quota) s t) fresh stop in
+      cut_in and_below (subst (λ b. Stopped locks (tell_itself b w p m) s t) said (cut_in one_response here refl)) refl
 
-  pub below_cut : (deep wanted : Bool) (mid : Writing) {s u t : StoreState} → deep ≡ is_infinite h.depth → wanted ≡ (m.dir && tells_members h.depth)
-      → Tells locks as_is (λ known. itself) (started w) mid s u → StopsWith locks (tell_below deep (room_at p) mid.writer p wanted mid.quota) u t
-      → StopsWith locks (told_at h w p m) s t
+  pub below_cut : (deep wanted : Bool) (mid : PropWriter) {s u t : StoreState} → deep ≡ is_infinite h.depth → wanted ≡ (m.dir && tells_members h.depth)
+      → Told locks as_is (λ known. itself) (started w) mid s u → Stopped locks (tell_below deep (room_at p) mid.writer p wanted mid.quota) u t
+      → Stopped locks (response_at h w p m) s t
   below_cut deep wanted mid {s} {u} {t} how where_to one stop =
-      let here : StopsWith locks (tell_below deep (room_at p) w p wanted mid.quota) u t = subst (λ (o : Writer). StopsWith locks (tell_below deep (room_at p) o p wanted mid.quota) u t) (same_writer one) stop in
-      let there : StopsWith locks (tell_below (is_infinite h.depth) (room_at p) w p (m.dir && tells_members h.depth) mid.quota) u t =
-      subst (λ b. StopsWith locks (tell_below (is_infinite h.depth) (room_at p) w p b mid.quota) u t) where_to (subst (λ d. StopsWith locks (tell_below d (room_at p) w p wanted mid.quota) u t) how here) in
-      cut_bind and_below one.gives (cut_in (both (one.told, mid.quota)) there refl)
+      let here : Stopped locks (tell_below deep (room_at p) w p wanted mid.quota) u t = subst (λ (o : Writer). Stopped locks (tell_below deep (room_at p) o p wanted mid.quota) u t) (same_writer (started w) mid _ _ one.2) stop in
+      let there : Stopped locks (tell_below (is_infinite h.depth) (room_at p) w p (m.dir && tells_members h.depth) mid.quota) u t =
+      subst (λ b. Stopped locks (tell_below (is_infinite h.depth) (room_at p) w p b mid.quota) u t) where_to (subst (λ d. Stopped locks (tell_below d (room_at p) w p wanted mid.quota) u t) how here) in
+      cut_bind and_below one.1 (cut_in (both (one.0, mid.quota)) there refl)
 
-  pub both_told : (deep wanted : Bool) (mid new : Writing) {s u t : StoreState} → deep ≡ is_infinite h.depth → wanted ≡ (m.dir && tells_members h.depth)
-      → Tells locks as_is (λ known. itself) (started w) mid s u → Tells locks as_is (tell_below deep (room_at p) mid.writer p wanted) mid new u t
-      → Tells locks as_is (λ known. told_at h w p m) (started w) new s t
+  pub both_told : (deep wanted : Bool) (mid new : PropWriter) {s u t : StoreState} → deep ≡ is_infinite h.depth → wanted ≡ (m.dir && tells_members h.depth)
+      → Told locks as_is (λ known. itself) (started w) mid s u → Told locks as_is (tell_below deep (room_at p) mid.writer p wanted) mid new u t
+      → Told locks as_is (λ known. response_at h w p m) (started w) new s t
   both_told deep wanted mid new {s} {u} {t} how where_to one two =
-      let here : GivesWith locks (tell_below deep (room_at p) w p wanted mid.quota) u (two.told, new.quota) t =
-      subst (λ (o : Writer). GivesWith locks (tell_below deep (room_at p) o p wanted mid.quota) u (two.told, new.quota) t) (same_writer one) two.gives in
-      let there : GivesWith locks (tell_below (is_infinite h.depth) (room_at p) w p (m.dir && tells_members h.depth) mid.quota) u (two.told, new.quota) t =
-      subst (λ b. GivesWith locks (tell_below (is_infinite h.depth) (room_at p) w p b mid.quota) u (two.told, new.quota) t) where_to
-      (subst (λ d. GivesWith locks (tell_below d (room_at p) w p wanted mid.quota) u (two.told, new.quota) t) how here) in
-      record {
-        told = one.told ++ two.told;
-        gives = ran_bind and_below one.gives (ran_bind (both (one.told, mid.quota)) there ran_done);
-        after = more_and_more (started w) mid new one.told two.told one.after two.after;
-      }
+      let here : Gave locks (tell_below deep (room_at p) w p wanted mid.quota) u (two.0, new.quota) t =
+      subst (λ (o : Writer). Gave locks (tell_below deep (room_at p) o p wanted mid.quota) u (two.0, new.quota) t) (same_writer (started w) mid _ _ one.2) two.1 in
+      let there : Gave locks (tell_below (is_infinite h.depth) (room_at p) w p (m.dir && tells_members h.depth) mid.quota) u (two.0, new.quota) t =
+      subst (λ b. Gave locks (tell_below (is_infinite h.depth) (room_at p) w p b mid.quota) u (two.0, new.quota) t) where_to
+      (subst (λ d. Gave locks (tell_below d (room_at p) w p wanted mid.quota) u (two.0, new.quota) t) how here) in
+      (one.0 ++ two.0, ran_bind and_below one.1 (ran_bind (both (one.0, mid.quota)) there ran_done), more_and_more (started w) mid new one.0 two.0 one.2 two.2)
 
   -- ---- the reply
 
   module _ (location : List Header) where
     -- what follows what is told
-    abbrev replies : Responses → MethodPlan Response
+    abbrev replies : Responses → MethodPlan Reply
     replies told = gives (propfind_reply location w told.0)
 
     -- the rest of a PROPFIND, in its order
-    abbrev pub finds : MethodPlan Response
+    abbrev pub finds : MethodPlan Reply
     finds = do
       one ← itself
       more ← tell_below (is_infinite h.depth) (room_at p) w p (m.dir && tells_members h.depth) one.1
       gives (propfind_reply location w (one.0 ++ more.0))
 
-    in_order : (told_at h w p m >>= replies) ≡ finds
+    in_order : (response_at h w p m >>= replies) ≡ finds
     in_order =
         same_order itself and_below replies
         ∙ (λ i. itself >>= (λ one. same_order (tell_below (is_infinite h.depth) (room_at p) w p (m.dir && tells_members h.depth) one.1) (both one) replies i))
 
-    cut_finds : {s t : StoreState} → StopsWith locks (told_at h w p m >>= replies) s t → Follows as_is finds s locks (Err dav.Memory) t locks
-    cut_finds {s} {t} stop = gave_up refl (subst (λ (plan : MethodPlan Response). Cut Asks locks plan s locks t locks) in_order stop)
+    cut_finds : {s t : StoreState} → Stopped locks (response_at h w p m >>= replies) s t → Follows as_is finds s locks (Err dav.Memory) t locks
+    cut_finds {s} {t} stop = gave_up refl (subst (λ (plan : MethodPlan Reply). Cut Asks locks plan s locks t locks) in_order stop)
 
-    pub finds_stopped : {s t : StoreState} → StopsWith locks (told_at h w p m) s t → Follows as_is finds s locks (Err dav.Memory) t locks
+    pub finds_stopped : {s t : StoreState} → Stopped locks (response_at h w p m) s t → Follows as_is finds s locks (Err dav.Memory) t locks
     finds_stopped stop = cut_finds (cut_in replies stop refl)
 
-    pub finds_short : (new : Writing) {s t : StoreState} → Tells locks as_is (λ known. told_at h w p m) (started w) new s t → Follows as_is finds s locks (Err dav.Memory) t locks
-    finds_short new told = cut_finds (cut_bind replies told.gives cut_first)
+    pub finds_short : (new : PropWriter) {s t : StoreState} → Told locks as_is (λ known. response_at h w p m) (started w) new s t → Follows as_is finds s locks (Err dav.Memory) t locks
+    finds_short new told = cut_finds (cut_bind replies told.1 cut_first)
 
-    pub finds_all : (new : Writing) (r : Response) {s t : StoreState} → Tells locks as_is (λ known. told_at h w p m) (started w) new s t
+    pub finds_all : (new : PropWriter) (r : Reply) {s t : StoreState} → Told locks as_is (λ known. response_at h w p m) (started w) new s t
         → r ≡ propfind_reply location new.writer (new.finished ++ new.waiting) → Follows as_is finds s locks (Ok r) t locks
     finds_all new r {s} {t} told is =
-        let whole : r ≡ propfind_reply location w told.told = is ∙ ap (λ (n : Writing). propfind_reply location n.writer (n.finished ++ n.waiting)) told.after in
-        followed (subst (λ (plan : MethodPlan Response). Ran Asks plan s locks (Ok r) t locks) in_order (ran_bind replies told.gives (ran_at (ap Ok whole))))
+        let whole : r ≡ propfind_reply location w told.0 = is ∙ ap (λ (n : PropWriter). propfind_reply location n.writer (n.finished ++ n.waiting)) told.2 in
+        followed (subst (λ (plan : MethodPlan Reply). Ran Asks plan s locks (Ok r) t locks) in_order (ran_bind replies told.1 (ran_at (ap Ok whole))))
 
 -- ---- the method
 
-module _ (h : FindHeaders) (headers : Headers) (p : PathText) (content : Body) (who : Client) where
+module _ (h : FindHeaders) (headers : Headers) (p : PathText) (content : Body) (who : Caller) where
   module _ (location : List Header) (m : DavMetaData) where
     -- how a query is answered
-    abbrev answers : Query → MethodPlan Response
+    abbrev answers : Query → MethodPlan Reply
     answers query = finds None h (writer query.0 headers who.principal query.1) p m location
 
     -- the same by a writer and a path that equal its own
-    pub answers_by : (query : Query) (w : Writer) (q : PathText) {s t : StoreState} {ls : Locks} {r : Result Response DavError} → w ≡ writer query.0 headers who.principal query.1 → q ≡ p
+    pub answers_by : (query : Query) (w : Writer) (q : PathText) {s t : StoreState} {ls : Locks} {r : Result Reply DavError} → w ≡ writer query.0 headers who.principal query.1 → q ≡ p
         → Follows as_is (finds None h w q m location) s ls r t ls → Follows as_is (answers query) s ls r t ls
     answers_by query w q {s} {t} {ls} {r} same path more =
         subst (λ (x : Writer). Follows as_is (finds None h x p m location) s ls r t ls) same (subst (λ (x : PathText). Follows as_is (finds None h w x m location) s ls r t ls) path more)
@@ -149,11 +141,11 @@ module _ (h : FindHeaders) (headers : Headers) (p : PathText) (content : Body) (
     pub no_query : {s : StoreState} {ls : Locks} → None ≡ query_in content → Follows as_is (propfind_found h headers p location content who m) s ls (Err dav.XmlParseError) s ls
     no_query is = follows_fails _ dav.XmlParseError answers (ap (λ (o : Option Query). required o dav.XmlParseError) (sym is)) refl
 
-    pub this_query : (query : Query) {s t : StoreState} {ls : Locks} {r : Result Response DavError} → Some query ≡ query_in content
+    pub this_query : (query : Query) {s t : StoreState} {ls : Locks} {r : Result Reply DavError} → Some query ≡ query_in content
         → Follows as_is (answers query) s ls r t ls → Follows as_is (propfind_found h headers p location content who m) s ls r t ls
     this_query query is more = follows_ok _ query answers (ap (λ (o : Option Query). required o dav.XmlParseError) (sym is)) more
 
-  pub depth_refused : (served : Bool) (r : Response) {s : StoreState} {ls : Locks} → served ≡ is_served_depth h → served ≡ false → r ≡ finite_depth → Follows as_is (propfind h headers p content who) s ls (Ok r) s ls
+  pub depth_refused : (served : Bool) (r : Reply) {s : StoreState} {ls : Locks} → served ≡ is_served_depth h → served ≡ false → r ≡ finite_depth → Follows as_is (propfind h headers p content who) s ls (Ok r) s ls
   depth_refused served r {s} {ls} said is reply =
       subst (λ b. Follows as_is (propfind_if b h headers p content who) s ls (Ok r) s ls) (sym is ∙ said) (follows_done (ap Ok reply))
 
@@ -162,7 +154,7 @@ module _ (h : FindHeaders) (headers : Headers) (p : PathText) (content : Body) (
   not_there served e {s} {t} {ls} said is one =
       subst (λ b. Follows as_is (propfind_if b h headers p content who) s ls (Err (dav.FsError e)) t ls) (sym is ∙ said) (follows_ask one (follows_done refl))
 
-  pub is_there : (served : Bool) (m : DavMetaData) (r : Result Response DavError) {s u t : StoreState} {ls : Locks} → served ≡ is_served_depth h → served ≡ true → Asks (Metadata (names p)) s (Ok m) u
+  pub is_there : (served : Bool) (m : DavMetaData) (r : Result Reply DavError) {s u t : StoreState} {ls : Locks} → served ≡ is_served_depth h → served ≡ true → Asks (Metadata (names p)) s (Ok m) u
       → Follows as_is (propfind_found h headers (closed m.dir p) (location_found (Some m) p) content who m) u ls r t ls → Follows as_is (propfind h headers p content who) s ls r t ls
   is_there served m r {s} {u} {t} {ls} said is one rest =
       subst (λ b. Follows as_is (propfind_if b h headers p content who) s ls r t ls) (sym is ∙ said) (follows_ask one rest)

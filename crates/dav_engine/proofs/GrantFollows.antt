@@ -17,24 +17,24 @@ use Rattle.dav_core.specs.declared.ls.LockRefusal.{LockRefusal}
 use Rattle.dav_core.specs.declared.ls.LockRefusal.TheVariants.{Conflict}
 use Rattle.dav_core.specs.Path.{Path, PathText, names}
 use Rattle.dav_engine.specs.declared.request.Body.{Body}
-use Rattle.dav_engine.specs.Client.{Client, requester}
+use Rattle.dav_engine.specs.Caller.{Caller, requester}
 use Rattle.dav_engine.specs.Conditions.{if_match, submitted}
 use Rattle.dav_engine.specs.Delete.{whole_depth}
-use Rattle.dav_engine.specs.Follows.{as_is, Follows, followed, Sets, or_memory}
+use Rattle.dav_engine.specs.Follows.{as_is, Follows, followed, FollowsOnLocks, or_memory}
 use Rattle.dav_engine.specs.Lock.{lock_of, asked_lock, grant, taken_back, empty_opening, empty_error, open_empty, make_empty, granted_reply, lock_new, lock_found, lock}
 use Rattle.dav_engine.specs.LockHeaders.{LockHeaders}
 use Rattle.dav_engine.specs.LockInfo.{LockInfo, lock_info}
 use Rattle.dav_engine.specs.LockView.{GrantsNew, not_granted, on_what_is_there, on_a_new_file}
 use Rattle.dav_engine.specs.Method.{MethodPlan, ◌>>=◌, require_parent, required, unless_status, has_locks, gives}
 use Rattle.dav_engine.specs.Plan.{Locks, Done, Keep, Ran, ran_done, ran_ask, ran_look, ran_keep}
-use Rattle.dav_engine.specs.Response.{Response, Header}
+use Rattle.dav_engine.specs.Reply.{Reply, Header}
 use Rattle.dav_engine.proofs.Following.{ran_at, ran_bind, follows_done, follows_ask, follows_then, follows_err, follows_up_to}
 use Rattle.dav_engine.proofs.GuardLemmas.{follows_look, follows_ok, follows_fails, turned}
 use Rattle.dav_engine.proofs.LaterLemmas.{follows_keep, follows_then_from}
 
 -- ---- the lock that is asked for
 
-module _ (h : LockHeaders) (p : PathText) (content : Body) (who : Client) (found : Option DavMetaData) where
+module _ (h : LockHeaders) (p : PathText) (content : Body) (who : Caller) (found : Option DavMetaData) where
   abbrev with_info : Bool → LockInfo → MethodPlan Lock
   with_info deep info = do
     token ← Done (required who.token (dav.Status 500))
@@ -45,7 +45,7 @@ module _ (h : LockHeaders) (p : PathText) (content : Body) (who : Client) (found
   with_token deep info token = require_parent (is_none found) (requester who (submitted h.conditions.lists)) (names p) (dav.Status 423) >>= (λ _. gives (lock_of h p who deep info token))
 
   abbrev Above : Locks → Result (Unit {0}) DavError → Type 0
-  Above ls r = Sets (λ (u : Unit {0}). u) (require_parent (is_none found) (requester who (submitted h.conditions.lists)) (names p) (dav.Status 423)) ls r ls
+  Above ls r = FollowsOnLocks (λ (u : Unit {0}). u) (require_parent (is_none found) (requester who (submitted h.conditions.lists)) (names p) (dav.Status 423)) ls r ls
 
   abbrev when_held : Bool → MethodPlan Lock
   when_held deep = do
@@ -115,17 +115,17 @@ module _ (h : LockHeaders) (p : PathText) (content : Body) (who : Client) (found
             asked_done l freed same = then_token (follows_then (λ _. gives (lock_of h p who deep info token)) (freed new) (follows_done (ap Ok same)))
 
 -- the check of the folder above, with equal arguments
-pub above_for : {h k : LockHeaders} (p : Path) (who : Client) (b wanted : Bool) {ls : Locks} {r : Result (Unit {0}) DavError} → h ≡ k → b ≡ wanted
-    → Sets (λ (u : Unit {0}). u) (require_parent b (requester who (submitted h.conditions.lists)) p (dav.Status 423)) ls r ls
-    → Sets (λ (u : Unit {0}). u) (require_parent wanted (requester who (submitted k.conditions.lists)) p (dav.Status 423)) ls r ls
+pub above_for : {h k : LockHeaders} (p : Path) (who : Caller) (b wanted : Bool) {ls : Locks} {r : Result (Unit {0}) DavError} → h ≡ k → b ≡ wanted
+    → FollowsOnLocks (λ (u : Unit {0}). u) (require_parent b (requester who (submitted h.conditions.lists)) p (dav.Status 423)) ls r ls
+    → FollowsOnLocks (λ (u : Unit {0}). u) (require_parent wanted (requester who (submitted k.conditions.lists)) p (dav.Status 423)) ls r ls
 above_for {k = k} p who b wanted {ls} {r} same told done =
-    subst (λ x. Sets (λ (u : Unit {0}). u) (require_parent x (requester who (submitted k.conditions.lists)) p (dav.Status 423)) ls r ls) told
-    (subst (λ (x : LockHeaders). Sets (λ (u : Unit {0}). u) (require_parent b (requester who (submitted x.conditions.lists)) p (dav.Status 423)) ls r ls) same done)
+    subst (λ x. FollowsOnLocks (λ (u : Unit {0}). u) (require_parent x (requester who (submitted k.conditions.lists)) p (dav.Status 423)) ls r ls) told
+    (subst (λ (x : LockHeaders). FollowsOnLocks (λ (u : Unit {0}). u) (require_parent b (requester who (submitted x.conditions.lists)) p (dav.Status 423)) ls r ls) same done)
 
 -- and with equal tokens
 pub above_by : (tokens : List (List ℕ)) {lent : List (List ℕ)} (principal : Option (List ℕ)) (wanted : Bool) (p : Path) (e : DavError) {ls : Locks} {r : Result (Unit {0}) DavError} → lent ≡ tokens
-    → Sets (λ (u : Unit {0}). u) (require_parent wanted (requester_of lent false principal) p e) ls r ls → Sets (λ (u : Unit {0}). u) (require_parent wanted (requester_of tokens false principal) p e) ls r ls
-above_by tokens principal wanted p e {ls} {r} same done = subst (λ ts. Sets (λ (u : Unit {0}). u) (require_parent wanted (requester_of ts false principal) p e) ls r ls) same done
+    → FollowsOnLocks (λ (u : Unit {0}). u) (require_parent wanted (requester_of lent false principal) p e) ls r ls → FollowsOnLocks (λ (u : Unit {0}). u) (require_parent wanted (requester_of tokens false principal) p e) ls r ls
+above_by tokens principal wanted p e {ls} {r} same done = subst (λ ts. FollowsOnLocks (λ (u : Unit {0}). u) (require_parent wanted (requester_of ts false principal) p e) ls r ls) same done
 
 -- what is borrowed is missing where the borrow is
 pub none_from : {A : Type 0} (o : Option (Bor A)) (b : Bool) → is_some o ≡ not b → b ≡ is_none (option_copied o)
@@ -149,7 +149,7 @@ ok_is P (Err f) is said = absurd (cc)
 
 module _ (new : Lock) where
   abbrev Grants : Locks → Result (Unit {0}) DavError → Locks → Type 0
-  Grants ls r ms = Sets (λ (u : Unit {0}). u) (grant new) ls r ms
+  Grants ls r ms = FollowsOnLocks (λ (u : Unit {0}). u) (grant new) ls r ms
 
   abbrev granted_if : Bool → List Lock → MethodPlan (Unit {0})
   granted_if b ls = if b then Keep (ls ++ new ∷ []) (gives tt) else Done (Err (dav.Status 423))
@@ -204,16 +204,16 @@ module _ (how : Opening) (token : List ℕ) (p : Path) (now : ℕ) {old new : St
 
 -- ---- the whole
 
-module _ (h : LockHeaders) (p : PathText) (location : List Header) (content : Body) (who : Client) (found : Option DavMetaData) where
-  abbrev News : StoreState → Locks → Result Response DavError → StoreState → Locks → Type 0
-  News old ls r new ms = Follows (as_is {A = Response}) (lock_new h p location content who found) old ls r new ms
+module _ (h : LockHeaders) (p : PathText) (location : List Header) (content : Body) (who : Caller) (found : Option DavMetaData) where
+  abbrev News : StoreState → Locks → Result Reply DavError → StoreState → Locks → Type 0
+  News old ls r new ms = Follows (as_is {A = Reply}) (lock_new h p location content who found) old ls r new ms
 
-  abbrev files : Lock → MethodPlan Response
+  abbrev files : Lock → MethodPlan Reply
   files l = do
     _ ← make_empty (empty_opening h.conditions) l.token (names p) who.moment found
     gives (granted_reply (is_some found) location l)
 
-  abbrev with_lock : Lock → MethodPlan Response
+  abbrev with_lock : Lock → MethodPlan Reply
   with_lock l = do
     _ ← grant l
     files l
@@ -231,13 +231,13 @@ module _ (h : LockHeaders) (p : PathText) (location : List Header) (content : Bo
         (follows_then with_lock one (follows_err (λ u. files l) e (subst (λ ks. Follows (λ (u : Unit {0}). u) (grant l) mid ls (Err e) mid ks) same (two mid))))
 
     module _ {ks : Locks} (two : Grants l ls (Ok tt) ks) where
-      then_granted : {r : Result Response DavError} {new : StoreState} {ms : Locks} → Ran Asks (files l) mid ks r new ms → News old ls r new ms
+      then_granted : {r : Result Reply DavError} {new : StoreState} {ms : Locks} → Ran Asks (files l) mid ks r new ms → News old ls r new ms
       then_granted {r = Ok reply} run = follows_then with_lock one (follows_then_from (λ u. files l) (two mid) (followed run))
       then_granted {r = Err e} run = follows_then with_lock one (follows_then_from (λ u. files l) (two mid) (followed run))
 
-      pub new_there : (reply : Response) → is_some found ≡ true → reply ≡ granted_reply (is_some found) location l → News old ls (Ok reply) mid ks
+      pub new_there : (reply : Reply) → is_some found ≡ true → reply ≡ granted_reply (is_some found) location l → News old ls (Ok reply) mid ks
       new_there reply there is = then_granted (there_by found reply there is) where
-        there_by : (o : Option DavMetaData) (reply : Response) → is_some o ≡ true → reply ≡ granted_reply (is_some o) location l
+        there_by : (o : Option DavMetaData) (reply : Reply) → is_some o ≡ true → reply ≡ granted_reply (is_some o) location l
             → Ran Asks (make_empty (empty_opening h.conditions) l.token (names p) who.moment o >>= (λ u. gives (granted_reply (is_some o) location l))) mid ks (Ok reply) mid ks
         there_by (Some m) reply there is = ran_at (ap Ok is)
         there_by None reply there is = absurd (cc)
@@ -252,53 +252,59 @@ module _ (h : LockHeaders) (p : PathText) (location : List Header) (content : Bo
         unmade_by (Some m) none run = absurd (cc)
         unmade_by None none run = ran_bind (λ u. gives (granted_reply false location l)) run ran_done
 
-      pub new_made : (reply : Response) {new : StoreState} {ms : Locks} → is_some found ≡ false → Opens (Ok tt) new ms → reply ≡ granted_reply (is_some found) location l → News old ls (Ok reply) new ms
+      pub new_made : (reply : Reply) {new : StoreState} {ms : Locks} → is_some found ≡ false → Opens (Ok tt) new ms → reply ≡ granted_reply (is_some found) location l → News old ls (Ok reply) new ms
       new_made reply {new} {ms} none run is = then_granted (made_by found reply none run is) where
-        made_by : (o : Option DavMetaData) (reply : Response) → is_some o ≡ false → Opens (Ok tt) new ms → reply ≡ granted_reply (is_some o) location l
+        made_by : (o : Option DavMetaData) (reply : Reply) → is_some o ≡ false → Opens (Ok tt) new ms → reply ≡ granted_reply (is_some o) location l
             → Ran Asks (make_empty (empty_opening h.conditions) l.token (names p) who.moment o >>= (λ u. gives (granted_reply (is_some o) location l))) mid ks (Ok reply) new ms
         made_by (Some m) reply none run is = absurd (cc)
         made_by None reply none run is = ran_bind (λ u. gives (granted_reply false location l)) run (ran_at (ap Ok is))
 
     abbrev News-by : Result (Unit {0}) DavError → StoreState → Locks → Type 0
-    News-by r new ms = GrantsNew l (empty_opening h.conditions) (names p) who.moment (is_some found) mid ls r new ms
+    News-by r new ms = GrantsNew l (empty_opening h.conditions) who.moment (is_some found) mid ls r new ms
 
-    pub new_not_granted : (e : DavError) (r : Result (Unit {0}) DavError) {new : StoreState} {ms : Locks} → r ≡ Err e → News-by r new ms → News old ls (Err e) new ms
-    new_not_granted e r {new} {ms} was (not_granted f is two same at) =
+    -- the empty file was asked for at the path of the lock
+    opens_there : {r w : Result (Unit {0}) DavError} {ks ms : Locks} {new : StoreState} → l.path ≡ p → r ≡ w → Ran Asks (open_empty (empty_opening h.conditions) l.token (names l.path) who.moment) mid ks r new ms
+        → Ran Asks (open_empty (empty_opening h.conditions) l.token (names p) who.moment) mid ks w new ms
+    opens_there {r} {w} {ks} {ms} {new} path was run =
+        subst (λ v. Ran Asks (open_empty (empty_opening h.conditions) l.token (names p) who.moment) mid ks v new ms) was
+        (subst (λ (q : PathText). Ran Asks (open_empty (empty_opening h.conditions) l.token (names q) who.moment) mid ks r new ms) path run)
+
+    pub new_not_granted : (e : DavError) (r : Result (Unit {0}) DavError) {new : StoreState} {ms : Locks} → l.path ≡ p → r ≡ Err e → News-by r new ms → News old ls (Err e) new ms
+    new_not_granted e r {new} {ms} path was (not_granted f is two same at) =
         let one_error : f ≡ e = cc in
         subst (λ s. News old ls (Err e) s ms) (sym at) (new_refused e same (subst (λ w. Grants l ls (Err w) ms) one_error two))
-    new_not_granted e r {new} {ms} was (on_what_is_there is there two at) = absurd (cc)
-    new_not_granted e r {new} {ms} was (on_a_new_file ks none two run) =
-        new_unmade two e none (subst (λ w. Ran Asks (open_empty (empty_opening h.conditions) l.token (names p) who.moment) mid ks w new ms) was run)
+    new_not_granted e r {new} {ms} path was (on_what_is_there is there two at) = absurd (cc)
+    new_not_granted e r {new} {ms} path was (on_a_new_file ks none two run) = new_unmade two e none (opens_there path was run)
 
-    pub new_granted : (reply : Response) (r : Result (Unit {0}) DavError) {new : StoreState} {ms : Locks} → r ≡ Ok tt → News-by r new ms → reply ≡ granted_reply (is_some found) location l → News old ls (Ok reply) new ms
-    new_granted reply r {new} {ms} was (not_granted f is two same at) told = absurd (cc)
-    new_granted reply r {new} {ms} was (on_what_is_there is there two at) told = subst (λ s. News old ls (Ok reply) s ms) (sym at) (new_there two reply there told)
-    new_granted reply r {new} {ms} was (on_a_new_file ks none two run) told =
-        new_made two reply none (subst (λ w. Ran Asks (open_empty (empty_opening h.conditions) l.token (names p) who.moment) mid ks w new ms) was run) told
+    pub new_granted : (reply : Reply) (r : Result (Unit {0}) DavError) {new : StoreState} {ms : Locks} → l.path ≡ p → r ≡ Ok tt → News-by r new ms → reply ≡ granted_reply (is_some found) location l → News old ls (Ok reply) new ms
+    new_granted reply r {new} {ms} path was (not_granted f is two same at) told = absurd (cc)
+    new_granted reply r {new} {ms} path was (on_what_is_there is there two at) told = subst (λ s. News old ls (Ok reply) s ms) (sym at) (new_there two reply there told)
+    new_granted reply r {new} {ms} path was (on_a_new_file ks none two run) told = new_made two reply none (opens_there path was run) told
 
-    pub new_given : (reply : Response) (done : Result (Unit {0}) DavError) (result : Result Response DavError) {new : StoreState} {ms : Locks}
-        → IfOk result (λ r. (done ≡ Ok tt) × (r ≡ reply)) → IfErr result (λ e. done ≡ Err e) → reply ≡ granted_reply (is_some found) location l → News-by done new ms → News old ls result new ms
-    new_given reply done (Ok r) ok err told by = new_granted r done ok.0 by (ok.1 ∙ told)
-    new_given reply done (Err e) ok err told by = new_not_granted e done err by
+    pub new_given : (reply : Reply) (done : Result (Unit {0}) DavError) (result : Result Reply DavError) {new : StoreState} {ms : Locks}
+        → IfOk result (λ r. (done ≡ Ok tt) × (r ≡ reply)) → IfErr result (λ e. done ≡ Err e) → reply ≡ granted_reply (is_some found) location l → l.path ≡ p → News-by done new ms → News old ls result new ms
+    new_given reply done (Ok r) ok err told path by = new_granted r done path ok.0 by (ok.1 ∙ told)
+    new_given reply done (Err e) ok err told path by = new_not_granted e done path err by
 
 -- where memory ran out, it did in what was done
-pub given_memory : (done : Result (Unit {0}) DavError) (result : Result Response DavError) → IfErr result (λ e. done ≡ Err e) → IsErrOf result dav.Memory → IsErrOf done dav.Memory
+pub given_memory : (done : Result (Unit {0}) DavError) (result : Result Reply DavError) → IfErr result (λ e. done ≡ Err e) → IsErrOf result dav.Memory → IsErrOf done dav.Memory
 given_memory done (Ok r) err short = absurd (cc)
 given_memory done (Err e) err short = let same : e ≡ dav.Memory = cc in err ∙ ap Err same
 
 -- the same with equal arguments
-pub news_as : {l : Lock} {how wanted : Opening} (p : Path) {moment now : ℕ} {found there : Bool} {r : Result (Unit {0}) DavError} {old new : StoreState} {ls held ms : Locks}
-    → how ≡ wanted → moment ≡ now → found ≡ there → ls ≡ held → GrantsNew l how p moment found old ls r new ms → GrantsNew l wanted p now there old held r new ms
-news_as {l} {how} {wanted} p {moment} {now} {found} {there} {r} {old} {new} {ls} {held} {ms} one two three four done =
-    subst (λ ks. GrantsNew l wanted p now there old ks r new ms) four
-    (subst (λ b. GrantsNew l wanted p now b old ls r new ms) three
-    (subst (λ n. GrantsNew l wanted p n found old ls r new ms) two (subst (λ w. GrantsNew l w p moment found old ls r new ms) one done)))
+pub news_as : {l : Lock} {how wanted : Opening} {moment now : ℕ} {found there : Bool} {r : Result (Unit {0}) DavError} {old new : StoreState} {ls held ms : Locks}
+    → how ≡ wanted → moment ≡ now → found ≡ there → ls ≡ held → GrantsNew l how moment found old ls r new ms → GrantsNew l wanted now there old held r new ms
+news_as {l} {how} {wanted} {moment} {now} {found} {there} {r} {old} {new} {ls} {held} {ms} one two three four done =
+    subst (λ ks. GrantsNew l wanted now there old ks r new ms) four
+    (subst (λ b. GrantsNew l wanted now b old ls r new ms) three
+    (subst (λ n. GrantsNew l wanted n found old ls r new ms) two (subst (λ w. GrantsNew l w moment found old ls r new ms) one done)))
 
-pub opens_as : {how wanted : Opening} {text token : List ℕ} (p : Path) {moment now : ℕ} {r : Result (Unit {0}) DavError} {old new : StoreState} {ls ms : Locks}
-    → how ≡ wanted → text ≡ token → moment ≡ now → Ran Asks (open_empty how text p moment) old ls r new ms → Ran Asks (open_empty wanted token p now) old ls r new ms
-opens_as {how} {wanted} {text} {token} p {moment} {now} {r} {old} {new} {ls} {ms} one two three done =
-    subst (λ n. Ran Asks (open_empty wanted token p n) old ls r new ms) three
-    (subst (λ t. Ran Asks (open_empty wanted t p moment) old ls r new ms) two (subst (λ w. Ran Asks (open_empty w text p moment) old ls r new ms) one done))
+pub opens_as : {how wanted : Opening} {text token : List ℕ} {p q : Path} {moment now : ℕ} {r : Result (Unit {0}) DavError} {old new : StoreState} {ls ms : Locks}
+    → how ≡ wanted → text ≡ token → p ≡ q → moment ≡ now → Ran Asks (open_empty how text p moment) old ls r new ms → Ran Asks (open_empty wanted token q now) old ls r new ms
+opens_as {how} {wanted} {text} {token} {p} {q} {moment} {now} {r} {old} {new} {ls} {ms} one two path three done =
+    subst (λ n. Ran Asks (open_empty wanted token q n) old ls r new ms) three
+    (subst (λ (o : Path). Ran Asks (open_empty wanted token o moment) old ls r new ms) path
+    (subst (λ t. Ran Asks (open_empty wanted t p moment) old ls r new ms) two (subst (λ w. Ran Asks (open_empty w text p moment) old ls r new ms) one done)))
 
 -- what is borrowed is there where the borrow is
 pub some_copied : {A : Type 0} (o : Option (Bor A)) → is_some (option_copied o) ≡ is_some o
@@ -307,11 +313,11 @@ some_copied (Some x) = refl
 
 -- ---- the method
 
-pub lock_nowhere : (h : LockHeaders) (p : PathText) (content : Body) (who : Client) {s : StoreState} {ls : Locks} → has_locks ls ≡ false → Follows as_is (lock h p content who) s ls (Err (dav.Status 405)) s ls
+pub lock_nowhere : (h : LockHeaders) (p : PathText) (content : Body) (who : Caller) {s : StoreState} {ls : Locks} → has_locks ls ≡ false → Follows as_is (lock h p content who) s ls (Err (dav.Status 405)) s ls
 lock_nowhere h p content who {ls = None} none = follows_look (follows_done refl)
 lock_nowhere h p content who {ls = Some ls} none = absurd (cc)
 
-pub lock_by : (h : LockHeaders) (p : PathText) (content : Body) (who : Client) (answer : Result DavMetaData FsError) (found : Option DavMetaData) {r : Result Response DavError} {old mid new : StoreState} {ls ms : Locks}
+pub lock_by : (h : LockHeaders) (p : PathText) (content : Body) (who : Caller) (answer : Result DavMetaData FsError) (found : Option DavMetaData) {r : Result Reply DavError} {old mid new : StoreState} {ls ms : Locks}
     → has_locks ls ≡ true → Asks (Metadata (names p)) old answer mid → found ≡ result_ok answer → Follows as_is (lock_found h p content who found) mid ls r new ms
     → Follows as_is (lock h p content who) old ls r new ms
 lock_by h p content who answer found {r} {mid = mid} {new = new} {ls = Some ls} {ms} some asks is done =

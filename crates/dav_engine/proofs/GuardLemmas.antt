@@ -15,7 +15,7 @@ use Rattle.dav_core.specs.Path.{Path, is_root, parent_of}
 use Rattle.dav_engine.specs.Plan.{Locks, Look, Done, ran_look}
 use Rattle.dav_engine.proofs.CutPlans.{cut_look}
 use Rattle.dav_engine.specs.Method.{MethodPlan, ◌>>=◌, require, require_free, require_parent, require_member, is_open, is_open_parent}
-use Rattle.dav_engine.specs.Follows.{Follows, followed, gave_up, viewed, or_memory, Sets, Carries, served}
+use Rattle.dav_engine.specs.Follows.{Follows, followed, gave_up, viewed, or_memory, FollowsOnLocks, FollowsOneOf, served}
 use Rattle.dav_engine.specs.Conditions.{Conditions, if_match_get_tokens, status_as, guarded}
 use Rattle.dav_engine.specs.ConditionView.{locks_in, texts_of, tokens_or_status}
 use Rattle.dav_engine.proofs.Following.{follows_done, follows_then, follows_err, follows_on, follows_out, follows_up_to}
@@ -102,9 +102,9 @@ ends_locked {view = view} deep who p e b {s} {ls} {r} is shut same =
 -- what was followed with borrowed locks is followed with the locks themselves
 pub carried : {L B Y : Type 0} {view : Y → B} {kind : MethodPlan B → Type 0} (locks : L → List Lock) (lent : Option (Bor L)) (held : Option L) (plan : MethodPlan B) {old new : StoreState} {r : Result Y DavError}
     → option_copied lent ≡ held → kind plan → Follows view plan old (locks_in locks lent) r new (locks_in locks lent)
-    → Carries view kind old (option_map locks held) r new (option_map locks held)
+    → FollowsOneOf view kind old (option_map locks held) r new (option_map locks held)
 carried {view = view} {kind} locks lent held plan {old} {new} {r} same is one =
-    subst (λ l. Carries view kind old (option_map locks l) r new (option_map locks l)) same (served plan is one)
+    subst (λ l. FollowsOneOf view kind old (option_map locks l) r new (option_map locks l)) same (served plan is one)
 
 -- ---- the folder above
 
@@ -131,7 +131,7 @@ parent_open who p q (Some ls) b free is branch at looked =
 
 module _ (who : Requester) (p : Path) (e : DavError) where
   abbrev ByParent : Locks → Bool → Result (Unit {0}) DavError → Type 0
-  ByParent ls wanted r = Sets (λ (u : Unit {0}). u) (require_parent wanted who p e) ls r ls
+  ByParent ls wanted r = FollowsOnLocks (λ (u : Unit {0}). u) (require_parent wanted who p e) ls r ls
 
   pub parent_unasked : (wanted : Bool) {ls : Locks} → wanted ≡ false → ByParent ls wanted (Ok tt)
   parent_unasked wanted {ls} other = subst (λ w. ByParent ls w (Ok tt)) (sym other) (λ s. follows_done refl)
@@ -151,7 +151,7 @@ module _ (who : Requester) (p : Path) (e : DavError) where
       subst (λ w. ByParent ls w (Err e)) (sym asked) (parent_by (Err e) b is (λ s. subst (λ t. Follows (λ (u : Unit {0}). u) (require t e) s ls (Err e) s ls) (sym shut) (follows_done refl)))
 
   abbrev ByMember : Bool → Bool → Locks → Result (Unit {0}) DavError → Type 0
-  ByMember deep changes ls r = Sets (λ (u : Unit {0}). u) (require_member deep changes who p e) ls r ls
+  ByMember deep changes ls r = FollowsOnLocks (λ (u : Unit {0}). u) (require_member deep changes who p e) ls r ls
 
   pub member_locked : (deep changes b : Bool) {ls : Locks} → b ≡ is_open deep who p ls → b ≡ false → ByMember deep changes ls (Err e)
   member_locked deep changes b is shut s = locked_out deep who p e (λ _. require_parent changes who p e) b is shut refl
@@ -162,8 +162,8 @@ module _ (who : Requester) (p : Path) (e : DavError) where
 -- the same for the tokens that were submitted
 pub member_for : (deep before after : Bool) (tokens : Vec (String Global)) (lent : List (String Global)) (principal : Option (List ℕ)) (p : Path) (e : DavError) {ls : Locks} {r : Result (Unit {0}) DavError}
     → before ≡ after → lent ≡ tokens.items
-    → Sets (λ (u : Unit {0}). u) (require_member deep before (requester_of (map string_bytes lent) false principal) p e) ls r ls
-    → Sets (λ (u : Unit {0}). u) (require_member deep after (requester_of (texts_of tokens) false principal) p e) ls r ls
+    → FollowsOnLocks (λ (u : Unit {0}). u) (require_member deep before (requester_of (map string_bytes lent) false principal) p e) ls r ls
+    → FollowsOnLocks (λ (u : Unit {0}). u) (require_member deep after (requester_of (texts_of tokens) false principal) p e) ls r ls
 member_for deep before after tokens lent principal p e {ls} {r} same tells done =
-    subst (λ b. Sets (λ (u : Unit {0}). u) (require_member deep b (requester_of (texts_of tokens) false principal) p e) ls r ls) same
-    (subst (λ (l : List (String Global)). Sets (λ (u : Unit {0}). u) (require_member deep before (requester_of (map string_bytes l) false principal) p e) ls r ls) tells done)
+    subst (λ b. FollowsOnLocks (λ (u : Unit {0}). u) (require_member deep b (requester_of (texts_of tokens) false principal) p e) ls r ls) same
+    (subst (λ (l : List (String Global)). FollowsOnLocks (λ (u : Unit {0}). u) (require_member deep before (requester_of (map string_bytes l) false principal) p e) ls r ls) tells done)

@@ -21,16 +21,16 @@ use Rattle.dav_core.proofs.Theorems.{Leaves-names, Reads-bytes, names_kept, rest
 use Rattle.dav_engine.specs.declared.reply.ReplyBody.TheVariants as reply
 use Rattle.dav_engine.specs.declared.request.Body.{Body}
 use Rattle.dav_engine.specs.AnswerParts.{children_named}
-use Rattle.dav_engine.specs.Client.{Client}
+use Rattle.dav_engine.specs.Caller.{Caller}
 use Rattle.dav_engine.specs.Folder.{closed, child_of, location_found, room_at}
 use Rattle.dav_engine.specs.Headers.{Headers}
 use Rattle.dav_engine.specs.Method.{MethodPlan, then as followed_by, ◌>>=◌, required, refused_as}
 use Rattle.dav_engine.specs.Multistatus.{href}
 use Rattle.dav_engine.specs.Plan.{Done, Ask, Look, CallStep, Locks, Ran, ran_done, ran_ask, ran_look}
 use Rattle.dav_engine.specs.Properties.{Writer, writer, QuotaKnown, WithQuota, found_groups, property_response, properties_of, told_by}
-use Rattle.dav_engine.specs.Propfind.{Responses, Below, query_in, tell_member, tell_found, tell_members, tell_listed, tell_below, tell_itself, tells_itself, tells_members, is_infinite, is_served_depth, FindHeaders, propfind_found, propfind_if, is_propfind}
-use Rattle.dav_engine.specs.PropfindLaws.{IsServerPrefix, IsTarget, IsOf, responses_in, PropertiesLeadBack, IsOfOneUnder, ResponsesLeadBack}
-use Rattle.dav_engine.specs.Response.{Header, Response}
+use Rattle.dav_engine.specs.Propfind.{Responses, Below, query_in, tell_member, tell_if_found, tell_members, tell_listed, tell_below, tell_itself, tells_itself, tells_members, is_infinite, is_served_depth, FindHeaders, propfind_found, propfind_if, is_propfind}
+use Rattle.dav_engine.specs.PropfindLaws.{IsServerPrefix, IsTarget, IsResponseFor, responses_in, PropertiesLeadBack, IsOfOneUnder, ResponsesLeadBack}
+use Rattle.dav_engine.specs.Reply.{Header, Reply}
 use Rattle.dav_engine.specs.WorldLaws.{OnlyReads, MayTell}
 use Rattle.dav_engine.proofs.CallWorlds.{did, did_leave, asks_tell}
 use Rattle.dav_engine.proofs.ChildLemmas.{names_closed}
@@ -194,7 +194,7 @@ module _ (prefix : List ℕ) (served : IsServerPrefix prefix) where
 
   -- a response of a path, as it stands among others
   abbrev pub Told : PathText → ElementTree → Type 0
-  Told q response = IsOf prefix q response × (is_named (codes "response") response ≡ true)
+  Told q response = IsResponseFor prefix q response × (is_named (codes "response") response ≡ true)
 
   one_href : (q : PathText) (es : List ElementTree) → children_named (codes "href") (property_response q (found_groups es)) ≡ href q ∷ []
   one_href q [] = refl
@@ -261,7 +261,7 @@ module _ (prefix : List ℕ) (served : IsServerPrefix prefix) (top : Path) where
           ends_bind _ (ends_properties prefix served w q m known home) (λ one told.
           ends_bind _ (walk q m.dir one.1 home at) (λ more led. ends_ok (one_led (q, at_top q at, told.0) told.1 led)))
 
-      ends_seen : (p : PathText) (name : List ℕ) (known : QuotaKnown) (seen : Result DavMetaData FsError) → IsHome prefix p → IsStorable (name ∷ []) → Below_top p → EndsLed (tell_found below w p name known seen)
+      ends_seen : (p : PathText) (name : List ℕ) (known : QuotaKnown) (seen : Result DavMetaData FsError) → IsHome prefix p → IsStorable (name ∷ []) → Below_top p → EndsLed (tell_if_found below w p name known seen)
       ends_seen p name known (Err e) home one at = ends_ok none_led
       ends_seen p name known (Ok m) home one at = ends_member (child_of p name m.dir) m known (child_home prefix p name m.dir home one) (child_below p name m.dir home one at)
 
@@ -288,10 +288,10 @@ module _ (prefix : List ℕ) (served : IsServerPrefix prefix) (top : Path) where
     ends_itself false q m home at = ends_ok none_led
     ends_itself true q m home at = ends_bind _ (ends_properties prefix served w q m None home) (λ one told. ends_ok (one_led (q, at_top q at, told.0) told.1 none_led))
 
-  abbrev EndsTold : MethodPlan Response → Type 0
-  EndsTold plan = Ends MayTell (λ (r : Response). All (IsOfOneUnder prefix top) (responses_in r.body)) plan
+  abbrev EndsTold : MethodPlan Reply → Type 0
+  EndsTold plan = Ends MayTell (λ (r : Reply). All (IsOfOneUnder prefix top) (responses_in r.body)) plan
 
-  module _ (h : FindHeaders) (headers : Headers) (content : Body) (who : Client) where
+  module _ (h : FindHeaders) (headers : Headers) (content : Body) (who : Caller) where
     ends_found : (q : PathText) (location : List Header) (m : DavMetaData) → IsHome prefix q → Below_top q → EndsTold (propfind_found h headers q location content who m)
     ends_found q location m home at =
         ends_then (required (query_in content) dav.XmlParseError) _ (λ query _.

@@ -1,6 +1,7 @@
 pub mod FindLemmas
 pub mod StatusLemmas
 pub mod StoredLemmas
+pub mod PartLemmas
 pub mod KeptLemmas
 pub mod FoundLemmas
 pub mod TellLemmas
@@ -73,7 +74,7 @@ pub mod SparingDelete
 pub mod SparingCopy
 pub mod BesideLemmas
 pub mod AlongsideLaw
-pub mod AlongsidePlans
+pub mod IsolatedPlans
 pub mod AlongsideDelete
 pub mod AlongsideCopy
 pub mod LockListLemmas

@@ -12,7 +12,7 @@ use Rattle.dav_core.specs.Locks.{Lock, refreshed_lock, unlocked, refreshed}
 use Rattle.dav_core.specs.LockLaws.{CoveringAreShared}
 use Rattle.dav_core.specs.Path.{Path, PathText, names, is_at_or_under}
 use Rattle.dav_core.proofs.Theorems.{granted_are_shared, unlocked_are_shared, refreshed_are_shared, deleted_are_shared, unlock_takes_one, refresh_changes_one}
-use Rattle.dav_engine.specs.Client.{Client}
+use Rattle.dav_engine.specs.Caller.{Caller}
 use Rattle.dav_engine.specs.Conditions.{Conditions}
 use Rattle.dav_engine.specs.Delete.{whole_depth, drop_if_gone, delete_reply, delete_found, is_delete}
 use Rattle.dav_engine.specs.Folder.{closed, location_found}
@@ -23,7 +23,7 @@ use Rattle.dav_engine.specs.Mkcol.{mkcol, create_error, is_mkcol}
 use Rattle.dav_engine.specs.Plan.{Plan, Done, CallStep, Locks, Ran, ran_done, ran_ask, ran_look, ran_keep, Refused, refused_done, refused_ask, refused_look, refused_keep, RanUpTo, up_to_here, up_to_ask, up_to_look, up_to_keep}
 use Rattle.dav_engine.specs.Put.{PutHeaders, put_opening, open_error, unsatisfiable, sought, store, put_body, bytes_of_body, is_put}
 use Rattle.dav_engine.specs.Removal.{Fault}
-use Rattle.dav_engine.specs.Response.{Response}
+use Rattle.dav_engine.specs.Reply.{Reply}
 use Rattle.dav_engine.specs.Unlock.{keep_left, unlocked_reply, unlock, is_unlock}
 use Rattle.dav_engine.specs.WorldLaws.{IsReading, reads_done, reads_ask, reads_look}
 use Rattle.dav_engine.proofs.DeleteWorld.{only_delete_allowed, only_removal}
@@ -32,11 +32,11 @@ use Rattle.dav_engine.proofs.WorldPlans.{Only, only_done, only_ask, only_look}
 
 -- ---- the law
 
-pub changes_join : {who : Client} {ls ks ms : List Lock} → AreChanges who ls ks → AreChanges who ks ms → AreChanges who ls ms
+pub changes_join : {who : Caller} {ls ks ms : List Lock} → AreChanges who ls ks → AreChanges who ks ms → AreChanges who ls ms
 changes_join no_change more = more
 changes_join (a_change one rest) more = a_change one (changes_join rest more)
 
-module _ (who : Client) where
+module _ (who : Caller) where
   abbrev From : List Lock → Locks → Type 0
   From ls ms = OnList (AreChanges who ls) ms
 
@@ -67,8 +67,8 @@ module _ (who : Client) where
   from_refused : {A : Type 0} {rest : Plan A} {ls ks : List Lock} {ms locks : Locks} {a : A} → AreChanges who ls ks → ChangesList who ks rest → locks ≡ Some ks → Refused rest locks a ms → From ls ms
   from_refused {rest = rest} {ms = ms} {a = a} changes left same refused = joined ms changes (changed_refused left (subst (λ (l : Locks). Refused rest l a ms) same refused))
 
-  cut_by : {step : CallStep} {plan : MethodPlan Response} {old new : StoreState} {ls : List Lock} {ms : Locks} → ChangesList who ls plan
-      → (rest : MethodPlan Response) (locks : Locks) → RanUpTo step plan old (Some ls) rest new locks → ((ms ≡ Some ls) ⊎ ((outcome : Result Response DavError) × Refused rest locks outcome ms)) → From ls ms
+  cut_by : {step : CallStep} {plan : MethodPlan Reply} {old new : StoreState} {ls : List Lock} {ms : Locks} → ChangesList who ls plan
+      → (rest : MethodPlan Reply) (locks : Locks) → RanUpTo step plan old (Some ls) rest new locks → ((ms ≡ Some ls) ⊎ ((outcome : Result Reply DavError) × Refused rest locks outcome ms)) → From ls ms
   cut_by {ls = ls} changes rest locks ran (inl same) = subst (From ls) (sym same) no_change
   cut_by changes rest locks ran (inr (outcome, refused)) = let (ks, same, before, left) = changed_up_to changes ran in from_refused before left same refused
 
@@ -80,7 +80,7 @@ lists_are_changed_cut who plan old new ls ms changes cut = cut_by who changes cu
 
 -- ---- what lasts through changes
 
-module _ {who : Client} where
+module _ {who : Caller} where
   shared_after : {ls ms : List Lock} → IsChange who ls ms → CoveringAreShared ls → CoveringAreShared ms
   shared_after {ls} (grants l own ok) shared = granted_are_shared l ls shared ok
   shared_after {ls} {ms} (refreshes token p timeout now is) shared = refreshed_are_shared token p timeout now ls ms shared is
@@ -113,7 +113,7 @@ tokens_unlocked P token p ls ms is all =
     let (before, here, after) = parts P front back l (All-same (Good P) (front ++ l ∷ back) ls (sym was) all) in
     All-same (Good P) ms (front ++ back) new (All-append (Good P) front back before after)
 
-module _ {who : Client} (P : List ℕ → Type 0) (own : (token : List ℕ) → who.token ≡ Some token → P token) where
+module _ {who : Caller} (P : List ℕ → Type 0) (own : (token : List ℕ) → who.token ≡ Some token → P token) where
   tokens_after : {ls ms : List Lock} → IsChange who ls ms → All (Good P) ls → All (Good P) ms
   tokens_after {ls} (grants l is ok) all = All-push (Good P) ls l all (own l.token is)
   tokens_after {ls} {ms} (refreshes token p timeout now is) all = tokens_refreshed P token p timeout now ls ms is all
@@ -133,7 +133,7 @@ changes_bring_tokens who tokens ls ms changes have own = tokens_after_all (Conta
 
 -- ---- parts
 
-module _ {who : Client} where
+module _ {who : Caller} where
   pub changes_reading : {ls : List Lock} {A : Type 0} {plan : Plan A} → IsReading plan → ChangesList who ls plan
   changes_reading reads_done = changes_done
   changes_reading (reads_ask {c = c} is more) = changes_ask (λ answer. changes_reading (more answer))
@@ -159,7 +159,7 @@ module _ {who : Client} where
 
 -- ---- PUT, PATCH and MKCOL set no list
 
-module _ (who : Client) where
+module _ (who : Caller) where
   changes_sought : (ls : List Lock) (place : Option ℕ) (file : Handle) → ChangesList who ls (sought place file)
   changes_sought ls None file = changes_done
   changes_sought ls (Some k) file = changes_ask (λ answer. changes_then (refused_as (λ e. unsatisfiable) answer) _ (λ moved. changes_done))
@@ -199,7 +199,7 @@ module _ (who : Client) where
 
   -- ---- UNLOCK
 
-  changes_left : (ls : List Lock) (token : List ℕ) (p : Path) (reply : Response) (left : Option (List Lock)) → unlocked token p ls ≡ left → ChangesList who ls (keep_left left >>= (λ ended. gives reply))
+  changes_left : (ls : List Lock) (token : List ℕ) (p : Path) (reply : Reply) (left : Option (List Lock)) → unlocked token p ls ≡ left → ChangesList who ls (keep_left left >>= (λ ended. gives reply))
   changes_left ls token p reply None is = changes_done
   changes_left ls token p reply (Some ms) is = changes_list (unlocks token p is) changes_done
 

@@ -24,15 +24,15 @@ use Rattle.dav_headers.specs.declared.depth.Depth.{Depth}
 use Rattle.dav_headers.specs.declared.depth.Depth.TheVariants.{Default, Zero, One, Infinity}
 use Rattle.dav_headers.proofs.Theorems.{one_depth}
 use Rattle.dav_engine.specs.declared.request.Body.{Body}
-use Rattle.dav_engine.specs.Client.{Client}
+use Rattle.dav_engine.specs.Caller.{Caller}
 use Rattle.dav_engine.specs.Folder.{closed, child_of, location_found, room_at}
 use Rattle.dav_engine.specs.Headers.{Headers, Decodes}
 use Rattle.dav_engine.specs.Method.{MethodPlan, required, refused_as}
 use Rattle.dav_engine.specs.Plan.{Ran}
 use Rattle.dav_engine.specs.Properties.{Writer, writer, QuotaKnown}
-use Rattle.dav_engine.specs.Propfind.{Responses, Below, is_infinite, is_served_depth, tells_itself, tells_members, tell_itself, propfind_if, query_in, tell_member, tell_found, tell_members, tell_listed, tell_below, FindHeaders, propfind_found, propfind, is_propfind}
-use Rattle.dav_engine.specs.PropfindLaws.{IsServerPrefix, AreOf, none_told, one_told, responses_in, AreWithAllBelow, no_member, one_member, AreBelow, AreListed, itself, with_members, members_alone, with_all_below, HasFewNames, ListAll, IsListing, AsksListing, path_in, member_paths, ListingsAreWhole}
-use Rattle.dav_engine.specs.Response.{Header, Response}
+use Rattle.dav_engine.specs.Propfind.{Responses, Below, is_infinite, is_served_depth, tells_itself, tells_members, tell_itself, propfind_if, query_in, tell_member, tell_if_found, tell_members, tell_listed, tell_below, FindHeaders, propfind_found, propfind, is_propfind}
+use Rattle.dav_engine.specs.PropfindLaws.{IsServerPrefix, AreResponsesFor, none_told, one_told, responses_in, AreWithAllBelow, no_member, one_member, AreBelow, AreListed, itself, with_members, members_alone, with_all_below, HasFewNames, ListAll, IsListing, AsksListing, path_in, member_paths, ListingsAreWhole}
+use Rattle.dav_engine.specs.Reply.{Header, Reply}
 use Rattle.dav_engine.specs.WorldLaws.{OnlyReads, MayTell}
 use Rattle.dav_engine.proofs.CallWorlds.{Did, stays, means, did}
 use Rattle.dav_engine.proofs.ChildLemmas.{names_closed}
@@ -181,9 +181,9 @@ module _ (w : World) (world : IsWorld w) where
     told_more nothing_told more = more
     told_more (first_told is rest) more = first_told is (told_more rest more)
 
-    told_of : {qs : List PathText} {rs : List ElementTree} → AreTold qs rs → AreOf prefix qs (filter (is_named (codes "response")) rs)
+    told_of : {qs : List PathText} {rs : List ElementTree} → AreTold qs rs → AreResponsesFor prefix qs (filter (is_named (codes "response")) rs)
     told_of nothing_told = none_told
-    told_of (first_told {q} {qs} {r} {rs} is more) = subst (AreOf prefix (q ∷ qs)) (sym (kept_first r rs is.1)) (one_told is.0 (told_of more))
+    told_of (first_told {q} {qs} {r} {rs} is more) = subst (AreResponsesFor prefix (q ∷ qs)) (sym (kept_first r rs is.1)) (one_told is.0 (told_of more))
 
     -- responses are told of such paths
     abbrev TellsSome : (List PathText → Type 0) → Responses → Type 0
@@ -218,7 +218,7 @@ module _ (w : World) (world : IsWorld w) where
           ends_ok (child_of p name m.dir ∷ ins, (ins, is, refl), first_told told tells)))
 
       ends_entry : (e : List ℕ × Bool) (known : QuotaKnown) (seen : Result DavMetaData FsError) → Storable e → Stands (names p) e → SaidIn w (EntryMetadata (names p ++ e.0 ∷ [])) seen
-          → Ends Known (TellsSome (Member e.0 e.1)) (tell_found below x p e.0 known seen)
+          → Ends Known (TellsSome (Member e.0 e.1)) (tell_if_found below x p e.0 known seen)
       ends_entry e known (Err fault) single stands says = absurd (true≢false (sym says ∙ stands_there (names p) e stands))
       ends_entry e known (Ok m) single stands says =
           let kind = kind_said (names p) e m stands says in
@@ -337,9 +337,9 @@ module _ (w : World) (world : IsWorld w) where
     abbrev of_depth : Option Depth → Bool → FindHeaders
     of_depth depth test = record { depth = depth; is_test = test }
 
-    ends_found : (depth : Option Depth) (test : Bool) (headers : Headers) (q : PathText) (location : List Header) (content : Body) (who : Client) (m : DavMetaData)
+    ends_found : (depth : Option Depth) (test : Bool) (headers : Headers) (q : PathText) (location : List Header) (content : Body) (who : Caller) (m : DavMetaData)
         → IsHome prefix q → IsGiven depth → HasFewNames depth w q → is_missing w (names q) ≡ false → m.dir ≡ is_folder w (names q)
-        → Ends Known (λ (r : Response). ListAll prefix w q depth (responses_in r.body)) (propfind_found (of_depth depth test) headers q location content who m)
+        → Ends Known (λ (r : Reply). ListAll prefix w q depth (responses_in r.body)) (propfind_found (of_depth depth test) headers q location content who m)
     ends_found depth test headers q location content who m home given few some is =
         ends_then (required (query_in content) dav.XmlParseError) _ (λ query _.
         ends_bind _ (ends_itself depth (writer query.0 headers who.principal query.1) q m home) (λ one told.
@@ -355,21 +355,21 @@ module _ (w : World) (world : IsWorld w) where
     few_as (Some Infinity) p q same few = few
 
     -- of a reply of 207
-    abbrev Lists : Option Depth → PathText → Response → Type 0
+    abbrev Lists : Option Depth → PathText → Reply → Type 0
     Lists depth p r = r.status ≡ 207 → ListAll prefix w (path_in w p) depth (responses_in r.body)
 
-    ends_answered : (depth : Option Depth) (test : Bool) (headers : Headers) (p : PathText) (content : Body) (who : Client) (m : DavMetaData)
+    ends_answered : (depth : Option Depth) (test : Bool) (headers : Headers) (p : PathText) (content : Body) (who : Caller) (m : DavMetaData)
         → IsHome prefix p → IsGiven depth → HasFewNames depth w p → SaidIn w (Metadata (names p)) (Ok m)
         → Ends Known (Lists depth p) (propfind_found (of_depth depth test) headers (closed m.dir p) (location_found (Some m) p) content who m)
     ends_answered depth test headers p content who m home given few says =
         let is = folder_said (names p) m says in
         let kept : names (closed m.dir p) ≡ names p = names_closed m.dir p (plain_other p home.place.plain) in
-        subst (λ (d : Bool). Ends Known (λ (r : Response). r.status ≡ 207 → ListAll prefix w (closed d p) depth (responses_in r.body)) (propfind_found (of_depth depth test) headers (closed m.dir p) (location_found (Some m) p) content who m)) is
+        subst (λ (d : Bool). Ends Known (λ (r : Reply). r.status ≡ 207 → ListAll prefix w (closed d p) depth (responses_in r.body)) (propfind_found (of_depth depth test) headers (closed m.dir p) (location_found (Some m) p) content who m)) is
         (ends_as (λ r all _. all)
         (ends_found depth test headers (closed m.dir p) (location_found (Some m) p) content who m (closed_home prefix p m.dir home) given (few_as depth p (closed m.dir p) kept few)
         (ap (is_missing w) kept ∙ found_there (names p) m says) (is ∙ ap (is_folder w) (sym kept))))
 
-    ends_if : (b : Bool) (depth : Option Depth) (test : Bool) (headers : Headers) (p : PathText) (content : Body) (who : Client)
+    ends_if : (b : Bool) (depth : Option Depth) (test : Bool) (headers : Headers) (p : PathText) (content : Body) (who : Caller)
         → IsHome prefix p → IsGiven depth → HasFewNames depth w p → Ends Known (Lists depth p) (propfind_if b (of_depth depth test) headers p content who)
     ends_if false depth test headers p content who home given few = ends_ok (λ status. absurd (omega (arith, status)))
     ends_if true depth test headers p content who home given few =

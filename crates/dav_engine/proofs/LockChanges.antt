@@ -14,16 +14,16 @@ use Rattle.dav_core.specs.Locks.{Lock, is_grantable, named_lock, refreshed, refr
 use Rattle.dav_core.specs.Path.{Path, PathText, names}
 use Rattle.dav_core.proofs.Theorems.{granted_can_be_unlocked}
 use Rattle.dav_engine.specs.declared.request.Body.{Body}
-use Rattle.dav_engine.specs.Client.{Client, requester}
+use Rattle.dav_engine.specs.Caller.{Caller, requester}
 use Rattle.dav_engine.specs.Delete.{whole_depth}
 use Rattle.dav_engine.specs.Folder.{path_found, location_found}
 use Rattle.dav_engine.specs.ListChanges.{grants, refreshes, unlocks, ChangesList, changes_done, changes_ask, changes_look, changes_list, LockChangesList}
-use Rattle.dav_engine.specs.Lock.{keep_refreshed, lock_again, lock_of, asked_lock, empty_opening, empty_error, made_or_back, make_empty, granted_reply, lock_new, is_absent, is_lock}
+use Rattle.dav_engine.specs.Lock.{keep_refreshed, lock_again, lock_of, asked_lock, empty_opening, empty_error, create_or_unlock, make_empty, granted_reply, lock_new, is_absent, is_lock}
 use Rattle.dav_engine.specs.LockHeaders.{LockHeaders, refreshed_for}
 use Rattle.dav_engine.specs.LockInfo.{LockInfo, lock_info}
 use Rattle.dav_engine.specs.Method.{MethodPlan, then as followed_by, ◌>>=◌, required, unless_status, gives, fails, require_parent}
 use Rattle.dav_engine.specs.Plan.{Done, Ask, Look, Keep, Locks}
-use Rattle.dav_engine.specs.Response.{Header, Response}
+use Rattle.dav_engine.specs.Reply.{Header, Reply}
 use Rattle.dav_engine.proofs.ListChangeLemmas.{changes_only, changes_bind}
 use Rattle.dav_engine.proofs.LockPlans.{only_token}
 use Rattle.dav_engine.proofs.PutWorld.{IsLook, only_conditions, only_parent}
@@ -57,7 +57,7 @@ finds_bind f (finds_look next) more = finds_look (λ ls. finds_bind f (next ls) 
 -- ---- the lock that is asked for
 
 -- it has the client's token, and is on the path
-pub record IsAsked (who : Client) (p : PathText) (l : Lock) : Type 0 where
+pub record IsAsked (who : Caller) (p : PathText) (l : Lock) : Type 0 where
   pub token : who.token ≡ Some l.token
   pub path : l.path ≡ p
 
@@ -65,13 +65,13 @@ finds_unless : (verdict : Option ℕ) → Finds (λ u. ⊤) (unless_status verdi
 finds_unless None = finds_ok tt
 finds_unless (Some status) = finds_err
 
-finds_token : (h : LockHeaders) (p : PathText) (who : Client) (found : Option DavMetaData) (deep : Bool) (info : LockInfo) (o : Option (List ℕ)) → who.token ≡ o
+finds_token : (h : LockHeaders) (p : PathText) (who : Caller) (found : Option DavMetaData) (deep : Bool) (info : LockInfo) (o : Option (List ℕ)) → who.token ≡ o
     → Finds (IsAsked who p) (followed_by (required o (dav.Status 500)) (λ token. require_parent (is_none found) (requester who (submitted h.conditions.lists)) (names p) (dav.Status 423) >>= (λ u. gives (lock_of h p who deep info token))))
 finds_token h p who found deep info None is = finds_err
 finds_token h p who found deep info (Some token) is =
     finds_bind _ (finds_only (only_parent (is_none found) (requester who (submitted h.conditions.lists)) (names p) (dav.Status 423))) (λ u any. finds_ok (record { token = is; path = refl }))
 
-pub finds_asked : (h : LockHeaders) (p : PathText) (content : Body) (who : Client) (found : Option DavMetaData) → Finds (IsAsked who p) (asked_lock h p content who found)
+pub finds_asked : (h : LockHeaders) (p : PathText) (content : Body) (who : Caller) (found : Option DavMetaData) → Finds (IsAsked who p) (asked_lock h p content who found)
 finds_asked h p content who found =
     finds_then (whole_depth h.depth) _ (λ deep.
     finds_bind _ (finds_only (only_conditions method.Lock h.conditions found)) (λ verdict any.
@@ -81,13 +81,13 @@ finds_asked h p content who found =
 
 -- ---- the list of locks
 
-changes_found : {who : Client} {ls : List Lock} {A B : Type 0} {Q : A → Type 0} {plan : MethodPlan A} (f : A → MethodPlan B) → Finds Q plan → ((a : A) → Q a → ChangesList who ls (f a)) → ChangesList who ls (plan >>= f)
+changes_found : {who : Caller} {ls : List Lock} {A B : Type 0} {Q : A → Type 0} {plan : MethodPlan A} (f : A → MethodPlan B) → Finds Q plan → ((a : A) → Q a → ChangesList who ls (f a)) → ChangesList who ls (plan >>= f)
 changes_found f (finds_ok q) more = more _ q
 changes_found f finds_err more = changes_done
 changes_found f (finds_ask {c = c} is next) more = changes_ask (λ answer. changes_found f (next answer) more)
 changes_found {ls = ls} f (finds_look next) more = changes_look (changes_found f (next (Some ls)) more)
 
-module _ (who : Client) where
+module _ (who : Caller) where
   changes_kept : (ls : List Lock) (token : List ℕ) (p : Path) (timeout : Option ℕ) (now : ℕ) (a : Option Lock) (b : Option (List Lock)) → refreshed token p timeout now ls ≡ b → ChangesList who ls (keep_refreshed a b)
   changes_kept ls token p timeout now None b is = changes_done
   changes_kept ls token p timeout now (Some l) None is = changes_done
@@ -105,12 +105,12 @@ module _ (who : Client) where
   changes_back ls token p e f None is some = cc
   changes_back ls token p e f (Some left) is some = changes_list (unlocks token p is) changes_done
 
-  changes_made : (ls : List Lock) (new : Lock) (how : Opening) (p : PathText) (now : ℕ) (found : Option DavMetaData) (reply : Response) → new.path ≡ p
+  changes_made : (ls : List Lock) (new : Lock) (how : Opening) (p : PathText) (now : ℕ) (found : Option DavMetaData) (reply : Reply) → new.path ≡ p
       → ChangesList who (ls ++ new ∷ []) (make_empty how new.token (names p) now found >>= (λ made. gives reply))
   changes_made ls new how p now (Some m) reply same = changes_done
   changes_made ls new how p now None reply same = changes_ask (λ opened. by_answer opened)
     where
-      by_answer : (opened : Result Handle FsError) → ChangesList who (ls ++ new ∷ []) (made_or_back how new.token (names p) opened >>= (λ made. gives reply))
+      by_answer : (opened : Result Handle FsError) → ChangesList who (ls ++ new ∷ []) (create_or_unlock how new.token (names p) opened >>= (λ made. gives reply))
       by_answer (Ok file) = changes_done
       by_answer (Err e) = changes_look (changes_back (ls ++ new ∷ []) new.token (names p) (empty_error how e) (λ made. gives reply)
           (unlocked new.token (names p) (ls ++ new ∷ [])) refl

@@ -16,18 +16,18 @@ use Rattle.dav_core.specs.Locks.{Lock, is_grantable, has_token_at, lock_front, n
 use Rattle.dav_core.specs.Path.{Path, PathText, names}
 use Rattle.dav_core.specs.World.{last_moment}
 use Rattle.dav_engine.specs.declared.request.Body.{Body}
-use Rattle.dav_engine.specs.Client.{Client, requester}
+use Rattle.dav_engine.specs.Caller.{Caller, requester}
 use Rattle.dav_engine.specs.Conditions.{Addressed, dav_if_match, if_holds, if_match, submitted}
 use Rattle.dav_engine.specs.Delete.{whole_depth}
 use Rattle.dav_engine.specs.Ending.{KeepsLock, keeps_done, keeps_ask, keeps_look, keeps_list, LockKeepsLocks}
 use Rattle.dav_engine.specs.Folder.{is_folder_found, path_found, location_found}
 use Rattle.dav_engine.specs.Guard.{IsSameLock, IsListed, listed_here, listed_later}
-use Rattle.dav_engine.specs.Lock.{one_token, token_to_refresh, keep_refreshed, refresh_in, lock_again, asked_lock, grant_in, taken_back, empty_opening, made_or_back, make_empty, lock_new, is_absent, is_lock}
+use Rattle.dav_engine.specs.Lock.{one_token, token_to_refresh, keep_refreshed, refresh_in, lock_again, asked_lock, grant_in, taken_back, empty_opening, create_or_unlock, make_empty, lock_new, is_absent, is_lock}
 use Rattle.dav_engine.specs.LockHeaders.{LockHeaders, refreshed_for}
 use Rattle.dav_engine.specs.LockInfo.{lock_info}
 use Rattle.dav_engine.specs.Method.{MethodPlan, then as followed_by, require, require_free, has_locks, required, unless_status, change_locks, require_parent}
 use Rattle.dav_engine.specs.Plan.{Locks, Done, Keep}
-use Rattle.dav_engine.specs.Response.{Response, Header}
+use Rattle.dav_engine.specs.Reply.{Reply, Header}
 use Rattle.dav_engine.specs.WorldLaws.{IsProperPlan, proper_done, proper_ask, proper_look, proper_keep, LockIsProper}
 use Rattle.dav_engine.proofs.ChildLemmas.{names_closed}
 use Rattle.dav_engine.proofs.DeleteWorld.{proper_change}
@@ -43,7 +43,7 @@ pub only_status : (status : Option ℕ) → Only IsLook (unless_status status)
 only_status None = only_done
 only_status (Some status) = only_done
 
-pub only_asked : (h : LockHeaders) (p : PathText) (content : Body) (who : Client) (found : Option DavMetaData) → Only IsLook (asked_lock h p content who found)
+pub only_asked : (h : LockHeaders) (p : PathText) (content : Body) (who : Caller) (found : Option DavMetaData) → Only IsLook (asked_lock h p content who found)
 only_asked h p content who found = only_then (whole_depth h.depth) _ (λ deep.
     only_bind (if_match method.Lock h.conditions found) _ (only_conditions method.Lock h.conditions found) (λ verdict.
     only_bind (unless_status verdict) _ (only_status verdict) (λ goes.
@@ -54,7 +54,7 @@ only_asked h p content who found = only_then (whole_depth h.depth) _ (λ deep.
 only_said : (lists : Option (List Addressed)) → Only IsLook (dav_if_match lists)
 only_said lists = only_bind (if_holds lists) _ (only_if lists) (λ holds. only_done)
 
-pub only_token : (h : LockHeaders) (p : Path) (who : Client) → Only IsLook (token_to_refresh h p who)
+pub only_token : (h : LockHeaders) (p : Path) (who : Caller) → Only IsLook (token_to_refresh h p who)
 only_token h p who = only_bind (dav_if_match h.conditions.lists) _ (only_said h.conditions.lists) (λ said.
     only_then (one_token said.1) _ (λ token.
     only_bind (require_free false (requester who (token ∷ [])) p (dav.Status 412)) _ (only_free false (requester who (token ∷ [])) p (dav.Status 412)) (λ free. only_done)))
@@ -69,7 +69,7 @@ proper_grant : (new : Lock) (ls : Locks) → IsProperPlan (grant_in new ls)
 proper_grant new None = proper_done
 proper_grant new (Some ls) = proper_if (is_grantable new ls) _ _ (proper_keep proper_done) proper_done
 
-proper_back : (how : Opening) (token : List ℕ) (p : Path) (opened : Result Handle FsError) → IsProperPlan (made_or_back how token p opened)
+proper_back : (how : Opening) (token : List ℕ) (p : Path) (opened : Result Handle FsError) → IsProperPlan (create_or_unlock how token p opened)
 proper_back how token p (Ok file) = proper_done
 proper_back how token p (Err e) = proper_bind (change_locks (taken_back token p)) _ (proper_change (taken_back token p)) (λ done. proper_done)
 
@@ -77,7 +77,7 @@ proper_empty : (how : Opening) (token : List ℕ) (p : Path) (now : ℕ) (found 
 proper_empty how token p now (Some found) storable small = proper_done
 proper_empty how token p now None storable small = proper_ask (storable, small) (λ opened tells. proper_back how token p opened)
 
-proper_new : (h : LockHeaders) (p : PathText) (location : List Header) (content : Body) (who : Client) (found : Option DavMetaData) → IsStorable (names p) → who.moment ≤ last_moment → IsProperPlan (lock_new h p location content who found)
+proper_new : (h : LockHeaders) (p : PathText) (location : List Header) (content : Body) (who : Caller) (found : Option DavMetaData) → IsStorable (names p) → who.moment ≤ last_moment → IsProperPlan (lock_new h p location content who found)
 proper_new h p location content who found storable small =
     proper_bind (asked_lock h p content who found) _ (only_proper look_proper (only_asked h p content who found)) (λ new. proper_look (λ ls.
     proper_bind (grant_in new ls) _ (proper_grant new ls) (λ done.
@@ -92,7 +92,7 @@ proper_refresh : (token : List ℕ) (p : Path) (timeout : Option ℕ) (now : ℕ
 proper_refresh token p timeout now None = proper_done
 proper_refresh token p timeout now (Some ls) = proper_kept (option_map (refreshed_lock timeout now) (named_lock token p ls)) (refreshed token p timeout now ls)
 
-proper_again : (h : LockHeaders) (p : PathText) (location : List Header) (who : Client) → IsProperPlan (lock_again h p location who)
+proper_again : (h : LockHeaders) (p : PathText) (location : List Header) (who : Caller) → IsProperPlan (lock_again h p location who)
 proper_again h p location who =
     proper_bind (token_to_refresh h (names p) who) _ (only_proper look_proper (only_token h (names p) who)) (λ token. proper_look (λ ls.
     proper_bind (refresh_in token (names p) (refreshed_for h.timeout) who.moment ls) _ (proper_refresh token (names p) (refreshed_for h.timeout) who.moment ls) (λ l. proper_done)))
@@ -126,7 +126,7 @@ required_is None e a is = absurd (cc)
 required_is (Some b) e a is = let same : b ≡ a = cc in ap Some same
 
 module _ (h : Lock) where
-  asked_gives : (headers : LockHeaders) (p : PathText) (content : Body) (who : Client) (found : Option DavMetaData) → Gives h (λ (l : Lock). who.token ≡ Some l.token) (asked_lock headers p content who found)
+  asked_gives : (headers : LockHeaders) (p : PathText) (content : Body) (who : Caller) (found : Option DavMetaData) → Gives h (λ (l : Lock). who.token ≡ Some l.token) (asked_lock headers p content who found)
   asked_gives headers p content who found = gives_then (whole_depth headers.depth) _ (λ deep _.
       gives_bind _ (gives_any (only_conditions method.Lock headers.conditions found)) (λ verdict _.
       gives_bind _ (gives_any (only_status verdict)) (λ goes _.
@@ -147,7 +147,7 @@ module _ (h : Lock) where
   back_listed token p ls None is differ there = there
   back_listed token p ls (Some left) is differ there = unlocked_listed h token p ls left differ there is
 
-  keeps_back : (how : Opening) (token : List ℕ) (p : Path) (opened : Result Handle FsError) → token ≢ h.token → KeepsLock h (made_or_back how token p opened)
+  keeps_back : (how : Opening) (token : List ℕ) (p : Path) (opened : Result Handle FsError) → token ≢ h.token → KeepsLock h (create_or_unlock how token p opened)
   keeps_back how token p (Ok file) differ = keeps_done
   keeps_back how token p (Err e) differ = keeps_look (λ ls there. keeps_list (back_listed token p ls (unlocked token p ls) refl differ there) keeps_done)
 
@@ -155,7 +155,7 @@ module _ (h : Lock) where
   keeps_empty how token p now (Some found) differ = keeps_done
   keeps_empty how token p now None differ = keeps_ask (λ opened. keeps_back how token p opened differ)
 
-  keeps_new : (headers : LockHeaders) (p : PathText) (location : List Header) (content : Body) (who : Client) (found : Option DavMetaData) → who.token ≢ Some h.token → KeepsLock h (lock_new headers p location content who found)
+  keeps_new : (headers : LockHeaders) (p : PathText) (location : List Header) (content : Body) (who : Caller) (found : Option DavMetaData) → who.token ≢ Some h.token → KeepsLock h (lock_new headers p location content who found)
   keeps_new headers p location content who found own =
       keeps_given _ (asked_gives headers p content who found) (λ new has. keeps_look (λ ls there.
       keeps_bind _ (keeps_granted new ls (is_grantable new ls) there) (λ u.
@@ -180,13 +180,13 @@ module _ (h : Lock) where
   keeps_kept (Some l) None listed = keeps_done
   keeps_kept (Some l) (Some ls) listed = keeps_list (listed ls refl) keeps_done
 
-  keeps_again : (headers : LockHeaders) (p : PathText) (location : List Header) (who : Client) → KeepsLock h (lock_again headers p location who)
+  keeps_again : (headers : LockHeaders) (p : PathText) (location : List Header) (who : Caller) → KeepsLock h (lock_again headers p location who)
   keeps_again headers p location who =
       keeps_bind _ (keeps_only (only_token headers (names p) who)) (λ token. keeps_look (λ ls there.
       keeps_bind _ (keeps_kept (option_map (refreshed_lock (refreshed_for headers.timeout) who.moment) (named_lock token (names p) ls)) (refreshed token (names p) (refreshed_for headers.timeout) who.moment ls)
       (λ left is. refreshed_listed token (names p) (refreshed_for headers.timeout) who.moment ls left there is)) (λ l. keeps_done)))
 
-  keeps_if : (b : Bool) (one other : MethodPlan Response) → KeepsLock h one → KeepsLock h other → KeepsLock h (if b then one else other)
+  keeps_if : (b : Bool) (one other : MethodPlan Reply) → KeepsLock h one → KeepsLock h other → KeepsLock h (if b then one else other)
   keeps_if true one other is also = is
   keeps_if false one other is also = also
 

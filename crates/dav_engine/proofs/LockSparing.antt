@@ -11,7 +11,7 @@ use Rattle.dav_core.specs.Handle.{Opening}
 use Rattle.dav_core.specs.Locks.{Lock, covers, is_grantable, named_lock, refreshed, refreshed_lock, unlocked}
 use Rattle.dav_core.specs.Path.{Path, PathText, names}
 use Rattle.dav_engine.specs.declared.request.Body.{Body}
-use Rattle.dav_engine.specs.Client.{Client, requester}
+use Rattle.dav_engine.specs.Caller.{Caller, requester}
 use Rattle.dav_engine.specs.Delete.{whole_depth}
 use Rattle.dav_engine.specs.Folder.{path_found, location_found}
 use Rattle.dav_engine.specs.Guard.{IsListed, Guards, StillGuards}
@@ -19,7 +19,7 @@ use Rattle.dav_engine.specs.Lock.{keep_refreshed, lock_again, asked_lock, taken_
 use Rattle.dav_engine.specs.LockHeaders.{LockHeaders, refreshed_for}
 use Rattle.dav_engine.specs.LockInfo.{lock_info}
 use Rattle.dav_engine.specs.Method.{MethodPlan, ◌>>=◌, required, gives}
-use Rattle.dav_engine.specs.Response.{Response, Header}
+use Rattle.dav_engine.specs.Reply.{Reply, Header}
 use Rattle.dav_engine.specs.Sparing.{Sparing, Anything, AnyList, spares_ok, spares_err, spares_reads, spares_opens, spares_look, spares_keep, spares_last}
 use Rattle.dav_engine.specs.SparingPlans.{LockSpares}
 use Rattle.dav_engine.proofs.GuardChanges.{granted_off, granted_beside, refreshed_guards}
@@ -32,7 +32,7 @@ use Rattle.dav_engine.specs.Conditions.{submitted}
 
 -- What a LOCK has to keep of the list of locks: G is what is known of the list, E what is left of it at the end, and F what is known
 -- of the token of a new lock. What may be granted to the client isn't covered, where nothing was found there.
-module _ (covered : Path → Bool) (G E : List Lock → Type 0) (F : List ℕ → Type 0) (who : Client) (k : LockHeaders)
+module _ (covered : Path → Bool) (G E : List Lock → Type 0) (F : List ℕ → Type 0) (who : Caller) (k : LockHeaders)
     (off : (new : Lock) (ls : List Lock) → G ls → is_grantable new ls ≡ true → IsOpenAbove G true (requester who (submitted k.conditions.lists)) (names new.path) → covered (names new.path) ≡ false)
     (pushes : (new : Lock) (ls : List Lock) → F new.token → G ls → is_grantable new ls ≡ true → G (ls ++ new ∷ []))
     (ends : (token : List ℕ) (p : Path) (ls : List Lock) → G ls → E (taken_back token p ls))
@@ -40,7 +40,7 @@ module _ (covered : Path → Bool) (G E : List Lock → Type 0) (F : List ℕ �
   abbrev Part : {A : Type 0} → (A → Type 0) → MethodPlan A → Type 0
   Part Q plan = Sparing covered G E false (At None Q) None plan
 
-  abbrev Whole : MethodPlan Response → Type 0
+  abbrev Whole : MethodPlan Reply → Type 0
   Whole plan = Sparing covered G E true Anything None plan
 
   -- ---- a new lock
@@ -56,7 +56,7 @@ module _ (covered : Path → Bool) (G E : List Lock → Type 0) (F : List ℕ �
   spare_granted found new ls fresh g above true may = spares_keep (pushes new ls fresh g may) (spares_ok (refl, λ none. off new ls g may (λ is. above none)))
   spare_granted found new ls fresh g above false may = spares_err
 
-  spare_files : (how : Opening) (token : List ℕ) (p : PathText) (now : ℕ) (found : Option DavMetaData) (reply : Response) → IsOff found p → Whole (make_empty how token (names p) now found >>= (λ u. gives reply))
+  spare_files : (how : Opening) (token : List ℕ) (p : PathText) (now : ℕ) (found : Option DavMetaData) (reply : Reply) → IsOff found p → Whole (make_empty how token (names p) now found >>= (λ u. gives reply))
   spare_files how token p now (Some found) reply off = spares_ok tt
   spare_files how token p now None reply off = spares_opens (off refl) (λ k. spares_ok tt) (λ e. spares_look (λ ls g. spares_last refl (ends token (names p) ls g)))
 
@@ -78,7 +78,7 @@ module _ (covered : Path → Bool) (G E : List Lock → Type 0) (F : List ℕ �
 
   -- ---- a lock that is refreshed
 
-  spare_kept : (l : Option Lock) (left : Option (List Lock)) (reply : Lock → Response) → ((ls : List Lock) → left ≡ Some ls → G ls) → Whole (keep_refreshed l left >>= (λ l. gives (reply l)))
+  spare_kept : (l : Option Lock) (left : Option (List Lock)) (reply : Lock → Reply) → ((ls : List Lock) → left ≡ Some ls → G ls) → Whole (keep_refreshed l left >>= (λ l. gives (reply l)))
   spare_kept None left reply known = spares_err
   spare_kept (Some l) None reply known = spares_err
   spare_kept (Some l) (Some ls) reply known = spares_keep (known ls refl) (spares_ok tt)
@@ -89,7 +89,7 @@ module _ (covered : Path → Bool) (G E : List Lock → Type 0) (F : List ℕ �
       spare_kept (option_map (refreshed_lock (refreshed_for k.timeout) who.moment) (named_lock token (names p) ls)) (refreshed token (names p) (refreshed_for k.timeout) who.moment ls) _
       (λ left is. renews token (names p) (refreshed_for k.timeout) who.moment ls left g is)))
 
-  spare_if : (b : Bool) (one other : MethodPlan Response) → Whole one → Whole other → Whole (if b then one else other)
+  spare_if : (b : Bool) (one other : MethodPlan Reply) → Whole one → Whole other → Whole (if b then one else other)
   spare_if true one other is also = is
   spare_if false one other is also = also
 

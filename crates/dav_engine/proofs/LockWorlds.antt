@@ -20,18 +20,18 @@ use Rattle.dav_core.specs.World.{World, Node, File, node_at, is_folder, is_folde
 use Rattle.dav_core.proofs.Theorems.{taken_back as back_again, went_on, found, left}
 use Rattle.dav_headers.specs.ETagList.{TagList, star, tags, IsTagList}
 use Rattle.dav_engine.specs.declared.request.Body.{Body}
-use Rattle.dav_engine.specs.Client.{Client, requester}
+use Rattle.dav_engine.specs.Caller.{Caller, requester}
 use Rattle.dav_engine.specs.Conditions.{Conditions, is_star, http_conditions, dav_if_match, if_holds, if_match, submitted}
 use Rattle.dav_engine.specs.Delete.{whole_depth}
 use Rattle.dav_engine.specs.Folder.{closed, is_folder_found, path_found, location_found}
 use Rattle.dav_engine.specs.Headers.{Headers, Decodes}
-use Rattle.dav_engine.specs.Lock.{one_token, token_to_refresh, keep_refreshed, refresh, refreshed_reply, lock_again, lock_of, asked_lock, grant, taken_back, empty_opening, empty_error, made_or_back, make_empty, granted_reply, lock_new, is_absent, lock, is_lock}
+use Rattle.dav_engine.specs.Lock.{one_token, token_to_refresh, keep_refreshed, refresh, refreshed_reply, lock_again, lock_of, asked_lock, grant, taken_back, empty_opening, empty_error, create_or_unlock, make_empty, granted_reply, lock_new, is_absent, lock, is_lock}
 use Rattle.dav_engine.specs.LockHeaders.{LockHeaders, AreLockHeaders, refreshed_for}
 use Rattle.dav_engine.specs.LockInfo.{LockInfo, lock_info}
 use Rattle.dav_engine.specs.LockLaws.{GrantsLock, with_empty, LockGrants, RefreshesLock, LockRefreshes, IsUnused, IsRefusedFile, RefusedLockLeavesAll, AsksNoFile, EarlyRefusedLockLeavesAll}
 use Rattle.dav_engine.specs.Method.{MethodPlan, then as followed_by, ◌>>=◌, require_free, required, unless_status, gives, fails, require_parent}
 use Rattle.dav_engine.specs.Plan.{Plan, Locks, Done, Keep, CallStep, Ran, ran_done, ran_ask, ran_look, ran_keep}
-use Rattle.dav_engine.specs.Response.{Header, Response}
+use Rattle.dav_engine.specs.Reply.{Header, Reply}
 use Rattle.dav_engine.proofs.CallWorlds.{stays, means, did, did_leave}
 use Rattle.dav_engine.proofs.ChildLemmas.{names_closed}
 use Rattle.dav_engine.proofs.DeletedWorlds.{told_dir}
@@ -96,7 +96,7 @@ leaves_after same leaves = (leaves.0 ∙ same, leaves.1)
 
 -- ---- the lock that is asked for
 
-record AskedFor (h : LockHeaders) (p : PathText) (content : Body) (who : Client) (l : Lock) : Type 0 where
+record AskedFor (h : LockHeaders) (p : PathText) (content : Body) (who : Caller) (l : Lock) : Type 0 where
   deep : Bool
   info : LockInfo
   token : List ℕ
@@ -105,7 +105,7 @@ record AskedFor (h : LockHeaders) (p : PathText) (content : Body) (who : Client)
   own : who.token ≡ Some token
   is : l ≡ lock_of h p who deep info token
 
-asked_ran : (h : LockHeaders) (p : PathText) (content : Body) (who : Client) (found : Option DavMetaData) {l : Lock} {old new : StoreState} {ls ms : Locks}
+asked_ran : (h : LockHeaders) (p : PathText) (content : Body) (who : Caller) (found : Option DavMetaData) {l : Lock} {old new : StoreState} {ls ms : Locks}
     → Ran Asks (asked_lock h p content who found) old ls (Ok l) new ms → AskedFor h p content who l
 asked_ran h p content who found ran =
     let (deep, depth, one) = then_ran (whole_depth h.depth) _ ran in
@@ -136,7 +136,7 @@ no_star (Some star) other true is = absurd (cc)
 no_star (Some star) other false is = absurd (cc)
 
 -- so the empty file may be made
-asked_makes : (h : LockHeaders) (p : PathText) (content : Body) (who : Client) (found : Option DavMetaData) {l : Lock} {old new : StoreState} {ls ms : Locks}
+asked_makes : (h : LockHeaders) (p : PathText) (content : Body) (who : Caller) (found : Option DavMetaData) {l : Lock} {old new : StoreState} {ls ms : Locks}
     → Ran Asks (asked_lock h p content who found) old ls (Ok l) new ms → found ≡ None → is_star h.conditions.if_match ≡ false
 asked_makes h p content who found ran missing =
     let (deep, depth, one) = then_ran (whole_depth h.depth) _ ran in
@@ -147,7 +147,7 @@ asked_makes h p content who found ran missing =
     (subst (λ (m : Option DavMetaData). (if four.value then http_conditions method.Lock h.conditions.if_match h.conditions.if_none_match m else Some 412) ≡ None) missing
     (sym (gave four.more).0 ∙ no_status two.value three.one))
 
-asked_leaves : (h : LockHeaders) (p : PathText) (content : Body) (who : Client) (found : Option DavMetaData) {r : Result Lock DavError} {old new : StoreState} {ls ms : Locks}
+asked_leaves : (h : LockHeaders) (p : PathText) (content : Body) (who : Caller) (found : Option DavMetaData) {r : Result Lock DavError} {old new : StoreState} {ls ms : Locks}
     → Ran Asks (asked_lock h p content who found) old ls r new ms → Leaves old.world ls new.world ms
 asked_leaves h p content who found ran = reading_leaves (only_reads look_reads (only_asked h p content who found)) ran
 
@@ -160,7 +160,7 @@ back_by new p ls at others =
 -- ---- errors
 
 -- what follows a lock that was granted
-abbrev files : Opening → List ℕ → Path → ℕ → Option DavMetaData → Response → MethodPlan Response
+abbrev files : Opening → List ℕ → Path → ℕ → Option DavMetaData → Reply → MethodPlan Reply
 files how token p now found reply = do
   _ ← make_empty how token p now found
   gives reply
@@ -171,28 +171,28 @@ refused_open one = elim (did one) [
   | means r h is after ↦ cc
 ]
 
-abbrev grants_by : Bool → List Lock → Lock → (Unit {0} → MethodPlan Response) → MethodPlan Response
+abbrev grants_by : Bool → List Lock → Lock → (Unit {0} → MethodPlan Reply) → MethodPlan Reply
 grants_by b ls new f = (if b then Keep (ls ++ new ∷ []) (gives tt) else fails (dav.Status 423)) >>= f
 
 -- what follows the lock that is asked for
-abbrev granting : LockHeaders → PathText → List Header → Body → Client → Option DavMetaData → Lock → MethodPlan Response
+abbrev granting : LockHeaders → PathText → List Header → Body → Caller → Option DavMetaData → Lock → MethodPlan Reply
 granting h p location content who found new = do
   _ ← grant new
   files (empty_opening h.conditions) new.token (names p) who.moment found (granted_reply (is_some found) location new)
 
 -- what follows the lock that was meant, and the list with it
-abbrev renewing : Option Lock → Option (List Lock) → (Lock → Response) → MethodPlan Response
+abbrev renewing : Option Lock → Option (List Lock) → (Lock → Reply) → MethodPlan Reply
 renewing l left reply = do
   m ← keep_refreshed l left
   gives (reply m)
 
-kept_leaves : (l : Option Lock) (left : Option (List Lock)) (reply : Lock → Response) {old end : StoreState} {ls ms : Locks} {d : DavError} → Ran Asks (renewing l left reply) old ls (Err d) end ms → Leaves old.world ls end.world ms
+kept_leaves : (l : Option Lock) (left : Option (List Lock)) (reply : Lock → Reply) {old end : StoreState} {ls ms : Locks} {d : DavError} → Ran Asks (renewing l left reply) old ls (Err d) end ms → Leaves old.world ls end.world ms
 kept_leaves None left reply ran = ended ran
 kept_leaves (Some l) None reply ran = ended ran
 kept_leaves (Some l) (Some after) reply (ran_keep ran) = no_error ran
 
-module _ (h : LockHeaders) (p : PathText) (location : List Header) (who : Client) where
-  abbrev refreshing : List ℕ → MethodPlan Response
+module _ (h : LockHeaders) (p : PathText) (location : List Header) (who : Caller) where
+  abbrev refreshing : List ℕ → MethodPlan Reply
   refreshing token = do
     l ← refresh token (names p) (refreshed_for h.timeout) who.moment
     gives (refreshed_reply location l)
@@ -212,26 +212,26 @@ module _ (h : LockHeaders) (p : PathText) (location : List Header) (who : Client
       again_leaves_by s.outcome ls (reading_leaves (only_reads look_reads (only_token h (names p) who)) s.first) s.rest
 
 -- no lock of the list has the token that the client handed in
-abbrev TokenIsUnused : Client → Locks → Type 0
+abbrev TokenIsUnused : Caller → Locks → Type 0
 TokenIsUnused who ls = (token : List ℕ) → who.token ≡ Some token → IsUnused token ls
 
 -- Why a LOCK of this client, with these headers, that ends in this error leaves the list: where it asked for a file, no lock of the list
 -- has its token.
-module _ (step : CallStep) (asks : IsAsking step) (h : LockHeaders) (who : Client) (ls : List Lock) (d : DavError) (X : Type 0)
+module _ (step : CallStep) (asks : IsAsking step) (h : LockHeaders) (who : Caller) (ls : List Lock) (d : DavError) (X : Type 0)
     (unused : (p : Path) (old new : StoreState) (e : FsError) → step (Open p (empty_opening h.conditions) who.moment) old (Err e) new → is_star h.conditions.if_match ≡ false
     → d ≡ empty_error (empty_opening h.conditions) e → X → TokenIsUnused who (Some ls)) where
   abbrev how : Opening
   how = empty_opening h.conditions
 
-  back_leaves : (new : Lock) (p : Path) (e : FsError) (reply : Response) {mid end : StoreState} {ms : Locks} → names new.path ≡ p → who.token ≡ Some new.token
+  back_leaves : (new : Lock) (p : Path) (e : FsError) (reply : Reply) {mid end : StoreState} {ms : Locks} → names new.path ≡ p → who.token ≡ Some new.token
       → (d ≡ empty_error how e → X → TokenIsUnused who (Some ls))
-      → Ran step (made_or_back how new.token p (Err e) >>= (λ u. gives reply)) mid (Some (ls ++ new ∷ [])) (Err d) end ms → LeavesFor X mid.world (Some ls) end.world ms
+      → Ran step (create_or_unlock how new.token p (Err e) >>= (λ u. gives reply)) mid (Some (ls ++ new ∷ [])) (Err d) end ms → LeavesFor X mid.world (Some ls) end.world ms
   back_leaves new p e reply at own others (ran_look (ran_keep ran)) =
       let (is, state, locks) = finish_of ran in
       let same : d ≡ empty_error how e = cc in
       (ap (λ (s : StoreState). s.world) state, λ reason. locks ∙ ap (λ (l : List Lock). Some l) (back_by new p ls at (others same reason new.token own)))
 
-  files_leave : (new : Lock) (p : Path) (found : Option DavMetaData) (reply : Response) {old end : StoreState} {ms : Locks} → names new.path ≡ p → who.token ≡ Some new.token
+  files_leave : (new : Lock) (p : Path) (found : Option DavMetaData) (reply : Reply) {old end : StoreState} {ms : Locks} → names new.path ≡ p → who.token ≡ Some new.token
       → (found ≡ None → is_star h.conditions.if_match ≡ false)
       → Ran step (files how new.token p who.moment found reply) old (Some (ls ++ new ∷ [])) (Err d) end ms → LeavesFor X old.world (Some ls) end.world ms
   files_leave new p (Some m) reply at own makes ran = no_error ran
@@ -239,7 +239,7 @@ module _ (step : CallStep) (asks : IsAsking step) (h : LockHeaders) (who : Clien
   files_leave new p None reply at own makes (ran_ask {old = old} {mid = mid} {answer = Err e} one ran) =
       leaves_after (refused_open (asks (Open p how who.moment) old (Err e) mid one)) (back_leaves new p e reply at own (unused p old mid e one (makes refl)) ran)
 
-  grant_leaves : (b : Bool) (new : Lock) (p : Path) (found : Option DavMetaData) (reply : Response) {old end : StoreState} {ms : Locks} → names new.path ≡ p → who.token ≡ Some new.token
+  grant_leaves : (b : Bool) (new : Lock) (p : Path) (found : Option DavMetaData) (reply : Reply) {old end : StoreState} {ms : Locks} → names new.path ≡ p → who.token ≡ Some new.token
       → (found ≡ None → is_star h.conditions.if_match ≡ false)
       → Ran step (grants_by b ls new (λ u. files how new.token p who.moment found reply)) old (Some ls) (Err d) end ms → LeavesFor X old.world (Some ls) end.world ms
   grant_leaves true new p found reply at own makes (ran_keep ran) = files_leave new p found reply at own makes ran
@@ -265,7 +265,7 @@ module _ (step : CallStep) (asks : IsAsking step) (h : LockHeaders) (who : Clien
       let s = ran_split (asked_lock h p content who found) (granting h p location content who found) ran in
       new_leaves_by p location content found s.outcome (ran_as asks s.first) s.rest
 
-  by_body : (b : Bool) (one other : MethodPlan Response) {old end : StoreState} {ms : Locks}
+  by_body : (b : Bool) (one other : MethodPlan Reply) {old end : StoreState} {ms : Locks}
       → (Ran step one old (Some ls) (Err d) end ms → LeavesFor X old.world (Some ls) end.world ms) → (Ran step other old (Some ls) (Err d) end ms → LeavesFor X old.world (Some ls) end.world ms)
       → Ran step (if b then one else other) old (Some ls) (Err d) end ms → LeavesFor X old.world (Some ls) end.world ms
   by_body true one other is also ran = is ran
@@ -294,10 +294,10 @@ is_refused_file headers c said only Exists = status_by headers (is_star c.if_mat
 is_refused_file headers c said only e = tt
 
 -- the token is unused, or the error is of another kind
-abbrev Early : Headers → Client → Locks → DavError → Type 0
+abbrev Early : Headers → Caller → Locks → DavError → Type 0
 Early headers who ls d = TokenIsUnused who ls ⊎ (¬ IsRefusedFile headers d)
 
-is_unused : (headers : Headers) (who : Client) (ls : Locks) (d e : DavError) → d ≡ e → IsRefusedFile headers e → Early headers who ls d → TokenIsUnused who ls
+is_unused : (headers : Headers) (who : Caller) (ls : Locks) (d e : DavError) → d ≡ e → IsRefusedFile headers e → Early headers who ls d → TokenIsUnused who ls
 is_unused headers who ls d e same refused (inl unused) = unused
 is_unused headers who ls d e same refused (inr other) = absurd (other (subst (IsRefusedFile headers) (sym same) refused))
 
@@ -324,7 +324,7 @@ ok_is (t ∷ []) token is = let same : t ≡ token = cc in ap (λ x. x ∷ []) s
 ok_is (t ∷ u ∷ more) token is = absurd (cc)
 
 -- the token is the only one that is submitted
-token_ran : (h : LockHeaders) (p : Path) (who : Client) {token : List ℕ} {old new : StoreState} {ls ms : Locks} → Ran Asks (token_to_refresh h p who) old ls (Ok token) new ms → submitted h.conditions.lists ≡ token ∷ []
+token_ran : (h : LockHeaders) (p : Path) (who : Caller) {token : List ℕ} {old new : StoreState} {ls ms : Locks} → Ran Asks (token_to_refresh h p who) old ls (Ok token) new ms → submitted h.conditions.lists ≡ token ∷ []
 token_ran h p who {token} ran =
     let one = parts (dav_if_match h.conditions.lists) _ ran in
     let two = parts (if_holds h.conditions.lists) _ one.one in
@@ -334,18 +334,18 @@ token_ran h p who {token} ran =
     let tokens : one.value.1 ≡ submitted h.conditions.lists = ap (λ (x : Bool × List (List ℕ)). x.1) (gave two.more).0 in
     sym tokens ∙ ok_is one.value.1 said only ∙ ap (λ (t : List ℕ). t ∷ []) (sym same)
 
-kept_by : (l : Option Lock) (left : Option (List Lock)) (reply : Lock → Response) {old end : StoreState} {ls : List Lock} {ms : Locks} {r : Response} → Ran Asks (renewing l left reply) old (Some ls) (Ok r) end ms
+kept_by : (l : Option Lock) (left : Option (List Lock)) (reply : Lock → Reply) {old end : StoreState} {ls : List Lock} {ms : Locks} {r : Reply} → Ran Asks (renewing l left reply) old (Some ls) (Ok r) end ms
     → (after : List Lock) × (left ≡ Some after) × (end.world ≡ old.world) × (ms ≡ Some after)
 kept_by None left reply ran = absurd (let ends = finish ran in let is = ends.0 in cc)
 kept_by (Some l) None reply ran = absurd (let ends = finish ran in let is = ends.0 in cc)
 kept_by (Some l) (Some after) reply (ran_keep ran) = let (world, locks) = ended ran in (after, refl, world, locks)
 
-refreshed_ran : (h : LockHeaders) (p : PathText) (location : List Header) (who : Client) (token : List ℕ) (ls : List Lock) {old end : StoreState} {ms : Locks} {r : Response} → Ran Asks (refreshing h p location who token) old (Some ls) (Ok r) end ms
+refreshed_ran : (h : LockHeaders) (p : PathText) (location : List Header) (who : Caller) (token : List ℕ) (ls : List Lock) {old end : StoreState} {ms : Locks} {r : Reply} → Ran Asks (refreshing h p location who token) old (Some ls) (Ok r) end ms
     → (after : List Lock) × (refreshed token (names p) (refreshed_for h.timeout) who.moment ls ≡ Some after) × (end.world ≡ old.world) × (ms ≡ Some after)
 refreshed_ran h p location who token ls (ran_look ran) =
     kept_by (option_map (refreshed_lock (refreshed_for h.timeout) who.moment) (named_lock token (names p) ls)) (refreshed token (names p) (refreshed_for h.timeout) who.moment ls) (refreshed_reply location) ran
 
-again_refreshes : (headers : Headers) (h : LockHeaders) (p q : PathText) (location : List Header) (who : Client) (ls : List Lock) {old end : StoreState} {ms : Locks} {r : Response} → AreLockHeaders headers p h → names q ≡ names p
+again_refreshes : (headers : Headers) (h : LockHeaders) (p q : PathText) (location : List Header) (who : Caller) (ls : List Lock) {old end : StoreState} {ms : Locks} {r : Reply} → AreLockHeaders headers p h → names q ≡ names p
     → Ran Asks (lock_again h q location who) old (Some ls) (Ok r) end ms → (end.world ≡ old.world) × RefreshesLock headers p who (Some ls) ms
 again_refreshes headers h p q location who ls are same ran =
     let s = parts (token_to_refresh h (names q) who) (refreshing h q location who) ran in
@@ -365,7 +365,7 @@ again_refreshes headers h p q location who ls are same ran =
       },
     )
 
-chosen : (b c : Bool) (one other : MethodPlan Response) {old end : StoreState} {ls ms : Locks} {r : Response} → b ≡ c → Ran Asks (if b then one else other) old ls (Ok r) end ms → Ran Asks (if c then one else other) old ls (Ok r) end ms
+chosen : (b c : Bool) (one other : MethodPlan Reply) {old end : StoreState} {ls ms : Locks} {r : Reply} → b ≡ c → Ran Asks (if b then one else other) old ls (Ok r) end ms → Ran Asks (if c then one else other) old ls (Ok r) end ms
 chosen b c one other {old} {end} {ls} {ms} {r} is ran = subst (λ (x : Bool). Ran Asks (if x then one else other) old ls (Ok r) end ms) is ran
 
 pub lock_refreshes : LockRefreshes
@@ -426,7 +426,7 @@ record Granted (new : Lock) (p : Path) (now : ℕ) (found : Option DavMetaData) 
   is : ms ≡ Some (ls ++ new ∷ [])
   made : FileMade p now found w v
 
-files_ran : (how : Opening) (token : List ℕ) (p : Path) (now : ℕ) (found : Option DavMetaData) (reply : Response) {old end : StoreState} {ls ms : Locks} {r : Response} → how.truncate ≡ false
+files_ran : (how : Opening) (token : List ℕ) (p : Path) (now : ℕ) (found : Option DavMetaData) (reply : Reply) {old end : StoreState} {ls ms : Locks} {r : Reply} → how.truncate ≡ false
     → Ran Asks (files how token p now found reply) old ls (Ok r) end ms → FileMade p now found old.world end.world × (ms ≡ ls)
 files_ran how token p now (Some m) reply whole ran = ended ran
 files_ran how token p now None reply {old} {end} whole (ran_ask {mid = mid} {answer = Ok file} one ran) =
@@ -436,20 +436,20 @@ files_ran how token p now None reply {old} {end} whole (ran_ask {mid = mid} {ans
 files_ran how token p now None reply {ls = Some ls} whole (ran_ask {answer = Err e} one (ran_look (ran_keep ran))) = absurd (let ends = finish ran in let is = ends.0 in cc)
 files_ran how token p now None reply {ls = None} whole (ran_ask {answer = Err e} one (ran_look ran)) = absurd (let ends = finish ran in let is = ends.0 in cc)
 
-grant_ran : (b : Bool) (how : Opening) (new : Lock) (p : Path) (now : ℕ) (found : Option DavMetaData) (reply : Response) {old end : StoreState} {ls : List Lock} {ms : Locks} {r : Response} → how.truncate ≡ false
+grant_ran : (b : Bool) (how : Opening) (new : Lock) (p : Path) (now : ℕ) (found : Option DavMetaData) (reply : Reply) {old end : StoreState} {ls : List Lock} {ms : Locks} {r : Reply} → how.truncate ≡ false
     → is_grantable new ls ≡ b → Ran Asks (grants_by b ls new (λ u. files how new.token p now found reply)) old (Some ls) (Ok r) end ms → Granted new p now found ls old.world end.world ms
 grant_ran true how new p now found reply whole may (ran_keep ran) =
     let (made, locks) = files_ran how new.token p now found reply whole ran in
     record { free = may; is = locks; made = made }
 grant_ran false how new p now found reply whole may ran = absurd (let ends = finish ran in let is = ends.0 in cc)
 
-granting_ran : (h : LockHeaders) (p : PathText) (location : List Header) (content : Body) (who : Client) (found : Option DavMetaData) (new : Lock) (ls : List Lock) {old end : StoreState} {ms : Locks} {r : Response}
+granting_ran : (h : LockHeaders) (p : PathText) (location : List Header) (content : Body) (who : Caller) (found : Option DavMetaData) (new : Lock) (ls : List Lock) {old end : StoreState} {ms : Locks} {r : Reply}
     → Ran Asks (granting h p location content who found new) old (Some ls) (Ok r) end ms → Granted new (names p) who.moment found ls old.world end.world ms
 granting_ran h p location content who found new ls (ran_look ran) =
     grant_ran (is_grantable new ls) (empty_opening h.conditions) new (names p) who.moment found (granted_reply (is_some found) location new) refl refl ran
 
 -- the path of what was found is that of the folder that is there, or of what isn't one
-new_grants : (headers : Headers) (h : LockHeaders) (p q : PathText) (location : List Header) (content : Body) (who : Client) (found : Option DavMetaData) (ls : List Lock) (w : World) {old end : StoreState} {ms : Locks} {r : Response}
+new_grants : (headers : Headers) (h : LockHeaders) (p q : PathText) (location : List Header) (content : Body) (who : Caller) (found : Option DavMetaData) (ls : List Lock) (w : World) {old end : StoreState} {ms : Locks} {r : Reply}
     → AreLockHeaders headers p h → old.world ≡ w → (FileMade (names q) who.moment found w end.world → (q ≡ closed (is_folder w (names p)) p) × (end.world ≡ with_empty (names p) who.moment w))
     → Ran Asks (lock_new h q location content who found) old (Some ls) (Ok r) end ms → (end.world ≡ with_empty (names p) who.moment w) × GrantsLock headers p content who w (Some ls) ms
 new_grants headers h p q location content who found ls w {old} {end} {ms} are was told ran =

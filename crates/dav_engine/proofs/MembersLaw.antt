@@ -6,7 +6,7 @@ use Rattle.dav_core.specs.declared.errors.FsError.{FsError}
 use Rattle.dav_core.specs.declared.errors.DavError.{DavError}
 use Rattle.dav_core.specs.declared.fs.DavMetaData.{DavMetaData}
 use Rattle.dav_core.specs.Asking.{Call, Answer, StoreState, Asks, meaning, Metadata, ReadDir, EntryMetadata, CreateDir, RemoveDir, RemoveFile, Rename, Copy, HaveProps, PatchProps, GetProps, GetProp, GetQuota, SetAccessed, SetModified, Open, Read, Write, Seek, Flush, FileMetadata}
-use Rattle.dav_core.specs.CallLaws.{IsProper, IsStill}
+use Rattle.dav_core.specs.CallLaws.{IsProper, IsSameNode}
 use Rattle.dav_core.specs.Handle.{Handle}
 use Rattle.dav_core.specs.Locks.{Lock, Requester, is_held, is_free_parent, covers}
 use Rattle.dav_core.specs.Path.{Path, is_root, is_same_path, is_at_or_under, parent_of}
@@ -19,7 +19,7 @@ use Rattle.dav_engine.specs.Members.{is_member, is_folder_or_member, BringsNoMem
 use Rattle.dav_engine.specs.Method.{MethodPlan}
 use Rattle.dav_engine.specs.Plan.{Locks, Ran, ran_done, ran_ask, ran_look, ran_keep}
 use Rattle.dav_engine.specs.PlanLaws.{ample}
-use Rattle.dav_engine.specs.Response.{Response}
+use Rattle.dav_engine.specs.Reply.{Reply}
 use Rattle.dav_engine.specs.Sparing.{NoneUnder}
 use Rattle.dav_engine.specs.WorldLaws.{IsProperPlan, proper_done, proper_ask, proper_look, proper_keep}
 use Rattle.dav_engine.proofs.CallWorlds.{Did, stays, means, did, did_leave, asks_keep, asks_tell}
@@ -155,7 +155,7 @@ module _ (f : Path) (known : Option Path) (w : World) (world : IsWorld w) (folde
   elsewhere p q within none brings = elsewhere_by p q within none brings (is_same_path p q) refl
 
   -- what is there stays, and where nothing is nothing comes
-  kind_by : (v : World) (q : Path) → ((n : Node) → node_at w q ≡ Some n → (m : Node) × (node_at v q ≡ Some m) × IsStill n m)
+  kind_by : (v : World) (q : Path) → ((n : Node) → node_at w q ≡ Some n → (m : Node) × (node_at v q ≡ Some m) × IsSameNode n m)
       → (node_at w q ≡ None → option_map content_of (node_at w q) ≡ option_map content_of (node_at v q))
       → (o : Option Node) → node_at w q ≡ o → kind_in (node_at w q) ≡ kind_in (node_at v q)
   kind_by v q kept comes (Some n) is =
@@ -297,7 +297,7 @@ pub plans_leave_members : PlansLeaveMembers
 plans_leave_members h plan old new ls ms a stay proper ran stands world folder =
     let left = leaves h true (λ known a. ⊤) stay proper ran stands world tt folder in
     record {
-      folder = still_there h true {A = Response} (λ known a. ⊤) old.world new.world left.kinds folder;
+      folder = still_there h true {A = Reply} (λ known a. ⊤) old.world new.world left.kinds folder;
       listed = members_same (folder_of h) (folder_of h) new.world old.world left.world world (λ x. sym (left.kinds (folder_of h ++ x ∷ []) (member_within (folder_of h) x)));
     }
 

@@ -13,11 +13,11 @@ use Rattle.std.specs.declared.io.traits.SeekFrom.TheVariants.{Start}
 use Rattle.dav_core.specs.Handle.{Handle, Opening}
 use Rattle.dav_core.specs.Locks.{Lock, covers, is_held, is_free_for}
 use Rattle.dav_core.specs.Path.{Path, PathText, star, names, is_at_or_under, parent_of, are_equal}
-use Rattle.dav_engine.specs.declared.put_headers.Writing.{Writing}
-use Rattle.dav_engine.specs.Client.{Client, requester}
+use Rattle.dav_engine.specs.declared.methods.put.headers.Writing.{Writing}
+use Rattle.dav_engine.specs.Caller.{Caller, requester}
 use Rattle.dav_engine.specs.Conditions.{Conditions, submitted}
 use Rattle.dav_engine.specs.Copying.{CopyFault, CopyWalk, copy_kind, copy_looked, copy}
-use Rattle.dav_engine.specs.CopyMove.{CopyHeaders, is_move, copy_depth, destination_found, changes_members, copy_free, clearing, drop_if, bringing, copy_reply, bring_if_clear, copy_found, is_copy_move}
+use Rattle.dav_engine.specs.CopyMove.{CopyHeaders, is_move, copy_depth, destination_found, changes_members, copy_free, clearing, drop_if, transfer_reply, copy_reply, transfer_if_cleared, copy_found, is_copy_move}
 use Rattle.dav_engine.specs.Delete.{whole_depth, is_delete}
 use Rattle.dav_engine.specs.Folder.{closed, is_folder_found, room_at}
 use Rattle.dav_engine.specs.Guard.{folder_of, IsListed}
@@ -29,7 +29,7 @@ use Rattle.dav_engine.specs.Plan.{Done, Ask}
 use Rattle.dav_engine.specs.Proppatch.{is_proppatch}
 use Rattle.dav_engine.specs.Put.{put_opening, unsatisfiable, sought, open_error, store, put_body, bytes_of_body, is_put}
 use Rattle.dav_engine.specs.Removal.{removal}
-use Rattle.dav_engine.specs.Response.{Response}
+use Rattle.dav_engine.specs.Reply.{Reply}
 use Rattle.dav_engine.specs.Sparing.{NoneUnder, Spares, OpenFile, AnyList, Sparing, spares_ok, spares_err, spares_reads, spares_call, spares_opens, spares_seeks, spares_writes, spares_look, spares_keep, spares_last}
 use Rattle.dav_engine.specs.Unlock.{is_unlock}
 use Rattle.dav_engine.proofs.CopyHeaderLemmas.{place_by, plain_other}
@@ -166,7 +166,7 @@ module _ (h : Lock) where
       → MembersStay h false (λ known a. BringsNoMember (folder_of h) known p) None (Ask (Metadata p) go)
   stay_first p (only_ask is more) refused = stay_found (λ m. stay_only (λ a. inr refl) (more (Ok m))) (λ e. stay_looked (λ a no. inl no) (more (Err e)) (refused e))
 
-  module _ (exclusive : h.shared ≡ false) (who : Client) (c : Conditions) (unheld : is_held (requester who (submitted c.lists)) h ≡ false) where
+  module _ (exclusive : h.shared ≡ false) (who : Caller) (c : Conditions) (unheld : is_held (requester who (submitted c.lists)) h ≡ false) where
     -- the folder above is free for a stranger
     no_member_above : (p : Path) → IsOpenAbove (IsListed h) true (requester who (submitted c.lists)) p → is_member (folder_of h) p ≡ false
     no_member_above p above = let (ls, listed, free) = above refl in no_member_by h (requester who (submitted c.lists)) p ls exclusive unheld listed free
@@ -235,8 +235,8 @@ module _ (h : Lock) where
       stay_replied known status (f ∷ []) = stay_ok tt
       stay_replied known status (f ∷ g ∷ faults) = stay_ok tt
 
-      abbrev Rest : Bool → Bool → ℕ → Option DavMetaData → MethodPlan Response
-      Rest moves deep now there = clearing deep now d there >>= (λ faults. bring_if_clear moves deep now p d there faults)
+      abbrev Rest : Bool → Bool → ℕ → Option DavMetaData → MethodPlan Reply
+      Rest moves deep now there = clearing deep now d there >>= (λ faults. transfer_if_cleared moves deep now p d there faults)
 
       -- the list of members changes neither where a folder was found and nothing is to be removed
       stay_unchanged : (moves deep : Bool) (now : ℕ) (known : Option Path) (there : Option DavMetaData) → changes_members moves deep there ≡ false → IsKnown known there
@@ -245,8 +245,8 @@ module _ (h : Lock) where
       stay_unchanged false deep now known None is at = cc
       stay_unchanged false true now known (Some m) is at = cc
       stay_unchanged false false now known (Some m) is at =
-          subst (λ b. MembersStay h true Known known ((if b then removal true now d m.dir else gives []) >>= (λ faults. bring_if_clear false false now p d (Some m) faults))) (sym is)
-          (subst (λ b. MembersStay h true Known known (drop_if b d >>= (λ u. bringing false false now p d 204))) (sym is)
+          subst (λ b. MembersStay h true Known known ((if b then removal true now d m.dir else gives []) >>= (λ faults. transfer_if_cleared false false now p d (Some m) faults))) (sym is)
+          (subst (λ b. MembersStay h true Known known (drop_if b d >>= (λ u. transfer_reply false false now p d 204))) (sym is)
           (stay_bind _ (stay_alone (room_at p) now known (at refl)) (λ k faults _. stay_replied k 204 faults)))
 
       stay_by : (m : DavMethod) (deep : Bool) (now : ℕ) (known : Option Path) (there : Option DavMetaData) → d.bytes ≢ star → IsKnown known there
@@ -316,7 +316,7 @@ pub unlock_leaves_members : UnlockLeavesMembers
 unlock_leaves_members h headers p who plan (is_unlock token is) = stays h None (spare_unlock (is_folder_or_member (folder_of h)) (IsListed h) AnyList (λ said q ls left listed left_is. tt) token p)
 
 -- what only asks and changes properties
-stay_patching : {h : Lock} {plan : MethodPlan Response} (known : Option Path) → Only IsPatching plan → MembersStay h true (λ k a. ⊤) known plan
+stay_patching : {h : Lock} {plan : MethodPlan Reply} (known : Option Path) → Only IsPatching plan → MembersStay h true (λ k a. ⊤) known plan
 stay_patching {plan = Done (Ok a)} known only_done = stay_ok tt
 stay_patching {plan = Done (Err e)} known only_done = stay_err
 stay_patching known (only_ask {c = c} asks_path more) = stay_reads {c = c} tt (λ answer. stay_patching known (more answer))

@@ -22,7 +22,7 @@ use Rattle.dav_engine.specs.Multistatus.{multi_reply, status_reply}
 use Rattle.dav_engine.specs.Plan.{Done, Locks, Ran}
 use Rattle.dav_engine.specs.Removal.{report_of}
 use Rattle.dav_engine.specs.RemovalLaws.{timeless, timeless_at}
-use Rattle.dav_engine.specs.Response.{Response}
+use Rattle.dav_engine.specs.Reply.{Reply}
 use Rattle.dav_engine.proofs.ChildLemmas.{names_closed}
 use Rattle.dav_engine.proofs.CopiedLemmas.{at_append, at_itself, clash}
 use Rattle.dav_engine.proofs.CopiedWorlds.{Emptied, ClearedFirst, something_stays, was_cleared, began}
@@ -117,10 +117,10 @@ moved_since s d found w u v empty off under left = record {
   elsewhere = λ q a b. left.elsewhere q a b ∙ empty.outside q b;
 }
 
-told_moved : (r : Response) (status : ℕ) → ◌≡◌ {A = Result Response DavError} (Ok r) (Ok (status_reply status)) → r ≡ status_reply status
+told_moved : (r : Reply) (status : ℕ) → ◌≡◌ {A = Result Reply DavError} (Ok r) (Ok (status_reply status)) → r ≡ status_reply status
 told_moved r status h = cc
 
-answer_moves : (now : ℕ) (dir : Bool) (p d : PathText) (found : Bool) (answer : Result (Unit {0}) FsError) {old mid sent new : StoreState} {ls ks ms : Locks} {r : Response} → p.bytes ≢ star
+answer_moves : (now : ℕ) (dir : Bool) (p d : PathText) (found : Bool) (answer : Result (Unit {0}) FsError) {old mid sent new : StoreState} {ls ks ms : Locks} {r : Reply} → p.bytes ≢ star
     → is_at_or_under (names (closed dir p)) (names d) ≡ false → dir ≡ is_folder old.world (names p)
     → Emptied found (names d) old.world mid.world → ks ≡ (if found then option_map (deleted (names d)) ls else ls) → Asks (Rename (names (closed dir p)) (names d) now) mid answer sent
     → Ran Asks ((gives (refused_at (closed dir p) answer) >>= (λ faults. drop_if_moved (closed dir p) faults >>= (λ u. gives faults))) >>= (λ faults. Done (copy_reply (closed dir p) (if found then 204 else 201) faults))) sent ks (Ok r) new ms
@@ -150,7 +150,7 @@ answer_moves now dir p d found (Ok u) {old} {mid} {sent} {new} {ls} {ks} {ms} {r
     (told_moved r (if found then 204 else 201) (ends.0 ∙ ap (copy_reply q (if found then 204 else 201)) gone.0))
     (ends.2 ∙ locks_b ∙ drop.locks ∙ ap (λ (x : Path). option_map (deleted x) ks) path ∙ ap (option_map (deleted (names p))) locks)
 
-brings : (now : ℕ) (dir : Bool) (p d : PathText) {old new : StoreState} {ls ms : Locks} {r : Response} → p.bytes ≢ star
+brings : (now : ℕ) (dir : Bool) (p d : PathText) {old new : StoreState} {ls ms : Locks} {r : Reply} → p.bytes ≢ star
     → is_at_or_under (names (closed dir p)) (names d) ≡ false → dir ≡ is_folder old.world (names p) → ClearedFirst true now (closed dir p) d old.world ls r new ms → MoveLeaves p d old new ls ms r
 brings now dir p d other off is (something_stays f faults left told locks) =
     not_cleared_for f faults left (told ∙ ap (λ b. multi_reply (closed b p) (map report_of (f ∷ faults))) is) locks

@@ -13,16 +13,16 @@ use Rattle.dav_core.proofs.Theorems.{errors_leave_worlds}
 use Rattle.dav_headers.specs.declared.depth.Depth.{Depth}
 use Rattle.dav_headers.specs.declared.depth.Depth.TheVariants.{Zero, One, Default, Infinity}
 use Rattle.dav_engine.specs.Copied.{IsPlain}
-use Rattle.dav_engine.specs.Copying.{CopyFault, CopyWalk, copy_report, refused_at, alone_faults, copy_kind, copy_looked, copy, copying}
+use Rattle.dav_engine.specs.Copying.{CopyFault, CopyWalk, copy_report, refused_at, faults_at_depth_0, copy_kind, copy_looked, copy, copying}
 use Rattle.dav_engine.specs.CopyLaws.{copied_properties, IsCopied, IsWithout, IsFoundAt, locks_without, CopyLeavesOne, file_stays, one_copied, folder_there, not_copied, CopyLeavesOneCopy}
-use Rattle.dav_engine.specs.CopyMove.{copy_depth, clearing, drop_if, copy_reply, bringing, bring_if_clear}
+use Rattle.dav_engine.specs.CopyMove.{copy_depth, clearing, drop_if, copy_reply, transfer_reply, transfer_if_cleared}
 use Rattle.dav_engine.specs.Folder.{closed, room_at}
 use Rattle.dav_engine.specs.Method.{◌>>=◌, gives}
 use Rattle.dav_engine.specs.Multistatus.{multi_reply}
 use Rattle.dav_engine.specs.Plan.{Ask, Done, Locks, Ran}
 use Rattle.dav_engine.specs.Removal.{Fault, report_of, removal}
 use Rattle.dav_engine.specs.RemovalLaws.{timeless, timeless_at, LeavesSurvivors}
-use Rattle.dav_engine.specs.Response.{Response}
+use Rattle.dav_engine.specs.Reply.{Reply}
 use Rattle.dav_engine.proofs.ChildLemmas.{names_closed}
 use Rattle.dav_engine.proofs.CopiedLemmas.{at_itself, clash}
 use Rattle.dav_engine.proofs.CopiedWorlds.{Told, started}
@@ -78,7 +78,7 @@ put_alone s d w new kind properties source put was like same =
     }
 
 -- that something is at the place of a folder is no fault
-there_or_fault : (d : PathText) (e : FsError) → (alone_faults d (Err e) ≡ []) ⊎ (alone_faults d (Err e) ≡ (d, e) ∷ [])
+there_or_fault : (d : PathText) (e : FsError) → (faults_at_depth_0 d (Err e) ≡ []) ⊎ (faults_at_depth_0 d (Err e) ≡ (d, e) ∷ [])
 there_or_fault d fs.Exists = inl refl
 there_or_fault d fs.NotImplemented = inr refl
 there_or_fault d fs.GeneralFailure = inr refl
@@ -92,7 +92,7 @@ there_or_fault d fs.IsRemote = inr refl
 
 module _ (now : ℕ) (s d : PathText) where
   folder_by : (source : Node) (old mid new : StoreState) (ls ms : Locks) (faults : List CopyFault) (made : Result (Unit {0}) FsError) → node_at old.world (names s) ≡ Some source → is_folder_kind source.kind ≡ true
-      → Asks (CreateDir (names d) now) old made mid → Ran Asks (gives (alone_faults d made)) mid ls (Ok faults) new ms → Alone s d faults old.world new.world
+      → Asks (CreateDir (names d) now) old made mid → Ran Asks (gives (faults_at_depth_0 d made)) mid ls (Ok faults) new ms → Alone s d faults old.world new.world
   folder_by source old mid new ls ms faults (Ok u) was folder one ran =
       let ends = gave ran in
       was_put ends.0 (subst (λ (st : StoreState). Put1 (names s) (names d) old.world st.world) (sym ends.1)
@@ -123,7 +123,7 @@ module _ (now : ℕ) (s d : PathText) where
   kind_by : (walk : CopyWalk) (dir : Bool) (source : Node) (old new : StoreState) (ls ms : Locks) (faults : List CopyFault) → node_at old.world (names s) ≡ Some source → dir ≡ is_folder_kind source.kind
       → Ran Asks (copy_kind false dir walk now s d) old ls (Ok faults) new ms → Alone s d faults old.world new.world
   kind_by walk true source old new ls ms faults was is ran =
-      let f = first {c = CreateDir (names d) now} {go = λ made. gives (alone_faults d made)} ran in
+      let f = first {c = CreateDir (names d) now} {go = λ made. gives (faults_at_depth_0 d made)} ran in
       folder_by source old f.mid new ls ms faults f.answer was (sym is) f.one f.more
   kind_by walk false source old new ls ms faults was is ran =
       let f = first {c = Copy (names s) (names d) now} {go = λ made. gives (refused_at s made)} ran in
@@ -158,21 +158,21 @@ module _ (now : ℕ) (s d : PathText) where
 -- ---- the destination is cleared
 
 -- what comes after a file at the destination was removed, or nothing was
-data Cleared1 (now : ℕ) (p d : PathText) (w : World) (ls : Locks) (r : Response) (new : StoreState) (ms : Locks) : Type 0 where
+data Cleared1 (now : ℕ) (p d : PathText) (w : World) (ls : Locks) (r : Reply) (new : StoreState) (ms : Locks) : Type 0 where
   a_file_stays : (f : Fault) (faults : List Fault) → LeavesSurvivors (names d) (f ∷ faults) w new.world
       → Ok r ≡ multi_reply p (map report_of (f ∷ faults)) → ms ≡ ls → Cleared1 now p d w ls r new ms
   is_clear : (found removed : Bool) (mid : StoreState) (ks : Locks) → IsFoundAt (names d) w found removed → ((q : Path) → IsWithout removed (names d) w mid.world q) → w.next ≤ mid.world.next
-      → ks ≡ locks_without removed (names d) ls → Ran Asks (bringing false false now p d (if found then 204 else 201)) mid ks (Ok r) new ms → Cleared1 now p d w ls r new ms
+      → ks ≡ locks_without removed (names d) ls → Ran Asks (transfer_reply false false now p d (if found then 204 else 201)) mid ks (Ok r) new ms → Cleared1 now p d w ls r new ms
 
-module _ (now : ℕ) (p d : PathText) (there : DavMetaData) (old new : StoreState) (ls ms : Locks) (r : Response) where
+module _ (now : ℕ) (p d : PathText) (there : DavMetaData) (old new : StoreState) (ls ms : Locks) (r : Reply) where
   emptied_by : (b : Bool) (faults : List Fault) {mid : StoreState} {ks : Locks} → not there.dir ≡ true → IsWorld mid.world → old.world.next ≤ mid.world.next → is_missing old.world (names d) ≡ false → is_folder old.world (names d) ≡ false → ks ≡ ls
-      → LeavesSurvivors (names d) faults old.world mid.world → Ran Asks (bring_if_clear false false now p d (Some there) faults) mid ks (Ok r) new ms → Cleared1 now p d old.world ls r new ms
+      → LeavesSurvivors (names d) faults old.world mid.world → Ran Asks (transfer_if_cleared false false now p d (Some there) faults) mid ks (Ok r) new ms → Cleared1 now p d old.world ls r new ms
   emptied_by b (f ∷ faults) is world next was file locks left ran =
       let ends = finish ran in
       a_file_stays f faults (subst (λ (s : StoreState). LeavesSurvivors (names d) (f ∷ faults) old.world s.world) (sym ends.1) left) ends.0 (ends.2 ∙ locks)
   emptied_by b [] {mid} {ks} is world next was file locks left ran =
-      let run : Ran Asks (drop_if true d >>= (λ u. bringing false false now p d 204)) mid ks (Ok r) new ms = subst (λ x. Ran Asks (drop_if x d >>= (λ u. bringing false false now p d 204)) mid ks (Ok r) new ms) is ran in
-      let a = parts (drop_if true d) (λ u. bringing false false now p d 204) run in
+      let run : Ran Asks (drop_if true d >>= (λ u. transfer_reply false false now p d 204)) mid ks (Ok r) new ms = subst (λ x. Ran Asks (drop_if x d >>= (λ u. transfer_reply false false now p d 204)) mid ks (Ok r) new ms) is ran in
+      let a = parts (drop_if true d) (λ u. transfer_reply false false now p d 204) run in
       let drop = dropped d [] a.one in
       is_clear true true a.mid a.ks (record { there = λ h. was; file = λ h. (refl, file) })
       (λ q. ap (λ (s : StoreState). timeless_at s.world q) drop.same ∙ left.after q ∙ any_by (is_at_or_under q (names d)) (timeless_at old.world q))
@@ -184,9 +184,9 @@ module _ (now : ℕ) (p d : PathText) (there : DavMetaData) (old new : StoreStat
       any_by false o = refl
 
   found_clear : (b : Bool) → not there.dir ≡ b → IsWorld old.world → now ≤ last_moment → IsPlain d → Told old.world (names d) (Some there)
-      → Ran Asks ((if b then removal true now d there.dir else gives []) >>= (λ faults. bring_if_clear false false now p d (Some there) faults)) old ls (Ok r) new ms → Cleared1 now p d old.world ls r new ms
+      → Ran Asks ((if b then removal true now d there.dir else gives []) >>= (λ faults. transfer_if_cleared false false now p d (Some there) faults)) old ls (Ok r) new ms → Cleared1 now p d old.world ls r new ms
   found_clear true is world small plain told ran =
-      let a = parts (removal true now d there.dir) (λ faults. bring_if_clear false false now p d (Some there) faults) ran in
+      let a = parts (removal true now d there.dir) (λ faults. transfer_if_cleared false false now p d (Some there) faults) ran in
       let kept = proper_keeps (proper_removal true now d there.dir small) world a.one in
       emptied_by true a.value is kept.world kept.next told.1 (sym told.0 ∙ no_folder there.dir is) (only_list (only_removal true now d there.dir) a.one)
       (survivors_by true now d there.dir world (plain_other d plain) told.0 a.one) a.more
@@ -195,23 +195,23 @@ module _ (now : ℕ) (p d : PathText) (there : DavMetaData) (old new : StoreStat
       no_folder true h = cc
       no_folder false h = refl
   found_clear false is world small plain told ran =
-      let a = parts (gives []) (λ faults. bring_if_clear false false now p d (Some there) faults) ran in
+      let a = parts (gives []) (λ faults. transfer_if_cleared false false now p d (Some there) faults) ran in
       let ends = finish a.one in
-      let run : Ran Asks (drop_if false d >>= (λ u. bringing false false now p d 204)) a.mid a.ks (Ok r) new ms = subst (λ x. Ran Asks (drop_if x d >>= (λ u. bringing false false now p d 204)) a.mid a.ks (Ok r) new ms) is
-      (subst (λ (faults : List Fault). Ran Asks (bring_if_clear false false now p d (Some there) faults) a.mid a.ks (Ok r) new ms) (gave a.one).0 a.more) in
+      let run : Ran Asks (drop_if false d >>= (λ u. transfer_reply false false now p d 204)) a.mid a.ks (Ok r) new ms = subst (λ x. Ran Asks (drop_if x d >>= (λ u. transfer_reply false false now p d 204)) a.mid a.ks (Ok r) new ms) is
+      (subst (λ (faults : List Fault). Ran Asks (transfer_if_cleared false false now p d (Some there) faults) a.mid a.ks (Ok r) new ms) (gave a.one).0 a.more) in
       is_clear true false a.mid a.ks (record { there = λ h. told.1; file = λ h. cc }) (λ q. ap (λ (s : StoreState). timeless_at s.world q) ends.1)
       (subst (λ (s : StoreState). old.world.next ≤ s.world.next) (sym ends.1) (omega arith)) ends.2 run
 
-clears_one : (now : ℕ) (p d : PathText) (there : Option DavMetaData) {old new : StoreState} {ls ms : Locks} {r : Response}
+clears_one : (now : ℕ) (p d : PathText) (there : Option DavMetaData) {old new : StoreState} {ls ms : Locks} {r : Reply}
     → IsWorld old.world → now ≤ last_moment → IsPlain d → Told old.world (names d) there
-    → Ran Asks (clearing false now d there >>= (λ faults. bring_if_clear false false now p d there faults)) old ls (Ok r) new ms → Cleared1 now p d old.world ls r new ms
+    → Ran Asks (clearing false now d there >>= (λ faults. transfer_if_cleared false false now p d there faults)) old ls (Ok r) new ms → Cleared1 now p d old.world ls r new ms
 clears_one now p d None {old} {ls = ls} world small plain told ran =
     is_clear false false old ls (record { there = λ h. cc; file = λ h. cc }) (λ q. refl) (omega arith) refl ran
 clears_one now p d (Some there) world small plain told ran = found_clear now p d there _ _ _ _ _ (not there.dir) refl world small plain told ran
 
 -- ---- the whole
 
-module _ (p q d : PathText) (found removed : Bool) (old mid new : StoreState) (ls ms : Locks) (r : Response) (path : names q ≡ names p) (closes : q ≡ closed (is_folder old.world (names p)) p)
+module _ (p q d : PathText) (found removed : Bool) (old mid new : StoreState) (ls ms : Locks) (r : Reply) (path : names q ≡ names p) (closes : q ≡ closed (is_folder old.world (names p)) p)
     (was : IsFoundAt (names d) old.world found removed) (clear : (x : Path) → IsWithout removed (names d) old.world mid.world x) (next : old.world.next ≤ mid.world.next)
     (off : is_at_or_under (names p) (names d) ≡ false) (locks : ms ≡ locks_without removed (names d) ls) where
   not_under : (x : Path) (b : Bool) → is_at_or_under x (names d) ≡ false → removed ≡ b → timeless_at mid.world x ≡ timeless_at old.world x
@@ -241,7 +241,7 @@ module _ (p q d : PathText) (found removed : Bool) (old mid new : StoreState) (l
       (λ x. ap (λ (w : World). timeless_at w x) same ∙ clear x)
       (told ∙ ap (copy_reply q (if found then 204 else 201)) one ∙ ap (λ (x : PathText). multi_reply x (copy_report f ∷ [])) closes) locks
 
-brings_one : (now : ℕ) (dir : Bool) (p d : PathText) {old new : StoreState} {ls ms : Locks} {r : Response} → IsPlain p → IsPlain d → p.prefix ≡ d.prefix
+brings_one : (now : ℕ) (dir : Bool) (p d : PathText) {old new : StoreState} {ls ms : Locks} {r : Reply} → IsPlain p → IsPlain d → p.prefix ≡ d.prefix
     → is_at_or_under (names (closed dir p)) (names d) ≡ false → dir ≡ is_folder old.world (names p) → Cleared1 now (closed dir p) d old.world ls r new ms → CopyLeavesOne p d old new ls ms r
 brings_one now dir p d plain place prefix off is (a_file_stays f faults left told locks) =
     file_stays f faults left (told ∙ ap (λ b. multi_reply (closed b p) (map report_of (f ∷ faults))) is) locks
@@ -268,4 +268,4 @@ copy_leaves_one m h p d who old new ls ms r world small copy depth is plain plac
     brings_one who.moment b.dir p d plain place prefix b.off b.is
     (subst (λ (w : World). Cleared1 who.moment (closed b.dir p) d w ls r new ms) b.same
     (clears_one who.moment (closed b.dir p) d b.there (subst IsWorld (sym b.same) world) small place (subst (λ (w : World). Told w (names d) b.there) (sym b.same) b.told)
-    (subst (λ x. Ran Asks (clearing false who.moment d b.there >>= (λ faults. bring_if_clear x false who.moment (closed b.dir p) d b.there faults)) b.mid ls (Ok r) new ms) copy b.rest)))
+    (subst (λ x. Ran Asks (clearing false who.moment d b.there >>= (λ faults. transfer_if_cleared x false who.moment (closed b.dir p) d b.there faults)) b.mid ls (Ok r) new ms) copy b.rest)))

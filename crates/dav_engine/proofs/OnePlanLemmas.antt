@@ -25,10 +25,10 @@ use Rattle.dav_headers.specs.UpdateRange.{IsUpdateRange}
 use Rattle.dav_headers.specs.Value.{IsNumber}
 use Rattle.dav_headers.specs.declared.range.ContentRange.{ContentRange}
 use Rattle.dav_headers.proofs.Theorems.{one_destination, one_overwrite, one_depth, one_timeout, says_one, one_update_range, same_number, one_tag_list, one_content_range, one_content_length}
-use Rattle.dav_engine.specs.declared.put_headers.Bounds.{Bounds}
-use Rattle.dav_engine.specs.declared.put_headers.Bounds.TheVariants.{Unread, Whole, Within}
+use Rattle.dav_engine.specs.declared.methods.put.headers.Bounds.{Bounds}
+use Rattle.dav_engine.specs.declared.methods.put.headers.Bounds.TheVariants.{Unread, Whole, Within}
 use Rattle.dav_engine.specs.declared.request.Body.{Body}
-use Rattle.dav_engine.specs.Client.{Client}
+use Rattle.dav_engine.specs.Caller.{Caller}
 use Rattle.dav_engine.specs.Conditions.{Addressed, Conditions, SaysLists, AreAddressed, SpeaksOf, TagNames}
 use Rattle.dav_engine.specs.CopyMove.{CopyHeaders, AreCopyHeaders, DestinationNames, absent, unreadable, outside, inside, copy_or_move, IsCopyMove, is_copy_move}
 use Rattle.dav_engine.specs.Delete.{DeleteHeaders, AreDeleteHeaders, delete, IsDelete, is_delete}
@@ -42,7 +42,7 @@ use Rattle.dav_engine.specs.OnePlan.{OneReadingOfConditions, OneReadingOfPut, On
 use Rattle.dav_engine.specs.Propfind.{FindHeaders, AreFindHeaders, propfind, IsPropfind, is_propfind}
 use Rattle.dav_engine.specs.Proppatch.{proppatch, IsProppatch, is_proppatch}
 use Rattle.dav_engine.specs.Put.{PutHeaders, IsPut, is_put, put_body, bytes_of_body, IsAnnounced, IsExpectedLength, TellsBounds}
-use Rattle.dav_engine.specs.Response.{Response}
+use Rattle.dav_engine.specs.Reply.{Reply}
 use Rattle.dav_engine.specs.Unlock.{unlock, IsUnlock, is_unlock}
 use Rattle.dav_engine.proofs.LockTokenLemmas.{one_lock_token}
 
@@ -143,7 +143,7 @@ one_put_headers headers p a b h k =
     let checksum : a.checksum ≡ b.checksum = h.checksum ∙ sym k.checksum in
     λ i. record { conditions = conditions i; announced = announced i; range = range i; is_partial = partial i; update = update i; checksum = checksum i }
 
-same_put : {m : DavMethod} {headers : Headers} {p : PathText} {body : Body} {who : Client} {one other : MethodPlan Response} → IsPut m headers p body who one → IsPut m headers p body who other → one ≡ other
+same_put : {m : DavMethod} {headers : Headers} {p : PathText} {body : Body} {who : Caller} {one other : MethodPlan Reply} → IsPut m headers p body who one → IsPut m headers p body who other → one ≡ other
 same_put {m} {headers} {p} {body} {who} (is_put a h) (is_put b k) = ap (λ (x : PutHeaders). put_body m x (names p) who (bytes_of_body body)) (one_put_headers headers p a b h k)
 
 pub one_put_plan : OnePutPlan
@@ -151,7 +151,7 @@ one_put_plan m headers p body who one other h k = same_put h k
 
 -- ---- MKCOL
 
-same_mkcol : {headers : Headers} {p : PathText} {who : Client} {one other : MethodPlan Response} → IsMkcol headers p who one → IsMkcol headers p who other → one ≡ other
+same_mkcol : {headers : Headers} {p : PathText} {who : Caller} {one other : MethodPlan Reply} → IsMkcol headers p who one → IsMkcol headers p who other → one ≡ other
 same_mkcol {headers} {p} {who} (is_mkcol a h) (is_mkcol b k) = ap (λ (x : Conditions). mkcol x p who) (one_conditions headers p.prefix (names p) a b h k)
 
 pub one_mkcol_plan : OneMkcolPlan
@@ -165,7 +165,7 @@ one_delete_headers headers p a b h k =
     let depth = decoded_one IsDepth (get_all headers (codes "depth")) (one_depth (get_all headers (codes "depth"))) a.depth b.depth h.depth k.depth in
     λ i. record { conditions = conditions i; depth = depth i }
 
-same_delete : {headers : Headers} {p : PathText} {who : Client} {one other : MethodPlan Response} → IsDelete headers p who one → IsDelete headers p who other → one ≡ other
+same_delete : {headers : Headers} {p : PathText} {who : Caller} {one other : MethodPlan Reply} → IsDelete headers p who one → IsDelete headers p who other → one ≡ other
 same_delete {headers} {p} {who} (is_delete a h) (is_delete b k) = ap (λ (x : DeleteHeaders). delete x p who) (one_delete_headers headers p a b h k)
 
 pub one_delete_plan : OneDeletePlan
@@ -173,7 +173,7 @@ one_delete_plan headers p who one other h k = same_delete h k
 
 -- ---- UNLOCK
 
-same_unlock : {headers : Headers} {p : PathText} {who : Client} {one other : MethodPlan Response} → IsUnlock headers p who one → IsUnlock headers p who other → one ≡ other
+same_unlock : {headers : Headers} {p : PathText} {who : Caller} {one other : MethodPlan Reply} → IsUnlock headers p who one → IsUnlock headers p who other → one ≡ other
 same_unlock {headers} {p} (is_unlock a h) (is_unlock b k) = ap (λ (x : Option (List ℕ)). unlock x p) (decoded_one SaysLockToken headers (one_lock_token headers) a b h k)
 
 pub one_unlock_plan : OneUnlockPlan
@@ -188,7 +188,7 @@ one_lock_headers headers p a b h k =
     let timeout = decoded_one IsTimeout (get_all headers (codes "timeout")) (one_timeout (get_all headers (codes "timeout"))) a.timeout b.timeout h.timeout k.timeout in
     λ i. record { conditions = conditions i; depth = depth i; timeout = timeout i }
 
-same_lock_plan : {headers : Headers} {p : PathText} {body : Body} {who : Client} {one other : MethodPlan Response} → IsLock headers p body who one → IsLock headers p body who other → one ≡ other
+same_lock_plan : {headers : Headers} {p : PathText} {body : Body} {who : Caller} {one other : MethodPlan Reply} → IsLock headers p body who one → IsLock headers p body who other → one ≡ other
 same_lock_plan {headers} {p} {body} {who} (is_lock a h) (is_lock b k) = ap (λ (x : LockHeaders). lock x p body who) (one_lock_headers headers p a b h k)
 
 pub one_lock_plan : OneLockPlan
@@ -255,7 +255,7 @@ one_copy_headers headers p a b h k =
     let destination = names_same p.prefix (get_all headers (codes "destination")) h.destination k.destination in
     λ i. record { conditions = conditions i; depth = depth i; overwrite = overwrite i; destination = destination i }
 
-same_copy : {m : DavMethod} {headers : Headers} {p : PathText} {who : Client} {one other : MethodPlan Response} → IsCopyMove m headers p who one → IsCopyMove m headers p who other → one ≡ other
+same_copy : {m : DavMethod} {headers : Headers} {p : PathText} {who : Caller} {one other : MethodPlan Reply} → IsCopyMove m headers p who one → IsCopyMove m headers p who other → one ≡ other
 same_copy {m} {headers} {p} {who} (is_copy_move a h) (is_copy_move b k) = ap (λ (x : CopyHeaders). copy_or_move m x p who) (one_copy_headers headers p a b h k)
 
 pub one_copymove_plan : OneCopyMovePlan
@@ -269,13 +269,13 @@ one_find_headers headers a b h k =
     let test : a.is_test ≡ b.is_test = h.is_test ∙ sym k.is_test in
     λ i. record { depth = depth i; is_test = test i }
 
-same_propfind : {headers : Headers} {p : PathText} {content : Body} {who : Client} {one other : MethodPlan Response} → IsPropfind headers p content who one → IsPropfind headers p content who other → one ≡ other
+same_propfind : {headers : Headers} {p : PathText} {content : Body} {who : Caller} {one other : MethodPlan Reply} → IsPropfind headers p content who one → IsPropfind headers p content who other → one ≡ other
 same_propfind {headers} {p} {content} {who} (is_propfind a h) (is_propfind b k) = ap (λ (x : FindHeaders). propfind x headers p content who) (one_find_headers headers a b h k)
 
 pub one_propfind_plan : OnePropfindPlan
 one_propfind_plan headers p content who one other h k = same_propfind h k
 
-same_proppatch : {headers : Headers} {p : PathText} {content : Body} {who : Client} {one other : MethodPlan Response} → IsProppatch headers p content who one → IsProppatch headers p content who other → one ≡ other
+same_proppatch : {headers : Headers} {p : PathText} {content : Body} {who : Caller} {one other : MethodPlan Reply} → IsProppatch headers p content who one → IsProppatch headers p content who other → one ≡ other
 same_proppatch {headers} {p} {content} {who} (is_proppatch a h) (is_proppatch b k) = ap (λ (x : Conditions). proppatch x p content who) (one_conditions headers p.prefix (names p) a b h k)
 
 pub one_proppatch_plan : OneProppatchPlan

@@ -12,15 +12,15 @@ use Rattle.dav_core.specs.Asking.{StoreState, Asks, Metadata}
 use Rattle.dav_core.specs.Method.{method_name}
 use Rattle.dav_core.specs.Path.{PathText, names}
 use Rattle.dav_engine.specs.Alongside.{SameResult, SameMetadata, side_asks, side_look, side_ok}
-use Rattle.dav_engine.specs.AlongsidePlans.{OptionsGoesAlong}
+use Rattle.dav_engine.specs.IsolatedPlans.{OptionsIsIsolated}
 use Rattle.dav_engine.specs.AnswerParts.{answers_of}
 use Rattle.dav_engine.specs.Follows.{as_is, Follows}
 use Rattle.dav_engine.specs.Method.{has_locks}
 use Rattle.dav_engine.specs.Options.{methods_for, offered, options_reply, options}
 use Rattle.dav_engine.specs.Plan.{Locks}
-use Rattle.dav_engine.specs.Response.{Response}
+use Rattle.dav_engine.specs.Reply.{Reply}
 use Rattle.dav_engine.specs.WorldLaws.{reads_done, reads_ask, reads_look, IsProperPlan, proper_done, proper_ask, proper_look, OptionsOnlyReads}
-use Rattle.dav_engine.proofs.AlongsidePlans.{in_reach}
+use Rattle.dav_engine.proofs.IsolatedPlans.{in_reach}
 use Rattle.dav_engine.proofs.Following.{follows_done, follows_ask, follows_up_to}
 use Rattle.dav_engine.proofs.GuardLemmas.{follows_look}
 
@@ -63,7 +63,7 @@ module _ (allowed : ℕ) (p : PathText) (answer : Result DavMetaData FsError) {o
   pub options_short : {ls : Locks} → Follows as_is (options allowed p) old ls (Err dav.Memory) mid ls
   options_short = follows_ask asks follows_up_to
 
-  pub options_told : (ls : Locks) (locks : Bool) (found : Option DavMetaData) (reply : Response) → has_locks ls ≡ locks → found ≡ result_ok answer
+  pub options_told : (ls : Locks) (locks : Bool) (found : Option DavMetaData) (reply : Reply) → has_locks ls ≡ locks → found ≡ result_ok answer
       → reply ≡ options_reply (offered allowed locks (methods_for p found)) → Follows as_is (options allowed p) old ls (Ok reply) mid ls
   options_told ls locks found reply are told is =
       let same : reply ≡ options_reply (offered allowed (has_locks ls) (methods_for p (result_ok answer))) =
@@ -79,7 +79,7 @@ same_reply allowed locks p (Err e) (Err f) same = refl
 same_reply allowed locks p (Ok m) (Err f) same = absurd same
 same_reply allowed locks p (Err e) (Ok n) same = absurd same
 
-pub options_goes_along : OptionsGoesAlong
+pub options_goes_along : OptionsIsIsolated
 options_goes_along h allowed p within =
     let (rest, at) = in_reach h (names p) within in
     side_asks {c = Metadata (names p)} (rest, at) (λ a b told. side_look (λ ls ks g g'. side_ok (ap answers_of (same_reply allowed true p a b told))))

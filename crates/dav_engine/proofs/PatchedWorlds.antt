@@ -17,14 +17,14 @@ use Rattle.dav_core.specs.Property.{Property, Patch, patched_property, without_x
 use Rattle.dav_core.specs.World.{World, node_at, adjust}
 use Rattle.dav_core.proofs.Theorems.{errors_leave_worlds, found}
 use Rattle.dav_engine.specs.declared.request.Body.{Body}
-use Rattle.dav_engine.specs.Client.{Client, requester}
+use Rattle.dav_engine.specs.Caller.{Caller, requester}
 use Rattle.dav_engine.specs.Conditions.{Conditions, guarded}
 use Rattle.dav_engine.specs.Folder.{closed, location_found}
 use Rattle.dav_engine.specs.Method.{MethodPlan, then as followed_by, ◌>>=◌, require_free, required, gives, refused_as}
 use Rattle.dav_engine.specs.Plan.{Done, Ask, Look, Locks, Ran, ran_done, ran_ask, ran_look}
 use Rattle.dav_engine.specs.Proppatch.{Change, changes_in, as_patch, Told, element_by_name, property_by_name, answered_at_once, to_store, has_refused, failed_status, all_failed, all_done, change_all, proppatch_reply, patch_properties, proppatch_found, proppatch, is_proppatch}
 use Rattle.dav_engine.specs.ProppatchLaws.{RefusedProppatchLeavesAll, AreDone, AreMade, IsPatched, ProppatchMakesAllOrNone}
-use Rattle.dav_engine.specs.Response.{Header, Response}
+use Rattle.dav_engine.specs.Reply.{Header, Reply}
 use Rattle.dav_engine.specs.WorldLaws.{OnlyReads}
 use Rattle.dav_engine.proofs.CallWorlds.{Did, stays, means, did, did_leave}
 use Rattle.dav_engine.proofs.PutWorld.{IsLook, look_reads, only_guarded, only_free}
@@ -70,13 +70,13 @@ errs_changed p location false answers (c ∷ cs) = errs_last {c = PatchProps (na
 errs_patch : (p : PathText) (location : List Header) (changes : List Change) → ErrsFirst (patch_properties p location changes)
 errs_patch p location changes = errs_ask {c = HaveProps (names p)} tt (λ answer. errs_changed p location _ _ _)
 
-errs_found : (c : Conditions) (p : PathText) (location : List Header) (content : Body) (who : Client) (found : DavMetaData) → ErrsFirst (proppatch_found c p location content who found)
+errs_found : (c : Conditions) (p : PathText) (location : List Header) (content : Body) (who : Caller) (found : DavMetaData) → ErrsFirst (proppatch_found c p location content who found)
 errs_found c p location content who found =
     errs_after _ (only_guarded dav.Status method.PropPatch c (Some found)) (λ tokens.
     errs_after _ (only_free false (requester who tokens) (names p) (dav.Status 423)) (λ free.
     errs_then (required (changes_in content) dav.XmlParseError) _ (λ changes. errs_patch p location changes)))
 
-errs_proppatch : (c : Conditions) (p : PathText) (content : Body) (who : Client) → ErrsFirst (proppatch c p content who)
+errs_proppatch : (c : Conditions) (p : PathText) (content : Body) (who : Caller) → ErrsFirst (proppatch c p content who)
 errs_proppatch c p content who = errs_ask {c = Metadata (names p)} tt (λ answer.
     errs_then (refused_as dav.FsError answer) _ (λ found. errs_found c (closed found.dir p) (location_found (Some found) p) content who found))
 
@@ -124,10 +124,10 @@ patched_by_store w v p patches done (means r h gave is) =
 
 module _ (q : PathText) (location : List Header) where
   -- what was told, and what was done
-  abbrev Told_of : Bool → List Change → World → World → Response → Type 0
+  abbrev Told_of : Bool → List Change → World → World → Reply → Type 0
   Told_of refused stored w v r = (told : List Told) × (r ≡ proppatch_reply location q told) × AreMade refused (names q) stored told w v
 
-  made_by : (refused : Bool) (answers : List (ℕ × Change)) (stored : List Change) {old new : StoreState} {ls ms : Locks} {r : Response} → has_refused answers ≡ refused
+  made_by : (refused : Bool) (answers : List (ℕ × Change)) (stored : List Change) {old new : StoreState} {ls ms : Locks} {r : Reply} → has_refused answers ≡ refused
       → Ran Asks (change_all q refused answers stored >>= (λ told. gives (proppatch_reply location q told))) old ls (Ok r) new ms → Told_of refused stored old.world new.world r × (ms ≡ ls)
   made_by true answers stored is ran_done = ((all_failed answers stored, refl, (none_done answers stored is, refl)), refl)
   made_by false answers [] is ran_done = ((all_done answers [], refl, (answers_done answers [] is (All-nil (λ (t : Told). t.0 ≡ 200)), refl)), refl)
@@ -138,7 +138,7 @@ module _ (q : PathText) (location : List Header) where
       answers_done answers done is (subst (λ (ds : List (ℕ × Property)). AreDone (map (λ (a : ℕ × Property). (a.0, property_by_name a.1)) ds)) (sym said) (patches_done (map as_patch (c ∷ cs)))) in
       ((all_done answers done, refl, (told, left)), refl)
 
-module _ (p : PathText) (content : Body) (new : StoreState) (ms : Locks) (r : Response) where
+module _ (p : PathText) (content : Body) (new : StoreState) (ms : Locks) (r : Reply) where
   abbrev Done_from : StoreState → Locks → Type 0
   Done_from old ls = IsPatched p content r old.world new.world × (ms ≡ ls)
 
@@ -163,7 +163,7 @@ module _ (p : PathText) (content : Body) (new : StoreState) (ms : Locks) (r : Re
   free_made dir location (Ok u) ran = asked_made dir location (changes_in content) refl ran
   free_made dir location (Err e) ran = absurd (let clash = ran_outcome ran in cc)
 
-  tokens_made : (who : Client) (dir : Bool) (location : List Header) (o : Result (List (List ℕ)) DavError) {old : StoreState} {ls : Locks}
+  tokens_made : (who : Caller) (dir : Bool) (location : List Header) (o : Result (List (List ℕ)) DavError) {old : StoreState} {ls : Locks}
       → Ran Asks (followed_by o (λ tokens. require_free false (requester who tokens) (names (closed dir p)) (dav.Status 423)
       >>= (λ u. Done (required (changes_in content) dav.XmlParseError) >>= (λ changes. patch_properties (closed dir p) location changes)))) old ls (Ok r) new ms → Done_from old ls
   tokens_made who dir location (Err e) ran = absurd (let clash = ran_outcome ran in cc)
@@ -172,7 +172,7 @@ module _ (p : PathText) (content : Body) (new : StoreState) (ms : Locks) (r : Re
       let (world, locks) = reading_leaves (only_reads look_reads (only_free false (requester who tokens) (names (closed dir p)) (dav.Status 423))) s.first in
       carried_back old s.mid ls s.ks world locks (free_made dir location s.outcome s.rest)
 
-  found_made : (c : Conditions) (who : Client) (found : Result DavMetaData FsError) {old : StoreState} {ls : Locks}
+  found_made : (c : Conditions) (who : Caller) (found : Result DavMetaData FsError) {old : StoreState} {ls : Locks}
       → Ran Asks (followed_by (refused_as dav.FsError found) (λ m. proppatch_found c (closed m.dir p) (location_found (Some m) p) content who m)) old ls (Ok r) new ms → Done_from old ls
   found_made c who (Err e) ran = absurd (let clash = ran_outcome ran in cc)
   found_made c who (Ok m) {old} {ls} ran =
@@ -180,7 +180,7 @@ module _ (p : PathText) (content : Body) (new : StoreState) (ms : Locks) (r : Re
       let (world, locks) = reading_leaves (only_reads look_reads (only_guarded dav.Status method.PropPatch c (Some m))) s.first in
       carried_back old s.mid ls s.ks world locks (tokens_made who m.dir (location_found (Some m) p) s.outcome s.rest)
 
-  all_or_none : (c : Conditions) (who : Client) {old : StoreState} {ls : Locks} → Ran Asks (proppatch c p content who) old ls (Ok r) new ms → Done_from old ls
+  all_or_none : (c : Conditions) (who : Caller) {old : StoreState} {ls : Locks} → Ran Asks (proppatch c p content who) old ls (Ok r) new ms → Done_from old ls
   all_or_none c who {old} {ls} (ran_ask {mid = mid} {answer = answer} one ran) =
       carried_back old mid ls ls (did_leave (Metadata (names p)) old.world mid.world answer tt (did one)) refl (found_made c who answer ran)
 

@@ -1,5 +1,5 @@
 -- The laws of plans, as they are stated for methods.
-use Rattle.dav_engine.specs.PlanLaws.{PlansAreDetermined, PlansEnd, WantIsLikeRefusals, CutsAreLikeRefusals}
+use Rattle.dav_engine.specs.PlanLaws.{PlansAreDetermined, PlansEnd, OutOfMemoryIsARefusal, CutsAreLikeRefusals}
 use Rattle.dav_engine.proofs.PlanLemmas.{ran_same, comes, ran_again, cut_again}
 
 pub plans_are_determined : PlansAreDetermined
@@ -8,7 +8,7 @@ plans_are_determined plan old s t ls ks ms a b one u other u' = ran_same one u o
 pub plans_end : PlansEnd
 plans_end plan old ls = let end = comes plan old ls in (end.outcome, end.new, end.locks, end.ran, end.flag)
 
-pub want_is_like_refusals : WantIsLikeRefusals
+pub want_is_like_refusals : OutOfMemoryIsARefusal
 want_is_like_refusals plan old new ls ms a ran = let again = ran_again ran in (again.refusals, again.ran)
 
 pub cuts_are_like_refusals : CutsAreLikeRefusals

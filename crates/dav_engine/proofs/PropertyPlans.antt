@@ -11,7 +11,7 @@ use Rattle.dav_core.specs.Locks.{Lock}
 use Rattle.dav_core.specs.Path.{Path, PathText, names}
 use Rattle.dav_core.specs.Property.{PropertyKey, Patch}
 use Rattle.dav_engine.specs.declared.request.Body.{Body}
-use Rattle.dav_engine.specs.Client.{Client, requester}
+use Rattle.dav_engine.specs.Caller.{Caller, requester}
 use Rattle.dav_engine.specs.Conditions.{Conditions, guarded}
 use Rattle.dav_engine.specs.Ending.{KeepsLock, keeps_done, keeps_ask, keeps_look, ProppatchKeepsLocks}
 use Rattle.dav_engine.specs.Folder.{closed, child_of, location_found, room_at}
@@ -19,10 +19,10 @@ use Rattle.dav_engine.specs.Headers.{Headers}
 use Rattle.dav_engine.specs.ListChanges.{ProppatchChangesList}
 use Rattle.dav_engine.specs.Method.{require_free, required, refused_as}
 use Rattle.dav_engine.specs.Plan.{Plan}
-use Rattle.dav_engine.specs.Properties.{Telling, Requested, AllProperties, NamesAlone, Outcomes, Others, Writer, writer, Source, Here, Nowhere, AvailableQuota, UsedQuota, InStore, source, QuotaKnown, quota_once, has_properties, kept_if, kept_property, found_in, found_property, found_properties, all_kept_if, all_kept, properties_of}
-use Rattle.dav_engine.specs.Propfind.{Below, query_in, tell_member, tell_found, tell_members, tell_listed, tell_below, tell_itself, tells_itself, tells_members, is_infinite, is_served_depth, FindHeaders, propfind_found, propfind_if, propfind, is_propfind}
+use Rattle.dav_engine.specs.Properties.{Telling, Requested, AllProperties, NamesAlone, Outcomes, Others, Writer, writer, Source, Here, Nowhere, AvailableQuota, UsedQuota, InStore, source, QuotaKnown, cached_quota, has_properties, kept_if, kept_property, found_in, found_property, found_properties, stored_properties, all_kept, properties_of}
+use Rattle.dav_engine.specs.Propfind.{Below, query_in, tell_member, tell_if_found, tell_members, tell_listed, tell_below, tell_itself, tells_itself, tells_members, is_infinite, is_served_depth, FindHeaders, propfind_found, propfind_if, propfind, is_propfind}
 use Rattle.dav_engine.specs.Proppatch.{Change, changes_in, answered_at_once, to_store, has_refused, store_changes, change_all, proppatch_reply, patch_properties, proppatch_found, proppatch, is_proppatch}
-use Rattle.dav_engine.specs.Response.{Header}
+use Rattle.dav_engine.specs.Reply.{Header}
 use Rattle.dav_engine.specs.WorldLaws.{OnlyReads, PropfindOnlyReads, PropfindIsProper, ProppatchIsProper}
 use Rattle.dav_engine.proofs.ListChangeLemmas.{changes_only}
 use Rattle.dav_engine.proofs.PutWorld.{IsLook, looks, only_guarded, only_free}
@@ -58,7 +58,7 @@ question_proper c of_property = tt
 question_proper c of_properties = tt
 question_proper c of_quota = tt
 
-only_quota : (known : QuotaKnown) → Only IsQuestion (quota_once known)
+only_quota : (known : QuotaKnown) → Only IsQuestion (cached_quota known)
 only_quota (Some quota) = only_done
 only_quota None = only_ask of_quota (λ answer. only_done)
 
@@ -73,7 +73,7 @@ only_kept NamesAlone p e = only_done
 only_kept Outcomes p e = only_done
 only_kept Others p e = only_done
 
-only_all_if : (p : PathText) (has : Bool) → Only IsQuestion (all_kept_if p has)
+only_all_if : (p : PathText) (has : Bool) → Only IsQuestion (stored_properties p has)
 only_all_if p false = only_done
 only_all_if p true = only_ask of_properties (λ answer. only_done)
 
@@ -84,8 +84,8 @@ module _ (w : Writer) where
   only_found_in : (e : ElementTree) (p : PathText) (m : DavMetaData) (known : QuotaKnown) (s : Source) → Only IsQuestion (found_in w e p m known s)
   only_found_in e p m known (Here told) = only_done
   only_found_in e p m known Nowhere = only_done
-  only_found_in e p m known AvailableQuota = only_bind (quota_once known) _ (only_quota known) (λ quota. only_done)
-  only_found_in e p m known UsedQuota = only_bind (quota_once known) _ (only_quota known) (λ quota. only_done)
+  only_found_in e p m known AvailableQuota = only_bind (cached_quota known) _ (only_quota known) (λ quota. only_done)
+  only_found_in e p m known UsedQuota = only_bind (cached_quota known) _ (only_quota known) (λ quota. only_done)
   only_found_in e p m known InStore = only_bind (kept_property w.telling p e) _ (only_kept w.telling p e) (λ kept. only_done)
 
   only_found : (p : PathText) (m : DavMetaData) (known : QuotaKnown) (e : ElementTree) → Only IsQuestion (found_property w p m known e)
@@ -108,14 +108,14 @@ module _ (w : Writer) where
         only_bind (properties_of w p m known) _ (only_properties p m known) (λ one.
         only_bind (below p m.dir one.1) _ (more p m.dir one.1) (λ rest. only_done))
 
-    only_seen : (p : PathText) (name : List ℕ) (known : QuotaKnown) (seen : Result DavMetaData FsError) → Only IsQuestion (tell_found below w p name known seen)
+    only_seen : (p : PathText) (name : List ℕ) (known : QuotaKnown) (seen : Result DavMetaData FsError) → Only IsQuestion (tell_if_found below w p name known seen)
     only_seen p name known (Err e) = only_done
     only_seen p name known (Ok m) = only_member (child_of p name m.dir) m known
 
     only_members : (p : PathText) (known : QuotaKnown) (entries : List (List ℕ × Bool)) → Only IsQuestion (tell_members below w p known entries)
     only_members p known [] = only_done
     only_members p known (entry ∷ entries) = only_ask of_entry (λ seen.
-        only_bind (tell_found below w p entry.0 known seen) _ (only_seen p entry.0 known seen) (λ one.
+        only_bind (tell_if_found below w p entry.0 known seen) _ (only_seen p entry.0 known seen) (λ one.
         only_bind (tell_members below w p one.1 entries) _ (only_members p one.1 entries) (λ rest. only_done)))
 
     only_listed : (p : PathText) (known : QuotaKnown) (listed : Result (List (List ℕ × Bool)) FsError) → Only IsQuestion (tell_listed below w p known listed)
@@ -132,7 +132,7 @@ module _ (w : Writer) where
   only_itself false p m = only_done
   only_itself true p m = only_bind (properties_of w p m None) _ (only_properties p m None) (λ one. only_done)
 
-module _ (h : FindHeaders) (headers : Headers) (content : Body) (who : Client) where
+module _ (h : FindHeaders) (headers : Headers) (content : Body) (who : Caller) where
   only_find_found : (p : PathText) (location : List Header) (m : DavMetaData) → Only IsQuestion (propfind_found h headers p location content who m)
   only_find_found p location m =
       only_then (required (query_in content) dav.XmlParseError) _ (λ query.
@@ -188,14 +188,14 @@ only_patch p location changes =
     only_bind (change_all p (has_refused (answered_at_once has changes)) (answered_at_once has changes) (to_store has changes)) _
     (only_change_all p (has_refused (answered_at_once has changes)) (answered_at_once has changes) (to_store has changes)) (λ told. only_done {a = Ok (proppatch_reply location p told)}))
 
-only_patch_found : (c : Conditions) (p : PathText) (location : List Header) (content : Body) (who : Client) (found : DavMetaData) → Only IsPatching (proppatch_found c p location content who found)
+only_patch_found : (c : Conditions) (p : PathText) (location : List Header) (content : Body) (who : Caller) (found : DavMetaData) → Only IsPatching (proppatch_found c p location content who found)
 only_patch_found c p location content who found =
     only_bind (guarded dav.Status method.PropPatch c (Some found)) _ (only_patching (only_guarded dav.Status method.PropPatch c (Some found))) (λ tokens.
     only_bind (require_free false (requester who tokens) (names p) (dav.Status 423)) _ (only_patching (only_free false (requester who tokens) (names p) (dav.Status 423))) (λ free.
     only_then (required (changes_in content) dav.XmlParseError) _ (λ changes. only_patch p location changes)))
 
 -- a PROPPATCH makes such calls alone
-pub only_proppatch : (c : Conditions) (p : PathText) (content : Body) (who : Client) → Only IsPatching (proppatch c p content who)
+pub only_proppatch : (c : Conditions) (p : PathText) (content : Body) (who : Caller) → Only IsPatching (proppatch c p content who)
 only_proppatch c p content who = only_ask asks_path (λ answer.
     only_then (refused_as dav.FsError answer) _ (λ found. only_patch_found c (closed found.dir p) (location_found (Some found) p) content who found))
 

@@ -14,7 +14,7 @@ use Rattle.dav_core.specs.Locks.{requester_of}
 use Rattle.dav_core.specs.Path.{PathText, names}
 use Rattle.dav_core.specs.Property.{Property, Patch}
 use Rattle.dav_engine.specs.declared.request.Body.{Body}
-use Rattle.dav_engine.specs.Client.{Client, requester}
+use Rattle.dav_engine.specs.Caller.{Caller, requester}
 use Rattle.dav_engine.specs.ConditionView.{texts_of, tokens_or_status}
 use Rattle.dav_engine.specs.Conditions.{Conditions, if_match_get_tokens}
 use Rattle.dav_engine.specs.Folder.{closed, location_found}
@@ -22,7 +22,7 @@ use Rattle.dav_engine.specs.Follows.{as_is, Follows, viewed, or_memory}
 use Rattle.dav_engine.specs.Method.{MethodPlan, ◌>>=◌, require_free, is_open, refused_as, gives, required}
 use Rattle.dav_engine.specs.Plan.{Locks}
 use Rattle.dav_engine.specs.Proppatch.{Change, Told, changes_in, answered_at_once, to_store, has_refused, all_failed, all_done, as_patch, store_changes, change_all, change_properties, patch_properties, patch_body, proppatch_reply, proppatch_found, proppatch_at}
-use Rattle.dav_engine.specs.Response.{Response, Header}
+use Rattle.dav_engine.specs.Reply.{Reply, Header}
 use Rattle.dav_engine.proofs.Following.{follows_done, follows_ask, follows_then, follows_err, follows_up_to}
 use Rattle.dav_engine.proofs.GuardLemmas.{follows_ok, follows_fails, guard_passed, guard_failed, guard_short, open_to, free_goes, locked_out}
 
@@ -113,7 +113,7 @@ made_untold {view = view} p answers stored done {old} {new} {ls} passed one =
 -- ---- the body
 
 -- what follows the changes
-abbrev replies : PathText → List Header → List Told → MethodPlan Response
+abbrev replies : PathText → List Header → List Told → MethodPlan Reply
 replies p location told = gives (proppatch_reply location p told)
 
 -- a body that tells no changes
@@ -122,7 +122,7 @@ pub no_changes : (p : PathText) (location : List Header) (content : Body) {s : S
 no_changes p location content is = follows_fails _ dav.XmlParseError (patch_properties p location) (ap (λ (o : Option (List Change)). required o dav.XmlParseError) (sym is)) refl
 
 -- a body that tells changes
-pub these_changes : (p : PathText) (location : List Header) (content : Body) (cs : List Change) {old new : StoreState} {ls ms : Locks} {r : Result Response DavError}
+pub these_changes : (p : PathText) (location : List Header) (content : Body) (cs : List Change) {old new : StoreState} {ls ms : Locks} {r : Result Reply DavError}
     → Some cs ≡ changes_in content → Follows as_is (patch_properties p location cs) old ls r new ms → Follows as_is (patch_body p location content) old ls r new ms
 these_changes p location content cs is rest = follows_ok _ cs (patch_properties p location) (ap (λ (o : Option (List Change)). required o dav.XmlParseError) (sym is)) rest
 
@@ -134,37 +134,37 @@ pub changes_short : {X : Type 0} {view : X → List Told} (p : PathText) (locati
     → Follows view (change_properties p cs) old ls (Ok told) new ls → Follows as_is (patch_properties p location cs) old ls (Err dav.Memory) new ls
 changes_short p location cs told one = follows_then (replies p location) one follows_up_to
 
-pub changes_told : {X : Type 0} {view : X → List Told} (p : PathText) (location : List Header) (cs : List Change) (told : X) (reply : Response) {old new : StoreState} {ls : Locks}
+pub changes_told : {X : Type 0} {view : X → List Told} (p : PathText) (location : List Header) (cs : List Change) (told : X) (reply : Reply) {old new : StoreState} {ls : Locks}
     → Follows view (change_properties p cs) old ls (Ok told) new ls → reply ≡ proppatch_reply location p (view told) → Follows as_is (patch_properties p location cs) old ls (Ok reply) new ls
 changes_told p location cs told reply one is = follows_then (replies p location) one (follows_done (ap Ok is))
 
 -- ---- conditions and locks
 
 -- what follows the conditions
-abbrev after : PathText → List Header → Body → Client → List (List ℕ) → MethodPlan Response
+abbrev after : PathText → List Header → Body → Caller → List (List ℕ) → MethodPlan Reply
 after p location content who tokens = do
   _ ← require_free false (requester who tokens) (names p) (dav.Status 423)
   patch_body p location content
 
 -- the path that was closed
-pub at_closed : (c : Conditions) (p q : PathText) (content : Body) (who : Client) (found : DavMetaData) {old new : StoreState} {ls ms : Locks} {r : Result Response DavError}
+pub at_closed : (c : Conditions) (p q : PathText) (content : Body) (who : Caller) (found : DavMetaData) {old new : StoreState} {ls ms : Locks} {r : Result Reply DavError}
     → q ≡ closed found.dir p → Follows as_is (proppatch_found c q (location_found (Some found) p) content who found) old ls r new ms
     → Follows as_is (proppatch_at c p content who found) old ls r new ms
 at_closed c p q content who found {old} {new} {ls} {ms} {r} is rest =
     subst (λ (o : PathText). Follows as_is (proppatch_found c o (location_found (Some found) p) content who found) old ls r new ms) is rest
 
-pub patch_short : {E : Type 0} (c : Conditions) (p : PathText) (location : List Header) (content : Body) (who : Client) (found : DavMetaData) (before : Option DavMetaData) (r : Result (Result (Vec (String Global)) ℕ) E) (e : E) {old new : StoreState} {ls : Locks}
+pub patch_short : {E : Type 0} (c : Conditions) (p : PathText) (location : List Header) (content : Body) (who : Caller) (found : DavMetaData) (before : Option DavMetaData) (r : Result (Result (Vec (String Global)) ℕ) E) (e : E) {old new : StoreState} {ls : Locks}
     → before ≡ Some found → r ≡ Err e → Follows tokens_or_status (if_match_get_tokens PropPatch c before) old ls (or_memory r) new ls
     → Follows as_is (proppatch_found c p location content who found) old ls (Err dav.Memory) new ls
 patch_short c p location content who found before r e same was one = guard_short dav.Status PropPatch c before (Some found) (after p location content who) r e same was one
 
-pub patch_failed : {E : Type 0} (c : Conditions) (p : PathText) (location : List Header) (content : Body) (who : Client) (found : DavMetaData) (before : Option DavMetaData) (r : Result (Result (Vec (String Global)) ℕ) E) (verdict : Result (Vec (String Global)) ℕ) (status : ℕ) {old new : StoreState} {ls : Locks}
+pub patch_failed : {E : Type 0} (c : Conditions) (p : PathText) (location : List Header) (content : Body) (who : Caller) (found : DavMetaData) (before : Option DavMetaData) (r : Result (Result (Vec (String Global)) ℕ) E) (verdict : Result (Vec (String Global)) ℕ) (status : ℕ) {old new : StoreState} {ls : Locks}
     → before ≡ Some found → r ≡ Ok verdict → verdict ≡ Err status → Follows tokens_or_status (if_match_get_tokens PropPatch c before) old ls (or_memory r) new ls
     → Follows as_is (proppatch_found c p location content who found) old ls (Err (dav.Status status)) new ls
 patch_failed c p location content who found before r verdict status same was is one = guard_failed dav.Status PropPatch c before (Some found) (after p location content who) r verdict status same was is one
 
-pub patch_free : {E : Type 0} (c : Conditions) (p : PathText) (location : List Header) (content : Body) (who : Client) (found : DavMetaData) (before : Option DavMetaData) (r : Result (Result (Vec (String Global)) ℕ) E) (verdict : Result (Vec (String Global)) ℕ) (tokens : Vec (String Global))
-    (lent : List (String Global)) (b : Bool) {old mid new : StoreState} {ls : Locks} {end : Result Response DavError}
+pub patch_free : {E : Type 0} (c : Conditions) (p : PathText) (location : List Header) (content : Body) (who : Caller) (found : DavMetaData) (before : Option DavMetaData) (r : Result (Result (Vec (String Global)) ℕ) E) (verdict : Result (Vec (String Global)) ℕ) (tokens : Vec (String Global))
+    (lent : List (String Global)) (b : Bool) {old mid new : StoreState} {ls : Locks} {end : Result Reply DavError}
     → before ≡ Some found → r ≡ Ok verdict → verdict ≡ Ok tokens → Follows tokens_or_status (if_match_get_tokens PropPatch c before) old ls (or_memory r) mid ls
     → lent ≡ tokens.items → b ≡ is_open false (requester_of (map string_bytes lent) false who.principal) (names p) ls → b ≡ true
     → Follows as_is (patch_body p location content) mid ls end new ls
@@ -173,7 +173,7 @@ patch_free c p location content who found before r verdict tokens lent b {ls = l
     guard_passed dav.Status PropPatch c before (Some found) (after p location content who) r verdict tokens same was is one
     (free_goes false (requester who (texts_of tokens)) (names p) (dav.Status 423) (λ _. patch_body p location content) b (open_to tokens lent who.principal false (names p) ls b tells looked) freed rest)
 
-pub patch_locked : {E : Type 0} (c : Conditions) (p : PathText) (location : List Header) (content : Body) (who : Client) (found : DavMetaData) (before : Option DavMetaData) (r : Result (Result (Vec (String Global)) ℕ) E) (verdict : Result (Vec (String Global)) ℕ) (tokens : Vec (String Global))
+pub patch_locked : {E : Type 0} (c : Conditions) (p : PathText) (location : List Header) (content : Body) (who : Caller) (found : DavMetaData) (before : Option DavMetaData) (r : Result (Result (Vec (String Global)) ℕ) E) (verdict : Result (Vec (String Global)) ℕ) (tokens : Vec (String Global))
     (lent : List (String Global)) (b : Bool) {old new : StoreState} {ls : Locks}
     → before ≡ Some found → r ≡ Ok verdict → verdict ≡ Ok tokens → Follows tokens_or_status (if_match_get_tokens PropPatch c before) old ls (or_memory r) new ls
     → lent ≡ tokens.items → b ≡ is_open false (requester_of (map string_bytes lent) false who.principal) (names p) ls → b ≡ false

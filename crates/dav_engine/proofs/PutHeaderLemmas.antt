@@ -6,7 +6,7 @@ use Rattle.dav_headers.specs.ContentRange.{IsContentRange}
 use Rattle.dav_headers.specs.Length.{IsContentLength}
 use Rattle.dav_headers.specs.Value.{IsNumber}
 use Rattle.dav_headers.specs.declared.range.ContentRange.{ContentRange}
-use Rattle.dav_engine.specs.declared.put_headers.Bounds.{Bounds}
+use Rattle.dav_engine.specs.declared.methods.put.headers.Bounds.{Bounds}
 use Rattle.dav_engine.specs.Headers.{Decodes}
 use Rattle.dav_engine.specs.Put.{IsExpectedLength, TellsBounds, bounds_of}
 

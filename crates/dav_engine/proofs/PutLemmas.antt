@@ -7,14 +7,14 @@ use Rattle.dav_core.specs.Asking.{StoreState, Asks, Write, FileMetadata}
 use Rattle.dav_core.specs.Handle.{Handle, Opening}
 use Rattle.dav_core.specs.Path.{Path}
 use Rattle.dav_core.specs.declared.method.DavMethod.{DavMethod}
-use Rattle.dav_engine.specs.declared.put_headers.Writing.{Writing}
-use Rattle.dav_engine.specs.declared.reply.Reply.{Reply}
-use Rattle.dav_engine.specs.Client.{Client}
+use Rattle.dav_engine.specs.declared.methods.put.headers.Writing.{Writing}
+use Rattle.dav_engine.specs.declared.reply.Reply as coded
+use Rattle.dav_engine.specs.Caller.{Caller}
 use Rattle.dav_engine.specs.Plan.{Locks}
 use Rattle.dav_engine.specs.Method.{refused_as, ask_for, gives}
 use Rattle.dav_engine.specs.Follows.{as_is, Follows, viewed}
 use Rattle.dav_engine.specs.Put.{PutHeaders, written, stored, store, put_opening, put_allowed, put, put_body}
-use Rattle.dav_engine.specs.Response.{Response}
+use Rattle.dav_engine.specs.Reply.{Reply}
 use Rattle.dav_core.specs.declared.fs.DavMetaData.{DavMetaData}
 use Rattle.std.specs.Result.{result_ok}
 use Rattle.dav_engine.proofs.Following.{follows_done, follows_ask, follows_then, follows_err, follows_up_to}
@@ -38,22 +38,22 @@ pub told_same : {h k : Handle} {old new : StoreState} {answer : Result DavMetaDa
 told_same {old = old} {new} {answer} same one = subst (λ f. Asks (FileMetadata f) old answer new) same one
 
 -- the reply, by what the store reported
-pub stored_as : {r : Response} (found : Bool) (file : Option DavMetaData) (after : Result DavMetaData FsError)
+pub stored_as : {r : Reply} (found : Bool) (file : Option DavMetaData) (after : Result DavMetaData FsError)
     → r ≡ stored found file → file ≡ result_ok after → r ≡ stored found (result_ok after)
 stored_as found file after is two = is ∙ ap (stored found) two
 
 -- the checks ended in an error
-pub put_ends : (m : DavMethod) (h : PutHeaders) (p : Path) (who : Client) (bytes : List ℕ) (e : DavError) {old new : StoreState} {ls : Locks}
+pub put_ends : (m : DavMethod) (h : PutHeaders) (p : Path) (who : Caller) (bytes : List ℕ) (e : DavError) {old new : StoreState} {ls : Locks}
     → Follows (λ (x : Writing × Bool). x) (put_allowed m h p who bytes) old ls (Err e) new ls → Follows as_is (put m h p who bytes) old ls (Err e) new ls
 put_ends m h p who bytes e one = follows_err (λ (a : Writing × Bool). store (put_opening h a.0) a.0.from p bytes who.moment a.1) e one
 
 -- memory runs out before the file is opened
-pub put_wants : (m : DavMethod) (h : PutHeaders) (p : Path) (who : Client) (bytes : List ℕ) (x : Writing × Bool) {old new : StoreState} {ls : Locks}
+pub put_wants : (m : DavMethod) (h : PutHeaders) (p : Path) (who : Caller) (bytes : List ℕ) (x : Writing × Bool) {old new : StoreState} {ls : Locks}
     → Follows (λ (x : Writing × Bool). x) (put_allowed m h p who bytes) old ls (Ok x) new ls → Follows as_is (put m h p who bytes) old ls (Err dav.Memory) new ls
 put_wants m h p who bytes x one = follows_then (λ (a : Writing × Bool). store (put_opening h a.0) a.0.from p bytes who.moment a.1) one follows_up_to
 
 -- the bytes are stored
-pub put_stores : (m : DavMethod) (h : PutHeaders) (p : Path) (who : Client) (bytes : List ℕ) (x : Writing × Bool) (how : Opening) {old mid new : StoreState} {ls : Locks} {r : Result Reply DavError}
+pub put_stores : (m : DavMethod) (h : PutHeaders) (p : Path) (who : Caller) (bytes : List ℕ) (x : Writing × Bool) (how : Opening) {old mid new : StoreState} {ls : Locks} {r : Result coded.Reply DavError}
     → Follows (λ (x : Writing × Bool). x) (put_allowed m h p who bytes) old ls (Ok x) mid ls → how ≡ put_opening h x.0
     → Follows as_is (store how x.0.from p bytes who.moment x.1) mid ls r new ls → Follows as_is (put m h p who bytes) old ls r new ls
 put_stores m h p who bytes x how {mid = mid} {new} {ls} {r} one opened stores =
@@ -61,11 +61,11 @@ put_stores m h p who bytes x how {mid = mid} {new} {ls} {r} one opened stores =
     (subst (λ o. Follows as_is (store o x.0.from p bytes who.moment x.1) mid ls r new ls) opened stores)
 
 -- the bytes of a body are stored
-pub put_body_goes : (m : DavMethod) (h : PutHeaders) (p : Path) (who : Client) (body : Option (List ℕ)) (bytes : List ℕ) {old new : StoreState} {ls ms : Locks} {r : Result Reply DavError}
+pub put_body_goes : (m : DavMethod) (h : PutHeaders) (p : Path) (who : Caller) (body : Option (List ℕ)) (bytes : List ℕ) {old new : StoreState} {ls ms : Locks} {r : Result coded.Reply DavError}
     → Some bytes ≡ body → Follows as_is (put m h p who bytes) old ls r new ms → Follows as_is (put_body m h p who body) old ls r new ms
 put_body_goes m h p who body bytes {old} {new} {ls} {ms} {r} is goes = subst (λ b. Follows as_is (put_body m h p who b) old ls r new ms) is goes
 
 -- a body that isn't bytes is answered 415
-pub put_body_ends : (m : DavMethod) (h : PutHeaders) (p : Path) (who : Client) (body : Option (List ℕ)) {s : StoreState} {ls : Locks}
+pub put_body_ends : (m : DavMethod) (h : PutHeaders) (p : Path) (who : Caller) (body : Option (List ℕ)) {s : StoreState} {ls : Locks}
     → None ≡ body → Follows as_is (put_body m h p who body) s ls (Err (dav.Status 415)) s ls
 put_body_ends m h p who body {s} {ls} is = subst (λ b. Follows as_is (put_body m h p who b) s ls (Err (dav.Status 415)) s ls) is (follows_done refl)

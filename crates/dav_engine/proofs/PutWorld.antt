@@ -17,14 +17,14 @@ use Rattle.dav_core.specs.Path.{Path, PathText, names}
 use Rattle.dav_core.specs.World.{World, Node, node_at, is_folder_kind, last_moment}
 use Rattle.dav_headers.specs.If.{Item, state_token, entity_tag, Condition}
 use Rattle.dav_core.proofs.Theorems.{went_on}
-use Rattle.dav_engine.specs.declared.put_headers.Writing.{Writing}
-use Rattle.dav_engine.specs.Client.{Client, requester}
-use Rattle.dav_engine.specs.Conditions.{Conditions, Addressed, is_star, item_holds, while_true, while_false, all_hold, some_holds, if_holds, unless, if_match_get_tokens, guarded, if_match}
+use Rattle.dav_engine.specs.declared.methods.put.headers.Writing.{Writing}
+use Rattle.dav_engine.specs.Caller.{Caller, requester}
+use Rattle.dav_engine.specs.Conditions.{Conditions, Addressed, is_star, item_holds, and_then, or_else, all_hold, some_holds, if_holds, unless, if_match_get_tokens, guarded, if_match}
 use Rattle.dav_engine.specs.Method.{MethodPlan, then as followed_by, gives, ask_for, require, require_free, refused_as, require_parent, require_member}
 use Rattle.dav_engine.specs.Mkcol.{mkcol, mkcol_allowed, create_error, is_mkcol}
 use Rattle.dav_engine.specs.Plan.{Locks, Ran, ran_done, ran_ask}
 use Rattle.dav_engine.specs.Put.{PutHeaders, writing_of, put_opening, is_announced, unsatisfiable, sought, written, open_error, store, put_allowed, put_body, bytes_of_body, is_put}
-use Rattle.dav_engine.specs.Response.{Response}
+use Rattle.dav_engine.specs.Reply.{Reply}
 use Rattle.dav_engine.specs.WorldLaws.{OnlyReads, IsProperPlan, proper_done, proper_ask, RefusedPutLeavesAll, RefusedMkcolLeavesAll, PutIsProper, MkcolIsProper, CreatesOnly, CreateOnlyLeavesAll, reads_done}
 use Rattle.dav_engine.proofs.Following.{ran_bind}
 use Rattle.dav_engine.proofs.CallWorlds.{Did, stays, means, did}
@@ -47,11 +47,11 @@ only_item None i = only_done
 only_item (Some p) (state_token t) = only_look (λ ls. only_done)
 only_item (Some p) (entity_tag e) = only_ask looks (λ answer. only_done)
 
-only_while_true : (b : Bool) (next : MethodPlan Bool) → Only IsLook next → Only IsLook (while_true b next)
+only_while_true : (b : Bool) (next : MethodPlan Bool) → Only IsLook next → Only IsLook (and_then b next)
 only_while_true true next is = is
 only_while_true false next is = only_done
 
-only_while_false : (b : Bool) (next : MethodPlan Bool) → Only IsLook next → Only IsLook (while_false b next)
+only_while_false : (b : Bool) (next : MethodPlan Bool) → Only IsLook next → Only IsLook (or_else b next)
 only_while_false true next is = only_done
 only_while_false false next is = is
 
@@ -93,7 +93,7 @@ only_parent true who p e = only_look (λ ls. only_require _ e)
 pub only_member : (deep changes : Bool) (who : Requester) (p : Path) (e : DavError) → Only IsLook (require_member deep changes who p e)
 only_member deep changes who p e = only_bind (require_free deep who p e) _ (only_free deep who p e) (λ free. only_parent changes who p e)
 
-pub only_put_allowed : (m : DavMethod) (h : PutHeaders) (p : Path) (who : Client) (bytes : List ℕ) → Only IsLook (put_allowed m h p who bytes)
+pub only_put_allowed : (m : DavMethod) (h : PutHeaders) (p : Path) (who : Caller) (bytes : List ℕ) → Only IsLook (put_allowed m h p who bytes)
 only_put_allowed m h p who bytes = only_ask looks (λ answer.
     only_then (writing_of m h (result_ok answer)) _ (λ w.
     only_bind (guarded dav.StatusClose m h.conditions (result_ok answer)) _ (only_guarded dav.StatusClose m h.conditions (result_ok answer)) (λ tokens.
@@ -101,7 +101,7 @@ only_put_allowed m h p who bytes = only_ask looks (λ answer.
     only_bind (require (is_announced w.announced bytes) (dav.StatusClose 400)) _ (only_require (is_announced w.announced bytes) (dav.StatusClose 400)) (λ long.
     only_done)))))
 
-pub only_mkcol_allowed : (c : Conditions) (p : PathText) (who : Client) → Only IsLook (mkcol_allowed c p who)
+pub only_mkcol_allowed : (c : Conditions) (p : PathText) (who : Caller) → Only IsLook (mkcol_allowed c p who)
 only_mkcol_allowed c p who = only_ask looks (λ answer.
     only_bind (guarded dav.Status MkCol c (result_ok answer)) _ (only_guarded dav.Status MkCol c (result_ok answer)) (λ tokens.
     only_member false (not (is_ok answer)) (requester who tokens) (names p) (dav.Status 423)))
@@ -139,7 +139,7 @@ proper_store how place p bytes now found storable small = proper_ask (storable, 
     proper_bind (written file bytes now) _ (proper_written file bytes now small) (λ file.
     proper_ask tt (λ answer tells. proper_then (refused_as dav.FsError answer) _ (λ done. proper_ask tt (λ answer tells. proper_done)))))))
 
-proper_put : (m : DavMethod) (h : PutHeaders) (p : Path) (who : Client) (bytes : Option (List ℕ)) → IsStorable p → who.moment ≤ last_moment → IsProperPlan (put_body m h p who bytes)
+proper_put : (m : DavMethod) (h : PutHeaders) (p : Path) (who : Caller) (bytes : Option (List ℕ)) → IsStorable p → who.moment ≤ last_moment → IsProperPlan (put_body m h p who bytes)
 proper_put m h p who None storable small = proper_done
 proper_put m h p who (Some bytes) storable small =
     proper_bind (put_allowed m h p who bytes) _ (only_proper look_proper (only_put_allowed m h p who bytes)) (λ allowed.
@@ -148,7 +148,7 @@ proper_put m h p who (Some bytes) storable small =
 pub put_is_proper : PutIsProper
 put_is_proper m headers p body who plan storable small (is_put h are) = proper_put m h (names p) who (bytes_of_body body) storable small
 
-proper_mkcol : (c : Conditions) (p : PathText) (who : Client) → IsStorable (names p) → who.moment ≤ last_moment → IsProperPlan (mkcol c p who)
+proper_mkcol : (c : Conditions) (p : PathText) (who : Caller) → IsStorable (names p) → who.moment ≤ last_moment → IsProperPlan (mkcol c p who)
 proper_mkcol c p who storable small =
     proper_bind (mkcol_allowed c p who) _ (only_proper look_proper (only_mkcol_allowed c p who)) (λ allowed.
     proper_ask (storable, small) (λ answer tells. proper_then (refused_as create_error answer) _ (λ done. proper_done)))
@@ -171,18 +171,18 @@ unfolding meaning
 opened_new w p how now r new h = open_new w p how now (node_at w p) r new h
 
 -- where a plan succeeds after its file was opened as a new one, nothing was at the path
-did_open : (w after : World) (p : Path) (how : Opening) (now : ℕ) (answer : Result Handle FsError) (f : Handle → MethodPlan Response) {mid new : StoreState} {ls ms : Locks} {r : Response}
+did_open : (w after : World) (p : Path) (how : Opening) (now : ℕ) (answer : Result Handle FsError) (f : Handle → MethodPlan Reply) {mid new : StoreState} {ls ms : Locks} {r : Reply}
     → how.create_new ≡ true → Did (meaning (Open p how now) w) w answer after → Ran Asks (followed_by (refused_as (open_error how) answer) f) mid ls (Ok r) new ms → node_at w p ≡ None
 did_open w after p how now answer f new (means file h is same) ran = opened_new w p how now file new h
 did_open w after p how now (Err e) f new (stays d is same) ran = let clash = ran_outcome ran in cc
 did_open w after p how now (Ok file) f new (stays d is same) ran = cc
 
-stored_new : (how : Opening) (place : Option ℕ) (p : Path) (bytes : List ℕ) (now : ℕ) (found : Bool) {old new : StoreState} {ls ms : Locks} {r : Response}
+stored_new : (how : Opening) (place : Option ℕ) (p : Path) (bytes : List ℕ) (now : ℕ) (found : Bool) {old new : StoreState} {ls ms : Locks} {r : Reply}
     → how.create_new ≡ true → Ran Asks (store how place p bytes now found) old ls (Ok r) new ms → node_at old.world p ≡ None
 stored_new how place p bytes now found is (ran_ask {old = old} {mid = mid} {answer = answer} one rest) =
     did_open old.world mid.world p how now answer _ is (did one) rest
 
-split_new : (m : DavMethod) (h : PutHeaders) (p : Path) (who : Client) (bytes : List ℕ) {old mid new : StoreState} {ls ks ms : Locks} {r : Response} (outcome : Result (Writing × Bool) DavError)
+split_new : (m : DavMethod) (h : PutHeaders) (p : Path) (who : Caller) (bytes : List ℕ) {old mid new : StoreState} {ls ks ms : Locks} {r : Reply} (outcome : Result (Writing × Bool) DavError)
     → is_star h.conditions.if_none_match ≡ true → Ran Asks (put_allowed m h p who bytes) old ls outcome mid ks
     → Ran Asks (followed_by outcome (λ allowed. store (put_opening h allowed.0) allowed.0.from p bytes who.moment allowed.1)) mid ks (Ok r) new ms → node_at old.world p ≡ None
 split_new m h p who bytes (Err e) is first rest = let clash = ran_outcome rest in cc
@@ -200,7 +200,7 @@ creates_only m h p who bytes old new ls ms r star_is ran =
 no_node : (w : World) (p : Path) (n : Node) {A : Type 0} → node_at w p ≡ None → node_at w p ≡ Some n → A
 no_node w p n none some = let clash = sym none ∙ some in absurd (cc)
 
-kept_open : (w : World) (p : Path) (how : Opening) (now : ℕ) (n : Node) (answer : Result Handle FsError) (f : Handle → MethodPlan Response) (mid : StoreState) {new : StoreState} {ls ms : Locks} {a : Result Response DavError}
+kept_open : (w : World) (p : Path) (how : Opening) (now : ℕ) (n : Node) (answer : Result Handle FsError) (f : Handle → MethodPlan Reply) (mid : StoreState) {new : StoreState} {ls ms : Locks} {a : Result Reply DavError}
     → how.create_new ≡ true → node_at w p ≡ Some n → Did (meaning (Open p how now) w) w answer mid.world
     → Ran Asks (followed_by (refused_as (open_error how) answer) f) mid ls a new ms → (new.world ≡ w) × (ms ≡ ls)
 kept_open w p how now n answer f mid new there (means file h is same) ran = no_node w p n (opened_new w p how now file new h) there
@@ -209,12 +209,12 @@ kept_open w p how now n (Err e) f mid new there (stays d is same) ran =
     (world ∙ same, locks)
 kept_open w p how now n (Ok file) f mid new there (stays d is same) ran = absurd (cc)
 
-kept_store : (how : Opening) (place : Option ℕ) (p : Path) (bytes : List ℕ) (now : ℕ) (found : Bool) (n : Node) {old new : StoreState} {ls ms : Locks} {a : Result Response DavError}
+kept_store : (how : Opening) (place : Option ℕ) (p : Path) (bytes : List ℕ) (now : ℕ) (found : Bool) (n : Node) {old new : StoreState} {ls ms : Locks} {a : Result Reply DavError}
     → how.create_new ≡ true → node_at old.world p ≡ Some n → Ran Asks (store how place p bytes now found) old ls a new ms → (new.world ≡ old.world) × (ms ≡ ls)
 kept_store how place p bytes now found n is there (ran_ask {old = old} {mid = mid} {answer = answer} one rest) =
     kept_open old.world p how now n answer _ mid is there (did one) rest
 
-kept_new : (m : DavMethod) (h : PutHeaders) (p : Path) (who : Client) (bytes : List ℕ) (n : Node) {old mid new : StoreState} {ls ks ms : Locks} {a : Result Response DavError} (outcome : Result (Writing × Bool) DavError)
+kept_new : (m : DavMethod) (h : PutHeaders) (p : Path) (who : Caller) (bytes : List ℕ) (n : Node) {old mid new : StoreState} {ls ks ms : Locks} {a : Result Reply DavError} (outcome : Result (Writing × Bool) DavError)
     → is_star h.conditions.if_none_match ≡ true → node_at old.world p ≡ Some n → Ran Asks (put_allowed m h p who bytes) old ls outcome mid ks
     → Ran Asks (followed_by outcome (λ allowed. store (put_opening h allowed.0) allowed.0.from p bytes who.moment allowed.1)) mid ks a new ms → (new.world ≡ old.world) × (ms ≡ ls)
 kept_new m h p who bytes n (Err e) is there first rest =

@@ -5,7 +5,7 @@ use Rattle.dav_core.specs.World.{IsWorld}
 use Rattle.dav_core.specs.Asking.{StoreState}
 use Rattle.dav_engine.specs.Plan.{Locks}
 use Rattle.dav_engine.specs.Method.{MethodPlan}
-use Rattle.dav_engine.specs.Follows.{Follows, followed, gave_up, Carries, served, not_begun}
+use Rattle.dav_engine.specs.Follows.{Follows, followed, gave_up, FollowsOneOf, served, not_begun}
 use Rattle.dav_engine.specs.WorldLaws.{IsReading, IsProperPlan}
 use Rattle.dav_engine.proofs.PlanLemmas.{cut_again}
 use Rattle.dav_engine.proofs.CallWorlds.{Kept, kept_same}
@@ -32,12 +32,12 @@ follows_leaves reads (gave_up want cut) =
 
 -- code that carries out some plan of a kind, where each plan of the kind makes only calls that a caller may make
 pub carries_keeps : {A X : Type 0} {view : X → A} {kind : MethodPlan A → Type 0} {old new : StoreState} {ls ms : Locks} {r : Result X DavError}
-    → ((plan : MethodPlan A) → kind plan → IsProperPlan plan) → IsWorld old.world → Carries view kind old ls r new ms → Kept old.world new.world
+    → ((plan : MethodPlan A) → kind plan → IsProperPlan plan) → IsWorld old.world → FollowsOneOf view kind old ls r new ms → Kept old.world new.world
 carries_keeps proper world (served plan is follows) = follows_keeps (proper plan is) world follows
 carries_keeps {old = old} {new = new} proper world (not_begun want same locks) = kept_same old.world new.world world (ap (λ (s : StoreState). s.world) same)
 
 -- the same where each plan of the kind only reads
 pub carries_leaves : {A X : Type 0} {view : X → A} {kind : MethodPlan A → Type 0} {old new : StoreState} {ls ms : Locks} {r : Result X DavError}
-    → ((plan : MethodPlan A) → kind plan → IsReading plan) → Carries view kind old ls r new ms → (new.world ≡ old.world) × (ms ≡ ls)
+    → ((plan : MethodPlan A) → kind plan → IsReading plan) → FollowsOneOf view kind old ls r new ms → (new.world ≡ old.world) × (ms ≡ ls)
 carries_leaves reads (served plan is follows) = follows_leaves (reads plan is) follows
 carries_leaves reads (not_begun want same locks) = (ap (λ (s : StoreState). s.world) same, locks)

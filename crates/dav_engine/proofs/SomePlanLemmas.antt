@@ -18,10 +18,10 @@ use Rattle.dav_headers.specs.Length.{IsContentLength}
 use Rattle.dav_headers.specs.Timeout.{IsTimeout}
 use Rattle.dav_headers.specs.UpdateRange.{IsUpdateRange}
 use Rattle.dav_headers.specs.Value.{only_text}
-use Rattle.dav_engine.specs.declared.put_headers.Bounds.{Bounds}
-use Rattle.dav_engine.specs.declared.put_headers.Bounds.TheVariants.{Unread, Whole, Within}
+use Rattle.dav_engine.specs.declared.methods.put.headers.Bounds.{Bounds}
+use Rattle.dav_engine.specs.declared.methods.put.headers.Bounds.TheVariants.{Unread, Whole, Within}
 use Rattle.dav_engine.specs.declared.request.Body.{Body}
-use Rattle.dav_engine.specs.Client.{Client}
+use Rattle.dav_engine.specs.Caller.{Caller}
 use Rattle.dav_engine.specs.Conditions.{Conditions, AreConditions, SaysLists}
 use Rattle.dav_engine.specs.CopyMove.{DestinationNames, absent, unreadable, outside, inside, copy_or_move, IsCopyMove, is_copy_move}
 use Rattle.dav_engine.specs.Delete.{delete, IsDelete, is_delete}
@@ -31,7 +31,7 @@ use Rattle.dav_engine.specs.Mkcol.{mkcol, IsMkcol, is_mkcol}
 use Rattle.dav_engine.specs.Propfind.{propfind, IsPropfind, is_propfind}
 use Rattle.dav_engine.specs.Proppatch.{proppatch, IsProppatch, is_proppatch}
 use Rattle.dav_engine.specs.Put.{PutHeaders, ArePutHeaders, IsPut, is_put, put_body, bytes_of_body, IsAnnounced, IsExpectedLength, TellsBounds, is_partial_update, checksum_in}
-use Rattle.dav_engine.specs.Response.{Response}
+use Rattle.dav_engine.specs.Reply.{Reply}
 use Rattle.dav_engine.specs.Lock.{lock, IsLock, is_lock}
 use Rattle.dav_engine.specs.LockToken.{SaysLockToken}
 use Rattle.dav_engine.specs.Unlock.{unlock, IsUnlock, is_unlock}
@@ -72,24 +72,24 @@ some_put_headers headers p unsaid =
     (record { conditions = conditions; announced = announced; range = range; is_partial = is_partial_update (get_all headers (codes "content-type")); update = update; checksum = checksum_in headers })
     (record { conditions = one; announced = two; range = three; is_partial = refl; update = four; checksum = refl })))))
 
-pub some_put_plan : (m : DavMethod) (headers : Headers) (p : PathText) (body : Body) (who : Client) → ¬ ((plan : MethodPlan Response) → ¬ IsPut m headers p body who plan)
+pub some_put_plan : (m : DavMethod) (headers : Headers) (p : PathText) (body : Body) (who : Caller) → ¬ ((plan : MethodPlan Reply) → ¬ IsPut m headers p body who plan)
 some_put_plan m headers p body who without =
     some_put_headers headers p (λ h is. without (put_body m h (names p) who (bytes_of_body body)) (is_put h is))
 
-pub some_mkcol_plan : (headers : Headers) (p : PathText) (who : Client) → ¬ ((plan : MethodPlan Response) → ¬ IsMkcol headers p who plan)
+pub some_mkcol_plan : (headers : Headers) (p : PathText) (who : Caller) → ¬ ((plan : MethodPlan Reply) → ¬ IsMkcol headers p who plan)
 some_mkcol_plan headers p who without =
     some_conditions headers p.prefix (names p) (λ c is. without (mkcol c p who) (is_mkcol c is))
 
-pub some_delete_plan : (headers : Headers) (p : PathText) (who : Client) → ¬ ((plan : MethodPlan Response) → ¬ IsDelete headers p who plan)
+pub some_delete_plan : (headers : Headers) (p : PathText) (who : Caller) → ¬ ((plan : MethodPlan Reply) → ¬ IsDelete headers p who plan)
 some_delete_plan headers p who without =
     some_conditions headers p.prefix (names p) (λ c is.
     decoded_some IsDepth (get_all headers (codes "depth")) (λ depth too.
     without (delete (record { conditions = c; depth = depth }) p who) (is_delete (record { conditions = c; depth = depth }) (record { conditions = is; depth = too }))))
 
-pub some_unlock_plan : (headers : Headers) (p : PathText) (who : Client) → ¬ ((plan : MethodPlan Response) → ¬ IsUnlock headers p who plan)
+pub some_unlock_plan : (headers : Headers) (p : PathText) (who : Caller) → ¬ ((plan : MethodPlan Reply) → ¬ IsUnlock headers p who plan)
 some_unlock_plan headers p who without = decoded_some SaysLockToken headers (λ token is. without (unlock token p) (is_unlock token is))
 
-pub some_lock_plan : (headers : Headers) (p : PathText) (body : Body) (who : Client) → ¬ ((plan : MethodPlan Response) → ¬ IsLock headers p body who plan)
+pub some_lock_plan : (headers : Headers) (p : PathText) (body : Body) (who : Caller) → ¬ ((plan : MethodPlan Reply) → ¬ IsLock headers p body who plan)
 some_lock_plan headers p body who without =
     some_conditions headers p.prefix (names p) (λ c is.
     decoded_some IsDepth (get_all headers (codes "depth")) (λ depth too.
@@ -106,7 +106,7 @@ destination_by prefix values (Some text) is unsaid =
 some_destination : (prefix : List ℕ) (values : List FieldValue) → ¬ ((r : Result PathText DavError) → ¬ DestinationNames prefix values r)
 some_destination prefix values unsaid = decoded_some IsDestination values (λ text is. destination_by prefix values text is unsaid)
 
-pub some_copymove_plan : (m : DavMethod) (headers : Headers) (p : PathText) (who : Client) → ¬ ((plan : MethodPlan Response) → ¬ IsCopyMove m headers p who plan)
+pub some_copymove_plan : (m : DavMethod) (headers : Headers) (p : PathText) (who : Caller) → ¬ ((plan : MethodPlan Reply) → ¬ IsCopyMove m headers p who plan)
 some_copymove_plan m headers p who without =
     some_conditions headers p.prefix (names p) (λ c is.
     decoded_some IsDepth (get_all headers (codes "depth")) (λ depth too.
@@ -115,12 +115,12 @@ some_copymove_plan m headers p who without =
     without (copy_or_move m (record { conditions = c; depth = depth; overwrite = overwrite; destination = d }) p who)
     (is_copy_move (record { conditions = c; depth = depth; overwrite = overwrite; destination = d }) (record { conditions = is; depth = too; overwrite = also; destination = named }))))))
 
-pub some_propfind_plan : (headers : Headers) (p : PathText) (content : Body) (who : Client) → ¬ ((plan : MethodPlan Response) → ¬ IsPropfind headers p content who plan)
+pub some_propfind_plan : (headers : Headers) (p : PathText) (content : Body) (who : Caller) → ¬ ((plan : MethodPlan Reply) → ¬ IsPropfind headers p content who plan)
 some_propfind_plan headers p content who without =
     decoded_some IsDepth (get_all headers (codes "depth")) (λ depth is.
     let test = is_some (only_text (get_all headers (codes "x-litmus"))) in
     without (propfind (record { depth = depth; is_test = test }) headers p content who) (is_propfind (record { depth = depth; is_test = test }) (record { depth = is; is_test = refl })))
 
-pub some_proppatch_plan : (headers : Headers) (p : PathText) (content : Body) (who : Client) → ¬ ((plan : MethodPlan Response) → ¬ IsProppatch headers p content who plan)
+pub some_proppatch_plan : (headers : Headers) (p : PathText) (content : Body) (who : Caller) → ¬ ((plan : MethodPlan Reply) → ¬ IsProppatch headers p content who plan)
 some_proppatch_plan headers p content who without =
     some_conditions headers p.prefix (names p) (λ c is. without (proppatch c p content who) (is_proppatch c is))

@@ -11,10 +11,10 @@ use Rattle.dav_core.specs.declared.method.DavMethod.{DavMethod}
 use Rattle.dav_core.specs.Asking.{Metadata, ReadDir, EntryMetadata, CreateDir, Copy, Rename}
 use Rattle.dav_core.specs.Locks.{Lock, covers, is_free_for, deleted}
 use Rattle.dav_core.specs.Path.{Path, PathText, star, names, names_in, is_at_or_under, are_equal, parent_of}
-use Rattle.dav_engine.specs.Client.{Client, requester}
+use Rattle.dav_engine.specs.Caller.{Caller, requester}
 use Rattle.dav_engine.specs.Conditions.{Conditions, submitted}
 use Rattle.dav_engine.specs.Copying.{CopyFault, CopyWalk, copy_seen, copy_members, copy_listed, copy_inside, copy_kind, copy_looked, copy, renaming}
-use Rattle.dav_engine.specs.CopyMove.{CopyHeaders, DestinationNames, is_move, copy_depth, destination_found, source_free, copy_free, is_replaced, clearing, drop_if, drop_if_moved, brought, copy_reply, bring_if_clear, copy_found, copy_or_move, is_copy_move, changes_members}
+use Rattle.dav_engine.specs.CopyMove.{CopyHeaders, DestinationNames, is_move, copy_depth, destination_found, source_free, copy_free, is_replaced, clearing, drop_if, drop_if_moved, transfer, copy_reply, transfer_if_cleared, copy_found, copy_or_move, is_copy_move, changes_members}
 use Rattle.dav_engine.specs.Folder.{closed, child_of, room_at, is_folder_found}
 use Rattle.dav_engine.specs.Guard.{folder_of, IsListed, Guards, StillGuards}
 use Rattle.dav_engine.specs.Method.{MethodPlan, ◌>>=◌, require, require_free, is_open, refused_as, gives}
@@ -97,7 +97,7 @@ module _ (covered : Path → Bool) (G E : List Lock → Type 0) where
   -- ---- the whole
 
   -- the checks: Off is what is known of a path that is free with everything below
-  module _ (Off : Path → Type 0) (who : Client) (c : Conditions)
+  module _ (Off : Path → Type 0) (who : Caller) (c : Conditions)
       (frees : (p : Path) (ls : List Lock) → G ls → is_free_for true (requester who (submitted c.lists)) p ls ≡ true → Off p) where
     abbrev Knows : Type 0 → MethodPlan (Unit {0}) → Type 0
     Knows Q plan = Sparing covered G E false (At None (λ u. Q)) None plan
@@ -150,14 +150,14 @@ module _ (covered : Path → Bool) (G E : List Lock → Type 0) where
       moved [] off = spares_look (λ ls g. spares_keep (stays (names p) ls g off) (spares_ok (refl, tt)))
       moved (f ∷ faults) off = spares_ok (refl, tt)
 
-      brings : (moves deep : Bool) (now : ℕ) → d.bytes ≢ star → SourceFree moves → Free d → Part (brought moves deep now p d)
+      brings : (moves deep : Bool) (now : ℕ) → d.bytes ≢ star → SourceFree moves → Free d → Part (transfer moves deep now p d)
       brings true deep now other from to =
           spare_bind {Q = λ (faults : List CopyFault). ⊤} {plan = renaming now p d} (λ faults. drop_if_moved p faults >>= (λ u. gives faults))
           (spares_call {c = Rename (names p) (names d) now} ((from refl).0, to.0) (λ answer. spares_ok (refl, tt)))
           (λ faults _. spare_bind (λ u. gives faults) (moved faults (from refl).1) (λ u _. spares_ok (refl, tt)))
       brings false deep now other from to = spare_copy (room_at p) deep now d p d other to.0
 
-      pub if_clear : (moves deep : Bool) (now : ℕ) (there : Option DavMetaData) (faults : List Fault) → d.bytes ≢ star → SourceFree moves → Free d → Sparing covered G E true Anything None (bring_if_clear moves deep now p d there faults)
+      pub if_clear : (moves deep : Bool) (now : ℕ) (there : Option DavMetaData) (faults : List Fault) → d.bytes ≢ star → SourceFree moves → Free d → Sparing covered G E true Anything None (transfer_if_cleared moves deep now p d there faults)
       if_clear moves deep now there (f ∷ []) other from to = spares_ok tt
       if_clear moves deep now there (f ∷ g ∷ faults) other from to = spares_ok tt
       if_clear moves deep now there [] other from to =
@@ -172,7 +172,7 @@ module _ (covered : Path → Bool) (G E : List Lock → Type 0) where
       spares_reads {c = Metadata (parent_of (names d))} tt (λ above. spare_bind _ (spare_require (is_folder_found (result_ok above)) (dav.Status 409)) (λ u _.
       spares_reads {c = Metadata (names d)} tt (λ there. spare_bind _ (spare_require (unwrap_or overwrite true || not (is_ok there)) (dav.Status 412)) (λ v _. spares_ok (refl, tt)))))
 
-  module _ (Off : Path → Type 0) (who : Client) (k : CopyHeaders) (stays : (p : Path) (ls : List Lock) → G ls → Off p → G (deleted p ls))
+  module _ (Off : Path → Type 0) (who : Caller) (k : CopyHeaders) (stays : (p : Path) (ls : List Lock) → G ls → Off p → G (deleted p ls))
       (frees : (p : Path) (ls : List Lock) → G ls → is_free_for true (requester who (submitted k.conditions.lists)) p ls ≡ true → NoneUnder covered p × Off p) where
     spare_found : (m : DavMethod) (deep : Bool) (p d : PathText) (found : DavMetaData) → d.bytes ≢ star → Sparing covered G E true Anything None (copy_found m deep k p d who found)
     spare_found m deep p d found other =

@@ -12,7 +12,7 @@ use Rattle.dav_core.specs.Asking.{Metadata, ReadDir, EntryMetadata, RemoveDir, R
 use Rattle.dav_core.specs.Locks.{Lock, Requester, covers, is_held, is_free_for, deleted}
 use Rattle.dav_core.specs.Path.{Path, PathText, star, names, names_in, is_same_path, is_at_or_under, is_under}
 use Rattle.dav_core.proofs.Theorems.{same_path}
-use Rattle.dav_engine.specs.Client.{Client, requester}
+use Rattle.dav_engine.specs.Caller.{Caller, requester}
 use Rattle.dav_engine.specs.Conditions.{Conditions, submitted}
 use Rattle.dav_engine.specs.Delete.{whole_depth, drop_if_gone, delete_reply, delete_found, is_delete}
 use Rattle.dav_engine.specs.Folder.{closed, child_of, room_at}
@@ -82,7 +82,7 @@ module _ (covered : Path → Bool) (G E : List Lock → Type 0) where
   answered_by p f (g ∷ faults) = spares_ok tt
 
   -- Off is what is known of a path that is free with everything below
-  module _ (Off : Path → Type 0) (who : Client) (c : Conditions) (ends : (p : Path) (ls : List Lock) → G ls → E (deleted p ls))
+  module _ (Off : Path → Type 0) (who : Caller) (c : Conditions) (ends : (p : Path) (ls : List Lock) → G ls → E (deleted p ls))
       (frees : (p : Path) (ls : List Lock) → G ls → is_free_for true (requester who (submitted c.lists)) p ls ≡ true → Off p)
       (spares : (p : Path) → Off p → IsOpenAbove G true (requester who (submitted c.lists)) p → NoneUnder covered p) where
     spare_dropped : (p : PathText) (faults : List Fault) → Sparing covered G E true Anything None (drop_if_gone p faults >>= (λ done. Done (delete_reply p faults)))

@@ -12,8 +12,8 @@ use Rattle.dav_core.specs.Asking.{Call, Metadata, CreateDir, Write, Flush, FileM
 use Rattle.dav_core.specs.Handle.{Handle, Opening}
 use Rattle.dav_core.specs.Locks.{Lock, covers, is_free_for, is_free_parent, Requester}
 use Rattle.dav_core.specs.Path.{Path, PathText, names}
-use Rattle.dav_engine.specs.declared.put_headers.Writing.{Writing}
-use Rattle.dav_engine.specs.Client.{Client, requester}
+use Rattle.dav_engine.specs.declared.methods.put.headers.Writing.{Writing}
+use Rattle.dav_engine.specs.Caller.{Caller, requester}
 use Rattle.dav_engine.specs.Conditions.{Conditions, Addressed, if_holds, submitted, http_conditions, unless, guarded, status_as}
 use Rattle.dav_engine.specs.Method.{MethodPlan, then as followed_by, ◌>>=◌, require, require_free, is_open, gives, refused_as, ask_for, require_parent, require_member, is_open_parent}
 use Rattle.dav_engine.specs.Mkcol.{mkcol, mkcol_checks, create_error, is_mkcol}
@@ -115,12 +115,12 @@ module _ (covered : Path → Bool) (G E : List Lock → Type 0) where
     spare_parent true who p e gets = spares_look (λ ls g. spare_test who p e ls g (is_open_parent who p (Some ls)) refl gets)
 
     -- the same for the tokens that conditions give
-    pub spare_above : (who : Client) (lists : Option (List Addressed)) (wanted : Bool) (p : Path) (e : DavError) (tokens : List (List ℕ)) → tokens ≡ submitted lists
+    pub spare_above : (who : Caller) (lists : Option (List Addressed)) (wanted : Bool) (p : Path) (e : DavError) (tokens : List (List ℕ)) → tokens ≡ submitted lists
         → (IsOpenAbove G wanted (requester who (submitted lists)) p → Q) → Sparing covered G E false (At None (λ (u : Unit {0}). Q)) None (require_parent wanted (requester who tokens) p e)
     spare_above who lists wanted p e tokens same gets =
         spare_parent wanted (requester who tokens) p e (λ above. gets (subst (λ (ts : List (List ℕ)). IsOpenAbove G wanted (requester who ts) p) same above))
 
-  module _ (who : Client) (lists : Option (List Addressed)) (spares : (deep : Bool) (p : Path) (ls : List Lock) → G ls → is_free_for deep (requester who (submitted lists)) p ls ≡ true → covered p ≡ false) where
+  module _ (who : Caller) (lists : Option (List Addressed)) (spares : (deep : Bool) (p : Path) (ls : List Lock) → G ls → is_free_for deep (requester who (submitted lists)) p ls ≡ true → covered p ≡ false) where
     spare_free_by : (deep : Bool) (p : Path) (e : DavError) (ls : List Lock) → G ls → (b : Bool) → is_open deep (requester who (submitted lists)) p (Some ls) ≡ b
         → Sparing covered G E false (At None (λ u. covered p ≡ false)) None (require b e)
     spare_free_by deep p e ls g true free = spares_ok (refl, spares deep p ls g free)
@@ -166,7 +166,7 @@ module _ (covered : Path → Bool) (G E : List Lock → Type 0) where
       spares_reads {c = Flush i} tt (λ answer. spare_then (refused_as dav.FsError answer) _ (λ u _. spares_reads {c = FileMetadata i} tt (λ told. spares_ok tt))))))
       (λ e. spares_err)
 
-  module _ (who : Client) where
+  module _ (who : Caller) where
     -- what is free to a stranger isn't covered
     abbrev pub Uncovers : Conditions → Type 0
     Uncovers c = (deep : Bool) (x : Path) (ls : List Lock) → G ls → is_free_for deep (requester who (submitted c.lists)) x ls ≡ true → covered x ≡ false

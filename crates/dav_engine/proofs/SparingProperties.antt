@@ -10,14 +10,14 @@ use Rattle.dav_core.specs.Locks.{Lock, covers, is_free_for}
 use Rattle.dav_core.specs.Path.{Path, PathText, names}
 use Rattle.dav_core.specs.Property.{Property}
 use Rattle.dav_engine.specs.declared.request.Body.{Body}
-use Rattle.dav_engine.specs.Client.{Client, requester}
+use Rattle.dav_engine.specs.Caller.{Caller, requester}
 use Rattle.dav_engine.specs.Conditions.{Conditions, submitted}
 use Rattle.dav_engine.specs.Folder.{closed, location_found}
 use Rattle.dav_engine.specs.Guard.{IsListed, Guards, StillGuards}
 use Rattle.dav_engine.specs.Method.{required, refused_as}
 use Rattle.dav_engine.specs.Plan.{Done}
 use Rattle.dav_engine.specs.Proppatch.{Change, changes_in, as_patch, store_changes, change_all, patch_properties, proppatch_found, proppatch, is_proppatch}
-use Rattle.dav_engine.specs.Response.{Header}
+use Rattle.dav_engine.specs.Reply.{Header}
 use Rattle.dav_engine.specs.Sparing.{Anything, AnyList, Sparing, spares_ok, spares_err, spares_reads, spares_call}
 use Rattle.dav_engine.specs.SparingPlans.{ProppatchSpares}
 use Rattle.dav_engine.proofs.GuardedFolders.{stands_guarded, free_passes}
@@ -42,7 +42,7 @@ module _ (covered : Path → Bool) (G E : List Lock → Type 0) where
       spares_reads {c = HaveProps (names p)} tt (λ answer.
       spare_bind _ (spare_change_all p _ _ _ out) (λ told _. spares_ok tt))
 
-  module _ (who : Client) (c : Conditions) (stranger : (deep : Bool) (x : Path) (ls : List Lock) → G ls → is_free_for deep (requester who (submitted c.lists)) x ls ≡ true → covered x ≡ false) where
+  module _ (who : Caller) (c : Conditions) (stranger : (deep : Bool) (x : Path) (ls : List Lock) → G ls → is_free_for deep (requester who (submitted c.lists)) x ls ≡ true → covered x ≡ false) where
     spare_patch_found : (p : PathText) (location : List Header) (content : Body) (found : DavMetaData) → Sparing covered G E true Anything None (proppatch_found c p location content who found)
     spare_patch_found p location content found =
         spare_bind _ (spare_guarded covered G E dav.Status method.PropPatch c (Some found)) (λ tokens same.

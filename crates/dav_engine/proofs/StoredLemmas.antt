@@ -31,17 +31,17 @@ use Rattle.dav_headers.specs.declared.depth.Depth.{Depth}
 use Rattle.dav_headers.proofs.Theorems.{one_depth}
 use Rattle.dav_engine.specs.declared.reply.ReplyBody.TheVariants as reply
 use Rattle.dav_engine.specs.declared.request.Body.{Body}
-use Rattle.dav_engine.specs.Client.{Client}
+use Rattle.dav_engine.specs.Caller.{Caller}
 use Rattle.dav_engine.specs.Folder.{closed, location_found, room_at}
 use Rattle.dav_engine.specs.Headers.{Headers}
 use Rattle.dav_engine.specs.Method.{MethodPlan, required, refused_as}
 use Rattle.dav_engine.specs.Plan.{CallStep, Locks, Ran, ran_done, ran_ask, ran_look, ran_keep}
-use Rattle.dav_engine.specs.Properties.{Writer, writer, QuotaKnown, WithQuota, key_of, kept_elements, all_kept, all_kept_if, properties_of, property_response, found_groups, told_by}
+use Rattle.dav_engine.specs.Properties.{Writer, writer, QuotaKnown, WithQuota, key_of, kept_elements, all_kept, stored_properties, properties_of, property_response, found_groups, told_by}
 use Rattle.dav_engine.specs.Propfind.{Responses, query_in, tell_itself, tells_members, is_infinite, is_served_depth, FindHeaders, propfind_found, propfind_if, propfind, is_propfind}
 use Rattle.dav_engine.specs.PropfindLaws.{path_in, responses_in}
 use Rattle.dav_engine.specs.Proppatch.{Change, Told, to_store, as_patch}
 use Rattle.dav_engine.specs.ProppatchLaws.{patched_world, AreDone, AreMade}
-use Rattle.dav_engine.specs.Response.{Header, Response}
+use Rattle.dav_engine.specs.Reply.{Header, Reply}
 use Rattle.dav_engine.specs.StoredLaws.{Keeps, IsSetLast, SetIsKept, PatchedIsKept, TellsWhole, KeptIsTold}
 use Rattle.dav_engine.specs.WorldLaws.{OnlyReads}
 use Rattle.dav_engine.proofs.CallWorlds.{did, did_leave}
@@ -170,7 +170,7 @@ in_elements key e ((k, v) ∷ ps) is = in_step key e k v ps (is_eq (key_cmp key 
 abbrev AsksFreely : CallStep
 AsksFreely c old a new = Asks c old a new × All IsNone old.refusals × (new.short ≡ false)
 
-free : {plan : MethodPlan Response} {old new : StoreState} {ls ms : Locks} {a : Result Response DavError} → All IsNone old.refusals → new.short ≡ false → Ran Asks plan old ls a new ms → Ran AsksFreely plan old ls a new ms
+free : {plan : MethodPlan Reply} {old new : StoreState} {ls ms : Locks} {a : Result Reply DavError} → All IsNone old.refusals → new.short ≡ false → Ran Asks plan old ls a new ms → Ran AsksFreely plan old ls a new ms
 free none unset ran_done = ran_done
 free none unset (ran_ask one more) = ran_ask (one, none, ran_unset more unset) (free (left_none one none) unset more)
 free none unset (ran_look more) = ran_look (free none unset more)
@@ -205,7 +205,7 @@ module _ (w : World) where
         (let same : m ≡ metadata_of n = cc in ap (λ (x : DavMetaData). x.dir) same ∙ sym (ap is_folder_node there))
 
   module _ (e : ElementTree) (q : PathText) (n : Node) (there : node_at w (names q) ≡ Some n) (kept : find key_cmp (key_of e) n.properties ≡ Some (Some e)) where
-    ends_kept_if : (has : Bool) → has ≡ true → Ends Known (HasIn e) (all_kept_if q has)
+    ends_kept_if : (has : Bool) → has ≡ true → Ends Known (HasIn e) (stored_properties q has)
     ends_kept_if true is =
         ends_ask {c = GetProps (names q) true} tt (λ answer says.
         ends_ok (subst (HasIn e) (sym (are_shown (names q) e n there kept answer says)) (in_elements (key_of e) e n.properties kept)))
@@ -213,7 +213,7 @@ module _ (w : World) where
 
     ends_kept : Ends Known (HasIn e) (all_kept q)
     ends_kept =
-        ends_bind {Q = λ (has : Bool). has ≡ true} (all_kept_if q)
+        ends_bind {Q = λ (has : Bool). has ≡ true} (stored_properties q)
         (ends_ask {c = HaveProps (names q)} tt (λ answer says. ends_ok (keeps_some (names q) e n there kept answer says)))
         (λ has is. ends_kept_if has is)
 
@@ -245,8 +245,8 @@ module _ (w : World) where
           tells,
         )
 
-    ends_found : (depth : Depth) (test : Bool) (headers : Headers) (location : List Header) (content : Body) (who : Client) (m : DavMetaData)
-        → Ends Known (λ (r : Response). First (responses_in r.body)) (propfind_found (of_depth depth test) headers q location content who m)
+    ends_found : (depth : Depth) (test : Bool) (headers : Headers) (location : List Header) (content : Body) (who : Caller) (m : DavMetaData)
+        → Ends Known (λ (r : Reply). First (responses_in r.body)) (propfind_found (of_depth depth test) headers q location content who m)
     ends_found depth test headers location content who m =
         ends_then (required (query_in content) dav.XmlParseError) _ (λ query _.
         ends_bind _ (ends_first (writer query.0 headers who.principal query.1) m) (λ one first.
@@ -256,13 +256,13 @@ module _ (w : World) where
   -- ---- the method
 
   module _ (e : ElementTree) (p : PathText) (other : p.bytes ≢ star) (n : Node) (there : node_at w (names p) ≡ Some n) (kept : find key_cmp (key_of e) n.properties ≡ Some (Some e)) where
-    abbrev Tells : Response → Type 0
+    abbrev Tells : Reply → Type 0
     Tells r = r.status ≡ 207 → (response : ElementTree) × (more : List ElementTree) × (responses_in r.body ≡ response ∷ more) × TellsWhole (path_in w p) e response
 
-    ends_at : (depth : Depth) (test : Bool) (headers : Headers) (content : Body) (who : Client) (m : DavMetaData) → m.dir ≡ is_folder w (names p)
+    ends_at : (depth : Depth) (test : Bool) (headers : Headers) (content : Body) (who : Caller) (m : DavMetaData) → m.dir ≡ is_folder w (names p)
         → Ends Known Tells (propfind_found (of_depth depth test) headers (closed m.dir p) (location_found (Some m) p) content who m)
     ends_at depth test headers content who m dir =
-        subst (λ (d : Bool). Ends Known (λ (r : Response). r.status ≡ 207 → (response : ElementTree) × (more : List ElementTree) × (responses_in r.body ≡ response ∷ more) × TellsWhole (closed d p) e response)
+        subst (λ (d : Bool). Ends Known (λ (r : Reply). r.status ≡ 207 → (response : ElementTree) × (more : List ElementTree) × (responses_in r.body ≡ response ∷ more) × TellsWhole (closed d p) e response)
         (propfind_found (of_depth depth test) headers (closed m.dir p) (location_found (Some m) p) content who m)) dir
         (ends_as (λ r first _. first)
         (ends_found e (closed m.dir p) n (ap (node_at w) (names_closed m.dir p other) ∙ there) kept depth test headers (location_found (Some m) p) content who m))
@@ -271,7 +271,7 @@ module _ (w : World) where
     dir_of (Ok k) m says is = (let same : k ≡ m = cc in found_there (names p) e n there kept (Ok k) m says (ap Ok same))
     dir_of (Err fault) m says is = cc
 
-    ends_if : (b : Bool) (depth : Depth) (test : Bool) (headers : Headers) (content : Body) (who : Client) → Ends Known Tells (propfind_if b (of_depth depth test) headers p content who)
+    ends_if : (b : Bool) (depth : Depth) (test : Bool) (headers : Headers) (content : Body) (who : Caller) → Ends Known Tells (propfind_if b (of_depth depth test) headers p content who)
     ends_if false depth test headers content who = ends_ok (λ status. absurd (omega (arith, status)))
     ends_if true depth test headers content who =
         ends_ask {c = Metadata (names p)} tt (λ answer says.

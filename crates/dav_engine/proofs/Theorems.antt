@@ -3,7 +3,7 @@ pub use Rattle.dav_engine.proofs.AlongsideCopy.{copymove_goes_along}
 pub use Rattle.dav_engine.proofs.AlongsideDelete.{delete_goes_along}
 pub use Rattle.dav_engine.proofs.AlongsideLock.{lock_goes_along}
 pub use Rattle.dav_engine.proofs.AlongsideLaw.{alongside_agree, ran_plain}
-pub use Rattle.dav_engine.proofs.AlongsidePlans.{holders, in_reach, in_side, only_lists, side_bind, side_require, side_lists, put_goes_along, mkcol_goes_along}
+pub use Rattle.dav_engine.proofs.IsolatedPlans.{holders, in_reach, in_side, only_lists, side_bind, side_require, side_lists, put_goes_along, mkcol_goes_along}
 pub use Rattle.dav_engine.proofs.AlongsideProperties.{propfind_goes_along, proppatch_goes_along}
 pub use Rattle.dav_engine.proofs.CallWorlds.{Did, stays, means, did, Kept, did_leave, kept_same, kept_on}
 pub use Rattle.dav_engine.proofs.CopyChanges.{copymove_changes_list}

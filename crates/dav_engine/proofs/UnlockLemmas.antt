@@ -13,7 +13,7 @@ use Rattle.dav_engine.specs.Folder.{location_found}
 use Rattle.dav_engine.specs.Follows.{as_is, Follows, followed}
 use Rattle.dav_engine.specs.Method.{MethodPlan, ◌>>=◌, has_locks, gives}
 use Rattle.dav_engine.specs.Plan.{Locks}
-use Rattle.dav_engine.specs.Response.{Response}
+use Rattle.dav_engine.specs.Reply.{Reply}
 use Rattle.dav_engine.specs.Unlock.{keep_left, unlocked_reply, end_lock, unlock}
 use Rattle.dav_engine.proofs.Following.{ran_at, follows_done, follows_ask, follows_up_to}
 use Rattle.dav_engine.proofs.GuardLemmas.{follows_look}
@@ -30,7 +30,7 @@ module _ (p : PathText) (token : List ℕ) (answer : Result DavMetaData FsError)
       subst (λ ls. Follows as_is (end_lock p token) old ls (Err (dav.Status 405)) mid ls) (sym none) (follows_ask asks (follows_look (follows_done refl)))
 
   -- what follows where a list is left, or none is
-  abbrev left_by : Option (List Lock) → MethodPlan Response
+  abbrev left_by : Option (List Lock) → MethodPlan Reply
   left_by left = do
     _ ← keep_left left
     gives (unlocked_reply (location_found (result_ok answer) p))
@@ -42,7 +42,7 @@ module _ (p : PathText) (token : List ℕ) (answer : Result DavMetaData FsError)
       (follows_ask asks (follows_look (subst (λ left. Follows as_is (left_by left) mid (Some ls) (Err (dav.Status 409)) mid (Some ls)) (sym none) (follows_done refl))))
 
   -- the lock ends
-  pub end_known : (found : Option DavMetaData) (reply : Response) {ls left : List Lock} → unlocked token (names p) ls ≡ Some left → found ≡ result_ok answer → reply ≡ unlocked_reply (location_found found p)
+  pub end_known : (found : Option DavMetaData) (reply : Reply) {ls left : List Lock} → unlocked token (names p) ls ≡ Some left → found ≡ result_ok answer → reply ≡ unlocked_reply (location_found found p)
       → Follows as_is (end_lock p token) old (Some ls) (Ok reply) mid (Some left)
   end_known found reply {ls} {left} some same is =
       let told : reply ≡ unlocked_reply (location_found (result_ok answer) p) = is ∙ ap (λ f. unlocked_reply (location_found f p)) same in
@@ -66,7 +66,7 @@ unlock_nothing p token {s} {ls = Some ls} some none = subst (λ t. Follows as_is
 unlock_nothing p token {ls = None} some none = absurd (cc)
 
 -- there is one
-pub unlock_by : (p : PathText) (said : Option (List ℕ)) (token : List ℕ) {r : Result Response DavError} {old new : StoreState} {ls ms : Locks}
+pub unlock_by : (p : PathText) (said : Option (List ℕ)) (token : List ℕ) {r : Result Reply DavError} {old new : StoreState} {ls ms : Locks}
     → has_locks ls ≡ true → said ≡ Some token → Follows as_is (end_lock p token) old ls r new ms → Follows as_is (unlock said p) old ls r new ms
 unlock_by p said token {r} {old} {new} {ls = Some ls} {ms} some is done = subst (λ t. Follows as_is (unlock t p) old (Some ls) r new ms) (sym is) (follows_look done)
 unlock_by p said token {ls = None} some is done = absurd (cc)

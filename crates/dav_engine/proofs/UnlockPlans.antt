@@ -9,7 +9,7 @@ use Rattle.dav_core.specs.Asking.{StoreState, Asks, Metadata}
 use Rattle.dav_core.specs.Locks.{Lock, covers, unlocked}
 use Rattle.dav_core.specs.Path.{Path, PathText, names}
 use Rattle.dav_engine.specs.Alongside.{Alongside, SameResult, SameMetadata, side_asks, side_look, side_last, SameAnswers}
-use Rattle.dav_engine.specs.AlongsidePlans.{UnlockGoesAlong}
+use Rattle.dav_engine.specs.IsolatedPlans.{UnlockIsIsolated}
 use Rattle.dav_engine.specs.AnswerParts.{answers_of}
 use Rattle.dav_engine.specs.Ending.{KeepsLock, keeps_done, keeps_ask, keeps_look, keeps_list, UnlockKeepsLocks}
 use Rattle.dav_engine.specs.Folder.{location_found}
@@ -18,13 +18,13 @@ use Rattle.dav_engine.specs.Headers.{Headers}
 use Rattle.dav_engine.specs.LockToken.{SaysLockToken}
 use Rattle.dav_engine.specs.Method.{MethodPlan, ◌>>=◌, require, has_locks, required, gives}
 use Rattle.dav_engine.specs.Plan.{Locks, Ran, ran_done, ran_ask, ran_look, ran_keep}
-use Rattle.dav_engine.specs.Response.{Response}
+use Rattle.dav_engine.specs.Reply.{Reply}
 use Rattle.dav_engine.specs.Sparing.{Sparing, Anything, AnyList, spares_err, spares_reads, spares_look, spares_last}
 use Rattle.dav_engine.specs.SparingPlans.{UnlockSpares}
 use Rattle.dav_engine.specs.Unlock.{keep_left, end_in, unlocked_reply, end_lock, unlock, is_unlock}
 use Rattle.dav_engine.specs.UnlockLaws.{EndsLock, UnlockEndsLock, RefusedUnlockLeavesAll}
 use Rattle.dav_engine.specs.WorldLaws.{IsProperPlan, proper_done, proper_ask, proper_look, proper_keep, UnlockIsProper}
-use Rattle.dav_engine.proofs.AlongsidePlans.{in_reach}
+use Rattle.dav_engine.proofs.IsolatedPlans.{in_reach}
 use Rattle.dav_engine.proofs.CallWorlds.{did, did_leave}
 use Rattle.dav_engine.proofs.LockListLemmas.{unlocked_guards, unlocked_listed, guard_ends}
 use Rattle.dav_engine.proofs.LockTokenLemmas.{one_lock_token}
@@ -33,7 +33,7 @@ use Rattle.dav_engine.proofs.SparingPlans.{spare_then}
 use Rattle.dav_engine.proofs.WorldPlans.{only_require, only_proper, proper_then, proper_bind, ran_outcome}
 
 -- what follows what is left of a list
-abbrev replies : PathText → Result DavMetaData FsError → Option (List Lock) → MethodPlan Response
+abbrev replies : PathText → Result DavMetaData FsError → Option (List Lock) → MethodPlan Reply
 replies p answer left = do
   _ ← keep_left left
   gives (unlocked_reply (location_found (result_ok answer) p))
@@ -58,7 +58,7 @@ pub unlock_is_proper : UnlockIsProper
 unlock_is_proper headers p who plan (is_unlock token is) = proper_unlock token p
 
 -- a run of what follows what is left
-left_by : (p : PathText) (answer : Result DavMetaData FsError) (left : Option (List Lock)) {s new : StoreState} {ls : List Lock} {ms : Locks} {r : Response}
+left_by : (p : PathText) (answer : Result DavMetaData FsError) (left : Option (List Lock)) {s new : StoreState} {ls : List Lock} {ms : Locks} {r : Reply}
     → Ran Asks (replies p answer left) s (Some ls) (Ok r) new ms → (after : List Lock) × (left ≡ Some after) × (new ≡ s) × (ms ≡ Some after)
 left_by p answer None ran = absurd (let e = ran_outcome ran in cc)
 left_by p answer (Some after) (ran_keep ran_done) = (after, refl, refl, refl)
@@ -68,7 +68,7 @@ stays_by : (p : PathText) (answer : Result DavMetaData FsError) (left : Option (
 stays_by p answer None ran_done = (refl, refl)
 stays_by p answer (Some after) (ran_keep ran) = absurd (let e = ran_outcome ran in cc)
 
-unlock_ends : (headers : Headers) (p : PathText) (token : List ℕ) {old new : StoreState} {ls : List Lock} {ms : Locks} {r : Response}
+unlock_ends : (headers : Headers) (p : PathText) (token : List ℕ) {old new : StoreState} {ls : List Lock} {ms : Locks} {r : Reply}
     → SaysLockToken headers token → Ran Asks (end_lock p token) old (Some ls) (Ok r) new ms → (new.world ≡ old.world) × EndsLock headers p (Some ls) ms
 unlock_ends headers p token {old} {new} {ls} {ms} says (ran_ask {mid = mid} {answer = answer} one (ran_look ran)) =
     let (after, left, same, is) = left_by p answer (unlocked token (names p) ls) ran in (
@@ -147,7 +147,7 @@ module _ (h : Lock) (p : PathText) (rest : Path) (at : names p ≡ folder_of h +
       subst (λ t. Alongside h true (λ file. SameAnswers) None (unlock (Some t) p) (unlock (Some t) p)) (sym same)
       (side_look (λ ls ks g g'. side_asks {c = Metadata (names p)} (rest, at) (λ a b told. side_look (λ ls ks g g'. side_ends a b told ls ks g g'))))
 
-pub unlock_goes_along : UnlockGoesAlong
+pub unlock_goes_along : UnlockIsIsolated
 unlock_goes_along h headers p who plan guard within says (is_unlock None is) = absurd (is h.token says)
 unlock_goes_along h headers p who plan guard within says (is_unlock (Some token) is) =
     let (rest, at) = in_reach h (names p) within in side_unlock h p rest at token (one_lock_token headers token h.token is says)

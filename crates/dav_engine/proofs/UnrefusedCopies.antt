@@ -11,7 +11,7 @@ use Rattle.dav_core.specs.CallLaws.{IsStorable}
 use Rattle.dav_core.specs.Path.{PathText, names, are_equal}
 use Rattle.dav_core.specs.World.{last_moment, IsWorld}
 use Rattle.dav_engine.specs.Copied.{IsPlain}
-use Rattle.dav_engine.specs.Copying.{CopyFault, CopyWalk, refused_at, alone_faults, copy_inside, copy_listed, copy_members, copy_seen, copy_kind, copy_looked, copy}
+use Rattle.dav_engine.specs.Copying.{CopyFault, CopyWalk, refused_at, faults_at_depth_0, copy_inside, copy_listed, copy_members, copy_seen, copy_kind, copy_looked, copy}
 use Rattle.dav_engine.specs.CopyLaws.{AnswersAll, UnrefusedCopiesCopyAll}
 use Rattle.dav_engine.specs.Folder.{child_of, room_at}
 use Rattle.dav_engine.specs.Method.{MethodPlan, then as followed_by, ◌>>=◌, gives}
@@ -121,7 +121,7 @@ module _ (limit now : ℕ) (small : now ≤ last_moment) where
         listed_by mid f.mid new ls ms faults f.answer world f.one f.more
 
     alone_by : (mid new : StoreState) (ls ms : Locks) (faults : List CopyFault) (made : Result (Unit {0}) FsError) → is_ok made ≡ true → IsWorld mid.world
-        → Ran AnswersAll (gives (alone_faults d made)) mid ls (Ok faults) new ms → Whole faults new
+        → Ran AnswersAll (gives (faults_at_depth_0 d made)) mid ls (Ok faults) new ms → Whole faults new
     alone_by mid new ls ms faults (Err e) ok world ran = cc
     alone_by mid new ls ms faults (Ok u) ok world ran = none_by faults mid new (gave ran) world
 
@@ -137,7 +137,7 @@ module _ (limit now : ℕ) (small : now ≤ last_moment) where
         let kept = asks_keep {c = CreateDir (names d) now} (storable, small) world f.one.0 in
         made_by f.mid new ls ms faults f.answer f.one.1 kept.world f.more
     kind_by false true old new ls ms faults world ran =
-        let f = first {c = CreateDir (names d) now} {go = λ made. gives (alone_faults d made)} ran in
+        let f = first {c = CreateDir (names d) now} {go = λ made. gives (faults_at_depth_0 d made)} ran in
         let kept = asks_keep {c = CreateDir (names d) now} (storable, small) world f.one.0 in
         alone_by f.mid new ls ms faults f.answer f.one.1 kept.world f.more
     kind_by deep false old new ls ms faults world ran =

@@ -16,7 +16,7 @@ use Rattle.dav_engine.specs.Guard.{folder_of, IsGuard, Guards, IsListed, Guarded
 use Rattle.dav_engine.specs.Inside.{SameInside, HasFoldersAbove}
 use Rattle.dav_engine.specs.Method.{MethodPlan}
 use Rattle.dav_engine.specs.Plan.{Done, Ask, Look, Keep, Locks, Ran}
-use Rattle.dav_engine.specs.Response.{Response}
+use Rattle.dav_engine.specs.Reply.{Reply}
 use Rattle.dav_engine.specs.WorldLaws.{IsProperPlan}
 
 -- ---- change numbers
@@ -62,7 +62,7 @@ pub record BothOpen : Type 0 where
 abbrev pub SameHandle : Handle → Handle → Type 0
 SameHandle j k = k ≡ record j { made = k.made }
 
--- they are this file
+-- two open files, one in each world, are this file
 pub record AreOpen (file : BothOpen) (j k : Handle) : Type 0 where
   pub same : SameHandle j k
   pub here : j.made ≡ file.here
@@ -146,7 +146,7 @@ AreBothThere folder None w v = Unit {0}
 AreBothThere folder (Some file) w v = IsFileAt w (folder ++ file.at) file.here × IsFileAt v (folder ++ file.at) file.alone
 
 -- Two worlds have the same content in a folder, there are folders above it in both, and the second has taken no more numbers
--- than the first.
+-- than the first (RFC 4918, section 7).
 pub record AreAlike (folder : Path) (file : Option BothOpen) (w v : World) : Type 0 where
   pub same : SameInside folder w v
   pub next : v.next ≤ w.next
@@ -156,21 +156,21 @@ pub record AreAlike (folder : Path) (file : Option BothOpen) (w v : World) : Typ
   pub world_alone : IsWorld v
   pub there : AreBothThere folder file w v
 
--- what two runs side by side result in: related outcomes, alike worlds, and a lock that guards in both or in neither
+-- what two runs side by side result in: related outcomes, alike worlds, and a lock that guards in both or in neither (RFC 4918, section 7)
 pub record Agrees {A : Type 0} (R : A → A → Type 0) (h : Lock) (a b : Result A DavError) (w v : World) (ms ks : Locks) : Type 0 where
   pub outcomes : SameResult R a b
   pub alike : AreAlike (folder_of h) None w v
   pub locks : (Guarded h ms × Guarded h ks) ⊎ (¬ Stands h ms × ¬ Stands h ks)
 
 -- replies whose compared parts are the same
-abbrev pub SameAnswers : Response → Response → Type 0
+abbrev pub SameAnswers : Reply → Reply → Type 0
 SameAnswers a b = answers_of a ≡ answers_of b
 
 -- A plan that goes along with itself has the same outcome from alike worlds, under the same refusals and where neither store
--- ran out of memory. Only the first has to find its numbers: the second then finds them too.
+-- ran out of memory. Only the first has to find its numbers: the second then finds them too (RFC 4918, section 7).
 abbrev pub AlongsideAgree : Type 0
 AlongsideAgree =
-    (h : Lock) (plan : MethodPlan Response) (old new old' new' : StoreState) (ls ms ls' ms' : Locks) (a b : Result Response DavError)
+    (h : Lock) (plan : MethodPlan Reply) (old new old' new' : StoreState) (ls ms ls' ms' : Locks) (a b : Result Reply DavError)
     → IsGuard h → Alongside h true (λ file. SameAnswers) None plan plan → IsProperPlan plan
     → Ran AsksWithNumbers plan old ls a new ms → Ran Asks plan old' ls' b new' ms' → new.short ≡ false → new'.short ≡ false → old.refusals ≡ old'.refusals
     → Guarded h ls → Guarded h ls' → AreAlike (folder_of h) None old.world old'.world → Agrees SameAnswers h a b new.world new'.world ms ms'
@@ -178,6 +178,6 @@ AlongsideAgree =
 -- A plan that ends with a number to spare, below the last, found each number that it took.
 abbrev pub SpareNumbersSuffice : Type 0
 SpareNumbersSuffice =
-    (plan : MethodPlan Response) (old new : StoreState) (ls ms : Locks) (a : Result Response DavError)
+    (plan : MethodPlan Reply) (old new : StoreState) (ls ms : Locks) (a : Result Reply DavError)
     → IsProperPlan plan → IsWorld old.world → Ran Asks plan old ls a new ms → new.world.next < last_number
     → Ran AsksWithNumbers plan old ls a new ms

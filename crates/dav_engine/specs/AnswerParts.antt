@@ -5,7 +5,7 @@ use Rattle.std.specs.Option.{option_map}
 use Rattle.dav_core.specs.Element.{ElementTree, name_of, namespace_of, children_of, is_named, text_of}
 use Rattle.dav_engine.specs.declared.reply.ReplyBody.{ReplyBody}
 use Rattle.dav_engine.specs.declared.reply.ReplyBody.TheVariants as body
-use Rattle.dav_engine.specs.Response.{Response, Header}
+use Rattle.dav_engine.specs.Reply.{Reply, Header}
 
 -- the children of an element that have this name
 abbrev pub children_named : List ℕ → ElementTree → List ElementTree
@@ -62,7 +62,8 @@ pub record AnswerParts : Type 0 where
   pub bytes : Option (List ℕ)
   pub allow : Option (List ℕ)
 
-abbrev pub answers_of : Response → AnswerParts
+-- what of a reply is compared: its status, each status of a multistatus with its path and the names of its properties, the bytes of its body, the methods that it allows
+abbrev pub answers_of : Reply → AnswerParts
 answers_of r = record {
   status = r.status;
   items = if r.status == 207 then items_in r.body else [];

@@ -11,7 +11,7 @@ pub record BackendView (F L : Type 0) : Type 0 where
   pub ls : Option L
   pub state : ServerState
 
--- its code, by those of a store, of locks and of an error
+-- the code of a server's state, by those of a store, of locks and of an error
 abbrev pub coded_backend : {F L : Type 0} → Coded F → Coded L → Coded FsError → Coded (BackendView F L)
 coded_backend {F} {L} store locks refusal =
     code_by (F × (Option L × ServerState)) (coded× store (coded× (coded_option locks) (coded_state refusal)))

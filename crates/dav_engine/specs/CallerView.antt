@@ -1,8 +1,8 @@
 -- What contracts see of a caller.
 use Rattle.std.specs.Option.{option_copied}
 use Rattle.dav_engine.specs.declared.davinner.Caller.TheInside.{Inside}
-use Rattle.dav_engine.specs.Client.{Client}
+use Rattle.dav_engine.specs.Caller.{Caller}
 
 -- the client that a caller is
-abbrev pub client_of : Inside → Client
-client_of c = record { principal = option_copied c.principal; moment = c.moment; token = option_copied c.token }
+abbrev pub caller_of : Inside → Caller
+caller_of c = record { principal = option_copied c.principal; moment = c.moment; token = option_copied c.token }

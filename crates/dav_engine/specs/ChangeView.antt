@@ -1,5 +1,5 @@
 -- What contracts see of a change of a property.
-use Rattle.dav_engine.specs.declared.propchanges.Change.TheInside.{Inside}
+use Rattle.dav_engine.specs.declared.methods.proppatch.changes.Change.TheInside.{Inside}
 use Rattle.dav_engine.specs.Proppatch.{Change}
 
 -- a change, with the property as a tree

@@ -25,37 +25,38 @@ use Rattle.dav_engine.specs.Plan.{Locks, Done}
 
 -- ---- what the headers say
 
--- A list of conditions of an If header, and the path that it applies to, where it applies to one.
+-- A list of conditions of an If header, and the path that it applies to, where it applies to one (RFC 9110, section 13.1; RFC 4918, section 10.4).
 pub record Addressed : Type 0 where
   pub path : Option Path
   pub conditions : List Condition
 
--- The conditions of a request: what If-Match and If-None-Match say, and the lists of If.
+-- The conditions of a request: what If-Match and If-None-Match say, and the lists of If (RFC 9110, section 13.1; RFC 4918, section 10.4).
 pub record Conditions : Type 0 where
+  -- the status that the conditions answer, if they do, with If first, as GET, HEAD and LOCK take them (RFC 9110, section 13.2; RFC 4918, section 10.4)
   pub if_match : Option TagList
   pub if_none_match : Option TagList
   pub lists : Option (List Addressed)
 
--- the path of a URL names this path, below a prefix; `*` names none
+-- the path of a URL names this path, below a prefix; `*` names none (RFC 4918, sections 10.4.2 and 10.4.4)
 abbrev pub TagNames : List ℕ → Parts → Path → Type 0
 TagNames prefix url q =
     (bytes : List ℕ) × (p : PathText)
     × Reads url.path bytes × (bytes ≢ server) × IsCut (without_slash prefix) bytes p × (q ≡ names p)
 
--- The path that a list applies to: the one that its resource tag names, if it has one; else the request's own.
+-- The path that a list applies to: the one that its resource tag names, if it has one; else the request's own (RFC 4918, sections 10.4.2 and 10.4.4).
 abbrev pub SpeaksOf : List ℕ → Path → Option Parts → Option Path → Type 0
 SpeaksOf prefix own None q = q ≡ Some own
 SpeaksOf prefix own (Some url) (Some q) = TagNames prefix url q
 SpeaksOf prefix own (Some url) None = (q : Path) → ¬ TagNames prefix url q
 
--- the lists in order, each with the path that it applies to
+-- the lists in order, each with the path that it applies to (RFC 4918, sections 10.4.2 and 10.4.4)
 abbrev pub AreAddressed : List ℕ → Path → List ConditionList → List Addressed → Type 0
 AreAddressed prefix own [] lists = lists ≡ []
 AreAddressed prefix own (l ∷ ls) lists =
     (q : Option Path) × (more : List Addressed)
     × SpeaksOf prefix own l.resource q × (lists ≡ record { path = q; conditions = l.conditions } ∷ more) × AreAddressed prefix own ls more
 
--- the only value of an If header holds these lists
+-- the only value of an If header holds these lists (RFC 4918, sections 10.4.2 and 10.4.4)
 abbrev pub SaysLists : List ℕ → Path → List FieldValue → List Addressed → Type 0
 SaysLists prefix own values lists = (ls : List ConditionList) × IsIfHeader values ls × AreAddressed prefix own ls lists
 
@@ -73,13 +74,13 @@ tag_found None = None
 tag_found (Some m) = option_map (λ number. record { weak = false; tag = digits 16 false number }) m.number
 
 -- Whether a list matches what is there: `*` matches anything, tags match what has one of them, by the strong comparison, for
--- If-None-Match too, where the standard uses the weak one.
+-- If-None-Match too, where the standard uses the weak one (RFC 9110, sections 8.8.3 and 13.1).
 abbrev pub matches : TagList → Bool → Option EntityTag → Bool
 matches star exists tag = exists
 matches (tags ts) exists None = false
 matches (tags ts) exists (Some tag) = list_any (λ t. is_strong_match t tag) ts
 
--- whether a header's list is `*`
+-- whether a header's list is `*` (RFC 9110, sections 8.8.3 and 13.1)
 abbrev pub is_star : Option TagList → Bool
 is_star None = false
 is_star (Some star) = true
@@ -97,7 +98,7 @@ is_reading Head = true
 is_reading _ = false
 
 -- The status that these two conditions answer, if they do: 412 where If-Match doesn't match; and where If-None-Match
--- matches, 304 for GET and HEAD, 412 for other methods.
+-- matches, 304 for GET and HEAD, 412 for other methods (RFC 9110, sections 13.1.1, 13.1.2 (which compares weakly) and 13.2.2).
 abbrev pub http_conditions : DavMethod → Option TagList → Option TagList → Option DavMetaData → Option ℕ
 http_conditions m match none_match found =
     if not (unwrap_or (matches_found match found) true) then Some 412
@@ -116,13 +117,13 @@ token_holds token p (Some ls) = not (starts_with ◌==◌ token (codes "DAV:")) 
 abbrev pub tag_holds : EntityTag → Result DavMetaData FsError → Bool
 tag_holds tag answer = matches (tags (tag ∷ [])) true (tag_found (result_ok answer))
 
--- whether what is at a path has an entity tag; the store is asked
+-- whether what is at a path has an entity tag; the store is asked (RFC 4918, sections 10.4.4 and 10.4.8)
 abbrev pub has_tag : Path → EntityTag → MethodPlan Bool
 has_tag p e = do
   found ← answer_of (Metadata p)
   gives (tag_holds e found)
 
--- whether an item is true of a path; where there is no path, no item is true
+-- whether an item is true of a path; where there is no path, no item is true (RFC 4918, sections 10.4.4 and 10.4.8)
 abbrev pub item_holds : Option Path → Item → MethodPlan Bool
 item_holds None i = gives false
 item_holds (Some p) (state_token t) = do
@@ -130,34 +131,34 @@ item_holds (Some p) (state_token t) = do
   gives (token_holds t p locks)
 item_holds (Some p) (entity_tag e) = has_tag p e
 
--- goes on, unless the answer is settled: by false for `while_true`, by true for `while_false`
-abbrev pub while_true : Bool → MethodPlan Bool → MethodPlan Bool
-while_true true next = next
-while_true false next = gives false
+-- goes on, unless the answer is settled: by false for `and_then`, by true for `or_else`
+abbrev pub and_then : Bool → MethodPlan Bool → MethodPlan Bool
+and_then true next = next
+and_then false next = gives false
 
-abbrev pub while_false : Bool → MethodPlan Bool → MethodPlan Bool
-while_false true next = gives true
-while_false false next = next
+abbrev pub or_else : Bool → MethodPlan Bool → MethodPlan Bool
+or_else true next = gives true
+or_else false next = next
 
 -- an item under `Not` holds where it isn't true
 abbrev pub condition_holds : Bool → Bool → Bool
 condition_holds negated holds = if negated then not holds else holds
 
--- whether all conditions of a list hold; they are evaluated in order, up to the first that doesn't
+-- whether all conditions of a list hold; they are evaluated in order, up to the first that doesn't (RFC 4918, section 10.4.3)
 abbrev pub all_hold : Option Path → List Condition → MethodPlan Bool
 all_hold p [] = gives true
 all_hold p (c ∷ cs) = do
   holds ← item_holds p c.item
-  while_true (condition_holds c.negated holds) (all_hold p cs)
+  and_then (condition_holds c.negated holds) (all_hold p cs)
 
--- whether one of the lists holds; they are evaluated in order, up to the first that does
+-- whether one of the lists holds; they are evaluated in order, up to the first that does (RFC 4918, section 10.4.3)
 abbrev pub some_holds : List Addressed → MethodPlan Bool
 some_holds [] = gives false
 some_holds (l ∷ ls) = do
   holds ← all_hold l.path l.conditions
-  while_false holds (some_holds ls)
+  or_else holds (some_holds ls)
 
--- whether an If header holds; without the header the answer is yes
+-- whether an If header holds; without the header the answer is yes (RFC 4918, section 10.4.3)
 abbrev pub if_holds : Option (List Addressed) → MethodPlan Bool
 if_holds None = gives true
 if_holds (Some ls) = some_holds ls
@@ -170,7 +171,7 @@ submitted (Some ls) = flat_map (λ l. tokens_among l.conditions) ls
 
 -- ---- all conditions
 
--- whether If holds, and the tokens that it submits
+-- whether If holds, and the tokens that it submits (RFC 4918, section 10.4)
 abbrev pub dav_if_match : Option (List Addressed) → MethodPlan (Bool × List (List ℕ))
 dav_if_match lists = do
   holds ← if_holds lists
@@ -187,7 +188,7 @@ abbrev pub unless : {A : Type 0} → Option ℕ → MethodPlan (Result A ℕ) �
 unless (Some status) next = gives (Err status)
 unless None next = next
 
--- The tokens that are submitted, or the status that the conditions answer, with If evaluated last.
+-- The tokens that are submitted, or the status that the conditions answer, with If evaluated last (RFC 9110, section 13.2; RFC 4918, section 10.4).
 abbrev pub if_match_get_tokens : DavMethod → Conditions → Option DavMetaData → MethodPlan (Result (List (List ℕ)) ℕ)
 if_match_get_tokens m c found = unless (http_conditions m c.if_match c.if_none_match found) (do
   holds ← if_holds c.lists
@@ -198,7 +199,7 @@ abbrev pub status_as : {A : Type 0} → (ℕ → DavError) → Result A ℕ → 
 status_as f (Ok a) = Ok a
 status_as f (Err status) = Err (f status)
 
--- gives the tokens where the conditions hold; else ends with their status
+-- gives the tokens where the conditions hold; else ends with their status (RFC 9110, section 13.2; RFC 4918, section 10.4)
 abbrev pub guarded : (ℕ → DavError) → DavMethod → Conditions → Option DavMetaData → MethodPlan (List (List ℕ))
 guarded f m c found = do
   verdict ← if_match_get_tokens m c found

@@ -14,7 +14,7 @@ use Rattle.dav_core.specs.Property.{Properties}
 use Rattle.dav_core.specs.Status.{fs_status}
 use Rattle.dav_core.specs.World.{World, Node, node_at, is_folder_kind, is_folder, is_missing, last_moment, IsWorld}
 use Rattle.dav_headers.specs.declared.depth.Depth.TheVariants.{Zero}
-use Rattle.dav_engine.specs.Client.{Client}
+use Rattle.dav_engine.specs.Caller.{Caller}
 use Rattle.dav_engine.specs.Copied.{IsPlain}
 use Rattle.dav_engine.specs.Copying.{CopyFault, copy_report, copying}
 use Rattle.dav_engine.specs.CopyMove.{CopyHeaders, is_move, copy_reply, copy_or_move}
@@ -23,9 +23,9 @@ use Rattle.dav_engine.specs.Multistatus.{multi_reply, status_reply}
 use Rattle.dav_engine.specs.Plan.{Locks, CallStep, Ran}
 use Rattle.dav_engine.specs.Removal.{Fault, report_of}
 use Rattle.dav_engine.specs.RemovalLaws.{timeless, timeless_at, LeavesSurvivors}
-use Rattle.dav_engine.specs.Response.{Response}
+use Rattle.dav_engine.specs.Reply.{Reply}
 
--- a fault names this path, or one above it
+-- a fault names this path, or one above it (RFC 4918, section 9.8.2)
 abbrev pub is_below_fault : List CopyFault → Path → Bool
 is_below_fault faults q = list_any (λ f. is_at_or_under q (names f.0)) faults
 
@@ -34,18 +34,20 @@ abbrev pub copied_properties : Node → Properties
 copied_properties n = if is_folder_kind n.kind then [] else n.properties
 
 -- m is a copy of n, made in this world or later: a folder, or a file with the same bytes and dead properties, with a new change number
+-- (RFC 4918, section 9.8.2)
 pub record IsCopied (w : World) (n m : Node) : Type 0 where
   pub kind : m.kind ≡ n.kind
   pub properties : m.properties ≡ copied_properties n
   pub number : w.next ≤ m.number
 
--- m is a copy of what was at p, which isn't at d or below it
+-- m is a copy of what was at p, which isn't at d or below it (RFC 4918, section 9.8.2)
 abbrev pub IsCopyFrom : World → Path → Path → Node → Type 0
 IsCopyFrom w p d m = (n : Node) × (node_at w p ≡ Some n) × (is_at_or_under p d ≡ false) × IsCopied w n m
 
 -- What a copy of s, with everything below it, to d left of a map, with these faults. Nothing changed but at d and below it, except for
 -- times. What was at s or below it, and isn't at d or below it, has its copy at the same place of d, unless a fault names it or its
--- place, or what is above them. Whatever else is at d or below it was there. And each fault names what is at s or d, or below them.
+-- place, or what is above them. Whatever else is at d or below it was there. And each fault names what is at s or d, or below them
+-- (RFC 4918, section 9.8.3).
 pub record LeavesCopies (s d : Path) (faults : List CopyFault) (old new : World) : Type 0 where
   pub elsewhere : (q : Path) → is_at_or_under q d ≡ false → timeless_at new q ≡ timeless_at old q
   pub copied : (rest : Path) (n : Node) → node_at old (s ++ rest) ≡ Some n → is_at_or_under (s ++ rest) d ≡ false
@@ -55,12 +57,12 @@ pub record LeavesCopies (s d : Path) (faults : List CopyFault) (old new : World)
       → (timeless_at old (d ++ rest) ≡ Some (timeless m)) ⊎ IsCopyFrom old (s ++ rest) d m
   pub below : All (λ f. (is_at_or_under (names f.0) s || is_at_or_under (names f.0) d) ≡ true) faults
 
--- what is at d or below it is a copy of what was at the same place of s
+-- what is at d or below it is a copy of what was at the same place of s (RFC 4918, section 9.8.3)
 abbrev pub OnlyCopies : Path → Path → World → World → Type 0
 OnlyCopies s d old new = (rest : Path) (m : Node) → node_at new (d ++ rest) ≡ Some m → IsCopyFrom old (s ++ rest) d m
 
 -- A copy to a path that isn't the source or above it leaves copies, and no others where nothing was there, whatever the store refuses,
--- also where the path is below the source; and it leaves the list of locks. Both paths are cut after the same prefix.
+-- also where the path is below the source; and it leaves the list of locks. Both paths are cut after the same prefix (RFC 4918, section 9.8.3).
 abbrev pub CopiesLeaveCopies : Type 0
 CopiesLeaveCopies =
     (now : ℕ) (s d : PathText) (old new : StoreState) (ls ms : Locks) (faults : List CopyFault)
@@ -75,7 +77,7 @@ CopiesLeaveCopies =
 -- reports it, and nothing else changed. Or what was found at d was removed, so that only copies are there; the reply reports the faults
 -- of the copy, or 204 or 201; and the locks at d and below it are gone where something was found there (RFC 4918, sections 9.8.4 and
 -- 9.8.5).
-pub data CopyLeaves (p d : PathText) (old new : StoreState) (ls ms : Locks) (r : Response) : Type 0 where
+pub data CopyLeaves (p d : PathText) (old new : StoreState) (ls ms : Locks) (r : Reply) : Type 0 where
   not_cleared : (f : Fault) (faults : List Fault) → LeavesSurvivors (names d) (f ∷ faults) old.world new.world
       → Ok r ≡ multi_reply (closed (is_folder old.world (names p)) p) (map report_of (f ∷ faults)) → ms ≡ ls → CopyLeaves p d old new ls ms r
   has_copied : (found : Bool) (faults : List CopyFault) → LeavesCopies (names p) (names d) faults old.world new.world
@@ -85,10 +87,10 @@ pub data CopyLeaves (p d : PathText) (old new : StoreState) (ls ms : Locks) (r :
       → ms ≡ (if found then option_map (deleted (names d)) ls else ls) → CopyLeaves p d old new ls ms r
 
 -- A COPY of a path without Depth, or at infinite depth, leaves so, whatever the store refuses. Its destination is cut after the same
--- prefix as the path.
+-- prefix as the path (RFC 4918, sections 9.8.3 to 9.8.5).
 abbrev pub CopyLeavesCopies : Type 0
 CopyLeavesCopies =
-    (m : DavMethod) (h : CopyHeaders) (p d : PathText) (who : Client) (old new : StoreState) (ls ms : Locks) (r : Response)
+    (m : DavMethod) (h : CopyHeaders) (p d : PathText) (who : Caller) (old new : StoreState) (ls ms : Locks) (r : Reply)
     → IsWorld old.world → who.moment ≤ last_moment → is_move m ≡ false → h.depth ≢ Some Zero → h.destination ≡ Ok d
     → IsPlain p → IsPlain d → IsStorable (names d) → p.prefix ≡ d.prefix
     → Ran Asks (copy_or_move m h p who) old ls (Ok r) new ms → CopyLeaves p d old new ls ms r
@@ -112,7 +114,7 @@ locks_without removed d ls = if removed then option_map (deleted d) ls else ls
 -- nothing changed. Or a file that was found at d was removed, and then a copy of what was at p is at d, a folder without what was in
 -- it, and nothing else changed; or the store answered for a folder that something is at d, and nothing more changed; or it refused the
 -- copy, which the reply reports, and nothing more changed (RFC 4918, sections 9.8.3 to 9.8.5).
-pub data CopyLeavesOne (p d : PathText) (old new : StoreState) (ls ms : Locks) (r : Response) : Type 0 where
+pub data CopyLeavesOne (p d : PathText) (old new : StoreState) (ls ms : Locks) (r : Reply) : Type 0 where
   file_stays : (f : Fault) (faults : List Fault) → LeavesSurvivors (names d) (f ∷ faults) old.world new.world
       → Ok r ≡ multi_reply (closed (is_folder old.world (names p)) p) (map report_of (f ∷ faults)) → ms ≡ ls → CopyLeavesOne p d old new ls ms r
   one_copied : (found removed : Bool) (n m : Node) → IsFoundAt (names d) old.world found removed
@@ -127,22 +129,23 @@ pub data CopyLeavesOne (p d : PathText) (old new : StoreState) (ls ms : Locks) (
       → ((q : Path) → IsWithout removed (names d) old.world new.world q)
       → Ok r ≡ multi_reply (closed (is_folder old.world (names p)) p) (copy_report f ∷ []) → ms ≡ locks_without removed (names d) ls → CopyLeavesOne p d old new ls ms r
 
--- A COPY of a path at Depth 0 leaves so, whatever the store refuses. Its destination is cut after the same prefix as the path.
+-- A COPY of a path at Depth 0 leaves so, whatever the store refuses. Its destination is cut after the same prefix as the path
+-- (RFC 4918, sections 9.8.3 to 9.8.5).
 abbrev pub CopyLeavesOneCopy : Type 0
 CopyLeavesOneCopy =
-    (m : DavMethod) (h : CopyHeaders) (p d : PathText) (who : Client) (old new : StoreState) (ls ms : Locks) (r : Response)
+    (m : DavMethod) (h : CopyHeaders) (p d : PathText) (who : Caller) (old new : StoreState) (ls ms : Locks) (r : Reply)
     → IsWorld old.world → who.moment ≤ last_moment → is_move m ≡ false → h.depth ≡ Some Zero → h.destination ≡ Ok d
     → IsPlain p → IsPlain d → p.prefix ≡ d.prefix
     → Ran Asks (copy_or_move m h p who) old ls (Ok r) new ms → CopyLeavesOne p d old new ls ms r
 
 -- ---- without a refusal
 
--- a call is answered, and neither refused nor short of memory
+-- a call is answered, and neither refused nor short of memory (RFC 4918, section 9.8.3)
 abbrev pub AnswersAll : CallStep
 AnswersAll c old answer new = Asks c old answer new × (is_ok answer ≡ true)
 
 -- A copy of which no call is refused, neither by the list nor by the call's own rules, copies all: what it reports are paths of 2^64
--- names or more, and no path that memory can hold has so many.
+-- names or more, and no path that memory can hold has so many (RFC 4918, section 9.8.3).
 abbrev pub UnrefusedCopiesCopyAll : Type 0
 UnrefusedCopiesCopyAll =
     (deep : Bool) (now : ℕ) (s d : PathText) (old new : StoreState) (ls ms : Locks) (faults : List CopyFault)
@@ -152,7 +155,7 @@ UnrefusedCopiesCopyAll =
 -- ---- a whole MOVE
 
 -- What a move of s to d left: what was at s or below it is at the same place of d, with its change numbers and the same but for times;
--- nothing is at s or below it; and nothing changed elsewhere, except for times.
+-- nothing is at s or below it; and nothing changed elsewhere, except for times (RFC 4918, sections 7.7 and 9.9).
 pub record LeavesMoved (s d : Path) (old new : World) : Type 0 where
   pub arrived : (rest : Path) → timeless_at new (d ++ rest) ≡ timeless_at old (s ++ rest)
   pub gone : (q : Path) → is_at_or_under q s ≡ true → timeless_at new q ≡ None
@@ -161,7 +164,7 @@ pub record LeavesMoved (s d : Path) (old new : World) : Type 0 where
 -- What a MOVE of p to d left, where a reply ends it. Either something that was at d wasn't removed: the reply reports it, and nothing else
 -- changed. Or what was found at d was removed; and then all was moved, and the locks at p, and where something was found at d those there,
 -- and below them are gone; or the store refused to move, which the reply reports, and all but what was removed is as it was (RFC 4918, sections 7.7 and 9.9).
-pub data MoveLeaves (p d : PathText) (old new : StoreState) (ls ms : Locks) (r : Response) : Type 0 where
+pub data MoveLeaves (p d : PathText) (old new : StoreState) (ls ms : Locks) (r : Reply) : Type 0 where
   not_cleared_for : (f : Fault) (faults : List Fault) → LeavesSurvivors (names d) (f ∷ faults) old.world new.world
       → Ok r ≡ multi_reply (closed (is_folder old.world (names p)) p) (map report_of (f ∷ faults)) → ms ≡ ls → MoveLeaves p d old new ls ms r
   has_moved : (found : Bool) → LeavesMoved (names p) (names d) old.world new.world
@@ -172,15 +175,15 @@ pub data MoveLeaves (p d : PathText) (old new : StoreState) (ls ms : Locks) (r :
       → Ok r ≡ multi_reply (closed (is_folder old.world (names p)) p) ((closed (is_folder old.world (names p)) p, fs_status e) ∷ [])
       → ms ≡ (if found then option_map (deleted (names d)) ls else ls) → MoveLeaves p d old new ls ms r
 
--- each MOVE leaves so, whatever the store refuses
+-- each MOVE leaves so, whatever the store refuses (RFC 4918, sections 7.7 and 9.9)
 abbrev pub MoveLeavesMoved : Type 0
 MoveLeavesMoved =
-    (m : DavMethod) (h : CopyHeaders) (p d : PathText) (who : Client) (old new : StoreState) (ls ms : Locks) (r : Response)
+    (m : DavMethod) (h : CopyHeaders) (p d : PathText) (who : Caller) (old new : StoreState) (ls ms : Locks) (r : Reply)
     → IsWorld old.world → who.moment ≤ last_moment → is_move m ≡ true → h.destination ≡ Ok d → p.bytes ≢ star → IsPlain d
     → Ran Asks (copy_or_move m h p who) old ls (Ok r) new ms → MoveLeaves p d old new ls ms r
 
--- An error of a COPY or MOVE leaves the world and the list of locks as they are.
+-- An error of a COPY or MOVE leaves the world and the list of locks as they are (RFC 4918, sections 9.8 and 9.9).
 abbrev pub RefusedCopyMoveLeavesAll : Type 0
 RefusedCopyMoveLeavesAll =
-    (m : DavMethod) (h : CopyHeaders) (p : PathText) (who : Client) (old new : StoreState) (ls ms : Locks) (e : DavError)
+    (m : DavMethod) (h : CopyHeaders) (p : PathText) (who : Caller) (old new : StoreState) (ls ms : Locks) (e : DavError)
     → Ran Asks (copy_or_move m h p who) old ls (Err e) new ms → (new.world ≡ old.world) × (ms ≡ ls)

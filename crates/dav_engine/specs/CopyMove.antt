@@ -21,7 +21,7 @@ use Rattle.dav_headers.specs.Destination.{IsDestination}
 use Rattle.dav_headers.specs.Overwrite.{IsOverwrite}
 use Rattle.dav_headers.specs.declared.depth.Depth.{Depth}
 use Rattle.dav_headers.specs.declared.depth.Depth.TheVariants.{Zero}
-use Rattle.dav_engine.specs.Client.{Client, requester}
+use Rattle.dav_engine.specs.Caller.{Caller, requester}
 use Rattle.dav_engine.specs.Conditions.{Conditions, AreConditions, guarded}
 use Rattle.dav_engine.specs.Copying.{CopyFault, copy_report, copying, renaming}
 use Rattle.dav_engine.specs.Delete.{whole_depth}
@@ -31,12 +31,12 @@ use Rattle.dav_engine.specs.Method.{MethodPlan, ◌>>=◌, require, require_free
 use Rattle.dav_engine.specs.Multistatus.{status_reply, multi_reply}
 use Rattle.dav_engine.specs.Plan.{Done}
 use Rattle.dav_engine.specs.Removal.{Fault, report_of, removal}
-use Rattle.dav_engine.specs.Response.{Response}
+use Rattle.dav_engine.specs.Reply.{Reply}
 
 -- ---- what the headers say
 
 -- What the headers of a COPY or MOVE say: its conditions and its depth; whether it may overwrite; and its destination, or the
--- error that answers the request.
+-- error that answers the request (RFC 4918, sections 10.2, 10.3 and 10.6).
 pub record CopyHeaders : Type 0 where
   pub conditions : Conditions
   pub depth : Option Depth
@@ -51,6 +51,7 @@ pub data DestinationNames (prefix : List ℕ) (values : List FieldValue) : Resul
   outside : (text bytes : List ℕ) → IsDestination values text → Reads text bytes → HasNoCut (without_slash prefix) bytes → DestinationNames prefix values (Err dav.IllegalPath)
   inside : (text bytes : List ℕ) {d : PathText} → IsDestination values text → Reads text bytes → IsCut (without_slash prefix) bytes d → DestinationNames prefix values (Ok d)
 
+-- The headers say so as those of a COPY or MOVE (RFC 4918, sections 10.2, 10.3 and 10.6).
 pub record AreCopyHeaders (headers : Headers) (p : PathText) (h : CopyHeaders) : Type 0 where
   pub conditions : AreConditions headers p.prefix (names p) h.conditions
   pub depth : Decodes IsDepth (get_all headers (codes "depth")) h.depth
@@ -59,7 +60,7 @@ pub record AreCopyHeaders (headers : Headers) (p : PathText) (h : CopyHeaders) :
 
 -- ---- the checks before anything changes
 
--- whether the method is MOVE
+-- whether the method is MOVE (RFC 4918, sections 9.8.3 and 9.9.2)
 abbrev pub is_move : DavMethod → Bool
 is_move Move = true
 is_move _ = false
@@ -80,22 +81,23 @@ destination_found overwrite d = do
   _ ← require (unwrap_or overwrite true || not (is_ok there)) (dav.Status 412)
   gives (result_ok there)
 
--- a MOVE takes away what is at its source and below it, so no lock may conflict there
-abbrev pub source_free : Bool → Client → List (List ℕ) → PathText → MethodPlan (Unit {0})
+-- a MOVE takes away what is at its source and below it, so no lock may conflict there (RFC 4918, sections 7.4, 7.5 and 9.8.5)
+abbrev pub source_free : Bool → Caller → List (List ℕ) → PathText → MethodPlan (Unit {0})
 source_free true who tokens p = require_free true (requester who tokens) (names p) (dav.Status 423)
 source_free false who tokens p = gives tt
 
--- whether what was found at the destination is removed: at Depth 0 a folder stays
+-- whether what was found at the destination is removed: at Depth 0 a folder stays (RFC 4918, section 9.8.4)
 abbrev pub is_replaced : Bool → Option DavMetaData → Bool
 is_replaced deep None = false
 is_replaced deep (Some m) = deep || not m.dir
 
 -- whether the list of members at the destination changes: by a MOVE; by a COPY where nothing was found there, or where it is replaced
+-- (RFC 4918, section 7.4)
 abbrev pub changes_members : Bool → Bool → Option DavMetaData → Bool
 changes_members moves deep there = moves || is_none there || is_replaced deep there
 
 -- 423 where a lock conflicts, for a MOVE at the source or below it, and for both at the destination or below it (RFC 4918, section 7.5)
-abbrev pub paths_free : Bool → Client → List (List ℕ) → PathText → PathText → MethodPlan (Unit {0})
+abbrev pub paths_free : Bool → Caller → List (List ℕ) → PathText → PathText → MethodPlan (Unit {0})
 paths_free moves who tokens p d = do
   _ ← source_free moves who tokens p
   require_free true (requester who tokens) (names d) (dav.Status 423)
@@ -107,8 +109,8 @@ folders_free moves changes who p d = do
   _ ← require_parent moves who (names p) (dav.Status 423)
   require_parent changes who (names d) (dav.Status 423)
 
--- whether conditions and locks let the request go on: 412 where a condition on the source fails
-abbrev pub copy_free : DavMethod → Bool → Conditions → PathText → PathText → Client → DavMetaData → Option DavMetaData → MethodPlan (Unit {0})
+-- whether conditions and locks let the request go on: 412 where a condition on the source fails (RFC 4918, sections 7.4, 7.5 and 9.8.5)
+abbrev pub copy_free : DavMethod → Bool → Conditions → PathText → PathText → Caller → DavMetaData → Option DavMetaData → MethodPlan (Unit {0})
 copy_free m deep c p d who found there = do
   tokens ← guarded dav.Status m c (Some found)
   _ ← paths_free (is_move m) who tokens p d
@@ -116,7 +118,7 @@ copy_free m deep c p d who found there = do
 
 -- The checks before anything changes, and what is found at the destination. 403 where that is the source itself, or above it: to
 -- overwrite it would destroy the source (RFC 4918, sections 9.8.5 and 9.9.4).
-abbrev pub copy_allowed : DavMethod → Bool → CopyHeaders → PathText → PathText → Client → DavMetaData → MethodPlan (Option DavMetaData)
+abbrev pub copy_allowed : DavMethod → Bool → CopyHeaders → PathText → PathText → Caller → DavMetaData → MethodPlan (Option DavMetaData)
 copy_allowed m deep h p d who found = do
   there ← destination_found h.overwrite d
   _ ← require (not (is_at_or_under (names p) (names d))) (dav.Status 403)
@@ -129,7 +131,7 @@ copy_allowed m deep h p d who found = do
 abbrev pub clearing : Bool → ℕ → PathText → Option DavMetaData → MethodPlan (List Fault)
 clearing deep now d there = if is_replaced deep there then removal true now d (is_folder_found there) else gives []
 
--- ends the locks there, where it was removed
+-- ends the locks there, where it was removed (RFC 4918, section 9.8.4)
 abbrev pub drop_if : Bool → PathText → MethodPlan (Unit {0})
 drop_if true p = drop_locks (names p)
 drop_if false p = gives tt
@@ -141,51 +143,52 @@ abbrev pub drop_if_moved : PathText → List CopyFault → MethodPlan (Unit {0})
 drop_if_moved p [] = drop_locks (names p)
 drop_if_moved p (f ∷ faults) = gives tt
 
--- moves, or copies
-abbrev pub brought : Bool → Bool → ℕ → PathText → PathText → MethodPlan (List CopyFault)
-brought true deep now p d = do
+-- moves, or copies (RFC 4918, sections 7.7 and 9.9)
+abbrev pub transfer : Bool → Bool → ℕ → PathText → PathText → MethodPlan (List CopyFault)
+transfer true deep now p d = do
   faults ← renaming now p d
   _ ← drop_if_moved p faults
   gives faults
-brought false deep now p d = copying deep now d p d
+transfer false deep now p d = copying deep now d p d
 
 -- 204 where something was at the destination, else 201 (RFC 4918, sections 9.8.5 and 9.9.4)
 abbrev pub copied_status : Option DavMetaData → ℕ
 copied_status there = if is_some there then 204 else 201
 
--- the reply: this status where all was done, else what wasn't is reported
-abbrev pub copy_reply : PathText → ℕ → List CopyFault → Result Response DavError
+-- the reply: this status where all was done, else what wasn't is reported (RFC 4918, sections 9.8.5 and 9.9.4)
+abbrev pub copy_reply : PathText → ℕ → List CopyFault → Result Reply DavError
 copy_reply p status [] = Ok (status_reply status)
 copy_reply p status (f ∷ faults) = multi_reply p (map copy_report (f ∷ faults))
 
 -- moves or copies, and replies
-abbrev pub bringing : Bool → Bool → ℕ → PathText → PathText → ℕ → MethodPlan Response
-bringing moves deep now p d status = do
-  faults ← brought moves deep now p d
+abbrev pub transfer_reply : Bool → Bool → ℕ → PathText → PathText → ℕ → MethodPlan Reply
+transfer_reply moves deep now p d status = do
+  faults ← transfer moves deep now p d
   Done (copy_reply p status faults)
 
--- Goes on where the destination was cleared. Where something stays there, that is reported, and the source stays as it is.
-abbrev pub bring_if_clear : Bool → Bool → ℕ → PathText → PathText → Option DavMetaData → List Fault → MethodPlan Response
-bring_if_clear moves deep now p d there (f ∷ faults) = Done (multi_reply p (map report_of (f ∷ faults)))
-bring_if_clear moves deep now p d there [] = do
+-- Goes on where the destination was cleared. Where something stays there, that is reported, and the source stays as it is
+-- (RFC 4918, sections 9.8.5 and 9.9.4).
+abbrev pub transfer_if_cleared : Bool → Bool → ℕ → PathText → PathText → Option DavMetaData → List Fault → MethodPlan Reply
+transfer_if_cleared moves deep now p d there (f ∷ faults) = Done (multi_reply p (map report_of (f ∷ faults)))
+transfer_if_cleared moves deep now p d there [] = do
   _ ← drop_if (is_replaced deep there) d
-  bringing moves deep now p d (copied_status there)
+  transfer_reply moves deep now p d (copied_status there)
 
 -- a COPY or MOVE of what was found at a path
-abbrev pub copy_found : DavMethod → Bool → CopyHeaders → PathText → PathText → Client → DavMetaData → MethodPlan Response
+abbrev pub copy_found : DavMethod → Bool → CopyHeaders → PathText → PathText → Caller → DavMetaData → MethodPlan Reply
 copy_found m deep h p d who found = do
   there ← copy_allowed m deep h p d who found
   faults ← clearing deep who.moment d there
-  bring_if_clear (is_move m) deep who.moment p d there faults
+  transfer_if_cleared (is_move m) deep who.moment p d there faults
 
--- COPY, or MOVE, with what its headers say: the path of a folder is taken with a slash at its end
-abbrev pub copy_or_move : DavMethod → CopyHeaders → PathText → Client → MethodPlan Response
+-- COPY, or MOVE, with what its headers say: the path of a folder is taken with a slash at its end (RFC 4918, sections 9.8 and 9.9)
+abbrev pub copy_or_move : DavMethod → CopyHeaders → PathText → Caller → MethodPlan Reply
 copy_or_move m h p who = do
   deep ← Done (copy_depth (is_move m) h.depth)
   d ← Done h.destination
   found ← ask_for (Metadata (names p))
   copy_found m deep h (closed found.dir p) d who found
 
--- the plan is that of a COPY, or of a MOVE, with these headers, of this path, by this client
-pub data IsCopyMove (m : DavMethod) (headers : Headers) (p : PathText) (who : Client) : MethodPlan Response → Type 0 where
+-- the plan is that of a COPY, or of a MOVE, with these headers, of this path, by this client (RFC 4918, sections 9.8 and 9.9)
+pub data IsCopyMove (m : DavMethod) (headers : Headers) (p : PathText) (who : Caller) : MethodPlan Reply → Type 0 where
   is_copy_move : (h : CopyHeaders) → AreCopyHeaders headers p h → IsCopyMove m headers p who (copy_or_move m h p who)

@@ -7,7 +7,7 @@ use Rattle.dav_core.specs.declared.errors.DavError.{DavError}
 use Rattle.dav_core.specs.declared.errors.DavError.TheVariants as dav
 use Rattle.dav_core.specs.Path.{PathText, IsCut, HasNoCut, without_slash}
 use Rattle.dav_core.specs.Target.{Reads, IsRefused}
-use Rattle.dav_engine.specs.declared.copy_headers.CopyHeaders.TheInside.{Inside}
+use Rattle.dav_engine.specs.declared.methods.copy_move.headers.CopyHeaders.TheInside.{Inside}
 use Rattle.dav_engine.specs.CopyMove.{CopyHeaders}
 use Rattle.dav_engine.specs.Copying.{CopyWalk, copy}
 use Rattle.dav_engine.specs.Folder.{room_at}

@@ -13,15 +13,15 @@ use Rattle.dav_engine.specs.Folder.{child_of, room_at}
 use Rattle.dav_engine.specs.Method.{MethodPlan, ◌>>=◌, answer_of, gives}
 use Rattle.dav_engine.specs.Multistatus.{PathStatus}
 
--- a path that wasn't copied or wasn't created, and why
+-- a path that wasn't copied or wasn't created, and why (RFC 4918, section 9.8.3)
 abbrev pub CopyFault : Type 0
 CopyFault = PathText × FsError
 
--- a fault as the reply reports it
+-- a fault as the reply reports it (RFC 4918, section 9.8.3)
 abbrev pub copy_report : CopyFault → PathStatus
 copy_report f = (f.0, fs_status f.1)
 
--- why the last of the paths wasn't copied
+-- why the last of the paths wasn't copied (RFC 4918, section 9.8.3)
 abbrev pub last_refusal : List CopyFault → Option FsError
 last_refusal faults = option_map (λ f. f.1) (last_or None faults)
 
@@ -48,7 +48,7 @@ copy_seen walk s d name rest (Ok m) = do
   more ← rest
   gives (faults ++ more)
 
--- copies the members of a folder, in order
+-- copies the members of a folder, in order (RFC 4918, sections 9.8.2 and 9.8.3)
 abbrev pub copy_members : CopyWalk → PathText → PathText → List (List ℕ × Bool) → MethodPlan (List CopyFault)
 copy_members walk s d [] = gives []
 copy_members walk s d (entry ∷ entries) = do
@@ -67,17 +67,17 @@ copy_inside walk s d (Ok made) = do
   listed ← answer_of (ReadDir (names s))
   copy_listed walk s d listed
 
--- the faults of a folder that is copied alone: that something is at the destination already is none
-abbrev pub alone_faults : PathText → Result (Unit {0}) FsError → List CopyFault
-alone_faults d (Ok made) = []
-alone_faults d (Err fs.Exists) = []
-alone_faults d (Err e) = (d, e) ∷ []
+-- the faults of a folder that is copied alone: that something is at the destination already is none (RFC 4918, section 9.8.3)
+abbrev pub faults_at_depth_0 : PathText → Result (Unit {0}) FsError → List CopyFault
+faults_at_depth_0 d (Ok made) = []
+faults_at_depth_0 d (Err fs.Exists) = []
+faults_at_depth_0 d (Err e) = (d, e) ∷ []
 
--- copies a folder without what is in it
+-- copies a folder without what is in it (RFC 4918, section 9.8.3)
 abbrev pub copy_alone : ℕ → PathText → MethodPlan (List CopyFault)
 copy_alone now d = do
   made ← answer_of (CreateDir (names d) now)
-  gives (alone_faults d made)
+  gives (faults_at_depth_0 d made)
 
 -- Copies a folder: it is created at the destination, and then all that is in it is copied, or at Depth 0 nothing (RFC 4918,
 -- section 9.8.3). Its dead properties aren't copied.
@@ -92,20 +92,20 @@ abbrev pub copy_kind : Bool → Bool → CopyWalk → ℕ → PathText → PathT
 copy_kind deep true walk now s d = copy_folder deep walk now s d
 copy_kind deep false walk now s d = copy_file now s d
 
--- the same, where the store returned the metadata
+-- a copy of what is at a path, by what the store answered when it was asked for the metadata
 abbrev pub copy_looked : Bool → CopyWalk → ℕ → PathText → PathText → Result DavMetaData FsError → MethodPlan (List CopyFault)
 copy_looked deep walk now s d (Err e) = gives ((s, e) ∷ [])
 copy_looked deep walk now s d (Ok m) = copy_kind deep m.dir walk now s d
 
 -- Copies what is at s to d, with everything below it if `deep`, as many names deep as there is room for. `top`, where the whole
--- copy goes, isn't copied itself: a folder can be copied to a path below it.
+-- copy goes, isn't copied itself: a folder can be copied to a path below it (RFC 4918, sections 9.8.2 and 9.8.3).
 abbrev pub copy : ℕ → Bool → ℕ → PathText → PathText → PathText → MethodPlan (List CopyFault)
 copy zero deep now top s d = gives ((s, fs.PathTooLong) ∷ [])
 copy (suc room) deep now top s d = if are_equal s top then gives [] else (do
   found ← answer_of (Metadata (names s))
   copy_looked deep (λ a b. copy room deep now top a b) now s d found)
 
--- copies what is at a path, as part of the copy to `top`
+-- copies what is at a path, as part of the copy to `top` (RFC 4918, sections 9.8.2 and 9.8.3)
 abbrev pub copying : Bool → ℕ → PathText → PathText → PathText → MethodPlan (List CopyFault)
 copying deep now top s d = copy (room_at s) deep now top s d
 

@@ -31,16 +31,16 @@ date_on year month days clock = record {
 }
 
 -- The date of a moment, which is in seconds since 1970. From 1970 on 8029 more years are tried, so up to 9999. That it is
--- the one date of the calendar with so many seconds since 1970 is a law (`DatesOfMoments`).
+-- the one date of the calendar with so many seconds since 1970 is a law (`DatesOfMoments`) (RFC 9110, section 5.6.7).
 unfoldable pub date_of : ℕ → Parts
 date_of moment =
     let year = year_of 8029 1970 (moment / 86400) in
     date_on year (month_of 11 year.0 1 year.1) (moment / 86400) (moment % 86400)
 
--- the text of that date, as in `Thu, 01 Jan 1970 00:00:01 GMT`
+-- the text of that date, as in `Thu, 01 Jan 1970 00:00:01 GMT` (RFC 9110, section 5.6.7)
 abbrev pub date_text_of : ℕ → List ℕ
 date_text_of moment = imf_fixdate (date_of moment)
 
--- the date of each moment up to the end of 9999 is a date of the calendar, and has the moment's seconds since 1970
+-- the date of each moment up to the end of 9999 is a date of the calendar, and has the moment's seconds since 1970 (RFC 9110, section 5.6.7)
 abbrev pub DatesOfMoments : Type 0
 DatesOfMoments = (moment : ℕ) → moment ≤ last_moment → IsValid (date_of moment) × (parts_secs (date_of moment) ≡ moment)

@@ -11,9 +11,9 @@ declared prefix space properties e =
     if list_any (is_in space) properties then with_attributes e (set_attribute (xmlns_name prefix) space (attributes_of e)) else e
 
 -- whether namespaces are declared
-abbrev pub declares : Telling → Bool
-declares Outcomes = false
-declares telling = true
+abbrev pub declares_namespaces : Telling → Bool
+declares_namespaces Outcomes = false
+declares_namespaces telling = true
 
 -- the element for all responses, without any
 abbrev pub opened : Telling → List ElementTree → ElementTree

@@ -7,7 +7,7 @@ use Rattle.dav_core.specs.Asking.{Call, Answer, StoreState, Asks}
 use Rattle.dav_core.specs.Locks.{Lock}
 use Rattle.dav_core.specs.Path.{PathText}
 use Rattle.dav_engine.specs.declared.request.Body.{Body}
-use Rattle.dav_engine.specs.Client.{Client}
+use Rattle.dav_engine.specs.Caller.{Caller}
 use Rattle.dav_engine.specs.CopyMove.{IsCopyMove}
 use Rattle.dav_engine.specs.Delete.{IsDelete}
 use Rattle.dav_engine.specs.Guard.{IsListed, Stands}
@@ -19,73 +19,73 @@ use Rattle.dav_engine.specs.Mkcol.{IsMkcol}
 use Rattle.dav_engine.specs.Plan.{Plan, Done, Ask, Look, Keep, Locks, Ran, Cut}
 use Rattle.dav_engine.specs.Proppatch.{IsProppatch}
 use Rattle.dav_engine.specs.Put.{IsPut}
-use Rattle.dav_engine.specs.Response.{Response}
+use Rattle.dav_engine.specs.Reply.{Reply}
 use Rattle.dav_engine.specs.SparingPlans.{IsStranger}
 use Rattle.dav_engine.specs.Unlock.{IsUnlock}
 use Rattle.dav_engine.specs.WorldLaws.{IsReading}
 
 -- Each list that a plan sets has the lock, as long as each list that it reads has it. A lock that is refreshed stays the
--- lock that it was.
+-- lock that it was (RFC 4918, sections 6.1, 9.11).
 pub data KeepsLock (h : Lock) {A : Type 0} : Plan A → Type 0 where
   keeps_done : {a : A} → KeepsLock h (Done a)
   keeps_ask : {c : Call} {go : Result (Answer c) FsError → Plan A} → ((answer : Result (Answer c) FsError) → KeepsLock h (go answer)) → KeepsLock h (Ask c go)
   keeps_look : {go : Locks → Plan A} → ((ls : List Lock) → IsListed h ls → KeepsLock h (go (Some ls))) → KeepsLock h (Look go)
   keeps_list : {locks : List Lock} {rest : Plan A} → IsListed h locks → KeepsLock h rest → KeepsLock h (Keep locks rest)
 
--- A lock that a plan keeps stands after it, whatever the store refuses.
+-- A lock that a plan keeps stands after it, whatever the store refuses (RFC 4918, sections 6.1, 9.11).
 abbrev pub KeptLocksStand : Type 0
 KeptLocksStand =
-    (h : Lock) (plan : MethodPlan Response) (old new : StoreState) (ls ms : Locks) (a : Result Response DavError)
+    (h : Lock) (plan : MethodPlan Reply) (old new : StoreState) (ls ms : Locks) (a : Result Reply DavError)
     → KeepsLock h plan → Ran Asks plan old ls a new ms → Stands h ls → Stands h ms
 
--- So it does where memory runs out in the plan.
+-- A lock that a plan keeps stands also where memory runs out in the plan (RFC 4918, sections 6.1, 9.11).
 abbrev pub KeptLocksStandCut : Type 0
 KeptLocksStandCut =
-    (h : Lock) (plan : MethodPlan Response) (old new : StoreState) (ls ms : Locks)
+    (h : Lock) (plan : MethodPlan Reply) (old new : StoreState) (ls ms : Locks)
     → KeepsLock h plan → Cut Asks ls plan old ls new ms → Stands h ls → Stands h ms
 
--- a plan that only reads keeps every lock
+-- a plan that only reads keeps every lock (RFC 4918, sections 7, 9.6, 9.11)
 abbrev pub ReadingKeepsLocks : Type 0
-ReadingKeepsLocks = (h : Lock) (plan : MethodPlan Response) → IsReading plan → KeepsLock h plan
+ReadingKeepsLocks = (h : Lock) (plan : MethodPlan Reply) → IsReading plan → KeepsLock h plan
 
--- so does a PUT or PATCH, whoever asks for it
+-- a PUT or PATCH keeps each lock, whoever asks for it (RFC 4918, sections 7, 9.6, 9.11)
 abbrev pub PutKeepsLocks : Type 0
 PutKeepsLocks =
-    (h : Lock) (m : DavMethod) (headers : Headers) (p : PathText) (body : Body) (who : Client) (plan : MethodPlan Response)
+    (h : Lock) (m : DavMethod) (headers : Headers) (p : PathText) (body : Body) (who : Caller) (plan : MethodPlan Reply)
     → IsPut m headers p body who plan → KeepsLock h plan
 
--- and a DELETE, of a client that doesn't hold the lock
+-- a DELETE keeps each lock that its client doesn't hold (RFC 4918, sections 7, 9.6, 9.11)
 abbrev pub DeleteKeepsLocks : Type 0
 DeleteKeepsLocks =
-    (h : Lock) (headers : Headers) (p : PathText) (who : Client) (plan : MethodPlan Response)
+    (h : Lock) (headers : Headers) (p : PathText) (who : Caller) (plan : MethodPlan Reply)
     → IsStranger headers p who h → IsDelete headers p who plan → KeepsLock h plan
 
--- and a COPY or MOVE, of such a client
+-- a COPY or MOVE keeps each lock that its client doesn't hold (RFC 4918, sections 7, 9.6, 9.11)
 abbrev pub CopyMoveKeepsLocks : Type 0
 CopyMoveKeepsLocks =
-    (h : Lock) (m : DavMethod) (headers : Headers) (p : PathText) (who : Client) (plan : MethodPlan Response)
+    (h : Lock) (m : DavMethod) (headers : Headers) (p : PathText) (who : Caller) (plan : MethodPlan Reply)
     → IsStranger headers p who h → IsCopyMove m headers p who plan → KeepsLock h plan
 
--- and a MKCOL
+-- a MKCOL keeps each lock (RFC 4918, sections 7, 9.6, 9.11)
 abbrev pub MkcolKeepsLocks : Type 0
 MkcolKeepsLocks =
-    (h : Lock) (headers : Headers) (p : PathText) (who : Client) (plan : MethodPlan Response)
+    (h : Lock) (headers : Headers) (p : PathText) (who : Caller) (plan : MethodPlan Reply)
     → IsMkcol headers p who plan → KeepsLock h plan
 
--- and a PROPPATCH
+-- a PROPPATCH keeps each lock (RFC 4918, section 7)
 abbrev pub ProppatchKeepsLocks : Type 0
 ProppatchKeepsLocks =
-    (h : Lock) (headers : Headers) (p : PathText) (content : Body) (who : Client) (plan : MethodPlan Response)
+    (h : Lock) (headers : Headers) (p : PathText) (content : Body) (who : Caller) (plan : MethodPlan Reply)
     → IsProppatch headers p content who plan → KeepsLock h plan
 
--- and an UNLOCK, unless its Lock-Token says the lock's token
+-- an UNLOCK keeps each lock but the one whose token its Lock-Token says (RFC 4918, sections 7, 9.6, 9.11)
 abbrev pub UnlockKeepsLocks : Type 0
 UnlockKeepsLocks =
-    (h : Lock) (headers : Headers) (p : PathText) (who : Client) (plan : MethodPlan Response)
+    (h : Lock) (headers : Headers) (p : PathText) (who : Caller) (plan : MethodPlan Reply)
     → ¬ SaysLockToken headers h.token → IsUnlock headers p who plan → KeepsLock h plan
 
--- and a LOCK, unless the token for the lock that it creates is the lock's
+-- a LOCK keeps each lock, unless the token for the lock that it creates is that lock's (RFC 4918, section 9.10)
 abbrev pub LockKeepsLocks : Type 0
 LockKeepsLocks =
-    (h : Lock) (headers : Headers) (p : PathText) (body : Body) (who : Client) (plan : MethodPlan Response)
+    (h : Lock) (headers : Headers) (p : PathText) (body : Body) (who : Caller) (plan : MethodPlan Reply)
     → who.token ≢ Some h.token → IsLock headers p body who plan → KeepsLock h plan

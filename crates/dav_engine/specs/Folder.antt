@@ -5,13 +5,13 @@ use Rattle.http_header.specs.HeaderMap.{Entries, insert}
 use Rattle.dav_core.specs.declared.fs.DavMetaData.{DavMetaData}
 use Rattle.dav_core.specs.Path.{PathText, with_bytes, with_slash, names, full_bytes, is_collection}
 use Rattle.dav_core.specs.UrlText.{path_text}
-use Rattle.dav_engine.specs.Response.{Header, content_location}
+use Rattle.dav_engine.specs.Reply.{Header, content_location}
 
--- the path with a slash at its end, where that is wanted
+-- the path with a slash at its end, where that is wanted (RFC 4918, section 5.2)
 abbrev pub closed : Bool → PathText → PathText
 closed wanted p = if wanted then with_bytes p (with_slash p.bytes) else p
 
--- the path of a member, which ends in a slash where the member is a folder
+-- the path of a member, which ends in a slash where the member is a folder (RFC 4918, section 5.2)
 abbrev pub child_of : PathText → List ℕ → Bool → PathText
 child_of p name dir = closed dir (with_bytes p (with_slash p.bytes ++ name))
 
@@ -24,7 +24,7 @@ abbrev pub is_folder_found : Option DavMetaData → Bool
 is_folder_found None = false
 is_folder_found (Some m) = m.dir
 
--- the path of what was found: that of a folder ends in a slash
+-- the path of what was found: that of a folder ends in a slash (RFC 4918, section 5.2; RFC 9110, section 8.7)
 abbrev pub path_found : Option DavMetaData → PathText → PathText
 path_found found p = closed (is_folder_found found) p
 

@@ -5,7 +5,7 @@ use Rattle.dav_core.specs.declared.errors.DavError.TheVariants as dav
 use Rattle.dav_core.specs.Asking.{StoreState, Asks}
 use Rattle.dav_engine.specs.Plan.{Locks, ServerState, Ran, Cut}
 use Rattle.dav_engine.specs.Method.{MethodPlan}
-use Rattle.dav_engine.specs.Response.{Response}
+use Rattle.dav_engine.specs.Reply.{Reply}
 
 -- a value that contracts see as it is
 abbrev pub as_is : {A : Type 0} → A → A
@@ -33,27 +33,27 @@ pub data FollowsFrom {A X : Type 0} (first : Locks) (view : X → A) (plan : Met
 abbrev pub Follows : {A X : Type 0} → (X → A) → MethodPlan A → StoreState → Locks → Result X DavError → StoreState → Locks → Type 0
 Follows view plan old ls = FollowsFrom ls view plan old ls
 
--- the same for code that reads the list of locks, and leaves it
-abbrev pub Heeds : {A X : Type 0} → Locks → (X → A) → MethodPlan A → StoreState → Result X DavError → StoreState → Type 0
-Heeds locks view plan old result new = Follows view plan old locks result new locks
+-- The plan was carried out by code that reads the list of locks, and leaves it.
+abbrev pub FollowsWithLocks : {A X : Type 0} → Locks → (X → A) → MethodPlan A → StoreState → Result X DavError → StoreState → Type 0
+FollowsWithLocks locks view plan old result new = Follows view plan old locks result new locks
 
--- The same for code that has only the store: whatever the list of locks is, it stays.
-abbrev pub Makes : {A X : Type 0} → (X → A) → MethodPlan A → StoreState → Result X DavError → StoreState → Type 0
-Makes view plan old result new = (ls : Locks) → Follows view plan old ls result new ls
+-- The plan was carried out by code that has only the store: whatever the list of locks is, it stays.
+abbrev pub FollowsOnStore : {A X : Type 0} → (X → A) → MethodPlan A → StoreState → Result X DavError → StoreState → Type 0
+FollowsOnStore view plan old result new = (ls : Locks) → Follows view plan old ls result new ls
 
--- The same for code that has only the list of locks: whatever the store is, it stays.
-abbrev pub Sets : {A X : Type 0} → (X → A) → MethodPlan A → Locks → Result X DavError → Locks → Type 0
-Sets view plan ls result ms = (s : StoreState) → Follows view plan s ls result s ms
+-- The plan was carried out by code that has only the list of locks: whatever the store is, it stays.
+abbrev pub FollowsOnLocks : {A X : Type 0} → (X → A) → MethodPlan A → Locks → Result X DavError → Locks → Type 0
+FollowsOnLocks view plan ls result ms = (s : StoreState) → Follows view plan s ls result s ms
 
 -- The result is that of a plan of this kind; or memory ran out before its plan was known, and nothing was done.
-pub data Carries {A X : Type 0} (view : X → A) (kind : MethodPlan A → Type 0) (old : StoreState) (ls : Locks) (result : Result X DavError) (new : StoreState) (ms : Locks) : Type 0 where
-  served : (plan : MethodPlan A) → kind plan → Follows view plan old ls result new ms → Carries view kind old ls result new ms
-  not_begun : result ≡ Err dav.Memory → new ≡ old → ms ≡ ls → Carries view kind old ls result new ms
+pub data FollowsOneOf {A X : Type 0} (view : X → A) (kind : MethodPlan A → Type 0) (old : StoreState) (ls : Locks) (result : Result X DavError) (new : StoreState) (ms : Locks) : Type 0 where
+  served : (plan : MethodPlan A) → kind plan → Follows view plan old ls result new ms → FollowsOneOf view kind old ls result new ms
+  not_begun : result ≡ Err dav.Memory → new ≡ old → ms ≡ ls → FollowsOneOf view kind old ls result new ms
 
--- the same for a request that is answered, on the state of a server
-abbrev pub Serves : (MethodPlan Response → Type 0) → ServerState → Result Response DavError → ServerState → Type 0
-Serves kind old result new = Carries as_is kind old.store old.locks result new.store new.locks
+-- a request was answered by a plan of this kind, on the state of a server
+abbrev pub Serves : (MethodPlan Reply → Type 0) → ServerState → Result Reply DavError → ServerState → Type 0
+Serves kind old result new = FollowsOneOf as_is kind old.store old.locks result new.store new.locks
 
--- The same for code that reads the list of locks, and leaves it, and whose only error is out of memory.
-abbrev pub Consults : {A X E : Type 0} → Locks → (X → A) → (MethodPlan A → Type 0) → StoreState → Result X E → StoreState → Type 0
-Consults locks view kind old result new = Carries view kind old locks (or_memory result) new locks
+-- A plan of this kind was carried out by code that reads the list of locks, and leaves it, and whose only error is out of memory.
+abbrev pub FollowsOneWithLocks : {A X E : Type 0} → Locks → (X → A) → (MethodPlan A → Type 0) → StoreState → Result X E → StoreState → Type 0
+FollowsOneWithLocks locks view kind old result new = FollowsOneOf view kind old locks (or_memory result) new locks

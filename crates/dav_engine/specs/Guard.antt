@@ -7,19 +7,19 @@ use Rattle.dav_headers.specs.If.{state_token}
 use Rattle.dav_engine.specs.Conditions.{Addressed}
 use Rattle.dav_engine.specs.Plan.{Locks}
 
--- the path that a lock is on
+-- the path that a lock is on (RFC 4918, section 6.1)
 abbrev pub folder_of : Lock → Path
 folder_of h = names h.path
 
--- a path at the lock's folder or below it
+-- a path at the lock's folder or below it (RFC 4918, section 6.1)
 abbrev pub IsInReach : Lock → Path → Type 0
 IsInReach h p = is_at_or_under p (folder_of h) ≡ true
 
--- a path strictly below the lock's folder
+-- a path strictly below the lock's folder (RFC 4918, section 6.1)
 abbrev pub IsInside : Lock → Path → Type 0
 IsInside h p = is_under p (folder_of h) ≡ true
 
--- the lock is exclusive and of infinite depth
+-- the lock is exclusive and of infinite depth (RFC 4918, section 6.1)
 pub record IsGuard (h : Lock) : Type 0 where
   pub exclusive : h.shared ≡ false
   pub deep : h.deep ≡ true
@@ -28,12 +28,12 @@ pub record IsGuard (h : Lock) : Type 0 where
 abbrev pub IsSameLock : Lock → Lock → Type 0
 IsSameLock h l = l ≡ record h { timeout_at = l.timeout_at; timeout = l.timeout }
 
--- the lock h is in the list
+-- the lock h is in the list (RFC 4918, section 9.10.2)
 pub data IsListed (h : Lock) : List Lock → Type 0 where
   listed_here : {l : Lock} {ls : List Lock} → IsSameLock h l → IsListed h (l ∷ ls)
   listed_later : {l : Lock} {ls : List Lock} → IsListed h ls → IsListed h (l ∷ ls)
 
--- l has another token than h, and covers neither the path of h nor anything below it
+-- l has another token than h, and covers neither the path of h nor anything below it (RFC 4918, section 7)
 pub record IsElsewhere (h l : Lock) : Type 0 where
   pub token : l.token ≢ h.token
   pub apart : (rest : Path) → covers l (folder_of h ++ rest) ≡ false
@@ -43,7 +43,7 @@ pub data AllElsewhere (h : Lock) : List Lock → Type 0 where
   no_others : AllElsewhere h []
   another : {l : Lock} {ls : List Lock} → IsElsewhere h l → AllElsewhere h ls → AllElsewhere h (l ∷ ls)
 
--- h is in the list once, and all other locks are elsewhere
+-- h is in the list once, and all other locks are elsewhere (RFC 4918, section 7)
 pub data Guards (h : Lock) : List Lock → Type 0 where
   guards_here : {l : Lock} {ls : List Lock} → IsSameLock h l → AllElsewhere h ls → Guards h (l ∷ ls)
   guards_later : {l : Lock} {ls : List Lock} → IsElsewhere h l → Guards h ls → Guards h (l ∷ ls)
@@ -53,15 +53,15 @@ abbrev pub OnList : (List Lock → Type 0) → Locks → Type 0
 OnList G None = ⊥
 OnList G (Some ls) = G ls
 
--- the lock stands: there is a list of locks, and it is in it
+-- the lock stands: there is a list of locks, and it is in it (RFC 4918, section 9.10.2)
 abbrev pub Stands : Lock → Locks → Type 0
 Stands h = OnList (IsListed h)
 
--- there is a list of locks, which h guards
+-- there is a list of locks, in which this lock guards its folder (RFC 4918, section 7)
 abbrev pub Guarded : Lock → Locks → Type 0
 Guarded h = OnList (Guards h)
 
--- as long as the lock is in the list, it guards
+-- as long as the lock is in the list, it guards (RFC 4918, section 7)
 abbrev pub StillGuards : Lock → List Lock → Type 0
 StillGuards h ls = IsListed h ls → Guards h ls
 
@@ -72,39 +72,41 @@ pub data SubmitOnly (h : Lock) : List Addressed → Type 0 where
   a_list : {ls : List Addressed} (rest : Path) → SubmitOnly h ls → SubmitOnly h (record { path = Some (folder_of h ++ rest); conditions = record { negated = false; item = state_token h.token } ∷ [] } ∷ ls)
 
 -- At a guarded folder and below it, a path is free exactly for the requester that holds the guard, whether or not it is
--- checked with everything below.
+-- checked with everything below (RFC 4918, sections 6.2, 7).
 abbrev pub FreeIsHeld : Type 0
 FreeIsHeld =
     (h : Lock) (deep : Bool) (who : Requester) (rest : Path) (ls : List Lock)
     → IsGuard h → Guards h ls → is_free_for deep who (folder_of h ++ rest) ls ≡ is_held who h
 
--- Strictly below a guarded folder, a member's folder is free exactly for the requester that holds the guard.
+-- Strictly below a guarded folder, a member's folder is free exactly for the requester that holds the guard (RFC 4918, sections 6.2, 7).
 abbrev pub ParentFreeIsHeld : Type 0
 ParentFreeIsHeld =
     (h : Lock) (who : Requester) (x : List ℕ) (rest : Path) (ls : List Lock)
     → IsGuard h → Guards h ls → is_free_parent who (folder_of h ++ x ∷ rest) ls ≡ is_held who h
 
 -- A path that is free with everything below, for a requester that doesn't hold the guard, is neither at the folder, nor
--- below it, nor above it.
+-- below it, nor above it (RFC 4918, sections 6.2, 7).
 abbrev pub FreeIsApart : Type 0
 FreeIsApart =
     (h : Lock) (who : Requester) (p : Path) (ls : List Lock)
     → IsGuard h → Guards h ls → is_held who h ≡ false → is_free_for true who p ls ≡ true
     → (is_at_or_under p (folder_of h) ≡ false) × (is_at_or_under (folder_of h) p ≡ false)
 
--- What is free for a requester that doesn't hold an exclusive lock is not covered by the lock, whatever else is in the list.
+-- What is free for a requester that doesn't hold an exclusive lock is not covered by the lock, whatever else is in the list
+-- (RFC 4918, sections 6.2, 7).
 abbrev pub FreeIsUncovered : Type 0
 FreeIsUncovered =
     (h : Lock) (deep : Bool) (who : Requester) (p : Path) (ls : List Lock)
     → h.shared ≡ false → is_held who h ≡ false → IsListed h ls → is_free_for deep who p ls ≡ true → covers h p ≡ false
 
--- A lock that is exclusive and of infinite depth and may be granted guards its folder, after locks of other tokens.
+-- A lock that is exclusive and of infinite depth and may be granted guards its folder, after locks of other tokens (RFC 4918, section 6.2).
 abbrev pub GrantedGuards : Type 0
 GrantedGuards =
     (h : Lock) (ls : List Lock)
     → IsGuard h → All (λ l. l.token ≢ h.token) ls → is_grantable h ls ≡ true → Guards h (ls ++ h ∷ [])
 
--- So does one that stands at the end of a list in which locks that cover one path are shared, after locks of other tokens.
+-- A lock guards its folder that stands at the end of a list in which locks that cover one path are shared, after locks of other tokens
+-- (RFC 4918, section 6.2).
 abbrev pub SharedGuards : Type 0
 SharedGuards =
     (h : Lock) (ls : List Lock)

@@ -12,15 +12,15 @@ Content = Kind × Properties
 abbrev pub content_of : Node → Content
 content_of n = (n.kind, n.properties)
 
--- the content at each path that is relative to a folder, where something is there
+-- the content at each path that is relative to a folder, where something is there (RFC 4918, section 4.1)
 abbrev pub inside : World → Path → Path → Option Content
 inside w folder rest = option_map content_of (node_at w (folder ++ rest))
 
--- two worlds have the same content at a folder and at every path below it
+-- two worlds have the same content at a folder and at every path below it (RFC 4918, section 4.1)
 abbrev pub SameInside : Path → World → World → Type 0
 SameInside folder w v = (rest : Path) → inside w folder rest ≡ inside v folder rest
 
--- there is a folder at each path above a folder
+-- there is a folder at each path above a folder (RFC 4918, section 5.1)
 abbrev pub HasFoldersAbove : Path → World → Type 0
 HasFoldersAbove folder w = (p : Path) → is_under folder p ≡ true → is_folder w p ≡ true
 

@@ -1,8 +1,8 @@
-pub mod AtWork
+pub mod OnHandler
 pub mod BackendView
 pub mod ChangeCode
 pub mod ChangeView
-pub mod Client
+pub mod Caller
 pub mod Copying
 pub mod CopyMove
 pub mod Copied
@@ -16,7 +16,6 @@ pub mod InternetDate
 pub mod Delete
 pub mod FindView
 pub mod Folder
-pub mod Giving
 pub mod Follows
 pub mod Headers
 pub mod LanguageLaws
@@ -36,8 +35,8 @@ pub mod Plan
 pub mod PlanLaws
 pub mod Properties
 pub mod PropertyView
-pub mod Writing
-pub mod WritingView
+pub mod PropWriter
+pub mod PropWriterView
 pub mod WriterCode
 pub mod Propfind
 pub mod PropfindLaws
@@ -47,7 +46,7 @@ pub mod Put
 pub mod PutView
 pub mod Removal
 pub mod RemovalLaws
-pub mod Response
+pub mod Reply
 pub mod Unlock
 pub mod UnlockLaws
 pub mod LockLaws
@@ -64,6 +63,6 @@ pub mod Ending
 pub mod ListChanges
 pub mod AnswerParts
 pub mod Alongside
-pub mod AlongsidePlans
+pub mod IsolatedPlans
 pub mod Walked
 pub mod WalkView

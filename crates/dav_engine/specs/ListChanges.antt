@@ -8,7 +8,7 @@ use Rattle.dav_core.specs.LockLaws.{CoveringAreShared}
 use Rattle.dav_core.specs.Locks.{Lock, is_grantable, unlocked, refreshed, deleted}
 use Rattle.dav_core.specs.Path.{Path, PathText}
 use Rattle.dav_engine.specs.declared.request.Body.{Body}
-use Rattle.dav_engine.specs.Client.{Client}
+use Rattle.dav_engine.specs.Caller.{Caller}
 use Rattle.dav_engine.specs.CopyMove.{IsCopyMove}
 use Rattle.dav_engine.specs.Delete.{IsDelete}
 use Rattle.dav_engine.specs.Guard.{OnList}
@@ -19,98 +19,98 @@ use Rattle.dav_engine.specs.Mkcol.{IsMkcol}
 use Rattle.dav_engine.specs.Plan.{Plan, Done, Ask, Look, Keep, Locks, Ran, Cut}
 use Rattle.dav_engine.specs.Proppatch.{IsProppatch}
 use Rattle.dav_engine.specs.Put.{IsPut}
-use Rattle.dav_engine.specs.Response.{Response}
+use Rattle.dav_engine.specs.Reply.{Reply}
 use Rattle.dav_engine.specs.Unlock.{IsUnlock}
 use Rattle.dav_engine.specs.WorldLaws.{IsReading}
 
 -- One change of the list by a request of this client: a lock with the client's token is granted where it may be, and stands at
--- the end; or a lock is refreshed, or unlocked; or those at a path and below it end.
-pub data IsChange (who : Client) (ls : List Lock) : List Lock → Type 0 where
+-- the end; or a lock is refreshed, or unlocked; or those at a path and below it end (RFC 4918, sections 6.1, 7, 9.11).
+pub data IsChange (who : Caller) (ls : List Lock) : List Lock → Type 0 where
   grants : (l : Lock) → who.token ≡ Some l.token → is_grantable l ls ≡ true → IsChange who ls (ls ++ l ∷ [])
   refreshes : (token : List ℕ) (p : Path) (timeout : Option ℕ) (now : ℕ) {ms : List Lock} → refreshed token p timeout now ls ≡ Some ms → IsChange who ls ms
   unlocks : (token : List ℕ) (p : Path) {ms : List Lock} → unlocked token p ls ≡ Some ms → IsChange who ls ms
   drops : (p : Path) → IsChange who ls (deleted p ls)
 
--- changes one after another, perhaps none
-pub data AreChanges (who : Client) : List Lock → List Lock → Type 0 where
+-- changes one after another, perhaps none (RFC 4918, sections 6.1, 7, 9.11)
+pub data AreChanges (who : Caller) : List Lock → List Lock → Type 0 where
   no_change : {ls : List Lock} → AreChanges who ls ls
   a_change : {ls ks ms : List Lock} → IsChange who ls ks → AreChanges who ks ms → AreChanges who ls ms
 
--- Whatever the store answers, each list that a plan sets is one such change of the list as it is then.
-pub data ChangesList (who : Client) {A : Type 0} : List Lock → Plan A → Type 0 where
+-- Whatever the store answers, each list that a plan sets is one such change of the list as it is then (RFC 4918, sections 6.1, 7, 9.11).
+pub data ChangesList (who : Caller) {A : Type 0} : List Lock → Plan A → Type 0 where
   changes_done : {ls : List Lock} {a : A} → ChangesList who ls (Done a)
   changes_ask : {ls : List Lock} {c : Call} {go : Result (Answer c) FsError → Plan A} → ((answer : Result (Answer c) FsError) → ChangesList who ls (go answer)) → ChangesList who ls (Ask c go)
   changes_look : {ls : List Lock} {go : Locks → Plan A} → ChangesList who ls (go (Some ls)) → ChangesList who ls (Look go)
   changes_list : {ls ks : List Lock} {rest : Plan A} → IsChange who ls ks → ChangesList who ks rest → ChangesList who ls (Keep ks rest)
 
--- So the list that a plan leaves comes from the list before by such changes, whatever the store refuses.
+-- The list of locks that a plan leaves comes from the list before by changes that are allowed, whatever the store refuses.
 abbrev pub ListsAreChanged : Type 0
 ListsAreChanged =
-    (who : Client) (plan : MethodPlan Response) (old new : StoreState) (ls : List Lock) (ms : Locks) (a : Result Response DavError)
+    (who : Caller) (plan : MethodPlan Reply) (old new : StoreState) (ls : List Lock) (ms : Locks) (a : Result Reply DavError)
     → ChangesList who ls plan → Ran Asks plan old (Some ls) a new ms → OnList (AreChanges who ls) ms
 
--- So does the list where memory runs out in the plan.
+-- The list of locks comes from the list before by changes that are allowed also where memory runs out in the plan.
 abbrev pub ListsAreChangedCut : Type 0
 ListsAreChangedCut =
-    (who : Client) (plan : MethodPlan Response) (old new : StoreState) (ls : List Lock) (ms : Locks)
+    (who : Caller) (plan : MethodPlan Reply) (old new : StoreState) (ls : List Lock) (ms : Locks)
     → ChangesList who ls plan → Cut Asks (Some ls) plan old (Some ls) new ms → OnList (AreChanges who ls) ms
 
 -- Through such changes locks that cover one path stay shared (RFC 4918, section 6.2).
 abbrev pub ChangesKeepShared : Type 0
-ChangesKeepShared = (who : Client) (ls ms : List Lock) → AreChanges who ls ms → CoveringAreShared ls → CoveringAreShared ms
+ChangesKeepShared = (who : Caller) (ls ms : List Lock) → AreChanges who ls ms → CoveringAreShared ls → CoveringAreShared ms
 
--- each lock has one of these tokens
+-- each lock has one of these tokens (RFC 4918, section 6.2)
 abbrev pub HaveTokens : List (List ℕ) → List Lock → Type 0
 HaveTokens tokens ls = All (λ l. Contains tokens l.token) ls
 
--- Through such changes no lock has a token but those that locks had, and the client's.
+-- Through such changes no lock has a token but those that locks had, and the client's (RFC 4918, section 6.2).
 abbrev pub ChangesBringTokens : Type 0
 ChangesBringTokens =
-    (who : Client) (tokens : List (List ℕ)) (ls ms : List Lock)
+    (who : Caller) (tokens : List (List ℕ)) (ls ms : List Lock)
     → AreChanges who ls ms → HaveTokens tokens ls → ((token : List ℕ) → who.token ≡ Some token → Contains tokens token) → HaveTokens tokens ms
 
 -- a plan that only reads changes no list
 abbrev pub ReadingChangesList : Type 0
-ReadingChangesList = (who : Client) (ls : List Lock) (plan : MethodPlan Response) → IsReading plan → ChangesList who ls plan
+ReadingChangesList = (who : Caller) (ls : List Lock) (plan : MethodPlan Reply) → IsReading plan → ChangesList who ls plan
 
 -- nor does a PUT or PATCH
 abbrev pub PutChangesList : Type 0
 PutChangesList =
-    (m : DavMethod) (headers : Headers) (p : PathText) (body : Body) (who : Client) (ls : List Lock) (plan : MethodPlan Response)
+    (m : DavMethod) (headers : Headers) (p : PathText) (body : Body) (who : Caller) (ls : List Lock) (plan : MethodPlan Reply)
     → IsPut m headers p body who plan → ChangesList who ls plan
 
 -- nor a MKCOL
 abbrev pub MkcolChangesList : Type 0
 MkcolChangesList =
-    (headers : Headers) (p : PathText) (who : Client) (ls : List Lock) (plan : MethodPlan Response)
+    (headers : Headers) (p : PathText) (who : Caller) (ls : List Lock) (plan : MethodPlan Reply)
     → IsMkcol headers p who plan → ChangesList who ls plan
 
--- nor a PROPPATCH
+-- nor a PROPPATCH (RFC 4918, section 7)
 abbrev pub ProppatchChangesList : Type 0
 ProppatchChangesList =
-    (headers : Headers) (p : PathText) (content : Body) (who : Client) (ls : List Lock) (plan : MethodPlan Response)
+    (headers : Headers) (p : PathText) (content : Body) (who : Caller) (ls : List Lock) (plan : MethodPlan Reply)
     → IsProppatch headers p content who plan → ChangesList who ls plan
 
 -- a DELETE changes it so
 abbrev pub DeleteChangesList : Type 0
 DeleteChangesList =
-    (headers : Headers) (p : PathText) (who : Client) (ls : List Lock) (plan : MethodPlan Response)
+    (headers : Headers) (p : PathText) (who : Caller) (ls : List Lock) (plan : MethodPlan Reply)
     → IsDelete headers p who plan → ChangesList who ls plan
 
--- and so does a COPY or MOVE
+-- a COPY or MOVE changes the list of locks by grants, refreshes, unlocks and ends of the locks below a path alone
 abbrev pub CopyMoveChangesList : Type 0
 CopyMoveChangesList =
-    (m : DavMethod) (headers : Headers) (p : PathText) (who : Client) (ls : List Lock) (plan : MethodPlan Response)
+    (m : DavMethod) (headers : Headers) (p : PathText) (who : Caller) (ls : List Lock) (plan : MethodPlan Reply)
     → IsCopyMove m headers p who plan → ChangesList who ls plan
 
--- and so does an UNLOCK
+-- an UNLOCK changes the list of locks by grants, refreshes, unlocks and ends of the locks below a path alone
 abbrev pub UnlockChangesList : Type 0
 UnlockChangesList =
-    (headers : Headers) (p : PathText) (who : Client) (ls : List Lock) (plan : MethodPlan Response)
+    (headers : Headers) (p : PathText) (who : Caller) (ls : List Lock) (plan : MethodPlan Reply)
     → IsUnlock headers p who plan → ChangesList who ls plan
 
--- and so does a LOCK
+-- a LOCK changes the list of locks by grants, refreshes, unlocks and ends of the locks below a path alone
 abbrev pub LockChangesList : Type 0
 LockChangesList =
-    (headers : Headers) (p : PathText) (content : Body) (who : Client) (ls : List Lock) (plan : MethodPlan Response)
+    (headers : Headers) (p : PathText) (content : Body) (who : Caller) (ls : List Lock) (plan : MethodPlan Reply)
     → IsLock headers p content who plan → ChangesList who ls plan

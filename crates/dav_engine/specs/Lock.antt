@@ -16,19 +16,19 @@ use Rattle.dav_core.specs.Path.{Path, PathText, names}
 use Rattle.dav_engine.specs.declared.reply.ReplyBody.TheVariants as reply
 use Rattle.dav_engine.specs.declared.request.Body.{Body}
 use Rattle.dav_engine.specs.declared.request.Body.TheVariants as body
-use Rattle.dav_engine.specs.Client.{Client, requester}
+use Rattle.dav_engine.specs.Caller.{Caller, requester}
 use Rattle.dav_engine.specs.Conditions.{Conditions, is_star, dav_if_match, if_match, submitted}
 use Rattle.dav_engine.specs.Delete.{whole_depth}
 use Rattle.dav_engine.specs.Folder.{path_found, location_found}
 use Rattle.dav_engine.specs.Headers.{Headers}
 use Rattle.dav_engine.specs.LockHeaders.{LockHeaders, AreLockHeaders, granted_for, refreshed_for}
 use Rattle.dav_engine.specs.LockInfo.{LockInfo, lock_info}
-use Rattle.dav_engine.specs.LockTree.{lock_told}
+use Rattle.dav_engine.specs.LockTree.{lock_reply}
 use Rattle.dav_engine.specs.Method.{MethodPlan, ◌>>=◌, require_free, require_parent, require_locks, required, change_locks, unless_status, look, answer_of, gives, fails}
 use Rattle.dav_engine.specs.Multistatus.{xml_type}
 use Rattle.dav_engine.specs.Plan.{Locks, Done, Keep}
 use Rattle.dav_engine.specs.Put.{missing_status}
-use Rattle.dav_engine.specs.Response.{Response, Header}
+use Rattle.dav_engine.specs.Reply.{Reply, Header}
 
 -- ---- a lock that is refreshed (section 9.10.2)
 
@@ -38,8 +38,8 @@ one_token (token ∷ []) = Ok token
 one_token tokens = Err (dav.Status 400)
 
 -- The token of the lock that is to be refreshed: the only one that If submits, whether or not If holds; 412 where with it the path
--- is still locked against the client.
-abbrev pub token_to_refresh : LockHeaders → Path → Client → MethodPlan (List ℕ)
+-- is still locked against the client (RFC 4918, section 9.10.2).
+abbrev pub token_to_refresh : LockHeaders → Path → Caller → MethodPlan (List ℕ)
 token_to_refresh h p who = do
   said ← dav_if_match h.conditions.lists
   token ← Done (one_token said.1)
@@ -56,18 +56,18 @@ abbrev pub refresh_in : List ℕ → Path → Option ℕ → ℕ → Locks → M
 refresh_in token p timeout now None = fails (dav.Status 405)
 refresh_in token p timeout now (Some ls) = keep_refreshed (option_map (refreshed_lock timeout now) (named_lock token p ls)) (refreshed token p timeout now ls)
 
--- gives the lock that a token and a path mean a new timeout
+-- gives the lock that a token and a path mean a new timeout (RFC 4918, section 9.10.2)
 abbrev pub refresh : List ℕ → Path → Option ℕ → ℕ → MethodPlan Lock
 refresh token p timeout now = do
   locks ← look
   refresh_in token p timeout now locks
 
 -- the reply: 200, with the lock
-abbrev pub refreshed_reply : List Header → Lock → Response
-refreshed_reply location l = record { status = 200; headers = location ++ xml_type ∷ []; body = reply.Tree (lock_told l) }
+abbrev pub refreshed_reply : List Header → Lock → Reply
+refreshed_reply location l = record { status = 200; headers = location ++ xml_type ∷ []; body = reply.Tree (lock_reply l) }
 
--- a LOCK without a body, at a path that is a folder's where it ends in a slash
-abbrev pub lock_again : LockHeaders → PathText → List Header → Client → MethodPlan Response
+-- a LOCK without a body, at a path that is a folder's where it ends in a slash (RFC 4918, section 9.10.2)
+abbrev pub lock_again : LockHeaders → PathText → List Header → Caller → MethodPlan Reply
 lock_again h p location who = do
   token ← token_to_refresh h (names p) who
   l ← refresh token (names p) (refreshed_for h.timeout) who.moment
@@ -75,13 +75,13 @@ lock_again h p location who = do
 
 -- ---- a new lock
 
--- the lock that a body asks for, with this token
-abbrev pub lock_of : LockHeaders → PathText → Client → Bool → LockInfo → List ℕ → Lock
+-- the lock that a body asks for, with this token (RFC 4918, sections 7.4 and 9.10)
+abbrev pub lock_of : LockHeaders → PathText → Caller → Bool → LockInfo → List ℕ → Lock
 lock_of h p who deep info token = new_lock token p who.principal info.owner (granted_for info.shared h.timeout) info.shared deep who.moment
 
 -- The lock that is asked for: 400 for Depth 1; what the conditions answer; 400 for a body that asks for none; 500 where there is no
--- token for it; 423 where a file is to be made, and a lock on the folder above it conflicts.
-abbrev pub asked_lock : LockHeaders → PathText → Body → Client → Option DavMetaData → MethodPlan Lock
+-- token for it; 423 where a file is to be made, and a lock on the folder above it conflicts (RFC 4918, sections 7.4 and 9.10).
+abbrev pub asked_lock : LockHeaders → PathText → Body → Caller → Option DavMetaData → MethodPlan Lock
 asked_lock h p content who found = do
   deep ← Done (whole_depth h.depth)
   verdict ← if_match method.Lock h.conditions found
@@ -101,11 +101,12 @@ grant new = do
   locks ← look
   grant_in new locks
 
--- the list without the lock that a token and a path mean, if one is meant
+-- the list without the lock that a token and a path mean, if one is meant (RFC 4918, sections 6.2 and 7)
 abbrev pub taken_back : List ℕ → Path → List Lock → List Lock
 taken_back token p ls = unwrap_or (unlocked token p ls) ls
 
--- How the empty file is opened: for writing; it is made, unless If-Match is `*`; and with If-None-Match `*` nothing may be there.
+-- How the empty file is opened: for writing; it is made, unless If-Match is `*`; and with If-None-Match `*` nothing may be there
+-- (RFC 4918, section 7.3).
 abbrev pub empty_opening : Conditions → Opening
 empty_opening c = record no_opening { write = true; create = not (is_star c.if_match); create_new = is_star c.if_none_match }
 
@@ -116,17 +117,17 @@ empty_error how fs.Exists = dav.Status (missing_status how)
 empty_error how e = dav.FsError e
 
 -- where the file is refused, the lock is taken back
-abbrev pub made_or_back : Opening → List ℕ → Path → Result Handle FsError → MethodPlan (Unit {0})
-made_or_back how token p (Ok file) = gives tt
-made_or_back how token p (Err e) = do
+abbrev pub create_or_unlock : Opening → List ℕ → Path → Result Handle FsError → MethodPlan (Unit {0})
+create_or_unlock how token p (Ok file) = gives tt
+create_or_unlock how token p (Err e) = do
   _ ← change_locks (taken_back token p)
   fails (empty_error how e)
 
--- opens an empty file at a path that was locked
+-- opens an empty file at a path that was locked (RFC 4918, section 7.3)
 abbrev pub open_empty : Opening → List ℕ → Path → ℕ → MethodPlan (Unit {0})
 open_empty how token p now = do
   opened ← answer_of (Open p how now)
-  made_or_back how token p opened
+  create_or_unlock how token p opened
 
 -- where nothing was found at the path of the lock, an empty file is made there (section 7.3)
 abbrev pub make_empty : Opening → List ℕ → Path → ℕ → Option DavMetaData → MethodPlan (Unit {0})
@@ -134,19 +135,19 @@ make_empty how token p now (Some found) = gives tt
 make_empty how token p now None = open_empty how token p now
 
 -- Lock-Token (section 10.5)
-abbrev pub lock_token : List ℕ → Header
-lock_token token = (codes "lock-token", 60 ∷ (token ++ 62 ∷ []))
+abbrev pub lock_token_header : List ℕ → Header
+lock_token_header token = (codes "lock-token", 60 ∷ (token ++ 62 ∷ []))
 
 -- the reply: 201 where nothing was found, else 200, with the lock and its token
-abbrev pub granted_reply : Bool → List Header → Lock → Response
+abbrev pub granted_reply : Bool → List Header → Lock → Reply
 granted_reply found location new = record {
   status = if found then 200 else 201;
-  headers = location ++ xml_type ∷ lock_token new.token ∷ [];
-  body = reply.Tree (lock_told new);
+  headers = location ++ xml_type ∷ lock_token_header new.token ∷ [];
+  body = reply.Tree (lock_reply new);
 }
 
--- a LOCK with a body, at a path that is a folder's where it ends in a slash
-abbrev pub lock_new : LockHeaders → PathText → List Header → Body → Client → Option DavMetaData → MethodPlan Response
+-- a LOCK with a body, at a path that is a folder's where it ends in a slash (RFC 4918, section 9.10)
+abbrev pub lock_new : LockHeaders → PathText → List Header → Body → Caller → Option DavMetaData → MethodPlan Reply
 lock_new h p location content who found = do
   new ← asked_lock h p content who found
   _ ← grant new
@@ -155,7 +156,7 @@ lock_new h p location content who found = do
 
 -- ---- the method
 
--- whether there is no body; one of no bytes is none
+-- whether there is no body; one of no bytes is none (RFC 4918, section 9.10)
 abbrev pub is_absent : Body → Bool
 is_absent body.None = true
 is_absent (body.Bytes bytes) = length bytes == 0
@@ -163,18 +164,18 @@ is_absent (body.Tree tree) = false
 is_absent body.Malformed = false
 
 -- a LOCK of what was found: without a body a lock is refreshed
-abbrev pub lock_found : LockHeaders → PathText → Body → Client → Option DavMetaData → MethodPlan Response
+abbrev pub lock_found : LockHeaders → PathText → Body → Caller → Option DavMetaData → MethodPlan Reply
 lock_found h p content who found =
     if is_absent content then lock_again h (path_found found p) (location_found found p) who
     else lock_new h (path_found found p) (location_found found p) content who found
 
--- LOCK: 405 without a lock system
-abbrev pub lock : LockHeaders → PathText → Body → Client → MethodPlan Response
+-- LOCK: 405 without a lock system (RFC 4918, section 9.10)
+abbrev pub lock : LockHeaders → PathText → Body → Caller → MethodPlan Reply
 lock h p content who = do
   _ ← require_locks (dav.Status 405)
   found ← answer_of (Metadata (names p))
   lock_found h p content who (result_ok found)
 
--- the plan is that of a LOCK with these headers and this body, to a path, by this client
-pub data IsLock (headers : Headers) (p : PathText) (content : Body) (who : Client) : MethodPlan Response → Type 0 where
+-- the plan is that of a LOCK with these headers and this body, to a path, by this client (RFC 4918, section 9.10)
+pub data IsLock (headers : Headers) (p : PathText) (content : Body) (who : Caller) : MethodPlan Reply → Type 0 where
   is_lock : (h : LockHeaders) → AreLockHeaders headers p h → IsLock headers p content who (lock h p content who)

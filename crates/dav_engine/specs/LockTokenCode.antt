@@ -24,7 +24,7 @@ pub record IsBeforeAngles (text rest : List ℕ) : Type 0 where
   pub whole : text ≡ rest ++ back
   pub bare : EndsBare rest
 
--- the token of a text that may be there
+-- the token of a text that may be there (RFC 4918, section 10.5)
 abbrev pub IsTokenIn : Option (List ℕ) → Option (List ℕ) → Type 0
 IsTokenIn None None = Unit {0}
 IsTokenIn (Some text) (Some token) = IsBetweenAngles text token

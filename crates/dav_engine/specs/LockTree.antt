@@ -36,6 +36,7 @@ abbrev pub lock_token : List ℕ → ElementTree
 lock_token token = dav_element (codes "locktoken") (dav_text (codes "href") token ∷ [])
 
 -- what is told of a lock: its scope, its type, its depth, its timeout, its token, and the path that it is on
+-- (RFC 4918, sections 14.1, 14.12 and 15.8)
 abbrev pub lock_parts : Lock → List ElementTree
 lock_parts l =
     lock_scope l.shared
@@ -50,7 +51,7 @@ lock_parts l =
 abbrev pub active_lock : Lock → ElementTree
 active_lock l = dav_element (codes "activelock") (lock_parts l ++ option_to_list l.owner)
 
--- locks, in order
+-- locks, in order (RFC 4918, sections 14.1, 14.12 and 15.8)
 abbrev pub lock_discovery : List Lock → ElementTree
 lock_discovery ls = dav_element (codes "lockdiscovery") (map active_lock ls)
 
@@ -69,5 +70,5 @@ locks_supported None = dav_element (codes "supportedlock") []
 locks_supported (Some ls) = dav_element (codes "supportedlock") (lock_entry false ∷ lock_entry true ∷ [])
 
 -- what the reply to a LOCK holds: the lock that is granted or refreshed (section 9.10.1)
-abbrev pub lock_told : Lock → ElementTree
-lock_told l = declares_dav (dav_element (codes "prop") (lock_discovery (l ∷ []) ∷ []))
+abbrev pub lock_reply : Lock → ElementTree
+lock_reply l = declares_dav (dav_element (codes "prop") (lock_discovery (l ∷ []) ∷ []))

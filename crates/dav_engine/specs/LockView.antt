@@ -6,10 +6,10 @@ use Rattle.dav_core.specs.Asking.{StoreState, Asks}
 use Rattle.dav_core.specs.Handle.{Opening}
 use Rattle.dav_core.specs.Locks.{Lock, ends_at}
 use Rattle.dav_core.specs.Numbers.{max_u64}
-use Rattle.dav_core.specs.Path.{Path}
-use Rattle.dav_engine.specs.declared.lock_headers.LockHeaders.TheInside as headers
-use Rattle.dav_engine.specs.declared.lockinfo.LockInfo.TheInside as info
-use Rattle.dav_engine.specs.Follows.{Sets}
+use Rattle.dav_core.specs.Path.{names}
+use Rattle.dav_engine.specs.declared.methods.lock.headers.LockHeaders.TheInside as headers
+use Rattle.dav_engine.specs.declared.methods.lock.info.LockInfo.TheInside as info
+use Rattle.dav_engine.specs.Follows.{FollowsOnLocks}
 use Rattle.dav_engine.specs.Lock.{grant, open_empty}
 use Rattle.dav_engine.specs.LockHeaders.{LockHeaders}
 use Rattle.dav_engine.specs.LockInfo.{LockInfo}
@@ -32,8 +32,8 @@ pub record LastsFrom (now : ℕ) (l : Lock) : Type 0 where
 
 -- A lock is granted, and where nothing was found at its path an empty file is opened there: the grant is refused, and nothing is
 -- done; it is granted, and something was found; or it is granted, and the file is asked for.
-pub data GrantsNew (new : Lock) (how : Opening) (p : Path) (now : ℕ) (found : Bool) (old : StoreState) (ls : Locks) (result : Result (Unit {0}) DavError) (after : StoreState) (ms : Locks) : Type 0 where
-  not_granted : (e : DavError) → result ≡ Err e → Sets (λ (u : Unit {0}). u) (grant new) ls (Err e) ms → ms ≡ ls → after ≡ old → GrantsNew new how p now found old ls result after ms
-  on_what_is_there : result ≡ Ok tt → found ≡ true → Sets (λ (u : Unit {0}). u) (grant new) ls (Ok tt) ms → after ≡ old → GrantsNew new how p now found old ls result after ms
-  on_a_new_file : (ks : Locks) → found ≡ false → Sets (λ (u : Unit {0}). u) (grant new) ls (Ok tt) ks → Ran Asks (open_empty how new.token p now) old ks result after ms
-      → GrantsNew new how p now found old ls result after ms
+pub data GrantsNew (new : Lock) (how : Opening) (now : ℕ) (found : Bool) (old : StoreState) (ls : Locks) (result : Result (Unit {0}) DavError) (after : StoreState) (ms : Locks) : Type 0 where
+  not_granted : (e : DavError) → result ≡ Err e → FollowsOnLocks (λ (u : Unit {0}). u) (grant new) ls (Err e) ms → ms ≡ ls → after ≡ old → GrantsNew new how now found old ls result after ms
+  on_what_is_there : result ≡ Ok tt → found ≡ true → FollowsOnLocks (λ (u : Unit {0}). u) (grant new) ls (Ok tt) ms → after ≡ old → GrantsNew new how now found old ls result after ms
+  on_a_new_file : (ks : Locks) → found ≡ false → FollowsOnLocks (λ (u : Unit {0}). u) (grant new) ls (Ok tt) ks → Ran Asks (open_empty how new.token (names new.path) now) old ks result after ms
+      → GrantsNew new how now found old ls result after ms

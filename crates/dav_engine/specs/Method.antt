@@ -66,13 +66,13 @@ is_open deep who p None = true
 is_open deep who p (Some ls) = is_free_for deep who p ls
 
 -- goes on where the path isn't locked against the requester, for infinite depth with everything below it; else ends with
--- this error
+-- this error (RFC 4918, section 7.5)
 abbrev pub require_free : Bool → Requester → Path → DavError → MethodPlan (Unit {0})
 require_free deep who p e = do
   locks ← look
   require (is_open deep who p locks) e
 
--- whether a member's folder isn't locked against the requester; without a list of locks none is
+-- whether a member's folder isn't locked against the requester; without a list of locks none is (RFC 4918, section 7.4)
 abbrev pub is_open_parent : Requester → Path → Locks → Bool
 is_open_parent who p None = true
 is_open_parent who p (Some ls) = is_free_parent who p ls
@@ -86,7 +86,7 @@ require_parent true who p e = do
   require (is_open_parent who p locks) e
 
 -- goes on where the path isn't locked against the requester, for infinite depth with everything below it, and, where a member of
--- its folder is made or removed, the folder isn't either; else ends with this error
+-- its folder is made or removed, the folder isn't either; else ends with this error (RFC 4918, sections 7.4 and 7.5)
 abbrev pub require_member : Bool → Bool → Requester → Path → DavError → MethodPlan (Unit {0})
 require_member deep changes who p e = do
   _ ← require_free deep who p e
@@ -113,7 +113,7 @@ abbrev pub set_by : (List Lock → List Lock) → Locks → MethodPlan (Unit {0}
 set_by f None = Done (Ok tt)
 set_by f (Some ls) = Keep (f ls) (Done (Ok tt))
 
--- the same of the list as it is now
+-- the list of locks is changed by a function of the list as it is now
 abbrev pub change_locks : (List Lock → List Lock) → MethodPlan (Unit {0})
 change_locks f = do
   locks ← look

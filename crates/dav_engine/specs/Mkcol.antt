@@ -10,14 +10,14 @@ use Rattle.dav_core.specs.declared.method.DavMethod.TheVariants.{MkCol}
 use Rattle.dav_core.specs.Asking.{Metadata, CreateDir}
 use Rattle.dav_core.specs.Path.{PathText, names, is_collection}
 use Rattle.dav_engine.specs.declared.reply.ReplyBody.TheVariants as reply
-use Rattle.dav_engine.specs.Client.{Client, requester}
+use Rattle.dav_engine.specs.Caller.{Caller, requester}
 use Rattle.dav_engine.specs.Conditions.{Conditions, AreConditions, guarded}
 use Rattle.dav_engine.specs.Headers.{Headers}
 use Rattle.dav_engine.specs.Method.{MethodPlan, ◌>>=◌, require_member, answer_of, ask_or, gives}
-use Rattle.dav_engine.specs.Response.{Response, content_location}
+use Rattle.dav_engine.specs.Reply.{Reply, content_location}
 
--- the reply to a folder that was made: 201, with its location where its path ends in a slash
-abbrev pub made : PathText → Response
+-- the reply to a folder that was made: 201, with its location where its path ends in a slash (RFC 9110, section 8.7)
+abbrev pub made : PathText → Reply
 made p = record { status = 201; headers = if is_collection p.bytes then content_location p ∷ [] else []; body = reply.Nothing }
 
 -- the error where the folder isn't made: 405 where something is there, 409 where no folder is above it; other refusals as
@@ -29,24 +29,24 @@ create_error e = dav.FsError e
 
 -- The checks before the folder is made: 412 where a condition fails, 423 where a lock conflicts, on the path or,
 -- where nothing was found there, on the folder above it.
-abbrev pub mkcol_checks : Conditions → PathText → Client → Result DavMetaData FsError → MethodPlan (Unit {0})
+abbrev pub mkcol_checks : Conditions → PathText → Caller → Result DavMetaData FsError → MethodPlan (Unit {0})
 mkcol_checks c p who found = do
   tokens ← guarded dav.Status MkCol c (result_ok found)
   require_member false (not (is_ok found)) (requester who tokens) (names p) (dav.Status 423)
 
--- the store is asked what is at the path, and then the checks are made
-abbrev pub mkcol_allowed : Conditions → PathText → Client → MethodPlan (Unit {0})
+-- the store is asked what is at the path, and then the checks are made (RFC 4918, section 9.3)
+abbrev pub mkcol_allowed : Conditions → PathText → Caller → MethodPlan (Unit {0})
 mkcol_allowed c p who = do
   found ← answer_of (Metadata (names p))
   mkcol_checks c p who found
 
--- MKCOL, with the conditions of its headers
-abbrev pub mkcol : Conditions → PathText → Client → MethodPlan Response
+-- MKCOL, with the conditions of its headers (RFC 4918, section 9.3)
+abbrev pub mkcol : Conditions → PathText → Caller → MethodPlan Reply
 mkcol c p who = do
   _ ← mkcol_allowed c p who
   _ ← ask_or create_error (CreateDir (names p) who.moment)
   gives (made p)
 
--- The plan of a MKCOL with these headers, to a path.
-pub data IsMkcol (headers : Headers) (p : PathText) (who : Client) : MethodPlan Response → Type 0 where
+-- The plan of a MKCOL with these headers, to a path (RFC 4918, section 9.3).
+pub data IsMkcol (headers : Headers) (p : PathText) (who : Caller) : MethodPlan Reply → Type 0 where
   is_mkcol : (c : Conditions) → AreConditions headers p.prefix (names p) c → IsMkcol headers p who (mkcol c p who)

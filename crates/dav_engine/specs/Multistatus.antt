@@ -10,13 +10,13 @@ use Rattle.dav_core.specs.Element.{ElementTree, element, text, trees, with_attri
 use Rattle.dav_core.specs.Path.{PathText, full_bytes, are_equal}
 use Rattle.dav_core.specs.UrlText.{path_text}
 use Rattle.dav_engine.specs.declared.reply.ReplyBody.TheVariants.{Nothing, Tree}
-use Rattle.dav_engine.specs.Response.{Response, Header}
+use Rattle.dav_engine.specs.Reply.{Reply, Header}
 
 -- an element of the namespace `DAV:` as it is written: with the prefix `D`
 abbrev pub dav_element : List ℕ → List ElementTree → ElementTree
 dav_element name children = element name (Some (codes "D")) None [] (trees children)
 
--- such an element with a text in it
+-- an element of the namespace `DAV:` with a text in it
 abbrev pub dav_text : List ℕ → List ℕ → ElementTree
 dav_text name bytes = dav_element name (text bytes ∷ [])
 
@@ -32,6 +32,7 @@ href p = dav_text (codes "href") (path_text (full_bytes p))
 abbrev pub status_line : ℕ → List ℕ
 status_line status = codes "HTTP/1.1 " ++ decimal status ++ 32 ∷ unwrap_or (reason_phrase status) []
 
+-- an element with a status line (RFC 4918, section 14.28)
 abbrev pub status_element : ℕ → ElementTree
 status_element status = dav_text (codes "status") (status_line status)
 
@@ -45,7 +46,7 @@ multistatus responses = declares_dav (dav_element (codes "multistatus") response
 
 -- ---- what a method did at several paths
 
--- a path, and the status that reports what was done there
+-- a path, and the status that reports what was done there (RFC 4918, section 13)
 abbrev pub PathStatus : Type 0
 PathStatus = PathText × ℕ
 
@@ -54,7 +55,7 @@ abbrev pub error_of : Option PathStatus → DavError
 error_of None = ChanError
 error_of (Some item) = Status item.1
 
--- the last of the statuses, as an error
+-- the last of the statuses, as an error (RFC 4918, section 13)
 abbrev pub last_error : List PathStatus → DavError
 last_error items = error_of (last_or None items)
 
@@ -67,11 +68,11 @@ abbrev pub response_for : PathStatus → ElementTree
 response_for item = dav_element (codes "response") (href item.0 ∷ status_element (listed_status item.1) ∷ [])
 
 -- a reply that has a status alone
-abbrev pub status_reply : ℕ → Response
+abbrev pub status_reply : ℕ → Reply
 status_reply status = record { status = status; headers = []; body = Nothing }
 
 -- 207 with one response for each path, in order (RFC 4918, section 11.1)
-abbrev pub multistatus_reply : List PathStatus → Response
+abbrev pub multistatus_reply : List PathStatus → Reply
 multistatus_reply items = record {
   status = 207;
   headers = xml_type ∷ [];
@@ -79,12 +80,12 @@ multistatus_reply items = record {
 }
 
 -- a status for the request's own path is the reply's status
-abbrev pub one_reply : PathText → PathStatus → Response
+abbrev pub one_reply : PathText → PathStatus → Reply
 one_reply p item = if are_equal item.0 p then status_reply item.1 else multistatus_reply (item ∷ [])
 
 -- The reply to a request for p, by the paths that are reported: the status alone, where the only path is p; else 207 with all
 -- of them (RFC 4918, section 13). That nothing is reported is an error.
-abbrev pub multi_reply : PathText → List PathStatus → Result Response DavError
+abbrev pub multi_reply : PathText → List PathStatus → Result Reply DavError
 multi_reply p [] = Err ChanError
 multi_reply p (item ∷ []) = Ok (one_reply p item)
 multi_reply p (item ∷ other ∷ more) = Ok (multistatus_reply (item ∷ other ∷ more))

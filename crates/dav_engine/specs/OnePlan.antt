@@ -3,7 +3,7 @@ use Rattle.std.specs.Prelude.{◌≡◌, List, ℕ}
 use Rattle.dav_core.specs.declared.method.DavMethod.{DavMethod}
 use Rattle.dav_core.specs.Path.{Path, PathText}
 use Rattle.dav_engine.specs.declared.request.Body.{Body}
-use Rattle.dav_engine.specs.Client.{Client}
+use Rattle.dav_engine.specs.Caller.{Caller}
 use Rattle.dav_engine.specs.Conditions.{Conditions, AreConditions}
 use Rattle.dav_engine.specs.CopyMove.{IsCopyMove}
 use Rattle.dav_engine.specs.Delete.{IsDelete}
@@ -14,7 +14,7 @@ use Rattle.dav_engine.specs.Mkcol.{IsMkcol}
 use Rattle.dav_engine.specs.Propfind.{IsPropfind}
 use Rattle.dav_engine.specs.Proppatch.{IsProppatch}
 use Rattle.dav_engine.specs.Put.{PutHeaders, ArePutHeaders, IsPut}
-use Rattle.dav_engine.specs.Response.{Response}
+use Rattle.dav_engine.specs.Reply.{Reply}
 use Rattle.dav_engine.specs.Unlock.{IsUnlock}
 
 -- the headers of a request say one thing of a path, as conditions
@@ -27,48 +27,50 @@ OneReadingOfConditions =
 abbrev pub OneReadingOfPut : Type 0
 OneReadingOfPut = (headers : Headers) (p : PathText) (a b : PutHeaders) → ArePutHeaders headers p a → ArePutHeaders headers p b → a ≡ b
 
--- A PUT or PATCH has one plan at most: its headers, its path, its body and its client determine what it does.
+-- A PUT or PATCH has one plan at most: its headers, its path, its body and its client determine what it does (RFC 9110, section 9.3.4).
 abbrev pub OnePutPlan : Type 0
 OnePutPlan =
-    (m : DavMethod) (headers : Headers) (p : PathText) (body : Body) (who : Client) (one other : MethodPlan Response)
+    (m : DavMethod) (headers : Headers) (p : PathText) (body : Body) (who : Caller) (one other : MethodPlan Reply)
     → IsPut m headers p body who one → IsPut m headers p body who other → one ≡ other
 
--- A MKCOL has one plan at most, too.
+-- A MKCOL has one plan at most, too (RFC 9110, section 9.3.4).
 abbrev pub OneMkcolPlan : Type 0
 OneMkcolPlan =
-    (headers : Headers) (p : PathText) (who : Client) (one other : MethodPlan Response)
+    (headers : Headers) (p : PathText) (who : Caller) (one other : MethodPlan Reply)
     → IsMkcol headers p who one → IsMkcol headers p who other → one ≡ other
 
--- so has a DELETE
+-- a DELETE has one plan (RFC 9110, section 9.3.4)
 abbrev pub OneDeletePlan : Type 0
 OneDeletePlan =
-    (headers : Headers) (p : PathText) (who : Client) (one other : MethodPlan Response)
+    (headers : Headers) (p : PathText) (who : Caller) (one other : MethodPlan Reply)
     → IsDelete headers p who one → IsDelete headers p who other → one ≡ other
 
--- and an UNLOCK, and a LOCK
+-- an UNLOCK has one plan, and so has a LOCK (RFC 9110, section 9.3.4)
 abbrev pub OneUnlockPlan : Type 0
 OneUnlockPlan =
-    (headers : Headers) (p : PathText) (who : Client) (one other : MethodPlan Response)
+    (headers : Headers) (p : PathText) (who : Caller) (one other : MethodPlan Reply)
     → IsUnlock headers p who one → IsUnlock headers p who other → one ≡ other
 
+-- a LOCK has one plan
 abbrev pub OneLockPlan : Type 0
 OneLockPlan =
-    (headers : Headers) (p : PathText) (body : Body) (who : Client) (one other : MethodPlan Response)
+    (headers : Headers) (p : PathText) (body : Body) (who : Caller) (one other : MethodPlan Reply)
     → IsLock headers p body who one → IsLock headers p body who other → one ≡ other
 
--- and a COPY or MOVE
+-- a COPY or MOVE has one plan (RFC 9110, section 9.3.4)
 abbrev pub OneCopyMovePlan : Type 0
 OneCopyMovePlan =
-    (m : DavMethod) (headers : Headers) (p : PathText) (who : Client) (one other : MethodPlan Response)
+    (m : DavMethod) (headers : Headers) (p : PathText) (who : Caller) (one other : MethodPlan Reply)
     → IsCopyMove m headers p who one → IsCopyMove m headers p who other → one ≡ other
 
--- and a PROPFIND, and a PROPPATCH
+-- a PROPFIND has one plan, and so has a PROPPATCH
 abbrev pub OnePropfindPlan : Type 0
 OnePropfindPlan =
-    (headers : Headers) (p : PathText) (content : Body) (who : Client) (one other : MethodPlan Response)
+    (headers : Headers) (p : PathText) (content : Body) (who : Caller) (one other : MethodPlan Reply)
     → IsPropfind headers p content who one → IsPropfind headers p content who other → one ≡ other
 
+-- a PROPPATCH has one plan
 abbrev pub OneProppatchPlan : Type 0
 OneProppatchPlan =
-    (headers : Headers) (p : PathText) (content : Body) (who : Client) (one other : MethodPlan Response)
+    (headers : Headers) (p : PathText) (content : Body) (who : Caller) (one other : MethodPlan Reply)
     → IsProppatch headers p content who one → IsProppatch headers p content who other → one ≡ other

@@ -11,7 +11,7 @@ use Rattle.dav_core.specs.Method.{place_of, method_name}
 use Rattle.dav_core.specs.Path.{PathText, names, star}
 use Rattle.dav_engine.specs.declared.reply.ReplyBody.TheVariants as reply
 use Rattle.dav_engine.specs.Method.{MethodPlan, ◌>>=◌, has_locks, look, answer_of, gives}
-use Rattle.dav_engine.specs.Response.{Response, content_length}
+use Rattle.dav_engine.specs.Reply.{Reply, content_length}
 
 -- the methods of a file alone: of what has bytes
 abbrev pub methods_of_file : Bool → List DavMethod
@@ -23,12 +23,12 @@ abbrev pub methods_of_member : Bool → List DavMethod
 methods_of_member false = []
 methods_of_member true = method.Move ∷ method.Delete ∷ []
 
--- the methods of what is there, by whether it is a file, and whether it may go away
+-- the methods of what is there, by whether it is a file, and whether it may go away (RFC 9110, section 9.3.7)
 abbrev pub methods_found : Bool → Bool → List DavMethod
 methods_found file member =
     methods_of_file file ++ (method.Options ∷ method.PropFind ∷ method.Copy ∷ []) ++ methods_of_member member ++ (method.Lock ∷ method.Unlock ∷ [])
 
--- the methods of a path at which nothing is
+-- the methods of a path at which nothing is (RFC 9110, section 9.3.7)
 abbrev pub methods_missing : List DavMethod
 methods_missing = method.Options ∷ method.MkCol ∷ method.Put ∷ method.Lock ∷ []
 
@@ -40,7 +40,7 @@ abbrev pub methods_at : PathText → Option DavMetaData → List DavMethod
 methods_at p None = methods_missing
 methods_at p (Some m) = methods_found (not m.dir) (not (is_root p))
 
--- the same; of the whole server, `*`, the methods are those of a file, whatever was found
+-- the methods for a path by what was found there; of the whole server, `*`, those of a file, whatever was found (RFC 9110, section 9.3.7)
 abbrev pub methods_for : PathText → Option DavMetaData → List DavMethod
 methods_for p found = if bytes_eq p.bytes star then methods_found true true else methods_at p found
 
@@ -50,11 +50,11 @@ needs_locks method.Lock = true
 needs_locks method.Unlock = true
 needs_locks _ = false
 
--- whether a server with this set of allowed methods offers a method, by whether it has a lock system
+-- whether a server with this set of allowed methods offers a method, by whether it has a lock system (RFC 9110, section 10.2.1)
 abbrev pub is_offered : ℕ → Bool → DavMethod → Bool
 is_offered allowed locks m = (bit_at allowed (place_of m) == 1) && (locks || not (needs_locks m))
 
--- the methods of a list that are offered, in order
+-- the methods of a list that are offered, in order (RFC 9110, section 10.2.1)
 abbrev pub offered : ℕ → Bool → List DavMethod → List DavMethod
 offered allowed locks ms = filter (is_offered allowed locks) ms
 
@@ -63,15 +63,15 @@ abbrev pub listed : List DavMethod → List ℕ
 listed ms = join_by method_name (codes ",") ms
 
 -- the reply: 200, with what the server complies with (RFC 4918, sections 10.1 and 18), and the methods
-abbrev pub options_reply : List DavMethod → Response
+abbrev pub options_reply : List DavMethod → Reply
 options_reply ms = record {
   status = 200;
   headers = (codes "dav", codes "1,2,3,sabredav-partialupdate") ∷ (codes "ms-author-via", codes "DAV") ∷ content_length 0 ∷ (codes "allow", listed ms) ∷ [];
   body = reply.Nothing;
 }
 
--- OPTIONS, where these methods are allowed; a refusal of the store counts as nothing found
-abbrev pub options : ℕ → PathText → MethodPlan Response
+-- OPTIONS, where these methods are allowed; a refusal of the store counts as nothing found (RFC 4918, sections 10.1 and 18)
+abbrev pub options : ℕ → PathText → MethodPlan Reply
 options allowed p = do
   found ← answer_of (Metadata (names p))
   locks ← look

@@ -5,7 +5,7 @@ use Rattle.dav_core.specs.declared.errors.FsError.{FsError}
 use Rattle.dav_core.specs.Asking.{Call, Answer, StoreState}
 use Rattle.dav_core.specs.Locks.{Lock}
 
--- the list of locks, where there is a lock system
+-- the list of locks, where there is a lock system (RFC 4918, section 6)
 abbrev pub Locks : Type 0
 Locks = Option (List Lock)
 
@@ -14,7 +14,7 @@ pub record ServerState : Type 0 where
   pub store : StoreState
   pub locks : Locks
 
--- the list after it was set; without a lock system there is no list
+-- the list after it was set; without a lock system there is no list (RFC 4918, section 6)
 abbrev pub kept : Locks → List Lock → Locks
 kept None locks = None
 kept (Some old) locks = Some locks

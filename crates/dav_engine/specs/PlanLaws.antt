@@ -6,7 +6,7 @@ use Rattle.dav_core.specs.Asking.{StoreState, Asks}
 use Rattle.dav_core.specs.World.{World}
 use Rattle.dav_engine.specs.Plan.{Locks, Ran, Cut}
 use Rattle.dav_engine.specs.Method.{MethodPlan}
-use Rattle.dav_engine.specs.Response.{Response}
+use Rattle.dav_engine.specs.Reply.{Reply}
 
 -- a store that holds this world, will refuse these calls, and never ran out of memory
 abbrev pub ample : World → List (Option FsError) → StoreState
@@ -16,7 +16,7 @@ ample w refusals = record { world = w; refusals = refusals; short = false }
 -- that it leaves.
 abbrev pub PlansAreDetermined : Type 0
 PlansAreDetermined =
-    (plan : MethodPlan Response) (old s t : StoreState) (ls ks ms : Locks) (a b : Result Response DavError)
+    (plan : MethodPlan Reply) (old s t : StoreState) (ls ks ms : Locks) (a b : Result Reply DavError)
     → Ran Asks plan old ls a s ks → s.short ≡ false → Ran Asks plan old ls b t ms → t.short ≡ false
     → (a ≡ b) × (s ≡ t) × (ks ≡ ms)
 
@@ -24,14 +24,14 @@ PlansAreDetermined =
 -- memory.
 abbrev pub PlansEnd : Type 0
 PlansEnd =
-    (plan : MethodPlan Response) (old : StoreState) (ls : Locks)
-    → (a : Result Response DavError) × (new : StoreState) × (ms : Locks) × Ran Asks plan old ls a new ms × (new.short ≡ old.short)
+    (plan : MethodPlan Reply) (old : StoreState) (ls : Locks)
+    → (a : Result Reply DavError) × (new : StoreState) × (ms : Locks) × Ran Asks plan old ls a new ms × (new.short ≡ old.short)
 
 -- A store that runs out of memory is like one that refuses calls: under some list of refusals, the plan has the same
 -- outcome and leaves the same world and list of locks in a store with memory enough.
-abbrev pub WantIsLikeRefusals : Type 0
-WantIsLikeRefusals =
-    (plan : MethodPlan Response) (old new : StoreState) (ls ms : Locks) (a : Result Response DavError)
+abbrev pub OutOfMemoryIsARefusal : Type 0
+OutOfMemoryIsARefusal =
+    (plan : MethodPlan Reply) (old new : StoreState) (ls ms : Locks) (a : Result Reply DavError)
     → Ran Asks plan old ls a new ms
     → (refusals : List (Option FsError)) × Ran Asks plan (ample old.world refusals) ls a (ample new.world []) ms
 
@@ -39,7 +39,7 @@ WantIsLikeRefusals =
 -- locks is as they leave it, or as it was before the request.
 abbrev pub CutsAreLikeRefusals : Type 0
 CutsAreLikeRefusals =
-    (plan : MethodPlan Response) (old new : StoreState) (first ls ms : Locks)
+    (plan : MethodPlan Reply) (old new : StoreState) (first ls ms : Locks)
     → Cut Asks first plan old ls new ms
-    → (refusals : List (Option FsError)) × (a : Result Response DavError) × (ks : Locks)
+    → (refusals : List (Option FsError)) × (a : Result Reply DavError) × (ks : Locks)
     × Ran Asks plan (ample old.world refusals) ls a (ample new.world []) ks × ((ms ≡ first) ⊎ (ms ≡ ks))

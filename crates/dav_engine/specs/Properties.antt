@@ -13,10 +13,10 @@ use Rattle.dav_core.specs.Element.{ElementTree, element, text, no_trees, trees, 
 use Rattle.dav_core.specs.Metadata.{tag_of}
 use Rattle.dav_core.specs.Path.{PathText, names, last_name, is_nonempty}
 use Rattle.dav_core.specs.Property.{Property, PropertyKey}
-pub use Rattle.dav_engine.specs.declared.live.Source.{Source}
-pub use Rattle.dav_engine.specs.declared.live.Source.TheVariants.{Here, Nowhere, AvailableQuota, UsedQuota, InStore}
-pub use Rattle.dav_engine.specs.declared.telling.Telling.{Telling}
-pub use Rattle.dav_engine.specs.declared.telling.Telling.TheVariants.{Requested, AllProperties, NamesAlone, Outcomes, Others}
+pub use Rattle.dav_engine.specs.declared.properties.live.Source.{Source}
+pub use Rattle.dav_engine.specs.declared.properties.live.Source.TheVariants.{Here, Nowhere, AvailableQuota, UsedQuota, InStore}
+pub use Rattle.dav_engine.specs.declared.properties.kind.Telling.{Telling}
+pub use Rattle.dav_engine.specs.declared.properties.kind.Telling.TheVariants.{Requested, AllProperties, NamesAlone, Outcomes, Others}
 use Rattle.dav_engine.specs.Date.{date_of, date_text_of}
 use Rattle.dav_engine.specs.Headers.{Headers, text_in}
 use Rattle.dav_engine.specs.LockTree.{locks_found, locks_supported}
@@ -103,7 +103,7 @@ pub record Writer : Type 0 where
 abbrev pub is_same_property : ElementTree → ElementTree → Bool
 is_same_property e f = option_eq bytes_eq (namespace_of e) (namespace_of f) && bytes_eq (name_of e) (name_of f)
 
--- those that are told to Windows beside all others
+-- the properties that are told to Windows beside all others
 abbrev pub windows_properties : List ℕ → List ElementTree
 windows_properties agent = if holds agent (codes "Microsoft") then map (asked_property (codes "Z") microsoft_space) windows_names else []
 
@@ -119,7 +119,7 @@ listed_properties Others agent = named_properties
 abbrev pub wanted_properties : Telling → List ℕ → List ElementTree → List ElementTree
 wanted_properties telling agent given = given ++ filter (λ e. not (list_any (λ f. is_same_property f e) given)) (listed_properties telling agent)
 
--- what is to be told of each resource, in the reply to a request with these headers
+-- what is to be told of each resource, in the reply to a request with these headers (RFC 4918, sections 9.1, 14.16 and 14.24)
 abbrev pub writer : Telling → Headers → Option (List ℕ) → List ElementTree → Writer
 writer telling headers principal given = record {
   telling = telling;
@@ -220,7 +220,7 @@ windows_source w e p m name =
     else if bytes_eq name (codes "Win32FileAttributes") then Here (live (codes "Z") w e (padded 8 (digits 16 false (windows_attributes p m))))
     else Nowhere
 
--- where a property is found
+-- where a property is found (RFC 4918, sections 9.1 and 15; RFC 4331)
 abbrev pub source : Writer → ElementTree → PathText → DavMetaData → Locks → Source
 source w e p m locks =
     if is_in dav_space e then dav_source w e p m locks (name_of e)
@@ -238,9 +238,9 @@ Quota = Option (ℕ × Option ℕ)
 abbrev pub QuotaKnown : Type 0
 QuotaKnown = Option Quota
 
-abbrev pub quota_once : QuotaKnown → MethodPlan Quota
-quota_once (Some quota) = gives quota
-quota_once None = do
+abbrev pub cached_quota : QuotaKnown → MethodPlan Quota
+cached_quota (Some quota) = gives quota
+cached_quota None = do
   answer ← answer_of GetQuota
   gives (result_ok answer)
 
@@ -296,10 +296,10 @@ abbrev pub found_in : Writer → ElementTree → PathText → DavMetaData → Qu
 found_in w e p m known (Here told) = gives (Some told, known)
 found_in w e p m known Nowhere = gives (None, known)
 found_in w e p m known AvailableQuota = do
-  quota ← quota_once known
+  quota ← cached_quota known
   gives (available_told w e p m quota, Some quota)
 found_in w e p m known UsedQuota = do
-  quota ← quota_once known
+  quota ← cached_quota known
   gives (used_told w e p m quota, Some quota)
 found_in w e p m known InStore = do
   kept ← kept_property w.telling p e
@@ -327,9 +327,9 @@ abbrev pub kept_elements : Option (List Property) → List ElementTree
 kept_elements None = []
 kept_elements (Some ps) = filter_map (λ p. p.xml) ps
 
-abbrev pub all_kept_if : PathText → Bool → MethodPlan (List ElementTree)
-all_kept_if p false = gives []
-all_kept_if p true = do
+abbrev pub stored_properties : PathText → Bool → MethodPlan (List ElementTree)
+stored_properties p false = gives []
+stored_properties p true = do
   answer ← answer_of (GetProps (names p) true)
   gives (kept_elements (result_ok answer))
 
@@ -337,7 +337,7 @@ all_kept_if p true = do
 abbrev pub all_kept : PathText → MethodPlan (List ElementTree)
 all_kept p = do
   has ← has_properties p
-  all_kept_if p has
+  stored_properties p has
 
 -- ---- responses
 
@@ -357,7 +357,7 @@ abbrev pub found_groups : List ElementTree → List Group
 found_groups [] = []
 found_groups (e ∷ es) = (200, e ∷ es) ∷ []
 
--- the response for one resource, with what is known of the quota from then on
+-- the response for one resource, with what is known of the quota from then on (RFC 4918, sections 9.1 and 15; RFC 4331)
 abbrev pub properties_of : Writer → PathText → DavMetaData → QuotaKnown → MethodPlan (WithQuota ElementTree)
 properties_of w p m known = do
   found ← found_properties w p m known w.properties

@@ -4,14 +4,14 @@ use Rattle.std.specs.BTreeMap.{BTreeMap}
 use Rattle.std.specs.declared.alloc.Global.{Global}
 use Rattle.std.specs.declared.vec.Vec.{Vec}
 use Rattle.dav_core.specs.Element.{ElementTree}
-use Rattle.dav_engine.specs.declared.writer.Writer.TheInside as writing
+use Rattle.dav_engine.specs.declared.properties.writer.Writer.TheInside as writing
 use Rattle.dav_engine.specs.Properties.{Group, Writer}
 
 -- the properties under one status
 abbrev pub group_of : ℕ × Vec ElementTree Global → Group
 group_of entry = (entry.0, entry.1.items)
 
--- the properties of a map under their statuses, which rise
+-- the properties of a map under their statuses, which rise (RFC 4918, section 13)
 abbrev pub groups_in : BTreeMap ℕ (Vec ElementTree Global) → List Group
 groups_in m = map group_of m.entries
 

@@ -16,7 +16,7 @@ use Rattle.dav_headers.specs.declared.depth.Depth.TheVariants.{Zero, Infinity}
 use Rattle.dav_engine.specs.declared.reply.ReplyBody.TheVariants as reply
 use Rattle.dav_engine.specs.declared.request.Body.{Body}
 use Rattle.dav_engine.specs.declared.request.Body.TheVariants as body
-use Rattle.dav_engine.specs.Client.{Client}
+use Rattle.dav_engine.specs.Caller.{Caller}
 use Rattle.dav_engine.specs.Folder.{closed, location_found, child_of, room_at}
 use Rattle.dav_engine.specs.Headers.{Headers, Decodes}
 use Rattle.dav_engine.specs.Lock.{is_absent}
@@ -24,7 +24,7 @@ use Rattle.dav_engine.specs.Method.{MethodPlan, ◌>>=◌, answer_of, ask_for, g
 use Rattle.dav_engine.specs.Multistatus.{dav_element, declares_dav, xml_type}
 use Rattle.dav_engine.specs.Plan.{Done}
 use Rattle.dav_engine.specs.Properties.{Telling, Requested, AllProperties, NamesAlone, Writer, writer, QuotaKnown, WithQuota, properties_of, told_by, dav_space, is_in}
-use Rattle.dav_engine.specs.Response.{Response, Header}
+use Rattle.dav_engine.specs.Reply.{Reply, Header}
 
 -- ---- what is asked for
 
@@ -84,16 +84,16 @@ tell_member below w p m known = do
   gives (one.0 ∷ more.0, more.1)
 
 -- a member at which the store refuses to look is passed over
-abbrev pub tell_found : Below → Writer → PathText → List ℕ → QuotaKnown → Result DavMetaData FsError → MethodPlan Responses
-tell_found below w p name known (Err e) = gives ([], known)
-tell_found below w p name known (Ok m) = tell_member below w (child_of p name m.dir) m known
+abbrev pub tell_if_found : Below → Writer → PathText → List ℕ → QuotaKnown → Result DavMetaData FsError → MethodPlan Responses
+tell_if_found below w p name known (Err e) = gives ([], known)
+tell_if_found below w p name known (Ok m) = tell_member below w (child_of p name m.dir) m known
 
 -- the members of a folder, in order
 abbrev pub tell_members : Below → Writer → PathText → QuotaKnown → List (List ℕ × Bool) → MethodPlan Responses
 tell_members below w p known [] = gives ([], known)
 tell_members below w p known (entry ∷ entries) = do
   found ← answer_of (EntryMetadata (names p ++ entry.0 ∷ []))
-  one ← tell_found below w p entry.0 known found
+  one ← tell_if_found below w p entry.0 known found
   more ← tell_members below w p one.1 entries
   gives (one.0 ++ more.0, more.1)
 
@@ -128,7 +128,7 @@ abbrev pub uncached : List Header → List Header
 uncached headers = (codes "cache-control", codes "no-cache") ∷ (codes "pragma", codes "no-cache") ∷ headers
 
 -- 501, with the condition that the depth be finite (RFC 4918, sections 9.1.1 and 16)
-abbrev pub finite_depth : Response
+abbrev pub finite_depth : Reply
 finite_depth = record {
   status = 501;
   headers = uncached (xml_type ∷ []);
@@ -156,7 +156,7 @@ tell_itself true w p m = do
   gives (one.0 ∷ [], one.1)
 
 -- 207 with all responses (RFC 4918, section 13)
-abbrev pub propfind_reply : List Header → Writer → List ElementTree → Response
+abbrev pub propfind_reply : List Header → Writer → List ElementTree → Reply
 propfind_reply location w responses = record {
   status = 207;
   headers = uncached (location ++ xml_type ∷ []);
@@ -164,7 +164,7 @@ propfind_reply location w responses = record {
 }
 
 -- a PROPFIND of what was found: 400 where the body asks for nothing
-abbrev pub propfind_found : FindHeaders → Headers → PathText → List Header → Body → Client → DavMetaData → MethodPlan Response
+abbrev pub propfind_found : FindHeaders → Headers → PathText → List Header → Body → Caller → DavMetaData → MethodPlan Reply
 propfind_found h headers p location content who m = do
   query ← Done (required (query_in content) dav.XmlParseError)
   let w = writer query.0 headers who.principal query.1
@@ -176,16 +176,16 @@ propfind_found h headers p location content who m = do
 abbrev pub is_served_depth : FindHeaders → Bool
 is_served_depth h = not (is_infinite h.depth && not h.is_test)
 
-abbrev pub propfind_if : Bool → FindHeaders → Headers → PathText → Body → Client → MethodPlan Response
+abbrev pub propfind_if : Bool → FindHeaders → Headers → PathText → Body → Caller → MethodPlan Reply
 propfind_if false h headers p content who = gives finite_depth
 propfind_if true h headers p content who = do
   found ← ask_for (Metadata (names p))
   propfind_found h headers (closed found.dir p) (location_found (Some found) p) content who found
 
--- PROPFIND. No condition and no lock is checked.
-abbrev pub propfind : FindHeaders → Headers → PathText → Body → Client → MethodPlan Response
+-- PROPFIND. No condition and no lock is checked (RFC 4918, sections 9.1 and 15; RFC 4331).
+abbrev pub propfind : FindHeaders → Headers → PathText → Body → Caller → MethodPlan Reply
 propfind h headers p content who = propfind_if (is_served_depth h) h headers p content who
 
--- the plan is that of a PROPFIND with these headers and this body, of this path, by this client
-pub data IsPropfind (headers : Headers) (p : PathText) (content : Body) (who : Client) : MethodPlan Response → Type 0 where
+-- the plan is that of a PROPFIND with these headers and this body, of this path, by this client (RFC 4918, sections 9.1 and 15; RFC 4331)
+pub data IsPropfind (headers : Headers) (p : PathText) (content : Body) (who : Caller) : MethodPlan Reply → Type 0 where
   is_propfind : (h : FindHeaders) → AreFindHeaders headers h → IsPropfind headers p content who (propfind h headers p content who)

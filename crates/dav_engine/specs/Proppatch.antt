@@ -15,7 +15,7 @@ use Rattle.dav_headers.specs.Elements.{elements_of}
 use Rattle.dav_engine.specs.declared.reply.ReplyBody.TheVariants as reply
 use Rattle.dav_engine.specs.declared.request.Body.{Body}
 use Rattle.dav_engine.specs.declared.request.Body.TheVariants as body
-use Rattle.dav_engine.specs.Client.{Client, requester}
+use Rattle.dav_engine.specs.Caller.{Caller, requester}
 use Rattle.dav_engine.specs.Conditions.{Conditions, AreConditions, guarded}
 use Rattle.dav_engine.specs.Folder.{closed, location_found}
 use Rattle.dav_engine.specs.Headers.{Headers}
@@ -23,7 +23,7 @@ use Rattle.dav_engine.specs.Method.{MethodPlan, ◌>>=◌, require_free, ask_for
 use Rattle.dav_engine.specs.Multistatus.{multistatus, xml_type}
 use Rattle.dav_engine.specs.Plan.{Done}
 use Rattle.dav_engine.specs.Properties.{dav_space, apache_space, microsoft_space, windows_names, is_in, has_properties, Group, property_response}
-use Rattle.dav_engine.specs.Response.{Response, Header}
+use Rattle.dav_engine.specs.Reply.{Reply, Header}
 
 -- ---- what is to change
 
@@ -71,7 +71,7 @@ are_languages value = is_visible_text value && list_all is_language (elements_of
 abbrev pub with_text : ElementTree → Option ℕ → Option ℕ
 with_text e verdict = if has_text_alone e then verdict else Some 409
 
--- the same for a value that has to be a list of languages
+-- the status of a property whose value has to be a list of languages
 abbrev pub with_languages : ElementTree → Option ℕ → Option ℕ
 with_languages e verdict = with_text e (if are_languages (unwrap_or (text_of e) []) then verdict else Some 409)
 
@@ -110,7 +110,7 @@ remove_dav_status has e =
     if bytes_eq (name_of e) (codes "displayname") || bytes_eq (name_of e) (codes "getcontentlanguage") then (if has then Some 200 else Some 403)
     else Some 403
 
--- the same for a property that is to be removed
+-- the status of a property that is to be removed (RFC 4918, sections 9.2, 11.4, 14.19 to 14.26 and 15)
 abbrev pub remove_status : Bool → ElementTree → Option ℕ
 remove_status has e =
     if is_in dav_space e then remove_dav_status has e
@@ -154,6 +154,7 @@ abbrev pub grouped_onto : List Group → List Told → List Group
 grouped_onto gs [] = gs
 grouped_onto gs (told ∷ more) = grouped_onto (told_under told.0 told.1 gs) more
 
+-- the properties by the statuses that are told of them, in rising order (RFC 4918, sections 9.2, 11.4, 14.19 to 14.26 and 15)
 abbrev pub grouped : List Told → List Group
 grouped told = grouped_onto [] told
 
@@ -217,7 +218,7 @@ change_all p false answers stored = do
   gives (all_done answers done)
 
 -- 207 with one response (RFC 4918, sections 9.2.1 and 13)
-abbrev pub proppatch_reply : List Header → PathText → List Told → Response
+abbrev pub proppatch_reply : List Header → PathText → List Told → Reply
 proppatch_reply location p told = record {
   status = 207;
   headers = location ++ xml_type ∷ [];
@@ -230,35 +231,36 @@ change_properties p changes = do
   has ← has_properties p
   change_all p (has_refused (answered_at_once has changes)) (answered_at_once has changes) (to_store has changes)
 
--- the same, with the reply
-abbrev pub patch_properties : PathText → List Header → List Change → MethodPlan Response
+-- the changes are made, and answered by a multistatus
+abbrev pub patch_properties : PathText → List Header → List Change → MethodPlan Reply
 patch_properties p location changes = do
   told ← change_properties p changes
   gives (proppatch_reply location p told)
 
 -- the changes of a body; 400 where it tells none
-abbrev pub patch_body : PathText → List Header → Body → MethodPlan Response
+abbrev pub patch_body : PathText → List Header → Body → MethodPlan Reply
 patch_body p location content = do
   changes ← Done (required (changes_in content) dav.XmlParseError)
   patch_properties p location changes
 
 -- a PROPPATCH of what was found: 412 where a condition fails, 423 where a lock is another's
-abbrev pub proppatch_found : Conditions → PathText → List Header → Body → Client → DavMetaData → MethodPlan Response
+abbrev pub proppatch_found : Conditions → PathText → List Header → Body → Caller → DavMetaData → MethodPlan Reply
 proppatch_found c p location content who found = do
   tokens ← guarded dav.Status method.PropPatch c (Some found)
   _ ← require_free false (requester who tokens) (names p) (dav.Status 423)
   patch_body p location content
 
--- the same of what was found at a path, which may lack its slash
-abbrev pub proppatch_at : Conditions → PathText → Body → Client → DavMetaData → MethodPlan Response
+-- a PROPPATCH of what was found at a path, which may lack its slash
+abbrev pub proppatch_at : Conditions → PathText → Body → Caller → DavMetaData → MethodPlan Reply
 proppatch_at c p content who found = proppatch_found c (closed found.dir p) (location_found (Some found) p) content who found
 
--- PROPPATCH
-abbrev pub proppatch : Conditions → PathText → Body → Client → MethodPlan Response
+-- PROPPATCH (RFC 4918, sections 9.2, 11.4, 14.19 to 14.26 and 15)
+abbrev pub proppatch : Conditions → PathText → Body → Caller → MethodPlan Reply
 proppatch c p content who = do
   found ← ask_for (Metadata (names p))
   proppatch_at c p content who found
 
 -- the plan is that of a PROPPATCH with these headers and this body, of this path, by this client
-pub data IsProppatch (headers : Headers) (p : PathText) (content : Body) (who : Client) : MethodPlan Response → Type 0 where
+-- (RFC 4918, sections 9.2, 11.4, 14.19 to 14.26 and 15)
+pub data IsProppatch (headers : Headers) (p : PathText) (content : Body) (who : Caller) : MethodPlan Reply → Type 0 where
   is_proppatch : (c : Conditions) → AreConditions headers p.prefix (names p) c → IsProppatch headers p content who (proppatch c p content who)

@@ -6,18 +6,18 @@ use Rattle.dav_core.specs.Calls.{repatched}
 use Rattle.dav_core.specs.Path.{Path, PathText, names}
 use Rattle.dav_core.specs.World.{World, adjust}
 use Rattle.dav_engine.specs.declared.request.Body.{Body}
-use Rattle.dav_engine.specs.Client.{Client}
+use Rattle.dav_engine.specs.Caller.{Caller}
 use Rattle.dav_engine.specs.Folder.{closed}
 use Rattle.dav_engine.specs.Headers.{Headers}
 use Rattle.dav_engine.specs.Method.{MethodPlan}
 use Rattle.dav_engine.specs.Plan.{Locks, Ran}
 use Rattle.dav_engine.specs.Proppatch.{Change, changes_in, answered_at_once, has_refused, to_store, Told, as_patch, proppatch_reply, IsProppatch}
-use Rattle.dav_engine.specs.Response.{Header, Response}
+use Rattle.dav_engine.specs.Reply.{Header, Reply}
 
--- A PROPPATCH that ends in an error leaves the world and the list of locks, whatever the store refuses.
+-- A PROPPATCH that ends in an error leaves the world and the list of locks, whatever the store refuses (RFC 4918, section 9.2).
 abbrev pub RefusedProppatchLeavesAll : Type 0
 RefusedProppatchLeavesAll =
-    (headers : Headers) (p : PathText) (content : Body) (who : Client) (plan : MethodPlan Response)
+    (headers : Headers) (p : PathText) (content : Body) (who : Caller) (plan : MethodPlan Reply)
     (old new : StoreState) (ls ms : Locks) (e : DavError)
     → IsProppatch headers p content who plan → Ran Asks plan old ls (Err e) new ms → (new.world ≡ old.world) × (ms ≡ ls)
 
@@ -38,7 +38,7 @@ AreMade true p stored told w v = ¬ AreDone told × (v ≡ w)
 
 -- What an answered PROPPATCH did. `dir` is whether its path was found to be that of a folder, and `has` whether the store said
 -- that it keeps properties.
-pub record IsPatched (p : PathText) (content : Body) (r : Response) (w v : World) : Type 0 where
+pub record IsPatched (p : PathText) (content : Body) (r : Reply) (w v : World) : Type 0 where
   pub dir : Bool
   pub has : Bool
   pub location : List Header
@@ -48,9 +48,9 @@ pub record IsPatched (p : PathText) (content : Body) (r : Response) (w v : World
   pub reply : r ≡ proppatch_reply location (closed dir p) told
   pub made : AreMade (has_refused (answered_at_once has changes)) (names (closed dir p)) (to_store has changes) told w v
 
--- All changes are made or none, whatever the store refuses.
+-- All changes are made or none, whatever the store refuses (RFC 4918, section 9.2).
 abbrev pub ProppatchMakesAllOrNone : Type 0
 ProppatchMakesAllOrNone =
-    (headers : Headers) (p : PathText) (content : Body) (who : Client) (plan : MethodPlan Response)
-    (old new : StoreState) (ls ms : Locks) (r : Response)
+    (headers : Headers) (p : PathText) (content : Body) (who : Caller) (plan : MethodPlan Reply)
+    (old new : StoreState) (ls ms : Locks) (r : Reply)
     → IsProppatch headers p content who plan → Ran Asks plan old ls (Ok r) new ms → IsPatched p content r old.world new.world × (ms ≡ ls)

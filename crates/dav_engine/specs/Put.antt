@@ -24,24 +24,24 @@ use Rattle.dav_headers.specs.Value.{only_text, IsNumber}
 use Rattle.dav_headers.specs.declared.range.ContentRange.{ContentRange}
 use Rattle.dav_headers.specs.declared.range.XUpdateRange.{XUpdateRange}
 use Rattle.dav_headers.specs.declared.range.XUpdateRange.TheVariants.{FromTo, AllFrom, Last, Append}
-use Rattle.dav_engine.specs.declared.put_headers.Bounds.{Bounds}
-use Rattle.dav_engine.specs.declared.put_headers.Bounds.TheVariants.{Unread, Whole, Within}
-use Rattle.dav_engine.specs.declared.put_headers.Writing.{Writing}
+use Rattle.dav_engine.specs.declared.methods.put.headers.Bounds.{Bounds}
+use Rattle.dav_engine.specs.declared.methods.put.headers.Bounds.TheVariants.{Unread, Whole, Within}
+use Rattle.dav_engine.specs.declared.methods.put.headers.Writing.{Writing}
 use Rattle.dav_engine.specs.declared.reply.ReplyBody.TheVariants as reply
 use Rattle.dav_engine.specs.declared.request.Body.{Body}
 use Rattle.dav_engine.specs.declared.request.Body.TheVariants as body
-use Rattle.dav_engine.specs.Client.{Client, requester}
+use Rattle.dav_engine.specs.Caller.{Caller, requester}
 use Rattle.dav_engine.specs.Conditions.{Conditions, AreConditions, is_star, guarded}
 use Rattle.dav_engine.specs.Method.{MethodPlan, ◌>>=◌, require, require_member, answer_of, ask_or, ask_for, gives, fails}
 use Rattle.dav_engine.specs.Plan.{Done}
 use Rattle.dav_engine.specs.Headers.{Headers, Decodes, text_in}
-use Rattle.dav_engine.specs.Response.{Response, content_length, validators}
+use Rattle.dav_engine.specs.Reply.{Reply, content_length, validators}
 
 -- ---- what the headers say
 
 -- What the headers of a PUT or PATCH say: its conditions; the length that is announced for the body; the part of the file
 -- that Content-Range names; whether the body is a partial update, and of which bytes; and the checksum that comes with the
--- body.
+-- body (RFC 9110, sections 13 and 14; RFC 5789).
 pub record PutHeaders : Type 0 where
   pub conditions : Conditions
   pub announced : Option ℕ
@@ -86,11 +86,12 @@ is_text (Some text) wanted = bytes_eq text wanted
 abbrev pub is_partial_update : List FieldValue → Bool
 is_partial_update values = is_text (only_text values) partial_update
 
--- the checksum that comes with a body
+-- the checksum that comes with a body (RFC 9110, section 5.5)
 abbrev pub checksum_in : Headers → Option (List ℕ)
 checksum_in headers = text_in (get headers (codes "oc-checksum"))
 
 -- what the headers of a PUT or PATCH to p say; a header that doesn't decode counts as absent, except for Content-Range
+-- (RFC 9110, sections 13 and 14; RFC 5789)
 pub record ArePutHeaders (headers : Headers) (p : PathText) (h : PutHeaders) : Type 0 where
   pub conditions : AreConditions headers p.prefix (names p) h.conditions
   pub announced : IsAnnounced headers h.announced
@@ -114,7 +115,7 @@ abbrev pub from_end : ℕ → Option DavMetaData → Result ℕ DavError
 from_end n None = Ok 0
 from_end n (Some m) = if nat_lt m.len n then Err unsatisfiable else Ok (m.len - n)
 
--- where a partial update of n bytes begins
+-- where a partial update of n bytes begins (RFC 9110, sections 14.4 and 15.5; RFC 5789, section 2.2)
 abbrev pub update_from : XUpdateRange → ℕ → Option DavMetaData → Result ℕ DavError
 update_from (FromTo first last) n found = if spans first last n then Ok first else Err unsatisfiable
 update_from (AllFrom first) n found = Ok first
@@ -137,6 +138,7 @@ updates (Some n) None found = Err (dav.StatusClose 400)
 updates (Some n) (Some range) found = update_at range n (update_from range n found)
 
 -- what a method writes without a Content-Range: PATCH a partial update, with 415 for any other body; PUT the whole file
+-- (RFC 9110, sections 14.4 and 15.5; RFC 5789, section 2.2)
 abbrev pub written_by : DavMethod → PutHeaders → Option DavMetaData → Result Writing DavError
 written_by Patch h found = if h.is_partial then updates h.announced h.update found else Err (dav.StatusClose 415)
 written_by _ h found = Ok (record { from = None; appends = false; announced = h.announced })
@@ -147,7 +149,7 @@ abbrev pub placed : ℕ → ℕ → Writing → Option ℕ → Result Writing Da
 placed first n w None = if nat_lt max_u64 n then Err unsatisfiable else Ok (record w { from = Some first; announced = Some n })
 placed first n w (Some k) = if n == k then Ok (record w { from = Some first }) else Err unsatisfiable
 
--- what is written with this Content-Range
+-- what is written with this Content-Range (RFC 9110, sections 14.4 and 15.5; RFC 5789, section 2.2)
 abbrev pub bounded : Bounds → Writing → Result Writing DavError
 bounded Unread w = Err (dav.StatusClose 400)
 bounded Whole w = Ok w
@@ -157,14 +159,14 @@ abbrev pub bounded_by : Bounds → Result Writing DavError → Result Writing Da
 bounded_by range (Ok w) = bounded range w
 bounded_by range (Err e) = Err e
 
--- where the bytes of a PUT or PATCH go, and how many are announced
+-- where the bytes of a PUT or PATCH go, and how many are announced (RFC 9110, sections 14.4 and 15.5; RFC 5789, section 2.2)
 abbrev pub writing_of : DavMethod → PutHeaders → Option DavMetaData → Result Writing DavError
 writing_of m h found = bounded_by h.range (written_by m h found)
 
 -- ---- the file
 
 -- How the file is opened: it is emptied, unless bytes go to a place in it. It is made where nothing is there, unless
--- If-Match is `*`; and with If-None-Match `*` nothing may be there.
+-- If-Match is `*`; and with If-None-Match `*` nothing may be there (RFC 4918, section 9.7.1; RFC 9110, sections 9.3.4 and 13.1).
 abbrev pub put_opening : PutHeaders → Writing → Opening
 put_opening h w = record no_opening {
   write = true;
@@ -181,7 +183,7 @@ put_opening h w = record no_opening {
 abbrev pub missing_status : Opening → ℕ
 missing_status how = if not how.create || how.create_new then 412 else 409
 
--- the error where the file isn't opened; other refusals as they are
+-- the error where the file isn't opened; other refusals as they are (RFC 4918, section 9.7.1; RFC 9110, sections 9.3.4 and 13.1)
 abbrev pub open_error : Opening → FsError → DavError
 open_error how fs.NotFound = dav.StatusClose (missing_status how)
 open_error how fs.Exists = dav.StatusClose (missing_status how)
@@ -194,7 +196,7 @@ sought (Some place) file = do
   moved ← ask_or (λ _. unsatisfiable) (Seek file (Start place))
   gives moved.1
 
--- whether the body has the length that is announced for it, where one is
+-- whether the body has the length that is announced for it, where one is (RFC 9110, sections 6.4 and 8.6)
 abbrev pub is_announced : Option ℕ → List ℕ → Bool
 is_announced None bytes = true
 is_announced (Some n) bytes = n == length bytes
@@ -203,8 +205,8 @@ is_announced (Some n) bytes = n == length bytes
 abbrev pub written : Handle → List ℕ → ℕ → MethodPlan Handle
 written file bytes now = if length bytes == 0 then gives file else ask_for (Write file bytes now)
 
--- The reply to a file that was stored: 204 where something was found before, else 201.
-abbrev pub stored : Bool → Option DavMetaData → Response
+-- The reply to a file that was stored: 204 where something was found before, else 201 (RFC 9110, sections 9.3.4, 14.3, 15.3.2 and 15.3.5).
+abbrev pub stored : Bool → Option DavMetaData → Reply
 stored found file = record {
   status = if found then 204 else 201;
   headers = (codes "accept-ranges", codes "bytes") ∷ ((if found then [] else content_length 0 ∷ []) ++ validators file);
@@ -212,7 +214,7 @@ stored found file = record {
 }
 
 -- Stores the bytes: opens the file, seeks the place, writes and flushes the bytes, and asks the file for its tag and time.
-abbrev pub store : Opening → Option ℕ → Path → List ℕ → ℕ → Bool → MethodPlan Response
+abbrev pub store : Opening → Option ℕ → Path → List ℕ → ℕ → Bool → MethodPlan Reply
 store how place p bytes now found = do
   file ← ask_or (open_error how) (Open p how now)
   file ← sought place file
@@ -225,7 +227,7 @@ store how place p bytes now found = do
 
 -- The checks before the file is opened: where the bytes go; 412 where a condition fails; 423 where a lock conflicts, on
 -- the path or, where nothing was found there, on the folder above it; 400 where the body isn't of the announced length. Gives where the bytes go, and whether something was found at the path.
-abbrev pub put_checks : DavMethod → PutHeaders → Path → Client → List ℕ → Result DavMetaData FsError → MethodPlan (Writing × Bool)
+abbrev pub put_checks : DavMethod → PutHeaders → Path → Caller → List ℕ → Result DavMetaData FsError → MethodPlan (Writing × Bool)
 put_checks m h p who bytes found = do
   w ← Done (writing_of m h (result_ok found))
   tokens ← guarded dav.StatusClose m h.conditions (result_ok found)
@@ -233,30 +235,30 @@ put_checks m h p who bytes found = do
   _ ← require (is_announced w.announced bytes) (dav.StatusClose 400)
   gives (w, is_ok found)
 
--- the store is asked what is at the path, and then the checks are made
-abbrev pub put_allowed : DavMethod → PutHeaders → Path → Client → List ℕ → MethodPlan (Writing × Bool)
+-- the store is asked what is at the path, and then the checks are made (RFC 9110, section 9.3.4; RFC 4918, section 9.7; RFC 5789)
+abbrev pub put_allowed : DavMethod → PutHeaders → Path → Caller → List ℕ → MethodPlan (Writing × Bool)
 put_allowed m h p who bytes = do
   found ← answer_of (Metadata p)
   put_checks m h p who bytes found
 
--- PUT and PATCH, with what their headers say
-abbrev pub put : DavMethod → PutHeaders → Path → Client → List ℕ → MethodPlan Response
+-- PUT and PATCH, with what their headers say (RFC 9110, section 9.3.4; RFC 4918, section 9.7; RFC 5789)
+abbrev pub put : DavMethod → PutHeaders → Path → Caller → List ℕ → MethodPlan Reply
 put m h p who bytes = do
   allowed ← put_allowed m h p who bytes
   store (put_opening h allowed.0) allowed.0.from p bytes who.moment allowed.1
 
--- the bytes of a body; none for an element tree and for a malformed one
+-- the bytes of a body; none for an element tree and for a malformed one (RFC 9110, sections 6.4 and 8.6)
 abbrev pub bytes_of_body : Body → Option (List ℕ)
 bytes_of_body body.None = Some []
 bytes_of_body (body.Bytes bytes) = Some bytes
 bytes_of_body (body.Tree tree) = None
 bytes_of_body body.Malformed = None
 
--- PUT and PATCH with this body: 415 for one that isn't bytes
-abbrev pub put_body : DavMethod → PutHeaders → Path → Client → Option (List ℕ) → MethodPlan Response
+-- PUT and PATCH with this body: 415 for one that isn't bytes (RFC 9110, section 15.5.16)
+abbrev pub put_body : DavMethod → PutHeaders → Path → Caller → Option (List ℕ) → MethodPlan Reply
 put_body m h p who None = fails (dav.Status 415)
 put_body m h p who (Some bytes) = put m h p who bytes
 
--- The plan of a PUT or PATCH with these headers and this body, to a path.
-pub data IsPut (m : DavMethod) (headers : Headers) (p : PathText) (body : Body) (who : Client) : MethodPlan Response → Type 0 where
+-- The plan of a PUT or PATCH with these headers and this body, to a path (RFC 9110, section 15.5.16).
+pub data IsPut (m : DavMethod) (headers : Headers) (p : PathText) (body : Body) (who : Caller) : MethodPlan Reply → Type 0 where
   is_put : (h : PutHeaders) → ArePutHeaders headers p h → IsPut m headers p body who (put_body m h (names p) who (bytes_of_body body))

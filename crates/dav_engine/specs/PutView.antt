@@ -1,7 +1,7 @@
 -- What contracts see of the headers of a PUT or PATCH.
 use Rattle.std.specs.Prelude.{string_bytes}
 use Rattle.std.specs.Option.{option_map}
-use Rattle.dav_engine.specs.declared.put_headers.PutHeaders.TheInside.{Inside}
+use Rattle.dav_engine.specs.declared.methods.put.headers.PutHeaders.TheInside.{Inside}
 use Rattle.dav_engine.specs.Put.{PutHeaders}
 
 abbrev pub put_headers_of : Inside → PutHeaders

@@ -12,7 +12,7 @@ use Rattle.dav_engine.specs.Folder.{child_of, room_at}
 use Rattle.dav_engine.specs.Method.{MethodPlan, ◌>>=◌, answer_of, gives}
 use Rattle.dav_engine.specs.Multistatus.{PathStatus}
 
--- one part of a walk for each element of a list, in order; what they report is joined
+-- one part of a walk for each element of a list, in order; what they report is joined (RFC 4918, section 9.6.1)
 abbrev pub each : {X F : Type 0} → (X → MethodPlan (List F)) → List X → MethodPlan (List F)
 each f [] = gives []
 each f (x ∷ xs) = do
@@ -21,7 +21,7 @@ each f (x ∷ xs) = do
   gives (reports ++ more)
 
 -- What wasn't removed, with the status that says why: what is at a path; a folder with all that is in it; a folder because of
--- the member of this name, whose metadata the store refused.
+-- the member of this name, whose metadata the store refused (RFC 4918, section 9.6.1).
 pub data Fault : Type 0 where
   Stays : PathText → ℕ → Fault
   StaysWhole : PathText → ℕ → Fault
@@ -33,7 +33,7 @@ fault_path (Stays p status) = p
 fault_path (StaysWhole p status) = p
 fault_path (StaysWith p name status) = p
 
--- a fault as the reply reports it
+-- a fault as the reply reports it (RFC 4918, section 9.6.1)
 abbrev pub report_of : Fault → PathStatus
 report_of (Stays p status) = (p, status)
 report_of (StaysWhole p status) = (p, status)
@@ -56,7 +56,7 @@ remove_alone now p = do
   removed ← answer_of (RemoveDir (names p) now)
   gives (refused_by (λ e. StaysWhole p (fs_status e)) removed)
 
--- that something is in a folder after all was removed is a conflict
+-- the status of a folder that isn't removed though its members are: that something is in it still is a conflict
 abbrev pub emptied_status : FsError → ℕ
 emptied_status fs.Exists = 409
 emptied_status e = fs_status e
@@ -77,7 +77,7 @@ abbrev pub remove_found : Walk → PathText → List ℕ → Result DavMetaData 
 remove_found walk p name (Err e) = gives (StaysWith p name (fs_status e) ∷ [])
 remove_found walk p name (Ok m) = walk (child_of p name m.dir) m.dir
 
--- removes a member of a folder
+-- removes a member of a folder (RFC 4918, section 9.6.1)
 abbrev pub remove_member : Walk → PathText → List ℕ × Bool → MethodPlan (List Fault)
 remove_member walk p entry = do
   found ← answer_of (EntryMetadata (names p ++ entry.0 ∷ []))
@@ -90,7 +90,7 @@ remove_listed walk now p (Ok entries) = do
   faults ← each (remove_member walk p) entries
   remove_emptied now p faults
 
--- Removes what is at a path, which is a folder or not, with everything below it, as many names deep as there is room for.
+-- Removes what is at a path, which is a folder or not, with everything below it, as many names deep as there is room for (RFC 4918, section 9.6.1).
 abbrev pub remove : ℕ → ℕ → PathText → Bool → MethodPlan (List Fault)
 remove room now p false = remove_file now p
 remove zero now p true = gives (StaysWhole p (fs_status fs.PathTooLong) ∷ [])
@@ -98,7 +98,7 @@ remove (suc room) now p true = do
   listed ← answer_of (ReadDir (names p))
   remove_listed (λ q dir. remove room now q dir) now p listed
 
--- Removes what is at a path, with everything below it or alone.
+-- Removes what is at a path, with everything below it or alone (RFC 4918, sections 9.6.1 and 10.2).
 abbrev pub removal : Bool → ℕ → PathText → Bool → MethodPlan (List Fault)
 removal true now p dir = remove (room_at p) now p dir
 removal false now p true = remove_alone now p
@@ -116,6 +116,6 @@ is_withheld_by q (Stays p status) = false
 is_withheld_by q (StaysWhole p status) = is_under q (names p)
 is_withheld_by q (StaysWith p name status) = is_at_or_under q (names p ++ name ∷ [])
 
--- what survives a removal with these faults
+-- what survives a removal with these faults (RFC 4918, section 9.6.1)
 abbrev pub survives : List Fault → Path → Bool
 survives faults q = list_any (λ f. is_named_by q f || is_withheld_by q f) faults

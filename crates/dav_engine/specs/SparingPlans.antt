@@ -4,7 +4,7 @@ use Rattle.dav_core.specs.declared.method.DavMethod.{DavMethod}
 use Rattle.dav_core.specs.Locks.{Lock, is_held}
 use Rattle.dav_core.specs.Path.{PathText, names, star}
 use Rattle.dav_engine.specs.declared.request.Body.{Body}
-use Rattle.dav_engine.specs.Client.{Client, requester}
+use Rattle.dav_engine.specs.Caller.{Caller, requester}
 use Rattle.dav_engine.specs.Conditions.{Conditions, AreConditions, submitted}
 use Rattle.dav_engine.specs.CopyMove.{IsCopyMove}
 use Rattle.dav_engine.specs.Delete.{IsDelete}
@@ -15,61 +15,61 @@ use Rattle.dav_engine.specs.Method.{MethodPlan}
 use Rattle.dav_engine.specs.Mkcol.{IsMkcol}
 use Rattle.dav_engine.specs.Proppatch.{IsProppatch}
 use Rattle.dav_engine.specs.Put.{IsPut}
-use Rattle.dav_engine.specs.Response.{Response}
+use Rattle.dav_engine.specs.Reply.{Reply}
 use Rattle.dav_engine.specs.Sparing.{SparesLock, SparesGuard}
 use Rattle.dav_engine.specs.Unlock.{IsUnlock}
 use Rattle.dav_engine.specs.WorldLaws.{IsReading}
 
 -- A request with these headers, to a path, doesn't hold a lock: its If doesn't submit the lock's token, or its client isn't
--- the lock's principal.
-abbrev pub IsStranger : Headers → PathText → Client → Lock → Type 0
+-- the lock's principal (RFC 4918, section 7).
+abbrev pub IsStranger : Headers → PathText → Caller → Lock → Type 0
 IsStranger headers p who h = (c : Conditions) → AreConditions headers p.prefix (names p) c → is_held (requester who (submitted c.lists)) h ≡ false
 
 -- the plan spares what a lock covers, also where the lock is known to guard its folder
-abbrev pub SparesBoth : Lock → MethodPlan Response → Type 0
+abbrev pub SparesBoth : Lock → MethodPlan Reply → Type 0
 SparesBoth h plan = SparesLock h plan × SparesGuard h plan
 
--- a plan that only reads spares all
+-- a plan that only reads spares all (RFC 4918, section 7)
 abbrev pub ReadingSpares : Type 0
-ReadingSpares = (h : Lock) (plan : MethodPlan Response) → IsReading plan → SparesBoth h plan
+ReadingSpares = (h : Lock) (plan : MethodPlan Reply) → IsReading plan → SparesBoth h plan
 
--- so does a PUT or PATCH, of a client that doesn't hold an exclusive lock, with what it covers
+-- a PUT or PATCH of a client that doesn't hold an exclusive lock spares what the lock covers (RFC 4918, section 7)
 abbrev pub PutSpares : Type 0
 PutSpares =
-    (h : Lock) (m : DavMethod) (headers : Headers) (p : PathText) (body : Body) (who : Client) (plan : MethodPlan Response)
+    (h : Lock) (m : DavMethod) (headers : Headers) (p : PathText) (body : Body) (who : Caller) (plan : MethodPlan Reply)
     → h.shared ≡ false → IsStranger headers p who h → IsPut m headers p body who plan → SparesBoth h plan
 
--- and a MKCOL
+-- a MKCOL of a client that doesn't hold an exclusive lock spares what the lock covers (RFC 4918, section 7)
 abbrev pub MkcolSpares : Type 0
 MkcolSpares =
-    (h : Lock) (headers : Headers) (p : PathText) (who : Client) (plan : MethodPlan Response)
+    (h : Lock) (headers : Headers) (p : PathText) (who : Caller) (plan : MethodPlan Reply)
     → h.shared ≡ false → IsStranger headers p who h → IsMkcol headers p who plan → SparesBoth h plan
 
--- and a DELETE
+-- a DELETE of a client that doesn't hold an exclusive lock spares what the lock covers (RFC 4918, section 7)
 abbrev pub DeleteSpares : Type 0
 DeleteSpares =
-    (h : Lock) (headers : Headers) (p : PathText) (who : Client) (plan : MethodPlan Response)
+    (h : Lock) (headers : Headers) (p : PathText) (who : Caller) (plan : MethodPlan Reply)
     → h.shared ≡ false → p.bytes ≢ star → IsStranger headers p who h → IsDelete headers p who plan → SparesBoth h plan
 
--- and a COPY or MOVE
+-- a COPY or MOVE of a client that doesn't hold an exclusive lock spares what the lock covers (RFC 4918, section 7)
 abbrev pub CopyMoveSpares : Type 0
 CopyMoveSpares =
-    (h : Lock) (m : DavMethod) (headers : Headers) (p : PathText) (who : Client) (plan : MethodPlan Response)
+    (h : Lock) (m : DavMethod) (headers : Headers) (p : PathText) (who : Caller) (plan : MethodPlan Reply)
     → h.shared ≡ false → p.bytes ≢ star → IsStranger headers p who h → IsCopyMove m headers p who plan → SparesBoth h plan
 
--- and a PROPPATCH
+-- a PROPPATCH of a client that doesn't hold an exclusive lock spares what the lock covers (RFC 4918, section 7)
 abbrev pub ProppatchSpares : Type 0
 ProppatchSpares =
-    (h : Lock) (headers : Headers) (p : PathText) (content : Body) (who : Client) (plan : MethodPlan Response)
+    (h : Lock) (headers : Headers) (p : PathText) (content : Body) (who : Caller) (plan : MethodPlan Reply)
     → h.shared ≡ false → IsStranger headers p who h → IsProppatch headers p content who plan → SparesBoth h plan
 
--- An UNLOCK spares all, whoever asks for it: with it the lock itself may end.
+-- An UNLOCK spares all, whoever asks for it: with it the lock itself may end (RFC 4918, section 7).
 abbrev pub UnlockSpares : Type 0
-UnlockSpares = (h : Lock) (headers : Headers) (p : PathText) (who : Client) (plan : MethodPlan Response) → IsUnlock headers p who plan → SparesBoth h plan
+UnlockSpares = (h : Lock) (headers : Headers) (p : PathText) (who : Caller) (plan : MethodPlan Reply) → IsUnlock headers p who plan → SparesBoth h plan
 
 -- A LOCK spares what an exclusive lock covers, whoever asks for it and whatever token it brings. Where the lock is a guard, known to
--- guard its folder, and isn't the one whose token the LOCK brings, it keeps the guard too.
+-- guard its folder, and isn't the one whose token the LOCK brings, it keeps the guard too (RFC 4918, section 7).
 abbrev pub LockSpares : Type 0
 LockSpares =
-    (h : Lock) (headers : Headers) (p : PathText) (body : Body) (who : Client) (plan : MethodPlan Response)
+    (h : Lock) (headers : Headers) (p : PathText) (body : Body) (who : Caller) (plan : MethodPlan Reply)
     → h.shared ≡ false → IsLock headers p body who plan → SparesLock h plan × (IsGuard h → who.token ≢ Some h.token → SparesGuard h plan)

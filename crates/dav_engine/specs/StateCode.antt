@@ -12,7 +12,7 @@ use Rattle.dav_core.specs.WorldCode.{coded_world}
 use Rattle.dav_engine.specs.declared.reply.ReplyBody.{ReplyBody}
 use Rattle.dav_engine.specs.LockInfo.{LockInfo}
 use Rattle.dav_engine.specs.Plan.{ServerState}
-use Rattle.dav_engine.specs.Response.{Header, Response}
+use Rattle.dav_engine.specs.Reply.{Header, Reply}
 
 -- the state of a store, by the code of an error
 abbrev pub coded_store : Coded FsError → Coded StoreState
@@ -27,7 +27,7 @@ coded_state refusal =
     (λ s. (s.store, s.locks)) (λ p. record { store = p.0; locks = p.1 }) (λ _. refl)
 
 -- a reply, by the code of its body
-abbrev pub coded_response : Coded ReplyBody → Coded Response
+abbrev pub coded_response : Coded ReplyBody → Coded Reply
 coded_response body =
     code_by (ℕ × (List Header × ReplyBody)) (coded× coded_ℕ (coded× (coded_list (coded× (coded_list coded_ℕ) (coded_list coded_ℕ))) body))
     (λ r. (r.status, (r.headers, r.body))) (λ p. record { status = p.0; headers = p.1.0; body = p.1.1 }) (λ _. refl)

@@ -10,7 +10,7 @@ use Rattle.dav_core.specs.World.{World, Node, node_at}
 use Rattle.dav_headers.specs.Depth.{IsDepth}
 use Rattle.dav_headers.specs.declared.depth.Depth.{Depth}
 use Rattle.dav_engine.specs.declared.request.Body.{Body}
-use Rattle.dav_engine.specs.Client.{Client}
+use Rattle.dav_engine.specs.Caller.{Caller}
 use Rattle.dav_engine.specs.Folder.{closed}
 use Rattle.dav_engine.specs.Headers.{Headers}
 use Rattle.dav_engine.specs.Method.{MethodPlan}
@@ -20,45 +20,46 @@ use Rattle.dav_engine.specs.Propfind.{IsPropfind}
 use Rattle.dav_engine.specs.PropfindLaws.{path_in, responses_in}
 use Rattle.dav_engine.specs.Proppatch.{Change, to_store}
 use Rattle.dav_engine.specs.ProppatchLaws.{patched_world, AreDone, IsPatched}
-use Rattle.dav_engine.specs.Response.{Response}
+use Rattle.dav_engine.specs.Reply.{Reply}
 
--- what is at a path keeps this element as its property
+-- what is at a path keeps this element as its property (RFC 4918, sections 4 and 9.2)
 pub record Keeps (w : World) (p : Path) (e : ElementTree) : Type 0 where
   pub node : Node
   pub stands : node_at w p ≡ Some node
   pub kept : find key_cmp (key_of e) node.properties ≡ Some (Some e)
 
--- these changes set this element, and none behind it is of the same property
+-- these changes set this element, and none behind it is of the same property (RFC 4918, sections 4 and 9.2)
 pub record IsSetLast (e : ElementTree) (changes : List Change) : Type 0 where
   pub front : List Change
   pub back : List Change
   pub are : changes ≡ front ++ record { is_set = true; property = e } ∷ back
   pub last : All (λ c. is_same_key (key_of e) (key_of c.property) ≡ false) back
 
--- After changes that were made at a path, what is there keeps each element that they set last.
+-- After changes that were made at a path, what is there keeps each element that they set last (RFC 4918, section 9.2).
 abbrev pub SetIsKept : Type 0
 SetIsKept =
     (p : Path) (changes : List Change) (e : ElementTree) (w : World) (n : Node)
     → node_at w p ≡ Some n → IsSetLast e changes → Keeps (patched_world p changes w) p e
 
--- So it keeps each element that a PROPPATCH of it set last of what was to be stored, where the reply tells 200 of each property.
+-- A node keeps each element that a PROPPATCH of it set last of what was to be stored, where the reply tells 200 of each property
+-- (RFC 4918, section 9.2).
 abbrev pub PatchedIsKept : Type 0
 PatchedIsKept =
-    (p : PathText) (content : Body) (r : Response) (e : ElementTree) (w v : World) (n : Node) (done : IsPatched p content r w v)
+    (p : PathText) (content : Body) (r : Reply) (e : ElementTree) (w v : World) (n : Node) (done : IsPatched p content r w v)
     → node_at w (names (closed done.dir p)) ≡ Some n → AreDone done.told → IsSetLast e (to_store done.has done.changes) → Keeps v (names (closed done.dir p)) e
 
--- the response for a path tells this element among the properties that were found, whole
+-- the response for a path tells this element among the properties that were found, whole (RFC 4918, sections 9.1 and 14.22)
 pub record TellsWhole (p : PathText) (e response : ElementTree) : Type 0 where
   pub front : List ElementTree
   pub back : List ElementTree
   pub is : response ≡ property_response p (found_groups (front ++ e ∷ back))
 
 -- Whatever a PROPFIND with a depth asks for, where it is answered 207, no refusal is left to come and the store doesn't run out of memory, its
--- first response is that of its target, and tells each element that the target keeps.
+-- first response is that of its target, and tells each element that the target keeps (RFC 4918, sections 9.1 and 14.22).
 abbrev pub KeptIsTold : Type 0
 KeptIsTold =
-    (headers : Headers) (depth : Depth) (p : PathText) (content : Body) (who : Client) (plan : MethodPlan Response) (e : ElementTree)
-    (old new : StoreState) (ls ms : Locks) (r : Response)
+    (headers : Headers) (depth : Depth) (p : PathText) (content : Body) (who : Caller) (plan : MethodPlan Reply) (e : ElementTree)
+    (old new : StoreState) (ls ms : Locks) (r : Reply)
     → p.bytes ≢ star → IsDepth (get_all headers (codes "depth")) depth → IsPropfind headers p content who plan → Keeps old.world (names p) e
     → All (λ x. x ≡ None) old.refusals → new.short ≡ false → Ran Asks plan old ls (Ok r) new ms → r.status ≡ 207
     → (response : ElementTree) × (more : List ElementTree) × (responses_in r.body ≡ response ∷ more) × TellsWhole (path_in old.world p) e response

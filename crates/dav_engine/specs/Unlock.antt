@@ -6,13 +6,13 @@ use Rattle.dav_core.specs.Asking.{Metadata}
 use Rattle.dav_core.specs.Locks.{Lock, unlocked}
 use Rattle.dav_core.specs.Path.{Path, PathText, names}
 use Rattle.dav_engine.specs.declared.reply.ReplyBody.TheVariants as reply
-use Rattle.dav_engine.specs.Client.{Client}
+use Rattle.dav_engine.specs.Caller.{Caller}
 use Rattle.dav_engine.specs.Folder.{location_found}
 use Rattle.dav_engine.specs.Headers.{Headers, Decodes}
 use Rattle.dav_engine.specs.LockToken.{SaysLockToken}
 use Rattle.dav_engine.specs.Method.{MethodPlan, ◌>>=◌, require_locks, required, look, answer_of, gives, fails}
 use Rattle.dav_engine.specs.Plan.{Locks, Done, Keep}
-use Rattle.dav_engine.specs.Response.{Response, Header}
+use Rattle.dav_engine.specs.Reply.{Reply, Header}
 
 -- the list that is left without a lock; 409 where there is no such lock
 abbrev pub keep_left : Option (List Lock) → MethodPlan (Unit {0})
@@ -25,11 +25,11 @@ end_in token p None = fails (dav.Status 405)
 end_in token p (Some ls) = keep_left (unlocked token p ls)
 
 -- the reply to an UNLOCK: 204, with the location of a folder
-abbrev pub unlocked_reply : List Header → Response
+abbrev pub unlocked_reply : List Header → Reply
 unlocked_reply location = record { status = 204; headers = location; body = reply.Nothing }
 
--- ends the lock that a token and a path mean, with the location of a folder whose path lacks its slash
-abbrev pub end_lock : PathText → List ℕ → MethodPlan Response
+-- ends the lock that a token and a path mean, with the location of a folder whose path lacks its slash (RFC 4918, section 9.11)
+abbrev pub end_lock : PathText → List ℕ → MethodPlan Reply
 end_lock p token = do
   found ← answer_of (Metadata (names p))
   locks ← look
@@ -37,13 +37,13 @@ end_lock p token = do
   gives (unlocked_reply (location_found (result_ok found) p))
 
 -- UNLOCK: 405 without a lock system; 400 without a token; 409 where no lock at the path or above it has the token. No condition
--- and no lock is checked, and whose the lock is isn't asked.
-abbrev pub unlock : Option (List ℕ) → PathText → MethodPlan Response
+-- and no lock is checked, and whose the lock is isn't asked (RFC 4918, section 9.11).
+abbrev pub unlock : Option (List ℕ) → PathText → MethodPlan Reply
 unlock token p = do
   _ ← require_locks (dav.Status 405)
   said ← Done (required token (dav.Status 400))
   end_lock p said
 
--- the plan is that of an UNLOCK with these headers, of this path, by this client
-pub data IsUnlock (headers : Headers) (p : PathText) (who : Client) : MethodPlan Response → Type 0 where
+-- the plan is that of an UNLOCK with these headers, of this path, by this client (RFC 4918, section 9.11)
+pub data IsUnlock (headers : Headers) (p : PathText) (who : Caller) : MethodPlan Reply → Type 0 where
   is_unlock : (token : Option (List ℕ)) → Decodes SaysLockToken headers token → IsUnlock headers p who (unlock token p)

@@ -1,5 +1,6 @@
 -- What contracts say of code that carries out a walk, and adds what it reports to a collector.
 use Rattle.std.specs.Prelude.{◌≡◌, ◌++◌, Bool, true, false, List, map, Result, Ok, Err}
+use Rattle.std.specs.declared.alloc.AllocError.{AllocError}
 use Rattle.dav_core.specs.declared.errors.FsError.{FsError}
 use Rattle.dav_core.specs.declared.errors.DavError.{DavError}
 use Rattle.dav_core.specs.declared.errors.DavError.TheVariants as dav
@@ -13,11 +14,11 @@ use Rattle.dav_engine.specs.Multistatus.{PathStatus, last_error}
 use Rattle.dav_engine.specs.Plan.{Done, Ask, Look, Keep, Locks, Ran, RanUpTo, Cut}
 use Rattle.dav_engine.specs.Removal.{Fault, report_of}
 
--- A walk was carried out, whatever the list of locks is, with these faults; they were reported after what was reported before,
--- and the walk is clean where there is no fault.
-pub data Walked (plan : MethodPlan (List Fault)) (old : StoreState) (before after : List PathStatus) (clean : Bool) (new : StoreState) : Type 0 where
-  walked : (faults : List Fault) → ((ls : Locks) → Ran Asks plan old ls (Ok faults) new ls)
-      → after ≡ before ++ map report_of faults → clean ≡ is_empty faults → Walked plan old before after clean new
+-- A walk was carried out, whatever the list of locks is: its faults were reported after what was reported before, and this is
+-- what they come to.
+pub data Walked {F X : Type 0} (report : F → PathStatus) (outcome : List F → X) (plan : MethodPlan (List F)) (old : StoreState) (before after : List PathStatus) (value : X) (new : StoreState) : Type 0 where
+  walked : (faults : List F) → ((ls : Locks) → Ran Asks plan old ls (Ok faults) new ls)
+      → after ≡ before ++ map report faults → value ≡ outcome faults → Walked report outcome plan old before after value new
 
 -- memory ran out in a part, which leaves the list of locks
 abbrev pub StoppedIn : {A : Type 0} → MethodPlan A → StoreState → StoreState → Type 0
@@ -44,12 +45,23 @@ pub record CutShort {F : Type 0} (report : F → PathStatus) (plan : MethodPlan 
   pub reported : after ≡ before ++ reports
   pub first_faults : AlwaysGives (BeginWith report reports) rest
 
--- What code that carries out a walk returns: nothing where there was no fault; else the status that was reported last; or
--- memory ran out in the walk.
-pub data Removes (plan : MethodPlan (List Fault)) (old : StoreState) (before after : List PathStatus) (result : Result (Unit {0}) DavError) (new : StoreState) : Type 0 where
-  all_gone : Walked plan old before after true new → result ≡ Ok tt → Removes plan old before after result new
-  some_stays : Walked plan old before after false new → result ≡ Err (last_error after) → Removes plan old before after result new
-  ran_out : CutShort report_of plan old before after new → result ≡ Err dav.Memory → Removes plan old before after result new
+-- What code that carries out a walk returns: what its faults come to; or memory ran out in the walk.
+abbrev pub Walks : {F X E : Type 0} → (F → PathStatus) → (List F → X) → MethodPlan (List F) → StoreState → List PathStatus → List PathStatus → Result X E → StoreState → Type 0
+Walks report outcome plan old before after (Ok value) new = Walked report outcome plan old before after value new
+Walks report outcome plan old before after (Err e) new = CutShort report plan old before after new
+
+-- what a removal returns as a method does: nothing where nothing stays; else the status that was reported last; or that memory ran out
+-- (RFC 4918, section 10.2)
+abbrev pub removal_result : {E : Type 0} → List PathStatus → Result Bool E → Result (Unit {0}) DavError
+removal_result reported (Ok true) = Ok tt
+removal_result reported (Ok false) = Err (last_error reported)
+removal_result reported (Err e) = Err dav.Memory
+
+-- a removal was carried out, or cut short, and the result is that of a method (RFC 4918, section 10.2)
+pub record Removes (plan : MethodPlan (List Fault)) (old : StoreState) (before after : List PathStatus) (result : Result (Unit {0}) DavError) (new : StoreState) : Type 0 where
+  pub clean : Result Bool AllocError
+  pub walks : Walks report_of is_empty plan old before after clean new
+  pub result_is : result ≡ removal_result after clean
 
 -- whether a walk goes below a folder: at any depth but 0 (RFC 4918, section 10.2)
 abbrev pub goes_below : Depth → Bool

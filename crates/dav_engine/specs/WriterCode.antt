@@ -3,9 +3,9 @@ use Rattle.std.specs.Prelude.{ℕ, List, Option, refl}
 use Rattle.std.specs.Coded.{Coded, code_by, coded_ℕ, coded_list, coded_option, coded×}
 use Rattle.dav_core.specs.Element.{ElementTree}
 use Rattle.dav_core.specs.ElementCode.{coded_tree}
-use Rattle.dav_engine.specs.declared.telling.Telling.{Telling}
+use Rattle.dav_engine.specs.declared.properties.kind.Telling.{Telling}
 use Rattle.dav_engine.specs.Properties.{Writer, QuotaKnown}
-use Rattle.dav_engine.specs.Writing.{Writing}
+use Rattle.dav_engine.specs.PropWriter.{PropWriter}
 
 -- how properties are told, by the code of what they are told for
 abbrev pub coded_writer : Coded Telling → Coded Writer
@@ -14,7 +14,7 @@ coded_writer telling =
     (λ w. (w.telling, (w.agent, (w.principal, w.properties)))) (λ p. record { telling = p.0; agent = p.1.0; principal = p.1.1.0; properties = p.1.1.1 }) (λ _. refl)
 
 -- what tells properties, by the same
-abbrev pub coded_writing : Coded Telling → Coded Writing
+abbrev pub coded_writing : Coded Telling → Coded PropWriter
 coded_writing telling =
     code_by (Writer × (QuotaKnown × (List ElementTree × List ElementTree))) (coded× (coded_writer telling) (coded× (coded_option (coded_option (coded× coded_ℕ (coded_option coded_ℕ)))) (coded× (coded_list coded_tree) (coded_list coded_tree))))
     (λ w. (w.writer, (w.quota, (w.finished, w.waiting)))) (λ p. record { writer = p.0; quota = p.1.0; finished = p.1.1.0; waiting = p.1.1.1 }) (λ _. refl)

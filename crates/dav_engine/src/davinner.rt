@@ -16,13 +16,13 @@ pub struct Caller<'c> {
 }
 
 impl<'c> Model for Caller<'c> {
-    ghost use Rattle.dav_engine.specs.Client.{Client};
+    ghost use Rattle.dav_engine.specs.Caller as said;
 
-    ghost Value = { Client };
+    ghost Value = { said.Caller };
 
-    ghost use Rattle.dav_engine.specs.CallerView.{client_of};
+    ghost use Rattle.dav_engine.specs.CallerView.{caller_of};
 
-    ghost view = { client_of };
+    ghost view = { caller_of };
 }
 
 /// The state of a server: its store, and its locks where there is a lock system.

@@ -1,10 +1,11 @@
 //! Paths of folders (RFC 4918, section 5.2).
-ghost use Rattle.std.specs.Prelude.{◌≡◌, codes, IfOk, IsOkAnd, OnOk};
+ghost use Rattle.std.specs.Prelude.{◌≡◌, ◌<◌, ◌^◌, codes, length, IfOk, IsOkAnd, OnOk};
 ghost use Rattle.std.specs.Option.{option_copied};
 ghost use Rattle.http_header.specs.FieldValue.{plain_value};
 ghost use Rattle.http_header.specs.HeaderMap.{insert};
-ghost use Rattle.dav_engine.specs.Folder.{closed, is_folder_found, with_location};
+ghost use Rattle.dav_engine.specs.Folder.{child_of, closed, is_folder_found, with_location};
 ghost use Rattle.dav_engine.specs.Multistatus.{xml_type};
+ghost use Rattle.dav_engine.specs.Options as spec;
 
 use crate::reply::{set_location, set_xml_type};
 use dav_core::davpath::DavPath;
@@ -65,4 +66,29 @@ pub fn set_location_found(
         set_location(alloc, headers, &path)?;
     }
     Ok(())
+}
+
+// The path of a member, which ends in a slash where it is a folder.
+pub(crate) fn child(path: &DavPath, name: &[u8], dir: bool) -> Result<DavPath, NoMemory>
+    ensures { IfOk result (λ p. p ≡ child_of path.now name.now dir) }
+{
+    let mut child = path.clone()?;
+    child.push_segment(name)?;
+    child.add_slash_if(dir)?;
+    Ok(child)
+}
+
+// Whether a path is the root.
+pub(crate) fn is_root(path: &DavPath) -> bool
+    ensures { result ≡ spec.is_root path.now }
+{
+    path.as_bytes() == b"/".as_slice()
+}
+
+// A path that is in memory has fewer than 2^64 bytes, and so fewer names. A walk that goes one name deeper at each step ends
+// therefore; the proofs take it from here.
+pub(crate) fn names_fit(path: &DavPath)
+    ensures { length path.now.bytes < 2 ^ 64 }
+{
+    let _bytes = path.as_ref().as_bytes().len();
 }

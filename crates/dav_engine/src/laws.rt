@@ -5,7 +5,7 @@ ghost use Rattle.dav_engine.specs.InternetDate.{WritesInternetDates};
 ghost use Rattle.dav_engine.specs.LanguageLaws.{AcceptedLanguagesAreRead};
 ghost use Rattle.dav_engine.specs.LockLaws.{LockGrants, LockRefreshes, RefusedLockLeavesAll, EarlyRefusedLockLeavesAll};
 ghost use Rattle.dav_engine.specs.OnePlan.{OneReadingOfConditions, OnePutPlan, OneMkcolPlan, OneDeletePlan, OneUnlockPlan, OneLockPlan, OneCopyMovePlan, OnePropfindPlan, OneProppatchPlan};
-ghost use Rattle.dav_engine.specs.PlanLaws.{PlansAreDetermined, PlansEnd, WantIsLikeRefusals, CutsAreLikeRefusals};
+ghost use Rattle.dav_engine.specs.PlanLaws.{PlansAreDetermined, PlansEnd, OutOfMemoryIsARefusal, CutsAreLikeRefusals};
 ghost use Rattle.dav_engine.specs.StoredLaws.{SetIsKept, PatchedIsKept, KeptIsTold};
 ghost use Rattle.dav_engine.specs.PropfindLaws.{PropertiesLeadBack, ResponsesLeadBack, ListingsAreWhole, UnrefusedRunsList};
 ghost use Rattle.dav_engine.specs.ProppatchLaws.{RefusedProppatchLeavesAll, ProppatchMakesAllOrNone};
@@ -31,7 +31,7 @@ pub fn plans_end()
 /// A store that runs out of memory is like one that refuses some of its calls.
 #[tactic(auto, using(crate::proofs::PlanAnswers::want_is_like_refusals))]
 pub fn want_is_like_refusals()
-    ensures { WantIsLikeRefusals }
+    ensures { OutOfMemoryIsARefusal }
 {}
 
 /// A plan in which memory runs out leaves the store as it does where some of its calls are refused.

@@ -7,8 +7,11 @@ ghost use Rattle.dav_core.specs.Path.{full_bytes};
 ghost use Rattle.dav_core.specs.UrlText.{path_text};
 ghost use Rattle.dav_core.specs.World.{last_moment};
 ghost use Rattle.dav_engine.specs.Multistatus.{xml_type};
-ghost use Rattle.dav_engine.specs.Response.{error_reply, headers_in, with_tag, with_validators};
+ghost use Rattle.dav_engine.specs.Reply.{error_reply, headers_in, with_tag, with_validators};
 ghost use Rattle.dav_engine.specs.declared.reply.ReplyBody.TheVariants.{Tree};
+
+pub mod multistatus;
+pub(crate) mod tree;
 
 use crate::date::date_value;
 use bytes::Bytes;
@@ -45,11 +48,12 @@ pub struct Reply {
 }
 
 impl Model for Reply {
-    ghost use Rattle.dav_engine.specs.Response.{Response, headers_in};
+    ghost use Rattle.dav_engine.specs.Reply.{headers_in};
+    ghost use Rattle.dav_engine.specs.Reply as said;
     ghost use Rattle.dav_engine.specs.StateCode.{coded_response};
     ghost use Rattle.dav_engine.specs.contracts.reply.ReplyBody as reply_body;
 
-    ghost Value = { Response };
+    ghost Value = { said.Reply };
 
     ghost coded = { coded_response reply_body.the_row.coded };
 

@@ -1,4 +1,6 @@
 //! What the methods are handed: requests and their bodies.
+ghost use Rattle.std.specs.Prelude.{◌≡◌};
+ghost use Rattle.dav_engine.specs.Lock as spec;
 
 use bytes::Bytes;
 use dav_core::davpath::DavPath;
@@ -28,4 +30,15 @@ pub enum Body {
     Tree(Element),
     /// Bytes that were to encode an element tree, and don't.
     Malformed,
+}
+
+// Whether there is no body.
+pub(crate) fn is_absent(body: &Body) -> bool
+    ensures { result ≡ spec.is_absent body.now }
+{
+    match body {
+        Body::None => true,
+        Body::Bytes(bytes) => bytes.is_empty(),
+        Body::Tree(_) | Body::Malformed => false,
+    }
 }

@@ -21,7 +21,7 @@ IsContentRangeText text bounds length =
     (range : List ℕ) × (size : List ℕ)
     × (text ≡ codes "bytes " ++ (range ++ 47 ∷ size)) × IsBounds range bounds × IsLength size length
 
--- the only value is this range
+-- the only value is this range (RFC 9110, section 14.4)
 abbrev pub IsContentRange : List FieldValue → ContentRange → Type 0
 IsContentRange values r = IsSomeAnd (only_text values) (λ text. IsContentRangeText text r.bounds r.length)
 
@@ -30,6 +30,7 @@ abbrev pub length_text : Option ℕ → List ℕ
 length_text None = codes "*"
 length_text (Some n) = decimal n
 
+-- the text that is written for a Content-Range (RFC 9110, section 14.4)
 abbrev pub content_range_text : Option (ℕ × ℕ) → Option ℕ → List ℕ
 content_range_text None length = codes "bytes */" ++ length_text length
 content_range_text (Some (a, b)) length =

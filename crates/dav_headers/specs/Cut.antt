@@ -9,6 +9,6 @@ IsWithout sign text = (i : ℕ) → i < length text → slice_index text i ≢ s
 abbrev pub IsCut : ℕ → List ℕ → List ℕ → List ℕ → Type 0
 IsCut sign text front back = IsWithout sign front × (text ≡ front ++ sign ∷ back)
 
--- there is no such byte in the text
+-- a text can't be cut at a byte: there is no such byte in it
 abbrev pub NoCut : ℕ → List ℕ → Type 0
 NoCut sign text = (front : List ℕ) → (back : List ℕ) → text ≢ front ++ sign ∷ back

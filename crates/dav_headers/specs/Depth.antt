@@ -12,11 +12,11 @@ IsDepthText text Zero = text ≡ codes "0"
 IsDepthText text One = text ≡ codes "1"
 IsDepthText text Infinity = (text ≡ codes "infinity") ⊎ (text ≡ codes "Infinity")
 
--- the only value means this depth
+-- the only value means this depth (RFC 4918, sections 10.2 and 10.6)
 abbrev pub IsDepth : List FieldValue → Depth → Type 0
 IsDepth values depth = IsSomeAnd (only_text values) (λ text. IsDepthText text depth)
 
--- the text that is written
+-- the text that is written (RFC 4918, section 10.2)
 abbrev pub depth_text : Depth → Option (List ℕ)
 depth_text Default = None
 depth_text Zero = Some (codes "0")

@@ -27,6 +27,6 @@ IsUriText text path =
 abbrev pub IsDestinationText : List ℕ → List ℕ → Type 0
 IsDestinationText text path = IsPathText text path ⊎ IsUriText text path
 
--- the only value names this path
+-- the only value names this path (RFC 4918, section 10.3; RFC 3986, section 3)
 abbrev pub IsDestination : List FieldValue → List ℕ → Type 0
 IsDestination values path = IsSomeAnd (only_text values) (λ text. IsDestinationText text path)

@@ -4,7 +4,7 @@ use Rattle.std.specs.Coded.{Coded, code_by, coded×, coded_list, coded_ℕ, code
 use Rattle.http_header.specs.FieldValue.{FieldValue}
 use Rattle.dav_headers.specs.Value.{only_text}
 
--- an entity tag: whether it is weak, and the text between its quotes
+-- an entity tag: whether it is weak, and the text between its quotes (RFC 9110, section 8.8.3)
 pub record EntityTag : Type 0 where
   pub weak : Bool
   pub tag : List ℕ
@@ -15,20 +15,20 @@ coded_tag =
     code_by (Bool × List ℕ) (coded× coded_bool (coded_list coded_ℕ))
     (λ e. (e.weak, e.tag)) (λ p. record { weak = p.0; tag = p.1 }) (λ _. refl)
 
--- a tag as text: `W/` where it is weak, and the tag between quotes
+-- a tag as text: `W/` where it is weak, and the tag between quotes (RFC 9110, section 8.8.3)
 abbrev pub tag_text : Bool → List ℕ → List ℕ
 tag_text true tag = codes "W/" ++ 34 ∷ (tag ++ 34 ∷ [])
 tag_text false tag = 34 ∷ (tag ++ 34 ∷ [])
 
--- there is no quote in it
+-- a text without a quote (RFC 9110, section 8.8.3)
 abbrev pub IsUnquoted : List ℕ → Type 0
 IsUnquoted tag = ¬ Contains tag 34
 
--- the text is this entity tag
+-- the text is this entity tag (RFC 9110, section 8.8.3)
 abbrev pub IsEntityTag : List ℕ → EntityTag → Type 0
 IsEntityTag text e = IsUnquoted e.tag × (text ≡ tag_text e.weak e.tag)
 
--- the only value of a header is this entity tag
+-- the only value of a header is this entity tag (RFC 9110, section 8.8.3)
 abbrev pub IsETag : List FieldValue → EntityTag → Type 0
 IsETag values e = IsSomeAnd (only_text values) (λ text. IsEntityTag text e)
 

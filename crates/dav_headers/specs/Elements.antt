@@ -9,11 +9,11 @@ trimmed text =
     let rest = drop (prefix_len is_ascii_whitespace text) text in
     take (length rest - suffix_len is_ascii_whitespace rest) rest
 
--- the list elements, between commas, without OWS around them
+-- the list elements, between commas, without OWS around them (RFC 9110, sections 5.6.1 and 5.6.3)
 abbrev pub elements_of : List ℕ → List (List ℕ)
 elements_of text = map trimmed (slice_split (λ b. b == 44) text)
 
--- the texts with a comma and a space between them
+-- the texts with a comma and a space between them (RFC 9110, sections 5.6.1 and 5.6.3)
 abbrev pub joined : List (List ℕ) → List ℕ
 joined [] = []
 joined (x ∷ xs) = x ++ flat_map (λ y. 44 ∷ 32 ∷ y) xs

@@ -7,22 +7,23 @@ use Rattle.url.specs.Parts.{Parts}
 use Rattle.dav_headers.specs.ETag.{EntityTag, IsEntityTag}
 use Rattle.dav_headers.specs.IfTokens.{Token, open_list, close_list, negation, angle, square, word, Spells}
 
--- what a condition asks for: a state token, or an entity tag of the resource
+-- what a condition asks for: a state token, or an entity tag of the resource (RFC 4918, sections 10.4.2 and 10.4.4)
 pub data Item : Type 0 where
   state_token : List ℕ → Item
   entity_tag : EntityTag → Item
 
--- an item, and whether there is a `Not` before it
+-- an item, and whether there is a `Not` before it (RFC 4918, sections 10.4.2 and 10.4.4)
 pub record Condition : Type 0 where
   pub negated : Bool
   pub item : Item
 
--- a list of conditions, and the URL of its resource tag where it has one
+-- a list of conditions, and the URL of its resource tag where it has one (RFC 4918, sections 10.4.2 and 10.4.4)
 pub record ConditionList : Type 0 where
   pub resource : Option Parts
   pub conditions : List Condition
 
--- A token as an item: UTF-8 in `<>` or alone is a state token; the text of an entity tag in `[]` is that tag.
+-- A token as an item: UTF-8 in `<>` or alone is a state token; the text of an entity tag in `[]` is that tag
+-- (RFC 4918, section 10.4.2; RFC 9110, section 8.8.3).
 abbrev pub IsItem : Token → Item → Type 0
 IsItem (angle t) i = IsUtf8 t × (i ≡ state_token t)
 IsItem (word t) i = IsUtf8 t × (i ≡ state_token t)
@@ -31,14 +32,14 @@ IsItem open_list i = ⊥
 IsItem close_list i = ⊥
 IsItem negation i = ⊥
 
--- the tokens of the conditions, one after the other
+-- the tokens of the conditions, one after the other (RFC 4918, section 10.4.2)
 abbrev pub AreConditions : List Token → List Condition → Type 0
 AreConditions ts [] = ts ≡ []
 AreConditions ts (c ∷ cs) =
     (t : Token) × (more : List Token)
     × IsItem t c.item × (ts ≡ (if c.negated then negation ∷ t ∷ more else t ∷ more)) × AreConditions more cs
 
--- the tokens of a resource tag: none, or UTF-8 in `<>` that the URL Standard's parser reads, without a base, as the URL
+-- the tokens of a resource tag: none, or UTF-8 in `<>` that the URL Standard's parser reads, without a base, as the URL (RFC 4918, section 10.4.2)
 abbrev pub IsResourceTag : List Token → Option Parts → Type 0
 IsResourceTag ts None = ts ≡ []
 IsResourceTag ts (Some url) = (t : List ℕ) × IsUtf8 t × (parse_url None t ≡ Ok url) × (ts ≡ angle t ∷ [])
@@ -48,24 +49,24 @@ abbrev pub list_end : Bool → List Token
 list_end true = negation ∷ close_list ∷ []
 list_end false = close_list ∷ []
 
--- one list: a resource tag or none, `(`, one or more conditions, and the end
+-- one list: a resource tag or none, `(`, one or more conditions, and the end (RFC 4918, section 10.4.2)
 abbrev pub IsList : List Token → ConditionList → Type 0
 IsList ts l =
     (tag : List Token) × (inner : List Token) × (idle : Bool)
     × IsResourceTag tag l.resource × (0 < length l.conditions) × AreConditions inner l.conditions
     × (ts ≡ tag ++ open_list ∷ (inner ++ list_end idle))
 
--- lists one after the other
+-- lists one after the other (RFC 4918, section 10.4.2)
 abbrev pub AreLists : List Token → List ConditionList → Type 0
 AreLists ts [] = ts ≡ []
 AreLists ts (l ∷ ls) =
     (front : List Token) × (rest : List Token) × IsList front l × (ts ≡ front ++ rest) × AreLists rest ls
 
--- the text is that of one or more lists
+-- the text is that of one or more lists (RFC 4918, section 10.4.2)
 abbrev pub IsIf : List ℕ → List ConditionList → Type 0
 IsIf text ls = (ts : List Token) × Spells text ts × AreLists ts ls × (0 < length ls)
 
--- the only value of a header is that text
+-- the only value of a header is that text (RFC 4918, section 10.4.2)
 abbrev pub IsIfHeader : List FieldValue → List ConditionList → Type 0
 IsIfHeader values ls = (v : FieldValue) × (values ≡ v ∷ []) × IsIf v.bytes ls
 
@@ -76,10 +77,10 @@ abbrev pub tokens_in : Item → List (List ℕ)
 tokens_in (state_token t) = t ∷ []
 tokens_in (entity_tag e) = []
 
--- the state tokens of these conditions in order, those under `Not` too, each as often as it occurs
+-- the state tokens of these conditions in order, those under `Not` too, each as often as it occurs (RFC 4918, section 10.4)
 abbrev pub tokens_among : List Condition → List (List ℕ)
 tokens_among conditions = flat_map (λ c. tokens_in c.item) conditions
 
--- all state tokens of the lists in order
+-- all state tokens of the lists in order (RFC 4918, section 10.4)
 abbrev pub tokens_of : List ConditionList → List (List ℕ)
 tokens_of ls = flat_map (λ l. tokens_among l.conditions) ls

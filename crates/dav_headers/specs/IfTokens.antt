@@ -10,13 +10,13 @@ abbrev pub IsWordByte : ℕ → Type 0
 IsWordByte b = (33 ≤ b) × (b ≢ 60) × (b ≢ 62) × (b ≢ 40) × (b ≢ 41) × (b ≢ 91) × (b ≢ 93)
 
 -- What may be before the closing sign (`quoted`: a quote is open): no white space, the closing sign between quotes
--- only, and no quote still open at the end.
+-- only, and no quote still open at the end (RFC 4918, section 10.4.2).
 abbrev pub IsInside : ℕ → Bool → List ℕ → Type 0
 IsInside close quoted [] = quoted ≡ false
 IsInside close quoted (b ∷ bs) =
     (¬ IsWhiteSpace b) × (b ≡ close → quoted ≡ true) × IsInside close (if b == 34 then not quoted else quoted) bs
 
--- `(`, `)`, `Not`, what is in `<>`, what is in `[]`, and a bare word
+-- `(`, `)`, `Not`, what is in `<>`, what is in `[]`, and a bare word (RFC 4918, section 10.4.2)
 pub data Token : Type 0 where
   open_list close_list negation : Token
   angle : List ℕ → Token
@@ -29,7 +29,7 @@ EndsWord [] = ⊤
 EndsWord (b ∷ bs) = ¬ IsWordByte b
 
 -- The text begins with this token, and goes on with the rest. A bare word is as long as it can be, and doesn't begin
--- with `Not`, which is always a token of its own.
+-- with `Not`, which is always a token of its own (RFC 4918, section 10.4.2).
 abbrev pub Begins : List ℕ → Token → List ℕ → Type 0
 Begins text open_list rest = text ≡ 40 ∷ rest
 Begins text close_list rest = text ≡ 41 ∷ rest
@@ -40,7 +40,7 @@ Begins text (word w) rest =
     (0 < length w) × All IsWordByte w × EndsWord rest × (text ≡ w ++ rest)
     × ((more : List ℕ) → text ≢ 78 ∷ 111 ∷ 116 ∷ more)
 
--- the text is these tokens, with optional white space before, between and after them
+-- the text is these tokens, with optional white space before, between and after them (RFC 4918, section 10.4.2)
 abbrev pub Spells : List ℕ → List Token → Type 0
 Spells text [] = All IsWhiteSpace text
 Spells text (t ∷ ts) =

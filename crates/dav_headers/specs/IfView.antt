@@ -17,5 +17,6 @@ condition_value c = record { negated = c.not; item = item_value c.item }
 abbrev pub list_value : IfList → ConditionList
 list_value l = record { resource = l.resource_tag; conditions = map condition_value l.conditions.items }
 
+-- the lists that an `If` holds, without capacities
 abbrev pub if_lists : If → List ConditionList
 if_lists x = map list_value x.0.items

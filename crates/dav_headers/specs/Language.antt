@@ -10,7 +10,7 @@ use Rattle.dav_headers.specs.Value.{IsText}
 abbrev pub IsLanguage : List ℕ → Type 0
 IsLanguage item = (0 < length item) × All (λ b. IsTrue (is_ascii_alphanumeric b) ⊎ (b ≡ 45)) item
 
--- there are values, all text, and these are their list elements, each a language
+-- there are values, all text, and these are their list elements, each a language (RFC 9110, section 8.5)
 abbrev pub AreLanguages : List FieldValue → List (List ℕ) → Type 0
 AreLanguages values items =
     (0 < length values) × All (λ v. IsText v.bytes) values

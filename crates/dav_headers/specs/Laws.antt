@@ -23,13 +23,15 @@ use Rattle.dav_headers.specs.declared.range.XUpdateRange.TheVariants.{FromTo, Al
 abbrev pub written : List ℕ → List FieldValue
 written text = plain_value text ∷ []
 
--- the strong comparison of entity tags
+-- the strong comparison of entity tags (RFC 9110, section 8.8.3.2)
 abbrev pub StrongIsSymmetric : Type 0
 StrongIsSymmetric = (e f : EntityTag) → is_strong_match e f ≡ is_strong_match f e
 
+-- the strong comparison is transitive (RFC 9110, section 8.8.3.2)
 abbrev pub StrongIsTransitive : Type 0
 StrongIsTransitive = (e f g : EntityTag) → is_strong_match e f ≡ true → is_strong_match f g ≡ true → is_strong_match e g ≡ true
 
+-- a tag matches itself by the strong comparison exactly where it is strong (RFC 9110, section 8.8.3.2)
 abbrev pub StrongMatchesItself : Type 0
 StrongMatchesItself = (e : EntityTag) → is_strong_match e e ≡ not e.weak
 
@@ -37,6 +39,7 @@ StrongMatchesItself = (e : EntityTag) → is_strong_match e e ≡ not e.weak
 abbrev pub OverwriteReadsAgain : Type 0
 OverwriteReadsAgain = (o : Bool) → IsOverwrite (written (overwrite_text o)) o
 
+-- what is written for a `Depth` is read as this one
 abbrev pub DepthReadsAgain : Type 0
 DepthReadsAgain = (d : Depth) → (text : List ℕ) → depth_text d ≡ Some text → IsDepth (written text) d
 
@@ -47,6 +50,7 @@ AreBelow (AllFrom a) = a < 2 ^ 64
 AreBelow (Last n) = n < 2 ^ 64
 AreBelow Append = ⊤
 
+-- what is written for an `XUpdateRange` is read as this one
 abbrev pub UpdateRangeReadsAgain : Type 0
 UpdateRangeReadsAgain = (r : XUpdateRange) → AreBelow r → IsUpdateRange (written (update_range_text r)) r
 
@@ -55,6 +59,7 @@ abbrev pub IsShort : DavTimeout → Type 0
 IsShort (Seconds n) = n < 2 ^ 32
 IsShort Infinite = ⊤
 
+-- what is written for a `Timeout` is read as this one
 abbrev pub TimeoutReadsAgain : Type 0
 TimeoutReadsAgain =
     (w : DavTimeout) → (ws : List DavTimeout) → All IsShort (w ∷ ws) → IsTimeout (written (timeout_text (w ∷ ws))) (w ∷ ws)
@@ -63,43 +68,54 @@ TimeoutReadsAgain =
 abbrev pub OneOverwrite : Type 0
 OneOverwrite = (values : List FieldValue) → (a b : Bool) → IsOverwrite values a → IsOverwrite values b → a ≡ b
 
+-- values are read as one Depth at most
 abbrev pub OneDepth : Type 0
 OneDepth = (values : List FieldValue) → (a b : Depth) → IsDepth values a → IsDepth values b → a ≡ b
 
+-- values are read as one X-Update-Range at most
 abbrev pub OneUpdateRange : Type 0
 OneUpdateRange =
     (values : List FieldValue) → (a b : XUpdateRange) → IsUpdateRange values a → IsUpdateRange values b → a ≡ b
 
+-- values are read as one Timeout at most
 abbrev pub OneTimeout : Type 0
 OneTimeout =
     (values : List FieldValue) → (a b : List DavTimeout) → IsTimeout values a → IsTimeout values b → a ≡ b
 
+-- values are read as one list of entity tags at most
 abbrev pub OneTagList : Type 0
 OneTagList = (values : List FieldValue) → (a b : TagList) → IsTagList values a → IsTagList values b → a ≡ b
 
+-- values are read as one Content-Range at most
 abbrev pub OneContentRange : Type 0
 OneContentRange =
     (values : List FieldValue) → (a b : ContentRange) → IsContentRange values a → IsContentRange values b → a ≡ b
 
+-- values are read as one Content-Length at most
 abbrev pub OneContentLength : Type 0
 OneContentLength = (values : List FieldValue) → (m n : ℕ) → IsContentLength values m → IsContentLength values n → m ≡ n
 
+-- values are read as one Destination at most
 abbrev pub OneDestination : Type 0
 OneDestination = (values : List FieldValue) → (p q : List ℕ) → IsDestination values p → IsDestination values q → p ≡ q
 
+-- values are read as one list of languages at most
 abbrev pub OneLanguageList : Type 0
 OneLanguageList = (values : List FieldValue) → (a b : List (List ℕ)) → AreLanguages values a → AreLanguages values b → a ≡ b
 
+-- a text is one entity tag at most (RFC 9110, section 8.8.3)
 abbrev pub OneEntityTag : Type 0
 OneEntityTag = (text : List ℕ) → (d e : EntityTag) → IsEntityTag text d → IsEntityTag text e → d ≡ e
 
+-- values are read as one ETag at most
 abbrev pub OneETag : Type 0
 OneETag = (values : List FieldValue) → (d e : EntityTag) → IsETag values d → IsETag values e → d ≡ e
 
--- a tag that was read is text, so that it can be written
+-- a tag that was read is text, so that it can be written (RFC 9110, section 8.8.3)
 abbrev pub ReadTagIsText : Type 0
 ReadTagIsText = (values : List FieldValue) → (e : EntityTag) → IsETag values e → IsText (tag_text e.weak e.tag)
 
+-- what is written for an entity tag that is text is read as this one
 abbrev pub ETagReadsAgain : Type 0
 ETagReadsAgain =
     (e : EntityTag) → IsUnquoted e.tag → IsText (tag_text e.weak e.tag) → IsETag (written (tag_text e.weak e.tag)) e
@@ -113,10 +129,12 @@ abbrev pub IsLengthBelow : Option ℕ → Type 0
 IsLengthBelow None = ⊤
 IsLengthBelow (Some n) = n < 2 ^ 64
 
+-- what is written for a `ContentRange` whose numbers are below 2^64 is read as this one
 abbrev pub ContentRangeReadsAgain : Type 0
 ContentRangeReadsAgain =
     (r : ContentRange) → AreBoundsBelow r.bounds → IsLengthBelow r.length
     → IsContentRange (written (content_range_text r.bounds r.length)) r
 
+-- what is written for a `ContentLength` below 2^64 is read as this one
 abbrev pub ContentLengthReadsAgain : Type 0
 ContentLengthReadsAgain = (n : ℕ) → n < 2 ^ 64 → IsContentLength (written (decimal n)) n

@@ -19,7 +19,7 @@ AreTimeTypes [] (w ∷ ws) = ⊥
 AreTimeTypes (p ∷ ps) [] = ⊥
 AreTimeTypes (p ∷ ps) (w ∷ ws) = IsTimeType p w × AreTimeTypes ps ws
 
--- the only value is a list of these TimeTypes
+-- the only value is a list of these TimeTypes (RFC 4918, section 10.7)
 abbrev pub IsTimeout : List FieldValue → List DavTimeout → Type 0
 IsTimeout values time_types = IsSomeAnd (only_text values) (λ text. AreTimeTypes (elements_of text) time_types)
 
@@ -28,6 +28,6 @@ abbrev pub time_type_text : DavTimeout → List ℕ
 time_type_text (Seconds n) = codes "Second-" ++ decimal n
 time_type_text Infinite = codes "Infinite"
 
--- the text that is written
+-- the text that is written (RFC 4918, section 10.7)
 abbrev pub timeout_text : List DavTimeout → List ℕ
 timeout_text time_types = joined (map time_type_text time_types)

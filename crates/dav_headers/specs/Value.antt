@@ -5,17 +5,17 @@ use Rattle.http_header.specs.FieldValue.{FieldValue, plain_value, IsVisibleAscii
 use Rattle.dav_headers.specs.declared.errors.HeaderError.{HeaderError}
 use Rattle.dav_headers.specs.declared.errors.HeaderError.TheVariants.{Invalid, Memory}
 
--- text: bytes 32 to 126 and tab alone
+-- text: bytes 32 to 126 and tab alone (RFC 9110, section 5.5)
 abbrev pub IsText : List ℕ → Type 0
 IsText bytes = IsVisibleAscii bytes
 
--- the text of the only value; none where there is no value or several, or where it isn't text
+-- the text of the only value; none where there is no value or several, or where it isn't text (RFC 9110, section 5.5)
 abbrev pub only_text : List FieldValue → Option (List ℕ)
 only_text [] = None
 only_text (v ∷ []) = if is_visible_text v.bytes then Some v.bytes else None
 only_text (v ∷ w ∷ vs) = None
 
--- this is the text of the only value
+-- this is the text of the only value (RFC 9110, section 5.5)
 abbrev pub IsOnlyText : List FieldValue → List ℕ → Type 0
 IsOnlyText values text = only_text values ≡ Some text
 

@@ -1,2 +1,17 @@
 mod FrameLemmas
 mod RecordLemmas
+mod Each
+mod Printed
+mod StoredTrees
+mod PlainWords
+mod SentParts
+mod SentPlans
+mod SentNames
+mod SentSources
+mod SentFinds
+mod SentPatches
+mod SentLocks
+mod SentRemovals
+mod SentOthers
+mod SentSteps
+mod SentOwners

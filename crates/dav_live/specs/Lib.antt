@@ -1,2 +1,4 @@
 pub mod Frames
 pub mod Records
+pub mod Sent
+pub mod SentLaws

@@ -9,6 +9,7 @@ mod basic;
 mod fault;
 mod frames;
 mod heads;
+pub mod laws;
 mod leases;
 mod live;
 mod page;

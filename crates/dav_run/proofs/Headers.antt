@@ -8,7 +8,7 @@ use Rattle.json.specs.Print.{escape_byte}
 use Rattle.serde_json.specs.Data.{string, Members, no_members, member, put}
 use Rattle.serde_json.specs.Written.{compact_text, has_float, members_have_float, members_text}
 use Rattle.dav_run.specs.Print.{body_data, headers_data, headers_over, line_of, rest_members}
-use Rattle.dav_engine.specs.Response.{Response, Header}
+use Rattle.dav_engine.specs.Reply.{Reply, Header}
 
 neither : (a b : Bool) → (a || b) ≡ false → (a ≡ false) × (b ≡ false)
 neither false b h = (refl, h)
@@ -37,11 +37,11 @@ headers_plain [] found h = h
 headers_plain (x ∷ hs) found h = headers_plain hs (put x.0 (string (utf8_lossy x.1)) found) (text_put x.0 (utf8_lossy x.1) found h)
 
 -- the headers as JSON have no fraction
-pub no_fraction : (r : Response) → has_float (headers_data r.headers) ≡ false
+pub no_fraction : (r : Reply) → has_float (headers_data r.headers) ≡ false
 no_fraction r = headers_plain r.headers no_members refl
 
 -- what follows the body, by the text of the headers
-pub rest_of : (r : Response) (headers : List ℕ) → headers ≡ compact_text (headers_data r.headers)
+pub rest_of : (r : Reply) (headers : List ℕ) → headers ≡ compact_text (headers_data r.headers)
     → codes ",\"headers\":" ++ (headers ++ (codes ",\"status\":" ++ (decimal r.status ++ codes "}\n"))) ≡ members_text true (rest_members r) ++ 10 ∷ []
 unfolding escape_byte
 rest_of r headers is =
@@ -52,7 +52,7 @@ rest_of r headers is =
     ∙ ap (λ (s : List ℕ). codes ",\"headers\":" ++ s) (sym (append_assoc texts (codes ",\"status\":" ++ (status ++ 125 ∷ [])) (10 ∷ [])))
 
 -- the beginning with the body, and what follows it
-pub whole_line : (r : Response) (begun rest : List ℕ) → begun ≡ codes "{\"body\":" ++ compact_text (body_data r.body) → rest ≡ members_text true (rest_members r) ++ 10 ∷ []
+pub whole_line : (r : Reply) (begun rest : List ℕ) → begun ≡ codes "{\"body\":" ++ compact_text (body_data r.body) → rest ≡ members_text true (rest_members r) ++ 10 ∷ []
     → begun ++ rest ≡ line_of r
 unfolding escape_byte
 whole_line r begun rest is same =

@@ -7,13 +7,13 @@ use Rattle.serde_json.specs.Data.{Data, Items, no_items, item}
 use Rattle.serde_json.specs.Find.{get, as_array}
 use Rattle.serde_json.specs.Read.{read}
 use Rattle.dav_core.specs.World.{last_moment, empty_from}
-use Rattle.dav_engine.specs.Response.{Response}
+use Rattle.dav_engine.specs.Reply.{Reply}
 use Rattle.dav_server.specs.Headline.{empty_server, Headline}
 use Rattle.dav_server.specs.Isolation.{AreLoaded, TokensDiffer}
 use Rattle.dav_server.specs.Machine.{Settings}
 use Rattle.dav_server.specs.Run.{Turn}
-use Rattle.dav_server.specs.Server.{Server, AnswersAll}
-use Rattle.dav_server.specs.TagLaws.{AreShowable}
+use Rattle.dav_server.specs.DavHandler.{DavHandler, AnswersAll}
+use Rattle.dav_server.specs.TagLaws.{MomentsAreDates}
 use Rattle.dav_server.proofs.Theorems.{all_front, headline_holds, runs_promise}
 use Rattle.dav_run.specs.Play.{AreRepliesTo, AreReplies, AreFirstReplies, AreRunReplies, AreSomeRunReplies, turn_for, turns_for, settings_for, new_server}
 use Rattle.dav_run.specs.Print.{lines_of}
@@ -28,25 +28,25 @@ moment_small : (o : Option Data) (m : ℕ) → IsMoment o m → m ≤ last_momen
 moment_small None m is = let none : m ≡ 0 = is in omega (arith, none)
 moment_small (Some d) m is = is.1
 
-items_small : (ds : Items) (rs : List ScriptRequest) → AreItems IsRequest ds rs → AreShowable (map turn_for rs)
+items_small : (ds : Items) (rs : List ScriptRequest) → AreItems IsRequest ds rs → MomentsAreDates (map turn_for rs)
 items_small no_items [] are = All-nil Showable
 items_small no_items (r ∷ rs) are = absurd are
 items_small (item d ds) [] are = absurd are
 items_small (item d ds) (r ∷ rs) are = All-cons Showable (turn_for r) (map turn_for rs) (moment_small (get (codes "moment") d) r.moment are.0.moment) (items_small ds rs are.1)
 
-array_small : (o : Option Items) (rs : List ScriptRequest) → IsSomeAnd o (λ ds. AreItems IsRequest ds rs) → AreShowable (map turn_for rs)
+array_small : (o : Option Items) (rs : List ScriptRequest) → IsSomeAnd o (λ ds. AreItems IsRequest ds rs) → MomentsAreDates (map turn_for rs)
 array_small None rs are = absurd are
 array_small (Some ds) rs are = items_small ds rs are
 
-list_small : (o : Option Data) (rs : List ScriptRequest) → IsSomeAnd o (λ list. IsListOf IsRequest list rs) → AreShowable (map turn_for rs)
+list_small : (o : Option Data) (rs : List ScriptRequest) → IsSomeAnd o (λ list. IsListOf IsRequest list rs) → MomentsAreDates (map turn_for rs)
 list_small None rs are = absurd are
 list_small (Some list) rs are = array_small (as_array list) rs are
 
-value_small : (o : Option Data) (s : ScriptContent) → IsSomeAnd o (λ d. IsScriptValue d s) → AreShowable (turns_for s)
+value_small : (o : Option Data) (s : ScriptContent) → IsSomeAnd o (λ d. IsScriptValue d s) → MomentsAreDates (turns_for s)
 value_small None s is = absurd is
 value_small (Some d) s is = list_small (get (codes "requests") d) s.requests is.requests
 
-script_small : (text : List ℕ) (s : ScriptContent) → IsScript text s → AreShowable (turns_for s)
+script_small : (text : List ℕ) (s : ScriptContent) → IsScript text s → MomentsAreDates (turns_for s)
 script_small text s is = value_small (read text) s is.1
 
 -- ---- each of its turns has refusals of its own
@@ -66,7 +66,7 @@ first_number (suc zero) small = refl
 first_number (suc (suc n)) small = absurd (omega (arith, small))
 
 -- a server with a new store and these locks
-abbrev server_with : Settings → ℕ → Bool → Server
+abbrev server_with : Settings → ℕ → Bool → DavHandler
 server_with settings next locks = record {
   settings = settings;
   state = record { store = record { world = empty_from next; refusals = []; short = false }; locks = if locks then Some [] else None };
@@ -78,13 +78,13 @@ begins_empty s locks next =
 
 -- ---- the replies
 
-promised : (s : ScriptContent) (ts : List Turn) (lines : List ℕ) (replies : List Response) (left : Server) → AreShowable ts → AreLoaded ts → AnswersAll (new_server s) ts replies left → lines ≡ lines_of replies → AreRepliesTo s ts lines
+promised : (s : ScriptContent) (ts : List Turn) (lines : List ℕ) (replies : List Reply) (left : DavHandler) → MomentsAreDates ts → AreLoaded ts → AnswersAll (new_server s) ts replies left → lines ≡ lines_of replies → AreRepliesTo s ts lines
 promised s ts lines replies left small loaded run are = record {
   replies = replies;
   left = left;
   run = run;
   promises = runs_promise (new_server s) left ts replies small run;
-  headline = λ locks next differ. headline_holds (settings_for s) ts replies left small loaded differ (subst (λ (o : Server). AnswersAll o ts replies left) (begins_empty s locks next) run);
+  headline = λ locks next differ. headline_holds (settings_for s) ts replies left small loaded differ (subst (λ (o : DavHandler). AnswersAll o ts replies left) (begins_empty s locks next) run);
   lines_are = are;
 }
 
@@ -93,6 +93,6 @@ promised_all s text lines is (replies, left, run, are) = promised s (turns_for s
 
 pub promised_some : (s : ScriptContent) (text : List ℕ) (lines : List ℕ) → IsScript text s → AreSomeRunReplies s lines → AreFirstReplies s lines
 promised_some s text lines is (replies, (first, rest, left, parts, run), are) =
-    let small : AreShowable first = all_front Showable first rest (subst AreShowable parts (script_small text s is)) in
+    let small : MomentsAreDates first = all_front Showable first rest (subst MomentsAreDates parts (script_small text s is)) in
     let loaded : AreLoaded first = all_front Loaded first rest (subst AreLoaded parts (all_loaded s.requests)) in
     (first, rest, parts, promised s first lines replies left small loaded run are)

@@ -4,13 +4,13 @@ use Rattle.dav_core.specs.Asking.{StoreState}
 use Rattle.dav_core.specs.Locks.{Lock}
 use Rattle.dav_core.specs.World.{empty_from}
 use Rattle.dav_engine.specs.Plan.{Locks, ServerState}
-use Rattle.dav_engine.specs.Response.{Response}
+use Rattle.dav_engine.specs.Reply.{Reply}
 use Rattle.dav_server.specs.Headline.{Headline}
-use Rattle.dav_server.specs.Isolation.{Alone, TokensDiffer}
+use Rattle.dav_server.specs.Isolation.{HolderTurns, TokensDiffer}
 use Rattle.dav_server.specs.Machine.{Settings}
 use Rattle.dav_server.specs.Promises.{Promises}
 use Rattle.dav_server.specs.Run.{Turn}
-use Rattle.dav_server.specs.Server.{Server, AnswersAll}
+use Rattle.dav_server.specs.DavHandler.{DavHandler, AnswersAll}
 use Rattle.dav_server.specs.Setup.{IsPrefix}
 use Rattle.dav_run.specs.Script.{ScriptRequest, ScriptContent, IsShort, IsScript}
 use Rattle.dav_run.specs.Print.{lines_of, place_line}
@@ -32,20 +32,20 @@ turns_for s = map turn_for s.requests
 abbrev pub settings_for : ScriptContent → Settings
 settings_for s = record { prefix = s.prefix; allowed = s.methods }
 
--- its store: the empty one, with the change number that comes next, where 0 counts as 1
+-- the store that a script begins with: the empty one, with the change number that comes next, where 0 counts as 1
 abbrev pub new_store : ScriptContent → StoreState
 new_store s = record { world = empty_from (max s.next 1); refusals = []; short = false }
 
--- its list of locks, which is empty, where it has one
+-- the list of locks that a script begins with: an empty one, where it has one
 abbrev pub new_locks : ScriptContent → Locks
 new_locks s = if s.locks then Some [] else None
 
--- its state: that store, and those locks
+-- the state that a script begins with: its store and its locks
 abbrev pub new_state : ScriptContent → ServerState
 new_state s = record { store = new_store s; locks = new_locks s }
 
 -- the server that a script sets up
-abbrev pub new_server : ScriptContent → Server
+abbrev pub new_server : ScriptContent → DavHandler
 new_server s = record { settings = settings_for s; state = new_state s }
 
 -- bytes that can be played: a script that is short enough, and whose prefix a server accepts
@@ -57,65 +57,67 @@ IsPlayable text = (s : ScriptContent) × IsShort text × IsScript text s × IsPr
 -- The lines are the replies of the machine's run of all requests of the script, from the server that it sets up.
 abbrev pub AreRunReplies : ScriptContent → List ℕ → Type 0
 AreRunReplies s lines =
-    (replies : List Response) × (left : Server)
+    (replies : List Reply) × (left : DavHandler)
     × AnswersAll (new_server s) (turns_for s) replies left × (lines ≡ lines_of replies)
 
 -- These replies are those of a run of the first of these requests, perhaps of none, from this server.
-abbrev pub RunsSome : Server → List Turn → List Response → Type 0
+abbrev pub RunsSome : DavHandler → List Turn → List Reply → Type 0
 RunsSome old ts replies =
-    (first : List Turn) × (rest : List Turn) × (left : Server) × (ts ≡ first ++ rest) × AnswersAll old first replies left
+    (first : List Turn) × (rest : List Turn) × (left : DavHandler) × (ts ≡ first ++ rest) × AnswersAll old first replies left
 
 -- The lines are the replies to the first requests of the script, perhaps to none.
 abbrev pub AreSomeRunReplies : ScriptContent → List ℕ → Type 0
 AreSomeRunReplies s lines =
-    (replies : List Response) × RunsSome (new_server s) (turns_for s) replies × (lines ≡ lines_of replies)
+    (replies : List Reply) × RunsSome (new_server s) (turns_for s) replies × (lines ≡ lines_of replies)
 
 -- The lines are the replies of the machine's run of these requests, from the server that the script sets up, and of them is true what
--- each run promises; and the headline, where the server has locks and begins empty, and no two requests hand in one token.
+-- each run promises; and the headline, where the server has locks and begins empty, and no two requests hand in one token
+-- (RFC 4918, sections 6 and 7; RFC 9110, section 8.8.1).
 pub record AreRepliesTo (s : ScriptContent) (ts : List Turn) (lines : List ℕ) : Type 0 where
-  pub replies : List Response
-  pub left : Server
+  pub replies : List Reply
+  pub left : DavHandler
   pub run : AnswersAll (new_server s) ts replies left
   pub promises : Promises (new_server s) ts replies
   pub headline : s.locks ≡ true → s.next ≤ 1 → TokensDiffer ts → Headline (settings_for s) ts replies left
   pub lines_are : lines ≡ lines_of replies
 
--- they are those to all requests of the script
+-- the lines are the replies to all requests of the script (RFC 4918, sections 6 and 7; RFC 9110, section 8.8.1)
 abbrev pub AreReplies : ScriptContent → List ℕ → Type 0
 AreReplies s lines = AreRepliesTo s (turns_for s) lines
 
--- they are those to its first requests, perhaps to none
+-- the lines are the replies to the first requests of the script, perhaps to none (RFC 4918, sections 6 and 7; RFC 9110, section 8.8.1)
 abbrev pub AreFirstReplies : ScriptContent → List ℕ → Type 0
 AreFirstReplies s lines = (first : List Turn) × (rest : List Turn) × (turns_for s ≡ first ++ rest) × AreRepliesTo s first lines
 
 -- ---- the run alone
 
--- a lock as the request may be granted it: with the token that it hands in, and its principal
+-- a lock as the request may be granted it: with the token that it hands in, and its principal (RFC 4918, section 6.4)
 abbrev pub MayBeGranted : Turn → Lock → Type 0
 MayBeGranted t h = (t.asked.token ≡ Some h.token) × (t.asked.principal ≡ h.principal)
 
--- these are the turns after this place whose request names the token that the request at the place hands in, as its principal
+-- these are the turns after this place whose request names the token that the request at the place hands in, as its principal (RFC 4918, section 6.4)
 abbrev pub AloneAfter : ℕ → List Turn → List Turn → Type 0
 AloneAfter place ts us =
-    IsSomeAnd (slice_get ts place) (λ t. (h : Lock) → MayBeGranted t h → Alone h (drop (place + 1) ts) us)
+    IsSomeAnd (slice_get ts place) (λ t. (h : Lock) → MayBeGranted t h → HolderTurns h (drop (place + 1) ts) us)
 
--- this server is what a run of the requests up to this place left, from the server that the script sets up
-abbrev pub IsServerAfter : ScriptContent → ℕ → Server → Type 0
+-- a server is what a run of the requests up to this place left, from the server that the script sets up (RFC 4918, section 7)
+abbrev pub IsServerAfter : ScriptContent → ℕ → DavHandler → Type 0
 IsServerAfter s place there =
-    (replies : List Response) × AnswersAll (new_server s) (take (place + 1) (turns_for s)) replies there
+    (replies : List Reply) × AnswersAll (new_server s) (take (place + 1) (turns_for s)) replies there
 
 -- The lines are the place, and the replies to the requests after it that name the token of the request there as its
--- principal, run alone from what the requests up to the place left.
+-- principal, run alone from what the requests up to the place left (RFC 4918, section 7).
 abbrev pub AreAloneReplies : ScriptContent → ℕ → List ℕ → Type 0
 AreAloneReplies s place lines =
-    (us : List Turn) × (there : Server) × (replies : List Response) × (left : Server)
+    (us : List Turn) × (there : DavHandler) × (replies : List Reply) × (left : DavHandler)
     × AloneAfter place (turns_for s) us × IsServerAfter s place there
     × AnswersAll there us replies left × (lines ≡ place_line place ++ lines_of replies)
 
--- They are the place, and the replies to the first of these requests, perhaps to none.
+-- The lines are the place of a request that is run alone, and the replies to the first of its holder's requests, perhaps to none
+-- (RFC 4918, section 7).
 abbrev pub AreFirstAloneReplies : ScriptContent → ℕ → List ℕ → Type 0
 AreFirstAloneReplies s place lines =
-    (us : List Turn) × (there : Server) × (replies : List Response)
+    (us : List Turn) × (there : DavHandler) × (replies : List Reply)
     × AloneAfter place (turns_for s) us × IsServerAfter s place there
     × RunsSome there us replies × (lines ≡ place_line place ++ lines_of replies)
 

@@ -5,7 +5,7 @@ use Rattle.std.specs.Str.Lossy.{utf8_lossy}
 use Rattle.hex.specs.Hex.{encode_lower}
 use Rattle.serde_json.specs.Data.{Data, null, number, string, object, unsigned, Members, no_members, member, put}
 use Rattle.serde_json.specs.Written.{compact_text}
-use Rattle.dav_engine.specs.Response.{Response, Header}
+use Rattle.dav_engine.specs.Reply.{Reply, Header}
 use Rattle.dav_engine.specs.declared.reply.ReplyBody.{ReplyBody}
 use Rattle.dav_engine.specs.declared.reply.ReplyBody.TheVariants.{Nothing, Bytes, Tree}
 use Rattle.dav_run.specs.TreeData.{tree_body}
@@ -26,27 +26,27 @@ abbrev pub headers_data : List Header → Data
 headers_data headers = object (headers_over headers no_members)
 
 -- what a reply has besides its body
-abbrev pub rest_members : Response → Members
+abbrev pub rest_members : Reply → Members
 rest_members r =
     member (codes "headers") (headers_data r.headers)
     (member (codes "status") (number (unsigned r.status)) no_members)
 
 -- a reply as an object
-abbrev pub reply_data : Response → Data
+abbrev pub reply_data : Reply → Data
 reply_data r = object (member (codes "body") (body_data r.body) (rest_members r))
 
--- the line of a reply: its JSON text without white space, and a newline
-abbrev pub line_of : Response → List ℕ
+-- the line of a reply: its JSON text without white space, and a newline (RFC 8259)
+abbrev pub line_of : Reply → List ℕ
 line_of r = compact_text (reply_data r) ++ 10 ∷ []
 
 -- the lines of the replies, in order
-abbrev pub lines_of : List Response → List ℕ
+abbrev pub lines_of : List Reply → List ℕ
 lines_of rs = flat_map line_of rs
 
 -- a place as an object, before the replies of the run alone
 abbrev pub place_data : ℕ → Data
 place_data place = object (member (codes "alone") (number (unsigned place)) no_members)
 
--- the line of a place
+-- the line of a place (RFC 8259)
 abbrev pub place_line : ℕ → List ℕ
 place_line place = compact_text (place_data place) ++ 10 ∷ []

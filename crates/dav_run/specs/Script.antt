@@ -225,7 +225,7 @@ pub record IsScriptValue (d : Data) (s : ScriptContent) : Type 0 where
   pub requests : IsSomeAnd (get (codes "requests") d) (λ list. IsListOf IsRequest list s.requests)
   pub alone : IsAlone (get (codes "alone") d) s.requests s.alone
 
--- bytes are a script: UTF-8, and the JSON text of such a value; of a member that occurs twice the last one counts
+-- bytes are a script: UTF-8, and the JSON text of such a value; of a member that occurs twice the last one counts (RFC 8259)
 abbrev pub IsScript : List ℕ → ScriptContent → Type 0
 IsScript text s = IsUtf8 text × IsSomeAnd (read text) (λ d. IsScriptValue d s)
 

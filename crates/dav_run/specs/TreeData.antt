@@ -18,7 +18,7 @@ abbrev pub attribute_data : List ℕ × List ℕ → Data
 attribute_data a = array (item (string a.0) (item (string a.1) no_items))
 
 abbrev mutual
-  -- An element as an object with these five members; a text among its children as a text.
+  -- An element as an object with these five members; a text among its children as a text (RFC 8259).
   pub tree_data : ElementTree → Data
   tree_data (element name prefix namespace attributes children) =
       object

@@ -2,12 +2,12 @@
 ghost use Rattle.std.specs.Prelude.{◌≡◌, ◌≢◌, ◌↔◌, ◌≤◌, ◌<◌, ◌⊎◌, ◌++◌, map, take, length, ℕ, List, [], if◌then◌else◌, None, Some, IsTrue, IfSome, IfOk, IfErr, OnOk, IsErrOf};
 ghost use Rattle.std.specs.Io.KnownBytes.{Appends};
 ghost use Rattle.dav_core.specs.Locks.{Lock};
-ghost use Rattle.dav_engine.specs.Response.{Response};
+ghost use Rattle.dav_engine.specs.Reply as said;
 ghost use Rattle.dav_run.specs.Print.{lines_of, place_line};
 ghost use Rattle.dav_run.specs.Script.{IsScript, IsShort, script_request, script_content};
-ghost use Rattle.dav_server.specs.Isolation.{Alone};
+ghost use Rattle.dav_server.specs.Isolation.{HolderTurns};
 ghost use Rattle.dav_server.specs.Naming.{NamesLock};
-ghost use Rattle.dav_server.specs.Server.{AnswersAll};
+ghost use Rattle.dav_server.specs.DavHandler.{AnswersAll};
 ghost use Rattle.dav_server.specs.Setup.{IsPrefix};
 ghost use Rattle.dav_run.specs.Play.{Plays, PlaysSome, IsPlayable, AreRunReplies, AreSomeRunReplies, AreAloneReplies, AreFirstAloneReplies, MayBeGranted, RunsSome, settings_for, new_state, turn_for, fault_status};
 ghost use Rattle.dav_run.specs.declared.play.Fault.TheVariants.{NotScript, Io, Memory};
@@ -20,7 +20,7 @@ use dav_engine::{Body, Reply};
 use dav_server::davhandler::{DavHandler, HandlerError};
 use dav_server::exchange::{Exchange, GrantToken};
 use dav_server::refusing::Refusing;
-use dav_server::run::{RunFault, Step, run_refused};
+use dav_server::run::{RunFault, Turn, run_refused};
 use dav_store::memfs::MemFs;
 use dav_store::memls::MemLs;
 use std::alloc::{AllocError, AllocFailed, Global};
@@ -182,8 +182,8 @@ fn play_all<W: Write>(alloc: Global, script: &Script, writer: &mut W) -> Result<
         × Appends (W.contents writer.old) (W.contents writer.new) lines }
 {
     let mut handler = server_of(alloc, script)?;
-    let steps = steps_of(alloc, &script.requests)?;
-    play_steps(&mut handler, alloc, steps, writer)
+    let steps = turns_of(alloc, &script.requests)?;
+    play_turns(&mut handler, alloc, steps, writer)
 }
 
 // Plays the requests after the one at `place` that name its token as its principal, on a new server on which the
@@ -205,26 +205,26 @@ fn play_alone<W: Write>(
 {
     let (first, later) = script.requests.split_at(place + 1);
     let mut handler = server_of(alloc, script)?;
-    let first = steps_of(alloc, first)?;
+    let first = turns_of(alloc, first)?;
     let own = own_steps(alloc, &script.requests[place], later)?;
     run_refused(&mut handler, alloc, first)?;
     write_place(alloc, place, writer)?;
-    play_steps(&mut handler, alloc, own, writer)
+    play_turns(&mut handler, alloc, own, writer)
 }
 
 // Plays requests on a server, one after another. The reply to each is written before the next is played, so that only one
 // is held at a time.
-fn play_steps<W: Write>(
+fn play_turns<W: Write>(
     handler: &mut DavHandler<Refusing<MemFs>, MemLs>,
     alloc: Global,
-    steps: Vec<Step<'_>>,
+    steps: Vec<Turn<'_>>,
     writer: &mut W,
 ) -> Result<(), Fault>
-    ensures played { OnOk result ((replies : List Response)
+    ensures played { OnOk result ((replies : List said.Reply)
         × AnswersAll handler.old.server steps.entry.items replies handler.new.server
         × Appends (W.contents writer.old) (W.contents writer.new) (lines_of replies)) }
     ensures err { IfErr result (λ e. e ≢ NotScript) }
-    ensures short { IsErrOf result Memory → (replies : List Response)
+    ensures short { IsErrOf result Memory → (replies : List said.Reply)
         × RunsSome handler.old.server steps.entry.items replies
         × Appends (W.contents writer.old) (W.contents writer.new) (lines_of replies) }
 {
@@ -240,15 +240,15 @@ fn play_steps<W: Write>(
 fn play_together<W: Write>(
     handler: &mut DavHandler<Refusing<MemFs>, MemLs>,
     alloc: Global,
-    steps: Vec<Step<'_>>,
+    steps: Vec<Turn<'_>>,
     writer: &mut W,
 ) -> Result<(), Fault>
     ensures same { handler.new.server.settings ≡ handler.old.server.settings }
-    ensures played { OnOk result ((replies : List Response)
+    ensures played { OnOk result ((replies : List said.Reply)
         × AnswersAll handler.old.server steps.entry.items replies handler.new.server
         × Appends (W.contents writer.old) (W.contents writer.new) (lines_of replies)) }
     ensures err { IfErr result (λ e. e ≢ NotScript) }
-    ensures short { IsErrOf result Memory → (replies : List Response)
+    ensures short { IsErrOf result Memory → (replies : List said.Reply)
         × RunsSome handler.old.server steps.entry.items replies
         × Appends (W.contents writer.old) (W.contents writer.new) (lines_of replies) }
 {
@@ -324,13 +324,13 @@ fn server_of(alloc: Global, script: &Script) -> Result<DavHandler<Refusing<MemFs
 }
 
 // The steps of requests.
-fn steps_of(alloc: Global, requests: &[Request]) -> Result<Vec<Step<'_>>, NoMemory>
+fn turns_of(alloc: Global, requests: &[Request]) -> Result<Vec<Turn<'_>>, NoMemory>
     ensures { IfOk result (λ steps.
         steps.items ≡ map turn_for (map script_request requests.now)) }
 {
     let mut steps = Vec::new(alloc);
     for request in requests {
-        steps.push(step_of(alloc, request)?)?;
+        steps.push(turn_of(alloc, request)?)?;
     }
     Ok(steps)
 }
@@ -340,14 +340,14 @@ fn own_steps<'a>(
     alloc: Global,
     grant: &Request,
     requests: &'a [Request],
-) -> Result<Vec<Step<'a>>, NoMemory>
+) -> Result<Vec<Turn<'a>>, NoMemory>
     ensures { IfOk result (λ steps.
         (h : Lock) → MayBeGranted (turn_for (script_request grant.now)) h
-        → Alone h (map turn_for (map script_request requests.now)) steps.items) }
+        → HolderTurns h (map turn_for (map script_request requests.now)) steps.items) }
 {
     let mut steps = Vec::new(alloc);
     for request in requests {
-        let step = step_of(alloc, request)?;
+        let step = turn_of(alloc, request)?;
         if is_own(alloc, grant, request, &step)? {
             steps.push(step)?;
         }
@@ -360,7 +360,7 @@ fn is_own(
     alloc: Global,
     grant: &Request,
     request: &Request,
-    step: &Step<'_>,
+    step: &Turn<'_>,
 ) -> Result<bool, NoMemory>
     requires { step.now ≡ turn_for (script_request request.now) }
     ensures { IfOk result (λ own.
@@ -376,7 +376,7 @@ fn is_own(
 }
 
 // The step of a request. The exchange accepts its moment.
-fn step_of(alloc: Global, request: &Request) -> Result<Step<'_>, NoMemory>
+fn turn_of(alloc: Global, request: &Request) -> Result<Turn<'_>, NoMemory>
     ensures { IfOk result (λ step. step ≡ turn_for (script_request request.now)) }
 {
     let body = body_of(&request.body)?;
@@ -384,7 +384,7 @@ fn step_of(alloc: Global, request: &Request) -> Result<Step<'_>, NoMemory>
     let principal = request.principal.as_deref();
     let token = token_of(alloc, &request.token)?;
     let exchange = Exchange::new(&request.head, body, principal, request.moment, token).unwrap();
-    Ok(Step { exchange, refusals })
+    Ok(Turn { exchange, refusals })
 }
 
 // The same token.

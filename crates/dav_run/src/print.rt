@@ -2,7 +2,7 @@
 ghost use Rattle.std.specs.Prelude.{◌≡◌, ◌++◌, ◌∷◌, [], codes, true, IfOk, OnOk, string_bytes};
 ghost use Rattle.serde_json.specs.Written.{compact_text, members_text};
 ghost use Rattle.serde_json.specs.View.{view};
-ghost use Rattle.dav_engine.specs.Response.{headers_in};
+ghost use Rattle.dav_engine.specs.Reply.{headers_in};
 ghost use Rattle.dav_run.specs.Print.{body_data, headers_data, rest_members, line_of, place_data, place_line};
 ghost use Rattle.dav_run.specs.TreeData.{Adds, tokens_of};
 

@@ -12,8 +12,8 @@ use Rattle.dav_core.specs.Path.{Path}
 use Rattle.dav_engine.specs.Conditions.{Addressed, if_match}
 use Rattle.dav_engine.specs.Method.{MethodPlan, then as followed_by, ◌>>=◌, require, gives, refused_as}
 use Rattle.dav_engine.specs.Plan.{Done, Ask}
-use Rattle.dav_engine.specs.Response.{Response}
-use Rattle.dav_server.specs.Get.{shown, told, show, show_or_tell, judged, get}
+use Rattle.dav_engine.specs.Reply.{Reply}
+use Rattle.dav_server.specs.Get.{shown, told, show, show_or_tell, unless_condition_status, get}
 use Rattle.dav_engine.specs.AnswerParts.{answers_of, bytes_in}
 use Rattle.dav_engine.specs.Guard.{folder_of, IsGuard, SubmitOnly}
 use Rattle.dav_engine.specs.Alongside.{SameResult, SameMetadata, BothOpen, AreOpen, opened_at, Alongside, side_ok, side_err, side_asks, side_opens, side_reads, SameAnswers}
@@ -51,21 +51,21 @@ module _ (h : Lock) (guard : IsGuard h) (rest : Path) where
   side_file Head now m n told = side_ok (told_allows m ∙ sym (told_allows n))
   side_file _ now m n told = side_show now m n told
 
-  side_judged : (b : Bool) (m n : DavMetaData) (one other : MethodPlan Response) → Alongside h true (λ file. SameAnswers) None one other
-      → Alongside h true (λ file. SameAnswers) None (judged (if b then None else Some 412) m one) (judged (if b then None else Some 412) n other)
+  side_judged : (b : Bool) (m n : DavMetaData) (one other : MethodPlan Reply) → Alongside h true (λ file. SameAnswers) None one other
+      → Alongside h true (λ file. SameAnswers) None (unless_condition_status (if b then None else Some 412) m one) (unless_condition_status (if b then None else Some 412) n other)
   side_judged true m n one other side = side
   side_judged false m n one other side = side_err
 
   side_found : (method : DavMethod) (now : ℕ) {ls : List Addressed} → SubmitOnly h ls → (a b : Result DavMetaData FsError) → SameResult SameMetadata a b
       → Alongside h true (λ file. SameAnswers) None
-      (followed_by (refused_as dav.FsError a) (λ found. require (not found.dir) (dav.Status 405) >>= λ _. if_match method (holders ls) (Some found) >>= λ verdict. judged verdict found (show_or_tell method (folder_of h ++ rest) now found)))
-      (followed_by (refused_as dav.FsError b) (λ found. require (not found.dir) (dav.Status 405) >>= λ _. if_match method (holders ls) (Some found) >>= λ verdict. judged verdict found (show_or_tell method (folder_of h ++ rest) now found)))
+      (followed_by (refused_as dav.FsError a) (λ found. require (not found.dir) (dav.Status 405) >>= λ _. if_match method (holders ls) (Some found) >>= λ verdict. unless_condition_status verdict found (show_or_tell method (folder_of h ++ rest) now found)))
+      (followed_by (refused_as dav.FsError b) (λ found. require (not found.dir) (dav.Status 405) >>= λ _. if_match method (holders ls) (Some found) >>= λ verdict. unless_condition_status verdict found (show_or_tell method (folder_of h ++ rest) now found)))
   side_found method now {ls} only (Ok m) (Ok n) told =
       side_bind _ _ (side_require (not m.dir) (not n.dir) (dav.Status 405) (ap not told.dir)) (λ u v _.
       side_bind {Q = λ x y. (b : Bool) × (x ≡ (if b then None else Some 412)) × (y ≡ (if b then None else Some 412))} _ _
       (side_bind _ _ (side_lists h guard only) (λ a b same. side_ok (refl, (a, refl, ap (λ (x : Bool). if x then None else Some 412) (sym same)))))
-      (λ x y is. subst (λ (o : Option ℕ). Alongside h true (λ file. SameAnswers) None (judged o m (show_or_tell method (folder_of h ++ rest) now m)) (judged y n (show_or_tell method (folder_of h ++ rest) now n))) (sym is.1)
-      (subst (λ (o : Option ℕ). Alongside h true (λ file. SameAnswers) None (judged (if is.0 then None else Some 412) m (show_or_tell method (folder_of h ++ rest) now m)) (judged o n (show_or_tell method (folder_of h ++ rest) now n))) (sym is.2)
+      (λ x y is. subst (λ (o : Option ℕ). Alongside h true (λ file. SameAnswers) None (unless_condition_status o m (show_or_tell method (folder_of h ++ rest) now m)) (unless_condition_status y n (show_or_tell method (folder_of h ++ rest) now n))) (sym is.1)
+      (subst (λ (o : Option ℕ). Alongside h true (λ file. SameAnswers) None (unless_condition_status (if is.0 then None else Some 412) m (show_or_tell method (folder_of h ++ rest) now m)) (unless_condition_status o n (show_or_tell method (folder_of h ++ rest) now n))) (sym is.2)
       (side_judged is.0 m n _ _ (side_file method now m n told)))))
   side_found method now only (Err e) (Err f) told = subst (λ d. Alongside h true (λ file. SameAnswers) None (Done (Err (dav.FsError e))) (Done (Err (dav.FsError d)))) told side_err
   side_found method now only (Ok m) (Err f) told = absurd told

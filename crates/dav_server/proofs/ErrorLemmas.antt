@@ -9,9 +9,9 @@ use Rattle.dav_core.specs.Asking.{Open, CreateDir, Write, meaning, StoreState, A
 use Rattle.dav_core.specs.Handle.{Handle, Opening}
 use Rattle.dav_core.specs.Path.{Path, PathText, names}
 use Rattle.dav_core.specs.World.{World}
-use Rattle.dav_engine.specs.declared.put_headers.Writing.{Writing}
+use Rattle.dav_engine.specs.declared.methods.put.headers.Writing.{Writing}
 use Rattle.dav_engine.specs.declared.request.Body.{Body}
-use Rattle.dav_engine.specs.Client.{Client}
+use Rattle.dav_engine.specs.Caller.{Caller}
 use Rattle.dav_engine.specs.Conditions.{Conditions}
 use Rattle.dav_engine.specs.CopyMove.{is_copy_move}
 use Rattle.dav_engine.specs.Delete.{is_delete}
@@ -21,13 +21,13 @@ use Rattle.dav_engine.specs.Method.{MethodPlan, then as followed_by, ◌>>=◌, 
 use Rattle.dav_engine.specs.Mkcol.{mkcol_allowed, create_error, made, is_mkcol}
 use Rattle.dav_engine.specs.Plan.{Locks, Ran, ran_ask}
 use Rattle.dav_engine.specs.Put.{PutHeaders, put_opening, open_error, unsatisfiable, sought, written, store, put_allowed, put_body, bytes_of_body, is_put}
-use Rattle.dav_engine.specs.Response.{Response}
+use Rattle.dav_engine.specs.Reply.{Reply}
 use Rattle.dav_engine.specs.WorldLaws.{reads_done}
 use Rattle.dav_engine.proofs.Theorems.{Did, stays, means, did, refused_copymove_leaves_all, look_reads, only_put_allowed, only_mkcol_allowed, only_reads, reading_leaves, ran_split, options_only_reads, propfind_only_reads, refused_delete_leaves_all, refused_lock_leaves_all, refused_unlock_leaves_all, refused_proppatch_leaves_all}
 use Rattle.dav_server.specs.Get.{is_get}
 use Rattle.dav_server.specs.Head.{Request, IsHead}
 use Rattle.dav_server.specs.Leaving.{IsWriteRequest, IsStoresError, IsFileError, ErrorsLeave}
-use Rattle.dav_server.specs.Machine.{Settings, Asked, client, PlanOf, gets, heads, puts, patches, makes, deletes, copies, moves, offers, finds_properties, sets_properties, locks, releases, MeansOf, not_allowed, no_path, no_body, method, no_head, no_method, known}
+use Rattle.dav_server.specs.Machine.{Settings, Exchange, caller, PlanOf, gets, heads, puts, patches, makes, deletes, copies, moves, offers, finds_properties, sets_properties, locks, releases, MeansOf, not_allowed, no_path, no_body, method, no_head, no_method, known}
 use Rattle.dav_server.specs.Method.{GivesServed}
 use Rattle.dav_server.proofs.GetWorld.{get_is_reading}
 use Rattle.dav_server.proofs.PlanStatuses.{Outcome, Any, Ends, ends_done, ends_ask, ends_then, ends_bind, ends_either, ran_ends}
@@ -38,7 +38,7 @@ Same old ls new ms = (new.world ≡ old.world) × (ms ≡ ls)
 -- ---- the call that makes the first change
 
 -- where it is refused the plan ends; where it isn't, no other error comes than of this kind
-first_change : (E : DavError → Type 0) {A : Type 0} (w : World) (m : Result (A × World) FsError) (g : FsError → DavError) (answer : Result A FsError) (f : A → MethodPlan Response) (mid : StoreState) {new : StoreState} {ls ms : Locks} (e : DavError)
+first_change : (E : DavError → Type 0) {A : Type 0} (w : World) (m : Result (A × World) FsError) (g : FsError → DavError) (answer : Result A FsError) (f : A → MethodPlan Reply) (mid : StoreState) {new : StoreState} {ls ms : Locks} (e : DavError)
     → ((a : A) → Ends E Any (f a)) → Did m w answer mid.world → ¬ E e → Ran Asking (followed_by (refused_as g answer) f) mid ls (Err e) new ms → (new.world ≡ w) × (ms ≡ ls)
 first_change E w m g (Ok a) f mid e later done other ran = absurd (other (ran_ends (later a) ran))
 first_change E w m g (Err d) f mid e later (stays c is same) other ran =
@@ -70,7 +70,7 @@ store_leaves how place p bytes now found e other (ran_ask {old = old} {mid = mid
     ends_bind _ (own_written file bytes now) (λ file any.
     ends_ask (λ answer. ends_then (refused_as dav.FsError answer) _ (own_store answer) (λ done any. ends_ask (λ answer. ends_done tt)))))) (did one) other rest
 
-put_leaves : (m : DavMethod) (h : PutHeaders) (p : Path) (who : Client) (bytes : List ℕ) (checked : Result (Writing × Bool) DavError) (e : DavError) {old mid new : StoreState} {ls ks ms : Locks}
+put_leaves : (m : DavMethod) (h : PutHeaders) (p : Path) (who : Caller) (bytes : List ℕ) (checked : Result (Writing × Bool) DavError) (e : DavError) {old mid new : StoreState} {ls ks ms : Locks}
     → ¬ IsStoresError e → Ran Asking (put_allowed m h p who bytes) old ls checked mid ks
     → Ran Asking (followed_by checked (λ allowed. store (put_opening h allowed.0) allowed.0.from p bytes who.moment allowed.1)) mid ks (Err e) new ms → Same old ls new ms
 put_leaves m h p who bytes (Err d) e other first rest =
@@ -82,7 +82,7 @@ put_leaves m h p who bytes (Ok allowed) e other first rest =
     let (same, kept) = store_leaves (put_opening h allowed.0) allowed.0.from p bytes who.moment allowed.1 e other rest in
     (same ∙ world, kept ∙ stay)
 
-body_leaves : (m : DavMethod) (h : PutHeaders) (p : Path) (who : Client) (bytes : Option (List ℕ)) (e : DavError) {old new : StoreState} {ls ms : Locks}
+body_leaves : (m : DavMethod) (h : PutHeaders) (p : Path) (who : Caller) (bytes : Option (List ℕ)) (e : DavError) {old new : StoreState} {ls ms : Locks}
     → ¬ IsStoresError e → Ran Asking (put_body m h p who bytes) old ls (Err e) new ms → Same old ls new ms
 body_leaves m h p who None e other ran = reading_leaves reads_done ran
 body_leaves m h p who (Some bytes) e other ran =
@@ -95,7 +95,7 @@ body_leaves m h p who (Some bytes) e other ran =
 abbrev NoneComes : DavError → Type 0
 NoneComes e = ⊥
 
-mkcol_leaves : (c : Conditions) (p : PathText) (who : Client) (checked : Result (Unit {0}) DavError) (e : DavError) {old mid new : StoreState} {ls ks ms : Locks}
+mkcol_leaves : (c : Conditions) (p : PathText) (who : Caller) (checked : Result (Unit {0}) DavError) (e : DavError) {old mid new : StoreState} {ls ks ms : Locks}
     → Ran Asking (mkcol_allowed c p who) old ls checked mid ks
     → Ran Asking (followed_by checked (λ _. ask_or create_error (CreateDir (names p) who.moment) >>= (λ _. gives (made p)))) mid ks (Err e) new ms → Same old ls new ms
 mkcol_leaves c p who (Err d) e first rest =
@@ -109,7 +109,7 @@ mkcol_leaves c p who (Ok allowed) e first (ran_ask {old = old} {mid = mid} {answ
 
 -- ---- a step
 
-abbrev IsNewToken : Client → Locks → Type 0
+abbrev IsNewToken : Caller → Locks → Type 0
 IsNewToken who ls = (token : List ℕ) → who.token ≡ Some token → IsUnused token ls
 
 -- what is left where the token is new
@@ -134,14 +134,14 @@ file_error headers dav.ChanError refused = absurd refused
 file_error headers dav.Memory refused = absurd refused
 
 -- the token is new, or the error is of another kind
-abbrev IsEarly : Client → Locks → DavError → Type 0
+abbrev IsEarly : Caller → Locks → DavError → Type 0
 IsEarly who ls e = IsNewToken who ls ⊎ (¬ IsFileError e)
 
-early : (headers : Headers) (who : Client) (ls : Locks) (e : DavError) → IsEarly who ls e → IsNewToken who ls ⊎ (¬ IsRefusedFile headers e)
+early : (headers : Headers) (who : Caller) (ls : Locks) (e : DavError) → IsEarly who ls e → IsNewToken who ls ⊎ (¬ IsRefusedFile headers e)
 early headers who ls e (inl fresh) = inl fresh
 early headers who ls e (inr other) = inr (λ refused. other (file_error headers e refused))
 
-plan_leaves : {allowed : ℕ} {headers : Headers} {p : PathText} {given : Body} {who : Client} {m : DavMethod} {plan : MethodPlan Response} (e : DavError) {old new : StoreState} {ls ms : Locks}
+plan_leaves : {allowed : ℕ} {headers : Headers} {p : PathText} {given : Body} {who : Caller} {m : DavMethod} {plan : MethodPlan Reply} (e : DavError) {old new : StoreState} {ls ms : Locks}
     → ((m ≡ Put) ⊎ (m ≡ Patch) → ¬ IsStoresError e) → PlanOf allowed headers p given who m plan → Ran Asking plan old ls (Err e) new ms → LeftIf (m ≡ LockMethod → IsEarly who ls e) old ls new ms
 plan_leaves {p = p} {who = who} e other (gets (is_get c are)) ran = all_left (reading_leaves (get_is_reading Get c (names p) who.moment) ran)
 plan_leaves {p = p} {who = who} e other (heads (is_get c are)) ran = all_left (reading_leaves (get_is_reading Head c (names p) who.moment) ran)
@@ -159,15 +159,15 @@ plan_leaves {headers = headers} {p} {given} {who} {plan = plan} e {old} {new} {l
 plan_leaves {headers = headers} {p} {given} {who} {plan = plan} e {old} {new} {ls} {ms} other (locks is) ran = (let (world, list) = refused_lock_leaves_all headers p given who plan old new ls ms e is ran in (world, λ fresh. list (early headers who ls e (fresh refl))))
 plan_leaves {headers = headers} {p} {who = who} {plan = plan} e {old} {new} {ls} {ms} other (releases is) ran = all_left (refused_unlock_leaves_all headers p who plan old new ls ms e is ran)
 
-of_leaves : {s : Settings} {x : Asked} {r : Request} {m : DavMethod} {plan : MethodPlan Response} (e : DavError) {old new : StoreState} {ls ms : Locks}
-    → ((m ≡ Put) ⊎ (m ≡ Patch) → ¬ IsStoresError e) → MeansOf s x r m plan → Ran Asking plan old ls (Err e) new ms → LeftIf (m ≡ LockMethod → IsEarly (client x) ls e) old ls new ms
+of_leaves : {s : Settings} {x : Exchange} {r : Request} {m : DavMethod} {plan : MethodPlan Reply} (e : DavError) {old new : StoreState} {ls ms : Locks}
+    → ((m ≡ Put) ⊎ (m ≡ Patch) → ¬ IsStoresError e) → MeansOf s x r m plan → Ran Asking plan old ls (Err e) new ms → LeftIf (m ≡ LockMethod → IsEarly (caller x) ls e) old ls new ms
 of_leaves e other (not_allowed out) ran = all_left (reading_leaves reads_done ran)
 of_leaves e other (no_path d has none) ran = all_left (reading_leaves reads_done ran)
 of_leaves e other (no_body p d has named bad) ran = all_left (reading_leaves reads_done ran)
 of_leaves e other (method p given has named good plan) ran = plan_leaves e other plan ran
 
 -- a method that writes is that of a request that writes
-write_request : (x : Asked) (r : Request) (m : DavMethod) → IsHead x.head r → GivesServed r.method (Ok m) → (m ≡ Put) ⊎ (m ≡ Patch) → IsWriteRequest x
+write_request : (x : Exchange) (r : Request) (m : DavMethod) → IsHead x.head r → GivesServed r.method (Ok m) → (m ≡ Put) ⊎ (m ≡ Patch) → IsWriteRequest x
 write_request x r m head is (inl put) = inl (r, head, subst (λ (k : DavMethod). GivesServed r.method (Ok k)) put is)
 write_request x r m head is (inr patch) = inr (r, head, subst (λ (k : DavMethod). GivesServed r.method (Ok k)) patch is)
 

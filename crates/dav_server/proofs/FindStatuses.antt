@@ -4,13 +4,13 @@ use Rattle.dav_core.specs.declared.errors.DavError.TheVariants as dav
 use Rattle.dav_core.specs.declared.fs.DavMetaData.{DavMetaData}
 use Rattle.dav_core.specs.Path.{PathText}
 use Rattle.dav_engine.specs.declared.request.Body.{Body}
-use Rattle.dav_engine.specs.Client.{Client}
+use Rattle.dav_engine.specs.Caller.{Caller}
 use Rattle.dav_engine.specs.Folder.{closed, location_found, room_at}
 use Rattle.dav_engine.specs.Headers.{Headers}
 use Rattle.dav_engine.specs.Method.{required, refused_as}
 use Rattle.dav_engine.specs.Properties.{writer}
 use Rattle.dav_engine.specs.Propfind.{Query, FindHeaders, query_in, tells_itself, tells_members, is_infinite, is_served_depth, propfind_reply, propfind_found, propfind_if, propfind}
-use Rattle.dav_engine.specs.Response.{Header}
+use Rattle.dav_engine.specs.Reply.{Header}
 use Rattle.dav_engine.proofs.Theorems.{answered_below, answered_itself}
 use Rattle.dav_server.proofs.PlanStatuses.{Outcome, Any, Ends, ends_done, ends_ask, ends_bind, ends_then, gives_ends, IsFailure, AnswersOther, store_fails}
 
@@ -18,7 +18,7 @@ ends_read : (o : Option Query) → Outcome IsFailure Any (required o dav.XmlPars
 ends_read None = omega arith
 ends_read (Some query) = tt
 
-module _ (h : FindHeaders) (headers : Headers) (content : Body) (who : Client) where
+module _ (h : FindHeaders) (headers : Headers) (content : Body) (who : Caller) where
   ends_found : (p : PathText) (location : List Header) (m : DavMetaData) → Ends IsFailure AnswersOther (propfind_found h headers p location content who m)
   ends_found p location m =
       ends_then (required (query_in content) dav.XmlParseError) _ (ends_read (query_in content)) (λ query any.

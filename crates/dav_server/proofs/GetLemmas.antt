@@ -9,21 +9,21 @@ use Rattle.dav_core.specs.declared.method.DavMethod.TheVariants.{Head, Get, Put,
 use Rattle.dav_core.specs.Asking.{StoreState, Asks, Metadata, Open}
 use Rattle.dav_core.specs.Handle.{Handle, Opening}
 use Rattle.dav_core.specs.Path.{Path}
-use Rattle.dav_engine.specs.declared.reply.Reply.{Reply}
+use Rattle.dav_engine.specs.declared.reply.Reply as coded
 use Rattle.dav_engine.specs.Conditions.{Conditions, if_match}
 use Rattle.dav_engine.specs.Follows.{as_is, Follows, viewed, or_memory}
 use Rattle.dav_engine.specs.Method.{MethodPlan, gives, fails}
 use Rattle.dav_engine.specs.Plan.{Locks}
-use Rattle.dav_engine.specs.Response.{Response}
+use Rattle.dav_engine.specs.Reply.{Reply}
 use Rattle.dav_engine.proofs.Theorems.{follows_ask, follows_done, follows_on, follows_then, follows_err}
-use Rattle.dav_server.specs.Get.{get, show, show_or_tell, judged, not_modified}
+use Rattle.dav_server.specs.Get.{get, show, show_or_tell, unless_condition_status, not_modified}
 
 -- a file that was opened in the same way
 pub opened_as : {p : Path} {how other : Opening} {now : ℕ} {old new : StoreState} {answer : Result Handle FsError} → other ≡ how → Asks (Open p other now) old answer new → Asks (Open p how now) old answer new
 opened_as {p} {now = now} {old} {new} {answer} same one = subst (λ o. Asks (Open p o now) old answer new) same one
 
 -- any method but HEAD answers with the file's bytes
-pub shows : {s t : StoreState} {ls : Locks} {r : Result Reply DavError} (p : Path) (now : ℕ) (found : DavMetaData) (m : DavMethod) → m ≢ Head
+pub shows : {s t : StoreState} {ls : Locks} {r : Result coded.Reply DavError} (p : Path) (now : ℕ) (found : DavMetaData) (m : DavMethod) → m ≢ Head
     → Follows as_is (show p now found) s ls r t ls → Follows as_is (show_or_tell m p now found) s ls r t ls
 shows p now found Head other done = absurd (other refl)
 shows p now found Get other done = done
@@ -43,20 +43,20 @@ shows p now found MkCalendar other done = done
 shows p now found MkAddressbook other done = done
 
 -- the client has the file already
-pub has_it : (found : DavMetaData) (next : MethodPlan Response) (status : ℕ) {s : StoreState} {ls : Locks} {r : Result Reply DavError}
-    → (status == 304) ≡ true → viewed as_is r ≡ Ok (not_modified found) → Follows as_is (judged (Some status) found next) s ls r s ls
+pub has_it : (found : DavMetaData) (next : MethodPlan Reply) (status : ℕ) {s : StoreState} {ls : Locks} {r : Result coded.Reply DavError}
+    → (status == 304) ≡ true → viewed as_is r ≡ Ok (not_modified found) → Follows as_is (unless_condition_status (Some status) found next) s ls r s ls
 has_it found next status {s} {ls} {r} is same =
     subst (λ b. Follows as_is (if b then gives (not_modified found) else fails (dav.Status status)) s ls r s ls) (sym is) (follows_done same)
 
 -- a condition fails
-pub refuses_it : (found : DavMetaData) (next : MethodPlan Response) (status : ℕ) {s : StoreState} {ls : Locks}
-    → (status == 304) ≡ false → Follows as_is (judged (Some status) found next) s ls (Err (dav.Status status)) s ls
+pub refuses_it : (found : DavMetaData) (next : MethodPlan Reply) (status : ℕ) {s : StoreState} {ls : Locks}
+    → (status == 304) ≡ false → Follows as_is (unless_condition_status (Some status) found next) s ls (Err (dav.Status status)) s ls
 refuses_it found next status {s} {ls} is =
     subst (λ b. Follows as_is (if b then gives (not_modified found) else fails (dav.Status status)) s ls (Err (dav.Status status)) s ls) (sym is) (follows_done refl)
 
 -- what follows the conditions
-abbrev after : DavMethod → Path → ℕ → DavMetaData → Option ℕ → MethodPlan Response
-after m p now found verdict = judged verdict found (show_or_tell m p now found)
+abbrev after : DavMethod → Path → ℕ → DavMetaData → Option ℕ → MethodPlan Reply
+after m p now found verdict = unless_condition_status verdict found (show_or_tell m p now found)
 
 -- an evaluation of conditions that was followed, with an equal result
 come : {E : Type 0} (m : DavMethod) (c : Conditions) (found : DavMetaData) {r w : Result (Option ℕ) E} {s t : StoreState} {ls : Locks} → r ≡ w
@@ -71,10 +71,10 @@ pub get_stopped : {E : Type 0} (m : DavMethod) (c : Conditions) (p : Path) (now 
 get_stopped m c p now found r e asks file was one = follows_ask asks (follows_on _ _ _ file (follows_err (after m p now found) dav.Memory (come m c found was one)))
 
 -- the conditions were evaluated, and the rest was followed
-pub get_goes : {E : Type 0} (m : DavMethod) (c : Conditions) (p : Path) (now : ℕ) (found : DavMetaData) (r : Result (Option ℕ) E) (verdict told : Option ℕ) {old mid late new : StoreState} {ls : Locks} {end : Result Reply DavError}
+pub get_goes : {E : Type 0} (m : DavMethod) (c : Conditions) (p : Path) (now : ℕ) (found : DavMetaData) (r : Result (Option ℕ) E) (verdict told : Option ℕ) {old mid late new : StoreState} {ls : Locks} {end : Result coded.Reply DavError}
     → Asks (Metadata p) old (Ok found) mid → not found.dir ≡ true → r ≡ Ok verdict → verdict ≡ told
     → Follows (λ (v : Option ℕ). v) (if_match m c (Some found)) mid ls (or_memory r) late ls
-    → Follows as_is (judged told found (show_or_tell m p now found)) late ls end new ls
+    → Follows as_is (unless_condition_status told found (show_or_tell m p now found)) late ls end new ls
     → Follows as_is (get m c p now) old ls end new ls
 get_goes m c p now found r verdict told {late = late} {new} {ls} {end} asks file was is one rest =
     follows_ask asks (follows_on _ _ _ file (follows_then (after m p now found) (come m c found was one)

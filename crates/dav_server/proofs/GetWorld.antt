@@ -25,10 +25,10 @@ use Rattle.dav_engine.specs.declared.reply.ReplyBody.TheVariants as reply
 use Rattle.dav_engine.specs.Conditions.{Conditions, if_match}
 use Rattle.dav_engine.specs.Method.{MethodPlan, then as followed_by, ◌>>=◌, gives, fails, require, refused_as}
 use Rattle.dav_engine.specs.Plan.{Plan, Ask, Locks, Ran, ran_ask}
-use Rattle.dav_engine.specs.Response.{Response, Header, reply_to, etag, last_modified, content_length}
+use Rattle.dav_engine.specs.Reply.{Reply, Header, reply_to, etag, last_modified, content_length}
 use Rattle.dav_engine.specs.WorldLaws.{OnlyReads, IsReading, IsProperPlan, Remembers}
 use Rattle.dav_engine.proofs.Theorems.{Did, stays, means, did, did_leave, Only, only_done, only_ask, only_look, only_then, only_bind, only_require, only_reads, only_proper, reading_leaves, ran_split, ran_outcome, IsLook, looks, only_conditions}
-use Rattle.dav_server.specs.Get.{reading, shown, not_modified, show, show_or_tell, judged, get}
+use Rattle.dav_server.specs.Get.{reading, shown, not_modified, show, show_or_tell, unless_condition_status, get}
 use Rattle.dav_server.specs.TagLaws.{Shows}
 
 -- ---- the calls that are made
@@ -70,7 +70,7 @@ only_show_or_tell : (m : DavMethod) (p : Path) (now : ℕ) (file : DavMetaData) 
 only_show_or_tell Head p now file = only_done
 only_show_or_tell _ p now file = only_show p now file
 
-only_judged : {P : Call → Type 0} (verdict : Option ℕ) (file : DavMetaData) (next : MethodPlan Response) → Only P next → Only P (judged verdict file next)
+only_judged : {P : Call → Type 0} (verdict : Option ℕ) (file : DavMetaData) (next : MethodPlan Reply) → Only P next → Only P (unless_condition_status verdict file next)
 only_judged None file next is = is
 only_judged (Some status) file next is = only_either (status == 304) (gives (not_modified file)) (fails (dav.Status status)) only_done only_done
 
@@ -213,7 +213,7 @@ shown_stands w p n bytes tag others there kind shows =
 read_all : (n : Node) (bytes : List ℕ) → is_folder_kind n.kind ≡ false → bytes ≡ take (metadata_of n).len (bytes_of n.kind) → n.kind ≡ File bytes
 read_all n bytes plain is = file_kind n.kind plain ∙ ap File (sym (take-length (bytes_of n.kind)) ∙ sym is)
 
-shows_end : (w : World) (p : Path) (n : Node) (file : Handle) (answer : Result (List ℕ × Handle) FsError) {mid new : StoreState} {ls ms : Locks} {r : Response} (tag bytes : List ℕ) → IsWorld w → node_at w p ≡ Some n → is_folder_kind n.kind ≡ false
+shows_end : (w : World) (p : Path) (n : Node) (file : Handle) (answer : Result (List ℕ × Handle) FsError) {mid new : StoreState} {ls ms : Locks} {r : Reply} (tag bytes : List ℕ) → IsWorld w → node_at w p ≡ Some n → is_folder_kind n.kind ≡ false
     → file ≡ opened n.made reading → Did (meaning (Read file (metadata_of n).len) w) w answer mid.world
     → Ran Asks (followed_by (refused_as dav.FsError answer) (λ bytes. gives (shown (metadata_of n) bytes.0))) mid ls (Ok r) new ms → Shows tag bytes r → Stands w p tag bytes
 shows_end w p n file answer {mid} tag bytes world there plain handle one ran shows =
@@ -221,13 +221,13 @@ shows_end w p n file answer {mid} tag bytes world there plain handle one ran sho
     let whole = read_of w mid.world p n file (metadata_of n).len answer read world there plain handle one is in
     shown_stands w p n read.0 tag bytes there (read_all n read.0 plain whole) (subst (Shows tag bytes) (ok_same (ran_outcome end)) shows)
 
-shows_read : (w : World) (p : Path) (n : Node) (file : Handle) {old new : StoreState} {ls ms : Locks} {r : Response} (tag bytes : List ℕ) → IsWorld w → node_at w p ≡ Some n → is_folder_kind n.kind ≡ false
+shows_read : (w : World) (p : Path) (n : Node) (file : Handle) {old new : StoreState} {ls ms : Locks} {r : Reply} (tag bytes : List ℕ) → IsWorld w → node_at w p ≡ Some n → is_folder_kind n.kind ≡ false
     → file ≡ opened n.made reading → old.world ≡ w
     → Ran Asks (Ask (Read file (metadata_of n).len) (λ answer. followed_by (refused_as dav.FsError answer) (λ bytes. gives (shown (metadata_of n) bytes.0)))) old ls (Ok r) new ms → Shows tag bytes r → Stands w p tag bytes
 shows_read w p n file tag bytes world there plain handle same (ran_ask {mid = mid} {answer = answer} one rest) shows =
     shows_end w p n file answer tag bytes world there plain handle (subst (λ (v : World). Did (meaning (Read file (metadata_of n).len) v) v answer mid.world) same (did one)) rest shows
 
-shows_opened : (w : World) (p : Path) (now : ℕ) (n : Node) (answer : Result Handle FsError) {mid new : StoreState} {ls ms : Locks} {r : Response} (tag bytes : List ℕ) → IsWorld w → node_at w p ≡ Some n → mid.world ≡ w
+shows_opened : (w : World) (p : Path) (now : ℕ) (n : Node) (answer : Result Handle FsError) {mid new : StoreState} {ls ms : Locks} {r : Reply} (tag bytes : List ℕ) → IsWorld w → node_at w p ≡ Some n → mid.world ≡ w
     → Did (meaning (Open p reading now) w) w answer mid.world
     → Ran Asks (followed_by (refused_as dav.FsError answer) (λ file. Ask (Read file (metadata_of n).len) (λ answer. followed_by (refused_as dav.FsError answer) (λ bytes. gives (shown (metadata_of n) bytes.0))))) mid ls (Ok r) new ms → Shows tag bytes r → Stands w p tag bytes
 shows_opened w p now n answer {mid} tag bytes world there same one ran shows =
@@ -235,7 +235,7 @@ shows_opened w p now n answer {mid} tag bytes world there same one ran shows =
     let (plain, handle) = opened_of w mid.world p now answer file n there one is in
     shows_read w p n file tag bytes world there plain handle same rest shows
 
-shows_shown : (w : World) (p : Path) (now : ℕ) (n : Node) {old new : StoreState} {ls ms : Locks} {r : Response} (tag bytes : List ℕ) → IsWorld w → node_at w p ≡ Some n → old.world ≡ w
+shows_shown : (w : World) (p : Path) (now : ℕ) (n : Node) {old new : StoreState} {ls ms : Locks} {r : Reply} (tag bytes : List ℕ) → IsWorld w → node_at w p ≡ Some n → old.world ≡ w
     → Ran Asks (show p now (metadata_of n)) old ls (Ok r) new ms → Shows tag bytes r → Stands w p tag bytes
 shows_shown w p now n tag bytes world there same (ran_ask {old = old} {mid = mid} {answer = answer} one rest) shows =
     shows_opened w p now n answer tag bytes world there (did_leave (Open p reading now) old.world mid.world answer (refl, refl, refl) (did one) ∙ same)
@@ -245,13 +245,13 @@ no_bytes : (bytes : List ℕ) → ◌≡◌ {A = ReplyBody} reply.Nothing (reply
 no_bytes bytes same = cc
 
 -- a status that the conditions answer shows no file
-unmodified_shows_none : (b : Bool) (status : ℕ) (d : DavMetaData) (tag bytes : List ℕ) {old new : StoreState} {ls ms : Locks} {r : Response}
+unmodified_shows_none : (b : Bool) (status : ℕ) (d : DavMetaData) (tag bytes : List ℕ) {old new : StoreState} {ls ms : Locks} {r : Reply}
     → Ran Asks (if b then gives (not_modified d) else fails (dav.Status status)) old ls (Ok r) new ms → Shows tag bytes r → ⊥
-unmodified_shows_none true status d tag bytes ran shows = no_bytes bytes (sym (ap (λ (r : Response). r.body) (ok_same (ran_outcome ran))) ∙ shows.bytes_are)
+unmodified_shows_none true status d tag bytes ran shows = no_bytes bytes (sym (ap (λ (r : Reply). r.body) (ok_same (ran_outcome ran))) ∙ shows.bytes_are)
 unmodified_shows_none false status d tag bytes ran shows = let clash = ran_outcome ran in cc
 
-shows_judged : (w : World) (p : Path) (now : ℕ) (n : Node) (verdict : Option ℕ) {old new : StoreState} {ls ms : Locks} {r : Response} (tag bytes : List ℕ) → IsWorld w → node_at w p ≡ Some n → old.world ≡ w
-    → Ran Asks (judged verdict (metadata_of n) (show p now (metadata_of n))) old ls (Ok r) new ms → Shows tag bytes r → Stands w p tag bytes
+shows_judged : (w : World) (p : Path) (now : ℕ) (n : Node) (verdict : Option ℕ) {old new : StoreState} {ls ms : Locks} {r : Reply} (tag bytes : List ℕ) → IsWorld w → node_at w p ≡ Some n → old.world ≡ w
+    → Ran Asks (unless_condition_status verdict (metadata_of n) (show p now (metadata_of n))) old ls (Ok r) new ms → Shows tag bytes r → Stands w p tag bytes
 shows_judged w p now n None tag bytes world there same ran shows = shows_shown w p now n tag bytes world there same ran shows
 shows_judged w p now n (Some status) tag bytes world there same ran shows = absurd (unmodified_shows_none (status == 304) status (metadata_of n) tag bytes ran shows)
 
@@ -261,18 +261,18 @@ look_reads c looks = tt
 pub conditions_read : (m : DavMethod) (c : Conditions) (d : DavMetaData) → IsReading (if_match m c (Some d))
 conditions_read m c d = only_reads look_reads (only_conditions m c (Some d))
 
-shows_allowed : (w : World) (c : Conditions) (p : Path) (now : ℕ) (n : Node) {old new : StoreState} {ls ms : Locks} {r : Response} (tag bytes : List ℕ) → IsWorld w → node_at w p ≡ Some n → old.world ≡ w
-    → Ran Asks (if_match Get c (Some (metadata_of n)) >>= (λ verdict. judged verdict (metadata_of n) (show p now (metadata_of n)))) old ls (Ok r) new ms → Shows tag bytes r → Stands w p tag bytes
+shows_allowed : (w : World) (c : Conditions) (p : Path) (now : ℕ) (n : Node) {old new : StoreState} {ls ms : Locks} {r : Reply} (tag bytes : List ℕ) → IsWorld w → node_at w p ≡ Some n → old.world ≡ w
+    → Ran Asks (if_match Get c (Some (metadata_of n)) >>= (λ verdict. unless_condition_status verdict (metadata_of n) (show p now (metadata_of n)))) old ls (Ok r) new ms → Shows tag bytes r → Stands w p tag bytes
 shows_allowed w c p now n tag bytes world there same ran shows =
     let more = looked (if_match Get c (Some (metadata_of n))) _ (conditions_read Get c (metadata_of n)) ran in
     shows_judged w p now n more.value tag bytes world there (more.same ∙ same) more.rest shows
 
 -- what follows where a file was found
-abbrev pub after_found : DavMethod → Conditions → Path → ℕ → DavMetaData → MethodPlan Response
+abbrev pub after_found : DavMethod → Conditions → Path → ℕ → DavMetaData → MethodPlan Reply
 after_found m c p now d =
-    require (not d.dir) (dav.Status 405) >>= (λ plain. if_match m c (Some d) >>= (λ verdict. judged verdict d (show_or_tell m p now d)))
+    require (not d.dir) (dav.Status 405) >>= (λ plain. if_match m c (Some d) >>= (λ verdict. unless_condition_status verdict d (show_or_tell m p now d)))
 
-shows_found : (w : World) (c : Conditions) (p : Path) (now : ℕ) (answer : Result DavMetaData FsError) {mid new : StoreState} {ls ms : Locks} {r : Response} (tag bytes : List ℕ) → IsWorld w → mid.world ≡ w → Did (meaning (Metadata p) w) w answer mid.world
+shows_found : (w : World) (c : Conditions) (p : Path) (now : ℕ) (answer : Result DavMetaData FsError) {mid new : StoreState} {ls ms : Locks} {r : Reply} (tag bytes : List ℕ) → IsWorld w → mid.world ≡ w → Did (meaning (Metadata p) w) w answer mid.world
     → Ran Asks (followed_by (refused_as dav.FsError answer) (after_found Get c p now)) mid ls (Ok r) new ms → Shows tag bytes r → Stands w p tag bytes
 shows_found w c p now answer {mid} {new} {ls} {ms} {r} tag bytes world same one ran shows =
     let (d, is, rest) = answered_by dav.FsError answer _ ran in
@@ -280,7 +280,7 @@ shows_found w c p now answer {mid} {new} {ls} {ms} {r} tag bytes world same one 
     let (plain, more) = required (not (metadata_of n).dir) (dav.Status 405) _ (subst (λ (x : DavMetaData). Ran Asks (after_found Get c p now x) mid ls (Ok r) new ms) about rest) in
     shows_allowed w c p now n tag bytes world there same more shows
 
-shows_get : (c : Conditions) (p : Path) (now : ℕ) {old new : StoreState} {ls ms : Locks} {r : Response} (tag bytes : List ℕ) → IsWorld old.world
+shows_get : (c : Conditions) (p : Path) (now : ℕ) {old new : StoreState} {ls ms : Locks} {r : Reply} (tag bytes : List ℕ) → IsWorld old.world
     → Ran Asks (get Get c p now) old ls (Ok r) new ms → Shows tag bytes r → Stands old.world p tag bytes
 shows_get c p now tag bytes world (ran_ask {old = old} {mid = mid} {answer = answer} one rest) shows =
     shows_found old.world c p now answer tag bytes world (did_leave (Metadata p) old.world mid.world answer tt (did one)) (did one) rest shows
@@ -290,7 +290,7 @@ pub error_shows_none : (e : DavError) (tag bytes : List ℕ) → Shows tag bytes
 error_shows_none e tag bytes shows = no_bytes bytes shows.bytes_are
 
 -- what a GET shows is at its path, with its tag
-pub get_shows : (c : Conditions) (p : Path) (now : ℕ) (outcome : Result Response DavError) {old new : StoreState} {ls ms : Locks} (tag bytes : List ℕ) → IsWorld old.world
+pub get_shows : (c : Conditions) (p : Path) (now : ℕ) (outcome : Result Reply DavError) {old new : StoreState} {ls ms : Locks} (tag bytes : List ℕ) → IsWorld old.world
     → Ran Asks (get Get c p now) old ls outcome new ms → Shows tag bytes (reply_to outcome) → Stands old.world p tag bytes
 get_shows c p now (Err e) tag bytes world ran shows = absurd (error_shows_none e tag bytes shows)
 get_shows c p now (Ok r) tag bytes world ran shows = shows_get c p now tag bytes world ran shows

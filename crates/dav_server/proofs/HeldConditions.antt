@@ -13,7 +13,7 @@ use Rattle.dav_core.specs.World.{World, Node, node_at}
 use Rattle.dav_headers.specs.ETag.{EntityTag, tag_text}
 use Rattle.dav_headers.specs.ETagList.{TagList, tags}
 use Rattle.dav_headers.specs.If.{Item, state_token, entity_tag, Condition}
-use Rattle.dav_engine.specs.Conditions.{Conditions, Addressed, matches, tag_found, http_conditions, tag_holds, has_tag, item_holds, while_true, while_false, condition_holds, all_hold, some_holds, if_holds, submitted, unless, if_match_get_tokens, status_as, guarded}
+use Rattle.dav_engine.specs.Conditions.{Conditions, Addressed, matches, tag_found, http_conditions, tag_holds, has_tag, item_holds, and_then, or_else, condition_holds, all_hold, some_holds, if_holds, submitted, unless, if_match_get_tokens, status_as, guarded}
 use Rattle.dav_engine.specs.Method.{MethodPlan, ◌>>=◌, gives}
 use Rattle.dav_engine.specs.Plan.{Locks, Done, Ran, ran_ask}
 use Rattle.dav_engine.specs.WorldLaws.{IsReading, reads_done, reads_ask, reads_look}
@@ -68,7 +68,7 @@ item_reads None i = reads_done
 item_reads (Some p) (state_token t) = reads_look (λ ls. reads_done)
 item_reads (Some p) (entity_tag e) = reads_ask tt (λ answer. reads_done)
 
-kept : (b : Bool) (next : MethodPlan Bool) {old new : StoreState} {ls ms : Locks} → Ran Asking (while_true b next) old ls (Ok true) new ms → (b ≡ true) × Ran Asking next old ls (Ok true) new ms
+kept : (b : Bool) (next : MethodPlan Bool) {old new : StoreState} {ls ms : Locks} → Ran Asking (and_then b next) old ls (Ok true) new ms → (b ≡ true) × Ran Asking next old ls (Ok true) new ms
 kept true next ran = (refl, ran)
 kept false next ran = let clash = ran_outcome ran in cc
 
@@ -94,7 +94,7 @@ all_held p tag (c ∷ cs) w (suc k, within, is) at ran =
     let more = looked (item_holds (Some p) c.item) _ (item_reads (Some p) c.item) ran in
     all_held p tag cs w (k, omega (arith, within), is) (more.same ∙ at) (kept (condition_holds c.negated more.value) (all_hold (Some p) cs) more.rest).1
 
-only_list : (holds : Bool) {old new : StoreState} {ls ms : Locks} → Ran Asking (while_false holds (some_holds [])) old ls (Ok true) new ms → holds ≡ true
+only_list : (holds : Bool) {old new : StoreState} {ls ms : Locks} → Ran Asking (or_else holds (some_holds [])) old ls (Ok true) new ms → holds ≡ true
 only_list true ran = refl
 only_list false ran = let clash = ran_outcome ran in cc
 

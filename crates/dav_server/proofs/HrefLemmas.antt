@@ -16,7 +16,7 @@ use Rattle.dav_engine.specs.Multistatus.{PathStatus, href, response_for, multist
 use Rattle.dav_engine.specs.Properties.{Group, propstat, property_response}
 use Rattle.dav_engine.specs.PropfindLaws.{responses_in}
 use Rattle.dav_engine.proofs.Theorems.{bare, open_names}
-use Rattle.dav_server.specs.HrefLaws.{IsServed, TargetsAreServed, TextsLeadBack, TellsOf, TellOf, none_told, one_told, StatusesLeadBack, PropertiesLeadBack}
+use Rattle.dav_server.specs.HrefLaws.{IsServedPath, TargetsAreServed, TextsLeadBack, TellsOf, TellOf, none_told, one_told, StatusesLeadBack, PropertiesLeadBack}
 use Rattle.dav_server.specs.Setup.{IsPrefix}
 use Rattle.dav_server.specs.Target.{BeginsWithSlash, server, path}
 use Rattle.dav_server.proofs.MeansWorld.{all_back, storable_root}
@@ -26,13 +26,13 @@ use Rattle.dav_server.proofs.TargetLemmas.{text_no_star, path_no_star}
 -- ---- which paths are served
 
 -- a path with these bytes after the prefix
-pub served_by : (prefix : List ℕ) (p : PathText) (ns : Path) (c : Bool) → p.prefix ≡ without_slash prefix → IsStorable ns → p.bytes ≡ path_bytes ns c → IsServed prefix p
+pub served_by : (prefix : List ℕ) (p : PathText) (ns : Path) (c : Bool) → p.prefix ≡ without_slash prefix → IsStorable ns → p.bytes ≡ path_bytes ns c → IsServedPath prefix p
 served_by prefix p ns c front storable is =
     let same : names p ≡ ns = ap names_of is ∙ names_kept ns c storable.0 in
     record { front = front; storable = subst IsStorable (sym same) storable; is_closed = c; bytes_are = is ∙ ap (λ (ms : Path). path_bytes ms c) (sym same) }
 
 -- what is left of names behind a prefix
-named_served : (prefix : List ℕ) (ns : Path) (c : Bool) (p : PathText) → IsStorable ns → IsCut (without_slash prefix) (path_bytes ns c) p → IsServed prefix p
+named_served : (prefix : List ℕ) (ns : Path) (c : Bool) (p : PathText) → IsStorable ns → IsCut (without_slash prefix) (path_bytes ns c) p → IsServedPath prefix p
 named_served prefix ns c p storable cut =
     let (rest, end, split, behind) = cut_keeps_names ns c (without_slash prefix) p storable.0 cut in
     let kept : All IsName rest = all_back IsName (names_of (without_slash prefix)) rest (subst (All IsName) split storable.0) in
@@ -40,7 +40,7 @@ named_served prefix ns c p storable cut =
     served_by prefix p rest end (cut_prefix cut) (kept, below) behind
 
 -- what is read and cut after the prefix
-pub read_served : (prefix text bytes : List ℕ) (p : PathText) → text ≢ star → Reads text bytes → IsCut (without_slash prefix) bytes p → IsServed prefix p
+pub read_served : (prefix text bytes : List ℕ) (p : PathText) → text ≢ star → Reads text bytes → IsCut (without_slash prefix) bytes p → IsServedPath prefix p
 read_served prefix text bytes p other (inl (is, same)) cut = absurd (other is)
 read_served prefix text bytes p other (inr (ns, c, named, is)) cut =
     let are : All IsName ns = Leaves-names _ ns named.leaves in
@@ -135,7 +135,7 @@ name_added (m ∷ ns) c n all =
 
 -- a served path at another one or below it
 pub record Reached (prefix : List ℕ) (top : Path) (q : PathText) : Type 0 where
-  pub served : IsServed prefix q
+  pub served : IsServedPath prefix q
   pub rest : Path
   pub at : names q ≡ top ++ rest
 
@@ -174,11 +174,11 @@ all_responses (item ∷ items) = ap (λ rs. response_for item ∷ rs) (all_respo
 pub responses_are : (items : List PathStatus) → responses_in (multistatus_reply items).body ≡ map response_for items
 responses_are items = ap (filter (is_named (codes "response"))) (list_of_trees (map response_for items)) ∙ all_responses items
 
-pub status_tells : (prefix : List ℕ) (item : PathStatus) → IsPrefix prefix → IsServed prefix item.0 → TellsOf prefix item.0 (response_for item)
+pub status_tells : (prefix : List ℕ) (item : PathStatus) → IsPrefix prefix → IsServedPath prefix item.0 → TellsOf prefix item.0 (response_for item)
 status_tells prefix item fits served = record { text = path_text (full_bytes item.0); hrefs = refl; leads = texts_lead_back prefix item.0 fits served }
 
 abbrev Serves : List ℕ → PathStatus → Type 0
-Serves prefix item = IsServed prefix item.0
+Serves prefix item = IsServedPath prefix item.0
 
 all_tell : (prefix : List ℕ) (items : List PathStatus) → IsPrefix prefix → All (Serves prefix) items → TellOf prefix (map (λ i. i.0) items) (map response_for items)
 all_tell prefix [] fits are = none_told

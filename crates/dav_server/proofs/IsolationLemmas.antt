@@ -8,12 +8,12 @@ use Rattle.dav_core.specs.Asking.{StoreState}
 use Rattle.dav_core.specs.Locks.{Lock}
 use Rattle.dav_core.specs.World.{World, IsWorld, last_moment}
 use Rattle.dav_engine.specs.Plan.{Locks}
-use Rattle.dav_engine.specs.Response.{Response, reply_to, error_reply}
+use Rattle.dav_engine.specs.Reply.{Reply, reply_to, error_reply}
 use Rattle.dav_engine.proofs.Theorems.{ran_unset, comes, alongside_agree, ran_plain, sparing_leaves_inside}
-use Rattle.dav_server.specs.Machine.{Settings, Asked, StepsBy, Steps, steps}
+use Rattle.dav_server.specs.Machine.{Settings, Exchange, StepsBy, Steps, steps}
 use Rattle.dav_server.specs.Run.{Turn, begun, no_more, one_more}
-use Rattle.dav_server.specs.TagLaws.{AreShowable}
-use Rattle.dav_server.specs.Server.{Server}
+use Rattle.dav_server.specs.TagLaws.{MomentsAreDates}
+use Rattle.dav_server.specs.DavHandler.{DavHandler}
 use Rattle.dav_server.proofs.MeansWorld.{means_proper, begun_world, begun_short, run_keeps, all_front, all_back}
 use Rattle.dav_engine.specs.Alongside.{AsksWithNumbers, SameResult, AreAlike, SameAnswers}
 use Rattle.dav_engine.specs.AnswerParts.{answers_of}
@@ -21,22 +21,22 @@ use Rattle.dav_engine.specs.Guard.{folder_of, IsGuard, Guarded, Stands}
 use Rattle.dav_engine.specs.Inside.{HasFoldersAbove}
 use Rattle.dav_server.proofs.HolderLemmas.{means_along}
 use Rattle.dav_server.proofs.StrangerLemmas.{means_spares}
-use Rattle.dav_server.specs.Isolation.{StrangersLeaveAlike, HoldersAnswerAlike, AreLoaded, NoneHandsIn, RunsUnder, under_none, under_more, Alone, alone_none, alone_other, alone_own, alike_none, alike_other, alike_own, AreAlone, HoldersAreAlone, IsIsolated}
+use Rattle.dav_server.specs.Isolation.{StrangersLeaveAlike, HoldersAnswerAlike, AreLoaded, TokenIsFresh, RunsUnder, under_none, under_more, HolderTurns, alone_none, alone_other, alone_own, alike_none, alike_other, alike_own, MatchesSoloRun, HoldersAreAlone, IsIsolated}
 
 begun_same : (refusals : Option (List (Option FsError))) (s t : StoreState) → is_some refusals ≡ true → (begun refusals s).refusals ≡ (begun refusals t).refusals
 begun_same None s t some = cc
 begun_same (Some list) s t some = refl
 
 -- the flag is never taken back
-under_unset : {s : Settings} {h : Lock} {ts : List Turn} {old new : StoreState} {ls ms : Locks} {replies : List Response} → RunsUnder AsksWithNumbers s h ts old ls replies new ms → new.short ≡ false → old.short ≡ false
+under_unset : {s : Settings} {h : Lock} {ts : List Turn} {old new : StoreState} {ls ms : Locks} {replies : List Reply} → RunsUnder AsksWithNumbers s h ts old ls replies new ms → new.short ≡ false → old.short ≡ false
 under_unset under_none u = u
 under_unset (under_more {t} {old = old} stands holds (steps plan outcome means ran) more) u = sym (begun_short t.refusals old) ∙ ran_unset (ran_plain ran) (under_unset more u)
 
 -- a step that found its numbers is one
-steps_plain : {s : Settings} {x : Asked} {old new : StoreState} {ls ms : Locks} {reply : Response} → StepsBy AsksWithNumbers s x old ls reply new ms → Steps s x old ls reply new ms
+steps_plain : {s : Settings} {x : Exchange} {old new : StoreState} {ls ms : Locks} {reply : Reply} → StepsBy AsksWithNumbers s x old ls reply new ms → Steps s x old ls reply new ms
 steps_plain (steps plan outcome means ran) = steps plan outcome means (ran_plain ran)
 
-same_replies : (a b : Result Response DavError) → SameResult SameAnswers a b → SameAnswers (reply_to a) (reply_to b)
+same_replies : (a b : Result Reply DavError) → SameResult SameAnswers a b → SameAnswers (reply_to a) (reply_to b)
 same_replies (Ok x) (Ok y) same = same
 same_replies (Err e) (Err f) same = ap (λ (d : DavError). answers_of (error_reply d)) same
 same_replies (Ok x) (Err f) same = absurd same
@@ -86,10 +86,10 @@ holders_answer_alike s h x old new other ls ms ks reply guard guarded also alike
 -- ---- a run
 
 module _ (s : Settings) (h : Lock) (guard : IsGuard h) where
-  isolated : {ts us : List Turn} {old new old' : StoreState} {ls ms ls' : Locks} {replies : List Response}
-      → RunsUnder AsksWithNumbers s h ts old ls replies new ms → AreShowable ts → AreLoaded ts → NoneHandsIn h ts → new.short ≡ false → Alone h ts us
+  isolated : {ts us : List Turn} {old new old' : StoreState} {ls ms ls' : Locks} {replies : List Reply}
+      → RunsUnder AsksWithNumbers s h ts old ls replies new ms → MomentsAreDates ts → AreLoaded ts → TokenIsFresh h ts → new.short ≡ false → HolderTurns h ts us
       → AreAlike (folder_of h) None old.world old'.world → old'.short ≡ false → (Stands h ls → Guarded h ls × Guarded h ls')
-      → AreAlone s h ts us old' ls' replies new
+      → MatchesSoloRun s h ts us old' ls' replies new
   isolated {old' = old'} {ls' = ls'} under_none small loaded none u alone_none alike u' g =
       record { alone = []; end = old'; locks = ls'; runs = no_more; ample = u'; answers = alike_none; inside = alike.same }
   isolated {old' = old'} {ls' = ls'} (under_more {t} {ts} {old} {mid} {new} {ls} {ks} {reply = reply} stands holds step more) small loaded none u (alone_other stranger rest) alike u' g =
@@ -124,11 +124,11 @@ holders_are_alone s h ts us old new ls ms replies guard guarded above world smal
     (record { same = λ r. refl; next = omega arith; above = above; above_alone = above; world = world; world_alone = world; there = tt }) (under_unset under u) (λ _. (guarded, guarded))
 
 -- of a run, from any moment on
-pub is_isolated : (old : Server) (ts : List Turn) (replies : List Response) → AreShowable ts → AreLoaded ts → IsIsolated old ts replies
+pub is_isolated : (old : DavHandler) (ts : List Turn) (replies : List Reply) → MomentsAreDates ts → AreLoaded ts → IsIsolated old ts replies
 is_isolated old ts replies small loaded front later back us h mid new ks ms before given after is replied world ran guard guarded above none under u alone =
     let P = λ (t : Turn). t.asked.moment ≤ last_moment in
     let Q = λ (t : Turn). is_some t.refusals ≡ true in
-    let all_small : AreShowable (front ++ (later ++ back)) = subst AreShowable is small in
+    let all_small : MomentsAreDates (front ++ (later ++ back)) = subst MomentsAreDates is small in
     let all_loaded : AreLoaded (front ++ (later ++ back)) = subst AreLoaded is loaded in
     let kept = run_keeps world (all_front P front (later ++ back) all_small) ran in
     holders_are_alone old.settings h later us mid new ks ms given guard guarded above kept.world

@@ -12,19 +12,19 @@ use Rattle.dav_core.specs.Target.{Reads}
 use Rattle.dav_core.specs.World.{IsWorld, last_moment}
 use Rattle.dav_core.proofs.Theorems.{Leaves-names, names_kept, cut_keeps_names, named_once, Reads-bytes}
 use Rattle.dav_engine.specs.declared.request.Body.{Body}
-use Rattle.dav_engine.specs.Client.{Client}
+use Rattle.dav_engine.specs.Caller.{Caller}
 use Rattle.dav_engine.specs.Headers.{Headers}
 use Rattle.dav_engine.specs.Method.{MethodPlan}
 use Rattle.dav_engine.specs.Plan.{Plan, Locks, RanUpTo, up_to_here, up_to_ask, up_to_look, up_to_keep, Refused, refused_done, refused_ask, refused_look, Cut}
-use Rattle.dav_engine.specs.Response.{Response}
+use Rattle.dav_engine.specs.Reply.{Reply}
 use Rattle.dav_engine.specs.WorldLaws.{IsReading, reads_done, reads_ask, reads_look, IsProperPlan, proper_done}
 use Rattle.dav_engine.proofs.Theorems.{did, did_leave, Kept, kept_same, kept_on, put_is_proper, mkcol_is_proper, copymove_is_proper, delete_is_proper, lock_is_proper, options_is_proper, options_only_reads, unlock_is_proper, reading_leaves, proper_keeps, propfind_is_proper, propfind_only_reads, proppatch_is_proper}
 use Rattle.dav_server.specs.Get.{IsGet, is_get}
 use Rattle.dav_server.specs.Head.{Request, IsHead}
-use Rattle.dav_server.specs.Machine.{Settings, Asked, PlanOf, gets, heads, puts, patches, makes, deletes, copies, moves, offers, finds_properties, sets_properties, locks, releases, MeansOf, not_allowed, no_path, no_body, method, Means, no_head, no_method, known, Steps, steps}
+use Rattle.dav_server.specs.Machine.{Settings, Exchange, PlanOf, gets, heads, puts, patches, makes, deletes, copies, moves, offers, finds_properties, sets_properties, locks, releases, MeansOf, not_allowed, no_path, no_body, method, Means, no_head, no_method, known, Steps, steps}
 use Rattle.dav_server.specs.Method.{GivesServed}
 use Rattle.dav_server.specs.Run.{Turn, begun, Runs, no_more, one_more}
-use Rattle.dav_server.specs.TagLaws.{HasMethod, AreShowable, is_safe, ReadingLeaves, RunsKeepWorlds}
+use Rattle.dav_server.specs.TagLaws.{HasMethod, MomentsAreDates, is_safe, ReadingLeaves, RunsKeepWorlds}
 use Rattle.dav_server.specs.Target.{TargetNames, server, path}
 use Rattle.dav_server.proofs.GetWorld.{get_is_reading, get_is_proper}
 use Rattle.dav_server.proofs.HeadLemmas.{one_head}
@@ -79,10 +79,10 @@ target_storable {prefix} (path {text} {bytes} {p} has reads cut) = read_cut text
 
 -- ---- plans of calls that a caller may make
 
-proper_get : {m : DavMethod} {headers : Headers} {p : PathText} {now : ℕ} {plan : MethodPlan Response} → IsStorable (names p) → now ≤ last_moment → IsGet m headers p now plan → IsProperPlan plan
+proper_get : {m : DavMethod} {headers : Headers} {p : PathText} {now : ℕ} {plan : MethodPlan Reply} → IsStorable (names p) → now ≤ last_moment → IsGet m headers p now plan → IsProperPlan plan
 proper_get {m} {p = p} {now} storable small (is_get c are) = get_is_proper m c (names p) now storable small
 
-plan_proper : {allowed : ℕ} {headers : Headers} {p : PathText} {body : Body} {who : Client} {m : DavMethod} {plan : MethodPlan Response} → IsStorable (names p) → (m ≢ Options → p.bytes ≢ star) → who.moment ≤ last_moment → PlanOf allowed headers p body who m plan → IsProperPlan plan
+plan_proper : {allowed : ℕ} {headers : Headers} {p : PathText} {body : Body} {who : Caller} {m : DavMethod} {plan : MethodPlan Reply} → IsStorable (names p) → (m ≢ Options → p.bytes ≢ star) → who.moment ≤ last_moment → PlanOf allowed headers p body who m plan → IsProperPlan plan
 plan_proper storable below small (gets is) = proper_get storable small is
 plan_proper storable below small (heads is) = proper_get storable small is
 plan_proper {headers} {p} {body} {who} {plan = plan} storable below small (puts is) = put_is_proper Put headers p body who plan storable small is
@@ -97,13 +97,13 @@ plan_proper {headers} {p} {body} {who} {plan = plan} storable below small (sets_
 plan_proper {headers} {p} {body} {who} {plan = plan} storable below small (locks is) = lock_is_proper headers p body who plan storable (below (λ e. cc)) small is
 plan_proper {headers} {p} {who = who} {plan = plan} storable below small (releases is) = unlock_is_proper headers p who plan is
 
-of_proper : {s : Settings} {x : Asked} {r : Request} {m : DavMethod} {plan : MethodPlan Response} → x.moment ≤ last_moment → MeansOf s x r m plan → IsProperPlan plan
+of_proper : {s : Settings} {x : Exchange} {r : Request} {m : DavMethod} {plan : MethodPlan Reply} → x.moment ≤ last_moment → MeansOf s x r m plan → IsProperPlan plan
 of_proper small (not_allowed out) = proper_done
 of_proper small (no_path e has none) = proper_done
 of_proper small (no_body p e has named bad) = proper_done
 of_proper small (method p body has named good is) = plan_proper (target_storable named) (target_is_path named) small is
 
-pub means_proper : {s : Settings} {x : Asked} {plan : MethodPlan Response} → x.moment ≤ last_moment → Means s x plan → IsProperPlan plan
+pub means_proper : {s : Settings} {x : Exchange} {plan : MethodPlan Reply} → x.moment ≤ last_moment → Means s x plan → IsProperPlan plan
 means_proper small (no_head out) = proper_done
 means_proper small (no_method r e is gives) = proper_done
 means_proper small (known r m is gives means) = of_proper small means
@@ -118,17 +118,17 @@ pub begun_short : (refusals : Option (List (Option FsError))) (old : StoreState)
 begun_short None old = refl
 begun_short (Some list) old = refl
 
-pub step_keeps : {s : Settings} {x : Asked} {old new : StoreState} {ls ms : Locks} {reply : Response} → x.moment ≤ last_moment → IsWorld old.world → Steps s x old ls reply new ms → Kept old.world new.world
+pub step_keeps : {s : Settings} {x : Exchange} {old new : StoreState} {ls ms : Locks} {reply : Reply} → x.moment ≤ last_moment → IsWorld old.world → Steps s x old ls reply new ms → Kept old.world new.world
 step_keeps small world (steps plan outcome means ran) = proper_keeps (means_proper small means) world ran
 
 -- a turn keeps worlds, their numbers, and what is remembered of these
-pub turn_keeps : {s : Settings} (t : Turn) (old : StoreState) {new : StoreState} {ls ms : Locks} {reply : Response} → t.asked.moment ≤ last_moment → IsWorld old.world → Steps s t.asked (begun t.refusals old) ls reply new ms → Kept old.world new.world
+pub turn_keeps : {s : Settings} (t : Turn) (old : StoreState) {new : StoreState} {ls ms : Locks} {reply : Reply} → t.asked.moment ≤ last_moment → IsWorld old.world → Steps s t.asked (begun t.refusals old) ls reply new ms → Kept old.world new.world
 turn_keeps t old {new} small world step =
     let same = begun_world t.refusals old in
     subst (λ w. Kept w new.world) same (step_keeps small (subst IsWorld (sym same) world) step)
 
 -- and so does a run
-pub run_keeps : {s : Settings} {ts : List Turn} {old new : StoreState} {ls ms : Locks} {replies : List Response} → IsWorld old.world → AreShowable ts → Runs s ts old ls replies new ms → Kept old.world new.world
+pub run_keeps : {s : Settings} {ts : List Turn} {old new : StoreState} {ls ms : Locks} {replies : List Reply} → IsWorld old.world → MomentsAreDates ts → Runs s ts old ls replies new ms → Kept old.world new.world
 run_keeps world small (no_more {old}) = kept_same old.world old.world world refl
 run_keeps world small (one_more {t} {ts} {old} {mid} {new} step rest) =
     let first = turn_keeps t old (All-head (λ t. t.asked.moment ≤ last_moment) t ts small) world step in
@@ -144,11 +144,11 @@ pub one_method : (text : List ℕ) (m n : DavMethod) → GivesServed text (Ok m)
 one_method text m n one two = named_once text m n (ap (map to_ascii_lowercase) one.1) (ap (map to_ascii_lowercase) two.1)
 
 -- a request has one method
-pub asks_one : (x : Asked) {r : Request} (m : DavMethod) {n : DavMethod} → HasMethod m x → IsHead x.head r → GivesServed r.method (Ok n) → n ≡ m
+pub asks_one : (x : Exchange) {r : Request} (m : DavMethod) {n : DavMethod} → HasMethod m x → IsHead x.head r → GivesServed r.method (Ok n) → n ≡ m
 asks_one x {r} m {n} (q, head, gives) also too =
     one_method r.method n m too (subst (λ (h : Request). GivesServed h.method (Ok m)) (one_head x.head q r head also) gives)
 
-plan_reads : {allowed : ℕ} {headers : Headers} {p : PathText} {body : Body} {who : Client} {m : DavMethod} {plan : MethodPlan Response} → is_safe m ≡ true → PlanOf allowed headers p body who m plan → IsReading plan
+plan_reads : {allowed : ℕ} {headers : Headers} {p : PathText} {body : Body} {who : Caller} {m : DavMethod} {plan : MethodPlan Reply} → is_safe m ≡ true → PlanOf allowed headers p body who m plan → IsReading plan
 plan_reads {p = p} {who = who} is (gets (is_get c are)) = get_is_reading Get c (names p) who.moment
 plan_reads {p = p} {who = who} is (heads (is_get c are)) = get_is_reading Head c (names p) who.moment
 plan_reads is (puts out) = absurd (true≢false (sym is))
@@ -163,13 +163,13 @@ plan_reads is (sets_properties out) = absurd (true≢false (sym is))
 plan_reads is (locks out) = absurd (true≢false (sym is))
 plan_reads is (releases out) = absurd (true≢false (sym is))
 
-of_reads : {s : Settings} {x : Asked} {r : Request} {m : DavMethod} {plan : MethodPlan Response} → is_safe m ≡ true → MeansOf s x r m plan → IsReading plan
+of_reads : {s : Settings} {x : Exchange} {r : Request} {m : DavMethod} {plan : MethodPlan Reply} → is_safe m ≡ true → MeansOf s x r m plan → IsReading plan
 of_reads is (not_allowed out) = reads_done
 of_reads is (no_path e has none) = reads_done
 of_reads is (no_body p e has named bad) = reads_done
 of_reads is (method p body has named good plan) = plan_reads is plan
 
-pub means_reads : {s : Settings} (x : Asked) (m : DavMethod) {plan : MethodPlan Response} → HasMethod m x → is_safe m ≡ true → Means s x plan → IsReading plan
+pub means_reads : {s : Settings} (x : Exchange) (m : DavMethod) {plan : MethodPlan Reply} → HasMethod m x → is_safe m ≡ true → Means s x plan → IsReading plan
 means_reads x m asks is (no_head out) = reads_done
 means_reads x m asks is (no_method r e head gives) = reads_done
 means_reads x m asks is (known r n head gives means) = of_reads (ap is_safe (asks_one x m asks head gives) ∙ is) means

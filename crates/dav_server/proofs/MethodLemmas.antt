@@ -8,11 +8,11 @@ use Rattle.dav_core.specs.declared.method.DavMethod.{DavMethod}
 use Rattle.dav_core.specs.declared.method.DavMethod.TheVariants.{Head, Get, Put, Patch, Options, PropFind, PropPatch, MkCol, Copy, Move, Delete, Lock, Unlock, Report, MkCalendar, MkAddressbook}
 use Rattle.dav_core.specs.Path.{PathText}
 use Rattle.dav_engine.specs.declared.request.Body.{Body}
-use Rattle.dav_engine.specs.Client.{Client}
+use Rattle.dav_engine.specs.Caller.{Caller}
 use Rattle.dav_engine.specs.Headers.{Headers}
 use Rattle.dav_engine.specs.Method.{MethodPlan}
 use Rattle.dav_engine.specs.Options.{options}
-use Rattle.dav_engine.specs.Response.{Response}
+use Rattle.dav_engine.specs.Reply.{Reply}
 use Rattle.dav_server.specs.Machine.{PlanOf, offers}
 
 -- a method that is served is one of these
@@ -88,5 +88,5 @@ one_more P i d few before here m within =
     ]
 
 -- the plan of an OPTIONS
-pub offered_plan : {allowed : ℕ} {headers : Headers} {p : PathText} {body : Body} {who : Client} {plan : MethodPlan Response} → plan ≡ options allowed p → PlanOf allowed headers p body who Options plan
+pub offered_plan : {allowed : ℕ} {headers : Headers} {p : PathText} {body : Body} {who : Caller} {plan : MethodPlan Reply} → plan ≡ options allowed p → PlanOf allowed headers p body who Options plan
 offered_plan {allowed} {headers} {p} {body} {who} same = subst (λ plan. PlanOf allowed headers p body who Options plan) (sym same) offers

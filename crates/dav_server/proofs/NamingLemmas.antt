@@ -13,7 +13,7 @@ use Rattle.dav_headers.proofs.Theorems.{drop_turn, says_one}
 use Rattle.dav_engine.specs.Headers.{Headers}
 use Rattle.dav_server.specs.Head.{Request, IsHead}
 use Rattle.dav_server.specs.Headers.{headers_of}
-use Rattle.dav_server.specs.Machine.{Asked}
+use Rattle.dav_server.specs.Machine.{Exchange}
 use Rattle.dav_engine.specs.LockToken.{SaysLockToken}
 use Rattle.dav_engine.proofs.Theorems.{one_lock_token}
 use Rattle.dav_server.specs.Naming.{SaysIfToken, NamesToken, by_if, by_lock_token}
@@ -69,7 +69,7 @@ module _ (headers : Headers) (token : List ℕ) where
 
 -- ---- what the request names
 
-module _ (x : Asked) (token : List ℕ) where
+module _ (x : Exchange) (token : List ℕ) where
   none_named : ((r : Request) → ¬ IsHead x.head r) → NamesToken x token → IsTrue false
   none_named none (by_if r is said) = absurd (none r is)
   none_named none (by_lock_token r is said) = absurd (none r is)

@@ -14,15 +14,15 @@ use Rattle.dav_engine.specs.Lock.{empty_opening, is_lock, lock as lock_plan}
 use Rattle.dav_engine.specs.LockHeaders.{AreLockHeaders}
 use Rattle.dav_engine.specs.Method.{MethodPlan}
 use Rattle.dav_engine.specs.Plan.{Locks, Ran, ran_done, ran_ask, ran_look, ran_keep}
-use Rattle.dav_engine.specs.Response.{Response, error_reply}
+use Rattle.dav_engine.specs.Reply.{Reply, error_reply}
 use Rattle.dav_server.specs.EachRequest.{RunStep}
 use Rattle.dav_server.specs.Head.{IsHead, request_of_head}
 use Rattle.dav_server.specs.Headers.{headers_of}
 use Rattle.dav_server.specs.Isolation.{TokensDiffer}
-use Rattle.dav_server.specs.Machine.{Asked, client, Means, known, method, locks, steps}
+use Rattle.dav_server.specs.Machine.{Exchange, caller, Means, known, method, locks, steps}
 use Rattle.dav_server.specs.Naming.{NamesToken}
 use Rattle.dav_server.specs.Run.{Turn, no_more}
-use Rattle.dav_server.specs.Server.{Server}
+use Rattle.dav_server.specs.DavHandler.{DavHandler}
 use Rattle.dav_server.proofs.NeededForHeadline.{state}
 use Rattle.dav_server.proofs.NeededPremises.{shallow, shallow_alone, refusing, two_refusals, asks_first}
 use Rattle.dav_server.proofs.WorkedGrant.{info, lock_headers, no_depth, no_timeout, Others}
@@ -30,7 +30,7 @@ use Rattle.dav_server.proofs.WorkedRun.{token, below, slash_below, at_below, loc
 
 -- ---- LOCK /a/b with a body, of infinite depth, by a client that isn't known, and with a token
 
-abbrev pub taker : Asked
+abbrev pub taker : Exchange
 taker = record { head = print_request (head_of (codes "LOCK") slash_below []); body = body.Tree info; principal = None; moment = 1; token = Some token }
 
 short : length taker.head ≤ 65536
@@ -41,8 +41,8 @@ pub taker_head : IsHead taker.head (request_of_head (head_of (codes "LOCK") slas
 unfolding is_token_byte
 taker_head = (short, head_of (codes "LOCK") slash_below [], (head_with_method (codes "LOCK") slash_below [] (omega arith) refl (omega arith) refl text_below (All-nil IsField), sym (append-nil _)), omega arith, refl)
 
-abbrev pub taker_plan : MethodPlan Response
-taker_plan = lock_plan lock_headers at_below (body.Tree info) (client taker)
+abbrev pub taker_plan : MethodPlan Reply
+taker_plan = lock_plan lock_headers at_below (body.Tree info) (caller taker)
 
 taker_says : AreLockHeaders (headers_of []) at_below lock_headers
 taker_says = record { conditions = stranger_says below; depth = no_depth; timeout = no_timeout }
@@ -53,7 +53,7 @@ taker_means = known (request_of_head (head_of (codes "LOCK") slash_below [])) Lo
 -- ---- the run
 
 -- a server whose store has the folder /a, and with a lock of Depth 0 on the root
-abbrev pub begins_locked : Server
+abbrev pub begins_locked : DavHandler
 begins_locked = record { settings = settings; state = state (holding after) shallow_alone }
 
 -- the LOCK, with the token of that lock, where the store refuses to make a file
@@ -76,7 +76,7 @@ takes_back =
     ran_look (ran_ask {c = Metadata below} {answer = Err NotFound} (asked asks_first)
     (ran_look (ran_look (ran_keep (ran_ask {c = Open below (empty_opening no_conditions) 1} {answer = Err Forbidden} (asked opens_nothing) (ran_look (ran_keep ran_done)))))))
 
-abbrev pub taken_reply : Response
+abbrev pub taken_reply : Reply
 taken_reply = error_reply (dav.FsError Forbidden)
 
 abbrev pub takes_step : RunStep begins_locked (taking ∷ []) (taken_reply ∷ [])

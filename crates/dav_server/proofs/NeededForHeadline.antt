@@ -12,18 +12,18 @@ use Rattle.dav_engine.specs.Guard.{folder_of, Guarded, Stands, guards_here, no_o
 use Rattle.dav_engine.specs.Inside.{content_of, inside}
 use Rattle.dav_engine.specs.Mkcol.{made}
 use Rattle.dav_engine.specs.Plan.{Locks, ServerState, Ran, ran_done, ran_ask, ran_look, ran_keep}
-use Rattle.dav_engine.specs.Response.{Response}
+use Rattle.dav_engine.specs.Reply.{Reply}
 use Rattle.dav_engine.specs.Sparing.{Spared}
 use Rattle.dav_engine.specs.Unlock.{unlocked_reply}
 use Rattle.dav_engine.proofs.Theorems.{ran_plain}
 use Rattle.dav_server.specs.EachRequest.{RunStep}
 use Rattle.dav_server.specs.Headline.{empty_server, GrantsFolder, Headline}
-use Rattle.dav_server.specs.Isolation.{AreLoaded, RunsUnder, under_none, under_more, Alone, alone_none, alone_other, alone_own, AreAlone}
+use Rattle.dav_server.specs.Isolation.{AreLoaded, RunsUnder, under_none, under_more, HolderTurns, alone_none, alone_other, alone_own, MatchesSoloRun}
 use Rattle.dav_server.specs.Machine.{Settings, Steps, steps}
 use Rattle.dav_server.specs.Naming.{NamesLock, NamesToken}
 use Rattle.dav_server.specs.Run.{Turn, Runs, no_more, one_more}
-use Rattle.dav_server.specs.Server.{Server, AnswersAll}
-use Rattle.dav_server.specs.TagLaws.{AreShowable}
+use Rattle.dav_server.specs.DavHandler.{DavHandler, AnswersAll}
+use Rattle.dav_server.specs.TagLaws.{MomentsAreDates}
 use Rattle.dav_server.proofs.MeansLemmas.{runs_are_determined}
 use Rattle.dav_server.proofs.NeededTokens as tokens
 use Rattle.dav_server.proofs.NeededTokens.{second, unlocker, unlock_plan, unlock_means, unlock_names, ended, ends_guard, twice, own, tokens_are_needed}
@@ -31,7 +31,7 @@ use Rattle.dav_server.proofs.WorkedGrant.{locker, locking, locker_means, granted
 use Rattle.dav_server.proofs.WorkedRun.{a, at_a, lock, stranger, holder, turn_with, settings, no_conditions, own_conditions, plan_with, stranger_means, holder_means, holder_ran, other_names, own_names, some_number, before, after, holding, one_lock, missing, makes_a, Showable, Loaded}
 
 -- a run while a lock stands is a run
-under_plain : {s : Settings} {h : Lock} {ts : List Turn} {old new : StoreState} {ls ms : Locks} {replies : List Response} → RunsUnder AsksWithNumbers s h ts old ls replies new ms → Runs s ts old ls replies new ms
+under_plain : {s : Settings} {h : Lock} {ts : List Turn} {old new : StoreState} {ls ms : Locks} {replies : List Reply} → RunsUnder AsksWithNumbers s h ts old ls replies new ms → Runs s ts old ls replies new ms
 under_plain under_none = no_more
 under_plain (under_more stands holds (steps plan outcome means ran) more) = one_more (steps plan outcome means (ran_plain ran)) (under_plain more)
 
@@ -40,19 +40,19 @@ under_plain (under_more stands holds (steps plan outcome means ran) more) = one_
 abbrev pub begun_with : List Turn → List Turn
 begun_with later = turn_with stranger ∷ turn_with locker ∷ later
 
-abbrev pub answered_with : List Response → List Response
+abbrev pub answered_with : List Reply → List Reply
 answered_with given = made at_a ∷ lock_reply ∷ given
 
 pub made_first : Runs settings (turn_with stranger ∷ []) (holding before) none (made at_a ∷ []) (holding after) none
 made_first = one_more (steps (plan_with no_conditions) (Ok (made at_a)) stranger_means makes_first) no_more
 
-after_the_grant : {later : List Turn} {given : List Response} {new : StoreState} {ms : Locks} → Runs settings later (holding after) one given new ms → Runs settings (begun_with later) (holding before) none (answered_with given) new ms
+after_the_grant : {later : List Turn} {given : List Reply} {new : StoreState} {ms : Locks} → Runs settings later (holding after) one given new ms → Runs settings (begun_with later) (holding before) none (answered_with given) new ms
 after_the_grant ran = one_more (steps (plan_with no_conditions) (Ok (made at_a)) stranger_means makes_first) (one_more (steps locking (Ok lock_reply) locker_means grants) ran)
 
 abbrev pub state : StoreState → Locks → ServerState
 state store locks = record { store = store; locks = locks }
 
-abbrev pub the_grant : (later : List Turn) (given : List Response) → RunStep (empty_server settings) (begun_with later) (answered_with given)
+abbrev pub the_grant : (later : List Turn) (given : List Reply) → RunStep (empty_server settings) (begun_with later) (answered_with given)
 the_grant later given = record {
   front = turn_with stranger ∷ [];
   turn = turn_with locker;
@@ -81,10 +81,10 @@ granted = record {
 
 -- ---- one token is handed in twice
 
-abbrev left : Server
+abbrev left : DavHandler
 left = record { settings = settings; state = state (holding after) (Some []) }
 
-twice_showable : AreShowable twice
+twice_showable : MomentsAreDates twice
 twice_showable =
     All-cons Showable (turn_with second) own (omega arith) (All-cons Showable (turn_with unlocker) (turn_with unlocker ∷ []) (omega arith)
     (All-cons Showable (turn_with unlocker) [] (omega arith) (All-nil Showable)))
@@ -94,7 +94,7 @@ twice_loaded = All-cons Loaded (turn_with second) own refl (All-cons Loaded (tur
 
 -- Where another client hands in the token of the granted lock, the headline isn't true of the run: all its other premises hold.
 pub different_tokens_are_needed :
-    AreShowable (begun_with twice) × AreLoaded (begun_with twice) × AnswersAll (empty_server settings) (begun_with twice) (answered_with tokens.replies) left
+    MomentsAreDates (begun_with twice) × AreLoaded (begun_with twice) × AnswersAll (empty_server settings) (begun_with twice) (answered_with tokens.replies) left
     × ¬ Headline settings (begun_with twice) (answered_with tokens.replies) left
 different_tokens_are_needed = (
   All-cons Showable (turn_with stranger) (turn_with locker ∷ twice) (omega arith) (All-cons Showable (turn_with locker) twice (omega arith) twice_showable),
@@ -130,7 +130,7 @@ unnamed_token_is_needed = (unlocked_at, listed_here refl, unlock_names.token, go
 
 -- ---- the lock doesn't stand
 
-abbrev ended_early : Response
+abbrev ended_early : Reply
 ended_early = unlocked_reply (location_found None at_a)
 
 ends_lock : Ran AsksWithNumbers unlock_plan (holding before) one_lock (Ok ended_early) (holding before) (Some [])
@@ -148,8 +148,8 @@ alone_early = one_more (steps unlock_plan (Ok ended_early) unlock_means (ran_pla
 -- Where the lock was ended before another client's request, the folder changes, and wouldn't alone.
 pub standing_is_needed :
     Runs settings early (holding before) one_lock (ended_early ∷ made at_a ∷ []) (holding after) (Some [])
-    × Guarded lock one_lock × Alone lock early (turn_with unlocker ∷ [])
-    × ¬ AreAlone settings lock early (turn_with unlocker ∷ []) (holding before) one_lock (ended_early ∷ made at_a ∷ []) (holding after)
+    × Guarded lock one_lock × HolderTurns lock early (turn_with unlocker ∷ [])
+    × ¬ MatchesSoloRun settings lock early (turn_with unlocker ∷ []) (holding before) one_lock (ended_early ∷ made at_a ∷ []) (holding after)
 standing_is_needed = (
   one_more (steps unlock_plan (Ok ended_early) unlock_means (ran_plain ends_lock)) made_first,
   guards_here refl no_others,

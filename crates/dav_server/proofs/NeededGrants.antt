@@ -18,14 +18,14 @@ use Rattle.dav_engine.specs.LockHeaders.{AreLockHeaders}
 use Rattle.dav_engine.specs.Method.{MethodPlan}
 use Rattle.dav_engine.specs.Mkcol.{create_error, made}
 use Rattle.dav_engine.specs.Plan.{Locks, Ran, ran_done, ran_ask, ran_look, ran_keep}
-use Rattle.dav_engine.specs.Response.{Response, reply_to}
+use Rattle.dav_engine.specs.Reply.{Reply, reply_to}
 use Rattle.dav_server.specs.EachRequest.{RunStep}
 use Rattle.dav_server.specs.Head.{IsHead, request_of_head}
 use Rattle.dav_server.specs.Headers.{headers_of}
 use Rattle.dav_server.specs.Headline.{empty_server, GrantsFolder}
 use Rattle.dav_server.specs.Holder.{IsHolderRequest, acts}
-use Rattle.dav_server.specs.Isolation.{RunsUnder, under_none, under_more, Alone, alone_none, alone_other, alone_own, AnswerAlike, alike_other, alike_own, AreAlone, Grants}
-use Rattle.dav_server.specs.Machine.{Asked, client, Means, known, method, locks, steps}
+use Rattle.dav_server.specs.Isolation.{RunsUnder, under_none, under_more, HolderTurns, alone_none, alone_other, alone_own, AnswerAlike, alike_other, alike_own, MatchesSoloRun, Grants}
+use Rattle.dav_server.specs.Machine.{Exchange, caller, Means, known, method, locks, steps}
 use Rattle.dav_server.specs.Naming.{NamesLock}
 use Rattle.dav_server.specs.Run.{Turn, RunsBy, no_more, one_more}
 use Rattle.dav_server.proofs.NeededForHeadline.{begun_with, answered_with, made_first, state, the_grant, granted}
@@ -47,7 +47,7 @@ finds_root = record { as_asked = refl; refusals = refl; short = refl }
 abbrev zero_turns : List Turn
 zero_turns = turn_with stranger ∷ turn_with second ∷ other_turn
 
-abbrev zero_replies : List Response
+abbrev zero_replies : List Reply
 zero_replies = made at_a ∷ second_reply ∷ made at_below ∷ []
 
 grants_zero : Ran Asks second_plan (holding after) none (Ok second_reply) (holding after) shallow_alone
@@ -74,12 +74,12 @@ pub deep_lock_is_needed :
     (g : RunStep (empty_server settings) zero_turns zero_replies) × (shallow.shared ≡ false)
     × Grants g.turn shallow [] (shallow ∷ []) × (is_folder g.now.store.world (folder_of shallow) ≡ true)
     × RunsUnder AsksWithNumbers settings shallow other_turn g.now.store g.now.locks (made at_below ∷ []) (holding filled) shallow_alone
-    × Alone shallow other_turn [] × ¬ AreAlone settings shallow other_turn [] g.now.store g.now.locks (made at_below ∷ []) (holding filled)
+    × HolderTurns shallow other_turn [] × ¬ MatchesSoloRun settings shallow other_turn [] g.now.store g.now.locks (made at_below ∷ []) (holding filled)
 deep_lock_is_needed = (zero_grant, refl, record { token_is = refl; listed = refl }, refl, depth_is_needed.0, depth_is_needed.2, depth_is_needed.3)
 
 -- ---- LOCK / of infinite depth
 
-abbrev pub root_locker : Asked
+abbrev pub root_locker : Exchange
 root_locker = record { head = print_request (head_of (codes "LOCK") slash []); body = body.Tree info; principal = None; moment = 1; token = Some token }
 
 root_short : length root_locker.head ≤ 65536
@@ -93,8 +93,8 @@ root_head = (root_short, head_of (codes "LOCK") slash [], (head_with_method (cod
 pub says_root : AreLockHeaders (headers_of []) at_root lock_headers
 says_root = record { conditions = stranger_says []; depth = no_depth; timeout = no_timeout }
 
-abbrev root_plan : MethodPlan Response
-root_plan = lock_plan lock_headers at_root (body.Tree info) (client root_locker)
+abbrev root_plan : MethodPlan Reply
+root_plan = lock_plan lock_headers at_root (body.Tree info) (caller root_locker)
 
 root_means : Means settings root_locker root_plan
 root_means = known (request_of_head (head_of (codes "LOCK") slash [])) LockMethod root_head (tt, refl) (method at_root (body.Tree info) refl target_root refl (locks (is_lock lock_headers says_root)))
@@ -105,7 +105,7 @@ deep_root = record root_lock { deep = true }
 abbrev root_alone : Locks
 root_alone = Some (deep_root ∷ [])
 
-abbrev root_reply : Response
+abbrev root_reply : Reply
 root_reply = granted_reply true (location_found (Some new_root) at_root) deep_root
 
 grants_root : Ran Asks root_plan (holding before) none (Ok root_reply) (holding before) root_alone
@@ -174,7 +174,7 @@ room_unlike (alike_own named same more) = apart no_room (made at_a) (λ e. omega
 pub memory_in_the_headline_is_needed :
     (g : RunStep (empty_server settings) (turn_with root_locker ∷ made_turn) (root_reply ∷ no_room ∷ [])) × GrantsFolder g.turn g.was g.now deep_root
     × RunsUnder AsksWithNumbers settings deep_root made_turn g.now.store g.now.locks (no_room ∷ []) (shorted before) root_alone
-    × Alone deep_root made_turn made_turn × ¬ AreAlone settings deep_root made_turn made_turn g.now.store g.now.locks (no_room ∷ []) (shorted before)
+    × HolderTurns deep_root made_turn made_turn × ¬ MatchesSoloRun settings deep_root made_turn made_turn g.now.store g.now.locks (no_room ∷ []) (shorted before)
 memory_in_the_headline_is_needed = (
   root_grant,
   root_granted,
@@ -233,7 +233,7 @@ named_makes =
 abbrev elsewhere : List Turn
 elsewhere = turn_with other_b ∷ turn_with named_b ∷ []
 
-abbrev elsewhere_replies : List Response
+abbrev elsewhere_replies : List Reply
 elsewhere_replies = made at_b ∷ reply_to (Err (create_error Exists)) ∷ []
 
 names_b : NamesLock granted_lock named_b
@@ -255,8 +255,8 @@ elsewhere_unlike (alike_own named same more) = unnamed_b named
 pub holders_in_the_headline_are_needed :
     (g : RunStep (empty_server settings) (begun_with elsewhere) (answered_with elsewhere_replies)) × GrantsFolder g.turn g.was g.now granted_lock
     × RunsBy AsksWithNumbers settings elsewhere g.now.store g.now.locks elsewhere_replies (holding with_both) one × Stands granted_lock one
-    × Alone granted_lock elsewhere (turn_with named_b ∷ [])
-    × ¬ AreAlone settings granted_lock elsewhere (turn_with named_b ∷ []) g.now.store g.now.locks elsewhere_replies (holding with_both)
+    × HolderTurns granted_lock elsewhere (turn_with named_b ∷ [])
+    × ¬ MatchesSoloRun settings granted_lock elsewhere (turn_with named_b ∷ []) g.now.store g.now.locks elsewhere_replies (holding with_both)
 holders_in_the_headline_are_needed = (
   the_grant elsewhere elsewhere_replies,
   granted,

@@ -24,18 +24,18 @@ use Rattle.dav_engine.specs.LockToken.{SaysLockToken, IsAngle}
 use Rattle.dav_engine.specs.Method.{MethodPlan}
 use Rattle.dav_engine.specs.Mkcol.{made}
 use Rattle.dav_engine.specs.Plan.{Locks, Ran, ran_done, ran_ask, ran_look, ran_keep}
-use Rattle.dav_engine.specs.Response.{Response, error_reply}
+use Rattle.dav_engine.specs.Reply.{Reply, error_reply}
 use Rattle.dav_engine.specs.Unlock.{unlock, unlocked_reply, is_unlock}
 use Rattle.dav_engine.proofs.Theorems.{last_is}
 use Rattle.dav_server.specs.EachRequest.{RunStep}
 use Rattle.dav_server.specs.Head.{Request, IsHead, request_of_head}
 use Rattle.dav_server.specs.Headers.{headers_of}
 use Rattle.dav_server.specs.Headline.{empty_server}
-use Rattle.dav_server.specs.Isolation.{AreLoaded, NoneHandsIn, RunsUnder, under_none, under_more, Alone, alone_none, alone_other, alone_own, AnswerAlike, alike_other, alike_own, AreAlone, TokensDiffer, Grants}
-use Rattle.dav_server.specs.Machine.{Asked, client, Means, known, method, locks, releases, steps}
+use Rattle.dav_server.specs.Isolation.{AreLoaded, TokenIsFresh, RunsUnder, under_none, under_more, HolderTurns, alone_none, alone_other, alone_own, AnswerAlike, alike_other, alike_own, MatchesSoloRun, TokensDiffer, Grants}
+use Rattle.dav_server.specs.Machine.{Exchange, caller, Means, known, method, locks, releases, steps}
 use Rattle.dav_server.specs.Naming.{NamesLock}
 use Rattle.dav_server.specs.Run.{Turn, no_more, one_more}
-use Rattle.dav_server.specs.TagLaws.{AreShowable}
+use Rattle.dav_server.specs.TagLaws.{MomentsAreDates}
 use Rattle.dav_server.proofs.NeededForHeadline.{state}
 use Rattle.dav_server.proofs.NeededGrants.{new_root, finds_root, root_locker, root_head, says_root}
 use Rattle.dav_server.proofs.NeededPremises.{apart, refuted, nothing_runs}
@@ -57,17 +57,17 @@ abbrev pub other_principal : Option (List ℕ)
 other_principal = Some (98 ∷ [])
 
 -- LOCK / for a shared lock of infinite depth: by this client, and by one without a principal
-abbrev pub sharer : Asked
+abbrev pub sharer : Exchange
 sharer = record root_locker { body = body.Tree shared_info; principal = other_principal; token = Some other_token }
 
-abbrev pub joiner : Asked
+abbrev pub joiner : Exchange
 joiner = record root_locker { body = body.Tree shared_info }
 
-abbrev pub sharing : MethodPlan Response
-sharing = lock_plan lock_headers at_root (body.Tree shared_info) (client sharer)
+abbrev pub sharing : MethodPlan Reply
+sharing = lock_plan lock_headers at_root (body.Tree shared_info) (caller sharer)
 
-abbrev pub joining : MethodPlan Response
-joining = lock_plan lock_headers at_root (body.Tree shared_info) (client joiner)
+abbrev pub joining : MethodPlan Reply
+joining = lock_plan lock_headers at_root (body.Tree shared_info) (caller joiner)
 
 pub sharer_means : Means settings sharer sharing
 sharer_means = known (request_of_head (head_of (codes "LOCK") slash [])) LockMethod root_head (tt, refl) (method at_root (body.Tree shared_info) refl target_root refl (locks (is_lock lock_headers says_root)))
@@ -87,10 +87,10 @@ one_shared = Some (shared_lock ∷ [])
 abbrev pub both_shared : Locks
 both_shared = Some (shared_lock ∷ joined_lock ∷ [])
 
-abbrev pub sharing_reply : Response
+abbrev pub sharing_reply : Reply
 sharing_reply = granted_reply true (location_found (Some new_root) at_root) shared_lock
 
-abbrev pub joining_reply : Response
+abbrev pub joining_reply : Reply
 joining_reply = granted_reply true (location_found (Some new_root) at_root) joined_lock
 
 pub shares : Ran Asks sharing (holding before) none (Ok sharing_reply) (holding before) one_shared
@@ -108,7 +108,7 @@ makes_beside =
 abbrev pub beside : List Turn
 beside = turn_with joiner ∷ turn_with holder ∷ []
 
-abbrev pub beside_replies : List Response
+abbrev pub beside_replies : List Reply
 beside_replies = joining_reply ∷ made at_a ∷ []
 
 joiner_names : ¬ NamesLock shared_lock joiner
@@ -122,10 +122,10 @@ under_shared =
     under_more (listed_here refl) (λ named. absurd (joiner_names named)) (steps joining (Ok joining_reply) joiner_means joins)
     (under_more (listed_here refl) (λ named. absurd (holder_names named)) (steps (plan_with (own_conditions (a ∷ []))) (Ok (made at_a)) holder_means makes_beside) under_none)
 
-none_alone : Alone shared_lock beside []
+none_alone : HolderTurns shared_lock beside []
 none_alone = alone_other joiner_names (alone_other holder_names alone_none)
 
-not_alone : ¬ AreAlone settings shared_lock beside [] (holding before) one_shared beside_replies (holding after)
+not_alone : ¬ MatchesSoloRun settings shared_lock beside [] (holding before) one_shared beside_replies (holding after)
 not_alone alone = let e : inside after [] (a ∷ []) ≡ inside before [] (a ∷ []) = alone.inside (a ∷ []) ∙ ap (λ s. inside s.world [] (a ∷ [])) (nothing_runs alone.runs) in cc
 
 -- the two tokens begin with different bytes
@@ -139,10 +139,10 @@ none_above (x ∷ p) under = absurd (true≢false (sym under))
 abbrev NotShared : Turn → Type 0
 NotShared t = t.asked.token ≢ Some other_token
 
-beside_quiet : NoneHandsIn shared_lock beside
+beside_quiet : TokenIsFresh shared_lock beside
 beside_quiet = All-cons NotShared (turn_with joiner) (turn_with holder ∷ []) tokens_apart (All-cons NotShared (turn_with holder) [] (λ e. cc) (All-nil NotShared))
 
-beside_showable : AreShowable beside
+beside_showable : MomentsAreDates beside
 beside_showable = All-cons Showable (turn_with joiner) (turn_with holder ∷ []) (omega arith) (All-cons Showable (turn_with holder) [] (omega arith) (All-nil Showable))
 
 beside_loaded : AreLoaded beside
@@ -151,9 +151,9 @@ beside_loaded = All-cons Loaded (turn_with joiner) (turn_with holder ∷ []) ref
 -- A shared lock of infinite depth guards the root: another client joins it, and makes a folder there, and there is none alone.
 pub exclusive_guard_is_needed :
     (shared_lock.deep ≡ true) × Guarded shared_lock one_shared × HasFoldersAbove (folder_of shared_lock) before × IsWorld before
-    × AreShowable beside × AreLoaded beside × NoneHandsIn shared_lock beside
+    × MomentsAreDates beside × AreLoaded beside × TokenIsFresh shared_lock beside
     × RunsUnder AsksWithNumbers settings shared_lock beside (holding before) one_shared beside_replies (holding after) both_shared
-    × Alone shared_lock beside [] × ¬ AreAlone settings shared_lock beside [] (holding before) one_shared beside_replies (holding after)
+    × HolderTurns shared_lock beside [] × ¬ MatchesSoloRun settings shared_lock beside [] (holding before) one_shared beside_replies (holding after)
 exclusive_guard_is_needed = (refl, guards_here refl no_others, none_above, empty_is_world 1 (omega arith) (omega arith), beside_showable, beside_loaded, beside_quiet, under_shared, none_alone, not_alone)
 
 abbrev pub shared_grant : RunStep (empty_server settings) (turn_with sharer ∷ beside) (sharing_reply ∷ beside_replies)
@@ -191,7 +191,7 @@ pub exclusive_lock_in_the_headline_is_needed :
     (g : RunStep (empty_server settings) (turn_with sharer ∷ beside) (sharing_reply ∷ beside_replies)) × TokensDiffer (turn_with sharer ∷ beside)
     × (shared_lock.deep ≡ true) × Grants g.turn shared_lock [] (shared_lock ∷ []) × (is_folder g.now.store.world (folder_of shared_lock) ≡ true)
     × RunsUnder AsksWithNumbers settings shared_lock beside g.now.store g.now.locks beside_replies (holding after) both_shared
-    × Alone shared_lock beside [] × ¬ AreAlone settings shared_lock beside [] g.now.store g.now.locks beside_replies (holding after)
+    × HolderTurns shared_lock beside [] × ¬ MatchesSoloRun settings shared_lock beside [] g.now.store g.now.locks beside_replies (holding after)
 exclusive_lock_in_the_headline_is_needed = (shared_grant, shared_differ, refl, record { token_is = refl; listed = refl }, refl, under_shared, none_alone, not_alone)
 
 -- ---- another lock at the folder
@@ -203,7 +203,7 @@ abbrev pub other_field : Field
 other_field = record { name = codes "Lock-Token"; raw = other_angles; end = crlf }
 
 -- UNLOCK /a of the other client, with the token of its own lock
-abbrev pub leaver : Asked
+abbrev pub leaver : Exchange
 leaver = record { head = print_request (head_of (codes "UNLOCK") slash_a (other_field ∷ [])); body = body.None; principal = other_principal; moment = 1; token = None }
 
 is_other_field : IsField other_field
@@ -249,7 +249,7 @@ says = (
   },
 )
 
-abbrev pub leave_plan : MethodPlan Response
+abbrev pub leave_plan : MethodPlan Reply
 leave_plan = unlock (Some other_token) at_a
 
 pub leave_means : Means settings leaver leave_plan
@@ -262,7 +262,7 @@ other_lock = record lock { token = other_token; principal = other_principal; dee
 abbrev pub two_locks : Locks
 two_locks = Some (lock ∷ other_lock ∷ [])
 
-abbrev pub left_reply : Response
+abbrev pub left_reply : Reply
 left_reply = unlocked_reply (location_found (Some found_a) at_a)
 
 pub leaves : Ran AsksWithNumbers leave_plan (holding after) two_locks (Ok left_reply) (holding after) one_lock
@@ -276,7 +276,7 @@ refused_alone = ran_ask {c = Metadata below} {answer = Err NotFound} (asked miss
 abbrev pub leaving : List Turn
 leaving = turn_with leaver ∷ own_turn
 
-abbrev pub leaving_replies : List Response
+abbrev pub leaving_replies : List Reply
 leaving_replies = left_reply ∷ made at_below ∷ []
 
 leaver_names : ¬ NamesLock lock leaver
@@ -293,10 +293,10 @@ leaving_unlike (alike_own named same more) = leaver_names named
 abbrev NotOwn : Turn → Type 0
 NotOwn t = t.asked.token ≢ Some token
 
-leaving_quiet : NoneHandsIn lock leaving
+leaving_quiet : TokenIsFresh lock leaving
 leaving_quiet = All-cons NotOwn (turn_with leaver) own_turn (λ e. cc) (All-cons NotOwn (turn_with holder_below) [] (λ e. cc) (All-nil NotOwn))
 
-leaving_showable : AreShowable leaving
+leaving_showable : MomentsAreDates leaving
 leaving_showable = All-cons Showable (turn_with leaver) own_turn (omega arith) (All-cons Showable (turn_with holder_below) [] (omega arith) (All-nil Showable))
 
 leaving_loaded : AreLoaded leaving
@@ -306,9 +306,9 @@ leaving_loaded = All-cons Loaded (turn_with leaver) own_turn refl (All-cons Load
 -- has ended, and is answered 423 alone. The lock itself is exclusive and of infinite depth, and it stands all along.
 pub no_other_lock_is_needed :
     IsGuard lock × (other_lock.token ≢ lock.token) × HasFoldersAbove (folder_of lock) after × IsWorld after
-    × AreShowable leaving × AreLoaded leaving × NoneHandsIn lock leaving
+    × MomentsAreDates leaving × AreLoaded leaving × TokenIsFresh lock leaving
     × RunsUnder AsksWithNumbers settings lock leaving (holding after) two_locks leaving_replies (holding filled) one_lock
-    × Alone lock leaving own_turn × ¬ AreAlone settings lock leaving own_turn (holding after) two_locks leaving_replies (holding filled)
+    × HolderTurns lock leaving own_turn × ¬ MatchesSoloRun settings lock leaving own_turn (holding after) two_locks leaving_replies (holding filled)
 no_other_lock_is_needed = (
   record { exclusive = refl; deep = refl },
   λ same. tokens_apart (ap Some (sym same)),

@@ -9,19 +9,19 @@ use Rattle.dav_engine.specs.declared.request.Body.TheVariants as body
 use Rattle.dav_engine.specs.Method.{MethodPlan}
 use Rattle.dav_engine.specs.Mkcol.{made, mkcol, is_mkcol}
 use Rattle.dav_engine.specs.Plan.{Ran, ran_done, ran_ask, ran_look}
-use Rattle.dav_engine.specs.Response.{Response}
+use Rattle.dav_engine.specs.Reply.{Reply}
 use Rattle.dav_server.specs.Head.{request_of_head}
-use Rattle.dav_server.specs.Machine.{Asked, client, Means, known, method, makes, steps}
+use Rattle.dav_server.specs.Machine.{Exchange, caller, Means, known, method, makes, steps}
 use Rattle.dav_server.specs.Run.{Runs, no_more, one_more}
 use Rattle.dav_server.proofs.WorkedGrant.{none}
 use Rattle.dav_server.proofs.WorkedRun.{a, at_a, head_with, stranger, stranger_head, stranger_says, turn_with, settings, no_conditions, target_a, before, holding, missing}
 
 -- the first second of the year 10000, which no date of HTTP shows
-abbrev pub too_late : Asked
+abbrev pub too_late : Exchange
 too_late = record stranger { moment = 253402300800 }
 
-abbrev pub late_plan : MethodPlan Response
-late_plan = mkcol no_conditions at_a (client too_late)
+abbrev pub late_plan : MethodPlan Reply
+late_plan = mkcol no_conditions at_a (caller too_late)
 
 late_means : Means settings too_late late_plan
 late_means = known (request_of_head (head_with [])) MkCol stranger_head (tt, refl) (method at_a body.None refl target_a refl (makes (is_mkcol no_conditions (stranger_says (a ∷ [])))))

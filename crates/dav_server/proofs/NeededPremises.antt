@@ -23,25 +23,25 @@ use Rattle.dav_engine.specs.Inside.{inside}
 use Rattle.dav_engine.specs.Method.{MethodPlan}
 use Rattle.dav_engine.specs.Mkcol.{create_error, made, mkcol, is_mkcol}
 use Rattle.dav_engine.specs.Plan.{Locks, Ran, ran_done, ran_ask, ran_look}
-use Rattle.dav_engine.specs.Response.{Response, error_reply, reply_to}
+use Rattle.dav_engine.specs.Reply.{Reply, error_reply, reply_to}
 use Rattle.dav_engine.proofs.Theorems.{ran_plain}
 use Rattle.dav_server.specs.Head.{Request, IsHead, request_of_head}
 use Rattle.dav_server.specs.Target.{TargetNames}
-use Rattle.dav_server.specs.Isolation.{RunsUnder, under_none, under_more, Alone, alone_none, alone_other, alone_own, AnswerAlike, alike_other, alike_own, AreAlone}
-use Rattle.dav_server.specs.Machine.{Asked, client, Means, known, method, makes, steps}
+use Rattle.dav_server.specs.Isolation.{RunsUnder, under_none, under_more, HolderTurns, alone_none, alone_other, alone_own, AnswerAlike, alike_other, alike_own, MatchesSoloRun}
+use Rattle.dav_server.specs.Machine.{Exchange, caller, Means, known, method, makes, steps}
 use Rattle.dav_server.specs.Naming.{NamesLock, by_if}
 use Rattle.dav_server.specs.Run.{Turn, RunsBy, Runs, no_more, one_more}
 use Rattle.dav_server.proofs.MeansLemmas.{runs_are_determined}
 use Rattle.dav_server.proofs.WorkedRun.{a, b, below, at_below, token, lock, stranger, stranger_below, holder_below, turn_with, settings, plan_below, no_conditions, own_conditions, below_means, holder_below_means, before, after, filled, holding, one_lock, missing_below, makes_below, number_below, listed, below_ran, below_unnamed, other_below_names, own_below_names, is_holder, own_turn, head_to, request_to, request_head, one_field, if_field, letter_target, own_fields, own_if, holder_fields, stranger_says, holder_says, unnamed_by}
 
 -- the holder's turns have one run with memory enough, and it answers otherwise
-pub refuted : {h : Lock} {ts us : List Turn} {old new end : StoreState} {ls locks : Locks} {replies others : List Response}
-    → Runs settings us old ls others end locks → end.short ≡ false → ¬ AnswerAlike h ts replies others → ¬ AreAlone settings h ts us old ls replies new
+pub refuted : {h : Lock} {ts us : List Turn} {old new end : StoreState} {ls locks : Locks} {replies others : List Reply}
+    → Runs settings us old ls others end locks → end.short ≡ false → ¬ AnswerAlike h ts replies others → ¬ MatchesSoloRun settings h ts us old ls replies new
 refuted {h} {ts} {us} {old} {new} {end} {ls} {locks} {replies} {others} ran ample unlike alone =
     let same = runs_are_determined settings us old alone.end end ls alone.locks locks alone.alone others alone.runs alone.ample ran ample in
     unlike (subst (AnswerAlike h ts replies) same.0 alone.answers)
 
-pub apart : (x y : Response) → x.status ≢ y.status → ¬ SameAnswers x y
+pub apart : (x y : Reply) → x.status ≢ y.status → ¬ SameAnswers x y
 apart x y other same = other (ap (λ (p : AnswerParts). p.status) same)
 
 -- ---- the store runs out of memory
@@ -49,7 +49,7 @@ apart x y other same = other (ap (λ (p : AnswerParts). p.status) same)
 abbrev pub shorted : World → StoreState
 shorted w = record { world = w; refusals = []; short = true }
 
-abbrev pub no_room : Response
+abbrev pub no_room : Reply
 no_room = reply_to (Err (create_error InsufficientStorage))
 
 runs_short : RanShort (CreateDir below 1) (holding after) (Err InsufficientStorage) (shorted after)
@@ -72,7 +72,7 @@ short_unlike (alike_own named same more) = apart no_room (made at_below) (λ e. 
 -- Where the store runs out of memory in the holder's request, the answer is another than alone.
 pub memory_is_needed :
     RunsUnder AsksWithNumbers settings lock own_turn (holding after) one_lock (no_room ∷ []) (shorted after) one_lock
-    × Alone lock own_turn own_turn × ¬ AreAlone settings lock own_turn own_turn (holding after) one_lock (no_room ∷ []) (shorted after)
+    × HolderTurns lock own_turn own_turn × ¬ MatchesSoloRun settings lock own_turn own_turn (holding after) one_lock (no_room ∷ []) (shorted after)
 memory_is_needed = (
   under_more listed (λ named. is_holder) (steps (plan_below (own_conditions below)) (Err (create_error InsufficientStorage)) holder_below_means short_ran) under_none,
   alone_own own_below_names alone_none,
@@ -99,13 +99,13 @@ other_turn = turn_with stranger_below ∷ []
 not_shallow : ¬ NamesLock shallow stranger_below
 not_shallow named = below_unnamed named.token
 
-pub nothing_runs : {old new : StoreState} {ls ms : Locks} {replies : List Response} → Runs settings [] old ls replies new ms → new ≡ old
+pub nothing_runs : {old new : StoreState} {ls ms : Locks} {replies : List Reply} → Runs settings [] old ls replies new ms → new ≡ old
 nothing_runs no_more = refl
 
 -- With a lock of Depth 0 the folder changes below it, and wouldn't alone.
 pub depth_is_needed :
     RunsUnder AsksWithNumbers settings shallow other_turn (holding after) shallow_alone (made at_below ∷ []) (holding filled) shallow_alone
-    × Guarded shallow shallow_alone × Alone shallow other_turn [] × ¬ AreAlone settings shallow other_turn [] (holding after) shallow_alone (made at_below ∷ []) (holding filled)
+    × Guarded shallow shallow_alone × HolderTurns shallow other_turn [] × ¬ MatchesSoloRun settings shallow other_turn [] (holding after) shallow_alone (made at_below ∷ []) (holding filled)
 depth_is_needed = (
   under_more (listed_here refl) (λ named. absurd (not_shallow named)) (steps (plan_below no_conditions) (Ok (made at_below)) below_means other_passes) under_none,
   guards_here refl no_others,
@@ -118,7 +118,7 @@ depth_is_needed = (
 abbrev pub refusing : List (Option FsError) → StoreState
 refusing rs = record { world = after; refusals = rs; short = false }
 
-abbrev pub plain_turn : Asked → Turn
+abbrev pub plain_turn : Exchange → Turn
 plain_turn x = record { asked = x; refusals = None }
 
 abbrev pub two_refusals : List (Option FsError)
@@ -134,7 +134,7 @@ asks_refused = record { as_asked = refl; refusals = refl; short = refl }
 makes_refused : Answered (CreateDir below 1) (refusing (Some Forbidden ∷ [])) (Err Forbidden) (holding after)
 makes_refused = record { as_asked = refl; refusals = refl; short = refl }
 
-abbrev pub denied : Response
+abbrev pub denied : Reply
 denied = reply_to (Err (create_error Forbidden))
 
 first_ran : Ran AsksWithNumbers (plan_below no_conditions) (refusing two_refusals) one_lock (Err (dav.Status 423)) (refusing (Some Forbidden ∷ [])) one_lock
@@ -156,7 +156,7 @@ unloaded = plain_turn stranger_below ∷ plain_turn holder_below ∷ []
 abbrev pub own_unloaded : List Turn
 own_unloaded = plain_turn holder_below ∷ []
 
-abbrev pub two_replies : List Response
+abbrev pub two_replies : List Reply
 two_replies = error_reply (dav.Status 423) ∷ made at_below ∷ []
 
 denied_unlike : ¬ AnswerAlike lock own_unloaded (made at_below ∷ []) (denied ∷ [])
@@ -170,7 +170,7 @@ both_unlike (alike_own named same more) = other_below_names named
 -- Where turns have no refusals of their own, another client uses up a refusal that the holder would meet alone.
 pub own_refusals_are_needed :
     RunsUnder AsksWithNumbers settings lock unloaded (refusing two_refusals) one_lock two_replies (holding filled) one_lock
-    × Alone lock unloaded own_unloaded × ¬ AreAlone settings lock unloaded own_unloaded (refusing two_refusals) one_lock two_replies (holding filled)
+    × HolderTurns lock unloaded own_unloaded × ¬ MatchesSoloRun settings lock unloaded own_unloaded (refusing two_refusals) one_lock two_replies (holding filled)
 own_refusals_are_needed = (
   under_more listed (λ named. absurd (other_below_names named)) (steps (plan_below no_conditions) (Err (dav.Status 423)) below_means first_ran)
       (under_more listed (λ named. is_holder) (steps (plan_below (own_conditions below)) (Ok (made at_below)) holder_below_means second_ran) under_none),
@@ -187,10 +187,10 @@ abbrev pub at_b : PathText
 at_b = record { prefix = []; bytes = slash_b }
 
 -- MKCOL /b, without a header and with an If of the lock's token
-abbrev pub other_b : Asked
+abbrev pub other_b : Exchange
 other_b = request_to slash_b []
 
-abbrev pub named_b : Asked
+abbrev pub named_b : Exchange
 named_b = request_to slash_b (if_field ∷ [])
 
 text_b : IsUtf8 slash_b
@@ -220,8 +220,8 @@ named_b_head =
     subst (IsHead named_b.head) (ap (λ f. record { method = codes "MKCOL"; target = slash_b; fields = f }) own_fields)
     (short_named_b, head_to slash_b (if_field ∷ []), (request_head slash_b (if_field ∷ []) (omega arith) refl text_b one_field, sym (append-nil _)), omega arith, refl)
 
-abbrev pub plan_b : Conditions → MethodPlan Response
-plan_b c = mkcol c at_b (client stranger)
+abbrev pub plan_b : Conditions → MethodPlan Reply
+plan_b c = mkcol c at_b (caller stranger)
 
 pub other_b_means : Means settings other_b (plan_b no_conditions)
 other_b_means = known (request_of_head (head_to slash_b [])) MkCol other_b_head (tt, refl) (method at_b body.None refl target_b refl (makes (is_mkcol no_conditions (stranger_says (b ∷ [])))))
@@ -285,7 +285,7 @@ named_makes_b =
 abbrev pub at_another : List Turn
 at_another = turn_with other_b ∷ turn_with named_b ∷ []
 
-abbrev pub another_replies : List Response
+abbrev pub another_replies : List Reply
 another_replies = made at_b ∷ reply_to (Err (create_error Exists)) ∷ []
 
 named_unlike : ¬ AnswerAlike lock (turn_with named_b ∷ []) (reply_to (Err (create_error Exists)) ∷ []) (made at_b ∷ [])
@@ -300,8 +300,8 @@ another_unlike (alike_own named same more) = other_b_names named
 -- stands all along.
 pub holders_requests_are_needed :
     RunsBy AsksWithNumbers settings at_another (holding before) one_lock another_replies (holding with_b) one_lock
-    × Alone lock at_another (turn_with named_b ∷ [])
-    × ¬ AreAlone settings lock at_another (turn_with named_b ∷ []) (holding before) one_lock another_replies (holding with_b)
+    × HolderTurns lock at_another (turn_with named_b ∷ [])
+    × ¬ MatchesSoloRun settings lock at_another (turn_with named_b ∷ []) (holding before) one_lock another_replies (holding with_b)
 holders_requests_are_needed = (
   one_more (steps (plan_b no_conditions) (Ok (made at_b)) other_b_means other_makes_b)
       (one_more (steps (plan_b (own_conditions (b ∷ []))) (Err (create_error Exists)) named_b_means named_finds_b) no_more),
@@ -363,7 +363,7 @@ finds_last =
 abbrev pub spending : List Turn
 spending = turn_with other_b ∷ own_turn
 
-abbrev pub spending_replies : List Response
+abbrev pub spending_replies : List Reply
 spending_replies = made at_b ∷ reply_to (Err (create_error GeneralFailure)) ∷ []
 
 spent_unlike : ¬ AnswerAlike lock own_turn (reply_to (Err (create_error GeneralFailure)) ∷ []) (made at_below ∷ [])
@@ -377,7 +377,7 @@ spending_unlike (alike_own named same more) = other_b_names named
 -- Where another client takes the last change number, elsewhere, the holder's request fails, and wouldn't alone.
 pub numbers_are_needed :
     RunsUnder Asks settings lock spending (holding nearly) one_lock spending_replies (holding spent) one_lock
-    × Alone lock spending own_turn × ¬ AreAlone settings lock spending own_turn (holding nearly) one_lock spending_replies (holding spent)
+    × HolderTurns lock spending own_turn × ¬ MatchesSoloRun settings lock spending own_turn (holding nearly) one_lock spending_replies (holding spent)
 numbers_are_needed = (
   under_more listed (λ named. absurd (other_b_names named)) (steps (plan_b no_conditions) (Ok (made at_b)) other_b_means last_taken)
       (under_more listed (λ named. is_holder) (steps (plan_below (own_conditions below)) (Err (create_error GeneralFailure)) holder_below_means finds_none) under_none),

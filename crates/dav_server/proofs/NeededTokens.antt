@@ -24,14 +24,14 @@ use Rattle.dav_engine.specs.LockHeaders.{LockHeaders, AreLockHeaders}
 use Rattle.dav_engine.specs.LockToken.{SaysLockToken, IsAngle}
 use Rattle.dav_engine.specs.Method.{MethodPlan}
 use Rattle.dav_engine.specs.Plan.{Locks, Ran, ran_done, ran_ask, ran_look, ran_keep}
-use Rattle.dav_engine.specs.Response.{Response, error_reply}
+use Rattle.dav_engine.specs.Reply.{Reply, error_reply}
 use Rattle.dav_engine.specs.Unlock.{unlock, unlocked_reply, is_unlock}
 use Rattle.dav_engine.proofs.Theorems.{last_is, ran_plain}
 use Rattle.dav_server.specs.Head.{Request, IsHead, request_of_head}
 use Rattle.dav_server.specs.Headers.{headers_of}
 use Rattle.dav_server.specs.Holder.{IsHolderRequest, unlocks}
-use Rattle.dav_server.specs.Isolation.{RunsUnder, under_none, under_more, Alone, alone_none, alone_other, alone_own, AnswerAlike, alike_other, alike_own, AreAlone}
-use Rattle.dav_server.specs.Machine.{Asked, client, Means, known, method, locks, releases, steps}
+use Rattle.dav_server.specs.Isolation.{RunsUnder, under_none, under_more, HolderTurns, alone_none, alone_other, alone_own, AnswerAlike, alike_other, alike_own, MatchesSoloRun}
+use Rattle.dav_server.specs.Machine.{Exchange, caller, Means, known, method, locks, releases, steps}
 use Rattle.dav_server.specs.Naming.{NamesToken, NamesLock, by_if, by_lock_token}
 use Rattle.dav_server.specs.Run.{Turn, no_more, one_more}
 use Rattle.dav_server.specs.Target.{TargetNames, path}
@@ -51,7 +51,7 @@ at_root = record { prefix = []; bytes = slash }
 abbrev pub depth_field : Field
 depth_field = record { name = codes "Depth"; raw = codes "0"; end = crlf }
 
-abbrev pub second : Asked
+abbrev pub second : Exchange
 second = record { head = print_request (head_of (codes "LOCK") slash (depth_field ∷ [])); body = body.Tree info; principal = None; moment = 1; token = Some token }
 
 pub text_root : IsUtf8 slash
@@ -99,8 +99,8 @@ second_headers = record { conditions = no_conditions; depth = Some Zero; timeout
 says_second : AreLockHeaders (headers_of depth_fields) at_root second_headers
 says_second = record { conditions = record { match = no_tags; none_match = no_tags; lists = no_if [] }; depth = refl; timeout = no_timeout }
 
-abbrev pub second_plan : MethodPlan Response
-second_plan = lock_plan second_headers at_root (body.Tree info) (client second)
+abbrev pub second_plan : MethodPlan Reply
+second_plan = lock_plan second_headers at_root (body.Tree info) (caller second)
 
 pub second_means : Means settings second second_plan
 second_means = known second_request LockMethod second_head (tt, refl) (method at_root (body.Tree info) refl target_root refl (locks (is_lock second_headers says_second)))
@@ -121,7 +121,7 @@ in_angles = 60 ∷ 116 ∷ 62 ∷ []
 abbrev pub token_field : Field
 token_field = record { name = codes "Lock-Token"; raw = in_angles; end = crlf }
 
-abbrev pub unlocker : Asked
+abbrev pub unlocker : Exchange
 unlocker = record { head = print_request (head_of (codes "UNLOCK") slash_a (token_field ∷ [])); body = body.None; principal = None; moment = 1; token = None }
 
 is_token_field : IsField token_field
@@ -167,7 +167,7 @@ says = (
   },
 )
 
-abbrev pub unlock_plan : MethodPlan Response
+abbrev pub unlock_plan : MethodPlan Reply
 unlock_plan = unlock (Some token) at_a
 
 pub unlock_means : Means settings unlocker unlock_plan
@@ -194,13 +194,13 @@ pub root_there : Answered (Metadata []) (holding after) (Ok found_root) (holding
 unfolding meaning
 root_there = record { as_asked = refl; refusals = refl; short = refl }
 
-abbrev pub second_reply : Response
+abbrev pub second_reply : Reply
 second_reply = granted_reply true (location_found (Some found_root) at_root) root_lock
 
 second_ran : Ran AsksWithNumbers second_plan (holding after) one (Ok second_reply) (holding after) two
 second_ran = ran_look (ran_ask {c = Metadata []} {answer = Ok found_root} (asked root_there, λ ready finds. finds.0) (ran_look (ran_keep ran_done)))
 
-abbrev pub ended : Response
+abbrev pub ended : Reply
 ended = unlocked_reply (location_found (Some found_a) at_a)
 
 ends_root : Ran AsksWithNumbers unlock_plan (holding after) two (Ok ended) (holding after) one
@@ -218,10 +218,10 @@ twice = turn_with second ∷ turn_with unlocker ∷ turn_with unlocker ∷ []
 abbrev pub own : List Turn
 own = turn_with unlocker ∷ turn_with unlocker ∷ []
 
-abbrev pub replies : List Response
+abbrev pub replies : List Reply
 replies = second_reply ∷ ended ∷ ended ∷ []
 
-abbrev pub alone_replies : List Response
+abbrev pub alone_replies : List Reply
 alone_replies = ended ∷ error_reply (dav.Status 409) ∷ []
 
 last_unlike : ¬ AnswerAlike granted_lock (turn_with unlocker ∷ []) (ended ∷ []) (error_reply (dav.Status 409) ∷ [])
@@ -240,7 +240,7 @@ unlike (alike_own named same more) = second_names named
 -- and its second one the guard. Alone the second finds none. The lock guards its folder when the run begins, and stands all along.
 pub tokens_are_needed :
     RunsUnder AsksWithNumbers settings granted_lock twice (holding after) one replies (holding after) (Some [])
-    × Guarded granted_lock one × Alone granted_lock twice own × ¬ AreAlone settings granted_lock twice own (holding after) one replies (holding after)
+    × Guarded granted_lock one × HolderTurns granted_lock twice own × ¬ MatchesSoloRun settings granted_lock twice own (holding after) one replies (holding after)
 tokens_are_needed = (
   under_more (listed_here refl) (λ named. absurd (second_names named)) (steps second_plan (Ok second_reply) second_means second_ran)
       (under_more (listed_here refl) (λ named. is_holder) (steps unlock_plan (Ok ended) unlock_means ends_root)

@@ -21,7 +21,7 @@ use Rattle.dav_core.proofs.Theorems.{same_path}
 use Rattle.dav_headers.specs.declared.range.XUpdateRange.{XUpdateRange}
 use Rattle.dav_headers.specs.Length.{IsContentLength}
 use Rattle.dav_headers.specs.UpdateRange.{IsUpdateRange}
-use Rattle.dav_engine.specs.declared.put_headers.Bounds.TheVariants.{Whole}
+use Rattle.dav_engine.specs.declared.methods.put.headers.Bounds.TheVariants.{Whole}
 use Rattle.dav_engine.specs.declared.request.Body.TheVariants as body
 use Rattle.dav_engine.specs.Alongside.{AsksWithNumbers}
 use Rattle.dav_engine.specs.Conditions.{Conditions}
@@ -30,16 +30,16 @@ use Rattle.dav_engine.specs.Inside.{Content, content_of, HasFoldersAbove}
 use Rattle.dav_engine.specs.Method.{MethodPlan}
 use Rattle.dav_engine.specs.Plan.{Locks, Ran, ran_done, ran_ask, ran_look}
 use Rattle.dav_engine.specs.Put.{PutHeaders, ArePutHeaders, IsExpectedLength, put, stored, is_put}
-use Rattle.dav_engine.specs.Response.{Response}
+use Rattle.dav_engine.specs.Reply.{Reply}
 use Rattle.dav_engine.specs.Sparing.{Spared}
 use Rattle.dav_engine.proofs.Theorems.{ran_plain}
 use Rattle.dav_server.specs.Head.{IsHead, request_of_head}
 use Rattle.dav_server.specs.Headers.{headers_of}
-use Rattle.dav_server.specs.Isolation.{AreLoaded, NoneHandsIn, RunsUnder, under_none, under_more, Alone, alone_none, alone_other, AreAlone}
-use Rattle.dav_server.specs.Machine.{Asked, Settings, client, Means, known, method, puts, Steps, steps}
+use Rattle.dav_server.specs.Isolation.{AreLoaded, TokenIsFresh, RunsUnder, under_none, under_more, HolderTurns, alone_none, alone_other, MatchesSoloRun}
+use Rattle.dav_server.specs.Machine.{Exchange, Settings, caller, Means, known, method, puts, Steps, steps}
 use Rattle.dav_server.specs.Naming.{NamesToken, NamesLock}
 use Rattle.dav_server.specs.Run.{Turn}
-use Rattle.dav_server.specs.TagLaws.{AreShowable}
+use Rattle.dav_server.specs.TagLaws.{MomentsAreDates}
 use Rattle.dav_server.specs.Target.{TargetNames}
 use Rattle.dav_server.proofs.NeededPremises.{slash_b, at_b, nothing_runs}
 use Rattle.dav_server.proofs.WorkedRun.{a, b, token, lock, head_of, head_with_method, letter_name, letter_target, unnamed_by, turn_with, settings, no_conditions, stranger_says, holding, one_lock, listed, root_above, Showable, Loaded}
@@ -65,7 +65,7 @@ abbrev pub emptying : Opening
 emptying = record no_opening { write = true; truncate = true; create = true }
 
 -- the request, with its bytes
-abbrev pub writer : Asked
+abbrev pub writer : Exchange
 writer = record { head = print_request (head_of (codes "PUT") slash_b []); body = body.Bytes (50 ∷ []); principal = None; moment = 1; token = None }
 
 short : length writer.head ≤ 65536
@@ -96,8 +96,8 @@ bare_says bytes = record {
 }
 
 -- the plan that it results in
-abbrev pub writing : MethodPlan Response
-writing = put Put (put_headers no_conditions) (b ∷ []) (client writer) (50 ∷ [])
+abbrev pub writing : MethodPlan Reply
+writing = put Put (put_headers no_conditions) (b ∷ []) (caller writer) (50 ∷ [])
 
 pub writer_means : Means settings writer writing
 writer_means = known (request_of_head (head_of (codes "PUT") slash_b [])) Put writer_head (tt, refl) (method at_b (body.Bytes (50 ∷ [])) refl target_b refl (puts (is_put (put_headers no_conditions) (bare_says slash_b))))
@@ -172,7 +172,7 @@ unfolding meaning
 number_to_write e = cc
 
 -- the reply: 204, with the tag of the file that was written
-abbrev pub written_reply : Response
+abbrev pub written_reply : Reply
 written_reply = stored true (Some told_twin)
 
 -- /b isn't locked, so the PUT goes through
@@ -292,7 +292,7 @@ twins_are_nearly_a_world = (
 -- the law that no lock is passed, of every store, whether or not it holds a world
 abbrev pub NoLockIsPassedInEveryStore : Type 0
 NoLockIsPassedInEveryStore =
-    (s : Settings) (x : Asked) (old new : StoreState) (ls ms : Locks) (reply : Response) (h : Lock)
+    (s : Settings) (x : Exchange) (old new : StoreState) (ls ms : Locks) (reply : Reply) (h : Lock)
     → h.shared ≡ false → Stands h ls → ¬ NamesLock h x → x.moment ≤ last_moment
     → Steps s x old ls reply new ms → Spared (covers h) old.world new.world
 
@@ -314,9 +314,9 @@ passing_needs_a_world passes = other_byte ((passes settings writer (holding twin
 -- the law of isolation, of every store, whether or not it holds a world
 abbrev pub HoldersAreAloneInEveryStore : Type 0
 HoldersAreAloneInEveryStore =
-    (s : Settings) (h : Lock) (ts us : List Turn) (old new : StoreState) (ls ms : Locks) (replies : List Response)
-    → IsGuard h → Guarded h ls → HasFoldersAbove (folder_of h) old.world → AreShowable ts → AreLoaded ts → NoneHandsIn h ts
-    → RunsUnder AsksWithNumbers s h ts old ls replies new ms → new.short ≡ false → Alone h ts us → AreAlone s h ts us old ls replies new
+    (s : Settings) (h : Lock) (ts us : List Turn) (old new : StoreState) (ls ms : Locks) (replies : List Reply)
+    → IsGuard h → Guarded h ls → HasFoldersAbove (folder_of h) old.world → MomentsAreDates ts → AreLoaded ts → TokenIsFresh h ts
+    → RunsUnder AsksWithNumbers s h ts old ls replies new ms → new.short ≡ false → HolderTurns h ts us → MatchesSoloRun s h ts us old ls replies new
 
 -- the PUT is the only request
 abbrev pub write_turn : List Turn
@@ -331,7 +331,7 @@ guarded = guards_here refl no_others
 folders_above : HasFoldersAbove (folder_of lock) twins
 folders_above = root_above twins refl
 
-write_showable : AreShowable write_turn
+write_showable : MomentsAreDates write_turn
 write_showable = All-cons Showable (turn_with writer) [] (omega arith) (All-nil Showable)
 
 write_loaded : AreLoaded write_turn
@@ -340,23 +340,23 @@ write_loaded = All-cons Loaded (turn_with writer) [] refl (All-nil Loaded)
 abbrev Other : Turn → Type 0
 Other t = t.asked.token ≢ Some lock.token
 
-write_quiet : NoneHandsIn lock write_turn
+write_quiet : TokenIsFresh lock write_turn
 write_quiet = All-cons Other (turn_with writer) [] (λ e. cc) (All-nil Other)
 
 under : RunsUnder AsksWithNumbers settings lock write_turn (holding twins) one_lock (written_reply ∷ []) (holding written_twins) one_lock
 under = under_more listed (λ named. absurd (writer_names named)) (steps writing (Ok written_reply) writer_means ran) under_none
 
-among : Alone lock write_turn []
+among : HolderTurns lock write_turn []
 among = alone_other writer_names alone_none
 
-not_alone : ¬ AreAlone settings lock write_turn [] (holding twins) one_lock (written_reply ∷ []) (holding written_twins)
+not_alone : ¬ MatchesSoloRun settings lock write_turn [] (holding twins) one_lock (written_reply ∷ []) (holding written_twins)
 not_alone alone = other_byte (sym (alone.inside [] ∙ ap (λ (s : StoreState). option_map content_of (node_at s.world (a ∷ []))) (nothing_runs alone.runs)))
 
 -- In the same store what is locked changes, and without any request it wouldn't. All other premises hold.
 pub worlds_are_needed_for_isolation :
-    IsGuard lock × Guarded lock one_lock × HasFoldersAbove (folder_of lock) twins × AreShowable write_turn × AreLoaded write_turn × NoneHandsIn lock write_turn × ¬ IsWorld twins
+    IsGuard lock × Guarded lock one_lock × HasFoldersAbove (folder_of lock) twins × MomentsAreDates write_turn × AreLoaded write_turn × TokenIsFresh lock write_turn × ¬ IsWorld twins
     × RunsUnder AsksWithNumbers settings lock write_turn (holding twins) one_lock (written_reply ∷ []) (holding written_twins) one_lock
-    × Alone lock write_turn [] × ¬ AreAlone settings lock write_turn [] (holding twins) one_lock (written_reply ∷ []) (holding written_twins)
+    × HolderTurns lock write_turn [] × ¬ MatchesSoloRun settings lock write_turn [] (holding twins) one_lock (written_reply ∷ []) (holding written_twins)
 worlds_are_needed_for_isolation = (is_guard, guarded, folders_above, write_showable, write_loaded, write_quiet, twins_are_no_world, under, among, not_alone)
 
 -- So without this premise the law is false.

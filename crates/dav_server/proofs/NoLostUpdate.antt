@@ -19,12 +19,12 @@ use Rattle.dav_core.specs.Status.{must_close}
 use Rattle.dav_core.specs.World.{World, Node, File, node_at, last_moment, IsWorld}
 use Rattle.dav_headers.specs.ContentRange.{IsContentRange}
 use Rattle.dav_headers.specs.ETag.{EntityTag}
-use Rattle.dav_engine.specs.declared.put_headers.Bounds.{Bounds}
-use Rattle.dav_engine.specs.declared.put_headers.Bounds.TheVariants.{Unread, Whole, Within}
-use Rattle.dav_engine.specs.declared.put_headers.Writing.{Writing}
+use Rattle.dav_engine.specs.declared.methods.put.headers.Bounds.{Bounds}
+use Rattle.dav_engine.specs.declared.methods.put.headers.Bounds.TheVariants.{Unread, Whole, Within}
+use Rattle.dav_engine.specs.declared.methods.put.headers.Writing.{Writing}
 use Rattle.dav_engine.specs.declared.request.Body.{Body}
 use Rattle.dav_engine.specs.declared.request.Body.TheVariants as body
-use Rattle.dav_engine.specs.Client.{Client, requester}
+use Rattle.dav_engine.specs.Caller.{Caller, requester}
 use Rattle.dav_engine.specs.Conditions.{Conditions, AreConditions, guarded}
 use Rattle.dav_engine.specs.CopyMove.{CopyHeaders, is_move, copy_depth, destination_found, copy_free, copy_allowed, copy_found, copy_or_move, is_copy_move}
 use Rattle.dav_engine.specs.Delete.{DeleteHeaders, whole_depth, delete_allowed, delete_found, delete, is_delete}
@@ -34,15 +34,15 @@ use Rattle.dav_engine.specs.Method.{MethodPlan, ◌>>=◌, ask_for, fails}
 use Rattle.dav_engine.specs.Plan.{Locks, Ran, ran_ask}
 use Rattle.dav_engine.specs.Proppatch.{proppatch, is_proppatch}
 use Rattle.dav_engine.specs.Put.{PutHeaders, TellsBounds, writing_of, put_allowed, put_body, bytes_of_body, is_put}
-use Rattle.dav_engine.specs.Response.{Response, Header, closing, content_length, reply_to}
+use Rattle.dav_engine.specs.Reply.{Reply, Header, closing, content_length, reply_to}
 use Rattle.dav_engine.specs.WorldLaws.{IsReading}
 use Rattle.dav_engine.proofs.Theorems.{Did, did, did_leave, ran_outcome, look_reads, looks, only_done, only_ask, only_bind, only_require, only_reads, one_conditions}
 use Rattle.dav_server.specs.Head.{Request}
 use Rattle.dav_server.specs.Headers.{headers_of}
-use Rattle.dav_server.specs.Machine.{Settings, Asked, TakesBytes, taken_by, body_for, PlanOf, gets, heads, puts, patches, makes, deletes, copies, moves, offers, finds_properties, sets_properties, locks, releases, MeansOf, not_allowed, no_path, no_body, method, Means, no_head, no_method, known, Steps, steps}
+use Rattle.dav_server.specs.Machine.{Settings, Exchange, TakesBytes, taken_by, body_for, PlanOf, gets, heads, puts, patches, makes, deletes, copies, moves, offers, finds_properties, sets_properties, locks, releases, MeansOf, not_allowed, no_path, no_body, method, Means, no_head, no_method, known, Steps, steps}
 use Rattle.dav_server.specs.Method.{GivesServed}
 use Rattle.dav_server.specs.Run.{Turn, begun, Runs, no_more, one_more}
-use Rattle.dav_server.specs.TagLaws.{AreShowable}
+use Rattle.dav_server.specs.TagLaws.{MomentsAreDates}
 use Rattle.dav_server.specs.Target.{TargetNames}
 use Rattle.dav_server.specs.UpdateLaws.{PutsWhole, ToldIn, is_update, AsksForTag, UpdatesIf, IsSuccess, NoLostUpdate}
 use Rattle.dav_server.proofs.GetWorld.{Known, stands_known, one_number, answered_by, required, looked, gone_on}
@@ -62,7 +62,7 @@ use Rattle.dav_server.proofs.TargetLemmas.{one_outcome}
 looked_left : (p : Path) (w new : World) (answer : Result DavMetaData FsError) → Did (meaning (Metadata p) w) w answer new → new ≡ w
 looked_left p w new answer one = did_leave (Metadata p) w new answer tt one
 
-checked_put : (m : DavMethod) (h : PutHeaders) (p : Path) (who : Client) (bytes : List ℕ) (tag : EntityTag) {old new : StoreState} {ls ms : Locks} {allowed : Writing × Bool}
+checked_put : (m : DavMethod) (h : PutHeaders) (p : Path) (who : Caller) (bytes : List ℕ) (tag : EntityTag) {old new : StoreState} {ls ms : Locks} {allowed : Writing × Bool}
     → AskForTag h.conditions p tag → Ran Asking (put_allowed m h p who bytes) old ls (Ok allowed) new ms → HasTag old.world p (text_of tag)
 checked_put m h p who bytes tag asks (ran_ask {old = old} {mid = mid} {answer = answer} one ran) =
     let (w, is, more) = gone_on (writing_of m h (result_ok answer)) _ ran in
@@ -70,7 +70,7 @@ checked_put m h p who bytes tag asks (ran_ask {old = old} {mid = mid} {answer = 
     guard_held m h.conditions (result_ok answer) old.world p tag asks (matched_there old.world mid.world p tag (is_some (result_ok answer)) answer (did one))
     dav.StatusClose guard.value (looked_left p old.world mid.world answer (did one)) guard.first
 
-put_held : (m : DavMethod) (h : PutHeaders) (p : Path) (who : Client) (bytes : Option (List ℕ)) (tag : EntityTag) {old new : StoreState} {ls ms : Locks} {r : Response}
+put_held : (m : DavMethod) (h : PutHeaders) (p : Path) (who : Caller) (bytes : Option (List ℕ)) (tag : EntityTag) {old new : StoreState} {ls ms : Locks} {r : Reply}
     → AskForTag h.conditions p tag → Ran Asking (put_body m h p who bytes) old ls (Ok r) new ms → HasTag old.world p (text_of tag)
 put_held m h p who None tag asks ran = let clash = ran_outcome ran in cc
 put_held m h p who (Some bytes) tag asks ran = checked_put m h p who bytes tag asks (went (put_allowed m h p who bytes) _ ran).first
@@ -84,7 +84,7 @@ found_held m f c p tag w after answer found tokens asks one is at ran =
     f tokens at ran
 
 -- a DELETE whose depth was read
-deleted_held : (deep : Bool) (c : Conditions) (p : PathText) (who : Client) (tag : EntityTag) {old new : StoreState} {ls ms : Locks} {r : Response}
+deleted_held : (deep : Bool) (c : Conditions) (p : PathText) (who : Caller) (tag : EntityTag) {old new : StoreState} {ls ms : Locks} {r : Reply}
     → AskForTag c (names p) tag → Ran Asking (ask_for (Metadata (names p)) >>= (λ found. delete_found deep c (closed found.dir p) who found)) old ls (Ok r) new ms → HasTag old.world (names p) (text_of tag)
 deleted_held deep c p who tag asks (ran_ask {old = old} {mid = mid} {answer = answer} one ran) =
     let (found, is, more) = answered_by dav.FsError answer _ ran in
@@ -92,7 +92,7 @@ deleted_held deep c p who tag asks (ran_ask {old = old} {mid = mid} {answer = an
     let guard = went (guarded dav.Status Delete c (Some found)) _ checks.first in
     found_held Delete dav.Status c (names p) tag old.world mid.world answer found guard.value asks (did one) is (looked_left (names p) old.world mid.world answer (did one)) guard.first
 
-delete_held : (h : DeleteHeaders) (p : PathText) (who : Client) (tag : EntityTag) {old new : StoreState} {ls ms : Locks} {r : Response}
+delete_held : (h : DeleteHeaders) (p : PathText) (who : Caller) (tag : EntityTag) {old new : StoreState} {ls ms : Locks} {r : Reply}
     → AskForTag h.conditions (names p) tag → Ran Asking (delete h p who) old ls (Ok r) new ms → HasTag old.world (names p) (text_of tag)
 delete_held h p who tag asks ran =
     let (deep, depth, rest) = gone_on (whole_depth h.depth) _ ran in
@@ -104,7 +104,7 @@ place_reads overwrite d = only_reads look_reads (only_ask looks (λ above.
     only_ask looks (λ there. only_bind _ _ (only_require (unwrap_or overwrite true || not (is_ok there)) (dav.Status 412)) (λ u. only_done)))))
 
 -- a COPY or MOVE whose depth and destination were read
-brought_held : (m : DavMethod) (deep : Bool) (h : CopyHeaders) (p d : PathText) (who : Client) (tag : EntityTag) {old new : StoreState} {ls ms : Locks} {r : Response}
+brought_held : (m : DavMethod) (deep : Bool) (h : CopyHeaders) (p d : PathText) (who : Caller) (tag : EntityTag) {old new : StoreState} {ls ms : Locks} {r : Reply}
     → AskForTag h.conditions (names p) tag → Ran Asking (ask_for (Metadata (names p)) >>= (λ found. copy_found m deep h (closed found.dir p) d who found)) old ls (Ok r) new ms → HasTag old.world (names p) (text_of tag)
 brought_held m deep h p d who tag asks (ran_ask {old = old} {mid = mid} {answer = answer} one ran) =
     let (found, is, more) = answered_by dav.FsError answer _ ran in
@@ -115,7 +115,7 @@ brought_held m deep h p d who tag asks (ran_ask {old = old} {mid = mid} {answer 
     let guard = went (guarded dav.Status m h.conditions (Some found)) _ free.first in
     found_held m dav.Status h.conditions (names p) tag old.world mid.world answer found guard.value asks (did one) is (place.same ∙ looked_left (names p) old.world mid.world answer (did one)) guard.first
 
-copymove_held : (m : DavMethod) (h : CopyHeaders) (p : PathText) (who : Client) (tag : EntityTag) {old new : StoreState} {ls ms : Locks} {r : Response}
+copymove_held : (m : DavMethod) (h : CopyHeaders) (p : PathText) (who : Caller) (tag : EntityTag) {old new : StoreState} {ls ms : Locks} {r : Reply}
     → AskForTag h.conditions (names p) tag → Ran Asking (copy_or_move m h p who) old ls (Ok r) new ms → HasTag old.world (names p) (text_of tag)
 copymove_held m h p who tag asks ran =
     let (deep, depth, rest) = gone_on (copy_depth (is_move m) h.depth) _ ran in
@@ -123,13 +123,13 @@ copymove_held m h p who tag asks ran =
     brought_held m deep h p d who tag asks more
 
 -- an error of a PROPPATCH reports one
-proppatch_ends : (c : Conditions) (p : PathText) (content : Body) (who : Client) → Ends IsFailure AnswersOther (proppatch c p content who)
+proppatch_ends : (c : Conditions) (p : PathText) (content : Body) (who : Caller) → Ends IsFailure AnswersOther (proppatch c p content who)
 proppatch_ends c p content who =
     ends_patching IsFailure IsOtherStatus (λ same. absurd (omega (arith, same))) (λ A answer. store_fails answer) (omega arith) c p content who
     (λ found. guarded_ends dav.Status PropPatch c (Some found) (λ status above. above) refl)
     (λ tokens q. ends_free false (requester who tokens) (names q) (dav.Status 423) (omega arith))
 
-proppatch_held : (c : Conditions) (p : PathText) (content : Body) (who : Client) (tag : EntityTag) {old new : StoreState} {ls ms : Locks} {r : Response}
+proppatch_held : (c : Conditions) (p : PathText) (content : Body) (who : Caller) (tag : EntityTag) {old new : StoreState} {ls ms : Locks} {r : Reply}
     → AskForTag c (names p) tag → Ran Asking (proppatch c p content who) old ls (Ok r) new ms → HasTag old.world (names p) (text_of tag)
 proppatch_held c p content who tag asks (ran_ask {old = old} {mid = mid} {answer = answer} one ran) =
     let (found, is, more) = answered_by dav.FsError answer _ ran in
@@ -148,47 +148,47 @@ asked_for headers p c tag are (inr (cs, says, among)) =
     inr (cs, ap (λ (x : Conditions). x.lists) same, among)
 
 -- an outcome whose reply tells success is no error
-succeeded : (P : Response → Type 0) (outcome : Result Response DavError) → Outcome IsFailure P outcome → IsSuccess (reply_to outcome).status → (r : Response) × (outcome ≡ Ok r)
+succeeded : (P : Reply → Type 0) (outcome : Result Reply DavError) → Outcome IsFailure P outcome → IsSuccess (reply_to outcome).status → (r : Reply) × (outcome ≡ Ok r)
 succeeded P (Ok r) ends good = (r, refl)
 succeeded P (Err e) ends good =
     let (from, below) = good in
     absurd (omega (arith, ends, below))
 
 -- a plan that fails tells no success
-failed_held : {A : Type 0} {e : DavError} (outcome : Result Response DavError) {old new : StoreState} {ls ms : Locks} → IsFailure e → Ran Asking (fails e) old ls outcome new ms → IsSuccess (reply_to outcome).status → A
+failed_held : {A : Type 0} {e : DavError} (outcome : Result Reply DavError) {old new : StoreState} {ls ms : Locks} → IsFailure e → Ran Asking (fails e) old ls outcome new ms → IsSuccess (reply_to outcome).status → A
 failed_held outcome above ran good =
     let (r, is) = succeeded (λ r. ⊤) outcome (subst (Outcome IsFailure (λ r. ⊤)) (sym (ran_outcome ran)) above) good in
     let clash = sym is ∙ ran_outcome ran in cc
 
-plan_held : {allowed : ℕ} {headers : Headers} {p : PathText} {given : Body} {who : Client} {m : DavMethod} {plan : MethodPlan Response} (tag : EntityTag) (outcome : Result Response DavError) {old new : StoreState} {ls ms : Locks}
+plan_held : {allowed : ℕ} {headers : Headers} {p : PathText} {given : Body} {who : Caller} {m : DavMethod} {plan : MethodPlan Reply} (tag : EntityTag) (outcome : Result Reply DavError) {old new : StoreState} {ls ms : Locks}
     → is_update m ≡ true → AsksForTag headers tag → PlanOf allowed headers p given who m plan → Ran Asking plan old ls outcome new ms → IsSuccess (reply_to outcome).status → HasTag old.world (names p) (text_of tag)
 plan_held tag outcome updates asks (gets is) ran good = absurd (true≢false (sym updates))
 plan_held tag outcome updates asks (heads is) ran good = absurd (true≢false (sym updates))
 plan_held {headers = headers} {p} {given} {who} {plan = plan} tag outcome {old} {new} {ls} {ms} updates asks (puts (is_put h are)) ran good =
     let (r, is) = succeeded AnswersOther outcome (ran_ends (put_ends Put h (names p) who (bytes_of_body given) refl) ran) good in
-    put_held Put h (names p) who (bytes_of_body given) tag (asked_for headers p h.conditions tag are.conditions asks) (subst (λ (o : Result Response DavError). Ran Asking plan old ls o new ms) is ran)
+    put_held Put h (names p) who (bytes_of_body given) tag (asked_for headers p h.conditions tag are.conditions asks) (subst (λ (o : Result Reply DavError). Ran Asking plan old ls o new ms) is ran)
 plan_held {headers = headers} {p} {given} {who} {plan = plan} tag outcome {old} {new} {ls} {ms} updates asks (patches (is_put h are)) ran good =
     let (r, is) = succeeded AnswersOther outcome (ran_ends (put_ends Patch h (names p) who (bytes_of_body given) refl) ran) good in
-    put_held Patch h (names p) who (bytes_of_body given) tag (asked_for headers p h.conditions tag are.conditions asks) (subst (λ (o : Result Response DavError). Ran Asking plan old ls o new ms) is ran)
+    put_held Patch h (names p) who (bytes_of_body given) tag (asked_for headers p h.conditions tag are.conditions asks) (subst (λ (o : Result Reply DavError). Ran Asking plan old ls o new ms) is ran)
 plan_held tag outcome updates asks (makes is) ran good = absurd (true≢false (sym updates))
 plan_held {headers = headers} {p} {who = who} {plan = plan} tag outcome {old} {new} {ls} {ms} updates asks (deletes (is_delete h are)) ran good =
     let (r, is) = succeeded AnswersOther outcome (ran_ends (delete_ends h p who) ran) good in
-    delete_held h p who tag (asked_for headers p h.conditions tag are.conditions asks) (subst (λ (o : Result Response DavError). Ran Asking plan old ls o new ms) is ran)
+    delete_held h p who tag (asked_for headers p h.conditions tag are.conditions asks) (subst (λ (o : Result Reply DavError). Ran Asking plan old ls o new ms) is ran)
 plan_held {headers = headers} {p} {who = who} {plan = plan} tag outcome {old} {new} {ls} {ms} updates asks (copies (is_copy_move h are)) ran good =
     let (r, is) = succeeded AnswersOther outcome (ran_ends (copymove_ends Copy headers h p who refl are) ran) good in
-    copymove_held Copy h p who tag (asked_for headers p h.conditions tag are.conditions asks) (subst (λ (o : Result Response DavError). Ran Asking plan old ls o new ms) is ran)
+    copymove_held Copy h p who tag (asked_for headers p h.conditions tag are.conditions asks) (subst (λ (o : Result Reply DavError). Ran Asking plan old ls o new ms) is ran)
 plan_held {headers = headers} {p} {who = who} {plan = plan} tag outcome {old} {new} {ls} {ms} updates asks (moves (is_copy_move h are)) ran good =
     let (r, is) = succeeded AnswersOther outcome (ran_ends (copymove_ends Move headers h p who refl are) ran) good in
-    copymove_held Move h p who tag (asked_for headers p h.conditions tag are.conditions asks) (subst (λ (o : Result Response DavError). Ran Asking plan old ls o new ms) is ran)
+    copymove_held Move h p who tag (asked_for headers p h.conditions tag are.conditions asks) (subst (λ (o : Result Reply DavError). Ran Asking plan old ls o new ms) is ran)
 plan_held tag outcome updates asks offers ran good = absurd (true≢false (sym updates))
 plan_held tag outcome updates asks (finds_properties other) ran good = absurd (true≢false (sym updates))
 plan_held {headers = headers} {p} {given} {who} {plan = plan} tag outcome {old} {new} {ls} {ms} updates asks (sets_properties (is_proppatch c are)) ran good =
     let (r, is) = succeeded AnswersOther outcome (ran_ends (proppatch_ends c p given who) ran) good in
-    proppatch_held c p given who tag (asked_for headers p c tag are asks) (subst (λ (o : Result Response DavError). Ran Asking plan old ls o new ms) is ran)
+    proppatch_held c p given who tag (asked_for headers p c tag are asks) (subst (λ (o : Result Reply DavError). Ran Asking plan old ls o new ms) is ran)
 plan_held tag outcome updates asks (locks is) ran good = absurd (true≢false (sym updates))
 plan_held tag outcome updates asks (releases is) ran good = absurd (true≢false (sym updates))
 
-of_held : {s : Settings} {x : Asked} {r : Request} {m : DavMethod} {plan : MethodPlan Response} (p : PathText) (tag : EntityTag) (outcome : Result Response DavError) {old new : StoreState} {ls ms : Locks}
+of_held : {s : Settings} {x : Exchange} {r : Request} {m : DavMethod} {plan : MethodPlan Reply} (p : PathText) (tag : EntityTag) (outcome : Result Reply DavError) {old new : StoreState} {ls ms : Locks}
     → is_update m ≡ true → TargetNames s.prefix m r.target (Ok p) → AsksForTag (headers_of r.fields) tag
     → MeansOf s x r m plan → Ran Asking plan old ls outcome new ms → IsSuccess (reply_to outcome).status → HasTag old.world (names p) (text_of tag)
 of_held p tag outcome updates names_p asks (not_allowed out) ran good = failed_held {e = dav.StatusClose 405} outcome (omega arith) ran good
@@ -199,7 +199,7 @@ of_held {s} {r = r} {m} p tag outcome {old} updates names_p asks (method q given
     let same : q ≡ p = one_value (one_outcome s.prefix m r.target _ _ named names_p) in
     subst (λ (t : PathText). HasTag old.world (names t) (text_of tag)) same (plan_held tag outcome updates asks plan ran good)
 
-means_held : {s : Settings} {x : Asked} {plan : MethodPlan Response} (p : PathText) (tag : EntityTag) (outcome : Result Response DavError) {old new : StoreState} {ls ms : Locks}
+means_held : {s : Settings} {x : Exchange} {plan : MethodPlan Reply} (p : PathText) (tag : EntityTag) (outcome : Result Reply DavError) {old new : StoreState} {ls ms : Locks}
     → UpdatesIf s x p tag → Means s x plan → Ran Asking plan old ls outcome new ms → IsSuccess (reply_to outcome).status → HasTag old.world (names p) (text_of tag)
 means_held p tag outcome (r, m, head, gives, updates, named, asks) (no_head out) ran good = absurd (out r head)
 means_held p tag outcome (r, m, head, gives, updates, named, asks) (no_method q e head' gives') ran good =
@@ -209,7 +209,7 @@ means_held {s} {x} {plan} p tag outcome (r, m, head, gives, updates, named, asks
     let same : n ≡ m = one_method r.method n m (subst (λ (h : Request). GivesServed h.method (Ok n)) request gives') gives in
     of_held p tag outcome updates named asks (subst (λ (k : DavMethod). MeansOf s x r k plan) same (subst (λ (h : Request). MeansOf s x h n plan) request means)) ran good
 
-step_held : {s : Settings} {x : Asked} (p : PathText) (tag : EntityTag) {old new : StoreState} {ls ms : Locks} {reply : Response} → UpdatesIf s x p tag → Steps s x old ls reply new ms → IsSuccess reply.status → HasTag old.world (names p) (text_of tag)
+step_held : {s : Settings} {x : Exchange} (p : PathText) (tag : EntityTag) {old new : StoreState} {ls ms : Locks} {reply : Reply} → UpdatesIf s x p tag → Steps s x old ls reply new ms → IsSuccess reply.status → HasTag old.world (names p) (text_of tag)
 step_held p tag updates (steps plan outcome means ran) good = means_held p tag outcome updates means ran good
 
 -- ---- one PUT
@@ -226,9 +226,9 @@ error_untagged false tag (zero, within, is) = let clash = header_length (content
 error_untagged false tag (suc k, within, is) = absurd (omega (arith, within))
 
 -- a plan that fails tells none
-failed_untagged : {A : Type 0} (e : DavError) (outcome : Result Response DavError) (tag : List ℕ) {old new : StoreState} {ls ms : Locks} → Ran Asking (fails e) old ls outcome new ms → Contains (reply_to outcome).headers (codes "etag", tag) → A
+failed_untagged : {A : Type 0} (e : DavError) (outcome : Result Reply DavError) (tag : List ℕ) {old new : StoreState} {ls ms : Locks} → Ran Asking (fails e) old ls outcome new ms → Contains (reply_to outcome).headers (codes "etag", tag) → A
 failed_untagged e outcome tag ran among =
-    error_untagged (must_close e) tag (subst (λ (o : Result Response DavError). Contains (reply_to o).headers (codes "etag", tag)) (ran_outcome ran) among)
+    error_untagged (must_close e) tag (subst (λ (o : Result Reply DavError). Contains (reply_to o).headers (codes "etag", tag)) (ran_outcome ran) among)
 
 -- no Content-Range means the whole file
 whole_bounds : (values : List FieldValue) (b : Bounds) → values ≡ [] → TellsBounds values b → b ≡ Whole
@@ -244,14 +244,14 @@ taken_bytes (body.Bytes (b ∷ bs)) given bytes taken is = ap bytes_of_body (sym
 taken_bytes (body.Tree tree) given bytes taken is = cc
 taken_bytes body.Malformed given bytes taken is = cc
 
-body_stands : (h : PutHeaders) (p : Path) (who : Client) (body : Option (List ℕ)) (bytes tag : List ℕ) (outcome : Result Response DavError) {old new : StoreState} {ls ms : Locks} → body ≡ Some bytes → IsWorld old.world → IsStorable p → who.moment ≤ last_moment → h.range ≡ Whole
+body_stands : (h : PutHeaders) (p : Path) (who : Caller) (body : Option (List ℕ)) (bytes tag : List ℕ) (outcome : Result Reply DavError) {old new : StoreState} {ls ms : Locks} → body ≡ Some bytes → IsWorld old.world → IsStorable p → who.moment ≤ last_moment → h.range ≡ Whole
     → Ran Asking (put_body Put h p who body) old ls outcome new ms → Contains (reply_to outcome).headers (codes "etag", tag) → StandsAnywhere new.world tag bytes
 body_stands h p who body bytes tag (Err e) is world storable small whole ran among = error_untagged (must_close e) tag among
 body_stands h p who body bytes tag (Ok r) {old} {new} {ls} {ms} is world storable small whole ran among =
     put_stands h p who bytes tag world storable small whole (subst (λ (b : Option (List ℕ)). Ran Asking (put_body Put h p who b) old ls (Ok r) new ms) is ran) among
 
 -- the plan of a PUT of these bytes
-plan_stands : {allowed : ℕ} {headers : Headers} {p : PathText} {given : Body} {who : Client} {m : DavMethod} {plan : MethodPlan Response} (bytes tag : List ℕ) (outcome : Result Response DavError) {old new : StoreState} {ls ms : Locks}
+plan_stands : {allowed : ℕ} {headers : Headers} {p : PathText} {given : Body} {who : Caller} {m : DavMethod} {plan : MethodPlan Reply} (bytes tag : List ℕ) (outcome : Result Reply DavError) {old new : StoreState} {ls ms : Locks}
     → m ≡ Put → get_all headers (codes "content-range") ≡ [] → bytes_of_body given ≡ Some bytes → IsWorld old.world → IsStorable (names p) → who.moment ≤ last_moment
     → PlanOf allowed headers p given who m plan → Ran Asking plan old ls outcome new ms → Contains (reply_to outcome).headers (codes "etag", tag) → StandsAnywhere new.world tag bytes
 plan_stands bytes tag outcome puts_it range is world storable small (gets other) ran among = absurd (cc)
@@ -269,7 +269,7 @@ plan_stands bytes tag outcome puts_it range is world storable small (sets_proper
 plan_stands bytes tag outcome puts_it range is world storable small (locks other) ran among = absurd (cc)
 plan_stands bytes tag outcome puts_it range is world storable small (releases other) ran among = absurd (cc)
 
-of_stands : {s : Settings} {x : Asked} {r : Request} {m : DavMethod} {plan : MethodPlan Response} (bytes tag : List ℕ) (outcome : Result Response DavError) {old new : StoreState} {ls ms : Locks}
+of_stands : {s : Settings} {x : Exchange} {r : Request} {m : DavMethod} {plan : MethodPlan Reply} (bytes tag : List ℕ) (outcome : Result Reply DavError) {old new : StoreState} {ls ms : Locks}
     → m ≡ Put → get_all (headers_of r.fields) (codes "content-range") ≡ [] → bytes_of_body x.body ≡ Some bytes → IsWorld old.world → x.moment ≤ last_moment
     → MeansOf s x r m plan → Ran Asking plan old ls outcome new ms → Contains (reply_to outcome).headers (codes "etag", tag) → StandsAnywhere new.world tag bytes
 of_stands bytes tag outcome puts_it range is world small (not_allowed out) ran among = failed_untagged (dav.StatusClose 405) outcome tag ran among
@@ -279,7 +279,7 @@ of_stands {x = x} bytes tag outcome puts_it range is world small (method q given
     let taken : body_for TakesBytes x.body ≡ Ok given = subst (λ (k : DavMethod). body_for (taken_by k) x.body ≡ Ok given) puts_it fits in
     plan_stands bytes tag outcome puts_it range (taken_bytes x.body given bytes taken is) world (target_storable named) small plan ran among
 
-means_stands : {s : Settings} {x : Asked} {plan : MethodPlan Response} (bytes tag : List ℕ) (outcome : Result Response DavError) {old new : StoreState} {ls ms : Locks}
+means_stands : {s : Settings} {x : Exchange} {plan : MethodPlan Reply} (bytes tag : List ℕ) (outcome : Result Reply DavError) {old new : StoreState} {ls ms : Locks}
     → PutsWhole x bytes → IsWorld old.world → x.moment ≤ last_moment → Means s x plan → Ran Asking plan old ls outcome new ms → Contains (reply_to outcome).headers (codes "etag", tag) → StandsAnywhere new.world tag bytes
 means_stands bytes tag outcome whole world small (no_head out) ran among = failed_untagged (dav.Status 400) outcome tag ran among
 means_stands bytes tag outcome whole world small (no_method q e head' gives') ran among = failed_untagged e outcome tag ran among
@@ -287,12 +287,12 @@ means_stands {x = x} bytes tag outcome (r, head, gives, range, is) world small (
     let request : q ≡ r = one_head x.head q r head' head in
     of_stands bytes tag outcome (asks_one x Put (r, head, gives) head' gives') (ap (λ (h : Request). get_all (headers_of h.fields) (codes "content-range")) request ∙ range) is world small means ran among
 
-step_stands : {s : Settings} {x : Asked} (bytes tag : List ℕ) {old new : StoreState} {ls ms : Locks} {reply : Response}
+step_stands : {s : Settings} {x : Exchange} (bytes tag : List ℕ) {old new : StoreState} {ls ms : Locks} {reply : Reply}
     → PutsWhole x bytes → IsWorld old.world → x.moment ≤ last_moment → Steps s x old ls reply new ms → Contains reply.headers (codes "etag", tag) → StandsAnywhere new.world tag bytes
 step_stands bytes tag whole world small (steps plan outcome means ran) among = means_stands bytes tag outcome whole world small means ran among
 
 -- what a PUT told is known after it
-turn_stored : {s : Settings} (t : Turn) (bytes tag : List ℕ) (old : StoreState) {new : StoreState} {ls ms : Locks} {reply : Response}
+turn_stored : {s : Settings} (t : Turn) (bytes tag : List ℕ) (old : StoreState) {new : StoreState} {ls ms : Locks} {reply : Reply}
     → PutsWhole t.asked bytes → IsWorld old.world → t.asked.moment ≤ last_moment → Steps s t.asked (begun t.refusals old) ls reply new ms → Contains reply.headers (codes "etag", tag) → Known new.world tag bytes
 turn_stored t bytes tag old {new} whole world small step among =
     let (p, stands) = step_stands bytes tag whole (subst IsWorld (sym (begun_world t.refusals old)) world) small step among in
@@ -310,23 +310,23 @@ known_there w p tag bytes world is has =
     (has.node, has.there, is.remembered.bytes_are p has.node has.there same)
 
 -- what a PUT of a run told is known at its end
-stored_known : {s : Settings} {ts : List Turn} {old new : StoreState} {ls ms : Locks} {replies : List Response} (k : ℕ) (t : Turn) (reply : Response) (bytes tag : List ℕ)
-    → IsWorld old.world → AreShowable ts → Runs s ts old ls replies new ms → k < length (zip ts replies) → slice_index_or (zip ts replies) k (t, reply) ≡ (t, reply)
+stored_known : {s : Settings} {ts : List Turn} {old new : StoreState} {ls ms : Locks} {replies : List Reply} (k : ℕ) (t : Turn) (reply : Reply) (bytes tag : List ℕ)
+    → IsWorld old.world → MomentsAreDates ts → Runs s ts old ls replies new ms → k < length (zip ts replies) → slice_index_or (zip ts replies) k (t, reply) ≡ (t, reply)
     → PutsWhole t.asked bytes → Contains reply.headers (codes "etag", tag) → Known new.world tag bytes
 stored_known k t reply bytes tag world small no_more within is whole among = absurd (omega (arith, within))
 stored_known zero t reply bytes tag world small (one_more {t = u} {ts} {old} {mid} {new} {reply = first} step rest) within is whole among =
-    let turn : u ≡ t = ap (λ (e : Turn × Response). e.0) is in
-    let answer : first ≡ reply = ap (λ (e : Turn × Response). e.1) is in
+    let turn : u ≡ t = ap (λ (e : Turn × Reply). e.0) is in
+    let answer : first ≡ reply = ap (λ (e : Turn × Reply). e.1) is in
     let puts_it : PutsWhole u.asked bytes = subst (λ (v : Turn). PutsWhole v.asked bytes) (sym turn) whole in
-    let told : Contains first.headers (codes "etag", tag) = subst (λ (r : Response). Contains r.headers (codes "etag", tag)) (sym answer) among in
+    let told : Contains first.headers (codes "etag", tag) = subst (λ (r : Reply). Contains r.headers (codes "etag", tag)) (sym answer) among in
     let after = (turn_keeps u old (small_first u ts small) world step).world in
     known_on mid.world new.world tag bytes (run_keeps after (small_rest u ts small) rest) (turn_stored u bytes tag old puts_it world (small_first u ts small) step told)
 stored_known (suc k) t reply bytes tag world small (one_more {t = u} {ts} {old} step rest) within is whole among =
     stored_known k t reply bytes tag (turn_keeps u old (small_first u ts small) world step).world (small_rest u ts small) rest (omega (arith, within)) is whole among
 
 -- what a run told is known at its end
-told_known : {s : Settings} {ts : List Turn} {old new : StoreState} {ls ms : Locks} {replies : List Response} (tag bytes : List ℕ)
-    → IsWorld old.world → AreShowable ts → Runs s ts old ls replies new ms → ToldIn ts replies tag bytes → Known new.world tag bytes
+told_known : {s : Settings} {ts : List Turn} {old new : StoreState} {ls ms : Locks} {replies : List Reply} (tag bytes : List ℕ)
+    → IsWorld old.world → MomentsAreDates ts → Runs s ts old ls replies new ms → ToldIn ts replies tag bytes → Known new.world tag bytes
 told_known {ts = ts} {replies = replies} tag bytes world small ran (inl shown) = shown_known tag bytes world small ran (inr (shown_among ts replies tag bytes shown))
 told_known tag bytes world small ran (inr (t, reply, (k, within, is), whole, among)) = stored_known k t reply bytes tag world small ran within is whole among
 

@@ -23,7 +23,7 @@ use Rattle.dav_headers.specs.ETagList.{TagList, tags, IsTagList}
 use Rattle.dav_headers.proofs.Theorems.{one_tag_list}
 use Rattle.dav_engine.specs.declared.request.Body.{Body}
 use Rattle.dav_engine.specs.declared.request.Body.TheVariants as body
-use Rattle.dav_engine.specs.Client.{Client}
+use Rattle.dav_engine.specs.Caller.{Caller}
 use Rattle.dav_engine.specs.Conditions.{Conditions, is_reading, matches, http_conditions, if_match}
 use Rattle.dav_engine.specs.Headers.{Headers, Decodes}
 use Rattle.dav_engine.specs.Method.{MethodPlan, then as followed_by, ◌>>=◌, gives, fails, require, refused_as}
@@ -32,7 +32,7 @@ use Rattle.dav_engine.specs.Delete.{is_delete}
 use Rattle.dav_engine.specs.Mkcol.{is_mkcol}
 use Rattle.dav_engine.specs.Plan.{Locks, Ran, ran_ask}
 use Rattle.dav_engine.specs.Put.{bytes_of_body, is_put}
-use Rattle.dav_engine.specs.Response.{Response, reply_to}
+use Rattle.dav_engine.specs.Reply.{Reply, reply_to}
 use Rattle.dav_engine.specs.Lock.{is_lock}
 use Rattle.dav_engine.specs.Unlock.{is_unlock}
 use Rattle.dav_engine.specs.Propfind.{is_propfind}
@@ -40,13 +40,13 @@ use Rattle.dav_engine.specs.Proppatch.{is_proppatch}
 use Rattle.dav_server.proofs.FindStatuses.{ends_propfind}
 use Rattle.dav_server.proofs.PropertyStatuses.{ends_proppatch}
 use Rattle.dav_engine.proofs.Theorems.{Did, did, ran_split, ran_outcome}
-use Rattle.dav_server.specs.Get.{not_modified, show_or_tell, judged, get, is_get}
+use Rattle.dav_server.specs.Get.{not_modified, show_or_tell, unless_condition_status, get, is_get}
 use Rattle.dav_server.specs.Head.{Request}
 use Rattle.dav_server.specs.Headers.{headers_of}
-use Rattle.dav_server.specs.Machine.{Settings, Asked, Taken, TakesBytes, TakesTree, TakesNone, taken_by, body_for, PlanOf, gets, heads, puts, patches, makes, deletes, copies, moves, offers, finds_properties, sets_properties, locks, releases, MeansOf, not_allowed, no_path, no_body, method, Means, no_head, no_method, known, Steps, steps}
+use Rattle.dav_server.specs.Machine.{Settings, Exchange, Taken, TakesBytes, TakesTree, TakesNone, taken_by, body_for, PlanOf, gets, heads, puts, patches, makes, deletes, copies, moves, offers, finds_properties, sets_properties, locks, releases, MeansOf, not_allowed, no_path, no_body, method, Means, no_head, no_method, known, Steps, steps}
 use Rattle.dav_server.specs.Method.{GivesServed}
 use Rattle.dav_server.specs.Run.{Turn, begun, Runs, no_more, one_more}
-use Rattle.dav_server.specs.TagLaws.{AreShowable, LacksTag, NotModifiedIsTrue}
+use Rattle.dav_server.specs.TagLaws.{MomentsAreDates, LacksTag, NotModifiedIsTrue}
 use Rattle.dav_server.specs.Target.{TargetNames}
 use Rattle.dav_server.proofs.GetWorld.{Stands, after_found, file_kind, told_of, stands_known, known_bytes}
 use Rattle.dav_server.proofs.HeadLemmas.{one_head}
@@ -91,16 +91,16 @@ has_tag m match none_match n tag says h =
 -- ---- one GET or HEAD
 
 -- the status of the reply where a plan failed
-failed_status : {A : Type 0} {e : DavError} {outcome : Result Response DavError} {old new : StoreState} {ls ms : Locks} → IsOther e → Ran Asking (fails e) old ls outcome new ms → (reply_to outcome).status ≡ 304 → A
-failed_status other ran is = absurd (other (sym (ap (λ (o : Result Response DavError). (reply_to o).status) (ran_outcome ran)) ∙ is))
+failed_status : {A : Type 0} {e : DavError} {outcome : Result Reply DavError} {old new : StoreState} {ls ms : Locks} → IsOther e → Ran Asking (fails e) old ls outcome new ms → (reply_to outcome).status ≡ 304 → A
+failed_status other ran is = absurd (other (sym (ap (λ (o : Result Reply DavError). (reply_to o).status) (ran_outcome ran)) ∙ is))
 
-judged_status : (status : ℕ) (t : Bool) (d : DavMetaData) {outcome : Result Response DavError} {old new : StoreState} {ls ms : Locks} → (status == 304) ≡ t
+judged_status : (status : ℕ) (t : Bool) (d : DavMetaData) {outcome : Result Reply DavError} {old new : StoreState} {ls ms : Locks} → (status == 304) ≡ t
     → Ran Asking (if t then gives (not_modified d) else fails (dav.Status status)) old ls outcome new ms → (reply_to outcome).status ≡ 304 → status ≡ 304
 judged_status status true d same ran is = eqb-true status 304 same
-judged_status status false d same ran is = sym (ap (λ (o : Result Response DavError). (reply_to o).status) (ran_outcome ran)) ∙ is
+judged_status status false d same ran is = sym (ap (λ (o : Result Reply DavError). (reply_to o).status) (ran_outcome ran)) ∙ is
 
-verdict_304 : (m : DavMethod) (p : Path) (now : ℕ) (d : DavMetaData) (verdict : Option ℕ) (outcome : Result Response DavError) {old new : StoreState} {ls ms : Locks}
-    → Ran Asking (judged verdict d (show_or_tell m p now d)) old ls outcome new ms → (reply_to outcome).status ≡ 304 → verdict ≡ Some 304
+verdict_304 : (m : DavMethod) (p : Path) (now : ℕ) (d : DavMetaData) (verdict : Option ℕ) (outcome : Result Reply DavError) {old new : StoreState} {ls ms : Locks}
+    → Ran Asking (unless_condition_status verdict d (show_or_tell m p now d)) old ls outcome new ms → (reply_to outcome).status ≡ 304 → verdict ≡ Some 304
 verdict_304 m p now d None outcome ran is = absurd (other_status outcome (ran_ends (ends_show_or_tell m p now d) ran) is)
 verdict_304 m p now d (Some status) outcome ran is = ap Some (judged_status status (status == 304) d refl ran is)
 
@@ -108,14 +108,14 @@ settled : (verdict judgement : Option ℕ) → (verdict ≡ judgement) ⊎ (verd
 settled verdict judgement (inl same) is = sym same ∙ is
 settled verdict judgement (inr same) is = no_412 (sym same ∙ is)
 
-answered_304 : (m : DavMethod) (c : Conditions) (p : Path) (now : ℕ) (d : DavMetaData) (o : Result (Option ℕ) DavError) (outcome : Result Response DavError) {old new : StoreState} {ls ms : Locks}
+answered_304 : (m : DavMethod) (c : Conditions) (p : Path) (now : ℕ) (d : DavMetaData) (o : Result (Option ℕ) DavError) (outcome : Result Reply DavError) {old new : StoreState} {ls ms : Locks}
     → Outcome (λ e. ⊥) (λ verdict. (verdict ≡ http_conditions m c.if_match c.if_none_match (Some d)) ⊎ (verdict ≡ Some 412)) o
-    → Ran Asking (followed_by o (λ verdict. judged verdict d (show_or_tell m p now d))) old ls outcome new ms → (reply_to outcome).status ≡ 304 → http_conditions m c.if_match c.if_none_match (Some d) ≡ Some 304
+    → Ran Asking (followed_by o (λ verdict. unless_condition_status verdict d (show_or_tell m p now d))) old ls outcome new ms → (reply_to outcome).status ≡ 304 → http_conditions m c.if_match c.if_none_match (Some d) ≡ Some 304
 answered_304 m c p now d (Err e) outcome ends ran is = absurd ends
 answered_304 m c p now d (Ok verdict) outcome ends ran is = settled verdict _ ends (verdict_304 m p now d verdict outcome ran is)
 
-conditions_304 : (m : DavMethod) (c : Conditions) (p : Path) (now : ℕ) (d : DavMetaData) (outcome : Result Response DavError) {old new : StoreState} {ls ms : Locks}
-    → Ran Asking (if_match m c (Some d) >>= (λ verdict. judged verdict d (show_or_tell m p now d))) old ls outcome new ms → (reply_to outcome).status ≡ 304 → http_conditions m c.if_match c.if_none_match (Some d) ≡ Some 304
+conditions_304 : (m : DavMethod) (c : Conditions) (p : Path) (now : ℕ) (d : DavMetaData) (outcome : Result Reply DavError) {old new : StoreState} {ls ms : Locks}
+    → Ran Asking (if_match m c (Some d) >>= (λ verdict. unless_condition_status verdict d (show_or_tell m p now d))) old ls outcome new ms → (reply_to outcome).status ≡ 304 → http_conditions m c.if_match c.if_none_match (Some d) ≡ Some 304
 conditions_304 m c p now d outcome ran is =
     let parts = ran_split (if_match m c (Some d)) _ ran in
     answered_304 m c p now d parts.outcome outcome (ran_ends (conditions_end m c (Some d)) parts.first) parts.rest is
@@ -123,8 +123,8 @@ conditions_304 m c p now d outcome ran is =
 no_file : IsOther (dav.Status 405)
 no_file same = absurd (omega (arith, same))
 
-plain_304 : (m : DavMethod) (c : Conditions) (p : Path) (now : ℕ) (d : DavMetaData) (b : Bool) (outcome : Result Response DavError) {old new : StoreState} {ls ms : Locks}
-    → Ran Asking (require b (dav.Status 405) >>= (λ plain. if_match m c (Some d) >>= (λ verdict. judged verdict d (show_or_tell m p now d)))) old ls outcome new ms → (reply_to outcome).status ≡ 304
+plain_304 : (m : DavMethod) (c : Conditions) (p : Path) (now : ℕ) (d : DavMetaData) (b : Bool) (outcome : Result Reply DavError) {old new : StoreState} {ls ms : Locks}
+    → Ran Asking (require b (dav.Status 405) >>= (λ plain. if_match m c (Some d) >>= (λ verdict. unless_condition_status verdict d (show_or_tell m p now d)))) old ls outcome new ms → (reply_to outcome).status ≡ 304
     → (b ≡ true) × (http_conditions m c.if_match c.if_none_match (Some d) ≡ Some 304)
 plain_304 m c p now d true outcome ran is = (refl, conditions_304 m c p now d outcome ran is)
 plain_304 m c p now d false outcome ran is = failed_status no_file ran is
@@ -133,7 +133,7 @@ plain_304 m c p now d false outcome ran is = failed_status no_file ran is
 abbrev pub SomeStands : World → Path → List ℕ → Type 0
 SomeStands w p tag = (bytes : List ℕ) × Stands w p tag bytes
 
-found_304 : (m : DavMethod) (c : Conditions) (p : Path) (now : ℕ) (tag : EntityTag) (w : World) (answer : Result DavMetaData FsError) (outcome : Result Response DavError) {mid new : StoreState} {ls ms : Locks}
+found_304 : (m : DavMethod) (c : Conditions) (p : Path) (now : ℕ) (tag : EntityTag) (w : World) (answer : Result DavMetaData FsError) (outcome : Result Reply DavError) {mid new : StoreState} {ls ms : Locks}
     → c.if_none_match ≡ Some (tags (tag ∷ [])) → Did (meaning (Metadata p) w) w answer mid.world
     → Ran Asking (followed_by (refused_as dav.FsError answer) (after_found m c p now)) mid ls outcome new ms → (reply_to outcome).status ≡ 304 → SomeStands w p (tag_text tag.weak tag.tag)
 found_304 m c p now tag w (Err e) outcome says one ran is = failed_status (fs_other e) ran is
@@ -142,7 +142,7 @@ found_304 m c p now tag w (Ok d) outcome {mid} {new} {ls} {ms} says one ran is =
     let (plain, verdict) = plain_304 m c p now (metadata_of n) (not (metadata_of n).dir) outcome (subst (λ (x : DavMetaData). Ran Asking (after_found m c p now x) mid ls outcome new ms) about ran) is in
     (_, record { node = n; there = there; kind = file_kind n.kind (not-true (is_folder_kind n.kind) plain); tag_is = has_tag m c.if_match c.if_none_match n tag says verdict })
 
-get_304 : (m : DavMethod) (c : Conditions) (p : Path) (now : ℕ) (tag : EntityTag) (outcome : Result Response DavError) {old new : StoreState} {ls ms : Locks}
+get_304 : (m : DavMethod) (c : Conditions) (p : Path) (now : ℕ) (tag : EntityTag) (outcome : Result Reply DavError) {old new : StoreState} {ls ms : Locks}
     → c.if_none_match ≡ Some (tags (tag ∷ [])) → Ran Asking (get m c p now) old ls outcome new ms → (reply_to outcome).status ≡ 304 → SomeStands old.world p (tag_text tag.weak tag.tag)
 get_304 m c p now tag outcome says (ran_ask {old = old} {answer = answer} one rest) is = found_304 m c p now tag old.world answer outcome says (did one) rest is
 
@@ -170,7 +170,7 @@ body_status TakesTree body.Malformed = tt
 body_status TakesBytes body.Malformed = not_415
 body_status TakesNone body.Malformed = not_415
 
-plan_304 : {allowed : ℕ} {headers : Headers} {p : PathText} {given : Body} {who : Client} {m : DavMethod} {plan : MethodPlan Response} (tag : EntityTag) (outcome : Result Response DavError) {old new : StoreState} {ls ms : Locks}
+plan_304 : {allowed : ℕ} {headers : Headers} {p : PathText} {given : Body} {who : Caller} {m : DavMethod} {plan : MethodPlan Reply} (tag : EntityTag) (outcome : Result Reply DavError) {old new : StoreState} {ls ms : Locks}
     → IsTagList (get_all headers (codes "if-none-match")) (tags (tag ∷ [])) → PlanOf allowed headers p given who m plan → Ran Asking plan old ls outcome new ms → (reply_to outcome).status ≡ 304
     → SomeStands old.world (names p) (tag_text tag.weak tag.tag)
 plan_304 {p = p} {who = who} tag outcome says (gets (is_get c are)) ran is = get_304 Get c (names p) who.moment tag outcome (says_tags _ c.if_none_match _ are.none_match says) ran is
@@ -193,7 +193,7 @@ one_value same = cc
 pub no_error : {A B : Type 0} {a : A} {e : DavError} → ◌≡◌ {A = Result A DavError} (Ok a) (Err e) → B
 no_error same = absurd (cc)
 
-of_304 : {s : Settings} {x : Asked} {r : Request} {m : DavMethod} {plan : MethodPlan Response} (p : PathText) (tag : EntityTag) (outcome : Result Response DavError) {old new : StoreState} {ls ms : Locks}
+of_304 : {s : Settings} {x : Exchange} {r : Request} {m : DavMethod} {plan : MethodPlan Reply} (p : PathText) (tag : EntityTag) (outcome : Result Reply DavError) {old new : StoreState} {ls ms : Locks}
     → TargetNames s.prefix m r.target (Ok p) → IsTagList (get_all (headers_of r.fields) (codes "if-none-match")) (tags (tag ∷ []))
     → MeansOf s x r m plan → Ran Asking plan old ls outcome new ms → (reply_to outcome).status ≡ 304 → SomeStands old.world (names p) (tag_text tag.weak tag.tag)
 of_304 p tag outcome names_p says (not_allowed out) ran is = failed_status {e = dav.StatusClose 405} (λ same. absurd (omega (arith, same))) ran is
@@ -203,7 +203,7 @@ of_304 {s} {r = r} {m} p tag outcome {old} names_p says (method q given has name
     let same : q ≡ p = one_value (one_outcome s.prefix m r.target _ _ named names_p) in
     subst (λ (t : PathText). SomeStands old.world (names t) (tag_text tag.weak tag.tag)) same (plan_304 tag outcome says plan ran is)
 
-means_304 : {s : Settings} {x : Asked} {plan : MethodPlan Response} (p : PathText) (tag : EntityTag) (outcome : Result Response DavError) {old new : StoreState} {ls ms : Locks}
+means_304 : {s : Settings} {x : Exchange} {plan : MethodPlan Reply} (p : PathText) (tag : EntityTag) (outcome : Result Reply DavError) {old new : StoreState} {ls ms : Locks}
     → LacksTag s x p tag → Means s x plan → Ran Asking plan old ls outcome new ms → (reply_to outcome).status ≡ 304 → SomeStands old.world (names p) (tag_text tag.weak tag.tag)
 means_304 p tag outcome (r, m, head, gives, named, says) (no_head out) ran is = absurd (out r head)
 means_304 p tag outcome (r, m, head, gives, named, says) (no_method q e head' gives') ran is =
@@ -213,18 +213,18 @@ means_304 {s} {x} {plan} p tag outcome (r, m, head, gives, named, says) (known q
     let same : n ≡ m = one_method r.method n m (subst (λ (h : Request). GivesServed h.method (Ok n)) request gives') gives in
     of_304 p tag outcome named says (subst (λ (k : DavMethod). MeansOf s x r k plan) same (subst (λ (h : Request). MeansOf s x h n plan) request means)) ran is
 
-step_304 : {s : Settings} {x : Asked} (p : PathText) (tag : EntityTag) {old new : StoreState} {ls ms : Locks} {reply : Response} → LacksTag s x p tag → Steps s x old ls reply new ms → reply.status ≡ 304
+step_304 : {s : Settings} {x : Exchange} (p : PathText) (tag : EntityTag) {old new : StoreState} {ls ms : Locks} {reply : Reply} → LacksTag s x p tag → Steps s x old ls reply new ms → reply.status ≡ 304
     → SomeStands old.world (names p) (tag_text tag.weak tag.tag)
 step_304 p tag lacks (steps plan outcome means ran) is = means_304 p tag outcome lacks means ran is
 
-turn_304 : {s : Settings} (t : Turn) (p : PathText) (tag : EntityTag) (old : StoreState) {new : StoreState} {ls ms : Locks} {reply : Response} → LacksTag s t.asked p tag → Steps s t.asked (begun t.refusals old) ls reply new ms → reply.status ≡ 304
+turn_304 : {s : Settings} (t : Turn) (p : PathText) (tag : EntityTag) (old : StoreState) {new : StoreState} {ls ms : Locks} {reply : Reply} → LacksTag s t.asked p tag → Steps s t.asked (begun t.refusals old) ls reply new ms → reply.status ≡ 304
     → SomeStands old.world (names p) (tag_text tag.weak tag.tag)
 turn_304 t p tag old lacks step is = subst (λ w. SomeStands w (names p) (tag_text tag.weak tag.tag)) (begun_world t.refusals old) (step_304 p tag lacks step is)
 
 -- ---- whole runs
 
 -- what is shown in a run is shown before a request, by it, or after it
-among_parts : {s : Settings} {front : List Turn} {old mid : StoreState} {ls ks : Locks} {replies : List Response} (t : Turn) (back : List Turn) (reply : Response) (more : List Response) (tag bytes : List ℕ)
+among_parts : {s : Settings} {front : List Turn} {old mid : StoreState} {ls ks : Locks} {replies : List Reply} (t : Turn) (back : List Turn) (reply : Reply) (more : List Reply) (tag bytes : List ℕ)
     → Runs s front old ls replies mid ks → ShownAmong (front ++ t ∷ back) (replies ++ reply ∷ more) tag bytes → ShownAmong front replies tag bytes ⊎ ShownAmong (t ∷ back) (reply ∷ more) tag bytes
 among_parts t back reply more tag bytes no_more is = inr is
 among_parts t back reply more tag bytes (one_more step rest) (inl is) = inl (inl is)
@@ -234,8 +234,8 @@ among_parts t back reply more tag bytes (one_more step rest) (inr later) = elim 
 ]
 
 -- the bytes that are shown with a tag are those of the file that has it
-shown_bytes : {s : Settings} {front back : List Turn} (t : Turn) {old : StoreState} (mid : StoreState) {end new : StoreState} {ls ks js ms : Locks} {replies more : List Response} {reply : Response} (p : Path) (tag bytes others : List ℕ)
-    → IsWorld old.world → AreShowable (front ++ t ∷ back)
+shown_bytes : {s : Settings} {front back : List Turn} (t : Turn) {old : StoreState} (mid : StoreState) {end new : StoreState} {ls ks js ms : Locks} {replies more : List Reply} {reply : Reply} (p : Path) (tag bytes others : List ℕ)
+    → IsWorld old.world → MomentsAreDates (front ++ t ∷ back)
     → Runs s front old ls replies mid ks → Steps s t.asked (begun t.refusals mid) ks reply end js → Runs s back end js more new ms
     → reply.status ≡ 304 → Stands mid.world p tag others → ShownAmong front replies tag bytes ⊎ ShownAmong (t ∷ back) (reply ∷ more) tag bytes → bytes ≡ others
 shown_bytes {front = front} {back} t mid p tag bytes others world small runs step rest is stands (inl before) =

@@ -14,12 +14,12 @@ use Rattle.dav_engine.specs.Guard.{folder_of, Stands}
 use Rattle.dav_engine.specs.Members.{SameMembers}
 use Rattle.dav_engine.specs.Plan.{ServerState}
 use Rattle.dav_engine.specs.PropfindLaws.{responses_in}
-use Rattle.dav_engine.specs.Response.{Response}
+use Rattle.dav_engine.specs.Reply.{Reply}
 use Rattle.dav_engine.specs.Sparing.{Spared}
 use Rattle.dav_server.specs.Head.{Request, IsHead}
 use Rattle.dav_server.specs.Headers.{headers_of}
-use Rattle.dav_server.specs.HrefLaws.{TellsOfOne}
-use Rattle.dav_server.specs.Machine.{Asked}
+use Rattle.dav_server.specs.HrefLaws.{HasConcernedHref}
+use Rattle.dav_server.specs.Machine.{Exchange}
 use Rattle.dav_server.specs.Method.{GivesServed}
 use Rattle.dav_server.specs.Promises.{OneStep, Promise, reading, created, refused, unmodified, updated, passed, kept, shared, tags, hrefs, members, Keeps}
 use Rattle.dav_server.specs.Run.{Turn}
@@ -55,7 +55,7 @@ as_shared s same ls ms were are shares = subst CoveringAreShared (some_list (sym
 
 -- a reply that is no multistatus has no hrefs
 pub no_hrefs : (s : OneStep) → responses_in s.reply.body ≡ [] → Keeps hrefs s
-no_hrefs s none = subst (All (TellsOfOne s.settings s.turn.asked)) (sym none) (All-nil (TellsOfOne s.settings s.turn.asked))
+no_hrefs s none = subst (All (HasConcernedHref s.settings s.turn.asked)) (sym none) (All-nil (HasConcernedHref s.settings s.turn.asked))
 
 -- where no lock stands, none is passed
 pub none_passed : (s : OneStep) → s.was.locks ≡ Some [] → Keeps passed s
@@ -107,23 +107,23 @@ no_update s r m head served is p tag bytes told (q, n, also, has, updates, named
     absurd (true≢false (sym updates ∙ ap is_update (sym (asks_one s.turn.asked n (q, also, has) head served)) ∙ is))
 
 -- all replies that show bytes show these
-abbrev pub ShowsOnly : List ℕ → Turn × Response → Type 0
+abbrev pub ShowsOnly : List ℕ → Turn × Reply → Type 0
 ShowsOnly bytes e = (tag others : List ℕ) → Shows tag others e.1 → others ≡ bytes
 
-pub shows_nothing : (bytes : List ℕ) (t : Turn) (reply : Response) → reply.status ≢ 200 → ShowsOnly bytes (t, reply)
+pub shows_nothing : (bytes : List ℕ) (t : Turn) (reply : Reply) → reply.status ≢ 200 → ShowsOnly bytes (t, reply)
 shows_nothing bytes t reply other tag others shows = absurd (other shows.status)
 
-pub one_text : (ts : List Turn) (replies : List Response) (bytes : List ℕ) → All (ShowsOnly bytes) (zip ts replies) → EqualTagsShowEqualBytes ts replies
+pub one_text : (ts : List Turn) (replies : List Reply) (bytes : List ℕ) → All (ShowsOnly bytes) (zip ts replies) → EqualTagsShowEqualBytes ts replies
 one_text ts replies bytes all tag b c (t, r, has, get, shows) (u, q, also, got, shown) =
     All-contains (ShowsOnly bytes) (zip ts replies) (t, r) all has tag b shows
     ∙ sym (All-contains (ShowsOnly bytes) (zip ts replies) (u, q) all also tag c shown)
 
 -- ---- a first request
 
-abbrev pub first_step : Asked → Response → ServerState → ServerState → OneStep
+abbrev pub first_step : Exchange → Reply → ServerState → ServerState → OneStep
 first_step x reply was now = record { settings = settings; front = []; turn = turn_with x; back = []; before = []; reply = reply; after = []; was = was; now = now }
 
-module _ (x : Asked) (reply : Response) (was now : ServerState) where
+module _ (x : Exchange) (reply : Reply) (was now : ServerState) where
   -- nothing was told before it
   pub untold : Keeps updated (first_step x reply was now)
   untold p tag bytes (inl (t, r, has, get, shows)) updates good = absurd (nothing (t, r) has)

@@ -26,19 +26,19 @@ use Rattle.dav_headers.specs.ETagList.{TagList}
 use Rattle.dav_headers.specs.If.{Item, state_token, entity_tag, Condition}
 use Rattle.dav_headers.specs.declared.range.XUpdateRange.{XUpdateRange}
 use Rattle.dav_headers.specs.declared.range.XUpdateRange.TheVariants.{FromTo, AllFrom, Last, Append}
-use Rattle.dav_engine.specs.declared.put_headers.Bounds.{Bounds}
-use Rattle.dav_engine.specs.declared.put_headers.Bounds.TheVariants.{Unread, Whole, Within}
-use Rattle.dav_engine.specs.declared.put_headers.Writing.{Writing}
+use Rattle.dav_engine.specs.declared.methods.put.headers.Bounds.{Bounds}
+use Rattle.dav_engine.specs.declared.methods.put.headers.Bounds.TheVariants.{Unread, Whole, Within}
+use Rattle.dav_engine.specs.declared.methods.put.headers.Writing.{Writing}
 use Rattle.dav_engine.specs.declared.request.Body.{Body}
-use Rattle.dav_engine.specs.Client.{Client, requester}
-use Rattle.dav_engine.specs.Conditions.{Conditions, Addressed, is_reading, matches_found, item_holds, while_true, while_false, all_hold, some_holds, if_holds, http_conditions, if_match, unless, status_as, guarded, submitted}
-use Rattle.dav_engine.specs.Lock.{one_token, token_to_refresh, keep_refreshed, refresh_in, lock_again, asked_lock, grant_in, taken_back, empty_opening, empty_error, made_or_back, make_empty, lock_new, is_absent, lock_found, lock}
+use Rattle.dav_engine.specs.Caller.{Caller, requester}
+use Rattle.dav_engine.specs.Conditions.{Conditions, Addressed, is_reading, matches_found, item_holds, and_then, or_else, all_hold, some_holds, if_holds, http_conditions, if_match, unless, status_as, guarded, submitted}
+use Rattle.dav_engine.specs.Lock.{one_token, token_to_refresh, keep_refreshed, refresh_in, lock_again, asked_lock, grant_in, taken_back, empty_opening, empty_error, create_or_unlock, make_empty, lock_new, is_absent, lock_found, lock}
 use Rattle.dav_engine.specs.Headers.{Headers}
 use Rattle.dav_engine.specs.LockHeaders.{LockHeaders, refreshed_for}
 use Rattle.dav_engine.specs.LockInfo.{lock_info}
 use Rattle.dav_engine.specs.Method.{MethodPlan, then as followed_by, ◌>>=◌, gives, require, require_free, required, has_locks, refused_as, ask_for, set_by, unless_status, require_parent, require_member}
 use Rattle.dav_engine.specs.Copying.{CopyFault, CopyWalk, copy_report, copy_seen, copy_members, copy_listed, copy_inside, copy_kind, copy_looked, copy as copy_walk}
-use Rattle.dav_engine.specs.CopyMove.{CopyHeaders, AreCopyHeaders, DestinationNames, absent, unreadable, outside, inside, is_move, copy_depth, destination_found, source_free, copy_allowed, is_replaced, clearing, drop_if, drop_if_moved, brought, copied_status, copy_reply, bring_if_clear, copy_or_move, changes_members}
+use Rattle.dav_engine.specs.CopyMove.{CopyHeaders, AreCopyHeaders, DestinationNames, absent, unreadable, outside, inside, is_move, copy_depth, destination_found, source_free, copy_allowed, is_replaced, clearing, drop_if, drop_if_moved, transfer, copied_status, copy_reply, transfer_if_cleared, copy_or_move, changes_members}
 use Rattle.dav_engine.specs.Delete.{DeleteHeaders, whole_depth, delete_allowed, drop_if_gone, delete_reply, delete_found, delete}
 use Rattle.dav_engine.specs.Folder.{closed as folder_path, child_of, room_at, is_folder_found, path_found, location_found}
 use Rattle.dav_engine.specs.Mkcol.{mkcol, create_error}
@@ -47,7 +47,7 @@ use Rattle.dav_engine.specs.Options.{options}
 use Rattle.dav_engine.specs.Plan.{CallStep, Done, Ask, Look, Keep, Locks, Ran, ran_done, ran_ask, ran_look, ran_keep}
 use Rattle.dav_engine.specs.Put.{PutHeaders, from_end, update_from, update_at, updates, written_by, placed, bounded, bounded_by, writing_of, open_error, put_opening, sought, written, is_announced, unsatisfiable, spans, store, put_allowed, put_body}
 use Rattle.dav_engine.specs.Removal.{Fault, report_of}
-use Rattle.dav_engine.specs.Response.{Response, Header, reply_to}
+use Rattle.dav_engine.specs.Reply.{Reply, Header, reply_to}
 use Rattle.dav_engine.specs.Unlock.{keep_left, end_in, end_lock, unlock}
 use Rattle.dav_engine.proofs.Theorems.{Gives, gives_done, gives_ask, gives_look, gives_keep, gives_removal}
 use Rattle.dav_server.specs.Get.{show, show_or_tell}
@@ -127,7 +127,7 @@ pub ends_other : {A : Type 0} {P : A → Type 0} {plan : MethodPlan A} → Ends 
 ends_other ends = ends_weaker failure_other (λ a is. is) ends
 
 -- a response of another status than 304
-abbrev pub AnswersOther : Response → Type 0
+abbrev pub AnswersOther : Reply → Type 0
 AnswersOther r = IsOtherStatus r.status
 
 pub fs_failure : (e : FsError) → IsErrorStatus (fs_status e)
@@ -171,11 +171,11 @@ ends_item None i = ends_done tt
 ends_item (Some p) (state_token t) = ends_look (λ ls. ends_done tt)
 ends_item (Some p) (entity_tag e) = ends_ask (λ answer. ends_done tt)
 
-ends_while_true : {E : DavError → Type 0} (b : Bool) (next : MethodPlan Bool) → Ends E Any next → Ends E Any (while_true b next)
+ends_while_true : {E : DavError → Type 0} (b : Bool) (next : MethodPlan Bool) → Ends E Any next → Ends E Any (and_then b next)
 ends_while_true true next is = is
 ends_while_true false next is = ends_done tt
 
-ends_while_false : {E : DavError → Type 0} (b : Bool) (next : MethodPlan Bool) → Ends E Any next → Ends E Any (while_false b next)
+ends_while_false : {E : DavError → Type 0} (b : Bool) (next : MethodPlan Bool) → Ends E Any next → Ends E Any (or_else b next)
 ends_while_false true next is = ends_done tt
 ends_while_false false next is = is
 
@@ -300,7 +300,7 @@ bounded_by_fails range (Err e) is = is
 writing_fails : (m : DavMethod) (h : PutHeaders) (found : Option DavMetaData) → Outcome IsFailure Any (writing_of m h found)
 writing_fails m h found = bounded_by_fails h.range (written_by m h found) (written_by_fails m h found)
 
-ends_put_allowed : (m : DavMethod) (h : PutHeaders) (p : Path) (who : Client) (bytes : List ℕ) → is_reading m ≡ false → Ends IsFailure Any (put_allowed m h p who bytes)
+ends_put_allowed : (m : DavMethod) (h : PutHeaders) (p : Path) (who : Caller) (bytes : List ℕ) → is_reading m ≡ false → Ends IsFailure Any (put_allowed m h p who bytes)
 ends_put_allowed m h p who bytes writes = ends_ask (λ answer.
     ends_then (writing_of m h (result_ok answer)) _ (writing_fails m h (result_ok answer)) (λ w any.
     ends_bind _ (guarded_ends dav.StatusClose m h.conditions (result_ok answer) (λ status above. above) writes) (λ tokens any.
@@ -348,12 +348,12 @@ ends_store how place p bytes now found = ends_ask (λ answer.
     ends_ask (λ answer. ends_then (refused_as dav.FsError answer) _ (store_fails answer) (λ done any. ends_ask (λ answer. ends_done (stored_status found))))))))
 
 -- an error of a PUT or PATCH reports one
-pub put_ends : (m : DavMethod) (h : PutHeaders) (p : Path) (who : Client) (bytes : Option (List ℕ)) → is_reading m ≡ false → Ends IsFailure AnswersOther (put_body m h p who bytes)
+pub put_ends : (m : DavMethod) (h : PutHeaders) (p : Path) (who : Caller) (bytes : Option (List ℕ)) → is_reading m ≡ false → Ends IsFailure AnswersOther (put_body m h p who bytes)
 put_ends m h p who None writes = ends_done (omega arith)
 put_ends m h p who (Some bytes) writes =
     ends_bind _ (ends_put_allowed m h p who bytes writes) (λ allowed any. ends_store (put_opening h allowed.0) allowed.0.from p bytes who.moment allowed.1)
 
-pub ends_put : (m : DavMethod) (h : PutHeaders) (p : Path) (who : Client) (bytes : Option (List ℕ)) → is_reading m ≡ false → Ends IsOther AnswersOther (put_body m h p who bytes)
+pub ends_put : (m : DavMethod) (h : PutHeaders) (p : Path) (who : Caller) (bytes : Option (List ℕ)) → is_reading m ≡ false → Ends IsOther AnswersOther (put_body m h p who bytes)
 ends_put m h p who bytes writes = ends_other (put_ends m h p who bytes writes)
 
 -- ---- MKCOL
@@ -370,7 +370,7 @@ create_other fs.PathTooLong same = fs_other fs.PathTooLong same
 create_other fs.TooLarge same = fs_other fs.TooLarge same
 create_other fs.IsRemote same = fs_other fs.IsRemote same
 
-pub ends_mkcol : (c : Conditions) (p : PathText) (who : Client) → Ends IsOther AnswersOther (mkcol c p who)
+pub ends_mkcol : (c : Conditions) (p : PathText) (who : Caller) → Ends IsOther AnswersOther (mkcol c p who)
 ends_mkcol c p who =
     ends_bind _ (ends_ask (λ answer.
     ends_bind _ (ends_guarded dav.Status MkCol c (result_ok answer) (λ status other. other) refl) (λ tokens any.
@@ -393,7 +393,7 @@ ends_deleted p (Some ls) = ends_keep (ends_done tt)
 
 -- the reply to a DELETE has one of these statuses, where those of refusals and of its own are such
 module _ (E : DavError → Type 0) (P : ℕ → Type 0) (refusal : (e : FsError) → P (fs_status e)) (conflict : P 409) (gone : P 204) (several : P 207) where
-  abbrev AnswersBy : Response → Type 0
+  abbrev AnswersBy : Reply → Type 0
   AnswersBy r = P r.status
 
   one_status : (b : Bool) (item : PathStatus) → P item.1 → P (if b then status_reply item.1 else multistatus_reply (item ∷ [])).status
@@ -409,13 +409,13 @@ module _ (E : DavError → Type 0) (P : ℕ → Type 0) (refusal : (e : FsError)
   ends_dropped p [] = ends_look (λ ls. ends_deleted (names p) ls)
   ends_dropped p (f ∷ faults) = ends_done tt
 
-  ends_delete_found : (deep : Bool) (c : Conditions) (p : PathText) (who : Client) (found : DavMetaData) → Ends E Any (delete_allowed c p who found) → Ends E AnswersBy (delete_found deep c p who found)
+  ends_delete_found : (deep : Bool) (c : Conditions) (p : PathText) (who : Caller) (found : DavMetaData) → Ends E Any (delete_allowed c p who found) → Ends E AnswersBy (delete_found deep c p who found)
   ends_delete_found deep c p who found allowed =
       ends_bind _ allowed (λ u any.
       ends_bind _ (gives_ends (gives_removal P refusal conflict deep who.moment p found.dir)) (λ faults are.
       ends_bind _ (ends_dropped p faults) (λ u any. ends_done (reported_status p faults are))))
 
-  pub ends_deleting : (h : DeleteHeaders) (p : PathText) (who : Client) → Outcome E Any (whole_depth h.depth) → ((answer : Result DavMetaData FsError) → Outcome E Any (refused_as dav.FsError answer))
+  pub ends_deleting : (h : DeleteHeaders) (p : PathText) (who : Caller) → Outcome E Any (whole_depth h.depth) → ((answer : Result DavMetaData FsError) → Outcome E Any (refused_as dav.FsError answer))
       → ((q : PathText) (found : DavMetaData) → Ends E Any (delete_allowed h.conditions q who found)) → Ends E AnswersBy (delete h p who)
   ends_deleting h p who depth store allowed =
       ends_then (whole_depth h.depth) _ depth (λ deep any.
@@ -433,14 +433,14 @@ depth_other : (depth : Option Depth) → Outcome IsOther Any (whole_depth depth)
 depth_other depth = outcome_weaker (whole_depth depth) failure_other (λ a any. any) (depth_fails depth)
 
 -- an error of a DELETE reports one
-pub delete_ends : (h : DeleteHeaders) (p : PathText) (who : Client) → Ends IsFailure AnswersOther (delete h p who)
+pub delete_ends : (h : DeleteHeaders) (p : PathText) (who : Caller) → Ends IsFailure AnswersOther (delete h p who)
 delete_ends h p who =
     ends_deleting IsFailure IsOtherStatus fs_other (λ same. absurd (omega (arith, same))) (λ same. absurd (omega (arith, same))) (λ same. absurd (omega (arith, same)))
     h p who (depth_fails h.depth) store_fails (λ q found.
     ends_bind _ (guarded_ends dav.Status Delete h.conditions (Some found) (λ status above. above) refl) (λ tokens any.
     ends_member true true (requester who tokens) (names q) (dav.Status 423) (omega arith)))
 
-pub ends_delete : (h : DeleteHeaders) (p : PathText) (who : Client) → Ends IsOther AnswersOther (delete h p who)
+pub ends_delete : (h : DeleteHeaders) (p : PathText) (who : Caller) → Ends IsOther AnswersOther (delete h p who)
 ends_delete h p who = ends_other (delete_ends h p who)
 
 -- ---- COPY and MOVE
@@ -481,7 +481,7 @@ module _ (E : DavError → Type 0) where
   ends_moved p [] = ends_look (λ ls. ends_deleted (names p) ls)
   ends_moved p (f ∷ faults) = ends_done tt
 
-  ends_brought : (moves deep : Bool) (now : ℕ) (p d : PathText) → Ends E Any (brought moves deep now p d)
+  ends_brought : (moves deep : Bool) (now : ℕ) (p d : PathText) → Ends E Any (transfer moves deep now p d)
   ends_brought true deep now p d = ends_ask (λ moved. ends_bind _ (ends_moved p _) (λ u any. ends_done tt))
   ends_brought false deep now p d = ends_copy (room_at p) deep now d p d
 
@@ -491,7 +491,7 @@ module _ (E : DavError → Type 0) where
 
 -- the reply to a COPY or MOVE has one of these statuses, where those of refusals and of its own are such
 module _ (E : DavError → Type 0) (P : ℕ → Type 0) (refusal : (e : FsError) → P (fs_status e)) (conflict : P 409) (gone : P 204) (made : P 201) (several : P 207) where
-  abbrev Brings : Response → Type 0
+  abbrev Brings : Reply → Type 0
   Brings r = P r.status
 
   one_told : (b : Bool) (item : PathStatus) → P item.1 → P (if b then status_reply item.1 else multistatus_reply (item ∷ [])).status
@@ -515,16 +515,16 @@ module _ (E : DavError → Type 0) (P : ℕ → Type 0) (refusal : (e : FsError)
   ends_clearing deep now d there =
       ends_either (is_replaced deep there) _ _ (gives_ends (gives_removal P refusal conflict true now d (is_folder_found there))) (ends_done (All-nil (λ (f : Fault). P (report_of f).1)))
 
-  ends_bring : (moves deep : Bool) (now : ℕ) (p d : PathText) (there : Option DavMetaData) (faults : List Fault) → All (λ (f : Fault). P (report_of f).1) faults → Ends E Brings (bring_if_clear moves deep now p d there faults)
+  ends_bring : (moves deep : Bool) (now : ℕ) (p d : PathText) (there : Option DavMetaData) (faults : List Fault) → All (λ (f : Fault). P (report_of f).1) faults → Ends E Brings (transfer_if_cleared moves deep now p d there faults)
   ends_bring moves deep now p d there (f ∷ faults) are = ends_done (cleared_told p f faults (All-head (λ (f : Fault). P (report_of f).1) f faults are))
   ends_bring moves deep now p d there [] are =
       ends_bind _ (ends_drop_if E (is_replaced deep there) d) (λ u any.
       ends_bind _ (ends_brought E moves deep now p d) (λ faults any. ends_done (copied_told p (copied_status there) (brought_status (is_some there)) faults)))
 
-  ends_after : (moves deep : Bool) (now : ℕ) (p d : PathText) (there : Option DavMetaData) → Ends E Brings (clearing deep now d there >>= (λ faults. bring_if_clear moves deep now p d there faults))
+  ends_after : (moves deep : Bool) (now : ℕ) (p d : PathText) (there : Option DavMetaData) → Ends E Brings (clearing deep now d there >>= (λ faults. transfer_if_cleared moves deep now p d there faults))
   ends_after moves deep now p d there = ends_bind _ (ends_clearing deep now d there) (λ faults are. ends_bring moves deep now p d there faults are)
 
-  pub ends_copying : (m : DavMethod) (h : CopyHeaders) (p : PathText) (who : Client) → Outcome E Any (copy_depth (is_move m) h.depth) → Outcome E Any h.destination → ((answer : Result DavMetaData FsError) → Outcome E Any (refused_as dav.FsError answer))
+  pub ends_copying : (m : DavMethod) (h : CopyHeaders) (p : PathText) (who : Caller) → Outcome E Any (copy_depth (is_move m) h.depth) → Outcome E Any h.destination → ((answer : Result DavMetaData FsError) → Outcome E Any (refused_as dav.FsError answer))
       → ((deep : Bool) (q d : PathText) (found : DavMetaData) → Ends E Any (copy_allowed m deep h q d who found)) → Ends E Brings (copy_or_move m h p who)
   ends_copying m h p who depth destination store allowed =
       ends_then (copy_depth (is_move m) h.depth) _ depth (λ deep any.
@@ -552,7 +552,7 @@ place_fails (unreadable text {e} is refused known) = path_fails e known
 place_fails (outside text bytes is reads none) = omega arith
 place_fails (inside text bytes is reads cut) = tt
 
-ends_source : (b : Bool) (who : Client) (tokens : List (List ℕ)) (p : PathText) → Ends IsFailure Any (source_free b who tokens p)
+ends_source : (b : Bool) (who : Caller) (tokens : List (List ℕ)) (p : PathText) → Ends IsFailure Any (source_free b who tokens p)
 ends_source true who tokens p = ends_free true (requester who tokens) (names p) (dav.Status 423) (omega arith)
 ends_source false who tokens p = ends_done tt
 
@@ -561,7 +561,7 @@ ends_place overwrite d = ends_ask (λ above.
     ends_bind _ (ends_require (is_folder_found (result_ok above)) (dav.Status 409) (omega arith)) (λ u any.
     ends_ask (λ there. ends_bind _ (ends_require (unwrap_or overwrite true || not (is_ok there)) (dav.Status 412) (omega arith)) (λ u any. ends_done tt))))
 
-ends_copy_allowed : (m : DavMethod) (deep : Bool) (h : CopyHeaders) (p d : PathText) (who : Client) (found : DavMetaData) → is_reading m ≡ false → Ends IsFailure Any (copy_allowed m deep h p d who found)
+ends_copy_allowed : (m : DavMethod) (deep : Bool) (h : CopyHeaders) (p d : PathText) (who : Caller) (found : DavMetaData) → is_reading m ≡ false → Ends IsFailure Any (copy_allowed m deep h p d who found)
 ends_copy_allowed m deep h p d who found writes =
     ends_bind _ (ends_place h.overwrite d) (λ there any.
     ends_bind _ (ends_require (not (is_at_or_under (names p) (names d))) (dav.Status 403) (omega arith)) (λ u any.
@@ -571,12 +571,12 @@ ends_copy_allowed m deep h p d who found writes =
     ends_parent (changes_members (is_move m) deep there) (requester who tokens) (names d) (dav.Status 423) (omega arith))))) (λ u any. ends_done tt)))
 
 -- an error of a COPY or MOVE reports one
-pub copymove_ends : (m : DavMethod) (headers : Headers) (h : CopyHeaders) (p : PathText) (who : Client) → is_reading m ≡ false → AreCopyHeaders headers p h → Ends IsFailure AnswersOther (copy_or_move m h p who)
+pub copymove_ends : (m : DavMethod) (headers : Headers) (h : CopyHeaders) (p : PathText) (who : Caller) → is_reading m ≡ false → AreCopyHeaders headers p h → Ends IsFailure AnswersOther (copy_or_move m h p who)
 copymove_ends m headers h p who writes are =
     ends_copying IsFailure IsOtherStatus fs_other (λ same. absurd (omega (arith, same))) (λ same. absurd (omega (arith, same))) (λ same. absurd (omega (arith, same))) (λ same. absurd (omega (arith, same)))
     m h p who (copy_depth_fails (is_move m) h.depth) (place_fails are.destination) store_fails (λ deep q d found. ends_copy_allowed m deep h q d who found writes)
 
-pub ends_copymove : (m : DavMethod) (headers : Headers) (h : CopyHeaders) (p : PathText) (who : Client) → is_reading m ≡ false → AreCopyHeaders headers p h → Ends IsOther AnswersOther (copy_or_move m h p who)
+pub ends_copymove : (m : DavMethod) (headers : Headers) (h : CopyHeaders) (p : PathText) (who : Caller) → is_reading m ≡ false → AreCopyHeaders headers p h → Ends IsOther AnswersOther (copy_or_move m h p who)
 ends_copymove m headers h p who writes are = ends_other (copymove_ends m headers h p who writes are)
 
 -- ---- LOCK
@@ -584,7 +584,7 @@ ends_copymove m headers h p who writes are = ends_other (copymove_ends m headers
 -- the reply to a LOCK has one of these statuses, where its errors are such
 module _ (E : DavError → Type 0) (P : ℕ → Type 0) (found_there : P 200) (created : P 201) (absent : E (dav.Status 405)) (conflict : E (dav.Status 423)) (unmeant : E (dav.Status 412))
     (empty : (how : Opening) (e : FsError) → E (empty_error how e)) where
-  abbrev Locked : Response → Type 0
+  abbrev Locked : Reply → Type 0
   Locked r = P r.status
 
   ends_grant : (new : Lock) (ls : Locks) → Ends E Any (grant_in new ls)
@@ -595,7 +595,7 @@ module _ (E : DavError → Type 0) (P : ℕ → Type 0) (found_there : P 200) (c
   ends_back token p None = ends_done tt
   ends_back token p (Some ls) = ends_keep (ends_done tt)
 
-  ends_opened : (how : Opening) (token : List ℕ) (p : Path) (opened : Result Handle FsError) → Ends E Any (made_or_back how token p opened)
+  ends_opened : (how : Opening) (token : List ℕ) (p : Path) (opened : Result Handle FsError) → Ends E Any (create_or_unlock how token p opened)
   ends_opened how token p (Ok file) = ends_done tt
   ends_opened how token p (Err e) = ends_look (λ ls. ends_bind _ (ends_back token p ls) (λ u any. ends_done (empty how e)))
 
@@ -607,7 +607,7 @@ module _ (E : DavError → Type 0) (P : ℕ → Type 0) (found_there : P 200) (c
   granted_status true = found_there
   granted_status false = created
 
-  ends_new : (h : LockHeaders) (p : PathText) (location : List Header) (content : Body) (who : Client) (found : Option DavMetaData) → Ends E Any (asked_lock h p content who found) → Ends E Locked (lock_new h p location content who found)
+  ends_new : (h : LockHeaders) (p : PathText) (location : List Header) (content : Body) (who : Caller) (found : Option DavMetaData) → Ends E Any (asked_lock h p content who found) → Ends E Locked (lock_new h p location content who found)
   ends_new h p location content who found asked =
       ends_bind _ asked (λ new any. ends_look (λ ls. ends_bind _ (ends_grant new ls) (λ u any.
       ends_bind _ (ends_empty (empty_opening h.conditions) new.token (names p) who.moment found) (λ u any. ends_done (granted_status (is_some found))))))
@@ -621,17 +621,17 @@ module _ (E : DavError → Type 0) (P : ℕ → Type 0) (found_there : P 200) (c
   ends_refresh token p timeout now None = ends_done absent
   ends_refresh token p timeout now (Some ls) = ends_refreshed _ _
 
-  ends_again : (h : LockHeaders) (p : PathText) (location : List Header) (who : Client) → Ends E Any (token_to_refresh h (names p) who) → Ends E Locked (lock_again h p location who)
+  ends_again : (h : LockHeaders) (p : PathText) (location : List Header) (who : Caller) → Ends E Any (token_to_refresh h (names p) who) → Ends E Locked (lock_again h p location who)
   ends_again h p location who meant =
       ends_bind _ meant (λ token any. ends_look (λ ls. ends_bind _ (ends_refresh token (names p) (refreshed_for h.timeout) who.moment ls) (λ l any. ends_done found_there)))
 
-  ends_locked : (h : LockHeaders) (p : PathText) (content : Body) (who : Client) (found : Option DavMetaData)
+  ends_locked : (h : LockHeaders) (p : PathText) (content : Body) (who : Caller) (found : Option DavMetaData)
       → ((q : PathText) → Ends E Any (asked_lock h q content who found)) → ((q : PathText) → Ends E Any (token_to_refresh h (names q) who)) → Ends E Locked (lock_found h p content who found)
   ends_locked h p content who found asked meant =
       ends_either (is_absent content) _ _ (ends_again h (path_found found p) (location_found found p) who (meant (path_found found p)))
       (ends_new h (path_found found p) (location_found found p) content who found (asked (path_found found p)))
 
-  pub ends_locking : (h : LockHeaders) (p : PathText) (content : Body) (who : Client)
+  pub ends_locking : (h : LockHeaders) (p : PathText) (content : Body) (who : Caller)
       → ((q : PathText) (found : Option DavMetaData) → Ends E Any (asked_lock h q content who found)) → ((q : PathText) → Ends E Any (token_to_refresh h (names q) who)) → Ends E Locked (lock h p content who)
   ends_locking h p content who asked meant =
       ends_look (λ ls. ends_bind _ (ends_require (has_locks ls) (dav.Status 405) absent) (λ u any.
@@ -649,7 +649,7 @@ verdict_fails : (c : Conditions) (found : Option DavMetaData) (verdict : Option 
 verdict_fails c found verdict (inl is) = subst Fails (sym is) (writes_fail LockMethod c.if_match c.if_none_match found refl)
 verdict_fails c found verdict (inr is) = subst Fails (sym is) precondition
 
-ends_asked : (h : LockHeaders) (p : PathText) (content : Body) (who : Client) (found : Option DavMetaData) → Ends IsOther Any (asked_lock h p content who found)
+ends_asked : (h : LockHeaders) (p : PathText) (content : Body) (who : Caller) (found : Option DavMetaData) → Ends IsOther Any (asked_lock h p content who found)
 ends_asked h p content who found =
     ends_then (whole_depth h.depth) _ (depth_other h.depth) (λ deep any.
     ends_bind _ (conditions_end LockMethod h.conditions found) (λ verdict is.
@@ -663,7 +663,7 @@ one_other [] = λ same. absurd (omega (arith, same))
 one_other (token ∷ []) = tt
 one_other (token ∷ other ∷ tokens) = λ same. absurd (omega (arith, same))
 
-ends_meant : (h : LockHeaders) (p : Path) (who : Client) → Ends IsOther Any (token_to_refresh h p who)
+ends_meant : (h : LockHeaders) (p : Path) (who : Caller) → Ends IsOther Any (token_to_refresh h p who)
 ends_meant h p who =
     ends_bind {P = λ said. ⊤} _ (ends_bind _ (ends_if h.conditions.lists) (λ holds any. ends_done tt)) (λ said any.
     ends_then (one_token said.1) _ (one_other said.1) (λ token any.
@@ -681,7 +681,7 @@ empty_other how fs.PathTooLong = fs_other fs.PathTooLong
 empty_other how fs.TooLarge = fs_other fs.TooLarge
 empty_other how fs.IsRemote = fs_other fs.IsRemote
 
-pub ends_lock : (h : LockHeaders) (p : PathText) (content : Body) (who : Client) → Ends IsOther AnswersOther (lock h p content who)
+pub ends_lock : (h : LockHeaders) (p : PathText) (content : Body) (who : Caller) → Ends IsOther AnswersOther (lock h p content who)
 ends_lock h p content who =
     ends_locking IsOther IsOtherStatus (λ same. absurd (omega (arith, same))) (λ same. absurd (omega (arith, same))) (λ same. absurd (omega (arith, same))) (λ same. absurd (omega (arith, same)))
     (λ same. absurd (omega (arith, same))) empty_other h p content who (λ q found. ends_asked h q content who found) (λ q. ends_meant h (names q) who)
@@ -720,6 +720,6 @@ ends_show_or_tell Head p now file = ends_done (λ same. absurd (omega (arith, sa
 ends_show_or_tell _ p now file = ends_show p now file
 
 -- the status of such an outcome isn't 304
-pub other_status : (outcome : Result Response DavError) → Outcome IsOther AnswersOther outcome → (reply_to outcome).status ≢ 304
+pub other_status : (outcome : Result Reply DavError) → Outcome IsOther AnswersOther outcome → (reply_to outcome).status ≢ 304
 other_status (Ok r) is = is
 other_status (Err e) is = is

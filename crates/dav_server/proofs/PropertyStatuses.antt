@@ -7,20 +7,20 @@ use Rattle.dav_core.specs.declared.fs.DavMetaData.{DavMetaData}
 use Rattle.dav_core.specs.declared.method.DavMethod.TheVariants.{PropPatch}
 use Rattle.dav_core.specs.Path.{PathText, names}
 use Rattle.dav_engine.specs.declared.request.Body.{Body}
-use Rattle.dav_engine.specs.Client.{Client, requester}
+use Rattle.dav_engine.specs.Caller.{Caller, requester}
 use Rattle.dav_engine.specs.Conditions.{Conditions, guarded}
 use Rattle.dav_engine.specs.Folder.{closed, location_found}
 use Rattle.dav_engine.specs.Method.{◌>>=◌, require_free, required, refused_as, gives}
 use Rattle.dav_engine.specs.Properties.{has_properties}
 use Rattle.dav_engine.specs.Proppatch.{Change, changes_in, answered_at_once, to_store, has_refused, store_changes, change_all, proppatch_reply, patch_properties, proppatch}
-use Rattle.dav_engine.specs.Response.{Response, Header}
+use Rattle.dav_engine.specs.Reply.{Reply, Header}
 use Rattle.dav_server.proofs.PlanStatuses.{Outcome, Any, Ends, ends_done, ends_ask, ends_bind, ends_then, IsOther, AnswersOther, store_other, ends_guarded, ends_free}
 
 -- ---- PROPPATCH
 
 -- the reply to a PROPPATCH has one of these statuses, where its errors are such
 module _ (E : DavError → Type 0) (P : ℕ → Type 0) (several : P 207) (store : (A : Type 0) (answer : Result A FsError) → Outcome E Any (refused_as dav.FsError answer)) (unread : E dav.XmlParseError) where
-  abbrev Patched : Response → Type 0
+  abbrev Patched : Reply → Type 0
   Patched r = P r.status
 
   ends_has : (p : PathText) → Ends E Any (has_properties p)
@@ -43,7 +43,7 @@ module _ (E : DavError → Type 0) (P : ℕ → Type 0) (several : P 207) (store
   ends_read None = unread
   ends_read (Some changes) = tt
 
-  pub ends_patching : (c : Conditions) (p : PathText) (content : Body) (who : Client) → ((found : DavMetaData) → Ends E Any (guarded dav.Status PropPatch c (Some found)))
+  pub ends_patching : (c : Conditions) (p : PathText) (content : Body) (who : Caller) → ((found : DavMetaData) → Ends E Any (guarded dav.Status PropPatch c (Some found)))
       → ((tokens : List (List ℕ)) (q : PathText) → Ends E Any (require_free false (requester who tokens) (names q) (dav.Status 423))) → Ends E Patched (proppatch c p content who)
   ends_patching c p content who guards free =
       ends_ask (λ answer. ends_then (refused_as dav.FsError answer) _ (store _ answer) (λ found any.
@@ -54,7 +54,7 @@ module _ (E : DavError → Type 0) (P : ℕ → Type 0) (several : P 207) (store
 abbrev IsOtherStatus : ℕ → Type 0
 IsOtherStatus status = status ≢ 304
 
-pub ends_proppatch : (c : Conditions) (p : PathText) (content : Body) (who : Client) → Ends IsOther AnswersOther (proppatch c p content who)
+pub ends_proppatch : (c : Conditions) (p : PathText) (content : Body) (who : Caller) → Ends IsOther AnswersOther (proppatch c p content who)
 ends_proppatch c p content who =
     ends_patching IsOther IsOtherStatus (λ same. absurd (omega (arith, same))) (λ A answer. store_other answer) (λ same. absurd (omega (arith, same))) c p content who
     (λ found. ends_guarded dav.Status PropPatch c (Some found) (λ status other. other) refl)

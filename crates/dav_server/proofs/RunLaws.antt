@@ -1,7 +1,7 @@
 -- Runs split, join and end.
 use Rattle.std.proofs.Common.{List, [], ◌∷◌, refl, sym, ap, ◌∙◌}
 use Rattle.std.proofs.lemmas.List.Elements.{All-head, All-tail}
-use Rattle.dav_engine.specs.Response.{Response, reply_to}
+use Rattle.dav_engine.specs.Reply.{Reply, reply_to}
 use Rattle.dav_engine.proofs.Theorems.{comes, ran_unset}
 use Rattle.dav_server.specs.Machine.{steps}
 use Rattle.dav_server.specs.Run.{begun, no_more, one_more, HasPlan, ShortnessIsKept, RunsSplit, RunsJoin, RunsEnd, RequestsHaveRuns}
@@ -12,7 +12,7 @@ pub runs_split : RunsSplit
 runs_split s [] us old new ls ms replies run = ([], replies, old, ls, refl, no_more, run)
 runs_split s (t ∷ ts) us old new ls ms replies (one_more {reply = reply} {replies = rest} step run) =
     let (before, after, mid, ks, parts, one, two) = runs_split s ts us _ new _ ms rest run in
-    (reply ∷ before, after, mid, ks, ap (λ (l : List Response). reply ∷ l) parts, one_more step one, two)
+    (reply ∷ before, after, mid, ks, ap (λ (l : List Reply). reply ∷ l) parts, one_more step one, two)
 
 pub runs_join : RunsJoin
 runs_join s [] us old mid new ls ks ms before after no_more two = two

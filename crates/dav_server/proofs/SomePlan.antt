@@ -9,16 +9,16 @@ use Rattle.dav_core.specs.Path.{PathText, names, HasNoCut, star, without_slash}
 use Rattle.dav_core.specs.Target.{Reads}
 use Rattle.dav_core.proofs.Theorems.{read_or_refused}
 use Rattle.dav_engine.specs.declared.request.Body.{Body}
-use Rattle.dav_engine.specs.Client.{Client}
+use Rattle.dav_engine.specs.Caller.{Caller}
 use Rattle.dav_engine.specs.Headers.{Headers}
 use Rattle.dav_engine.specs.Method.{MethodPlan, fails}
 use Rattle.dav_engine.specs.Options.{options}
-use Rattle.dav_engine.specs.Response.{Response}
+use Rattle.dav_engine.specs.Reply.{Reply}
 use Rattle.dav_engine.proofs.Theorems.{some_conditions, some_put_plan, some_mkcol_plan, some_copymove_plan, some_delete_plan, some_lock_plan, some_unlock_plan, some_propfind_plan, some_proppatch_plan}
 use Rattle.dav_server.specs.Get.{get, IsGet, is_get}
 use Rattle.dav_server.specs.Head.{Request, IsHead}
 use Rattle.dav_server.specs.Headers.{headers_of}
-use Rattle.dav_server.specs.Machine.{Settings, Asked, client, taken_by, body_for, PlanOf, gets, heads, puts, patches, makes, deletes, copies, moves, offers, finds_properties, sets_properties, locks, releases, MeansOf, not_allowed, no_path, no_body, method, no_head, no_method, known}
+use Rattle.dav_server.specs.Machine.{Settings, Exchange, caller, taken_by, body_for, PlanOf, gets, heads, puts, patches, makes, deletes, copies, moves, offers, finds_properties, sets_properties, locks, releases, MeansOf, not_allowed, no_path, no_body, method, no_head, no_method, known}
 use Rattle.dav_server.specs.Method.{IsServed}
 use Rattle.dav_server.specs.Run.{RequestsHavePlans}
 use Rattle.dav_server.specs.Target.{HasPathText, formless, invalid, climbing, TargetNames, server, reserved, unreadable, outside, path}
@@ -36,12 +36,12 @@ some_outcome prefix m target unnamed =
     (λ climbs. unnamed (Err dav.ForbiddenPath) (unreadable apart (climbing has climbs))) in
     unnamed (Err (dav.Status 400)) (unreadable apart (formless textless))
 
-some_get : (m : DavMethod) (headers : Headers) (p : PathText) (now : ℕ) → ¬ ((plan : MethodPlan Response) → ¬ IsGet m headers p now plan)
+some_get : (m : DavMethod) (headers : Headers) (p : PathText) (now : ℕ) → ¬ ((plan : MethodPlan Reply) → ¬ IsGet m headers p now plan)
 some_get m headers p now without =
     some_conditions headers p.prefix (names p) (λ c is. without (get m c (names p) now) (is_get c is))
 
 -- no method that is served is without a plan
-some_plan_of : (allowed : ℕ) (headers : Headers) (p : PathText) (body : Body) (who : Client) (m : DavMethod) → IsServed m → ¬ ((plan : MethodPlan Response) → ¬ PlanOf allowed headers p body who m plan)
+some_plan_of : (allowed : ℕ) (headers : Headers) (p : PathText) (body : Body) (who : Caller) (m : DavMethod) → IsServed m → ¬ ((plan : MethodPlan Reply) → ¬ PlanOf allowed headers p body who m plan)
 some_plan_of allowed headers p body who Get is without = some_get Get headers p who.moment (λ plan is. without plan (gets is))
 some_plan_of allowed headers p body who Head is without = some_get Head headers p who.moment (λ plan is. without plan (heads is))
 some_plan_of allowed headers p body who Put is without = some_put_plan Put headers p body who (λ plan is. without plan (puts is))
@@ -60,20 +60,20 @@ some_plan_of allowed headers p body who MkCalendar is without = is
 some_plan_of allowed headers p body who MkAddressbook is without = is
 
 -- nor a request whose head, method and path are known, whatever its body is
-some_with_body : (s : Settings) (x : Asked) (r : Request) (m : DavMethod) (p : PathText) → IsServed m → Has s.allowed m → TargetNames s.prefix m r.target (Ok p)
-    → (given : Result Body DavError) → body_for (taken_by m) x.body ≡ given → ¬ ((plan : MethodPlan Response) → ¬ MeansOf s x r m plan)
+some_with_body : (s : Settings) (x : Exchange) (r : Request) (m : DavMethod) (p : PathText) → IsServed m → Has s.allowed m → TargetNames s.prefix m r.target (Ok p)
+    → (given : Result Body DavError) → body_for (taken_by m) x.body ≡ given → ¬ ((plan : MethodPlan Reply) → ¬ MeansOf s x r m plan)
 some_with_body s x r m p served has named (Err e) is without = without (fails e) (no_body p e has named is)
 some_with_body s x r m p served has named (Ok body) is without =
-    some_plan_of s.allowed (headers_of r.fields) p body (client x) m served (λ plan planned. without plan (method p body has named is planned))
+    some_plan_of s.allowed (headers_of r.fields) p body (caller x) m served (λ plan planned. without plan (method p body has named is planned))
 
 -- nor one whose head and method are known, whatever its target names
-some_with_target : (s : Settings) (x : Asked) (r : Request) (m : DavMethod) → IsServed m → Has s.allowed m → (outcome : Result PathText DavError) → TargetNames s.prefix m r.target outcome
-    → ¬ ((plan : MethodPlan Response) → ¬ MeansOf s x r m plan)
+some_with_target : (s : Settings) (x : Exchange) (r : Request) (m : DavMethod) → IsServed m → Has s.allowed m → (outcome : Result PathText DavError) → TargetNames s.prefix m r.target outcome
+    → ¬ ((plan : MethodPlan Reply) → ¬ MeansOf s x r m plan)
 some_with_target s x r m served has (Err e) named without = without (fails e) (no_path e has named)
 some_with_target s x r m served has (Ok p) named without =
     some_with_body s x r m p served has named (body_for (taken_by m) x.body) refl without
 
-some_means_of : (s : Settings) (x : Asked) (r : Request) (m : DavMethod) → IsServed m → ¬ ((plan : MethodPlan Response) → ¬ MeansOf s x r m plan)
+some_means_of : (s : Settings) (x : Exchange) (r : Request) (m : DavMethod) → IsServed m → ¬ ((plan : MethodPlan Reply) → ¬ MeansOf s x r m plan)
 some_means_of s x r m served without =
     let barred : ¬ Has s.allowed m = λ has. some_outcome s.prefix m r.target (λ outcome named. some_with_target s x r m served has outcome named without) in
     without (fails (dav.StatusClose 405)) (not_allowed barred)

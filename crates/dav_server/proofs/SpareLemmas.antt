@@ -6,33 +6,33 @@ use Rattle.dav_core.specs.Locks.{Lock}
 use Rattle.dav_core.specs.World.{IsWorld, last_moment, last_number}
 use Rattle.dav_engine.specs.Alongside.{AsksWithNumbers}
 use Rattle.dav_engine.specs.Plan.{Locks}
-use Rattle.dav_engine.specs.Response.{Response}
+use Rattle.dav_engine.specs.Reply.{Reply}
 use Rattle.dav_engine.proofs.Theorems.{spare_numbers_suffice}
 use Rattle.dav_server.specs.Isolation.{RunsUnder, under_none, under_more, RunsFindNumbers, SpareNumbersSufficeInRuns}
-use Rattle.dav_server.specs.Machine.{Settings, Asked, Steps, StepsBy, steps}
+use Rattle.dav_server.specs.Machine.{Settings, Exchange, Steps, StepsBy, steps}
 use Rattle.dav_server.specs.Run.{Turn, begun, Runs, no_more, one_more}
-use Rattle.dav_server.specs.TagLaws.{AreShowable}
+use Rattle.dav_server.specs.TagLaws.{MomentsAreDates}
 use Rattle.dav_server.proofs.MeansWorld.{means_proper, begun_world, turn_keeps, run_keeps}
 
-step_finds : {s : Settings} {x : Asked} {old new : StoreState} {ls ms : Locks} {reply : Response} → x.moment ≤ last_moment → IsWorld old.world
+step_finds : {s : Settings} {x : Exchange} {old new : StoreState} {ls ms : Locks} {reply : Reply} → x.moment ≤ last_moment → IsWorld old.world
     → Steps s x old ls reply new ms → new.world.next < last_number → StepsBy AsksWithNumbers s x old ls reply new ms
 step_finds {old = old} {new} {ls} {ms} small world (steps plan outcome means ran) room =
     steps plan outcome means (spare_numbers_suffice plan old new ls ms outcome (means_proper small means) world ran room)
 
 -- a run while a lock stands is a run
-pub under_runs : {s : Settings} {h : Lock} {ts : List Turn} {old new : StoreState} {ls ms : Locks} {replies : List Response} → RunsUnder Asks s h ts old ls replies new ms → Runs s ts old ls replies new ms
+pub under_runs : {s : Settings} {h : Lock} {ts : List Turn} {old new : StoreState} {ls ms : Locks} {replies : List Reply} → RunsUnder Asks s h ts old ls replies new ms → Runs s ts old ls replies new ms
 under_runs under_none = no_more
 under_runs (under_more stands holds step more) = one_more step (under_runs more)
 
-module _ (t : Turn) (ts : List Turn) (small : AreShowable (t ∷ ts)) where
+module _ (t : Turn) (ts : List Turn) (small : MomentsAreDates (t ∷ ts)) where
   first_small : t.asked.moment ≤ last_moment
   first_small = All-head (λ (u : Turn). u.asked.moment ≤ last_moment) t ts small
 
-  more_small : AreShowable ts
+  more_small : MomentsAreDates ts
   more_small = All-tail (λ (u : Turn). u.asked.moment ≤ last_moment) t ts small
 
   -- a turn before a run that ends with a number to spare
-  turn_finds : (old : StoreState) {s : Settings} {mid new : StoreState} {ls ks ms : Locks} {reply : Response} {replies : List Response} → IsWorld old.world
+  turn_finds : (old : StoreState) {s : Settings} {mid new : StoreState} {ls ks ms : Locks} {reply : Reply} {replies : List Reply} → IsWorld old.world
       → Steps s t.asked (begun t.refusals old) ls reply mid ks → Runs s ts mid ks replies new ms → new.world.next < last_number
       → StepsBy AsksWithNumbers s t.asked (begun t.refusals old) ls reply mid ks
   turn_finds old world step more room =

@@ -20,14 +20,14 @@ use Rattle.dav_core.specs.Metadata.{tag_of}
 use Rattle.dav_core.specs.Path.{Path, path_cmp, is_same_path, parent_of}
 use Rattle.dav_core.specs.World.{World, Node, Nodes, File, node_at, bytes_of, is_folder, is_folder_kind, file_made_with, is_file_made_with, fresh, modified_at, adjust, change_node, with_new, splice, max_file_len, last_moment, last_number, IsWorld}
 use Rattle.dav_core.proofs.Theorems.{went_on, went_if, found, find-adjust, find-put_node, path-itself, change_made, made_stands_there, calls_keep_worlds}
-use Rattle.dav_engine.specs.declared.put_headers.Bounds.TheVariants.{Whole}
-use Rattle.dav_engine.specs.declared.put_headers.Writing.{Writing}
-use Rattle.dav_engine.specs.Client.{Client, requester}
+use Rattle.dav_engine.specs.declared.methods.put.headers.Bounds.TheVariants.{Whole}
+use Rattle.dav_engine.specs.declared.methods.put.headers.Writing.{Writing}
+use Rattle.dav_engine.specs.Caller.{Caller, requester}
 use Rattle.dav_engine.specs.Conditions.{guarded}
 use Rattle.dav_engine.specs.Method.{◌>>=◌, gives, require, refused_as, answer_of, ask_for, require_member}
 use Rattle.dav_engine.specs.Plan.{Locks, Ran, ran_ask}
 use Rattle.dav_engine.specs.Put.{PutHeaders, written_by, bounded_by, writing_of, put_opening, open_error, written, is_announced, stored, store, put_allowed, put_body}
-use Rattle.dav_engine.specs.Response.{Response, Header, etag, last_modified, content_length}
+use Rattle.dav_engine.specs.Reply.{Reply, Header, etag, last_modified, content_length}
 use Rattle.dav_engine.specs.WorldLaws.{reads_done}
 use Rattle.dav_engine.proofs.Theorems.{Did, stays, means, did, did_leave, ran_outcome, reading_leaves, only_reads, look_reads, only_put_allowed}
 use Rattle.dav_server.proofs.GetWorld.{Stands, answered_by, gone_on}
@@ -263,7 +263,7 @@ tag_told w new file bytes tag found_before answer (world, holds) (means r h is l
 -- ---- the whole PUT
 
 -- the reply tells the tag of the open file
-told_stands : (file : Handle) (bytes tag : List ℕ) (found : Bool) (w : World) {old new : StoreState} {ls ms : Locks} {r : Response} → old.world ≡ w → WorldHolds w file bytes
+told_stands : (file : Handle) (bytes tag : List ℕ) (found : Bool) (w : World) {old new : StoreState} {ls ms : Locks} {r : Reply} → old.world ≡ w → WorldHolds w file bytes
     → Ran Asking (answer_of (FileMetadata file) >>= (λ after. gives (stored found (result_ok after)))) old ls (Ok r) new ms → Contains r.headers (codes "etag", tag) → StandsAnywhere new.world tag bytes
 told_stands file bytes tag found w {ms = ms} {r = r} same holds (ran_ask {old = old} {mid = mid} {new = new} {answer = answer} one rest) among =
     let reply : r ≡ stored found (result_ok answer) = ok_same (ran_outcome rest) in
@@ -271,15 +271,15 @@ told_stands file bytes tag found w {ms = ms} {r = r} same holds (ran_ask {old = 
     let left : new.world ≡ w = (reading_leaves reads_done rest).0 ∙ asked ∙ same in
     subst (λ (v : World). StandsAnywhere v tag bytes) (sym left)
     (tag_told w mid.world file bytes tag found answer holds (subst (λ (v : World). Did (meaning (FileMetadata file) v) v answer mid.world) same (did one))
-    (subst (λ (x : Response). Contains x.headers (codes "etag", tag)) reply among))
+    (subst (λ (x : Reply). Contains x.headers (codes "etag", tag)) reply among))
 
-flushed_stands : (file : Handle) (bytes tag : List ℕ) (found : Bool) {old new : StoreState} {ls ms : Locks} {r : Response} → WorldHolds old.world file bytes
+flushed_stands : (file : Handle) (bytes tag : List ℕ) (found : Bool) {old new : StoreState} {ls ms : Locks} {r : Reply} → WorldHolds old.world file bytes
     → Ran Asking (ask_for (Flush file) >>= (λ u. answer_of (FileMetadata file) >>= (λ after. gives (stored found (result_ok after))))) old ls (Ok r) new ms → Contains r.headers (codes "etag", tag) → StandsAnywhere new.world tag bytes
 flushed_stands file bytes tag found holds (ran_ask {old = old} {mid = mid} {answer = answer} one rest) among =
     let (u, is, more) = answered_by dav.FsError answer _ rest in
     told_stands file bytes tag found old.world (did_leave (Flush file) old.world mid.world answer tt (did one)) holds more among
 
-store_stands : (how : Opening) (p : Path) (bytes tag : List ℕ) (now : ℕ) (found : Bool) {old new : StoreState} {ls ms : Locks} {r : Response} → IsWorld old.world → IsStorable p → now ≤ last_moment → how.truncate ≡ true → how.append ≡ false
+store_stands : (how : Opening) (p : Path) (bytes tag : List ℕ) (now : ℕ) (found : Bool) {old new : StoreState} {ls ms : Locks} {r : Reply} → IsWorld old.world → IsStorable p → now ≤ last_moment → how.truncate ≡ true → how.append ≡ false
     → Ran Asking (store how None p bytes now found) old ls (Ok r) new ms → Contains r.headers (codes "etag", tag) → StandsAnywhere new.world tag bytes
 store_stands how p bytes tag now found world storable small whole from (ran_ask {old = old} {mid = mid} {answer = answer} one rest) among =
     let (file, is, more) = answered_by (open_error how) answer _ rest in
@@ -293,7 +293,7 @@ writes_whole h found w whole is =
     let same : record { from = None; appends = false; announced = h.announced } ≡ w = ok_same (sym (ap (λ range. bounded_by range (written_by Put h found)) whole) ∙ is) in
     (sym (ap (λ (x : Writing). x.from) same), sym (ap (λ (x : Writing). x.appends) same))
 
-allowed_whole : (h : PutHeaders) (p : Path) (who : Client) (bytes : List ℕ) {old new : StoreState} {ls ms : Locks} {allowed : Writing × Bool} → h.range ≡ Whole
+allowed_whole : (h : PutHeaders) (p : Path) (who : Caller) (bytes : List ℕ) {old new : StoreState} {ls ms : Locks} {allowed : Writing × Bool} → h.range ≡ Whole
     → Ran Asking (put_allowed Put h p who bytes) old ls (Ok allowed) new ms → (allowed.0.from ≡ None) × (allowed.0.appends ≡ false)
 allowed_whole h p who bytes {allowed = allowed} whole (ran_ask {answer = answer} one ran) =
     let (w, is, more) = gone_on (writing_of Put h (result_ok answer)) _ ran in
@@ -305,7 +305,7 @@ allowed_whole h p who bytes {allowed = allowed} whole (ran_ask {answer = answer}
     (ap (λ (a : Writing × Bool). a.0.from) same ∙ from, ap (λ (a : Writing × Bool). a.0.appends) same ∙ appends)
 
 -- where the reply to a PUT of a whole file has a tag, there is a file of these bytes with its number
-pub put_stands : (h : PutHeaders) (p : Path) (who : Client) (bytes tag : List ℕ) {old new : StoreState} {ls ms : Locks} {r : Response} → IsWorld old.world → IsStorable p → who.moment ≤ last_moment → h.range ≡ Whole
+pub put_stands : (h : PutHeaders) (p : Path) (who : Caller) (bytes tag : List ℕ) {old new : StoreState} {ls ms : Locks} {r : Reply} → IsWorld old.world → IsStorable p → who.moment ≤ last_moment → h.range ≡ Whole
     → Ran Asking (put_body Put h p who (Some bytes)) old ls (Ok r) new ms → Contains r.headers (codes "etag", tag) → StandsAnywhere new.world tag bytes
 put_stands h p who bytes tag {old} {new} {ms = ms} {r} world storable small whole ran among =
     let checks = went (put_allowed Put h p who bytes) _ ran in

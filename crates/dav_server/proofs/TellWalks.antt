@@ -14,7 +14,7 @@ use Rattle.dav_core.specs.Path.{Path, PathText, IsName, names, are_equal}
 use Rattle.dav_core.specs.Status.{fs_status}
 use Rattle.dav_core.specs.World.{World, IsWorld, is_missing, is_file, members}
 use Rattle.dav_core.proofs.Theorems.{went_on, lists_what_stands}
-use Rattle.dav_engine.specs.Copying.{CopyFault, CopyWalk, refused_at, alone_faults, copy_seen, copy_members, copy_listed, copy_inside, copy_kind, copy_looked, copy as copy_walk}
+use Rattle.dav_engine.specs.Copying.{CopyFault, CopyWalk, refused_at, faults_at_depth_0, copy_seen, copy_members, copy_listed, copy_inside, copy_kind, copy_looked, copy as copy_walk}
 use Rattle.dav_engine.specs.Folder.{child_of, room_at}
 use Rattle.dav_engine.specs.Method.{MethodPlan, then as followed_by, ◌>>=◌}
 use Rattle.dav_engine.specs.Plan.{Done, Ask, Look, Keep, Locks, Ran, ran_done, ran_ask, ran_look, ran_keep}
@@ -173,7 +173,7 @@ module _ (prefix : List ℕ) (source place : Path) where
   refused_concerns q (Ok a) at = All-nil Concerns
   refused_concerns q (Err e) at = one_concern q e (inl at)
 
-  alone_concerns : (q : PathText) (r : Result (Unit {0}) FsError) → Reached prefix place q → All Concerns (alone_faults q r)
+  alone_concerns : (q : PathText) (r : Result (Unit {0}) FsError) → Reached prefix place q → All Concerns (faults_at_depth_0 q r)
   alone_concerns q (Ok made) at = All-nil Concerns
   alone_concerns q (Err fs.Exists) at = All-nil Concerns
   alone_concerns q (Err fs.NotImplemented) at = one_concern q fs.NotImplemented (inr at)

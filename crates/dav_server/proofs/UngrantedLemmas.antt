@@ -13,9 +13,9 @@ use Rattle.dav_engine.specs.Lock.{is_absent}
 use Rattle.dav_engine.specs.Plan.{Locks, ServerState}
 use Rattle.dav_server.specs.Head.{Request, IsHead}
 use Rattle.dav_server.specs.Leaving.{SameContent, AsksForLock, GrantsNothing, IsWriteRequest}
-use Rattle.dav_server.specs.Machine.{Asked, Settings, Means, TakesTree, body_for, taken_by}
+use Rattle.dav_server.specs.Machine.{Exchange, Settings, Means, TakesTree, body_for, taken_by}
 use Rattle.dav_server.specs.Method.{GivesServed}
-use Rattle.dav_server.specs.Server.{HandlerView}
+use Rattle.dav_server.specs.DavHandler.{HandlerView}
 use Rattle.dav_server.specs.WriteLaws.{IsLockRequest}
 use Rattle.dav_server.proofs.ErrorLemmas.{errors_leave}
 use Rattle.dav_server.proofs.MeansWorld.{asks_one}
@@ -47,7 +47,7 @@ lock_body given {b} {m} is lock has =
 -- ---- the method
 
 -- the method of a LOCK is LOCK
-pub lock_method : (x : Asked) {r : Request} {m : DavMethod} → AsksForLock x → IsHead x.head r → GivesServed r.method (Ok m) → m ≡ LockMethod
+pub lock_method : (x : Exchange) {r : Request} {m : DavMethod} → AsksForLock x → IsHead x.head r → GivesServed r.method (Ok m) → m ≡ LockMethod
 lock_method x (lock, has) head gives = asks_one x LockMethod lock head gives
 
 -- ---- the handler
@@ -70,11 +70,11 @@ is_memory (dav.StatusClose status) = inr (λ same. cc)
 is_memory (dav.FsError refusal) = inr (λ same. cc)
 is_memory dav.Memory = inl refl
 
-no_write : (x : Asked) → IsLockRequest x → IsWriteRequest x → ⊥
+no_write : (x : Exchange) → IsLockRequest x → IsWriteRequest x → ⊥
 no_write x lock (inl (r, head, gives)) = let same : Put ≡ LockMethod = asks_one x LockMethod lock head gives in absurd (cc)
 no_write x lock (inr (r, head, gives)) = let same : Patch ≡ LockMethod = asks_one x LockMethod lock head gives in absurd (cc)
 
-module _ (s : Settings) (x : Asked) (old new : ServerState) (e : DavError) where
+module _ (s : Settings) (x : Exchange) (old new : ServerState) (e : DavError) where
   other_error : e ≢ dav.Memory → Serves (Means s x) old (Err e) new → GrantsNothing x old new
   other_error other (served plan means (followed ran)) (lock, has) unused =
       let (world, list) = errors_leave s x plan old.store new.store old.locks new.locks e (λ writes. absurd (no_write x lock writes)) means ran in

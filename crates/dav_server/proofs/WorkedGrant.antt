@@ -17,7 +17,7 @@ use Rattle.dav_headers.specs.declared.depth.Depth.{Depth}
 use Rattle.dav_headers.specs.declared.timeout.DavTimeout.{DavTimeout}
 use Rattle.dav_engine.specs.declared.request.Body.TheVariants as body
 use Rattle.dav_engine.specs.Alongside.{AsksWithNumbers}
-use Rattle.dav_engine.specs.AlongsidePlans.{SubmitsAlone}
+use Rattle.dav_engine.specs.IsolatedPlans.{SubmitsAlone}
 use Rattle.dav_engine.specs.Folder.{location_found}
 use Rattle.dav_engine.specs.Guard.{Stands, listed_here, a_list, no_list}
 use Rattle.dav_engine.specs.Lock.{granted_reply, is_lock, lock as lock_plan}
@@ -25,16 +25,16 @@ use Rattle.dav_engine.specs.LockHeaders.{LockHeaders, AreLockHeaders}
 use Rattle.dav_engine.specs.Method.{MethodPlan}
 use Rattle.dav_engine.specs.Mkcol.{made}
 use Rattle.dav_engine.specs.Plan.{Locks, Ran, ran_done, ran_ask, ran_look, ran_keep}
-use Rattle.dav_engine.specs.Response.{Response, error_reply}
+use Rattle.dav_engine.specs.Reply.{Reply, error_reply}
 use Rattle.dav_server.specs.Head.{IsHead, request_of_head}
 use Rattle.dav_server.specs.Headers.{headers_of}
 use Rattle.dav_server.specs.Holder.{IsHolderRequest, acts}
-use Rattle.dav_server.specs.Isolation.{AreLoaded, RunsUnder, under_none, under_more, Alone, alone_none, alone_other, alone_own, AreAlone, TokensDiffer}
-use Rattle.dav_server.specs.Machine.{Asked, client, Means, known, method, locks, steps}
+use Rattle.dav_server.specs.Isolation.{AreLoaded, RunsUnder, under_none, under_more, HolderTurns, alone_none, alone_other, alone_own, MatchesSoloRun, TokensDiffer}
+use Rattle.dav_server.specs.Machine.{Exchange, caller, Means, known, method, locks, steps}
 use Rattle.dav_server.specs.Naming.{NamesLock}
 use Rattle.dav_server.specs.Run.{Turn, no_more, one_more}
-use Rattle.dav_server.specs.Server.{Server}
-use Rattle.dav_server.specs.TagLaws.{AreShowable}
+use Rattle.dav_server.specs.DavHandler.{DavHandler}
+use Rattle.dav_server.specs.TagLaws.{MomentsAreDates}
 use Rattle.dav_server.proofs.GrantedRuns.{is_isolated_from_grants}
 use Rattle.dav_server.proofs.WorkedRun.{a, b, token, slash_a, at_a, below, at_below, head_of, head_with_method, text_a, target_at_a, target_below, stranger, stranger_below, holder_below, turn_with, settings, no_conditions, own_conditions, own_list, stranger_says, holder_fields, below_request, own_below_head, own_says, below_unnamed, own_below_names, plan_with, plan_below, stranger_means, below_means, holder_below_means, before, after, filled, holding, missing, makes_a, missing_below, makes_below, number_below, own_turn, Showable, Loaded}
 
@@ -49,7 +49,7 @@ holds name inner = element name None None [] (trees (inner ∷ []))
 abbrev pub info : ElementTree
 info = element (codes "lockinfo") None None [] (trees (holds (codes "lockscope") (named (codes "exclusive")) ∷ holds (codes "locktype") (named (codes "write")) ∷ []))
 
-abbrev pub locker : Asked
+abbrev pub locker : Exchange
 locker = record { head = print_request (head_of (codes "LOCK") slash_a []); body = body.Tree info; principal = None; moment = 1; token = Some token }
 
 short : length locker.head ≤ 65536
@@ -72,8 +72,8 @@ no_timeout times is = absurd is
 says_lock : AreLockHeaders (headers_of []) at_a lock_headers
 says_lock = record { conditions = stranger_says (a ∷ []); depth = no_depth; timeout = no_timeout }
 
-abbrev pub locking : MethodPlan Response
-locking = lock_plan lock_headers at_a (body.Tree info) (client locker)
+abbrev pub locking : MethodPlan Reply
+locking = lock_plan lock_headers at_a (body.Tree info) (caller locker)
 
 pub locker_means : Means settings locker locking
 locker_means = known (request_of_head (head_of (codes "LOCK") slash_a [])) LockMethod lock_head (tt, refl) (method at_a (body.Tree info) refl (target_at_a LockMethod) refl (locks (is_lock lock_headers says_lock)))
@@ -102,7 +102,7 @@ makes_first =
     ran_ask {c = Metadata (a ∷ [])} {answer = Err NotFound} (asked missing)
     (ran_look (ran_look (ran_ask {c = CreateDir (a ∷ []) 1} {answer = Ok tt} (asked makes_a) ran_done)))
 
-abbrev pub lock_reply : Response
+abbrev pub lock_reply : Reply
 lock_reply = granted_reply true (location_found (Some found_a) at_a) granted_lock
 
 pub grants : Ran Asks locking (holding after) none (Ok lock_reply) (holding after) one
@@ -123,13 +123,13 @@ later = turn_with stranger_below ∷ own_turn
 abbrev pub turns : List Turn
 turns = turn_with stranger ∷ turn_with locker ∷ later
 
-abbrev pub given : List Response
+abbrev pub given : List Reply
 given = error_reply (dav.Status 423) ∷ made at_below ∷ []
 
-abbrev pub replies : List Response
+abbrev pub replies : List Reply
 replies = made at_a ∷ lock_reply ∷ given
 
-abbrev pub begins : Server
+abbrev pub begins : DavHandler
 begins = record { settings = settings; state = record { store = holding before; locks = none } }
 
 other_names : ¬ NamesLock granted_lock stranger_below
@@ -152,13 +152,13 @@ under =
     under_more listed (λ named. absurd (other_names named)) (steps (plan_below no_conditions) (Err (dav.Status 423)) below_means refused)
     (under_more listed (λ named. is_holder) (steps (plan_below (own_conditions below)) (Ok (made at_below)) holder_below_means answered) under_none)
 
-among : Alone granted_lock later own_turn
+among : HolderTurns granted_lock later own_turn
 among = alone_other other_names (alone_own own_names alone_none)
 
 abbrev pub Others : Turn → Turn → Type 0
 Others t u = (token : List ℕ) → t.asked.token ≡ Some token → u.asked.token ≢ Some token
 
-all_showable : AreShowable turns
+all_showable : MomentsAreDates turns
 all_showable =
     All-cons Showable (turn_with stranger) (turn_with locker ∷ later) (omega arith) (All-cons Showable (turn_with locker) later (omega arith)
     (All-cons Showable (turn_with stranger_below) own_turn (omega arith) (All-cons Showable (turn_with holder_below) [] (omega arith) (All-nil Showable))))
@@ -185,7 +185,7 @@ tokens_differ =
     (AllPairs-cons Others (turn_with holder_below) [] (quiet (turn_with holder_below) refl []) (λ i j d less small. absurd (omega (arith, small))))))
 
 -- From the grant on the holder is answered as if alone, and the folder is the same.
-pub from_the_grant : AreAlone settings granted_lock later own_turn (holding after) one given (holding filled)
+pub from_the_grant : MatchesSoloRun settings granted_lock later own_turn (holding after) one given (holding filled)
 from_the_grant =
     is_isolated_from_grants begins turns replies all_showable all_loaded (turn_with stranger ∷ []) later [] own_turn (turn_with locker) granted_lock (holding after) (holding after) (holding filled)
     [] (granted_lock ∷ []) one (made at_a ∷ []) given [] lock_reply refl refl tokens_differ (empty_is_world 1 (omega arith) (omega arith)) refl

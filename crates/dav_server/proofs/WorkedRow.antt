@@ -16,7 +16,7 @@ use Rattle.dav_core.proofs.Theorems.{empty_is_world}
 use Rattle.dav_headers.specs.IfLaws.{asks_for}
 use Rattle.dav_engine.specs.declared.request.Body.TheVariants as body
 use Rattle.dav_engine.specs.Alongside.{AsksWithNumbers}
-use Rattle.dav_engine.specs.AlongsidePlans.{SubmitsAlone}
+use Rattle.dav_engine.specs.IsolatedPlans.{SubmitsAlone}
 use Rattle.dav_engine.specs.Delete.{DeleteHeaders, AreDeleteHeaders, delete, is_delete}
 use Rattle.dav_engine.specs.Guard.{folder_of, Stands, listed_here, a_list, no_list}
 use Rattle.dav_engine.specs.Inside.{SameInside}
@@ -25,16 +25,16 @@ use Rattle.dav_engine.specs.Mkcol.{made}
 use Rattle.dav_engine.specs.Multistatus.{status_reply}
 use Rattle.dav_engine.specs.Plan.{Locks, Ran, ran_done, ran_ask, ran_look, ran_keep}
 use Rattle.dav_engine.specs.Put.{ArePutHeaders, put, store, stored, is_put}
-use Rattle.dav_engine.specs.Response.{Response, error_reply}
+use Rattle.dav_engine.specs.Reply.{Reply, error_reply}
 use Rattle.dav_engine.proofs.Theorems.{ran_plain}
 use Rattle.dav_server.specs.Head.{Request, IsHead, request_of_head}
 use Rattle.dav_server.specs.Headers.{headers_of}
 use Rattle.dav_server.specs.Holder.{IsHolderRequest, acts}
-use Rattle.dav_server.specs.Isolation.{AreLoaded, RunsUnder, under_none, under_more, Alone, alone_none, alone_other, alone_own, AnswerAlike, AreAlone, TokensDiffer}
-use Rattle.dav_server.specs.Machine.{Asked, client, Means, known, method, puts, deletes, steps}
+use Rattle.dav_server.specs.Isolation.{AreLoaded, RunsUnder, under_none, under_more, HolderTurns, alone_none, alone_other, alone_own, AnswerAlike, MatchesSoloRun, TokensDiffer}
+use Rattle.dav_server.specs.Machine.{Exchange, caller, Means, known, method, puts, deletes, steps}
 use Rattle.dav_server.specs.Naming.{NamesLock, by_if}
 use Rattle.dav_server.specs.Run.{Turn, Runs, no_more, one_more}
-use Rattle.dav_server.specs.TagLaws.{AreShowable}
+use Rattle.dav_server.specs.TagLaws.{MomentsAreDates}
 use Rattle.dav_server.proofs.GrantedRuns.{is_isolated_from_grants}
 use Rattle.dav_server.proofs.MeansLemmas.{runs_are_determined}
 use Rattle.dav_server.proofs.NeededWorlds.{put_headers, no_length, no_expected, no_update, bare_says, answers, emptying, writer, writing, writer_means, writer_unnamed}
@@ -44,15 +44,15 @@ use Rattle.dav_server.proofs.WorkedRun.{b, token, at_a, below, slash_below, at_b
 -- ---- PUT /a/b of one byte, by another client and by the holder, and DELETE /a/b by the holder
 
 -- the PUT of another client, without a header
-abbrev pub intruder : Asked
+abbrev pub intruder : Exchange
 intruder = record { head = print_request (head_of (codes "PUT") slash_below []); body = body.Bytes (49 ∷ []); principal = None; moment = 1; token = None }
 
 -- that of the holder, with an If of the lock's token
-abbrev pub putter : Asked
+abbrev pub putter : Exchange
 putter = record { head = print_request (head_of (codes "PUT") slash_below (if_field ∷ [])); body = body.Bytes (49 ∷ []); principal = None; moment = 1; token = None }
 
 -- and the holder's DELETE, with the same If
-abbrev pub remover : Asked
+abbrev pub remover : Exchange
 remover = record { head = print_request (head_of (codes "DELETE") slash_below (if_field ∷ [])); body = body.None; principal = None; moment = 1; token = None }
 
 short_intruder : length intruder.head ≤ 65536
@@ -106,14 +106,14 @@ remover_says : AreDeleteHeaders (headers_of holder_fields) at_below delete_heade
 remover_says = record { conditions = holder_says below; depth = no_depth }
 
 -- the plans that they result in
-abbrev pub intruding : MethodPlan Response
-intruding = put Put (put_headers no_conditions) below (client intruder) (49 ∷ [])
+abbrev pub intruding : MethodPlan Reply
+intruding = put Put (put_headers no_conditions) below (caller intruder) (49 ∷ [])
 
-abbrev pub putting : MethodPlan Response
-putting = put Put (put_headers (own_conditions below)) below (client putter) (49 ∷ [])
+abbrev pub putting : MethodPlan Reply
+putting = put Put (put_headers (own_conditions below)) below (caller putter) (49 ∷ [])
 
-abbrev pub removing : MethodPlan Response
-removing = delete delete_headers at_below (client remover)
+abbrev pub removing : MethodPlan Reply
+removing = delete delete_headers at_below (caller remover)
 
 intruder_means : Means settings intruder intruding
 intruder_means = known (request_of_head (head_of (codes "PUT") slash_below [])) Put intruder_head (tt, refl) (method at_below (body.Bytes (49 ∷ [])) refl (target_below Put) refl (puts (is_put (put_headers no_conditions) (bare_says slash_below))))
@@ -166,7 +166,7 @@ past_in w = record (opened_in w) { position = 1 }
 abbrev pub told_in : World → DavMetaData
 told_in w = record { len = 1; dir = false; created = 1; modified = 1; number = Some (w.next + 1) }
 
-abbrev pub created_in : World → Response
+abbrev pub created_in : World → Reply
 created_in w = stored false (Some (told_in w))
 
 -- each call of such a PUT, and that it finds a number where it takes one
@@ -289,10 +289,10 @@ later = turn_with intruder ∷ turn_with writer ∷ own
 abbrev pub turns : List Turn
 turns = turn_with stranger ∷ turn_with locker ∷ later
 
-abbrev pub given : List Response
+abbrev pub given : List Reply
 given = error_reply (dav.StatusClose 423) ∷ created_in after ∷ created_in with_other ∷ status_reply 204 ∷ []
 
-abbrev pub replies : List Response
+abbrev pub replies : List Reply
 replies = made at_a ∷ lock_reply ∷ given
 
 listed : Stands granted_lock one
@@ -306,7 +306,7 @@ under =
     (under_more listed (λ named. putter_holds) (steps putting (Ok (created_in with_other)) putter_means (own_stored puts_beside))
     (under_more listed (λ named. remover_holds) (steps removing (Ok (status_reply 204)) remover_means (own_removed with_other finds_beside removes_beside)) under_none)))
 
-among : Alone granted_lock later own
+among : HolderTurns granted_lock later own
 among = alone_other intruder_names (alone_other writer_names (alone_own putter_names (alone_own remover_names alone_none)))
 
 -- what holds of each of the turns holds of all
@@ -318,7 +318,7 @@ all_later P one two three four =
 all_turns : (P : Turn → Type 0) → P (turn_with stranger) → P (turn_with locker) → All P later → All P turns
 all_turns P one two more = All-cons P (turn_with stranger) (turn_with locker ∷ later) one (All-cons P (turn_with locker) later two more)
 
-showable : AreShowable turns
+showable : MomentsAreDates turns
 showable = all_turns Showable (omega arith) (omega arith) (all_later Showable (omega arith) (omega arith) (omega arith) (omega arith))
 
 loaded : AreLoaded turns
@@ -335,7 +335,7 @@ tokens_differ =
     (AllPairs-cons Others (turn_with remover) [] (quiet (turn_with remover) refl []) (λ i j d less small. absurd (omega (arith, small))))))))
 
 -- From the grant on the holder's PUT and DELETE are answered as if alone, and the folder is the same.
-pub two_clients_in_a_row : AreAlone settings granted_lock later own (holding after) one given (holding emptied_folder)
+pub two_clients_in_a_row : MatchesSoloRun settings granted_lock later own (holding after) one given (holding emptied_folder)
 two_clients_in_a_row =
     is_isolated_from_grants begins turns replies showable loaded (turn_with stranger ∷ []) later [] own (turn_with locker) granted_lock (holding after) (holding after) (holding emptied_folder)
     [] (granted_lock ∷ []) one (made at_a ∷ []) given [] lock_reply refl refl tokens_differ (empty_is_world 1 (omega arith) (omega arith)) refl
@@ -345,7 +345,7 @@ two_clients_in_a_row =
 -- ---- the run of the holder's requests alone
 
 -- the replies: 201 with a tag, and 204
-abbrev pub own_replies : List Response
+abbrev pub own_replies : List Reply
 own_replies = created_in after ∷ status_reply 204 ∷ []
 
 -- They run alone from the grant on.

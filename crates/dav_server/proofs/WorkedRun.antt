@@ -26,7 +26,7 @@ use Rattle.dav_headers.specs.IfTokens.{IsWhiteSpace}
 use Rattle.dav_headers.proofs.Theorems.{asked_for}
 use Rattle.dav_engine.specs.declared.request.Body.TheVariants as body
 use Rattle.dav_engine.specs.Alongside.{AsksWithNumbers}
-use Rattle.dav_engine.specs.AlongsidePlans.{SubmitsAlone}
+use Rattle.dav_engine.specs.IsolatedPlans.{SubmitsAlone}
 use Rattle.dav_engine.specs.Conditions.{Conditions, Addressed, AreConditions, SaysLists}
 use Rattle.dav_engine.specs.Guard.{Stands, guards_here, no_others, listed_here, a_list, no_list}
 use Rattle.dav_headers.specs.Value.{only_text}
@@ -34,16 +34,16 @@ use Rattle.dav_engine.specs.Inside.{HasFoldersAbove}
 use Rattle.dav_engine.specs.Method.{MethodPlan}
 use Rattle.dav_engine.specs.Mkcol.{mkcol, made, is_mkcol}
 use Rattle.dav_engine.specs.Plan.{Locks, Ran, ran_done, ran_ask, ran_look}
-use Rattle.dav_engine.specs.Response.{Response, error_reply}
+use Rattle.dav_engine.specs.Reply.{Reply, error_reply}
 use Rattle.dav_engine.proofs.Theorems.{last_is}
 use Rattle.dav_server.specs.Head.{Request, IsHead, request_of_head}
 use Rattle.dav_server.specs.Headers.{headers_of}
 use Rattle.dav_server.specs.Holder.{IsHolderRequest, acts}
-use Rattle.dav_server.specs.Isolation.{AreLoaded, NoneHandsIn, RunsUnder, under_none, under_more, Alone, alone_none, alone_other, alone_own, AreAlone}
-use Rattle.dav_server.specs.Machine.{Settings, Asked, client, Means, known, method, makes, steps}
+use Rattle.dav_server.specs.Isolation.{AreLoaded, TokenIsFresh, RunsUnder, under_none, under_more, HolderTurns, alone_none, alone_other, alone_own, MatchesSoloRun}
+use Rattle.dav_server.specs.Machine.{Settings, Exchange, caller, Means, known, method, makes, steps}
 use Rattle.dav_server.specs.Naming.{NamesToken, by_if, by_lock_token, NamesLock}
 use Rattle.dav_server.specs.Run.{Turn}
-use Rattle.dav_server.specs.TagLaws.{AreShowable}
+use Rattle.dav_server.specs.TagLaws.{MomentsAreDates}
 use Rattle.dav_server.specs.Target.{TargetNames, path}
 use Rattle.dav_server.proofs.HeadLemmas.{one_head}
 use Rattle.dav_server.proofs.IsolationLemmas.{holders_are_alone}
@@ -96,24 +96,24 @@ value = 40 ∷ 60 ∷ (token ++ 62 ∷ 41 ∷ [])
 abbrev pub if_field : Field
 if_field = record { name = codes "If"; raw = value; end = crlf }
 
-abbrev pub request_to : List ℕ → List Field → Asked
+abbrev pub request_to : List ℕ → List Field → Exchange
 request_to target fields = record { head = print_request (head_to target fields); body = body.None; principal = None; moment = 1; token = None }
 
 -- MKCOL /a, without a header and with an If of the lock's token
-abbrev pub stranger : Asked
+abbrev pub stranger : Exchange
 stranger = request_to slash_a []
 
-abbrev pub holder : Asked
+abbrev pub holder : Exchange
 holder = request_to slash_a (if_field ∷ [])
 
 -- MKCOL /a/b, the same two
-abbrev pub stranger_below : Asked
+abbrev pub stranger_below : Exchange
 stranger_below = request_to slash_below []
 
-abbrev pub holder_below : Asked
+abbrev pub holder_below : Exchange
 holder_below = request_to slash_below (if_field ∷ [])
 
-abbrev pub turn_with : Asked → Turn
+abbrev pub turn_with : Exchange → Turn
 turn_with x = record { asked = x; refusals = Some [] }
 
 -- a server of all methods at the root
@@ -299,7 +299,7 @@ submits = record { lists = own_list below ∷ []; only = a_list (b ∷ []) no_li
 -- ---- who names the lock
 
 -- a head without fields names nothing
-pub unnamed_by : (x : Asked) (r : Request) → IsHead x.head r → r.fields ≡ [] → ¬ NamesToken x token
+pub unnamed_by : (x : Exchange) (r : Request) → IsHead x.head r → r.fields ≡ [] → ¬ NamesToken x token
 unnamed_by x r is none (by_if q also (ls, (v, e, says), contains)) =
     let f : [] ≡ v ∷ [] = subst (λ (fields : List (List ℕ × List ℕ)). get_all (headers_of fields) (codes "if") ≡ v ∷ []) (ap (λ (z : Request). z.fields) (one_head x.head q r also is) ∙ none) e in cc
 unnamed_by x r is none (by_lock_token q also (text, e, between)) =
@@ -341,8 +341,8 @@ is_holder = acts below_request MkCol at_below refl (record { head = own_below_he
 
 -- ---- the run
 
-abbrev pub plan_with : Conditions → MethodPlan Response
-plan_with c = mkcol c at_a (client stranger)
+abbrev pub plan_with : Conditions → MethodPlan Reply
+plan_with c = mkcol c at_a (caller stranger)
 
 pub stranger_means : Means settings stranger (plan_with no_conditions)
 stranger_means = known (request_of_head (head_with [])) MkCol stranger_head (tt, refl) (method at_a body.None refl target_a refl (makes (is_mkcol no_conditions (stranger_says (a ∷ [])))))
@@ -350,8 +350,8 @@ stranger_means = known (request_of_head (head_with [])) MkCol stranger_head (tt,
 pub holder_means : Means settings holder (plan_with (own_conditions (a ∷ [])))
 holder_means = known holder_request MkCol own_head (tt, refl) (method at_a body.None refl target_a refl (makes (is_mkcol (own_conditions (a ∷ [])) (holder_says (a ∷ [])))))
 
-abbrev pub plan_below : Conditions → MethodPlan Response
-plan_below c = mkcol c at_below (client stranger_below)
+abbrev pub plan_below : Conditions → MethodPlan Reply
+plan_below c = mkcol c at_below (caller stranger_below)
 
 pub below_means : Means settings stranger_below (plan_below no_conditions)
 below_means = known (request_of_head (head_to slash_below [])) MkCol below_head (tt, refl) (method at_below body.None refl (target_below MkCol) refl (makes (is_mkcol no_conditions (stranger_says below))))
@@ -424,7 +424,7 @@ own_turn = turn_with holder_below ∷ []
 abbrev pub both : List Turn
 both = turn_with stranger_below ∷ own_turn
 
-abbrev pub replies : List Response
+abbrev pub replies : List Reply
 replies = error_reply (dav.Status 423) ∷ made at_below ∷ []
 
 run : RunsUnder AsksWithNumbers settings lock both (holding after) one_lock replies (holding filled) one_lock
@@ -432,7 +432,7 @@ run =
     under_more listed (λ named. absurd (other_below_names named)) (steps (plan_below no_conditions) (Err (dav.Status 423)) below_means stranger_ran)
     (under_more listed (λ named. is_holder) (steps (plan_below (own_conditions below)) (Ok (made at_below)) holder_below_means below_ran) under_none)
 
-among : Alone lock both own_turn
+among : HolderTurns lock both own_turn
 among = alone_other other_below_names (alone_own own_below_names alone_none)
 
 past_a : (p : Path) (b : Bool) → has_names (if b then rest_after p [] else None) ≡ true → ⊥
@@ -451,7 +451,7 @@ Showable t = t.asked.moment ≤ last_moment
 abbrev pub Loaded : Turn → Type 0
 Loaded t = is_some t.refusals ≡ true
 
-both_showable : AreShowable both
+both_showable : MomentsAreDates both
 both_showable = All-cons Showable (turn_with stranger_below) own_turn (omega arith) (All-cons Showable (turn_with holder_below) [] (omega arith) (All-nil Showable))
 
 abbrev Other : Turn → Type 0
@@ -461,7 +461,7 @@ both_loaded : AreLoaded both
 both_loaded = All-cons Loaded (turn_with stranger_below) own_turn refl (All-cons Loaded (turn_with holder_below) [] refl (All-nil Loaded))
 
 -- neither hands in a token
-none_hands_in : NoneHandsIn lock both
+none_hands_in : TokenIsFresh lock both
 none_hands_in = All-cons Other (turn_with stranger_below) own_turn (λ e. cc) (All-cons Other (turn_with holder_below) [] (λ e. cc) (All-nil Other))
 
 small_a : All (All (λ c. c < 256)) (a ∷ [])
@@ -473,7 +473,7 @@ unfolding meaning
 is_world = calls_keep_worlds (CreateDir (a ∷ []) 1) before (tt, after) ((All-cons IsName a [] name_a (All-nil IsName), small_a), omega arith) (empty_is_world 1 (omega arith) (omega arith)) refl
 
 -- So the holder's request alone makes the folder too, and leaves the same in it.
-pub two_clients : AreAlone settings lock both own_turn (holding after) one_lock replies (holding filled)
+pub two_clients : MatchesSoloRun settings lock both own_turn (holding after) one_lock replies (holding filled)
 two_clients =
     holders_are_alone settings lock both own_turn (holding after) (holding filled) one_lock one_lock replies
     (record { exclusive = refl; deep = refl }) (guards_here refl no_others) (root_above after refl) is_world

@@ -15,7 +15,7 @@ use Rattle.dav_engine.specs.Members.{SameMembers}
 use Rattle.dav_engine.specs.Method.{MethodPlan, ◌>>=◌, ask_or, gives, require_free}
 use Rattle.dav_engine.specs.Mkcol.{create_error, made}
 use Rattle.dav_engine.specs.Plan.{Locks, Ran, ran_done, ran_ask, ran_look}
-use Rattle.dav_engine.specs.Response.{Response}
+use Rattle.dav_engine.specs.Reply.{Reply}
 use Rattle.dav_engine.specs.Sparing.{Spared}
 use Rattle.dav_server.specs.Head.{Request, request_of_head}
 use Rattle.dav_server.specs.Promises.{OneStep, Promise, reading, created, refused, unmodified, updated, passed, kept, shared, tags, hrefs, members, Keeps}
@@ -31,7 +31,7 @@ abbrev pub one_list : Locks
 one_list = Some (list_lock ∷ [])
 
 -- a MKCOL that looks at the locks of its own path alone
-abbrev pub asks_no_folder_above : MethodPlan Response
+abbrev pub asks_no_folder_above : MethodPlan Reply
 asks_no_folder_above = do
   _ ← require_free false (requester_of [] false None) below (dav.Status 423)
   _ ← ask_or create_error (CreateDir below 1)

@@ -23,19 +23,19 @@ use Rattle.dav_headers.specs.ETagList.{IsTagList, star}
 use Rattle.dav_engine.specs.declared.reply.ReplyBody.TheVariants as reply
 use Rattle.dav_engine.specs.declared.request.Body.TheVariants as body
 use Rattle.dav_engine.specs.Alongside.{Alongside, side_ok, side_look, SameAnswers}
-use Rattle.dav_engine.specs.AlongsidePlans.{GoesAlong}
+use Rattle.dav_engine.specs.IsolatedPlans.{IsIsolatedPlan}
 use Rattle.dav_engine.specs.AnswerParts.{AnswerParts, answers_of}
 use Rattle.dav_engine.specs.Ending.{KeepsLock, keeps_look, keeps_list}
 use Rattle.dav_engine.specs.Guard.{Stands, Guarded, listed_here, listed_later, guards_here, no_others, another, IsElsewhere}
 use Rattle.dav_engine.specs.Method.{MethodPlan, ◌>>=◌, answer_of, ask_or, ask_for, drop_locks, fails, gives, look, require, require_free}
 use Rattle.dav_engine.specs.Mkcol.{create_error, made}
 use Rattle.dav_engine.specs.Plan.{Keep, Locks, Ran, ran_done, ran_ask, ran_look, ran_keep}
-use Rattle.dav_engine.specs.Response.{Response, error_reply, reply_to}
+use Rattle.dav_engine.specs.Reply.{Reply, error_reply, reply_to}
 use Rattle.dav_engine.specs.Unlock.{unlocked_reply}
 use Rattle.dav_engine.specs.WorldLaws.{IsReading, reads_ask}
 use Rattle.dav_server.specs.Head.{Request, IsHead, request_of_head}
 use Rattle.dav_server.specs.Headers.{headers_of}
-use Rattle.dav_server.specs.Machine.{Asked, Means, no_head, no_method, known, Steps, steps}
+use Rattle.dav_server.specs.Machine.{Exchange, Means, no_head, no_method, known, Steps, steps}
 use Rattle.dav_server.specs.Promises.{OneStep, Promise, reading, created, refused, unmodified, updated, passed, kept, shared, tags, hrefs, members, Keeps}
 use Rattle.dav_server.specs.TagLaws.{HasMethod, Shows}
 use Rattle.dav_server.specs.WriteLaws.{IsCreateOnly}
@@ -47,19 +47,19 @@ use Rattle.dav_server.proofs.WorkedRun.{a, slash_a, at_a, lock, head_of, head_wi
 -- ---- locks end without being asked
 
 -- a DELETE that drops the locks of its path, whoever holds them
-abbrev pub drops_unasked : MethodPlan Response
+abbrev pub drops_unasked : MethodPlan Reply
 drops_unasked = do
   _ ← drop_locks (a ∷ [])
   gives (unlocked_reply [])
 
-not_kept : (r : Response) → ¬ KeepsLock lock (Keep [] (gives r))
+not_kept : (r : Reply) → ¬ KeepsLock lock (Keep [] (gives r))
 not_kept r (keeps_list is more) = elim is [ ]
 
 pub dropped_lock_is_not_kept : ¬ KeepsLock lock drops_unasked
 dropped_lock_is_not_kept (keeps_look next) = not_kept (unlocked_reply []) (next (lock ∷ []) (listed_here refl))
 
 -- DELETE /a
-abbrev pub remover : Asked
+abbrev pub remover : Exchange
 remover = record { head = print_request (head_of (codes "DELETE") slash_a []); body = body.None; principal = None; moment = 1; token = None }
 
 remove_short : length remover.head ≤ 65536
@@ -104,7 +104,7 @@ dropped_lock_is_gone = (
 
 -- ---- a request that reads writes
 
-abbrev pub getter : Asked
+abbrev pub getter : Exchange
 getter = record { head = print_request (head_of (codes "GET") slash_a []); body = body.None; principal = None; moment = 1; token = None }
 
 get_short : length getter.head ≤ 65536
@@ -119,7 +119,7 @@ pub is_get : HasMethod Get getter
 is_get = (request_of_head (head_of (codes "GET") slash_a []), get_head, (tt, refl))
 
 -- a GET that makes what it doesn't find
-abbrev pub gets_by_making : MethodPlan Response
+abbrev pub gets_by_making : MethodPlan Reply
 gets_by_making = do
   _ ← ask_or create_error (CreateDir (a ∷ []) 1)
   gives (made at_a)
@@ -169,7 +169,7 @@ none_exclusive h alone (listed_here same) = true≢false (ap (λ (l : Lock). l.s
 none_exclusive h alone (listed_later out) = elim out [ ]
 
 -- a MKCOL that looks at the locks once its folder is made
-abbrev pub refuses_late : MethodPlan Response
+abbrev pub refuses_late : MethodPlan Reply
 refuses_late = do
   _ ← ask_or create_error (CreateDir (a ∷ []) 1)
   _ ← require_free false (requester_of [] false None) (a ∷ []) (dav.Status 423)
@@ -209,7 +209,7 @@ abbrev pub star_field : Field
 star_field = record { name = codes "If-None-Match"; raw = codes "*"; end = crlf }
 
 -- PUT /a with If-None-Match `*`
-abbrev pub creator : Asked
+abbrev pub creator : Exchange
 creator = record { head = print_request (head_of (codes "PUT") slash_a (star_field ∷ [])); body = body.None; principal = None; moment = 1; token = None }
 
 is_star_field : IsField star_field
@@ -260,7 +260,7 @@ abbrev pub emptying : Opening
 emptying = record no_opening { write = true; truncate = true; create = true }
 
 -- a PUT that takes a refused look for a path where nothing is
-abbrev pub puts_blindly : MethodPlan Response
+abbrev pub puts_blindly : MethodPlan Reply
 puts_blindly = do
   found ← answer_of (Metadata (a ∷ []))
   _ ← require (not (is_some (result_ok found))) (dav.Status 412)
@@ -304,7 +304,7 @@ blind_put_overwrites = (
 abbrev pub one_tag : List ℕ
 one_tag = 34 ∷ 49 ∷ 34 ∷ []
 
-abbrev pub tagged : List ℕ → Response
+abbrev pub tagged : List ℕ → Reply
 tagged bytes = record { status = 200; headers = (codes "etag", one_tag) ∷ []; body = reply.Bytes bytes }
 
 pub shows : (bytes : List ℕ) → Shows one_tag bytes (tagged bytes)
@@ -350,10 +350,10 @@ module _ (bytes others : List ℕ) (differ : bytes ≢ others) where
 -- ---- a reply that isn't the machine's
 
 -- a request whose head is empty, and a plan that answers it with success
-abbrev pub silent : Asked
+abbrev pub silent : Exchange
 silent = record { head = []; body = body.None; principal = None; moment = 1; token = None }
 
-abbrev pub answers_nothing : MethodPlan Response
+abbrev pub answers_nothing : MethodPlan Reply
 answers_nothing = gives (unlocked_reply [])
 
 no_request : (h : RequestHead) (rest : List ℕ) → IsRequestHead h → [] ≡ print_request h ++ rest → ⊥
@@ -367,19 +367,19 @@ pub no_head_of_none : (r : Request) → ¬ IsHead [] r
 no_head_of_none r (short, h, (is, reads), few, same) = no_request h [] is reads
 
 -- the machine answers 400
-refuses_it : {plan : MethodPlan Response} → Means settings silent plan → plan ≡ fails (dav.Status 400)
+refuses_it : {plan : MethodPlan Reply} → Means settings silent plan → plan ≡ fails (dav.Status 400)
 refuses_it (no_head unread) = refl
 refuses_it (no_method r e head unserved) = absurd (no_head_of_none r head)
 refuses_it (known r m head served means) = absurd (no_head_of_none r head)
 
-ends_so : {plan : MethodPlan Response} {old new : StoreState} {ls ms : Locks} {outcome : Result Response DavError} → Ran Asks plan old ls outcome new ms → plan ≡ fails (dav.Status 400) → outcome ≡ Err (dav.Status 400)
+ends_so : {plan : MethodPlan Reply} {old new : StoreState} {ls ms : Locks} {outcome : Result Reply DavError} → Ran Asks plan old ls outcome new ms → plan ≡ fails (dav.Status 400) → outcome ≡ Err (dav.Status 400)
 ends_so ran_done is = cc
 ends_so (ran_ask step ran) is = cc
 ends_so (ran_look ran) is = cc
 ends_so (ran_keep ran) is = cc
 
-is_refused : (old new : StoreState) (ls ms : Locks) (reply : Response) → Steps settings silent old ls reply new ms → reply.status ≡ 400
-is_refused old new ls ms reply (steps plan outcome means ran) = ap (λ (o : Result Response DavError). (reply_to o).status) (ends_so ran (refuses_it means))
+is_refused : (old new : StoreState) (ls ms : Locks) (reply : Reply) → Steps settings silent old ls reply new ms → reply.status ≡ 400
+is_refused old new ls ms reply (steps plan outcome means ran) = ap (λ (o : Result Reply DavError). (reply_to o).status) (ends_so ran (refuses_it means))
 
 abbrev pub unheard : OneStep
 unheard = first_step silent (unlocked_reply []) (state (holding before) one_lock) (state (holding before) one_lock)
@@ -416,10 +416,10 @@ silence_has_another_reply = (
 -- ---- an answer to the holder that tells of others
 
 -- a reply with the number of the locks, wherever they are
-abbrev pub counted : Locks → Response
+abbrev pub counted : Locks → Reply
 counted ls = record { status = 405; headers = []; body = reply.Bytes (length (unwrap_or ls []) ∷ []) }
 
-abbrev pub counts_locks : MethodPlan Response
+abbrev pub counts_locks : MethodPlan Reply
 counts_locks = do
   ls ← look
   gives (counted ls)
@@ -440,7 +440,7 @@ with_other = Some (lock ∷ elsewhere ∷ [])
 differ : ¬ Alongside lock true (λ file. SameAnswers) None (gives (counted one_lock)) (gives (counted with_other))
 differ (side_ok same) = let e : ◌≡◌ {A = ℕ} 1 2 = ap (λ (a : AnswerParts). get_or (unwrap_or a.bytes []) 0 0) same in omega (arith, e)
 
-counts_apart : ¬ GoesAlong lock counts_locks
+counts_apart : ¬ IsIsolatedPlan lock counts_locks
 counts_apart (side_look next) = differ (next (lock ∷ []) (lock ∷ elsewhere ∷ []) (guards_here refl no_others) (guards_here refl (another is_elsewhere no_others)))
 
 -- a step of the holder that is answered so, and changes nothing
@@ -464,14 +464,14 @@ nothing_else ls members = same_list (counting ls) refl
 pub counted_locks_tell_of_others :
     Ran Asks counts_locks (holding before) one_lock (Ok (counted one_lock)) (holding before) one_lock
     × Ran Asks counts_locks (holding before) with_other (Ok (counted with_other)) (holding before) with_other
-    × Guarded lock one_lock × Guarded lock with_other × (counted one_lock ≢ counted with_other) × ¬ GoesAlong lock counts_locks
+    × Guarded lock one_lock × Guarded lock with_other × (counted one_lock ≢ counted with_other) × ¬ IsIsolatedPlan lock counts_locks
     × KeepsAll (counting one_lock) × KeepsAll (counting with_other)
 counted_locks_tell_of_others = (
   ran_look ran_done,
   ran_look ran_done,
   guards_here refl no_others,
   guards_here refl (another is_elsewhere no_others),
-  (λ same. let e : ◌≡◌ {A = ℕ} 1 2 = ap (λ (r : Response). get_or (unwrap_or (answers_of r).bytes []) 0 0) same in omega (arith, e)),
+  (λ same. let e : ◌≡◌ {A = ℕ} 1 2 = ap (λ (r : Reply). get_or (unwrap_or (answers_of r).bytes []) 0 0) same in omega (arith, e)),
   counts_apart,
   nothing_else one_lock,
   nothing_else with_other,

@@ -31,15 +31,15 @@ use Rattle.dav_engine.specs.Method.{MethodPlan, ◌>>=◌, ask_for, ask_or, chan
 use Rattle.dav_engine.specs.Mkcol.{create_error, made}
 use Rattle.dav_engine.specs.Multistatus.{dav_element, dav_text, response_for}
 use Rattle.dav_engine.specs.Plan.{Locks, ServerState, Ran, ran_done, ran_ask, ran_look, ran_keep}
-use Rattle.dav_engine.specs.Response.{Response}
+use Rattle.dav_engine.specs.Reply.{Reply}
 use Rattle.dav_engine.specs.Unlock.{unlocked_reply}
 use Rattle.dav_engine.proofs.Theorems.{unprefixed_leads_nowhere}
 use Rattle.dav_server.specs.EachRequest.{HoldsBytes}
 use Rattle.dav_server.specs.Get.{not_modified}
 use Rattle.dav_server.specs.Head.{Request, IsHead, request_of_head}
 use Rattle.dav_server.specs.Headers.{headers_of}
-use Rattle.dav_server.specs.HrefLaws.{TellsOf, TellsOfOne}
-use Rattle.dav_server.specs.Machine.{Asked}
+use Rattle.dav_server.specs.HrefLaws.{TellsOf, HasConcernedHref}
+use Rattle.dav_server.specs.Machine.{Exchange}
 use Rattle.dav_server.specs.Promises.{OneStep, Promise, reading, created, refused, unmodified, updated, passed, kept, shared, tags, hrefs, members, Keeps}
 use Rattle.dav_server.specs.Run.{Turn, no_more}
 use Rattle.dav_server.specs.TagLaws.{ShownIn, LacksTag}
@@ -73,17 +73,17 @@ first_byte_is_gone (n, there, kind) =
     omega (arith, other)
 
 -- the PUT that changed it
-abbrev pub changer : Asked
+abbrev pub changer : Exchange
 changer = record { head = print_request (head_of (codes "PUT") slash_a []); body = body.Bytes (50 ∷ []); principal = None; moment = 1; token = None }
 
 -- a GET that shows the first byte with its tag, and then that PUT
 abbrev pub earlier : List Turn
 earlier = turn_with getter ∷ turn_with changer ∷ []
 
-abbrev pub answers : List Response
+abbrev pub answers : List Reply
 answers = tagged (49 ∷ []) ∷ unlocked_reply [] ∷ []
 
-shown_first : (more : List Turn) (replies : List Response) → ShownIn (earlier ++ more) (answers ++ replies) one_tag (49 ∷ [])
+shown_first : (more : List Turn) (replies : List Reply) → ShownIn (earlier ++ more) (answers ++ replies) one_tag (49 ∷ [])
 shown_first more replies = (turn_with getter, tagged (49 ∷ []), (0, omega arith, refl), is_get, shows (49 ∷ []))
 
 -- ---- a header that says the tag of the first byte
@@ -110,12 +110,12 @@ told_only : ShowsOnly (49 ∷ []) (turn_with getter, tagged (49 ∷ []))
 told_only tag others shows = let e : reply.Bytes (49 ∷ []) ≡ reply.Bytes others = shows.bytes_are in cc
 
 -- a step after those two replies, which shows nothing
-abbrev pub after_them : Asked → Response → ServerState → ServerState → OneStep
+abbrev pub after_them : Exchange → Reply → ServerState → ServerState → OneStep
 after_them x reply was now = record { settings = settings; front = earlier; turn = turn_with x; back = []; before = answers; reply = reply; after = []; was = was; now = now }
 
-one_text_then : (x : Asked) (reply : Response) (was now : ServerState) → reply.status ≢ 200 → Keeps tags (after_them x reply was now)
+one_text_then : (x : Exchange) (reply : Reply) (was now : ServerState) → reply.status ≢ 200 → Keeps tags (after_them x reply was now)
 one_text_then x reply was now other =
-    let P : Turn × Response → Type 0 = ShowsOnly (49 ∷ []) in
+    let P : Turn × Reply → Type 0 = ShowsOnly (49 ∷ []) in
     one_text (earlier ++ turn_with x ∷ []) (answers ++ reply ∷ []) (49 ∷ [])
     (All-cons P (turn_with getter, tagged (49 ∷ [])) ((turn_with changer, unlocked_reply []) ∷ (turn_with x, reply) ∷ []) told_only
     (All-cons P (turn_with changer, unlocked_reply []) ((turn_with x, reply) ∷ []) (shows_nothing (49 ∷ []) (turn_with changer) (unlocked_reply []) (λ e. omega (arith, e)))
@@ -127,7 +127,7 @@ abbrev pub none_match_field : Field
 none_match_field = record { name = codes "If-None-Match"; raw = one_tag; end = crlf }
 
 -- GET /a with If-None-Match of the first tag
-abbrev pub rechecker : Asked
+abbrev pub rechecker : Exchange
 rechecker = record { head = print_request (head_of (codes "GET") slash_a (none_match_field ∷ [])); body = body.None; principal = None; moment = 1; token = None }
 
 is_none_match_field : IsField none_match_field
@@ -164,7 +164,7 @@ abbrev pub found_other : DavMetaData
 found_other = record { len = 1; dir = false; created = 1; modified = 1; number = Some 2 }
 
 -- a GET that answers 304 to any If-None-Match, whatever the number of the file is
-abbrev pub never_compares : MethodPlan Response
+abbrev pub never_compares : MethodPlan Reply
 never_compares = do
   found ← ask_for (Metadata (a ∷ []))
   gives (not_modified found)
@@ -207,7 +207,7 @@ abbrev pub match_field : Field
 match_field = record { name = codes "If-Match"; raw = one_tag; end = crlf }
 
 -- PUT /a with If-Match of the first tag
-abbrev pub updater : Asked
+abbrev pub updater : Exchange
 updater = record { head = print_request (head_of (codes "PUT") slash_a (match_field ∷ [])); body = body.None; principal = None; moment = 1; token = None }
 
 is_match_field : IsField match_field
@@ -245,7 +245,7 @@ abbrev pub overwritten : World
 overwritten = record { nodes = adjust (a ∷ []) (emptied 3 1) rewritten.nodes; next = 4 }
 
 -- a PUT that doesn't look at If-Match
-abbrev pub puts_over : MethodPlan Response
+abbrev pub puts_over : MethodPlan Reply
 puts_over = do
   _ ← ask_for (Open (a ∷ []) emptying 1)
   gives (unlocked_reply [])
@@ -283,7 +283,7 @@ unconditional_put_loses_an_update = (
 -- ---- a lock that is passed
 
 -- a MKCOL that doesn't look at the locks
-abbrev pub makes_unasked : MethodPlan Response
+abbrev pub makes_unasked : MethodPlan Reply
 makes_unasked = do
   _ ← ask_or create_error (CreateDir (a ∷ []) 1)
   gives (made at_a)
@@ -326,13 +326,13 @@ abbrev pub two_locks : Locks
 two_locks = Some (lock ∷ other_lock ∷ [])
 
 -- a LOCK that is granted whatever the list is
-abbrev pub grants_unasked : MethodPlan Response
+abbrev pub grants_unasked : MethodPlan Reply
 grants_unasked = do
   _ ← change_locks (λ ls. ls ++ other_lock ∷ [])
   gives (granted_reply false [] other_lock)
 
 -- LOCK /a of that client
-abbrev pub other_locker : Asked
+abbrev pub other_locker : Exchange
 other_locker = record locker { principal = Some (98 ∷ []); token = Some (117 ∷ []) }
 
 one_is_shared : CoveringAreShared (lock ∷ [])
@@ -400,10 +400,10 @@ unprefixed_href_tells_of_nothing p tells = leads_nowhere tells.text p (href_text
 abbrev pub bare_response : ElementTree
 bare_response = dav_element (codes "response") []
 
-abbrev pub barely_told : Response
+abbrev pub barely_told : Reply
 barely_told = record { status = 207; headers = []; body = reply.Tree (dav_element (codes "multistatus") (bare_response ∷ [])) }
 
-abbrev pub tells_barely : MethodPlan Response
+abbrev pub tells_barely : MethodPlan Reply
 tells_barely = gives barely_told
 
 abbrev pub barely : OneStep
@@ -412,7 +412,7 @@ barely = first_step remover barely_told (state (holding before) one_lock) (state
 no_href : (text : List ℕ) → ¬ (children_named (codes "href") bare_response ≡ dav_text (codes "href") text ∷ [])
 no_href text is = cc
 
-tells_of_none : ¬ TellsOfOne settings remover bare_response
+tells_of_none : ¬ HasConcernedHref settings remover bare_response
 tells_of_none (q, about, tells) = no_href tells.text tells.hrefs
 
 all_but_hrefs : (d : Promise) → d ≢ hrefs → Keeps d barely
@@ -431,5 +431,5 @@ all_but_hrefs members other = same_list barely refl
 pub bare_response_tells_of_nothing : Ran Asks tells_barely (holding before) one_lock (Ok barely_told) (holding before) one_lock × BreaksOnly hrefs barely
 bare_response_tells_of_nothing = (
   ran_done,
-  record { broken = λ leads. tells_of_none (All-head (TellsOfOne settings remover) bare_response [] leads); others = all_but_hrefs },
+  record { broken = λ leads. tells_of_none (All-head (HasConcernedHref settings remover) bare_response [] leads); others = all_but_hrefs },
 )

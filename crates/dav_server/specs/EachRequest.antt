@@ -4,22 +4,22 @@ use Rattle.dav_core.specs.Path.{PathText, names}
 use Rattle.dav_core.specs.World.{Node, File, node_at}
 use Rattle.dav_headers.specs.ETag.{EntityTag, tag_text}
 use Rattle.dav_engine.specs.Plan.{ServerState}
-use Rattle.dav_engine.specs.Response.{Response}
-use Rattle.dav_server.specs.Machine.{Asked, Settings, Steps}
+use Rattle.dav_engine.specs.Reply.{Reply}
+use Rattle.dav_server.specs.Machine.{Exchange, Settings, Steps}
 use Rattle.dav_server.specs.Run.{Turn, begun, Runs}
-use Rattle.dav_server.specs.Server.{Server}
+use Rattle.dav_server.specs.DavHandler.{DavHandler}
 use Rattle.dav_server.specs.TagLaws.{ShownIn, LacksTag}
 use Rattle.dav_server.specs.UpdateLaws.{ToldIn, UpdatesIf, IsSuccess}
 
 -- One request of a run of these turns with these replies: its turn and its reply, those before and after it, and the store and
 -- the list of locks before its step and after it.
-pub record RunStep (old : Server) (ts : List Turn) (replies : List Response) : Type 0 where
+pub record RunStep (old : DavHandler) (ts : List Turn) (replies : List Reply) : Type 0 where
   pub front : List Turn
   pub turn : Turn
   pub back : List Turn
-  pub before : List Response
-  pub reply : Response
-  pub after : List Response
+  pub before : List Reply
+  pub reply : Reply
+  pub after : List Reply
   pub was : ServerState
   pub now : ServerState
   pub turns_are : ts ≡ front ++ turn ∷ back
@@ -32,15 +32,15 @@ abbrev pub HoldsBytes : ServerState → PathText → List ℕ → Type 0
 HoldsBytes state p bytes = (n : Node) × (node_at state.store.world (names p) ≡ Some n) × (n.kind ≡ File bytes)
 
 -- A request that is answered 304 to an If-None-Match of one tag finds at its path a file of the bytes that any of these GETs shows
--- with that tag.
-abbrev pub UnmodifiedFinds : Settings → List Turn → List Response → Asked → Response → ServerState → Type 0
-UnmodifiedFinds s ts replies x reply was =
+-- with that tag (RFC 9110, sections 13.1 and 15.4.5).
+abbrev pub Every304IsTrue : Settings → List Turn → List Reply → Exchange → Reply → ServerState → Type 0
+Every304IsTrue s ts replies x reply was =
     (p : PathText) (tag : EntityTag) (bytes : List ℕ)
     → reply.status ≡ 304 → LacksTag s x p tag → ShownIn ts replies (tag_text tag.weak tag.tag) bytes → HoldsBytes was p bytes
 
 -- An update that asks for a tag and is answered with success finds at its path a file of the bytes that one of these replies told to
--- have that tag.
-abbrev pub UpdateFinds : Settings → List Turn → List Response → Asked → Response → ServerState → Type 0
+-- have that tag (RFC 9110, sections 13.1 and 15.4.5).
+abbrev pub UpdateFinds : Settings → List Turn → List Reply → Exchange → Reply → ServerState → Type 0
 UpdateFinds s ts replies x reply was =
     (p : PathText) (tag : EntityTag) (bytes : List ℕ)
     → ToldIn ts replies (tag_text tag.weak tag.tag) bytes → UpdatesIf s x p tag → IsSuccess reply.status → HoldsBytes was p bytes

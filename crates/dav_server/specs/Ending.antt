@@ -4,19 +4,19 @@ use Rattle.dav_core.specs.Asking.{StoreState}
 use Rattle.dav_core.specs.Locks.{Lock}
 use Rattle.dav_engine.specs.Guard.{Stands}
 use Rattle.dav_engine.specs.Plan.{Locks}
-use Rattle.dav_engine.specs.Response.{Response}
-use Rattle.dav_server.specs.Machine.{Asked, Settings, Steps, StepCut}
+use Rattle.dav_engine.specs.Reply.{Reply}
+use Rattle.dav_server.specs.Machine.{Exchange, Settings, Steps, StepCut}
 use Rattle.dav_server.specs.Naming.{NamesToken}
 
 -- A lock that is in the list when a request begins is in the list after it, perhaps refreshed, unless the request names its
--- token, or hands it in for a lock that it creates; whatever the store refuses.
+-- token, or hands it in for a lock that it creates; whatever the store refuses (RFC 4918, sections 7, 9.11).
 abbrev pub NoLockEnds : Type 0
 NoLockEnds =
-    (s : Settings) (x : Asked) (old new : StoreState) (ls ms : Locks) (reply : Response) (h : Lock)
+    (s : Settings) (x : Exchange) (old new : StoreState) (ls ms : Locks) (reply : Reply) (h : Lock)
     → Stands h ls → ¬ NamesToken x h.token → x.token ≢ Some h.token → Steps s x old ls reply new ms → Stands h ms
 
--- So it is where memory runs out in the step.
+-- No lock ends without its token also where memory runs out in the step (RFC 4918, sections 7, 9.11).
 abbrev pub NoLockEndsCut : Type 0
 NoLockEndsCut =
-    (s : Settings) (x : Asked) (old new : StoreState) (ls ms : Locks) (h : Lock)
+    (s : Settings) (x : Exchange) (old new : StoreState) (ls ms : Locks) (h : Lock)
     → Stands h ls → ¬ NamesToken x h.token → x.token ≢ Some h.token → StepCut s x old ls new ms → Stands h ms

@@ -1,8 +1,8 @@
 -- What contracts see of an exchange.
 use Rattle.std.specs.Option.{option_copied}
 use Rattle.dav_server.specs.declared.exchange.Exchange.TheInside.{Inside}
-use Rattle.dav_server.specs.Machine.{Asked}
+use Rattle.dav_server.specs.Machine.{Exchange}
 
 -- an exchange as a request of the machine
-abbrev pub asked : Inside → Asked
+abbrev pub asked : Inside → Exchange
 asked x = record { head = x.head.now; body = x.body; principal = option_copied x.principal; moment = x.moment.seconds; token = x.token }

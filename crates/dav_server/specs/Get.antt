@@ -13,57 +13,59 @@ use Rattle.dav_engine.specs.declared.request.DavRequest.{DavRequest}
 use Rattle.dav_engine.specs.Conditions.{Conditions, AreConditions, if_match}
 use Rattle.dav_engine.specs.Headers.{Headers}
 use Rattle.dav_engine.specs.Method.{MethodPlan, ◌>>=◌, require, ask_for, gives, fails}
-use Rattle.dav_engine.specs.Response.{Response, Header, content_length, tag_headers, last_modified}
+use Rattle.dav_engine.specs.Reply.{Reply, Header, content_length, tag_headers, last_modified}
 
 -- the headers of a reply about a file with this many bytes
 abbrev pub file_headers : ℕ → DavMetaData → List Header
 file_headers len file = content_length len ∷ (codes "content-type", codes "application/octet-stream") ∷ (tag_headers file.number ++ last_modified file.modified ∷ [])
 
 -- the reply with a file's bytes
-abbrev pub shown : DavMetaData → List ℕ → Response
+abbrev pub shown : DavMetaData → List ℕ → Reply
 shown file bytes = record { status = 200; headers = file_headers (length bytes) file; body = reply.Bytes bytes }
 
 -- the reply that reports a file without its bytes
-abbrev pub told : DavMetaData → Response
+abbrev pub told : DavMetaData → Reply
 told file = record { status = 200; headers = file_headers file.len file; body = reply.Nothing }
 
 -- the reply where the client has the file already: the tag alone (RFC 9110, section 15.4.5)
-abbrev pub not_modified : DavMetaData → Response
+abbrev pub not_modified : DavMetaData → Reply
 not_modified file = record { status = 304; headers = tag_headers file.number; body = reply.Nothing }
 
 -- opened for reading only
 abbrev pub reading : Opening
 reading = record no_opening { read = true }
 
--- Answers with the file's bytes: opens the file for reading, and reads as many bytes as its length was reported to be.
-abbrev pub show : Path → ℕ → DavMetaData → MethodPlan Response
+-- Answers with the file's bytes: opens the file for reading, and reads as many bytes as its length was reported to be
+-- (RFC 9110, sections 9.3.1, 9.3.2 and 15.4.5).
+abbrev pub show : Path → ℕ → DavMetaData → MethodPlan Reply
 show p now found = do
   file ← ask_for (Open p reading now)
   bytes ← ask_for (Read file found.len)
   gives (shown found bytes.0)
 
 -- HEAD reports the file, GET answers with its bytes
-abbrev pub show_or_tell : DavMethod → Path → ℕ → DavMetaData → MethodPlan Response
+abbrev pub show_or_tell : DavMethod → Path → ℕ → DavMetaData → MethodPlan Reply
 show_or_tell Head p now found = gives (told found)
 show_or_tell _ p now found = show p now found
 
--- goes on, unless the conditions answer a status
-abbrev pub judged : Option ℕ → DavMetaData → MethodPlan Response → MethodPlan Response
-judged None found next = next
-judged (Some status) found next = if status == 304 then gives (not_modified found) else fails (dav.Status status)
+-- goes on, unless the conditions answer a status (RFC 9110, sections 9.3.1, 9.3.2 and 15.4.5)
+abbrev pub unless_condition_status : Option ℕ → DavMetaData → MethodPlan Reply → MethodPlan Reply
+unless_condition_status None found next = next
+unless_condition_status (Some status) found next = if status == 304 then gives (not_modified found) else fails (dav.Status status)
 
--- GET and HEAD of p, with what the headers say: 405 for a folder; then the status of the conditions, if they answer one.
-abbrev pub get : DavMethod → Conditions → Path → ℕ → MethodPlan Response
+-- GET and HEAD of p, with what the headers say: 405 for a folder; then the status of the conditions, if they answer one
+-- (RFC 9110, sections 9.3.1, 9.3.2 and 15.4.5).
+abbrev pub get : DavMethod → Conditions → Path → ℕ → MethodPlan Reply
 get m c p now = do
   found ← ask_for (Metadata p)
   _ ← require (not found.dir) (dav.Status 405)
   verdict ← if_match m c (Some found)
-  judged verdict found (show_or_tell m p now found)
+  unless_condition_status verdict found (show_or_tell m p now found)
 
--- The plan is that of a GET or HEAD with these headers, of a path, at a moment.
-pub data IsGet (m : DavMethod) (headers : Headers) (p : PathText) (now : ℕ) : MethodPlan Response → Type 0 where
+-- The plan is that of a GET or HEAD with these headers, of a path, at a moment (RFC 9110, sections 9.3.1 and 9.3.2).
+pub data IsGet (m : DavMethod) (headers : Headers) (p : PathText) (now : ℕ) : MethodPlan Reply → Type 0 where
   is_get : (c : Conditions) → AreConditions headers p.prefix (names p) c → IsGet m headers p now (get m c (names p) now)
 
--- the plans of a GET or HEAD, by its moment
-abbrev pub GetOf : DavRequest → ℕ → MethodPlan Response → Type 0
+-- the plans of a GET or HEAD, by its moment (RFC 9110, sections 9.3.1 and 9.3.2)
+abbrev pub GetOf : DavRequest → ℕ → MethodPlan Reply → Type 0
 GetOf request now = IsGet request.method request.headers request.path now

@@ -10,10 +10,10 @@ barred = 34 ∷ codes "()<>[]{}"
 abbrev pub IsTokenByte : ℕ → Type 0
 IsTokenByte b = (32 < b) × (b < 127) × ¬ Contains barred b
 
--- it begins with `DAV:`, as a token that no lock has (RFC 4918, section 10.4.8)
+-- a token begins with `DAV:`, as one that no lock has (RFC 4918, section 10.4.8)
 abbrev pub IsReserved : List ℕ → Type 0
 IsReserved text = IsTrue (starts_with ◌==◌ text (codes "DAV:"))
 
--- one or more such bytes, not reserved
+-- one or more such bytes, not reserved (RFC 4918, section 6.5)
 abbrev pub IsGrantToken : List ℕ → Type 0
 IsGrantToken text = (text ≢ []) × All IsTokenByte text × ¬ IsReserved text

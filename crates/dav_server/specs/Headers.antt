@@ -13,7 +13,7 @@ header_of field = (lowercase field.0, plain_value field.1)
 abbrev pub headers_of : List (List ℕ × List ℕ) → Entries FieldValue
 headers_of fields = append_all [] (map header_of fields)
 
--- in that map a name has the values of the fields with this name, in order
+-- in that map a name has the values of the fields with this name, in order (RFC 9110, section 5.3)
 abbrev pub KeepsValues : Type 0
 KeepsValues =
     (name : List ℕ) (fields : List (List ℕ × List ℕ))

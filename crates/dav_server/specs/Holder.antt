@@ -6,13 +6,13 @@ use Rattle.dav_core.specs.declared.method.DavMethod.TheVariants.{Head, Get, Put,
 use Rattle.dav_core.specs.Locks.{Lock}
 use Rattle.dav_core.specs.Path.{PathText, names}
 use Rattle.dav_engine.specs.declared.request.Body.TheVariants as body
-use Rattle.dav_engine.specs.AlongsidePlans.{SubmitsAlone}
+use Rattle.dav_engine.specs.IsolatedPlans.{SubmitsAlone}
 use Rattle.dav_engine.specs.CopyMove.{DestinationNames}
 use Rattle.dav_engine.specs.Guard.{IsInReach, IsInside}
 use Rattle.dav_engine.specs.Headers.{Headers}
 use Rattle.dav_server.specs.Head.{Request, IsHead}
 use Rattle.dav_server.specs.Headers.{headers_of}
-use Rattle.dav_server.specs.Machine.{Asked, Settings, body_for, taken_by}
+use Rattle.dav_server.specs.Machine.{Exchange, Settings, body_for, taken_by}
 use Rattle.dav_server.specs.Method.{GivesServed}
 use Rattle.dav_engine.specs.LockToken.{SaysLockToken}
 use Rattle.dav_server.specs.Target.{TargetNames}
@@ -24,30 +24,30 @@ HasDestinationInside h headers p = (d : PathText) × DestinationNames p.prefix (
 -- What is asked of a method besides. What changes the members of a folder is asked for strictly below the lock's folder, since a
 -- request on the folder itself reads the locks on the folder above, which others set. A LOCK has no body, so it refreshes. UNLOCK
 -- has a rule of its own.
-abbrev pub MayHold : Lock → Asked → Headers → PathText → DavMethod → Type 0
-MayHold h x headers p Copy = HasDestinationInside h headers p
-MayHold h x headers p Move = IsInside h (names p) × HasDestinationInside h headers p
-MayHold h x headers p LockMethod = body_for (taken_by LockMethod) x.body ≡ Ok body.None
-MayHold h x headers p Get = ⊤
-MayHold h x headers p Head = ⊤
-MayHold h x headers p PropFind = ⊤
-MayHold h x headers p Options = ⊤
-MayHold h x headers p Put = IsInside h (names p)
-MayHold h x headers p Patch = IsInside h (names p)
-MayHold h x headers p MkCol = IsInside h (names p)
-MayHold h x headers p Delete = IsInside h (names p)
-MayHold h x headers p PropPatch = ⊤
-MayHold h x headers p _ = ⊥
+abbrev pub StaysInFolder : Lock → Exchange → Headers → PathText → DavMethod → Type 0
+StaysInFolder h x headers p Copy = HasDestinationInside h headers p
+StaysInFolder h x headers p Move = IsInside h (names p) × HasDestinationInside h headers p
+StaysInFolder h x headers p LockMethod = body_for (taken_by LockMethod) x.body ≡ Ok body.None
+StaysInFolder h x headers p Get = ⊤
+StaysInFolder h x headers p Head = ⊤
+StaysInFolder h x headers p PropFind = ⊤
+StaysInFolder h x headers p Options = ⊤
+StaysInFolder h x headers p Put = IsInside h (names p)
+StaysInFolder h x headers p Patch = IsInside h (names p)
+StaysInFolder h x headers p MkCol = IsInside h (names p)
+StaysInFolder h x headers p Delete = IsInside h (names p)
+StaysInFolder h x headers p PropPatch = ⊤
+StaysInFolder h x headers p _ = ⊥
 
 -- the request has this head, with this method, and its target names this path
-pub record IsFor (s : Settings) (x : Asked) (r : Request) (m : DavMethod) (p : PathText) : Type 0 where
+pub record IsRequestTo (s : Settings) (x : Exchange) (r : Request) (m : DavMethod) (p : PathText) : Type 0 where
   pub head : IsHead x.head r
   pub method : GivesServed r.method (Ok m)
   pub target : TargetNames s.prefix m r.target (Ok p)
 
 -- A holder's request: one of the lock's principal, at the lock's folder or below it. It is an UNLOCK with the lock's token;
--- or any other request but a LOCK with a body, whose If submits the lock's token alone, and which sets no other condition.
-pub data IsHolderRequest (s : Settings) (h : Lock) (x : Asked) : Type 0 where
-  unlocks : (r : Request) (p : PathText) → x.principal ≡ h.principal → IsFor s x r Unlock p → IsInReach h (names p) → SaysLockToken (headers_of r.fields) h.token → IsHolderRequest s h x
-  acts : (r : Request) (m : DavMethod) (p : PathText) → x.principal ≡ h.principal → IsFor s x r m p → IsInReach h (names p) → MayHold h x (headers_of r.fields) p m
+-- or any other request but a LOCK with a body, whose If submits the lock's token alone, and which sets no other condition (RFC 4918, section 7).
+pub data IsHolderRequest (s : Settings) (h : Lock) (x : Exchange) : Type 0 where
+  unlocks : (r : Request) (p : PathText) → x.principal ≡ h.principal → IsRequestTo s x r Unlock p → IsInReach h (names p) → SaysLockToken (headers_of r.fields) h.token → IsHolderRequest s h x
+  acts : (r : Request) (m : DavMethod) (p : PathText) → x.principal ≡ h.principal → IsRequestTo s x r m p → IsInReach h (names p) → StaysInFolder h x (headers_of r.fields) p m
       → SubmitsAlone (headers_of r.fields) p h → get_all (headers_of r.fields) (codes "if-range") ≡ [] → IsHolderRequest s h x

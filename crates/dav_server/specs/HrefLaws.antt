@@ -18,111 +18,114 @@ use Rattle.dav_engine.specs.Multistatus.{PathStatus, dav_text, multistatus_reply
 use Rattle.dav_engine.specs.Plan.{Locks}
 use Rattle.dav_engine.specs.Properties.{Group, property_response}
 use Rattle.dav_engine.specs.PropfindLaws.{AreListed, AsksListing, HasFewNames, path_in, responses_in}
-use Rattle.dav_engine.specs.Response.{Response}
+use Rattle.dav_engine.specs.Reply.{Reply}
 use Rattle.dav_server.specs.Head.{Request}
 use Rattle.dav_server.specs.Headers.{headers_of}
-use Rattle.dav_server.specs.Holder.{IsFor}
-use Rattle.dav_server.specs.Machine.{Asked, Settings, StepsBy, Steps}
-use Rattle.dav_server.specs.Server.{Server}
+use Rattle.dav_server.specs.Holder.{IsRequestTo}
+use Rattle.dav_server.specs.Machine.{Exchange, Settings, StepsBy, Steps}
+use Rattle.dav_server.specs.DavHandler.{DavHandler}
 use Rattle.dav_server.specs.Setup.{IsPrefix}
 use Rattle.dav_server.specs.Target.{TargetNames}
 
 -- ---- the text of a path
 
 -- A path of a server with this prefix: after the prefix, without the slash at its end, come names, whatever their bytes are, each after a
--- slash, and perhaps a slash at the end.
-pub record IsServed (prefix : List ℕ) (p : PathText) : Type 0 where
+-- slash, and perhaps a slash at the end (RFC 9112, section 3.2).
+pub record IsServedPath (prefix : List ℕ) (p : PathText) : Type 0 where
   pub front : p.prefix ≡ without_slash prefix
   pub storable : IsStorable (names p)
   pub is_closed : Bool
   pub bytes_are : p.bytes ≡ path_bytes (names p) is_closed
 
--- What a target but `*` names is such a path.
+-- What a target but `*` names is such a path (RFC 9112, section 3.2).
 abbrev pub TargetsAreServed : Type 0
-TargetsAreServed = (prefix target : List ℕ) (m : DavMethod) (p : PathText) → target ≢ star → TargetNames prefix m target (Ok p) → IsServed prefix p
+TargetsAreServed = (prefix target : List ℕ) (m : DavMethod) (p : PathText) → target ≢ star → TargetNames prefix m target (Ok p) → IsServedPath prefix p
 
--- a request with this target is for this path, whatever its method is
+-- a request with this target is for this path, whatever its method is (RFC 4918, section 8.3)
 abbrev pub LeadsTo : List ℕ → List ℕ → PathText → Type 0
 LeadsTo prefix target p = (m : DavMethod) → TargetNames prefix m target (Ok p)
 
--- The text of such a path in a URL, with the prefix, leads to this path.
+-- The text of such a path in a URL, with the prefix, leads to this path (RFC 4918, section 8.3).
 abbrev pub TextsLeadBack : Type 0
-TextsLeadBack = (prefix : List ℕ) (p : PathText) → IsPrefix prefix → IsServed prefix p → LeadsTo prefix (path_text (full_bytes p)) p
+TextsLeadBack = (prefix : List ℕ) (p : PathText) → IsPrefix prefix → IsServedPath prefix p → LeadsTo prefix (path_text (full_bytes p)) p
 
 -- ---- responses
 
--- The response tells of this path: it has one href of its own, and that leads to the path.
+-- The response tells of this path: it has one href of its own, and that leads to the path (RFC 4918, sections 14.7 and 14.24).
 pub record TellsOf (prefix : List ℕ) (p : PathText) (response : ElementTree) : Type 0 where
   pub text : List ℕ
   pub hrefs : children_named (codes "href") response ≡ dav_text (codes "href") text ∷ []
   pub leads : LeadsTo prefix text p
 
--- responses tell of these paths, in order
+-- responses tell of these paths, in order (RFC 4918, sections 14.7 and 14.24)
 pub data TellOf (prefix : List ℕ) : List PathText → List ElementTree → Type 0 where
   none_told : TellOf prefix [] []
   one_told : {p : PathText} {ps : List PathText} {response : ElementTree} {responses : List ElementTree}
       → TellsOf prefix p response → TellOf prefix ps responses → TellOf prefix (p ∷ ps) (response ∷ responses)
 
--- A reply that reports a status of each of these paths has a response for each of them, in order, which tells of it.
+-- A reply that reports a status of each of these paths has a response for each of them, in order, which tells of it
+-- (RFC 4918, sections 13 and 14.16).
 abbrev pub StatusesLeadBack : Type 0
 StatusesLeadBack =
     (prefix : List ℕ) (items : List PathStatus)
-    → IsPrefix prefix → All (λ i. IsServed prefix i.0) items
+    → IsPrefix prefix → All (λ i. IsServedPath prefix i.0) items
     → TellOf prefix (map (λ i. i.0) items) (responses_in (multistatus_reply items).body)
 
--- So does the response with the properties of a path, under any statuses.
+-- The response with the properties of a path, under any statuses, has one href, which leads back to the path (RFC 4918, sections 13 and 14.16).
 abbrev pub PropertiesLeadBack : Type 0
 PropertiesLeadBack =
-    (prefix : List ℕ) (p : PathText) (groups : List Group) → IsPrefix prefix → IsServed prefix p → TellsOf prefix p (property_response p groups)
+    (prefix : List ℕ) (p : PathText) (groups : List Group) → IsPrefix prefix → IsServedPath prefix p → TellsOf prefix p (property_response p groups)
 
 -- ---- replies
 
--- The request is about this path: it is at the target or below it, or for COPY and MOVE at the destination or below it.
-pub data IsAbout (s : Settings) (x : Asked) (q : PathText) : Type 0 where
-  at_target : (r : Request) (m : DavMethod) (p : PathText) → IsFor s x r m p → is_at_or_under (names q) (names p) ≡ true → IsAbout s x q
-  at_destination : (r : Request) (m : DavMethod) (p d : PathText) → IsFor s x r m p → (m ≡ Copy) ⊎ (m ≡ Move)
-      → DestinationNames p.prefix (get_all (headers_of r.fields) (codes "destination")) (Ok d) → is_at_or_under (names q) (names d) ≡ true → IsAbout s x q
+-- The request is about this path: it is at the target or below it, or for COPY and MOVE at the destination or below it
+-- (RFC 4918, sections 8.3 and 13).
+pub data ConcernsPath (s : Settings) (x : Exchange) (q : PathText) : Type 0 where
+  at_target : (r : Request) (m : DavMethod) (p : PathText) → IsRequestTo s x r m p → is_at_or_under (names q) (names p) ≡ true → ConcernsPath s x q
+  at_destination : (r : Request) (m : DavMethod) (p d : PathText) → IsRequestTo s x r m p → (m ≡ Copy) ⊎ (m ≡ Move)
+      → DestinationNames p.prefix (get_all (headers_of r.fields) (codes "destination")) (Ok d) → is_at_or_under (names q) (names d) ≡ true → ConcernsPath s x q
 
 -- the response tells of a path that the request is about
-abbrev pub TellsOfOne : Settings → Asked → ElementTree → Type 0
-TellsOfOne s x response = (q : PathText) × IsAbout s x q × TellsOf s.prefix q response
+abbrev pub HasConcernedHref : Settings → Exchange → ElementTree → Type 0
+HasConcernedHref s x response = (q : PathText) × ConcernsPath s x q × TellsOf s.prefix q response
 
 -- Each response of a multistatus that answers a request tells of a path that the request is about, whatever its method is and whatever the
--- store refuses.
+-- store refuses (RFC 4918, sections 8.3 and 13).
 abbrev pub RepliesLeadBack : Type 0
 RepliesLeadBack =
-    (s : Settings) (x : Asked) (old new : StoreState) (ls ms : Locks) (reply : Response)
+    (s : Settings) (x : Exchange) (old new : StoreState) (ls ms : Locks) (reply : Reply)
     → IsPrefix s.prefix → IsWorld old.world → x.moment ≤ last_moment → Steps s x old ls reply new ms
-    → All (TellsOfOne s x) (responses_in reply.body)
+    → All (HasConcernedHref s x) (responses_in reply.body)
 
--- so it is of this reply of a server whose prefix is one and whose store holds a world, at a moment that HTTP can write
-abbrev pub ReplyLeadsBack : Server → Asked → Response → Type 0
+-- the hrefs of this reply lead back, of a server whose prefix is one and whose store holds a world, at a moment that HTTP can write
+-- (RFC 4918, sections 8.3 and 13)
+abbrev pub ReplyLeadsBack : DavHandler → Exchange → Reply → Type 0
 ReplyLeadsBack old x reply =
-    IsPrefix old.settings.prefix → IsWorld old.state.store.world → x.moment ≤ last_moment → All (TellsOfOne old.settings x) (responses_in reply.body)
+    IsPrefix old.settings.prefix → IsWorld old.state.store.world → x.moment ≤ last_moment → All (HasConcernedHref old.settings x) (responses_in reply.body)
 
 -- ---- what is listed
 
--- The responses tell, in order, of what a PROPFIND of this depth lists.
+-- The responses tell, in order, of what a PROPFIND of this depth lists (RFC 4918, sections 9.1 and 10.2).
 abbrev pub TellAll : List ℕ → World → PathText → Option Depth → List ElementTree → Type 0
 TellAll prefix w p depth responses = (ps : List PathText) × AreListed w p depth ps × TellOf prefix ps responses
 
--- So do those of a PROPFIND that is answered 207, where the store refuses neither to list what is there nor to tell of it: at Depth 0 of its
+-- The responses of a PROPFIND that is answered 207 tell of all that it lists, where the store refuses neither to list what is there nor to tell of it: at Depth 0 of its
 -- target, at Depth 1 also of the members, at Depth infinity of all that is below it (RFC 4918, sections 9.1 and 10.2), and without a depth
 -- of the members alone.
 abbrev pub ListingsAreWhole : Type 0
 ListingsAreWhole =
-    (s : Settings) (x : Asked) (r : Request) (p : PathText) (depth : Option Depth) (old new : StoreState) (ls ms : Locks) (reply : Response)
-    → IsPrefix s.prefix → IsWorld old.world → IsFor s x r PropFind p
+    (s : Settings) (x : Exchange) (r : Request) (p : PathText) (depth : Option Depth) (old new : StoreState) (ls ms : Locks) (reply : Reply)
+    → IsPrefix s.prefix → IsWorld old.world → IsRequestTo s x r PropFind p
     → Decodes IsDepth (get_all (headers_of r.fields) (codes "depth")) depth → HasFewNames depth old.world p
     → StepsBy AsksListing s x old ls reply new ms → reply.status ≡ 207
     → TellAll s.prefix old.world (path_in old.world p) depth (responses_in reply.body)
 
--- So do those of this reply of a server whose prefix is one and whose store holds a world, where no refusal is left to come, and the store
--- hasn't run out of memory when it is given.
-abbrev pub ReplyIsWhole : Server → Asked → Response → Server → Type 0
+-- The responses of this reply tell of all that it lists, of a server whose prefix is one and whose store holds a world, where no refusal is left to come, and the store
+-- hasn't run out of memory when it is given (RFC 4918, sections 9.1 and 10.2).
+abbrev pub ReplyIsWhole : DavHandler → Exchange → Reply → DavHandler → Type 0
 ReplyIsWhole old x reply new =
     (r : Request) (p : PathText) (depth : Option Depth)
-    → IsPrefix old.settings.prefix → IsWorld old.state.store.world → IsFor old.settings x r PropFind p
+    → IsPrefix old.settings.prefix → IsWorld old.state.store.world → IsRequestTo old.settings x r PropFind p
     → Decodes IsDepth (get_all (headers_of r.fields) (codes "depth")) depth → HasFewNames depth old.state.store.world p
     → All (λ e. e ≡ None) old.state.store.refusals → new.state.store.short ≡ false → reply.status ≡ 207
     → TellAll old.settings.prefix old.state.store.world (path_in old.state.store.world p) depth (responses_in reply.body)

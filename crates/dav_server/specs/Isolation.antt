@@ -7,21 +7,21 @@ use Rattle.dav_core.specs.Locks.{Lock}
 use Rattle.dav_core.specs.Path.{PathText, names}
 use Rattle.dav_core.specs.World.{is_folder, IsWorld, last_number, last_moment}
 use Rattle.dav_engine.specs.Alongside.{AsksWithNumbers, AreAlike, SameAnswers}
-use Rattle.dav_engine.specs.AlongsidePlans.{SubmitsAlone, GoesAlong}
+use Rattle.dav_engine.specs.IsolatedPlans.{SubmitsAlone, IsIsolatedPlan}
 use Rattle.dav_engine.specs.Guard.{folder_of, IsGuard, IsInReach, Guarded, Stands}
 use Rattle.dav_engine.specs.Headers.{Headers}
 use Rattle.dav_engine.specs.Inside.{SameInside, HasFoldersAbove}
 use Rattle.dav_engine.specs.Method.{MethodPlan}
 use Rattle.dav_engine.specs.Plan.{Locks, CallStep}
-use Rattle.dav_engine.specs.Response.{Response}
+use Rattle.dav_engine.specs.Reply.{Reply}
 use Rattle.dav_engine.specs.Sparing.{LeftAlone}
 use Rattle.dav_server.specs.Get.{IsGet}
 use Rattle.dav_server.specs.Holder.{IsHolderRequest}
-use Rattle.dav_server.specs.Machine.{Asked, Settings, StepsBy, Steps}
+use Rattle.dav_server.specs.Machine.{Exchange, Settings, StepsBy, Steps}
 use Rattle.dav_server.specs.Naming.{NamesLock}
 use Rattle.dav_server.specs.Run.{Turn, begun, RunsBy, Runs}
-use Rattle.dav_server.specs.Server.{Server}
-use Rattle.dav_server.specs.TagLaws.{AreShowable}
+use Rattle.dav_server.specs.DavHandler.{DavHandler}
+use Rattle.dav_server.specs.TagLaws.{MomentsAreDates}
 
 -- ---- a run while a lock stands
 
@@ -29,54 +29,54 @@ use Rattle.dav_server.specs.TagLaws.{AreShowable}
 abbrev pub AreLoaded : List Turn → Type 0
 AreLoaded ts = All (λ t. is_some t.refusals ≡ true) ts
 
--- no request hands in the lock's token, for a lock of its own
-abbrev pub NoneHandsIn : Lock → List Turn → Type 0
-NoneHandsIn h ts = All (λ t. t.asked.token ≢ Some h.token) ts
+-- no request hands in the lock's token, for a lock of its own (RFC 4918, section 7)
+abbrev pub TokenIsFresh : Lock → List Turn → Type 0
+TokenIsFresh h ts = All (λ t. t.asked.token ≢ Some h.token) ts
 
 -- A run while a lock stands: the lock is in the list when each request begins, and each request that names it as its principal
--- is a holder's. The last request may be the one that ends it.
-pub data RunsUnder (step : CallStep) (s : Settings) (h : Lock) : List Turn → StoreState → Locks → List Response → StoreState → Locks → Type 0 where
+-- is a holder's. The last request may be the one that ends it (RFC 4918, section 7).
+pub data RunsUnder (step : CallStep) (s : Settings) (h : Lock) : List Turn → StoreState → Locks → List Reply → StoreState → Locks → Type 0 where
   under_none : {old : StoreState} {ls : Locks} → RunsUnder step s h [] old ls [] old ls
-  under_more : {t : Turn} {ts : List Turn} {old mid new : StoreState} {ls ks ms : Locks} {reply : Response} {replies : List Response}
+  under_more : {t : Turn} {ts : List Turn} {old mid new : StoreState} {ls ks ms : Locks} {reply : Reply} {replies : List Reply}
       → Stands h ls → (NamesLock h t.asked → IsHolderRequest s h t.asked) → StepsBy step s t.asked (begun t.refusals old) ls reply mid ks
       → RunsUnder step s h ts mid ks replies new ms → RunsUnder step s h (t ∷ ts) old ls (reply ∷ replies) new ms
 
 -- ---- the holder's requests alone
 
--- of these turns those whose request names the lock as its principal, each with its own refusals
-pub data Alone (h : Lock) : List Turn → List Turn → Type 0 where
-  alone_none : Alone h [] []
-  alone_other : {t : Turn} {ts us : List Turn} → ¬ NamesLock h t.asked → Alone h ts us → Alone h (t ∷ ts) us
-  alone_own : {t : Turn} {ts us : List Turn} → NamesLock h t.asked → Alone h ts us → Alone h (t ∷ ts) (t ∷ us)
+-- of these turns those whose request names the lock as its principal, each with its own refusals (RFC 4918, section 7)
+pub data HolderTurns (h : Lock) : List Turn → List Turn → Type 0 where
+  alone_none : HolderTurns h [] []
+  alone_other : {t : Turn} {ts us : List Turn} → ¬ NamesLock h t.asked → HolderTurns h ts us → HolderTurns h (t ∷ ts) us
+  alone_own : {t : Turn} {ts us : List Turn} → NamesLock h t.asked → HolderTurns h ts us → HolderTurns h (t ∷ ts) (t ∷ us)
 
--- it is known whether a request names the lock as its principal
+-- it is decided whether a request names the lock as its principal
 abbrev pub IsKnown : Lock → Turn → Type 0
 IsKnown h t = NamesLock h t.asked ⊎ ¬ NamesLock h t.asked
 
--- Where that is known of each, turns have the holder's turns among them.
+-- Where that is known of each, turns have the holder's turns among them (RFC 4918, section 7).
 abbrev pub KnownHaveAlone : Type 0
-KnownHaveAlone = (h : Lock) (ts : List Turn) → All (IsKnown h) ts → (us : List Turn) × Alone h ts us
+KnownHaveAlone = (h : Lock) (ts : List Turn) → All (IsKnown h) ts → (us : List Turn) × HolderTurns h ts us
 
--- No turns are without the holder's turns among them, whatever their bytes are.
+-- No turns are without the holder's turns among them, whatever their bytes are (RFC 4918, section 7).
 abbrev pub TurnsHaveAlone : Type 0
-TurnsHaveAlone = (h : Lock) (ts : List Turn) → ¬ ((us : List Turn) → ¬ Alone h ts us)
+TurnsHaveAlone = (h : Lock) (ts : List Turn) → ¬ ((us : List Turn) → ¬ HolderTurns h ts us)
 
--- And these are one list.
+-- The requests of a run that name a lock as its principal are one list (RFC 4918, section 7).
 abbrev pub OneAlone : Type 0
-OneAlone = (h : Lock) (ts us vs : List Turn) → Alone h ts us → Alone h ts vs → us ≡ vs
+OneAlone = (h : Lock) (ts us vs : List Turn) → HolderTurns h ts us → HolderTurns h ts vs → us ≡ vs
 
 -- The replies to these turns, and the replies to the holder's turns alone: each of the latter has the same answers as the
--- reply to the same request among all.
-pub data AnswerAlike (h : Lock) : List Turn → List Response → List Response → Type 0 where
+-- reply to the same request among all (RFC 4918, section 7).
+pub data AnswerAlike (h : Lock) : List Turn → List Reply → List Reply → Type 0 where
   alike_none : AnswerAlike h [] [] []
-  alike_other : {t : Turn} {ts : List Turn} {reply : Response} {replies alone : List Response} → ¬ NamesLock h t.asked → AnswerAlike h ts replies alone → AnswerAlike h (t ∷ ts) (reply ∷ replies) alone
-  alike_own : {t : Turn} {ts : List Turn} {reply other : Response} {replies alone : List Response}
+  alike_other : {t : Turn} {ts : List Turn} {reply : Reply} {replies alone : List Reply} → ¬ NamesLock h t.asked → AnswerAlike h ts replies alone → AnswerAlike h (t ∷ ts) (reply ∷ replies) alone
+  alike_own : {t : Turn} {ts : List Turn} {reply other : Reply} {replies alone : List Reply}
       → NamesLock h t.asked → SameAnswers reply other → AnswerAlike h ts replies alone → AnswerAlike h (t ∷ ts) (reply ∷ replies) (other ∷ alone)
 
 -- The holder's turns can be run alone, in a store that doesn't run out of memory, and then have the same answers and leave
--- the same content in the folder as the run of all. (Such a run alone is determined.)
-pub record AreAlone (s : Settings) (h : Lock) (ts us : List Turn) (old : StoreState) (ls : Locks) (replies : List Response) (new : StoreState) : Type 0 where
-  pub alone : List Response
+-- the same content in the folder as the run of all. (Such a run alone is determined.) (RFC 4918, section 7)
+pub record MatchesSoloRun (s : Settings) (h : Lock) (ts us : List Turn) (old : StoreState) (ls : Locks) (replies : List Reply) (new : StoreState) : Type 0 where
+  pub alone : List Reply
   pub end : StoreState
   pub locks : Locks
   pub runs : Runs s us old ls alone end locks
@@ -86,24 +86,24 @@ pub record AreAlone (s : Settings) (h : Lock) (ts us : List Turn) (old : StoreSt
 
 -- ---- one step
 
--- A GET or HEAD at a guarded folder or below it, with the guard's token as its only condition, goes along with itself.
-abbrev pub GetGoesAlong : Type 0
-GetGoesAlong =
-    (h : Lock) (m : DavMethod) (headers : Headers) (p : PathText) (now : ℕ) (plan : MethodPlan Response)
-    → IsGuard h → IsInReach h (names p) → SubmitsAlone headers p h → IsGet m headers p now plan → GoesAlong h plan
+-- A GET or HEAD at a guarded folder or below it, with the guard's token as its only condition, goes along with itself (RFC 4918, section 7).
+abbrev pub GetIsIsolated : Type 0
+GetIsIsolated =
+    (h : Lock) (m : DavMethod) (headers : Headers) (p : PathText) (now : ℕ) (plan : MethodPlan Reply)
+    → IsGuard h → IsInReach h (names p) → SubmitsAlone headers p h → IsGet m headers p now plan → IsIsolatedPlan h plan
 
 -- While a lock guards a folder in one state, a step of that state alone that neither names the lock as its principal nor hands in its token
--- leaves what is inside, and the folder guarded as long as the lock stands; so the state stays alike any other.
+-- leaves what is inside, and the folder guarded as long as the lock stands; so the state stays alike any other (RFC 4918, section 7).
 abbrev pub StrangersLeaveAlike : Type 0
 StrangersLeaveAlike =
-    (s : Settings) (h : Lock) (x : Asked) (old new other : StoreState) (ls ms : Locks) (reply : Response)
+    (s : Settings) (h : Lock) (x : Exchange) (old new other : StoreState) (ls ms : Locks) (reply : Reply)
     → IsGuard h → Guarded h ls → HasFoldersAbove (folder_of h) old.world → IsWorld old.world → x.moment ≤ last_moment
     → ¬ NamesLock h x → x.token ≢ Some h.token → Steps s x old ls reply new ms
     → LeftAlone h old.world new.world ms × (AreAlike (folder_of h) None old.world other.world → AreAlike (folder_of h) None new.world other.world)
 
--- the same request in another state, with the same answers
-pub record AnswersAlso (s : Settings) (h : Lock) (x : Asked) (reply : Response) (new : StoreState) (ms : Locks) (old : StoreState) (ls : Locks) : Type 0 where
-  pub reply_alone : Response
+-- a request is answered in another state too, with the same answers (RFC 4918, section 7)
+pub record AnswersAlso (s : Settings) (h : Lock) (x : Exchange) (reply : Reply) (new : StoreState) (ms : Locks) (old : StoreState) (ls : Locks) : Type 0 where
+  pub reply_alone : Reply
   pub new_alone : StoreState
   pub locks_alone : Locks
   pub step : Steps s x old ls reply_alone new_alone locks_alone
@@ -113,36 +113,37 @@ pub record AnswersAlso (s : Settings) (h : Lock) (x : Asked) (reply : Response) 
   pub locks : (Guarded h ms × Guarded h locks_alone) ⊎ (¬ Stands h ms × ¬ Stands h locks_alone)
 
 -- A holder's request has the same answers in two alike states, under the same refusals, leaves them alike, and ends the lock in both or in
--- neither. No call from the first may find the change numbers used up, and neither store run out of memory: of the second this follows.
+-- neither. No call from the first may find the change numbers used up, and neither store run out of memory: of the second this follows
+-- (RFC 4918, section 7).
 abbrev pub HoldersAnswerAlike : Type 0
 HoldersAnswerAlike =
-    (s : Settings) (h : Lock) (x : Asked) (old new other : StoreState) (ls ms ks : Locks) (reply : Response)
+    (s : Settings) (h : Lock) (x : Exchange) (old new other : StoreState) (ls ms ks : Locks) (reply : Reply)
     → IsGuard h → Guarded h ls → Guarded h ks → AreAlike (folder_of h) None old.world other.world → old.refusals ≡ other.refusals → other.short ≡ false
     → x.moment ≤ last_moment → IsHolderRequest s h x → StepsBy AsksWithNumbers s x old ls reply new ms → new.short ≡ false
     → AnswersAlso s h x reply new ms other ks
 
 -- While a folder is guarded, and no request hands in the guard's token, it and the answers to its holder are those of the
--- holder's requests alone.
+-- holder's requests alone (RFC 4918, section 7).
 abbrev pub HoldersAreAlone : Type 0
 HoldersAreAlone =
-    (s : Settings) (h : Lock) (ts us : List Turn) (old new : StoreState) (ls ms : Locks) (replies : List Response)
-    → IsGuard h → Guarded h ls → HasFoldersAbove (folder_of h) old.world → IsWorld old.world → AreShowable ts → AreLoaded ts → NoneHandsIn h ts
-    → RunsUnder AsksWithNumbers s h ts old ls replies new ms → new.short ≡ false → Alone h ts us → AreAlone s h ts us old ls replies new
+    (s : Settings) (h : Lock) (ts us : List Turn) (old new : StoreState) (ls ms : Locks) (replies : List Reply)
+    → IsGuard h → Guarded h ls → HasFoldersAbove (folder_of h) old.world → IsWorld old.world → MomentsAreDates ts → AreLoaded ts → TokenIsFresh h ts
+    → RunsUnder AsksWithNumbers s h ts old ls replies new ms → new.short ≡ false → HolderTurns h ts us → MatchesSoloRun s h ts us old ls replies new
 
 -- ---- numbers
 
 -- A run while a lock stands that ends with a change number to spare, below the last, found each number that it took.
 abbrev pub SpareNumbersSufficeInRuns : Type 0
 SpareNumbersSufficeInRuns =
-    (s : Settings) (h : Lock) (ts : List Turn) (old new : StoreState) (ls ms : Locks) (replies : List Response)
-    → IsWorld old.world → AreShowable ts → RunsUnder Asks s h ts old ls replies new ms → new.world.next < last_number
+    (s : Settings) (h : Lock) (ts : List Turn) (old new : StoreState) (ls ms : Locks) (replies : List Reply)
+    → IsWorld old.world → MomentsAreDates ts → RunsUnder Asks s h ts old ls replies new ms → new.world.next < last_number
     → RunsUnder AsksWithNumbers s h ts old ls replies new ms
 
--- So did any run that ends with one.
+-- A run that ends with a change number to spare, below the last, found each number that it took.
 abbrev pub RunsFindNumbers : Type 0
 RunsFindNumbers =
-    (s : Settings) (ts : List Turn) (old new : StoreState) (ls ms : Locks) (replies : List Response)
-    → IsWorld old.world → AreShowable ts → Runs s ts old ls replies new ms → new.world.next < last_number
+    (s : Settings) (ts : List Turn) (old new : StoreState) (ls ms : Locks) (replies : List Reply)
+    → IsWorld old.world → MomentsAreDates ts → Runs s ts old ls replies new ms → new.world.next < last_number
     → RunsBy AsksWithNumbers s ts old ls replies new ms
 
 -- ---- what a run promises
@@ -150,23 +151,23 @@ RunsFindNumbers =
 -- In a run of these turns with these replies, from a world on: from any moment at which a lock guards a folder, as long as the
 -- lock stands, all who name it as its principal are its holder, and no request hands in its token, the folder and the replies
 -- to the holder are as if the holder's requests were alone. No call may have found the change numbers used up, and the store may not have run out of
--- memory.
-abbrev pub IsIsolated : Server → List Turn → List Response → Type 0
+-- memory (RFC 4918, section 7).
+abbrev pub IsIsolated : DavHandler → List Turn → List Reply → Type 0
 IsIsolated old ts replies =
-    (front later back us : List Turn) (h : Lock) (mid new : StoreState) (ks ms : Locks) (before given after : List Response)
+    (front later back us : List Turn) (h : Lock) (mid new : StoreState) (ks ms : Locks) (before given after : List Reply)
     → ts ≡ front ++ (later ++ back) → replies ≡ before ++ (given ++ after) → IsWorld old.state.store.world
     → Runs old.settings front old.state.store old.state.locks before mid ks
-    → IsGuard h → Guarded h ks → HasFoldersAbove (folder_of h) mid.world → NoneHandsIn h later
+    → IsGuard h → Guarded h ks → HasFoldersAbove (folder_of h) mid.world → TokenIsFresh h later
     → RunsUnder AsksWithNumbers old.settings h later mid ks given new ms → new.short ≡ false
-    → Alone h later us → AreAlone old.settings h later us mid ks given new
+    → HolderTurns h later us → MatchesSoloRun old.settings h later us mid ks given new
 
 -- ---- from an empty list of locks, from the grant on
 
--- no two requests hand in one token
+-- no two requests hand in one token (RFC 4918, sections 6.5, 7)
 abbrev pub TokensDiffer : List Turn → Type 0
 TokensDiffer ts = AllPairs (λ t u. (token : List ℕ) → t.asked.token ≡ Some token → u.asked.token ≢ Some token) ts
 
--- a request's step granted a lock: with the token that was handed in, at the end of the list
+-- a request's step granted a lock: with the token that was handed in, at the end of the list (RFC 4918, sections 6.5, 7)
 pub record Grants (t : Turn) (h : Lock) (ls ms : List Lock) : Type 0 where
   pub token_is : t.asked.token ≡ Some h.token
   pub listed : ms ≡ ls ++ h ∷ []
@@ -174,15 +175,15 @@ pub record Grants (t : Turn) (h : Lock) (ls ms : List Lock) : Type 0 where
 -- In a run of these turns, from a world and no locks, with tokens that differ: from the grant of an exclusive lock of infinite
 -- depth on a folder, as long as the lock stands and all who name it as its principal are its holder, the folder and the replies
 -- to the holder are as if the holder's requests were alone from the grant on. No call may have found the change numbers used
--- up, and the store may not have run out of memory.
-abbrev pub IsIsolatedFromGrants : Server → List Turn → List Response → Type 0
+-- up, and the store may not have run out of memory (RFC 4918, sections 6.5, 7).
+abbrev pub IsIsolatedFromGrants : DavHandler → List Turn → List Reply → Type 0
 IsIsolatedFromGrants old ts replies =
     (front later back us : List Turn) (grant : Turn) (h : Lock) (asked granted new : StoreState) (ks js : List Lock) (ms : Locks)
-    (before given after : List Response) (reply : Response)
+    (before given after : List Reply) (reply : Reply)
     → ts ≡ front ++ grant ∷ (later ++ back) → replies ≡ before ++ reply ∷ (given ++ after) → TokensDiffer ts
     → IsWorld old.state.store.world → old.state.locks ≡ Some []
     → Runs old.settings front old.state.store old.state.locks before asked (Some ks)
     → Steps old.settings grant.asked (begun grant.refusals asked) (Some ks) reply granted (Some js)
     → IsGuard h → Grants grant h ks js → is_folder granted.world (folder_of h) ≡ true
     → RunsUnder AsksWithNumbers old.settings h later granted (Some js) given new ms → new.short ≡ false
-    → Alone h later us → AreAlone old.settings h later us granted (Some js) given new
+    → HolderTurns h later us → MatchesSoloRun old.settings h later us granted (Some js) given new

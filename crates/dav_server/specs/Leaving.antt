@@ -13,74 +13,77 @@ use Rattle.dav_engine.specs.declared.request.Body.TheVariants as body
 use Rattle.dav_engine.specs.Method.{MethodPlan}
 use Rattle.dav_engine.specs.Plan.{Locks, Ran, ServerState}
 use Rattle.dav_engine.specs.Put.{unsatisfiable}
-use Rattle.dav_engine.specs.Response.{Response}
-use Rattle.dav_server.specs.Machine.{Asked, Settings, Means, Steps, body_for, taken_by}
+use Rattle.dav_engine.specs.Reply.{Reply}
+use Rattle.dav_server.specs.Machine.{Exchange, Settings, Means, Steps, body_for, taken_by}
 use Rattle.dav_server.specs.TagLaws.{HasMethod, is_safe}
 use Rattle.dav_server.specs.UpdateLaws.{IsSuccess}
 use Rattle.dav_server.specs.WriteLaws.{IsCreateOnly, IsRefusedStatus, IsLockRequest, HandsInUnused}
 
--- the head of a request names one of the safe methods
-abbrev pub IsSafeRequest : Asked → Type 0
+-- the head of a request names one of the safe methods (RFC 9110, section 9.2.1)
+abbrev pub IsSafeRequest : Exchange → Type 0
 IsSafeRequest x = (m : DavMethod) × HasMethod m x × (is_safe m ≡ true)
 
--- A PUT or PATCH with If-None-Match `*` at a path where something is isn't answered with success.
+-- A PUT or PATCH with If-None-Match `*` at a path where something is isn't answered with success (RFC 9110, section 13.1.2).
 abbrev pub CreateOnlyFails : Type 0
 CreateOnlyFails =
-    (s : Settings) (x : Asked) (p : PathText) (n : Node) (old new : StoreState) (ls ms : Locks) (reply : Response)
+    (s : Settings) (x : Exchange) (p : PathText) (n : Node) (old new : StoreState) (ls ms : Locks) (reply : Reply)
     → IsCreateOnly s x p → node_at old.world (names p) ≡ Some n → Steps s x old ls reply new ms → ¬ IsSuccess reply.status
 
 -- the request is a PUT or PATCH
-abbrev pub IsWriteRequest : Asked → Type 0
+abbrev pub IsWriteRequest : Exchange → Type 0
 IsWriteRequest x = HasMethod Put x ⊎ HasMethod Patch x
 
--- An error by which a PUT or PATCH can end after it opened its file: the store's, or 416 where the store refused to seek.
+-- An error by which a PUT or PATCH can end after it opened its file: the store's, or 416 where the store refused to seek
+-- (RFC 9110, section 15; RFC 4918, section 9.10).
 abbrev pub IsStoresError : DavError → Type 0
 IsStoresError e = ((refusal : FsError) × (e ≡ dav.FsError refusal)) ⊎ (e ≡ unsatisfiable)
 
--- An error in which a LOCK can end because the store refused it its empty file: the store's, 409 or 412.
+-- An error in which a LOCK can end because the store refused it its empty file: the store's, 409 or 412
+-- (RFC 9110, section 15; RFC 4918, section 9.10).
 abbrev pub IsFileError : DavError → Type 0
 IsFileError e = ((refusal : FsError) × (e ≡ dav.FsError refusal)) ⊎ (e ≡ dav.Status 409) ⊎ (e ≡ dav.Status 412)
 
 -- A request whose plan ends in an error leaves the world and the list of locks, whatever its method is and whatever the store
 -- refuses. Apart is a PUT or PATCH with such an error; and of the list a LOCK with a token that a lock has, where the store may have
--- refused it its file: it takes back the lock of its token.
+-- refused it its file: it takes back the lock of its token (RFC 9110, section 15; RFC 4918, section 9.10).
 abbrev pub ErrorsLeave : Type 0
 ErrorsLeave =
-    (s : Settings) (x : Asked) (plan : MethodPlan Response) (old new : StoreState) (ls ms : Locks) (e : DavError)
+    (s : Settings) (x : Exchange) (plan : MethodPlan Reply) (old new : StoreState) (ls ms : Locks) (e : DavError)
     → (IsWriteRequest x → ¬ IsStoresError e) → Means s x plan → Ran Asks plan old ls (Err e) new ms
     → (new.world ≡ old.world) × ((IsLockRequest x → HandsInUnused x ls ⊎ (¬ IsFileError e)) → ms ≡ ls)
 
 -- ---- of one request
 
--- the world and the list of locks are as they were
+-- the world and the list of locks are as they were (RFC 9110, sections 9.2.1, 13.1.2 and 13.2.1)
 abbrev pub SameContent : ServerState → ServerState → Type 0
 SameContent was now = (now.store.world ≡ was.store.world) × (now.locks ≡ was.locks)
 
--- a request of a safe method leaves them
-abbrev pub SafeLeaves : Asked → ServerState → ServerState → Type 0
+-- a request of a safe method leaves them (RFC 9110, sections 9.2.1, 13.1.2 and 13.2.1)
+abbrev pub SafeLeaves : Exchange → ServerState → ServerState → Type 0
 SafeLeaves x was now = IsSafeRequest x → SameContent was now
 
 -- a PUT or PATCH with If-None-Match `*` leaves them where something is at its path, and isn't answered with success
-abbrev pub CreateOnlyLeaves : Settings → Asked → Response → ServerState → ServerState → Type 0
+-- (RFC 9110, sections 9.2.1, 13.1.2 and 13.2.1)
+abbrev pub CreateOnlyLeaves : Settings → Exchange → Reply → ServerState → ServerState → Type 0
 CreateOnlyLeaves s x reply was now =
     (p : PathText) (n : Node)
     → IsCreateOnly s x p → node_at was.store.world (names p) ≡ Some n → SameContent was now × ¬ IsSuccess reply.status
 
 -- A request that is answered 412 or 423 leaves them: the list in a LOCK that is answered 412, where no lock of it has the token that the
--- request hands in.
-abbrev pub RefusedStatusLeaves : Asked → Response → ServerState → ServerState → Type 0
+-- request hands in (RFC 9110, sections 9.2.1, 13.1.2 and 13.2.1).
+abbrev pub RefusedStatusLeaves : Exchange → Reply → ServerState → ServerState → Type 0
 RefusedStatusLeaves x reply was now =
     IsRefusedStatus reply.status
     → (now.store.world ≡ was.store.world) × ((reply.status ≡ 412 → IsLockRequest x → HandsInUnused x was.locks) → now.locks ≡ was.locks)
 
--- a LOCK with this body asks for a new lock; without a body it refreshes one
-abbrev pub HasLockBody : Asked → Type 0
+-- a LOCK with this body asks for a new lock; without a body it refreshes one (RFC 4918, section 9.10)
+abbrev pub HasLockBody : Exchange → Type 0
 HasLockBody x = body_for (taken_by LockMethod) x.body ≢ Ok body.None
 
--- the request is a LOCK that asks for a new lock
-abbrev pub AsksForLock : Asked → Type 0
+-- the request is a LOCK that asks for a new lock (RFC 4918, section 9.10)
+abbrev pub AsksForLock : Exchange → Type 0
 AsksForLock x = IsLockRequest x × HasLockBody x
 
--- A LOCK that asks for a new lock leaves them, where no lock of the list has the token that it hands in.
-abbrev pub GrantsNothing : Asked → ServerState → ServerState → Type 0
+-- A LOCK that asks for a new lock leaves them, where no lock of the list has the token that it hands in (RFC 4918, section 9.10).
+abbrev pub GrantsNothing : Exchange → ServerState → ServerState → Type 0
 GrantsNothing x was now = AsksForLock x → HandsInUnused x was.locks → SameContent was now

@@ -5,29 +5,29 @@ use Rattle.dav_core.specs.Locks.{Lock}
 use Rattle.dav_engine.specs.Guard.{OnList}
 use Rattle.dav_engine.specs.ListChanges.{AreChanges}
 use Rattle.dav_engine.specs.Plan.{Locks}
-use Rattle.dav_engine.specs.Response.{Response}
-use Rattle.dav_server.specs.Machine.{Asked, Settings, Steps, StepCut, client}
+use Rattle.dav_engine.specs.Reply.{Reply}
+use Rattle.dav_server.specs.Machine.{Exchange, Settings, Steps, StepCut, caller}
 use Rattle.dav_server.specs.Run.{Turn, Runs}
 
 -- A step changes the list by grants of a lock with the request's token where it may be granted, by refreshes, by unlocks and by
--- ends of the locks at a path and below it alone.
+-- ends of the locks at a path and below it alone (RFC 4918, section 6.1).
 abbrev pub StepsChangeLists : Type 0
 StepsChangeLists =
-    (s : Settings) (x : Asked) (old new : StoreState) (ls : List Lock) (ms : Locks) (reply : Response)
-    → Steps s x old (Some ls) reply new ms → OnList (AreChanges (client x) ls) ms
+    (s : Settings) (x : Exchange) (old new : StoreState) (ls : List Lock) (ms : Locks) (reply : Reply)
+    → Steps s x old (Some ls) reply new ms → OnList (AreChanges (caller x) ls) ms
 
--- So does one in which memory runs out.
+-- A step in which memory runs out changes the list by grants, refreshes, unlocks and ends of the locks below a path alone (RFC 4918, section 6.1).
 abbrev pub StepsChangeListsCut : Type 0
 StepsChangeListsCut =
-    (s : Settings) (x : Asked) (old new : StoreState) (ls : List Lock) (ms : Locks)
-    → StepCut s x old (Some ls) new ms → OnList (AreChanges (client x) ls) ms
+    (s : Settings) (x : Exchange) (old new : StoreState) (ls : List Lock) (ms : Locks)
+    → StepCut s x old (Some ls) new ms → OnList (AreChanges (caller x) ls) ms
 
--- the token was handed in with one of these requests
+-- the token was handed in with one of these requests (RFC 4918, section 6.5)
 abbrev pub IsHandedIn : List Turn → List ℕ → Type 0
 IsHandedIn ts token = (t : Turn) × Contains ts t × (t.asked.token ≡ Some token)
 
--- After a run from no locks each lock has a token that was handed in with one of the requests.
+-- After a run from no locks each lock has a token that was handed in with one of the requests (RFC 4918, section 6.5).
 abbrev pub TokensAreHandedIn : Type 0
 TokensAreHandedIn =
-    (s : Settings) (ts : List Turn) (old new : StoreState) (ms : List Lock) (replies : List Response)
+    (s : Settings) (ts : List Turn) (old new : StoreState) (ms : List Lock) (replies : List Reply)
     → Runs s ts old (Some []) replies new (Some ms) → All (λ l. IsHandedIn ts l.token) ms

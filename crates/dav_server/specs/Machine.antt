@@ -13,7 +13,7 @@ use Rattle.dav_engine.specs.declared.request.Body.TheVariants as body
 use Rattle.dav_engine.specs.Headers.{Headers}
 use Rattle.dav_engine.specs.Method.{MethodPlan, fails}
 use Rattle.dav_engine.specs.Plan.{Locks, CallStep, Ran, Cut}
-use Rattle.dav_engine.specs.Client.{Client}
+use Rattle.dav_engine.specs.Caller.{Caller}
 use Rattle.dav_engine.specs.CopyMove.{IsCopyMove}
 use Rattle.dav_engine.specs.Delete.{IsDelete}
 use Rattle.dav_engine.specs.Lock.{IsLock}
@@ -22,7 +22,7 @@ use Rattle.dav_engine.specs.Options.{options}
 use Rattle.dav_engine.specs.Propfind.{IsPropfind}
 use Rattle.dav_engine.specs.Proppatch.{IsProppatch}
 use Rattle.dav_engine.specs.Put.{IsPut}
-use Rattle.dav_engine.specs.Response.{Response, reply_to}
+use Rattle.dav_engine.specs.Reply.{Reply, reply_to}
 use Rattle.dav_engine.specs.Unlock.{IsUnlock}
 use Rattle.dav_server.specs.Get.{IsGet}
 use Rattle.dav_server.specs.Head.{Request, IsHead}
@@ -31,7 +31,7 @@ use Rattle.dav_server.specs.Method.{GivesServed}
 use Rattle.dav_server.specs.Target.{TargetNames}
 
 -- A request as it comes in: the bytes of its head, its body, who makes it, when, and the token for a lock that it creates.
-pub record Asked : Type 0 where
+pub record Exchange : Type 0 where
   pub head : List ℕ
   pub body : Body
   pub principal : Option (List ℕ)
@@ -77,58 +77,59 @@ body_for TakesBytes body.Malformed = Err (dav.Status 415)
 body_for TakesNone body.Malformed = Err (dav.Status 415)
 
 -- who makes the request
-abbrev pub client : Asked → Client
-client x = record { principal = x.principal; moment = x.moment; token = x.token }
+abbrev pub caller : Exchange → Caller
+caller x = record { principal = x.principal; moment = x.moment; token = x.token }
 
--- The plan of a method, with the set of the methods that are allowed, its headers, its path and its body. Only a method that is served has one.
-pub data PlanOf (allowed : ℕ) (headers : Headers) (p : PathText) (body : Body) (who : Client) : DavMethod → MethodPlan Response → Type 0 where
-  gets : {plan : MethodPlan Response} → IsGet Get headers p who.moment plan → PlanOf allowed headers p body who Get plan
-  heads : {plan : MethodPlan Response} → IsGet Head headers p who.moment plan → PlanOf allowed headers p body who Head plan
-  puts : {plan : MethodPlan Response} → IsPut Put headers p body who plan → PlanOf allowed headers p body who Put plan
-  patches : {plan : MethodPlan Response} → IsPut Patch headers p body who plan → PlanOf allowed headers p body who Patch plan
-  makes : {plan : MethodPlan Response} → IsMkcol headers p who plan → PlanOf allowed headers p body who MkCol plan
-  deletes : {plan : MethodPlan Response} → IsDelete headers p who plan → PlanOf allowed headers p body who Delete plan
-  copies : {plan : MethodPlan Response} → IsCopyMove Copy headers p who plan → PlanOf allowed headers p body who Copy plan
-  moves : {plan : MethodPlan Response} → IsCopyMove Move headers p who plan → PlanOf allowed headers p body who Move plan
+-- The plan of a method, with the set of the methods that are allowed, its headers, its path and its body. Only a method that is served has one
+-- (RFC 9110, section 9.3; RFC 5789; RFC 4918, section 9).
+pub data PlanOf (allowed : ℕ) (headers : Headers) (p : PathText) (body : Body) (who : Caller) : DavMethod → MethodPlan Reply → Type 0 where
+  gets : {plan : MethodPlan Reply} → IsGet Get headers p who.moment plan → PlanOf allowed headers p body who Get plan
+  heads : {plan : MethodPlan Reply} → IsGet Head headers p who.moment plan → PlanOf allowed headers p body who Head plan
+  puts : {plan : MethodPlan Reply} → IsPut Put headers p body who plan → PlanOf allowed headers p body who Put plan
+  patches : {plan : MethodPlan Reply} → IsPut Patch headers p body who plan → PlanOf allowed headers p body who Patch plan
+  makes : {plan : MethodPlan Reply} → IsMkcol headers p who plan → PlanOf allowed headers p body who MkCol plan
+  deletes : {plan : MethodPlan Reply} → IsDelete headers p who plan → PlanOf allowed headers p body who Delete plan
+  copies : {plan : MethodPlan Reply} → IsCopyMove Copy headers p who plan → PlanOf allowed headers p body who Copy plan
+  moves : {plan : MethodPlan Reply} → IsCopyMove Move headers p who plan → PlanOf allowed headers p body who Move plan
   offers : PlanOf allowed headers p body who Options (options allowed p)
-  finds_properties : {plan : MethodPlan Response} → IsPropfind headers p body who plan → PlanOf allowed headers p body who PropFind plan
-  sets_properties : {plan : MethodPlan Response} → IsProppatch headers p body who plan → PlanOf allowed headers p body who PropPatch plan
-  locks : {plan : MethodPlan Response} → IsLock headers p body who plan → PlanOf allowed headers p body who Lock plan
-  releases : {plan : MethodPlan Response} → IsUnlock headers p who plan → PlanOf allowed headers p body who Unlock plan
+  finds_properties : {plan : MethodPlan Reply} → IsPropfind headers p body who plan → PlanOf allowed headers p body who PropFind plan
+  sets_properties : {plan : MethodPlan Reply} → IsProppatch headers p body who plan → PlanOf allowed headers p body who PropPatch plan
+  locks : {plan : MethodPlan Reply} → IsLock headers p body who plan → PlanOf allowed headers p body who Lock plan
+  releases : {plan : MethodPlan Reply} → IsUnlock headers p who plan → PlanOf allowed headers p body who Unlock plan
 
 -- The plan that a request results in, given what its head says and its method. It is refused, before anything is asked of
 -- the store, for the first of these: 405 for a method that isn't allowed, and the connection closes; then the error of its
--- target, below the prefix; then the error of its body.
-pub data MeansOf (s : Settings) (x : Asked) (r : Request) (m : DavMethod) : MethodPlan Response → Type 0 where
+-- target, below the prefix; then the error of its body (RFC 9110, sections 15.5 and 15.6).
+pub data MeansOf (s : Settings) (x : Exchange) (r : Request) (m : DavMethod) : MethodPlan Reply → Type 0 where
   not_allowed : ¬ Has s.allowed m → MeansOf s x r m (fails (dav.StatusClose 405))
   no_path : (e : DavError) → Has s.allowed m → TargetNames s.prefix m r.target (Err e) → MeansOf s x r m (fails e)
   no_body : (p : PathText) (e : DavError) → Has s.allowed m → TargetNames s.prefix m r.target (Ok p) → body_for (taken_by m) x.body ≡ Err e → MeansOf s x r m (fails e)
-  method : (p : PathText) (body : Body) {plan : MethodPlan Response} → Has s.allowed m → TargetNames s.prefix m r.target (Ok p) → body_for (taken_by m) x.body ≡ Ok body
-      → PlanOf s.allowed (headers_of r.fields) p body (client x) m plan → MeansOf s x r m plan
+  method : (p : PathText) (body : Body) {plan : MethodPlan Reply} → Has s.allowed m → TargetNames s.prefix m r.target (Ok p) → body_for (taken_by m) x.body ≡ Ok body
+      → PlanOf s.allowed (headers_of r.fields) p body (caller x) m plan → MeansOf s x r m plan
 
 -- The plan that a request results in. 400 for bytes that are no head, and 501 for a method that isn't known; then the plan
--- with its method.
-pub data Means (s : Settings) (x : Asked) : MethodPlan Response → Type 0 where
+-- with its method (RFC 9110, sections 15.5 and 15.6).
+pub data Means (s : Settings) (x : Exchange) : MethodPlan Reply → Type 0 where
   no_head : ((r : Request) → ¬ IsHead x.head r) → Means s x (fails (dav.Status 400))
   no_method : (r : Request) (e : DavError) → IsHead x.head r → GivesServed r.method (Err e) → Means s x (fails e)
-  known : (r : Request) (m : DavMethod) {plan : MethodPlan Response} → IsHead x.head r → GivesServed r.method (Ok m) → MeansOf s x r m plan → Means s x plan
+  known : (r : Request) (m : DavMethod) {plan : MethodPlan Reply} → IsHead x.head r → GivesServed r.method (Ok m) → MeansOf s x r m plan → Means s x plan
 
 -- One step of the machine over stores that answer each call by this relation: the reply to a request, and the store and the
 -- list of locks that it leaves.
-pub data StepsBy (step : CallStep) (s : Settings) (x : Asked) (old : StoreState) (ls : Locks) : Response → StoreState → Locks → Type 0 where
-  steps : (plan : MethodPlan Response) (outcome : Result Response DavError) {new : StoreState} {ms : Locks}
+pub data StepsBy (step : CallStep) (s : Settings) (x : Exchange) (old : StoreState) (ls : Locks) : Reply → StoreState → Locks → Type 0 where
+  steps : (plan : MethodPlan Reply) (outcome : Result Reply DavError) {new : StoreState} {ms : Locks}
       → Means s x plan → Ran step plan old ls outcome new ms → StepsBy step s x old ls (reply_to outcome) new ms
 
 -- one step of the machine over any lawful store
-abbrev pub Steps : Settings → Asked → StoreState → Locks → Response → StoreState → Locks → Type 0
+abbrev pub Steps : Settings → Exchange → StoreState → Locks → Reply → StoreState → Locks → Type 0
 Steps = StepsBy Asks
 
 -- Memory ran out in a step: nothing was done, or the first calls of its plan were made, each of them whole. The list of
 -- locks is as before, or as the plan leaves it where each later call is refused.
-pub data StepCutBy (step : CallStep) (s : Settings) (x : Asked) (old : StoreState) (ls : Locks) : StoreState → Locks → Type 0 where
+pub data StepCutBy (step : CallStep) (s : Settings) (x : Exchange) (old : StoreState) (ls : Locks) : StoreState → Locks → Type 0 where
   untouched : StepCutBy step s x old ls old ls
-  cut : (plan : MethodPlan Response) {new : StoreState} {ms : Locks} → Means s x plan → Cut step ls plan old ls new ms → StepCutBy step s x old ls new ms
+  cut : (plan : MethodPlan Reply) {new : StoreState} {ms : Locks} → Means s x plan → Cut step ls plan old ls new ms → StepCutBy step s x old ls new ms
 
--- the same over any lawful store
-abbrev pub StepCut : Settings → Asked → StoreState → Locks → StoreState → Locks → Type 0
+-- memory ran out in the step of a request, over any lawful store
+abbrev pub StepCut : Settings → Exchange → StoreState → Locks → StoreState → Locks → Type 0
 StepCut = StepCutBy Asks

@@ -13,7 +13,7 @@ IsServed MkCalendar = ⊥
 IsServed MkAddressbook = ⊥
 IsServed _ = ⊤
 
--- The served method whose name the text is; `UnknownDavMethod` for any other text.
+-- The served method whose name the text is; `UnknownDavMethod` for any other text (RFC 9110, section 9).
 abbrev pub GivesServed : List ℕ → Result DavMethod DavError → Type 0
 GivesServed text (Ok m) = IsServed m × (text ≡ method_name m)
 GivesServed text (Err e) = (e ≡ dav.UnknownDavMethod) × ((m : DavMethod) → IsServed m → text ≢ method_name m)

@@ -10,7 +10,7 @@ use Rattle.dav_server.specs.Setup.{IsPrefix}
 use Rattle.dav_server.specs.Target.{BeginsWithSlash, TargetNames}
 
 -- A text that begins with a slash results in one path, or in one error: as the target of a request with any method, and as the
--- Destination of a request whose own target was cut after the same prefix.
+-- Destination of a request whose own target was cut after the same prefix (RFC 4918, section 10.3).
 abbrev pub OneTextOnePath : Type 0
 OneTextOnePath =
     (prefix : List ℕ) → IsPrefix prefix

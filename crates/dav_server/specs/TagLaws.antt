@@ -11,57 +11,58 @@ use Rattle.dav_headers.specs.ETag.{EntityTag, tag_text}
 use Rattle.dav_headers.specs.ETagList.{tags, IsTagList}
 use Rattle.dav_engine.specs.declared.reply.ReplyBody.TheVariants as body
 use Rattle.dav_engine.specs.Plan.{Locks}
-use Rattle.dav_engine.specs.Response.{Response}
+use Rattle.dav_engine.specs.Reply.{Reply}
 use Rattle.dav_server.specs.Head.{Request, IsHead}
 use Rattle.dav_server.specs.Headers.{headers_of}
-use Rattle.dav_server.specs.Machine.{Asked, Settings, Steps, StepCut}
+use Rattle.dav_server.specs.Machine.{Exchange, Settings, Steps, StepCut}
 use Rattle.dav_server.specs.Method.{GivesServed}
 use Rattle.dav_server.specs.Run.{Turn, begun, Runs, RanInPart}
 use Rattle.dav_server.specs.Target.{TargetNames}
 
 -- the head of a request names this method
-abbrev pub HasMethod : DavMethod → Asked → Type 0
+abbrev pub HasMethod : DavMethod → Exchange → Type 0
 HasMethod m x = (r : Request) × IsHead x.head r × GivesServed r.method (Ok m)
 
--- the reply shows these bytes with this entity tag
-pub record Shows (tag bytes : List ℕ) (reply : Response) : Type 0 where
+-- the reply shows these bytes with this entity tag (RFC 9110, section 8.8.1)
+pub record Shows (tag bytes : List ℕ) (reply : Reply) : Type 0 where
   pub status : reply.status ≡ 200
   pub tag_is : Contains reply.headers (codes "etag", tag)
   pub bytes_are : reply.body ≡ body.Bytes bytes
 
--- a GET among these requests was answered with these bytes and this tag
-abbrev pub ShownIn : List Turn → List Response → List ℕ → List ℕ → Type 0
+-- a GET among these requests was answered with these bytes and this tag (RFC 9110, section 8.8.1)
+abbrev pub ShownIn : List Turn → List Reply → List ℕ → List ℕ → Type 0
 ShownIn ts replies tag bytes =
-    (t : Turn) × (reply : Response) × Contains (zip ts replies) (t, reply) × HasMethod Get t.asked × Shows tag bytes reply
+    (t : Turn) × (reply : Reply) × Contains (zip ts replies) (t, reply) × HasMethod Get t.asked × Shows tag bytes reply
 
--- equal tags show equal bytes, at any paths and moments
-abbrev pub EqualTagsShowEqualBytes : List Turn → List Response → Type 0
+-- equal tags show equal bytes, at any paths and moments (RFC 9110, section 8.8.1)
+abbrev pub EqualTagsShowEqualBytes : List Turn → List Reply → Type 0
 EqualTagsShowEqualBytes ts replies =
     (tag bytes others : List ℕ) → ShownIn ts replies tag bytes → ShownIn ts replies tag others → bytes ≡ others
 
 -- the requests are made at moments that HTTP can write
-abbrev pub AreShowable : List Turn → Type 0
-AreShowable ts = All (λ t. t.asked.moment ≤ last_moment) ts
+abbrev pub MomentsAreDates : List Turn → Type 0
+MomentsAreDates ts = All (λ t. t.asked.moment ≤ last_moment) ts
 
--- In a run that begins with a world, under any refusals, equal tags show equal bytes.
+-- In a run that begins with a world, under any refusals, equal tags show equal bytes (RFC 9110, section 8.8.1).
 abbrev pub TagsTellBytes : Type 0
 TagsTellBytes =
-    (s : Settings) (ts : List Turn) (old new : StoreState) (ls ms : Locks) (replies : List Response)
-    → IsWorld old.world → AreShowable ts → Runs s ts old ls replies new ms → EqualTagsShowEqualBytes ts replies
+    (s : Settings) (ts : List Turn) (old new : StoreState) (ls ms : Locks) (replies : List Reply)
+    → IsWorld old.world → MomentsAreDates ts → Runs s ts old ls replies new ms → EqualTagsShowEqualBytes ts replies
 
--- the target of a request names this path, and its If-None-Match says this one tag
-abbrev pub LacksTag : Settings → Asked → PathText → EntityTag → Type 0
+-- the target of a request names this path, and its If-None-Match says this one tag (RFC 9110, section 13.1.2)
+abbrev pub LacksTag : Settings → Exchange → PathText → EntityTag → Type 0
 LacksTag s x p tag =
     (r : Request) × (m : DavMethod)
     × IsHead x.head r × GivesServed r.method (Ok m) × TargetNames s.prefix m r.target (Ok p)
     × IsTagList (get_all (headers_of r.fields) (codes "if-none-match")) (tags (tag ∷ []))
 
--- A 304 to an If-None-Match of one tag means that the file has the bytes that any GET of the run shows with that tag.
+-- A 304 to an If-None-Match of one tag means that the file has the bytes that any GET of the run shows with that tag
+-- (RFC 9110, sections 13.1.2 and 15.4.5).
 abbrev pub NotModifiedIsTrue : Type 0
 NotModifiedIsTrue =
     (s : Settings) (front back : List Turn) (t : Turn) (old mid end new : StoreState) (ls ks js ms : Locks)
-    (replies more : List Response) (reply : Response) (p : PathText) (tag : EntityTag) (bytes : List ℕ)
-    → IsWorld old.world → AreShowable (front ++ t ∷ back)
+    (replies more : List Reply) (reply : Reply) (p : PathText) (tag : EntityTag) (bytes : List ℕ)
+    → IsWorld old.world → MomentsAreDates (front ++ t ∷ back)
     → Runs s front old ls replies mid ks → Steps s t.asked (begun t.refusals mid) ks reply end js → Runs s back end js more new ms
     → reply.status ≡ 304 → LacksTag s t.asked p tag
     → ShownIn (front ++ t ∷ back) (replies ++ reply ∷ more) (tag_text tag.weak tag.tag) bytes
@@ -75,26 +76,26 @@ is_safe Options = true
 is_safe PropFind = true
 is_safe _ = false
 
--- GET, HEAD, OPTIONS and PROPFIND leave the world and the list of locks as they were.
+-- GET, HEAD, OPTIONS and PROPFIND leave the world and the list of locks as they were (RFC 9110, section 9.2.1; RFC 4918, sections 5.1 and 9.1).
 abbrev pub ReadingLeaves : Type 0
 ReadingLeaves =
-    (s : Settings) (x : Asked) (old new : StoreState) (ls ms : Locks) (reply : Response) (m : DavMethod)
+    (s : Settings) (x : Exchange) (old new : StoreState) (ls ms : Locks) (reply : Reply) (m : DavMethod)
     → HasMethod m x → is_safe m ≡ true → Steps s x old ls reply new ms → (new.world ≡ old.world) × (ms ≡ ls)
 
--- So do they where memory runs out.
+-- Requests that only read leave all as it was also where memory runs out (RFC 9110, section 9.2.1; RFC 4918, sections 5.1 and 9.1).
 abbrev pub ReadingLeavesCut : Type 0
 ReadingLeavesCut =
-    (s : Settings) (x : Asked) (old new : StoreState) (ls ms : Locks) (m : DavMethod)
+    (s : Settings) (x : Exchange) (old new : StoreState) (ls ms : Locks) (m : DavMethod)
     → HasMethod m x → is_safe m ≡ true → StepCut s x old ls new ms → (new.world ≡ old.world) × (ms ≡ ls)
 
 -- A run that begins with a world ends with one (RFC 4918, section 5.1).
 abbrev pub RunsKeepWorlds : Type 0
 RunsKeepWorlds =
-    (s : Settings) (ts : List Turn) (old new : StoreState) (ls ms : Locks) (replies : List Response)
-    → IsWorld old.world → AreShowable ts → Runs s ts old ls replies new ms → IsWorld new.world
+    (s : Settings) (ts : List Turn) (old new : StoreState) (ls ms : Locks) (replies : List Reply)
+    → IsWorld old.world → MomentsAreDates ts → Runs s ts old ls replies new ms → IsWorld new.world
 
--- So does one in which memory runs out.
+-- A run in which memory runs out keeps a world a world (RFC 9110, section 9.2.1; RFC 4918, sections 5.1 and 9.1).
 abbrev pub RunsKeepWorldsCut : Type 0
 RunsKeepWorldsCut =
-    (s : Settings) (ts : List Turn) (old new : StoreState) (ls ms : Locks) (replies : List Response)
-    → IsWorld old.world → AreShowable ts → RanInPart s ts old ls replies new ms → IsWorld new.world
+    (s : Settings) (ts : List Turn) (old new : StoreState) (ls ms : Locks) (replies : List Reply)
+    → IsWorld old.world → MomentsAreDates ts → RanInPart s ts old ls replies new ms → IsWorld new.world

@@ -9,7 +9,7 @@ use Rattle.dav_core.specs.declared.method.DavMethod.TheVariants.{Options}
 use Rattle.dav_core.specs.Path.{PathText, IsCut, HasNoCut, star, without_slash}
 use Rattle.dav_core.specs.Target.{Reads, IsRefused}
 
--- it begins with a slash: the origin form (RFC 9112, section 3.2.1)
+-- a target begins with a slash: the origin form (RFC 9112, section 3.2.1)
 abbrev pub BeginsWithSlash : List ℕ → Type 0
 BeginsWithSlash target = (rest : List ℕ) × (target ≡ 47 ∷ rest)
 
@@ -42,7 +42,7 @@ pub data TargetNames (prefix : List ℕ) (method : DavMethod) (target : List ℕ
   outside : {text bytes : List ℕ} → HasPathText target text → Reads text bytes → HasNoCut (without_slash prefix) bytes → TargetNames prefix method target (Err dav.IllegalPath)
   path : {text bytes : List ℕ} {p : PathText} → HasPathText target text → Reads text bytes → IsCut (without_slash prefix) bytes p → TargetNames prefix method target (Ok p)
 
--- a target results in one path or one error
+-- a target results in one path or one error (RFC 9112, section 3.2.1)
 abbrev pub OneOutcome : Type 0
 OneOutcome =
     (prefix : List ℕ) (method : DavMethod) (target : List ℕ) (a b : Result PathText DavError)

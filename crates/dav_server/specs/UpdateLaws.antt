@@ -13,31 +13,31 @@ use Rattle.dav_headers.specs.If.{Condition, entity_tag, IsIfHeader}
 use Rattle.dav_engine.specs.Headers.{Headers}
 use Rattle.dav_engine.specs.Plan.{Locks}
 use Rattle.dav_engine.specs.Put.{bytes_of_body}
-use Rattle.dav_engine.specs.Response.{Response}
+use Rattle.dav_engine.specs.Reply.{Reply}
 use Rattle.dav_server.specs.Head.{Request, IsHead}
 use Rattle.dav_server.specs.Headers.{headers_of}
-use Rattle.dav_server.specs.Machine.{Asked, Settings, Steps}
+use Rattle.dav_server.specs.Machine.{Exchange, Settings, Steps}
 use Rattle.dav_server.specs.Method.{GivesServed}
 use Rattle.dav_server.specs.Run.{Turn, begun, Runs}
-use Rattle.dav_server.specs.TagLaws.{ShownIn, AreShowable}
+use Rattle.dav_server.specs.TagLaws.{ShownIn, MomentsAreDates}
 use Rattle.dav_server.specs.Target.{TargetNames}
 
 -- ---- what a client was told
 
 -- the request is a PUT of these bytes as the whole file: it has no Content-Range (RFC 9110, sections 9.3.4 and 14.5)
-abbrev pub PutsWhole : Asked → List ℕ → Type 0
+abbrev pub PutsWhole : Exchange → List ℕ → Type 0
 PutsWhole x bytes =
     (r : Request)
     × IsHead x.head r × GivesServed r.method (Ok Put) × (get_all (headers_of r.fields) (codes "content-range") ≡ [])
     × (bytes_of_body x.body ≡ Some bytes)
 
--- such a PUT among these requests was answered with this tag
-abbrev pub StoredIn : List Turn → List Response → List ℕ → List ℕ → Type 0
+-- a PUT without Content-Range among these requests, of these bytes, was answered with this tag
+abbrev pub StoredIn : List Turn → List Reply → List ℕ → List ℕ → Type 0
 StoredIn ts replies tag bytes =
-    (t : Turn) × (reply : Response) × Contains (zip ts replies) (t, reply) × PutsWhole t.asked bytes × Contains reply.headers (codes "etag", tag)
+    (t : Turn) × (reply : Reply) × Contains (zip ts replies) (t, reply) × PutsWhole t.asked bytes × Contains reply.headers (codes "etag", tag)
 
--- one of these replies tells that a file of these bytes has this tag: that to a GET, or that to a PUT
-abbrev pub ToldIn : List Turn → List Response → List ℕ → List ℕ → Type 0
+-- one of these replies tells that a file of these bytes has this tag: that to a GET, or that to a PUT (RFC 9110, section 8.8.3)
+abbrev pub ToldIn : List Turn → List Reply → List ℕ → List ℕ → Type 0
 ToldIn ts replies tag bytes = ShownIn ts replies tag bytes ⊎ StoredIn ts replies tag bytes
 
 -- ---- what it asks for later
@@ -52,7 +52,8 @@ is_update Move = true
 is_update PropPatch = true
 is_update _ = false
 
--- If-Match says this tag alone; or If has one list, without a resource tag, in which it stands, not under `Not`.
+-- If-Match says this tag alone; or If has one list, without a resource tag, in which it stands, not under `Not`
+-- (RFC 9110, section 13.1.1; RFC 4918, section 10.4).
 abbrev pub AsksForTag : Headers → EntityTag → Type 0
 AsksForTag headers tag =
     IsTagList (get_all headers (codes "if-match")) (tags (tag ∷ []))
@@ -60,8 +61,8 @@ AsksForTag headers tag =
     × IsIfHeader (get_all headers (codes "if")) (record { resource = None; conditions = conditions } ∷ [])
     × Contains conditions (record { negated = false; item = entity_tag tag }))
 
--- the request is an update of what this path names, on condition that it has this tag
-abbrev pub UpdatesIf : Settings → Asked → PathText → EntityTag → Type 0
+-- the request is an update of what this path names, on condition that it has this tag (RFC 9110, section 13.1.1; RFC 4918, section 10.4)
+abbrev pub UpdatesIf : Settings → Exchange → PathText → EntityTag → Type 0
 UpdatesIf s x p tag =
     (r : Request) × (m : DavMethod)
     × IsHead x.head r × GivesServed r.method (Ok m) × (is_update m ≡ true) × TargetNames s.prefix m r.target (Ok p)
@@ -74,11 +75,12 @@ IsSuccess status = (200 ≤ status) × (status < 300)
 -- ---- the law
 
 -- An update on condition of a tag that is answered with success finds the file with the bytes that the client was told to have
--- that tag, in any run from a world and whatever the store refuses: what others made of it in between is never written over.
+-- that tag, in any run from a world and whatever the store refuses: what others made of it in between is never written over
+-- (RFC 9110, section 13.1.1; RFC 4918, section 10.4).
 abbrev pub NoLostUpdate : Type 0
 NoLostUpdate =
     (s : Settings) (ts : List Turn) (t : Turn) (old mid new : StoreState) (ls ks ms : Locks)
-    (replies : List Response) (reply : Response) (p : PathText) (tag : EntityTag) (bytes : List ℕ)
-    → IsWorld old.world → AreShowable ts → Runs s ts old ls replies mid ks → ToldIn ts replies (tag_text tag.weak tag.tag) bytes
+    (replies : List Reply) (reply : Reply) (p : PathText) (tag : EntityTag) (bytes : List ℕ)
+    → IsWorld old.world → MomentsAreDates ts → Runs s ts old ls replies mid ks → ToldIn ts replies (tag_text tag.weak tag.tag) bytes
     → UpdatesIf s t.asked p tag → Steps s t.asked (begun t.refusals mid) ks reply new ms → IsSuccess reply.status
     → (n : Node) × (node_at mid.world (names p) ≡ Some n) × (n.kind ≡ File bytes)

@@ -9,25 +9,25 @@ use Rattle.dav_core.specs.World.{Node, node_at}
 use Rattle.dav_headers.specs.ETagList.{star, IsTagList}
 use Rattle.dav_engine.specs.LockLaws.{IsUnused}
 use Rattle.dav_engine.specs.Plan.{Locks}
-use Rattle.dav_engine.specs.Response.{Response}
+use Rattle.dav_engine.specs.Reply.{Reply}
 use Rattle.dav_server.specs.Head.{Request, IsHead}
 use Rattle.dav_server.specs.Headers.{headers_of}
-use Rattle.dav_server.specs.Machine.{Asked, Settings, Steps}
+use Rattle.dav_server.specs.Machine.{Exchange, Settings, Steps}
 use Rattle.dav_server.specs.Method.{GivesServed}
 use Rattle.dav_server.specs.Target.{TargetNames}
 
 -- The request is a PUT or PATCH of this path, and its If-None-Match is `*` (RFC 9110, section 13.1.2).
-abbrev pub IsCreateOnly : Settings → Asked → PathText → Type 0
+abbrev pub IsCreateOnly : Settings → Exchange → PathText → Type 0
 IsCreateOnly s x p =
     (r : Request) × (m : DavMethod)
     × IsHead x.head r × GivesServed r.method (Ok m) × ((m ≡ Put) ⊎ (m ≡ Patch)) × TargetNames s.prefix m r.target (Ok p)
     × IsTagList (get_all (headers_of r.fields) (codes "if-none-match")) star
 
 -- Where something is at its path, such a request leaves the world and the list of locks, whatever its reply is and whatever
--- the store refuses.
+-- the store refuses (RFC 9110, section 13.1.2).
 abbrev pub CreateOnlyKeeps : Type 0
 CreateOnlyKeeps =
-    (s : Settings) (x : Asked) (p : PathText) (n : Node) (old new : StoreState) (ls ms : Locks) (reply : Response)
+    (s : Settings) (x : Exchange) (p : PathText) (n : Node) (old new : StoreState) (ls ms : Locks) (reply : Reply)
     → IsCreateOnly s x p → node_at old.world (names p) ≡ Some n → Steps s x old ls reply new ms
     → (new.world ≡ old.world) × (ms ≡ ls)
 
@@ -35,18 +35,18 @@ CreateOnlyKeeps =
 abbrev pub IsRefusedStatus : ℕ → Type 0
 IsRefusedStatus status = (status ≡ 412) ⊎ (status ≡ 423)
 
--- the request is a LOCK
-abbrev pub IsLockRequest : Asked → Type 0
+-- the request is a LOCK (RFC 4918, sections 6.5 and 9.10)
+abbrev pub IsLockRequest : Exchange → Type 0
 IsLockRequest x = (r : Request) × IsHead x.head r × GivesServed r.method (Ok LockMethod)
 
--- no lock of the list has the token that the request hands in
-abbrev pub HandsInUnused : Asked → Locks → Type 0
+-- no lock of the list has the token that the request hands in (RFC 4918, sections 6.5 and 9.10)
+abbrev pub HandsInUnused : Exchange → Locks → Type 0
 HandsInUnused x ls = (token : List ℕ) → x.token ≡ Some token → IsUnused token ls
 
 -- A request that is answered so leaves the world and the list of locks, whatever its method is and whatever the store refuses: the list
--- in a LOCK that is answered 412, where no lock has the token that it hands in.
+-- in a LOCK that is answered 412, where no lock has the token that it hands in (RFC 9110, section 13.2.1; RFC 4918, sections 7 and 11.3).
 abbrev pub RefusedLeaves : Type 0
 RefusedLeaves =
-    (s : Settings) (x : Asked) (old new : StoreState) (ls ms : Locks) (reply : Response)
+    (s : Settings) (x : Exchange) (old new : StoreState) (ls ms : Locks) (reply : Reply)
     → IsRefusedStatus reply.status → Steps s x old ls reply new ms
     → (new.world ≡ old.world) × ((reply.status ≡ 412 → IsLockRequest x → HandsInUnused x ls) → ms ≡ ls)

@@ -6,16 +6,16 @@ ghost use Rattle.std.specs.Option.{option_map, option_copied};
 ghost use Rattle.dav_core.specs.declared.errors.DavError.TheVariants.{Memory};
 ghost use Rattle.dav_engine.specs.Follows.{Serves};
 ghost use Rattle.dav_core.specs.World.{last_moment};
-ghost use Rattle.dav_engine.specs.AtWork.{MkcolOf, DeleteOf, PutOf, CopyMoveOf, OptionsOf, LockOf, UnlockOf};
+ghost use Rattle.dav_engine.specs.OnHandler.{MkcolOf, DeleteOf, PutOf, CopyMoveOf, OptionsOf, LockOf, UnlockOf};
 ghost use Rattle.dav_engine.specs.ConditionView.{locks_in};
 ghost use Rattle.dav_engine.specs.Lock.{is_absent};
 ghost use Rattle.dav_server.specs.Get.{GetOf};
-ghost use Rattle.dav_engine.specs.Response.{error_reply};
+ghost use Rattle.dav_engine.specs.Reply.{error_reply};
 ghost use Rattle.dav_server.specs.HrefLaws.{ReplyLeadsBack, ReplyIsWhole};
 ghost use Rattle.dav_server.specs.Leaving.{SameContent, SafeLeaves, CreateOnlyLeaves, RefusedStatusLeaves, HasLockBody, AsksForLock};
-ghost use Rattle.dav_server.specs.Machine.{client, PlanOf, Means, MeansOf};
+ghost use Rattle.dav_server.specs.Machine.{caller, PlanOf, Means, MeansOf};
 ghost use Rattle.dav_server.specs.Method.{IsServed};
-ghost use Rattle.dav_server.specs.Server.{Answers, StopsIn};
+ghost use Rattle.dav_server.specs.DavHandler.{Answers, StopsIn};
 ghost use Rattle.dav_server.specs.Headers.{headers_of};
 ghost use Rattle.dav_core.specs.Target.{Reads};
 ghost use Rattle.dav_server.specs.Setup.{IsPrefix};
@@ -85,7 +85,7 @@ pub struct DavHandler<F: DavFileSystem, L: DavLockSystem> {
 impl<F: DavFileSystem, L: DavLockSystem> Model for DavHandler<F, L> {
     ghost use Rattle.std.specs.Prelude.{string_bytes};
     ghost use Rattle.dav_core.specs.contracts.errors.FsError as fs_error;
-    ghost use Rattle.dav_server.specs.Server.{HandlerView};
+    ghost use Rattle.dav_server.specs.DavHandler.{HandlerView};
     ghost use Rattle.dav_server.specs.ServerCode.{coded_handler};
 
     ghost Value = { HandlerView F L };
@@ -187,7 +187,7 @@ fn token_of(token: &Option<GrantToken>) -> Option<&str>
 
 // Who makes a request, when, and the token for a lock that it creates.
 fn caller_of<'c>(exchange: &'c Exchange<'_>) -> Caller<'c>
-    ensures client { result ≡ client exchange.now }
+    ensures caller { result ≡ caller exchange.now }
     ensures moment { result.moment ≤ last_moment }
 {
     Caller {
@@ -220,7 +220,7 @@ fn serve<F: DavFileSystem, L: DavLockSystem>(
     requires served { IsServed request.now.method }
     ensures same { handler.new.server.settings ≡ handler.old.server.settings }
     ensures serves { Serves (PlanOf handler.old.server.settings.allowed request.now.headers
-        request.now.path body.now (client exchange.now) request.now.method)
+        request.now.path body.now (caller exchange.now) request.now.method)
         handler.old.server.state result handler.new.server.state }
     ensures ungranted { IsErrOf result Memory
         → request.now.method ≡ DavMethod.Lock → is_absent body.now ≡ false

@@ -126,10 +126,10 @@ pub struct Exchange<'a> {
 
 impl<'a> Model for Exchange<'a> {
     ghost use Rattle.dav_engine.specs.contracts.request.Body as request_body;
-    ghost use Rattle.dav_server.specs.Machine.{Asked};
+    ghost use Rattle.dav_server.specs.Machine as said;
     ghost use Rattle.dav_server.specs.ServerCode.{coded_asked};
 
-    ghost Value = { Asked };
+    ghost Value = { said.Exchange };
 
     ghost coded = { coded_asked request_body.the_row.coded };
 

@@ -4,9 +4,10 @@ ghost use Rattle.dav_core.specs.Asking.{Asks, Open, StoreState, seen};
 ghost use Rattle.dav_core.specs.Path.{names};
 ghost use Rattle.dav_core.specs.World.{last_moment};
 ghost use Rattle.dav_engine.specs.ConditionView.{locks_in};
-ghost use Rattle.dav_engine.specs.Follows.{as_is, Makes, Serves, Heeds};
+ghost use Rattle.dav_engine.specs.Follows.{as_is, FollowsOnStore, Serves, FollowsWithLocks};
 ghost use Rattle.dav_engine.specs.Method.{MethodPlan};
-ghost use Rattle.dav_engine.specs.Response.{Response, headers_in};
+ghost use Rattle.dav_engine.specs.Reply.{headers_in};
+ghost use Rattle.dav_engine.specs.Reply as said;
 ghost use Rattle.dav_server.specs.Get as spec;
 
 use bytes::Bytes;
@@ -15,7 +16,7 @@ use dav_core::errors::{DavError, DavResult, FsResult, NoMemory};
 use dav_core::fs::{DavFileSystem, DavMetaData, OpenOptions};
 use dav_core::ls::DavLockSystem;
 use dav_core::method::DavMethod;
-use dav_engine::conditional::Conditions;
+use dav_engine::conditions::Conditions;
 use dav_engine::reply::{set_header, set_length, set_tag, set_validators};
 use dav_engine::{Backend, DavRequest, Reply, ReplyBody};
 use dav_headers::names;
@@ -95,7 +96,7 @@ fn show<F: DavFileSystem>(
 ) -> DavResult<Reply>
     requires at { now ≤ last_moment }
     requires shown { found.now.modified ≤ last_moment }
-    ensures { Makes as_is (spec.show (names path.now) now found.now)
+    ensures { FollowsOnStore as_is (spec.show (names path.now) now found.now)
         (F.state fs.old) result (F.state fs.new) }
 {
     let mut file = match open(fs, alloc, path, now) {
@@ -120,7 +121,7 @@ fn show_or_tell<F: DavFileSystem>(
 ) -> DavResult<Reply>
     requires at { now ≤ last_moment }
     requires shown { found.now.modified ≤ last_moment }
-    ensures { Makes as_is (spec.show_or_tell method (names path.now) now found.now)
+    ensures { FollowsOnStore as_is (spec.show_or_tell method (names path.now) now found.now)
         (F.state fs.old) result (F.state fs.new) }
 {
     match method {
@@ -131,8 +132,8 @@ fn show_or_tell<F: DavFileSystem>(
 
 // The outcome of a request whose conditions answer a status.
 fn judged(alloc: Global, status: StatusCode, found: &DavMetaData) -> DavResult<Reply>
-    ensures { (next : MethodPlan Response) (s : StoreState)
-        → Makes as_is (spec.judged (Some status) found.now next) s result s }
+    ensures { (next : MethodPlan said.Reply) (s : StoreState)
+        → FollowsOnStore as_is (spec.unless_condition_status (Some status) found.now next) s result s }
 {
     if status.as_u16() == 304 {
         Ok(not_modified(alloc, found)?)
@@ -151,7 +152,7 @@ fn get<F: DavFileSystem, L: DavLockSystem>(
     now: u64,
 ) -> DavResult<Reply>
     requires { now ≤ last_moment }
-    ensures { Heeds (locks_in L.locks ls.entry) as_is
+    ensures { FollowsWithLocks (locks_in L.locks ls.entry) as_is
         (spec.get request.now.method conditions.now (names request.now.path) now)
         (F.state fs.old) result (F.state fs.new) }
 {

@@ -4,7 +4,7 @@ use dav_core::davpath::DavPath;
 use dav_core::element::Element;
 use dav_core::errors::NoMemory;
 use dav_core::ls::DavLockSystem;
-use dav_engine::locktree::{list_lockdiscovery, list_supportedlock};
+use dav_engine::properties::locks::{list_lockdiscovery, list_supportedlock};
 use dav_store::memls::MemLs;
 use std::alloc::Global;
 use std::process::Abort;

@@ -8,7 +8,7 @@ mod tests;
 
 use dav_core::errors::{DavError, DavResult};
 use dav_core::method::DavMethod;
-use dav_engine::handle_options::name_of;
+use dav_engine::methods::options::name_of;
 
 // The methods that are served.
 const SERVED: [DavMethod; 13] = [

@@ -25,9 +25,9 @@ pub struct Refusing<F> {
 
 impl<F> Model for Refusing<F> {
     ghost use Rattle.std.specs.Prelude.{drop};
-    ghost use Rattle.dav_server.specs.Refusals.{BehindList};
+    ghost use Rattle.dav_server.specs.Refusals.{RefusingStore};
 
-    ghost Value = { BehindList F };
+    ghost Value = { RefusingStore F };
 
     ghost use Rattle.dav_server.specs.RefusalList.{left};
 
@@ -35,7 +35,7 @@ impl<F> Model for Refusing<F> {
 }
 
 impl<F: DavFileSystem> Refusing<F> {
-    ghost use Rattle.dav_server.specs.Refusals.{behind};
+    ghost use Rattle.dav_server.specs.Refusals.{with_refusals};
     ghost use Rattle.dav_core.specs.Asking.{rest_of, next_refusal};
 
     /// A store without refusals but its own. Allocates nothing.
@@ -54,7 +54,7 @@ impl<F: DavFileSystem> Refusing<F> {
     pub fn load(&mut self, refusals: Vec<Option<FsError>>)
         ensures value { self.new ≡ record self.old { coming = refusals.items } }
         ensures state { ⟦<Refusing<F> as DavFileSystem>⟧.state self.new
-            ≡ behind refusals.items (F.state self.old.inner) }
+            ≡ with_refusals refusals.items (F.state self.old.inner) }
     {
         self.refusals = Some(refusals);
         self.at = 0;
@@ -91,9 +91,9 @@ impl<F: DavFileSystem> DavFileSystem for Refusing<F> {
 
     type Entry = F::Entry;
 
-    ghost use Rattle.dav_server.specs.Refusals.{behind};
+    ghost use Rattle.dav_server.specs.Refusals.{with_refusals};
 
-    ghost state = { λ r. behind r.coming (F.state r.inner) };
+    ghost state = { λ r. with_refusals r.coming (F.state r.inner) };
 
     ghost handle = { F.handle };
 

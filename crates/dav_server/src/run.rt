@@ -6,7 +6,7 @@ ghost use Rattle.dav_core.specs.World.{last_moment};
 ghost use Rattle.dav_server.specs.Headline.{FromAnEmptyServer};
 ghost use Rattle.dav_server.specs.Isolation.{AreLoaded};
 ghost use Rattle.dav_server.specs.Promises.{Promises};
-ghost use Rattle.dav_server.specs.Server.{AddsReply, AnswersAll, AnswersSome, StopsIn, at_turn, turns};
+ghost use Rattle.dav_server.specs.DavHandler.{AddsReply, AnswersAll, AnswersSome, StopsIn, at_turn, turns};
 
 #[cfg(test)]
 mod bodies;
@@ -34,21 +34,21 @@ use std::marker::Model;
 /// A request, and which calls of the store are refused while it is answered: one entry for each call, an error where that
 /// call is refused. Past the end of the list no call is refused.
 #[derive(Drop)]
-pub struct Step<'a> {
+pub struct Turn<'a> {
     /// The request.
     pub exchange: Exchange<'a>,
     /// The entries.
     pub refusals: Vec<Option<FsError>>,
 }
 
-impl<'a> Model for Step<'a> {
+impl<'a> Model for Turn<'a> {
     ghost use Rattle.std.specs.Prelude.{Some};
     ghost use Rattle.dav_core.specs.contracts.errors.FsError as fs_error;
     ghost use Rattle.dav_engine.specs.contracts.request.Body as request_body;
-    ghost use Rattle.dav_server.specs.Run.{Turn};
+    ghost use Rattle.dav_server.specs.Run as said;
     ghost use Rattle.dav_server.specs.ServerCode.{coded_turn};
 
-    ghost Value = { Turn };
+    ghost Value = { said.Turn };
 
     ghost coded = { coded_turn request_body.the_row.coded fs_error.the_row.coded };
 
@@ -85,6 +85,7 @@ fn answer_next<F: DavFileSystem, L: DavLockSystem>(
         handler.new.server) }
     ensures moment { exchange.now.moment ≤ last_moment }
 {
+    // Reading the moment lets the checker know that HTTP can write it.
     let _ = &exchange.moment;
     replies.reserve(1)?;
     let reply = handler.handle(alloc, exchange)?;
@@ -127,10 +128,10 @@ impl<F: DavFileSystem, L: DavLockSystem> DavHandler<F, L> {
 }
 
 // Loads the refusals of a step, and answers its request.
-fn answer_step(
+fn answer_turn(
     handler: &mut DavHandler<Refusing<MemFs>, MemLs>,
     alloc: Global,
-    step: Step<'_>,
+    step: Turn<'_>,
     replies: &mut Vec<Reply>,
 ) -> Result<(), NoMemory>
     ensures same { handler.new.server.settings ≡ handler.old.server.settings }
@@ -142,7 +143,7 @@ fn answer_step(
     ensures moment { step.entry.asked.moment ≤ last_moment }
     ensures loaded { is_some step.entry.refusals ≡ true }
 {
-    let Step { exchange, refusals } = step;
+    let Turn { exchange, refusals } = step;
     let backend = &mut handler.backend;
     backend.fs.load(refusals);
     answer_next(handler, alloc, &exchange, replies)
@@ -162,7 +163,7 @@ fn answer_step(
 pub fn run_refused(
     handler: &mut DavHandler<Refusing<MemFs>, MemLs>,
     alloc: Global,
-    steps: Vec<Step<'_>>,
+    steps: Vec<Turn<'_>>,
 ) -> Result<Vec<Reply>, RunFault>
     ensures same { handler.new.server.settings ≡ handler.old.server.settings }
     ensures run { IfOk result (λ replies.
@@ -177,7 +178,7 @@ pub fn run_refused(
 {
     let mut replies = Vec::new(alloc);
     for step in steps {
-        match answer_step(handler, alloc, step, &mut replies) {
+        match answer_turn(handler, alloc, step, &mut replies) {
             Ok(()) => {}
             Err(_) => return Err(RunFault { replies }),
         }

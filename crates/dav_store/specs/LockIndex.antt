@@ -34,15 +34,19 @@ same_kind a b = false
 abbrev pub Key : Type 0
 Key = Kind × Path
 
+-- a path and a kind of locks, as a key
 abbrev pub key_of : Kind → Path → Key
 key_of kind q = (kind, q)
 
+-- the key of the locks on a path or below it
 abbrev pub below_key : Path → Key
 below_key q = (Below, q)
 
+-- the key of the locks on a path
 abbrev pub at_key : Path → Key
 at_key q = (At, q)
 
+-- the key of the locks of infinite depth on a path
 abbrev pub deep_key : Path → Key
 deep_key q = (Deep, q)
 
@@ -82,7 +86,7 @@ HasCounts index f = IfSome index (λ t. (k : Key) → count_of t k ≡ f k)
 abbrev pub IsIndexOf : Option Seats → List Lock → Type 0
 IsIndexOf index ls = HasCounts index (λ k. tally k ls)
 
--- a lock matters to a path: it covers it or, where `deep`, is on it or below it
+-- a lock matters to a path: it covers it or, where `deep`, is on it or below it (RFC 4918, section 7)
 abbrev pub matters : Bool → Path → Lock → Bool
 matters deep p l = covers l p || (deep && is_at_or_under (names l.path) p)
 
@@ -95,6 +99,7 @@ abbrev pub weight_from : (Key → ℕ) → Bool → Path → Path → ℕ
 weight_from count deep q [] = count (end_key deep q)
 weight_from count deep q (x ∷ p) = count (deep_key q) + weight_from count deep (q ++ x ∷ []) p
 
+-- how many locks may matter to a path at most, as the counts by keys say it
 abbrev pub weight : (Key → ℕ) → Bool → Path → ℕ
 weight count deep p = weight_from count deep [] p
 

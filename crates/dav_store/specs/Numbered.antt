@@ -9,6 +9,6 @@ abbrev pub in_order : {X : Type 0} → List (ℕ × X) → List (ℕ × X)
 in_order [] = []
 in_order (e ∷ es) = insert_entry nat_cmp (in_order es) e.0 e.1
 
--- the same numbers, with clones of the values
+-- two maps have the same numbers, one with clones of the other's values
 abbrev pub AreClones : {X : Type 0} → (X → X → Type 0) → List (ℕ × X) → List (ℕ × X) → Type 0
 AreClones is_clone old new = AllZip (λ e c. (c.0 ≡ e.0) × is_clone e.1 c.1) old new

@@ -43,7 +43,7 @@ module _ {D : Type 0} where
       option_map (λ k. Some (x.parent, k))
       (name_among (children_of t x.parent) (children_of t x.parent) m)
 
-  -- the same of a number: `Some None` for the root, and `None` where there is no node
+  -- where the node of a number stands, its parent and its name there: `Some None` for the root, and `None` where there is no node
   abbrev pub seat : Tree (List ℕ) D → ℕ → Option (Option (ℕ × List ℕ))
   seat t m = if m == root_id then Some None else option_and_then (seat_of t m) (node t m)
 
@@ -65,7 +65,7 @@ module _ {D : Type 0} where
   stands t q = option_and_then (value_of t) (found t q)
 
 module _ {D : Type 0} (holds : Option D → Bool) (fits : List ℕ → Type 0) where
-  -- A child: it isn't the root, it is there and knows its parent, its name fits, and its parent may hold it.
+  -- A child: it isn't the root, it is there and knows its parent, its name fits, and its parent may hold it (RFC 4918, section 5).
   pub record IsNamedChild (t : Tree (List ℕ) D) (n : ℕ) (k : List ℕ) (m : ℕ) : Type 0 where
     pub not_root : m ≢ root_id
     pub there : IsSome (value_of t m)
@@ -74,7 +74,7 @@ module _ {D : Type 0} (holds : Option D → Bool) (fits : List ℕ → Type 0) w
     pub folder : holds (value_of t n) ≡ true
 
   -- What holds of a tree whose keys are names: what may hold children is there, no number and no name of a node's child
-  -- comes twice, no child has two names, the root may hold children, and each node is at a path.
+  -- comes twice, no child has two names, the root may hold children, and each node is at a path (RFC 4918, section 5).
   pub record IsNamedTree (t : Tree (List ℕ) D) : Type 0 where
     pub some : (o : Option D) → holds o ≡ true → IsSome o
     pub above : NoneAbove t
@@ -85,7 +85,7 @@ module _ {D : Type 0} (holds : Option D → Bool) (fits : List ℕ → Type 0) w
     pub once : (n : ℕ) (k l : List ℕ) (m : ℕ) → named t n k ≡ Some m → named t n l ≡ Some m → k ≡ l
     pub reached : (m : ℕ) → IsSome (value_of t m) → (q : Path) × (found t q ≡ Some m)
 
--- the same of files and folders: names are segments, and folders hold children
+-- whether a node may be the child of another, in a tree of files and folders: names are segments, and folders hold children
 abbrev pub IsChild : Tree (List ℕ) Seen → ℕ → List ℕ → ℕ → Type 0
 IsChild t n k m = IsNamedChild is_folder_node IsSegment t n k m
 

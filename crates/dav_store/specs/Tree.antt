@@ -134,7 +134,7 @@ module _ {K D : Type 0} where
   abbrev pub without : Tree K D → ℕ → Tree K D
   without t n = record t { nodes = remove_entry (is_at (nat_cmp n)) t.nodes }
 
-  -- the same, where there may be none to go
+  -- the tree without the node of a number, where there may be none to go
   abbrev pub without_old : Option ℕ → Tree K D → Tree K D
   without_old old t = option_map_or (λ n. without t n) old t
 
@@ -268,7 +268,7 @@ module _ {K D : Type 0} where
         (seated (unlinked_at (linked t parent k n) (parent_of t n)
         (place_of t (parent_of t n) n)) n parent)
 
-    -- the same under any key: under its own it stays
+    -- the tree with a node moved to a parent under any key: under its own it stays
     abbrev pub moved : Tree K D → ℕ → ℕ → K → Tree K D
     moved t n parent k = if is_child t parent k n then t else moved_over t n parent k
 

@@ -15,7 +15,7 @@ module _ (K D : RattleType) (key : HashMembers K.Denot) where
       (node_row K D (record { eq = key.eq }) (record { hash_input = key.hash_input }))
       D s r (λ w. record s.now { value = w })
 
-  -- the same of the node of a number among the nodes of a tree; after an error all is as it was
+  -- the value of the node of a number is lent, among the nodes of a tree; after an error all is as it was
   abbrev pub lends_value_in : {E : Type 0} → MutBor (Tree K.Denot D.Denot) → ℕ
       → Result (MutBor D.Denot) E → Fml
   lends_value_in s n r =

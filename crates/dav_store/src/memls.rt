@@ -273,32 +273,35 @@ fn element_of(element: Option<&Element>) -> Result<Option<Element>, NoMemory>
     }
 }
 
-// A lock as it is granted.
-fn new_lock(
-    alloc: Global,
-    path: &DavPath,
-    principal: Option<&str>,
-    owner: Option<&Element>,
+/// What a lock is asked for (RFC 4918, section 9.10): where, by whom, of which kind and for how long; and the token that it gets.
+#[derive(Clone, Copy)]
+struct LockRequest<'a> {
+    path: &'a DavPath,
+    principal: Option<&'a str>,
+    owner: Option<&'a Element>,
     timeout: Option<u64>,
     shared: bool,
     deep: bool,
-    token: &str,
-    now: u64,
-) -> Result<DavLock, NoMemory>
-    requires { IfSome timeout (λ seconds. now + seconds ≤ max_u64) }
-    ensures { IfOk result (λ lock. lock
-        ≡ new_lock token.now path.now (option_copied principal.entry)
-        (option_copied owner.entry) timeout shared deep now) }
+    token: &'a str,
+    moment: u64,
+}
+
+// A lock as it is granted.
+fn new_lock(alloc: Global, asked: &LockRequest<'_>) -> Result<DavLock, NoMemory>
+    requires { IfSome asked.now.timeout (λ seconds. asked.now.moment + seconds ≤ max_u64) }
+    ensures { IfOk result (λ lock. lock ≡ new_lock asked.now.token.now asked.now.path.now
+        (option_copied asked.now.principal) (option_copied asked.now.owner)
+        asked.now.timeout asked.now.shared asked.now.deep asked.now.moment) }
 {
     Ok(DavLock {
-        token: String::from_str(alloc, token)?,
-        path: path.clone()?,
-        principal: text_of(alloc, principal)?,
-        owner: element_of(owner)?,
-        timeout_at: ends_at(now, timeout),
-        timeout,
-        shared,
-        deep,
+        token: String::from_str(alloc, asked.token)?,
+        path: asked.path.clone()?,
+        principal: text_of(alloc, asked.principal)?,
+        owner: element_of(asked.owner)?,
+        timeout_at: ends_at(asked.moment, asked.timeout),
+        timeout: asked.timeout,
+        shared: asked.shared,
+        deep: asked.deep,
     })
 }
 
@@ -421,9 +424,17 @@ impl DavLockSystem for MemLs {
         if refuses(&self.locks, &self.index, path, shared, deep) {
             return Err(LockRefusal::Conflict);
         }
-        let Ok(lock) = new_lock(
-            alloc, path, principal, owner, timeout, shared, deep, token, now,
-        ) else {
+        let asked = LockRequest {
+            path,
+            principal,
+            owner,
+            timeout,
+            shared,
+            deep,
+            token,
+            moment: now,
+        };
+        let Ok(lock) = new_lock(alloc, &asked) else {
             return Err(LockRefusal::Memory);
         };
         let Ok(lock) = keep(&mut self.locks, lock, self.next) else {

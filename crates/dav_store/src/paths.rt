@@ -1,6 +1,6 @@
 //! Paths compared name by name (RFC 3986, section 3.3).
-ghost use Rattle.std.specs.Prelude.{◌≡◌, option_map, take, length, ◌≤◌};
-ghost use Rattle.dav_core.specs.Path.{names, name_cmp, path_cmp, is_same_path, is_at_or_under, is_under, is_root, rest_after};
+ghost use Rattle.std.specs.Prelude.{◌≡◌, take, length, ◌≤◌};
+ghost use Rattle.dav_core.specs.Path.{names, name_cmp, path_cmp, is_same_path};
 ghost use Rattle.dav_core.specs.PathRef.{names_left};
 
 use dav_core::davpath::{DavPath, Segments};
@@ -22,24 +22,6 @@ fn compare(mut a: Segments<'_>, mut b: Segments<'_>) -> Ordering
                 other => other,
             },
         },
-    }
-}
-
-// The segments that follow those of the front; `None` where the path doesn't begin with the front.
-fn rest_after<'a>(mut front: Segments<'_>, mut path: Segments<'a>) -> Option<Segments<'a>>
-    ensures { option_map names_left result
-        ≡ rest_after (names_left front.entry) (names_left path.entry) }
-{
-    let Some(x) = front.next() else {
-        return Some(path);
-    };
-    let Some(y) = path.next() else {
-        return None;
-    };
-    match x.cmp(&y) {
-        Ordering::Equal => rest_after(front, path),
-        Ordering::Less => None,
-        Ordering::Greater => None,
     }
 }
 
@@ -88,33 +70,9 @@ pub fn count(path: &DavPath) -> usize
     count_left(path.segments(), path.as_bytes().len())
 }
 
-/// Whether this is the root.
-pub fn is_root(path: &DavPath) -> bool
-    ensures { result ≡ is_root (names path.now) }
-{
-    path.segments().next().is_none()
-}
-
 /// Whether both are the same path.
 pub fn is_same(a: &DavPath, b: &DavPath) -> bool
     ensures { result ≡ is_same_path (names a.now) (names b.now) }
 {
     compare(a.segments(), b.segments()).is_eq()
-}
-
-/// Whether the first path is the second one, or under it.
-pub fn is_at_or_under(path: &DavPath, front: &DavPath) -> bool
-    ensures { result ≡ is_at_or_under (names path.now) (names front.now) }
-{
-    rest_after(front.segments(), path.segments()).is_some()
-}
-
-/// Whether the first path is under the second one.
-pub fn is_under(path: &DavPath, front: &DavPath) -> bool
-    ensures { result ≡ is_under (names path.now) (names front.now) }
-{
-    match rest_after(front.segments(), path.segments()) {
-        Some(mut rest) => rest.next().is_some(),
-        None => false,
-    }
 }

@@ -9,7 +9,7 @@ use Rattle.dav_xml.specs.Read.{◌>>=◌}
 use Rattle.dav_xml.specs.Legal.{IsLegalAttribute}
 use Rattle.dav_xml.specs.Scopes.{Scope}
 use Rattle.dav_xml.specs.Namespaces.{has_attribute, with_declared, within, kept_after}
-use Rattle.dav_xml.specs.Written.{declared_prefix, declares, with_prefix, opened, or_empty, others_after, is_in_scope, placed}
+use Rattle.dav_xml.specs.Written.{declared_prefix, declares, with_prefix, scope_below, or_empty, others_after, is_in_scope, placed}
 use Rattle.dav_xml.specs.Expanded.{IsDeclaration, AreDeclarations}
 use Rattle.dav_xml.proofs.Escapes.{by_test}
 use Rattle.dav_xml.proofs.Nested.{same_bytes}
@@ -20,12 +20,12 @@ use Rattle.dav_xml.proofs.PlacedAgain.{found_there, IsAgain, IsOwn, opened_more,
 prefix_of : (a : List ℕ × List ℕ) (d : IsDeclaration a) → declared_prefix a.0 ≡ Some d.prefix
 prefix_of a d = ap declared_prefix d.named ∙ prefix_declares d.prefix
 
-within_all : (ds tail : List (List ℕ × List ℕ)) (scope : Scope) → AllByRecursion IsDeclaration ds → within scope (ds ++ tail) ≡ within (opened scope ds) tail
+within_all : (ds tail : List (List ℕ × List ℕ)) (scope : Scope) → AllByRecursion IsDeclaration ds → within scope (ds ++ tail) ≡ within (scope_below scope ds) tail
 within_all [] tail scope h = refl
 within_all (a ∷ ds) tail scope h =
     ap (λ (r : Result (Option (List ℕ × List ℕ)) Fault). (r >>= λ d. Ok (with_declared scope d)) >>= λ inner. within inner (ds ++ tail)) h.0.declared
     ∙ within_all ds tail (scope ++ (h.0.prefix, a.1) ∷ []) h.1
-    ∙ ap (λ (o : Option (List ℕ)). within (opened (with_prefix scope a.1 o) ds) tail) (sym (prefix_of a h.0))
+    ∙ ap (λ (o : Option (List ℕ)). within (scope_below (with_prefix scope a.1 o) ds) tail) (sym (prefix_of a h.0))
 
 none_kept_of : (scope : Scope) (own : Option (List ℕ)) (ds tail : List (List ℕ × List ℕ)) → AllByRecursion IsDeclaration ds → kept_after scope own ([], []) (ds ++ tail) ≡ kept_after scope own ([], []) tail
 none_kept_of scope own [] tail h = refl
@@ -53,7 +53,7 @@ module _ (scope : Scope) (prefix found : Option (List ℕ)) (ds : List (List ℕ
   uri = or_empty found
 
   abbrev inner : Scope
-  inner = opened scope ds
+  inner = scope_below scope ds
 
   as_they_are : is_in_scope inner o uri ≡ true → IsAgain scope prefix found [] [] (ds, inner)
   as_they_are e = record {

@@ -30,3 +30,4 @@ pub mod CleanReferences
 pub mod CleanTokens
 pub mod NestedLegal
 pub mod ReadLegal
+pub mod SentTrees

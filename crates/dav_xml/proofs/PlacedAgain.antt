@@ -8,7 +8,7 @@ use Rattle.dav_xml.specs.Read.{◌>>=◌}
 use Rattle.dav_xml.specs.Legal.{IsLegalAttribute}
 use Rattle.dav_xml.specs.Scopes.{Scope, uri_of, declared_by}
 use Rattle.dav_xml.specs.Namespaces.{uri_in, namespace_of, declaring, has_attribute, are_distinct, with_declared, within, Expanded, kept_after}
-use Rattle.dav_xml.specs.Written.{declared_prefix, declares, with_prefix, opened, or_empty, others_after, has_uri, is_in_scope, placed}
+use Rattle.dav_xml.specs.Written.{declared_prefix, declares, with_prefix, scope_below, or_empty, others_after, has_uri, is_in_scope, placed}
 use Rattle.dav_xml.specs.Expanded.{AreKept}
 use Rattle.dav_xml.proofs.Escapes.{by_test}
 use Rattle.dav_xml.proofs.Nested.{same_bytes}
@@ -23,41 +23,41 @@ some_same p q e = cc
 
 -- ---- scopes
 
-pub within_more : (s : Scope) (own : Option (List ℕ)) (bs tail : List (List ℕ × List ℕ)) (scope : Scope) → AllByRecursion (IsGood s own) bs → within scope (bs ++ tail) ≡ within (opened scope bs) tail
+pub within_more : (s : Scope) (own : Option (List ℕ)) (bs tail : List (List ℕ × List ℕ)) (scope : Scope) → AllByRecursion (IsGood s own) bs → within scope (bs ++ tail) ≡ within (scope_below scope bs) tail
 within_more s own [] tail scope h = refl
 within_more s own (a ∷ bs) tail scope h = one (λ next. within_more s own bs tail next h.1) h.0
   where
-    one : ((next : Scope) → within next (bs ++ tail) ≡ within (opened next bs) tail) → IsGood s own a → within scope ((a ∷ bs) ++ tail) ≡ within (opened scope (a ∷ bs)) tail
+    one : ((next : Scope) → within next (bs ++ tail) ≡ within (scope_below next bs) tail) → IsGood s own a → within scope ((a ∷ bs) ++ tail) ≡ within (scope_below scope (a ∷ bs)) tail
     one more (plainly e n) =
         ap (λ (r : Result (Option (List ℕ × List ℕ)) Fault). (r >>= λ d. Ok (with_declared scope d)) >>= λ inner. within inner (bs ++ tail)) e ∙ more scope
-        ∙ ap (λ (o : Option (List ℕ)). within (opened (with_prefix scope a.1 o) bs) tail) (sym n)
+        ∙ ap (λ (o : Option (List ℕ)). within (scope_below (with_prefix scope a.1 o) bs) tail) (sym n)
     one more (declares_one q uri is other here declares) =
         ap (λ (r : Result (Option (List ℕ × List ℕ)) Fault). (r >>= λ d. Ok (with_declared scope d)) >>= λ inner. within inner (bs ++ tail)) (ap declared_by is ∙ declares) ∙ more (scope ++ (q, uri) ∷ [])
-        ∙ ap (λ (o : Option (List ℕ)). within (opened (with_prefix scope uri o) bs) tail) (sym (prefix_declares q))
-        ∙ ap (λ (b : List ℕ × List ℕ). within (opened (with_prefix scope b.1 (declared_prefix b.0)) bs) tail) (sym is)
+        ∙ ap (λ (o : Option (List ℕ)). within (scope_below (with_prefix scope uri o) bs) tail) (sym (prefix_declares q))
+        ∙ ap (λ (b : List ℕ × List ℕ). within (scope_below (with_prefix scope b.1 (declared_prefix b.0)) bs) tail) (sym is)
 
-pub opened_more : (bs : List (List ℕ × List ℕ)) (scope : Scope) (o uri : List ℕ) → opened scope (bs ++ (xmlns_name o, uri) ∷ []) ≡ opened scope bs ++ (o, uri) ∷ []
+pub opened_more : (bs : List (List ℕ × List ℕ)) (scope : Scope) (o uri : List ℕ) → scope_below scope (bs ++ (xmlns_name o, uri) ∷ []) ≡ scope_below scope bs ++ (o, uri) ∷ []
 opened_more [] scope o uri = ap (λ (p : Option (List ℕ)). with_prefix scope uri p) (prefix_declares o)
 opened_more (a ∷ bs) scope o uri = opened_more bs (with_prefix scope a.1 (declared_prefix a.0)) o uri
 
 -- where a prefix is declared by the attributes, or was so before, it has the namespace that it had
 settled : (s : Scope) (own : Option (List ℕ)) (bs : List (List ℕ × List ℕ)) (q : List ℕ) (scope : Scope) → AllByRecursion (IsGood s own) bs
-    → (has_attribute (declaring q) bs ≡ true) ⊎ (uri_of q scope ≡ uri_of q s) → uri_of q (opened scope bs) ≡ uri_of q s
+    → (has_attribute (declaring q) bs ≡ true) ⊎ (uri_of q scope ≡ uri_of q s) → uri_of q (scope_below scope bs) ≡ uri_of q s
 settled s own [] q scope h (inl e) = absurd cc
 settled s own [] q scope h (inr e) = e
 settled s own (a ∷ bs) q scope h either = one (λ next before. settled s own bs q next h.1 before) h.0
   where
-    one : ((next : Scope) → (has_attribute (declaring q) bs ≡ true) ⊎ (uri_of q next ≡ uri_of q s) → uri_of q (opened next bs) ≡ uri_of q s) → IsGood s own a → uri_of q (opened scope (a ∷ bs)) ≡ uri_of q s
+    one : ((next : Scope) → (has_attribute (declaring q) bs ≡ true) ⊎ (uri_of q next ≡ uri_of q s) → uri_of q (scope_below next bs) ≡ uri_of q s) → IsGood s own a → uri_of q (scope_below scope (a ∷ bs)) ≡ uri_of q s
     one more (plainly e n) =
-        ap (λ (o : Option (List ℕ)). uri_of q (opened (with_prefix scope a.1 o) bs)) n ∙ more scope (passed either)
+        ap (λ (o : Option (List ℕ)). uri_of q (scope_below (with_prefix scope a.1 o) bs)) n ∙ more scope (passed either)
       where
         passed : (has_attribute (declaring q) (a ∷ bs) ≡ true) ⊎ (uri_of q scope ≡ uri_of q s) → (has_attribute (declaring q) bs ≡ true) ⊎ (uri_of q scope ≡ uri_of q s)
         passed (inr k) = inr k
         passed (inl k) = inl (by_test (bytes_eq a.0 (declaring q)) (λ t. (t || has_attribute (declaring q) bs) ≡ true → has_attribute (declaring q) bs ≡ true)
             (λ is j. let both : None ≡ Some q = sym n ∙ ap declared_prefix (bytes_same a.0 (declaring q) is) in absurd cc) (λ other j. j) k)
     one more (declares_one r uri is other here declares) =
-        ap (λ (b : List ℕ × List ℕ). uri_of q (opened (with_prefix scope b.1 (declared_prefix b.0)) bs)) is
-        ∙ ap (λ (o : Option (List ℕ)). uri_of q (opened (with_prefix scope uri o) bs)) (prefix_declares r)
+        ap (λ (b : List ℕ × List ℕ). uri_of q (scope_below (with_prefix scope b.1 (declared_prefix b.0)) bs)) is
+        ∙ ap (λ (o : Option (List ℕ)). uri_of q (scope_below (with_prefix scope uri o) bs)) (prefix_declares r)
         ∙ more (scope ++ (r, uri) ∷ []) (by_test (bytes_eq r q) (λ t. bytes_eq r q ≡ t → (has_attribute (declaring q) bs ≡ true) ⊎ (uri_of q (scope ++ (r, uri) ∷ []) ≡ uri_of q s))
         (λ e k. inr (subst (λ (x : List ℕ). uri_of x (scope ++ (r, uri) ∷ []) ≡ uri_of x s) (bytes_same r q e) (uri_here r uri scope ∙ sym here)))
         (λ e k. passed e either) refl)
@@ -101,7 +101,7 @@ all_more P (b ∷ bs) d h one = (h.0, all_more P bs d h.1 one)
 
 pub record IsAgain (scope : Scope) (prefix namespace : Option (List ℕ)) (bs : List (List ℕ × List ℕ)) (names : List Expanded) (place : List (List ℕ × List ℕ) × Scope) : Type 0 where
   pub declared : within scope place.0 ≡ Ok place.1
-  pub opens : opened scope place.0 ≡ place.1
+  pub opens : scope_below scope place.0 ≡ place.1
   pub distinct : are_distinct place.0 ≡ true
   pub named : namespace_of place.1 prefix ≡ Ok namespace
   pub kept : kept_after place.1 prefix ([], []) place.0 ≡ Ok (bs, names)
@@ -116,7 +116,7 @@ pub record IsOwn (s : Scope) (prefix namespace : Option (List ℕ)) (uri : List 
 
 module _ (scope : Scope) (prefix namespace : Option (List ℕ)) (bs : List (List ℕ × List ℕ)) (k : AreKept prefix namespace bs) (uri : List ℕ) (own : IsOwn k.scope prefix namespace uri) where
   abbrev inner : Scope
-  inner = opened scope bs
+  inner = scope_below scope bs
 
   abbrev goes : GoesOn k.scope prefix k.given [] [] bs k.names
   goes = goes_on k.scope prefix bs k.names k.declarable k.given [] [] k.kept

@@ -12,7 +12,7 @@ use Rattle.dav_xml.specs.Scopes.{Scope, xml_uri, uri_of, is_bound, may_declare}
 use Rattle.dav_xml.specs.Legal.{IsLegal, HasLegal, HaveLegal}
 use Rattle.dav_xml.specs.Flat.{IsRaw, AreRaw}
 use Rattle.dav_xml.specs.Namespaces.{qualified, default_of, declared_uri, uri_in, namespace_of, are_distinct, within, few, inside, Expanded, Kept, kept_after, expanded, expanded_tree, expanded_after, document}
-use Rattle.dav_xml.specs.Written.{opened, or_empty, wanted, name_with, has_uri, placed, place_of, written, written_after, document_of}
+use Rattle.dav_xml.specs.Written.{scope_below, or_empty, wanted, name_with, has_uri, placed, place_of, written, written_after, document_of}
 use Rattle.dav_xml.specs.Expanded.{IsPlain, IsDeclarable, IsExpandedName, AreKept, IsExpanded, AreExpanded, IsFew, AreFew, ReadAs, all_kept, none_kept, ElementMeans, Means, AllMean}
 use Rattle.dav_xml.proofs.Escapes.{by_test}
 use Rattle.dav_xml.proofs.ElementLemmas.{trees_tree_list}
@@ -41,7 +41,7 @@ own_none s = record {
   own_too = λ other e p is. absurd cc;
 }
 
-some_bytes : (b : ℕ) (bs : List ℕ) → (length (b ∷ bs) == 0) ≡ true → ⊥
+pub some_bytes : (b : ℕ) (bs : List ℕ) → (length (b ∷ bs) == 0) ≡ true → ⊥
 some_bytes b bs e = let zero_long : length (b ∷ bs) ≡ 0 = eqb-true (length (b ∷ bs)) 0 e in absurd (omega arith)
 
 default_named : (o : Option (List ℕ)) (b : ℕ) (uri : List ℕ) → has_uri o (b ∷ uri) ≡ true → default_of o ≡ Some (b ∷ uri)
@@ -120,7 +120,7 @@ own_of (Some []) (Some uri) h = absurd (nonempty [] [] h.0 refl)
 own_of (Some (b ∷ p)) (Some uri) h = own_prefixed ((b ∷ p, uri) ∷ []) (b ∷ p) uri h.0 h.1.0 h.1.1 (named_there b p uri h.1.0)
 
 kept_again : (scope : Scope) (prefix namespace : Option (List ℕ)) (bs : List (List ℕ × List ℕ)) (k : AreKept prefix namespace bs) → IsExpandedName prefix namespace
-    → IsAgain scope prefix namespace bs k.names (placed (opened scope bs) (or_empty prefix) (or_empty namespace) bs)
+    → IsAgain scope prefix namespace bs k.names (placed (scope_below scope bs) (or_empty prefix) (or_empty namespace) bs)
 kept_again scope None None bs k h = placed_again scope None None bs k [] (own_none k.scope)
 kept_again scope None (Some []) bs k h = absurd h
 kept_again scope None (Some (b ∷ uri)) bs k h = placed_again scope None (Some (b ∷ uri)) bs k (b ∷ uri) (own_default k.scope b uri h)
@@ -132,18 +132,18 @@ pub record PlaceAgain (scope : Scope) (prefix found : Option (List ℕ)) (meant 
   pub again : IsAgain scope prefix found meant names place
 
 place_again : (scope : Scope) (prefix found : Option (List ℕ)) (attributes meant : List (List ℕ × List ℕ)) → ReadAs scope prefix found attributes meant → IsExpandedName prefix found
-    → PlaceAgain scope prefix found meant (placed (opened scope attributes) (or_empty prefix) (or_empty found) attributes)
+    → PlaceAgain scope prefix found meant (placed (scope_below scope attributes) (or_empty prefix) (or_empty found) attributes)
 place_again scope prefix found attributes meant (all_kept k e) h = record {
   names = k.names;
-  again = subst (λ (xs : List (List ℕ × List ℕ)). IsAgain scope prefix found xs k.names (placed (opened scope attributes) (or_empty prefix) (or_empty found) attributes)) (sym e) (kept_again scope prefix found attributes k h);
+  again = subst (λ (xs : List (List ℕ × List ℕ)). IsAgain scope prefix found xs k.names (placed (scope_below scope attributes) (or_empty prefix) (or_empty found) attributes)) (sym e) (kept_again scope prefix found attributes k h);
 }
 place_again scope prefix found attributes meant (none_kept d e) h = record {
   names = [];
-  again = subst (λ (xs : List (List ℕ × List ℕ)). IsAgain scope prefix found xs [] (placed (opened scope attributes) (or_empty prefix) (or_empty found) attributes)) (sym e)
+  again = subst (λ (xs : List (List ℕ × List ℕ)). IsAgain scope prefix found xs [] (placed (scope_below scope attributes) (or_empty prefix) (or_empty found) attributes)) (sym e)
       (dropped_again scope prefix found attributes d (scope_of prefix found) (own_of prefix found h));
 }
 
-prefix_plain : (prefix namespace : Option (List ℕ)) → IsExpandedName prefix namespace → (p : List ℕ) → prefix ≡ Some p → IsPlain p
+pub prefix_plain : (prefix namespace : Option (List ℕ)) → IsExpandedName prefix namespace → (p : List ℕ) → prefix ≡ Some p → IsPlain p
 prefix_plain None namespace h p e = absurd cc
 prefix_plain (Some q) None h p e = absurd h
 prefix_plain (Some q) (Some uri) h p e = let same : q ≡ p = cc in subst IsPlain same h.0
@@ -201,7 +201,7 @@ element_again : (n : ℕ) (scope : Scope) (name : List ℕ) (prefix namespace fo
 element_again n scope name prefix namespace found attributes meant children others m inner =
     let place = place_of scope (or_empty prefix) namespace attributes in
     let raw_name = name_with (or_empty prefix) name in
-    let is : placed (opened scope attributes) (or_empty prefix) (or_empty found) attributes ≡ place = ap (λ (uri : List ℕ). placed (opened scope attributes) (or_empty prefix) uri attributes) (sym m.wants) in
+    let is : placed (scope_below scope attributes) (or_empty prefix) (or_empty found) attributes ≡ place = ap (λ (uri : List ℕ). placed (scope_below scope attributes) (or_empty prefix) uri attributes) (sym m.wants) in
     let there : PlaceAgain scope prefix found meant place = subst (PlaceAgain scope prefix found meant) is (place_again scope prefix found attributes meant m.read_as m.expanded) in
     let hp = prefix_plain prefix found m.expanded in
     let same : trees (written_after place.1 [] children) ≡ all_written place.1 children = ap trees (written_all place.1 [] children) ∙ trees_tree_list (all_written place.1 children) in
@@ -268,9 +268,9 @@ wants_itself scope None (Some uri) h = refl
 wants_itself scope (Some p) None h = absurd h
 wants_itself scope (Some p) (Some uri) h = refl
 
-itself : (scope : Scope) (name : List ℕ) (prefix namespace : Option (List ℕ)) (bs : List (List ℕ × List ℕ)) → IsPlain name → IsExpandedName prefix namespace → AreKept prefix namespace bs
+pub itself : (scope : Scope) (name : List ℕ) (prefix namespace : Option (List ℕ)) (bs : List (List ℕ × List ℕ)) → IsPlain name → IsExpandedName prefix namespace → AreKept prefix namespace bs
     → ElementMeans scope name prefix namespace bs namespace bs
-itself scope name prefix namespace bs h hn k = record { plain = h; expanded = hn; wants = wants_itself (opened scope bs) prefix namespace hn; read_as = all_kept k refl }
+itself scope name prefix namespace bs h hn k = record { plain = h; expanded = hn; wants = wants_itself (scope_below scope bs) prefix namespace hn; read_as = all_kept k refl }
 
 all_themselves : (n : ℕ) (us : ElementTrees) (texted : Bool) (scope : Scope) → AreExpanded n texted us → AllMean n texted scope us us
 all_themselves n no_trees texted scope h = tt

@@ -6,7 +6,7 @@ use Rattle.dav_xml.specs.Names.{plain_name}
 use Rattle.dav_xml.specs.Legal.{IsLegal, IsLegalAttribute}
 use Rattle.dav_xml.specs.Scopes.{Scope, declared_by}
 use Rattle.dav_xml.specs.Namespaces.{Expanded, namespace_of, has_attribute, are_distinct, kept_after}
-use Rattle.dav_xml.specs.Written.{opened, or_empty, wanted, is_in_scope, place_of}
+use Rattle.dav_xml.specs.Written.{scope_below, or_empty, wanted, is_in_scope, place_of}
 
 -- a name without a colon ([4] NCName)
 abbrev pub IsPlain : List ℕ → Type 0
@@ -36,7 +36,7 @@ pub record AreKept (prefix namespace : Option (List ℕ)) (attributes : List (Li
   pub legal : AllByRecursion IsLegalAttribute attributes
 
 abbrev mutual
-  -- An element of at most n levels with expanded names, as it is read.
+  -- An element of at most n levels with expanded names, as it is read (XML 1.0, 2.2; Namespaces in XML 1.0, 3 to 6).
   pub IsExpanded : ℕ → ElementTree → Type 0
   IsExpanded zero (element name prefix namespace attributes children) = ⊥
   IsExpanded (suc n) (element name prefix namespace attributes children) =
@@ -55,7 +55,7 @@ abbrev mutual
   -- A tree of names as they are written, where each element has at most 256 attributes and is within at most 256 declarations.
   pub IsFew : Scope → ElementTree → Type 0
   IsFew scope (element name prefix namespace attributes children) =
-      (length attributes ≤ 256) × ((length (opened scope attributes) ≤ 256) × AreFew (opened scope attributes) children)
+      (length attributes ≤ 256) × ((length (scope_below scope attributes) ≤ 256) × AreFew (scope_below scope attributes) children)
   IsFew scope (text bytes) = Unit {0}
 
   pub AreFew : Scope → ElementTrees → Type 0
@@ -75,7 +75,7 @@ pub record IsDeclaration (a : List ℕ × List ℕ) : Type 0 where
 pub record AreDeclarations (scope : Scope) (prefix namespace : Option (List ℕ)) (attributes : List (List ℕ × List ℕ)) : Type 0 where
   pub all : AllByRecursion IsDeclaration attributes
   pub distinct : are_distinct attributes ≡ true
-  pub own : (has_attribute (xmlns_name (or_empty prefix)) attributes ≡ false) ⊎ (is_in_scope (opened scope attributes) (or_empty prefix) (or_empty namespace) ≡ true)
+  pub own : (has_attribute (xmlns_name (or_empty prefix)) attributes ≡ false) ⊎ (is_in_scope (scope_below scope attributes) (or_empty prefix) (or_empty namespace) ≡ true)
 
 -- Attributes that are sent, and those that are read of them: all of them, or none of declarations alone.
 pub data ReadAs (scope : Scope) (prefix namespace : Option (List ℕ)) (attributes meant : List (List ℕ × List ℕ)) : Type 0 where
@@ -86,12 +86,12 @@ pub data ReadAs (scope : Scope) (prefix namespace : Option (List ℕ)) (attribut
 pub record ElementMeans (scope : Scope) (name : List ℕ) (prefix namespace : Option (List ℕ)) (attributes : List (List ℕ × List ℕ)) (found : Option (List ℕ)) (meant : List (List ℕ × List ℕ)) : Type 0 where
   pub plain : IsPlain name
   pub expanded : IsExpandedName prefix found
-  pub wants : wanted (opened scope attributes) (or_empty prefix) namespace ≡ or_empty found
+  pub wants : wanted (scope_below scope attributes) (or_empty prefix) namespace ≡ or_empty found
   pub read_as : ReadAs scope prefix found attributes meant
 
 abbrev mutual
   -- A tree of at most n levels that is sent within a scope, and the tree that is read of it: of the same names, prefixes and texts, with the
-  -- namespaces that the prefixes have.
+  -- namespaces that the prefixes have (Namespaces in XML 1.0, 3 to 6).
   pub Means : ℕ → Scope → ElementTree → ElementTree → Type 0
   Means zero scope (element name prefix namespace attributes children) u = ⊥
   Means (suc n) scope (element name prefix namespace attributes children) (element name1 prefix1 found meant children1) =
@@ -100,7 +100,7 @@ abbrev mutual
   Means (suc n) scope (element name prefix namespace attributes children) (text bytes) = ⊥
   Means n scope (text bytes) u = ⊥
 
-  -- Children, where a text may have come last. No text is empty, and none follows another.
+  -- Children, where a text may have come last. No text is empty, and none follows another (Namespaces in XML 1.0, 3 to 6).
   pub AllMean : ℕ → Bool → Scope → ElementTrees → ElementTrees → Type 0
   AllMean n texted scope no_trees no_trees = Unit {0}
   AllMean n texted scope no_trees (tree_then u us) = ⊥

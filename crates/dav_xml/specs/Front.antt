@@ -80,7 +80,7 @@ declared_behind whole (b ∷ bs) = if is_space b then declaration_at (b ∷ bs) 
 unfoldable pub after_declaration : List ℕ → Result (List ℕ) Fault
 after_declaration bytes = first_or (after_text (codes "<?xml") bytes) (declared_behind bytes) (Ok bytes)
 
--- The tree of a document, with names as they are written.
+-- The tree of a document, with names as they are written (XML 1.0, 2.1, 2.2, 2.8, 2.11).
 unfoldable pub raw_document : List ℕ → Result ElementTree Fault
 raw_document bytes = do
   rest ← if nat_lt 0x10_0000 (length bytes) then Err TooLarge else if are_chars bytes then after_declaration (after_mark (lines false bytes)) else Err Malformed

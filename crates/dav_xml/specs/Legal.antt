@@ -22,7 +22,7 @@ pub record IsLegalAttribute (a : List ℕ × List ℕ) : Type 0 where
   pub value : IsLegal a.1
 
 abbrev mutual
-  -- A tree of such names, values and texts.
+  -- A tree of such names, values and texts (XML 1.0, 2.2 and 2.3).
   pub HasLegal : ElementTree → Type 0
   HasLegal (element name prefix namespace attributes children) = IsLegalName name × (AllByRecursion IsLegalAttribute attributes × HaveLegal children)
   HasLegal (text bytes) = IsLegal bytes
@@ -36,7 +36,7 @@ IsLegalIfAny None = Unit {0}
 IsLegalIfAny (Some bytes) = IsLegal bytes
 
 abbrev mutual
-  -- A tree whose namespaces, values and texts are of legal characters.
+  -- A tree whose namespaces, values and texts are of legal characters (XML 1.0, 2.2 and 2.3).
   pub HasLegalTexts : ElementTree → Type 0
   HasLegalTexts (element name prefix namespace attributes children) = IsLegalIfAny namespace × (AllByRecursion (λ a. IsLegal a.1) attributes × HaveLegalTexts children)
   HasLegalTexts (text bytes) = IsLegal bytes

@@ -17,3 +17,4 @@ pub mod Written
 pub mod PlaceView
 pub mod Legal
 pub mod Expanded
+pub mod Sendable

@@ -25,7 +25,7 @@ abbrev pub space_at : List ℕ → Result (List ℕ) Fault
 space_at [] = Err Malformed
 space_at (b ∷ bs) = if is_space b then Ok (after_space (b ∷ bs)) else Err Malformed
 
--- that byte
+-- a text begins with this byte: what is behind it
 abbrev pub byte_at : ℕ → List ℕ → Result (List ℕ) Fault
 byte_at wanted [] = Err Malformed
 byte_at wanted (b ∷ bs) = if b == wanted then Ok bs else Err Malformed
@@ -136,6 +136,6 @@ abbrev pub all_of : {X : Type 0} → List X × List ℕ → Result (List X) Faul
 all_of (xs, []) = Ok xs
 all_of (xs, b ∷ rest) = Err Malformed
 
--- all pieces of a text
+-- all pieces of a text (XML 1.0, 2.4 to 2.7, 3.1, 4.1)
 unfoldable pub tokens_of : List ℕ → Result (List Markup) Fault
 tokens_of bytes = all_of (many token_at (length bytes) bytes)

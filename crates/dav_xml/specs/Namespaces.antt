@@ -115,7 +115,7 @@ kept_unless scope own kept a None = qualified a.0 >>= kept_as scope own kept a
 abbrev pub kept_step : Scope → Option (List ℕ) → Kept → List ℕ × List ℕ → Result Kept Fault
 kept_step scope own kept a = declared_by a >>= kept_unless scope own kept a
 
--- those that are kept behind those that were kept before
+-- the attributes that are kept, behind those that were kept before
 abbrev pub kept_after : Scope → Option (List ℕ) → Kept → List (List ℕ × List ℕ) → Result Kept Fault
 kept_after scope own kept [] = Ok kept
 kept_after scope own kept (a ∷ others) = kept_step scope own kept a >>= λ more. kept_after scope own more others

@@ -14,7 +14,7 @@ Open = List ElementTree × Option ElementTree
 abbrev pub raw : List ℕ → List (List ℕ × List ℕ) → ElementTree
 raw name attributes = element name None None attributes no_trees
 
--- There is one root, and at most 64 elements are open.
+-- An element is opened: there is one root, and at most 64 elements are open.
 abbrev pub opened : ElementTree → Open → Result Open Fault
 opened e (es, root) = if length es == 0 && is_some root then Err Malformed else if nat_le 64 (length es) then Err TooDeep else Ok (e ∷ es, root)
 

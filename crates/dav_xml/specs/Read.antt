@@ -15,6 +15,7 @@ abbrev pub Fails : {Y : Type 0} → XmlError → Result Y Fault → Type 0
 Fails errors.Memory read = Unit {0}
 Fails (errors.Fault f) read = read ≡ Err f
 
+-- What a call returned, seen by a view, is what a function gives: `Ok` where it gives something, that very fault where it gives one; of a call that ran out of memory it says nothing.
 abbrev pub Gives : {X Y : Type 0} → (X → Y) → Result X XmlError → Result Y Fault → Type 0
 Gives view (Ok x) read = read ≡ Ok (view x)
 Gives view (Err e) read = Fails e read

@@ -71,6 +71,6 @@ resolved_in attribute (Some name) (b ∷ bs) = if b == 59 then (reference_of nam
 abbrev pub resolved : Bool → List ℕ → Result (List ℕ) Fault
 resolved attribute bytes = resolved_in attribute None bytes
 
--- those bytes, if they are UTF-8
+-- the bytes, if they are UTF-8
 abbrev pub utf8 : List ℕ → Result (List ℕ) Fault
 utf8 bytes = if utf8_valid_len bytes == length bytes then Ok bytes else Err Malformed

@@ -9,7 +9,7 @@ use Rattle.dav_xml.specs.References.{utf8}
 use Rattle.dav_xml.specs.Markup.{first_or}
 use Rattle.dav_xml.specs.Names.{is_plain}
 
--- prefixes with their namespaces, the innermost last; an empty prefix is that of names without one
+-- prefixes with their namespaces, the innermost last; an empty prefix is that of names without one (Namespaces in XML 1.0, 3 and 6)
 abbrev pub Scope : Type 0
 Scope = List (List ℕ × List ℕ)
 
@@ -25,6 +25,7 @@ abbrev pub uri_after : Option (List ℕ) → List ℕ → Scope → Option (List
 uri_after found prefix [] = found
 uri_after found prefix (d ∷ ds) = uri_after (if bytes_eq d.0 prefix then Some d.1 else found) prefix ds
 
+-- the namespace of a prefix, if it has one: the last that is declared (Namespaces in XML 1.0, sections 3 and 6)
 abbrev pub uri_of : List ℕ → Scope → Option (List ℕ)
 uri_of prefix scope = uri_after None prefix scope
 

@@ -36,6 +36,7 @@ spelling (closes name) = 60 ∷ 47 ∷ (name ++ 62 ∷ [])
 spelling (content is_blank bytes) = escaped false bytes
 spelling nothing = []
 
+-- how pieces of markup are written, one behind the other (XML 1.0, sections 2.3, 2.4 and 3.1)
 unfoldable pub spellings : List Markup → List ℕ
 spellings [] = []
 spellings (t ∷ ts) = spelling t ++ spellings ts
@@ -79,6 +80,7 @@ IsSpelled (content is_blank []) ts = ⊥
 IsSpelled (content is_blank (b ∷ bs)) ts = IsText is_blank (b ∷ bs) ts
 IsSpelled nothing ts = ⊥
 
+-- Names are names, texts and values are UTF-8, and no text is empty or behind another, so that the pieces are read again (XML 1.0, 2.3, 2.4, 3.1).
 abbrev pub AreSpelled : List Markup → Type 0
 AreSpelled [] = Unit {0}
 AreSpelled (t ∷ ts) = IsSpelled t ts × AreSpelled ts

@@ -19,9 +19,9 @@ abbrev pub with_prefix : Scope → List ℕ → Option (List ℕ) → Scope
 with_prefix scope uri None = scope
 with_prefix scope uri (Some prefix) = scope ++ (prefix, uri) ∷ []
 
-abbrev pub opened : Scope → List (List ℕ × List ℕ) → Scope
-opened scope [] = scope
-opened scope (a ∷ others) = opened (with_prefix scope a.1 (declared_prefix a.0)) others
+abbrev pub scope_below : Scope → List (List ℕ × List ℕ) → Scope
+scope_below scope [] = scope
+scope_below scope (a ∷ others) = scope_below (with_prefix scope a.1 (declared_prefix a.0)) others
 
 -- no prefix is an empty one, and no namespace too
 abbrev pub or_empty : Option (List ℕ) → List ℕ
@@ -77,10 +77,10 @@ placed scope prefix uri attributes = if is_in_scope scope prefix uri then (attri
 
 abbrev pub place_of : Scope → List ℕ → Option (List ℕ) → List (List ℕ × List ℕ) → List (List ℕ × List ℕ) × Scope
 place_of scope prefix namespace attributes =
-    let inner = opened scope attributes in placed inner prefix (wanted inner prefix namespace) attributes
+    let inner = scope_below scope attributes in placed inner prefix (wanted inner prefix namespace) attributes
 
 abbrev mutual
-  -- The tree of names as they are written.
+  -- The tree of names as they are written (Namespaces in XML 1.0, 3 and 6).
   pub written : Scope → ElementTree → ElementTree
   written scope (element name prefix namespace attributes children) =
       let place = place_of scope (or_empty prefix) namespace attributes in
@@ -92,10 +92,10 @@ abbrev mutual
   written_after scope made no_trees = made
   written_after scope made (tree_then t ts) = written_after scope (made ++ written scope t ∷ []) ts
 
--- the declaration of each document, with the line end behind it
+-- the declaration of each document, with the line end behind it (XML 1.0, 2.1, 2.2, 2.8, 2.11)
 abbrev pub declaration : List ℕ
 declaration = codes "<?xml version=\"1.0\" encoding=\"utf-8\"?>\n"
 
--- The document of an element tree.
+-- The document of an element tree (XML 1.0, 2.4, 2.8, 3.1, 3.3.3; Namespaces in XML 1.0, 3).
 abbrev pub document_of : ElementTree → List ℕ
 document_of t = declaration ++ spellings (flat (written [] t))

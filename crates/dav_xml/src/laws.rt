@@ -12,6 +12,7 @@ ghost use Rattle.dav_xml.specs.Namespaces.{document};
 ghost use Rattle.dav_xml.specs.Scopes.{Scope, uri_of};
 ghost use Rattle.dav_xml.specs.Expanded.{AllMean, IsExpanded, IsFew, IsPlain, Means};
 ghost use Rattle.dav_xml.specs.Legal.{HasLegal, HasLegalTexts};
+ghost use Rattle.dav_xml.specs.Sendable.{ExpandedIsSendable, ReadIsSendable, SendableIsRead};
 
 /// Pieces of markup that are written are read again.
 pub fn spelled_is_read()
@@ -92,4 +93,18 @@ pub fn read_is_legal()
 pub fn read_is_read_again()
     ensures { (bytes : List ℕ) (t : ElementTree) → document bytes ≡ Ok t → IsFew [] (written [] t)
         → length (document_of t) ≤ 0x10_0000 → document (document_of t) ≡ Ok t }
+{}
+
+/// What is written of a tree that may be sent is read again as the tree that it means, where it has at most 64 levels, each element
+/// that is written has at most 256 attributes and is within at most 256 declarations, and the whole has at most 1 MiB.
+#[tactic(auto, using(crate::proofs::SentTrees::sendable_is_read))]
+pub fn sendable_is_read()
+    ensures { SendableIsRead }
+{}
+
+/// A tree with expanded names may be sent, and so may each tree that is read.
+#[tactic(auto, using(crate::proofs::SentTrees::expanded_is_sendable, crate::proofs::SentTrees::read_is_sendable))]
+pub fn expanded_is_sendable()
+    ensures expanded { ExpandedIsSendable }
+    ensures read { ReadIsSendable }
 {}

@@ -69,7 +69,7 @@ fn opened<'e>(
     scope: &[(&'e [u8], &'e str)],
     attributes: &'e [(String, String)],
 ) -> Result<Vec<(&'e [u8], &'e str)>, AllocError>
-    ensures { IfOk result (λ v. map pair_bytes v.items ≡ spec.opened
+    ensures { IfOk result (λ v. map pair_bytes v.items ≡ spec.scope_below
         (map pair_bytes scope.now) (map attribute_bytes attributes.now)) }
 {
     let mut inner = Vec::new(alloc);

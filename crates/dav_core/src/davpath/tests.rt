@@ -91,6 +91,18 @@ push |/d/|a b| -> |/d/a b|/d/a%20b| 2
 equal |/d|/d/a| -> false
 collection |/d| -> false
 
+# Whether a path is another one or under it, whether it is under it, and whether it has no names
+under |/d/a|/d| -> true true false
+under |/d/a/b/|/d/| -> true true false
+under |/d/|/d| -> true false false
+under |/d|/d/a| -> false false false
+under |/da|/d| -> false false false
+under |/d/b|/d/a| -> false false false
+under |/a|/| -> true true false
+under |/|/| -> true false true
+under |/|/a| -> false false true
+under |*|/| -> true false true
+
 # The last name and the parent; whether the path is that of the server, and whether its parent ends in a slash
 last |/a/b%20c/| -> |b c|/a/| false true
 last |/a| -> |a|/| false true
@@ -253,6 +265,14 @@ fn outcome_of_path(alloc: Global, name: &str, path: &DavPath) -> Result<String, 
     }
 }
 
+// Whether a path is another one or under it, whether it is under it, and whether it has no names.
+fn under(alloc: Global, text: &str, other: &str) -> Result<String, ParseError> {
+    let path = DavPath::new(alloc, text)?;
+    let other = DavPath::new(alloc, other)?;
+    let (is_at_or_under, is_under) = (path.is_at_or_under(&other), path.is_under(&other));
+    Ok(format!(in alloc; "{is_at_or_under} {is_under} {}", path.is_root())?)
+}
+
 // The outcome of any row.
 fn outcome(alloc: Global, name: &str, text: &str, second: &str) -> Result<String, ParseError> {
     match name {
@@ -263,6 +283,7 @@ fn outcome(alloc: Global, name: &str, text: &str, second: &str) -> Result<String
             let path = below(alloc, text, second)?;
             Ok(format!(in alloc; "{path} {path:?}")?)
         }
+        "under" => under(alloc, text, second),
         "push" => Ok(with_name(alloc, DavPath::new(alloc, text)?, second)?),
         "equal" => {
             let is_equal = DavPath::new(alloc, text)? == DavPath::new(alloc, second)?;
@@ -294,7 +315,7 @@ fn gives_paths(rt: HostRuntime) -> Result<(), Fail> {
             count = count.wrapping_add(1);
         }
     }
-    same(&rt, &count, &78);
+    same(&rt, &count, &88);
     Ok(())
 }
 

@@ -1,6 +1,6 @@
 //! Laws of locked folders. Each function does nothing: its contract is a theorem on the definitions.
 ghost use Rattle.dav_engine.specs.Alongside.{AlongsideAgree, SpareNumbersSuffice};
-ghost use Rattle.dav_engine.specs.AlongsidePlans.{PutGoesAlong, MkcolGoesAlong, DeleteGoesAlong, OptionsGoesAlong, UnlockGoesAlong, LockGoesAlong, CopyMoveGoesAlong, PropfindGoesAlong, ProppatchGoesAlong};
+ghost use Rattle.dav_engine.specs.IsolatedPlans.{PutIsIsolated, MkcolIsIsolated, DeleteIsIsolated, OptionsIsIsolated, UnlockIsIsolated, LockIsIsolated, CopyMoveIsIsolated, PropfindIsIsolated, ProppatchIsIsolated};
 ghost use Rattle.dav_engine.specs.Ending.{KeptLocksStand, KeptLocksStandCut, ReadingKeepsLocks, PutKeepsLocks, MkcolKeepsLocks, DeleteKeepsLocks, UnlockKeepsLocks, LockKeepsLocks, CopyMoveKeepsLocks, ProppatchKeepsLocks};
 ghost use Rattle.dav_engine.specs.Guard.{FreeIsHeld, ParentFreeIsHeld, FreeIsApart, FreeIsUncovered, GrantedGuards, SharedGuards};
 ghost use Rattle.dav_engine.specs.Inside.{FoldersAreAbove};
@@ -69,15 +69,15 @@ pub fn strangers_leave_members()
 /// which refreshes the guard or is refused, an UNLOCK with the guard's token, and any OPTIONS or PROPFIND there.
 pub fn plans_agree_in_alike_worlds()
     ensures agree { AlongsideAgree }
-    ensures put { PutGoesAlong }
-    ensures mkcol { MkcolGoesAlong }
-    ensures delete { DeleteGoesAlong }
-    ensures copy_move { CopyMoveGoesAlong }
-    ensures options { OptionsGoesAlong }
-    ensures unlock { UnlockGoesAlong }
-    ensures lock { LockGoesAlong }
-    ensures propfind { PropfindGoesAlong }
-    ensures proppatch { ProppatchGoesAlong }
+    ensures put { PutIsIsolated }
+    ensures mkcol { MkcolIsIsolated }
+    ensures delete { DeleteIsIsolated }
+    ensures copy_move { CopyMoveIsIsolated }
+    ensures options { OptionsIsIsolated }
+    ensures unlock { UnlockIsIsolated }
+    ensures lock { LockIsIsolated }
+    ensures propfind { PropfindIsIsolated }
+    ensures proppatch { ProppatchIsIsolated }
 {}
 
 /// A plan that ends with a change number to spare found each number that it took.

@@ -7,7 +7,7 @@ use crate::refusing::Refusing;
 use crate::rows::{NoRow, Player, play_rows};
 use crate::run::removals::refusals_of;
 use dav_core::fs::OpenOptions;
-use dav_engine::multierror::MultiError;
+use dav_engine::reply::multistatus::MultiError;
 use dav_headers::Depth;
 use dav_store::memfs::MemFs;
 use dav_store::memls::MemLs;

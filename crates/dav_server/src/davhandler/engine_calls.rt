@@ -9,7 +9,7 @@ use crate::rows::{NoRow, Player, play_rows};
 use bytes::Bytes;
 use dav_core::element::Element;
 use dav_core::fs::DavMetaData;
-use dav_engine::conditional::{dav_if_match, http_if_match, if_match, if_match_get_tokens};
+use dav_engine::conditions::{dav_if_match, http_if_match, if_match, if_match_get_tokens};
 use dav_store::memfs::MemFs;
 use dav_store::memls::MemLs;
 use http_header::{HeaderMap, HeaderName, HeaderValue};

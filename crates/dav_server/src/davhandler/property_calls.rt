@@ -5,7 +5,7 @@ use crate::rows::{NoRow, Player, play_rows};
 use bytes::Bytes;
 use dav_core::element::Element;
 use dav_engine::ReplyBody;
-use dav_engine::propwriter::PropWriter;
+use dav_engine::properties::prop_writer::PropWriter;
 use dav_store::memfs::MemFs;
 use dav_store::memls::MemLs;
 use http_header::HeaderMap;

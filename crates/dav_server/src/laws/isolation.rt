@@ -1,6 +1,6 @@
 //! Laws of locked folders. Each function does nothing: its contract is a theorem on the definitions.
 ghost use Rattle.dav_server.specs.Ending.{NoLockEnds, NoLockEndsCut};
-ghost use Rattle.dav_server.specs.Isolation.{GetGoesAlong, StrangersLeaveAlike, HoldersAnswerAlike, HoldersAreAlone, KnownHaveAlone, TurnsHaveAlone, OneAlone, RunsFindNumbers, SpareNumbersSufficeInRuns};
+ghost use Rattle.dav_server.specs.Isolation.{GetIsIsolated, StrangersLeaveAlike, HoldersAnswerAlike, HoldersAreAlone, KnownHaveAlone, TurnsHaveAlone, OneAlone, RunsFindNumbers, SpareNumbersSufficeInRuns};
 ghost use Rattle.dav_server.specs.LockLists.{StepsChangeLists, StepsChangeListsCut, TokensAreHandedIn};
 ghost use Rattle.dav_server.specs.Membership.{MembersAreKept, MembersAreKeptCut};
 ghost use Rattle.dav_server.specs.Passing.{NoLockIsPassed, NoLockIsPassedCut};
@@ -35,7 +35,7 @@ pub fn no_lock_ends()
 pub fn steps_agree_in_alike_states()
     ensures stranger { StrangersLeaveAlike }
     ensures holder { HoldersAnswerAlike }
-    ensures get { GetGoesAlong }
+    ensures get { GetIsIsolated }
 {}
 
 /// While a folder is guarded by a lock and no request hands in the lock's token for a lock of its own, the folder and the answers to its holder are those of the holder's requests alone

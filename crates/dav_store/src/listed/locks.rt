@@ -15,7 +15,7 @@ pub(super) struct ListedLs {
 }
 
 fn covers(lock: &DavLock, path: &DavPath) -> bool {
-    paths::is_same(&lock.path, path) || lock.deep && paths::is_under(path, &lock.path)
+    paths::is_same(&lock.path, path) || lock.deep && path.is_under(&lock.path)
 }
 
 // Whether a lock is the principal's, and has the one token that is submitted.
@@ -57,7 +57,7 @@ impl ListedLs {
             if covers(lock, path) && !(lock.shared && shared) {
                 return true;
             }
-            if deep && paths::is_under(&lock.path, path) {
+            if deep && lock.path.is_under(path) {
                 return true;
             }
         }
@@ -128,7 +128,7 @@ impl ListedLs {
         let some_held = self.any_held(path, principal);
         for lock in &self.locks {
             let is_met = covers(lock, path) && (!lock.shared || !some_held)
-                || deep && paths::is_at_or_under(&lock.path, path);
+                || deep && lock.path.is_at_or_under(path);
             if is_met && !is_held(lock, principal) {
                 return Ok(lock.token.clone()?);
             }
@@ -160,7 +160,7 @@ impl ListedLs {
             "discover" => return self.discover(alloc, &at),
             "unlock" => self.unlock(&at, first),
             _ => {
-                self.locks.retain(|l| !paths::is_at_or_under(&l.path, &at));
+                self.locks.retain(|l| !l.path.is_at_or_under(&at));
                 true
             }
         };

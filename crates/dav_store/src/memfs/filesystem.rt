@@ -111,7 +111,7 @@ impl DavFileSystem for MemFs {
     }
 
     fn remove_dir(&mut self, path: &DavPath, now: u64) -> FsResult<()> {
-        if paths::is_root(path) {
+        if path.is_root() {
             return Err(FsError::Forbidden);
         }
         if entries::node_at(&self.entries, path).is_none() {
@@ -141,7 +141,7 @@ impl DavFileSystem for MemFs {
     }
 
     fn rename(&mut self, alloc: Global, from: &DavPath, to: &DavPath, now: u64) -> FsResult<()> {
-        if paths::is_root(from) || paths::is_root(to) {
+        if from.is_root() || to.is_root() {
             return Err(FsError::Forbidden);
         }
         if entries::node_at(&self.entries, from).is_none() {
@@ -150,7 +150,7 @@ impl DavFileSystem for MemFs {
         if paths::is_same(from, to) {
             return Ok(());
         }
-        if paths::is_under(to, from) {
+        if to.is_under(from) {
             return Err(FsError::Forbidden);
         }
         if !entries::has_folder(&self.entries, to) {

@@ -365,7 +365,7 @@ impl Counts {
     {
         for kept in locks {
             let lock = kept.lock();
-            if paths::is_at_or_under(&lock.path, path) {
+            if lock.path.is_at_or_under(path) {
                 self.lower_path(&lock.path, lock.deep);
             }
         }

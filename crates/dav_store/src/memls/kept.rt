@@ -138,7 +138,7 @@ fn is_on(kept: &Kept, path: &Sought<'_>) -> bool
 fn is_above(kept: &Kept, path: &Sought<'_>) -> bool
     ensures { result ≡ is_under (names path.now) (names kept.now.path) }
 {
-    kept.len < path.len && paths::is_under(path.path, &kept.lock.path)
+    kept.len < path.len && path.path.is_under(&kept.lock.path)
 }
 
 /// Whether a lock is on a path below this one.
@@ -146,7 +146,7 @@ fn is_above(kept: &Kept, path: &Sought<'_>) -> bool
 pub fn is_below(kept: &Kept, path: &Sought<'_>) -> bool
     ensures { result ≡ is_under (names kept.now.path) (names path.now) }
 {
-    path.len < kept.len && paths::is_under(&kept.lock.path, path.path)
+    path.len < kept.len && kept.lock.path.is_under(path.path)
 }
 
 /// Whether a lock is on a path or below it.

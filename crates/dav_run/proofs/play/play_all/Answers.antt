@@ -9,6 +9,6 @@ use Rattle.dav_run.proofs.play.play_all.Goals as goal
 pub returns-clause-short : goal.returns-clause-short
 returns-clause-short g c = λ is.
     let set_up = c.in_ok-handler.ensures in
-    let (replies, some, wrote) = c.play_steps.ensures.short is in
+    let (replies, some, wrote) = c.play_turns.ensures.short is in
     let turns = c.in_ok-steps.ensures ∙ ap (λ (l : List request.Request). map turn_for (map script_request l)) c.deref.ensures.value in
     (lines_of replies, inr (set_up.prefix, (replies, some_set_up replies set_up.settings set_up.state turns some, refl)), wrote)

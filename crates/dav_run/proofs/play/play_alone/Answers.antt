@@ -16,14 +16,14 @@ returns-clause-played g c =
     let before = c.in_ok-run_refused.field-0.items in
     let after = alone_of_parts rs c.deref.result.now c.args.place c.index.result.now c.split_at.result.1.now us c.requires c.index.ensures c.split_at.ensures.back c.deref.ensures.value c.in_ok-own.ensures in
     let up_to = run_of_front rs c.deref.result.now c.split_at.result.0.now (c.args.place + 1) c.in_ok-first.first.items before there set_up.settings set_up.state c.in_ok-first.ensures c.split_at.ensures.front c.deref.ensures.value c.in_ok-run_refused.ensures.run in
-    onto c.play_steps.result
+    onto c.play_turns.result
     (λ told. (
       place_line c.args.place ++ lines_of told.0,
-      (us, there, told.0, c.play_steps.new.handler.server, after, (before, up_to), told.1, refl),
-      appends_both (g.W.Write.contents c.args.writer.now) (g.W.Write.contents c.write_place.new.writer) (g.W.Write.contents c.play_steps.new.writer) (place_line c.args.place) (lines_of told.0)
+      (us, there, told.0, c.play_turns.new.handler.server, after, (before, up_to), told.1, refl),
+      appends_both (g.W.Write.contents c.args.writer.now) (g.W.Write.contents c.write_place.new.writer) (g.W.Write.contents c.play_turns.new.writer) (place_line c.args.place) (lines_of told.0)
           c.in_ok-write_place.ensures.written told.2,
     ))
-    c.play_steps.ensures.played
+    c.play_turns.ensures.played
 
 pub returns-clause-short : goal.returns-clause-short
 returns-clause-short g c = λ is.
@@ -34,10 +34,10 @@ returns-clause-short g c = λ is.
     let before = c.in_ok-run_refused.field-0.items in
     let after = alone_of_parts rs c.deref.result.now c.args.place c.index.result.now c.split_at.result.1.now us c.requires c.index.ensures c.split_at.ensures.back c.deref.ensures.value c.in_ok-own.ensures in
     let up_to = run_of_front rs c.deref.result.now c.split_at.result.0.now (c.args.place + 1) c.in_ok-first.first.items before there set_up.settings set_up.state c.in_ok-first.ensures c.split_at.ensures.front c.deref.ensures.value c.in_ok-run_refused.ensures.run in
-    let (replies, some, wrote) = c.play_steps.ensures.short is in (
+    let (replies, some, wrote) = c.play_turns.ensures.short is in (
       place_line c.args.place ++ lines_of replies,
       inr (us, there, replies, after, (before, up_to), some, refl),
-      appends_both (g.W.Write.contents c.args.writer.now) (g.W.Write.contents c.write_place.new.writer) (g.W.Write.contents c.play_steps.new.writer) (place_line c.args.place) (lines_of replies)
+      appends_both (g.W.Write.contents c.args.writer.now) (g.W.Write.contents c.write_place.new.writer) (g.W.Write.contents c.play_turns.new.writer) (place_line c.args.place) (lines_of replies)
           c.in_ok-write_place.ensures.written wrote,
     )
 

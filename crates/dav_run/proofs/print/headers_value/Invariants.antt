@@ -3,7 +3,7 @@ use Rattle.http_header.specs.HeaderMap.{pairs}
 use Rattle.serde_json.specs.Data.{no_members}
 use Rattle.serde_json.specs.View.{members_view}
 use Rattle.dav_run.specs.Print.{headers_over}
-use Rattle.dav_engine.specs.Response.{header_pairs}
+use Rattle.dav_engine.specs.Reply.{header_pairs}
 use Rattle.dav_run.proofs.print.headers_value.Given as goal
 
 abbrev pub invariant-loop-name : goal.invariant-loop-name

@@ -3,7 +3,7 @@ use Rattle.std.proofs.lemmas.Result.{err_from_is_err_and}
 use Rattle.dav_core.specs.Method.{Has}
 use Rattle.dav_engine.specs.Follows.{not_begun}
 use Rattle.dav_engine.specs.Lock.{is_absent}
-use Rattle.dav_server.specs.Machine.{client, PlanOf, not_allowed, no_path, no_body, body_for, taken_by}
+use Rattle.dav_server.specs.Machine.{caller, PlanOf, not_allowed, no_path, no_body, body_for, taken_by}
 use Rattle.dav_server.proofs.StepLemmas.{serves_by, serves_error, path_at, handed_at}
 use Rattle.dav_server.proofs.TargetLemmas.{target_is_path}
 use Rattle.dav_server.proofs.UngrantedLemmas.{lock_body}
@@ -42,7 +42,7 @@ returns-clause-serves g c =
     let has : Has c.args.handler.now.server.settings.allowed c.args.method = search (rules, c.handler.view_is) in
     let named = path_at c.args.method (Ok c.in_ok-path.path) (c.deref.ensures ∙ ap (λ h. h.server.settings.prefix) c.handler.view_is) c.target.ensures c.in_ok-path.ensures.path in
     let taken = c.in_ok-body.ensures ∙ ap (λ x. body_for (taken_by c.args.method) x.body) c.exchange.view_is in
-    handed_at has named taken c.in_ok-headers.ensures (serves_by (ap (λ b. PlanOf c.args.handler.now.server.settings.allowed c.in_ok-headers.headers c.in_ok-path.path b (client c.args.exchange.now) c.args.method) c.as_body.ensures) c.serve.ensures.serves)
+    handed_at has named taken c.in_ok-headers.ensures (serves_by (ap (λ b. PlanOf c.args.handler.now.server.settings.allowed c.in_ok-headers.headers c.in_ok-path.path b (caller c.args.exchange.now) c.args.method) c.as_body.ensures) c.serve.ensures.serves)
 
 -- the target of another method than OPTIONS names a path
 pub serve-requires : goal.serve-requires

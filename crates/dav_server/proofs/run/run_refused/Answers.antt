@@ -14,7 +14,7 @@ pub loop-step-preserved : goal.loop-step-preserved
 loop-step-preserved c =
     let added = c.in-Ok.ensures.ok in (
       c.in-Ok.ensures.same ∙ c.loop-step.invariant.0,
-      run_added c.loop-step.replies.items c.answer_step.new.replies.items c.in-Some.step added.0 c.loop-step.invariant.1 added.1 (steps_at c.loop-step.invariant.0 added.2),
+      run_added c.loop-step.replies.items c.answer_turn.new.replies.items c.in-Some.step added.0 c.loop-step.invariant.1 added.1 (steps_at c.loop-step.invariant.0 added.2),
       showable_more c.loop-step.yielded c.in-Some.step c.loop-step.invariant.2 c.in-Ok.ensures.moment,
       rest_after_one _ _ _ _ _ c.loop-step.invariant.3 c.in-Some.ensures.steps.0,
       loaded_more c.loop-step.yielded c.in-Some.step c.loop-step.invariant.4 c.in-Ok.ensures.loaded,
@@ -27,7 +27,7 @@ returns-in-Err-clause-fault c = record {
   back = c.next.new.self.rest.items;
   was = c.loop-step.handler.server.state;
   turns_are = turns_of _ _ _ _ _ c.loop-step.invariant.3 c.in-Some.ensures.steps.0;
-  earlier = ran_to c.loop-step.replies.items c.answer_step.new.replies.items c.in-Err.ensures.replies c.loop-step.invariant.1;
+  earlier = ran_to c.loop-step.replies.items c.answer_turn.new.replies.items c.in-Err.ensures.replies c.loop-step.invariant.1;
   stopped = stops_at _ c.in-Some.step c.loop-step.handler.server _ c.loop-step.invariant.0 c.in-Err.ensures.cut;
 }
 

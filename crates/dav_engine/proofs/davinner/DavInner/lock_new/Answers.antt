@@ -1,7 +1,6 @@
 use Rattle.std.proofs.Common.{sym, ap, ◌∙◌}
 use Rattle.std.specs.Option.{option_copied}
 use Rattle.std.proofs.lemmas.Result.{err_from_is_err_and}
-use Rattle.dav_core.specs.Path.{names}
 use Rattle.dav_engine.specs.Folder.{location_found}
 use Rattle.dav_engine.specs.Lock.{empty_opening}
 use Rattle.dav_engine.specs.LockHeaders.{LockHeaders}
@@ -31,9 +30,9 @@ returns-clause-plan g c =
     let how = ap (λ (h : LockHeaders). empty_opening h.conditions) c.headers.view_is in
     let now = ap (λ w. w.moment) c.caller.view_is ∙ ap (λ k. k.now.moment) lent.caller in
     let there = c.is_some.ensures ∙ sym (some_copied c.args.found) in
-    let two = news_as (names c.args.path.now) how now there held c.grant_new-granted.ensures.grants in
+    let two = news_as how now there held c.grant_new-granted.ensures.grants in
     new_given c.args.headers.now c.args.path.now (location_found (option_copied c.args.found) c.args.request.now.path) c.args.body.now c.args.self.now.caller.now (option_copied c.args.found) c.in_ok-lock.lock one
-    c.in_ok-reply.reply c.grant_new-granted.result c.given.result c.given.ensures.ok c.given.ensures.err c.in_ok-reply.ensures two
+    c.in_ok-reply.reply c.grant_new-granted.result c.given.result c.given.ensures.ok c.given.ensures.err c.in_ok-reply.ensures c.in_ok-lock.ensures.path two
 
 pub returns-clause-memory : goal.returns-clause-memory
 returns-clause-memory g c short =

@@ -1,7 +1,7 @@
 use Rattle.std.proofs.Common.{sym, ap, map, string_bytes, ◌∙◌}
 use Rattle.std.proofs.lemmas.Result.{err_from_is_err_and}
 use Rattle.dav_core.specs.Path.{names}
-use Rattle.dav_engine.specs.CallerView.{client_of}
+use Rattle.dav_engine.specs.CallerView.{caller_of}
 use Rattle.dav_engine.specs.Conditions.{dav_if_match}
 use Rattle.dav_engine.specs.Lock.{one_token, token_to_refresh}
 use Rattle.dav_engine.specs.LockHeaders.{LockHeaders}
@@ -30,7 +30,7 @@ returns-then-not-is_open-clause-plan g c =
     let only = sym (c.in_ok-token.ensures ∙ ap (λ ts. one_token (map string_bytes ts)) c.deref.ensures.value) in
     (follows_lent g.L.DavLockSystem.locks _ _ c.backend.view_is c.as_ref-ls.ensures.value
     (follows_for (λ who. token_to_refresh c.args.headers.now (names c.args.path.now) who) c.caller.view_is
-    (token_locked c.args.headers.now (names c.args.path.now) (client_of c.caller.inside) c.dav_if_match.result one (c.in_ok-tokens.field-0-0, c.in_ok-tokens.tokens) c.in_ok-tokens.was
+    (token_locked c.args.headers.now (names c.args.path.now) (caller_of c.caller.inside) c.dav_if_match.result one (c.in_ok-tokens.field-0-0, c.in_ok-tokens.tokens) c.in_ok-tokens.was
     (string_bytes c.in_ok-token.token.now) c.deref-2.result.now c.is_open.result only c.deref-2.ensures.value c.is_open.ensures c.if-not-is_open.true)))
 
 pub returns-in_err-clone-clause-plan : goal.returns-in_err-clone-clause-plan
@@ -40,7 +40,7 @@ returns-in_err-clone-clause-plan g c =
     let only = sym (c.in_ok-token.ensures ∙ ap (λ ts. one_token (map string_bytes ts)) c.deref.ensures.value) in
     rw (p.1, p.2) (follows_lent g.L.DavLockSystem.locks _ _ c.backend.view_is c.as_ref-ls.ensures.value
     (follows_for (λ who. token_to_refresh c.args.headers.now (names c.args.path.now) who) c.caller.view_is
-    (token_uncopied c.args.headers.now (names c.args.path.now) (client_of c.caller.inside) c.dav_if_match.result one (c.in_ok-tokens.field-0-0, c.in_ok-tokens.tokens) c.in_ok-tokens.was
+    (token_uncopied c.args.headers.now (names c.args.path.now) (caller_of c.caller.inside) c.dav_if_match.result one (c.in_ok-tokens.field-0-0, c.in_ok-tokens.tokens) c.in_ok-tokens.was
     (string_bytes c.in_ok-token.token.now) c.deref-2.result.now c.is_open.result only c.deref-2.ensures.value c.is_open.ensures c.if-not-is_open.false)))
 
 pub returns-clause-plan : goal.returns-clause-plan
@@ -49,5 +49,5 @@ returns-clause-plan g c =
     let only = sym (c.in_ok-token.ensures ∙ ap (λ ts. one_token (map string_bytes ts)) c.deref.ensures.value) in
     (follows_lent g.L.DavLockSystem.locks _ _ c.backend.view_is c.as_ref-ls.ensures.value
     (follows_for (λ who. token_to_refresh c.args.headers.now (names c.args.path.now) who) c.caller.view_is
-    (token_free c.args.headers.now (names c.args.path.now) (client_of c.caller.inside) c.dav_if_match.result one (c.in_ok-tokens.field-0-0, c.in_ok-tokens.tokens) c.in_ok-tokens.was
+    (token_free c.args.headers.now (names c.args.path.now) (caller_of c.caller.inside) c.dav_if_match.result one (c.in_ok-tokens.field-0-0, c.in_ok-tokens.tokens) c.in_ok-tokens.was
     (string_bytes c.in_ok-token.token.now) c.deref-2.result.now c.is_open.result only c.deref-2.ensures.value c.is_open.ensures c.if-not-is_open.false c.in_ok-clone.field-0 c.in_ok-clone.ensures.cases)))

@@ -2,7 +2,7 @@ use Rattle.dav_engine.proofs.AlongsideCopy.{copymove_goes_along}
 use Rattle.dav_engine.proofs.AlongsideDelete.{delete_goes_along}
 use Rattle.dav_engine.proofs.AlongsideLaw.{alongside_agree}
 use Rattle.dav_engine.proofs.AlongsideLock.{lock_goes_along}
-use Rattle.dav_engine.proofs.AlongsidePlans.{put_goes_along, mkcol_goes_along}
+use Rattle.dav_engine.proofs.IsolatedPlans.{put_goes_along, mkcol_goes_along}
 use Rattle.dav_engine.proofs.AlongsideProperties.{propfind_goes_along, proppatch_goes_along}
 use Rattle.dav_engine.proofs.OptionsLemmas.{options_goes_along}
 use Rattle.dav_engine.proofs.UnlockPlans.{unlock_goes_along}

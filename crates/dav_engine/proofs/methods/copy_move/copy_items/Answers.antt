@@ -1,0 +1,12 @@
+use Rattle.std.proofs.Common.{refl, Ok, Err}
+use Rattle.std.specs.Prelude.{alloc_error}
+use Rattle.std.proofs.lemmas.Result.{err_from_is_err_and}
+use Rattle.dav_engine.proofs.methods.copy_move.copy_items.Goals as goal
+
+pub returns-in_err-last : goal.returns-in_err-last
+returns-in_err-last g c =
+    let p = err_from_is_err_and c.from_residual.result c.from_residual.ensures.1 in
+    rw (p.1, p.2) (record { last = Err alloc_error; walks = c.in_err-last.ensures; result_is = refl })
+
+pub returns : goal.returns
+returns g c = record { last = Ok c.in_ok-last.last; walks = c.in_ok-last.ensures; result_is = c.result_of.ensures }

@@ -1,0 +1,39 @@
+use Rattle.std.proofs.Common.{◌≡◌, ◌&&◌, ◌∙◌}
+use Rattle.std.proofs.lemmas.Result.{err_from_is_err_and}
+use Rattle.dav_engine.specs.Follows.{as_is}
+use Rattle.dav_engine.specs.Propfind.{tell_itself, tells_itself, tells_members}
+use Rattle.dav_engine.specs.PropWriter.{started}
+use Rattle.dav_engine.proofs.FindLemmas.{itself_told, itself_untold, itself_stopped, below_cut, both_told}
+use Rattle.dav_engine.proofs.TellLemmas.{Told}
+use Rattle.dav_engine.proofs.methods.propfind.told.Goals.{then-tells_itself+in_ok-tell, else-tells_itself, then-found, else-found}
+use Rattle.dav_engine.proofs.methods.propfind.told.Goals as goal
+
+pub returns-in_err-tell : goal.returns-in_err-tell
+returns-in_err-tell g c =
+    let p = err_from_is_err_and c.from_residual.result c.from_residual.ensures.1 in
+    rw p.1 (itself_stopped _ c.args.headers.now c.args.writer c.args.found.path.now c.args.found.meta.now _ c.if-tells_itself.ensures c.started-writer.ensures c.in_err-tell.ensures.tells)
+
+pub returns-in_err-tell_below : goal.returns-in_err-tell_below
+returns-in_err-tell_below g c =
+    let first : Told _ as_is (λ known. tell_itself (tells_itself c.args.headers.now.depth) c.args.writer c.args.found.path.now c.args.found.meta.now) (started c.args.writer) c.if-tells_itself.writer _ _ = elim c.if-tells_itself.branch [
+      | then-tells_itself+in_ok-tell w ↦ rw (w.writer-is, w.fs-is) (itself_told _ c.args.headers.now c.args.writer c.args.found.path.now c.args.found.meta.now _ _ w.if-tells_itself.ensures c.started-writer.ensures w.in_ok-tell.ensures.tells)
+      | else-tells_itself w ↦ rw (w.writer-is, w.fs-is) (itself_untold _ c.args.headers.now c.args.writer c.args.found.path.now c.args.found.meta.now _ w.if-tells_itself.ensures c.started-writer.ensures)
+    ] in
+    let both : c.if-found.wanted ≡ (c.args.found.meta.now.dir && tells_members c.args.headers.now.depth) = elim c.if-found.branch [
+      | then-found w ↦ rw w.if-found.true (w.wanted-is ∙ w.tells_members-wanted.ensures)
+      | else-found w ↦ rw w.if-found.false (w.wanted-is ∙ w.if-found.false)
+    ] in
+    let p = err_from_is_err_and c.from_residual-in_err-tell_below.result c.from_residual-in_err-tell_below.ensures.1 in
+    rw p.1 (below_cut _ c.args.headers.now c.args.writer c.args.found.path.now c.args.found.meta.now _ _ _ c.is_infinite-deep.ensures both first c.in_err-tell_below.ensures)
+
+pub returns : goal.returns
+returns g c =
+    let first : Told _ as_is (λ known. tell_itself (tells_itself c.args.headers.now.depth) c.args.writer c.args.found.path.now c.args.found.meta.now) (started c.args.writer) c.if-tells_itself.writer _ _ = elim c.if-tells_itself.branch [
+      | then-tells_itself+in_ok-tell w ↦ rw (w.writer-is, w.fs-is) (itself_told _ c.args.headers.now c.args.writer c.args.found.path.now c.args.found.meta.now _ _ w.if-tells_itself.ensures c.started-writer.ensures w.in_ok-tell.ensures.tells)
+      | else-tells_itself w ↦ rw (w.writer-is, w.fs-is) (itself_untold _ c.args.headers.now c.args.writer c.args.found.path.now c.args.found.meta.now _ w.if-tells_itself.ensures c.started-writer.ensures)
+    ] in
+    let both : c.if-found.wanted ≡ (c.args.found.meta.now.dir && tells_members c.args.headers.now.depth) = elim c.if-found.branch [
+      | then-found w ↦ rw w.if-found.true (w.wanted-is ∙ w.tells_members-wanted.ensures)
+      | else-found w ↦ rw w.if-found.false (w.wanted-is ∙ w.if-found.false)
+    ] in
+    both_told _ c.args.headers.now c.args.writer c.args.found.path.now c.args.found.meta.now _ _ _ _ c.is_infinite-deep.ensures both first c.in_ok-tell_below.ensures

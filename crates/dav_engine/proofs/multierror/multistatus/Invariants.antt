@@ -1,6 +1,0 @@
-use Rattle.std.proofs.Common.{◌≡◌, map, take}
-use Rattle.dav_engine.specs.Multistatus.{response_for, multistatus}
-use Rattle.dav_engine.proofs.multierror.multistatus.Given as goal
-
-abbrev pub invariant-loop-item : goal.invariant-loop-item
-invariant-loop-item l = l.element ≡ multistatus (map response_for (take l.item-index l.items))

@@ -1,5 +1,0 @@
-use Rattle.std.proofs.Common.{◌≡◌, ◌++◌}
-use Rattle.dav_engine.proofs.telling.joined.Given as goal
-
-abbrev pub invariant-loop-property : goal.invariant-loop-property
-invariant-loop-property l = l.all.items ≡ l.fn.properties.items ++ l.yielded
