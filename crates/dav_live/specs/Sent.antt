@@ -21,10 +21,12 @@ pub record IsSendableText (bytes : List ℕ) : Type 0 where
   pub some : is_nonempty bytes ≡ true
   pub legal : IsLegal bytes
 
+-- such a text, if there is one
 abbrev pub IsSendableTextIfAny : Option (List ℕ) → Type 0
 IsSendableTextIfAny None = Unit {0}
 IsSendableTextIfAny (Some bytes) = IsSendableText bytes
 
+-- an element that may be sent, if there is one
 abbrev pub IsSendableIfAny : Option ElementTree → Type 0
 IsSendableIfAny None = Unit {0}
 IsSendableIfAny (Some tree) = IsSendable tree
@@ -33,12 +35,13 @@ IsSendableIfAny (Some tree) = IsSendable tree
 abbrev pub KeepsSendable : World → Type 0
 KeepsSendable w = AllByRecursion (λ e. AllByRecursion (λ property. IsSendableIfAny property.1) e.1.properties) w.nodes
 
--- So may the token of a lock, and the element in which its owner describes itself; and its path has bytes.
+-- The token of a lock may be sent, and the element in which its owner describes itself; and its path has bytes (RFC 4918, sections 14.14 and 14.17).
 pub record IsSendableLock (l : Lock) : Type 0 where
   pub token : IsSendableText l.token
   pub path : is_nonempty l.path.bytes ≡ true
   pub owner : IsSendableIfAny l.owner
 
+-- each lock of a list may be sent, if there is a list
 abbrev pub AreSendableLocks : Locks → Type 0
 AreSendableLocks None = Unit {0}
 AreSendableLocks (Some ls) = AllByRecursion IsSendableLock ls

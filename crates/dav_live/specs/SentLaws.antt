@@ -35,7 +35,7 @@ StepsAreReadAgain =
     → IsWorld old.world → x.moment ≤ last_moment → IsSendableRequest x → IsSendableState old ls → Steps s x old ls r new ms
     → IsReadByClient r.body × IsSendableState new ms
 
--- So is what each request of a run is answered.
+-- What each request of a run is answered is read again, whatever the store refuses; and what is kept at its end may be sent.
 abbrev pub RunsAreReadAgain : Type 0
 RunsAreReadAgain =
     (s : Settings) (ts : List Turn) (old new : StoreState) (ls ms : Locks) (rs : List Reply)

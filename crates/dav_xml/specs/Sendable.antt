@@ -50,6 +50,6 @@ SendableIsRead =
 abbrev pub ExpandedIsSendable : Type 0
 ExpandedIsSendable = (n : ℕ) (t : ElementTree) → IsExpanded n t → IsSendable t
 
--- So may each tree that is read.
+-- Each tree that is read may be sent.
 abbrev pub ReadIsSendable : Type 0
 ReadIsSendable = (bytes : List ℕ) (t : ElementTree) → document bytes ≡ Ok t → IsSendable t
