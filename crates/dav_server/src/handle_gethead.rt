@@ -133,7 +133,8 @@ fn show_or_tell<F: DavFileSystem>(
 // The outcome of a request whose conditions answer a status.
 fn judged(alloc: Global, status: StatusCode, found: &DavMetaData) -> DavResult<Reply>
     ensures { (next : MethodPlan said.Reply) (s : StoreState)
-        → FollowsOnStore as_is (spec.unless_condition_status (Some status) found.now next) s result s }
+        → FollowsOnStore as_is (spec.unless_condition_status (Some status) found.now next)
+        s result s }
 {
     if status.as_u16() == 304 {
         Ok(not_modified(alloc, found)?)

@@ -81,7 +81,8 @@ fn change_properties<F: DavFileSystem>(
     path: &DavPath,
     changes: Vec<Change<'_>>,
 ) -> DavResult<Vec<(StatusCode, Element)>>
-    ensures { FollowsOnStore (λ told. told.items) (spec.change_properties path.now changes.entry.items)
+    ensures { FollowsOnStore (λ told. told.items)
+        (spec.change_properties path.now changes.entry.items)
         (F.state fs.old) result (F.state fs.new) }
 {
     let has = fs.have_props(path);

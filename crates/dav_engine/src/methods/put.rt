@@ -243,7 +243,8 @@ fn write<F: DavFileSystem>(
     now: u64,
 ) -> DavResult<()>
     requires { now ≤ last_moment }
-    ensures { FollowsOnStore (λ _. F.handle file.new) (spec.written (F.handle file.old) bytes.now now)
+    ensures { FollowsOnStore (λ _. F.handle file.new)
+        (spec.written (F.handle file.old) bytes.now now)
         (F.state fs.old) result (F.state fs.new) }
 {
     if bytes.is_empty() {

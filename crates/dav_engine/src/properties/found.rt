@@ -83,7 +83,8 @@ fn found_property<F: DavFileSystem, L: DavLockSystem>(
 ) -> Result<Option<Element>, NoMemory>
     requires created { resource.meta.now.created ≤ last_moment }
     requires modified { resource.meta.now.modified ≤ last_moment }
-    ensures { FollowsWithLocks (locks_in L.locks ls.entry) (λ e. (e, known.new)) (spec.found_property
+    ensures { FollowsWithLocks (locks_in L.locks ls.entry) (λ e. (e, known.new))
+        (spec.found_property
         writer.now resource.entry.path.now resource.entry.meta.now known.old property.now)
         (F.state fs.old) (or_memory result) (F.state fs.new) }
 {

@@ -14,7 +14,8 @@ use std::alloc::Global;
 
 /// What the store tells of its quota: it is asked once (RFC 4331).
 pub fn cached_quota<F: DavFileSystem>(fs: &mut F, known: Option<Quota>) -> Quota
-    ensures { FollowsOnStore as_is (cached_quota known) (F.state fs.old) (Ok result) (F.state fs.new) }
+    ensures { FollowsOnStore as_is (cached_quota known)
+        (F.state fs.old) (Ok result) (F.state fs.new) }
 {
     match known {
         Some(quota) => quota,
