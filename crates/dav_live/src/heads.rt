@@ -41,11 +41,14 @@ pub fn field<'h>(head: &'h [u8], name: &[u8]) -> Option<&'h [u8]> {
     None
 }
 
+// Whether a method is LOCK.
+pub fn is_lock(method: &[u8]) -> bool {
+    method == b"LOCK".as_slice()
+}
+
 // Whether a method's body is an element tree.
 pub fn takes_tree(method: &[u8]) -> bool {
-    method == b"PROPFIND".as_slice()
-        || method == b"PROPPATCH".as_slice()
-        || method == b"LOCK".as_slice()
+    method == b"PROPFIND".as_slice() || method == b"PROPPATCH".as_slice() || is_lock(method)
 }
 
 // Whether a method changes nothing (RFC 9110, section 9.2.1).

@@ -12,6 +12,7 @@ mod heads;
 pub mod laws;
 mod leases;
 mod live;
+mod owner;
 mod page;
 mod password;
 mod record;

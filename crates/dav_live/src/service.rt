@@ -2,9 +2,11 @@
 use crate::basic::credentials_of;
 use crate::fault::{Fault, OpenError};
 use crate::heads::{
-    field, has_many_names, is_for, method_of, only_reads, takes_tree, target_of, with_timeout,
+    field, has_many_names, is_for, is_lock, method_of, only_reads, takes_tree, target_of,
+    with_timeout,
 };
 use crate::leases::{Lease, next_ended, note_locks, unlock_head};
+use crate::owner::with_told_owner;
 use crate::page::{ASKED, asking_head, page_answer};
 use crate::record::Record;
 use crate::render::{answer_of, bare_answer, unknown_user};
@@ -69,6 +71,7 @@ fn body_of(alloc: Global, method: &[u8], body: Bytes) -> Result<Body, AllocError
         return Ok(Body::Bytes(body));
     }
     match dav_xml::read(alloc, body.as_slice()) {
+        Ok(tree) if is_lock(method) => Ok(Body::Tree(with_told_owner(alloc, tree)?)),
         Ok(tree) => Ok(Body::Tree(tree)),
         Err(XmlError::Memory) => Err(AllocError),
         Err(_) => Ok(Body::Malformed),
@@ -189,7 +192,7 @@ impl<D: Disk + Drop> Service<D> {
     fn run(&mut self, record: &Record<'_>, body: Bytes) -> Result<Reply, Stop> {
         let exchange = exchange_of(self.alloc, record, body)?;
         let reply = self.handle(&exchange)?;
-        if method_of(record.head) == b"LOCK".as_slice() {
+        if is_lock(method_of(record.head)) {
             self.note_locks(&reply, record.moment)?;
         }
         Ok(reply)
@@ -340,7 +343,7 @@ impl<D: Disk + Drop> Service<D> {
         body: Bytes,
     ) -> Result<Answer, Stop> {
         let method = method_of(head);
-        if method == b"LOCK".as_slice() {
+        if is_lock(method) {
             return self.answer_lock(principal, head, body);
         }
         let kept = body.clone()?;
