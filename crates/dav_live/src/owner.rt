@@ -1,5 +1,5 @@
 //! The owner of a lock, made ready to be told (RFC 4918, section 14.17).
-use dav_core::element::Element;
+use dav_core::element::{Element, XmlNode};
 use dav_core::errors::NoMemory;
 use std::alloc::Global;
 
@@ -42,8 +42,14 @@ fn told_attributes(
     Ok(told)
 }
 
-// An owner that can be told with the prefix `D`. One of the namespace of `xml`, which no other prefix may have, is of none then.
+// An owner that can be told with the prefix `D`; as it is where it can. One of the namespace of `xml`, which no other prefix may have, is
+// of none then.
 fn told_owner(alloc: Global, owner: Element) -> Result<Element, NoMemory> {
+    let is_xml = owner.prefix.as_deref() == Some("xml");
+    let is_bare = owner.attributes.is_empty() && !is_xml;
+    if is_bare || owner.prefix.as_deref() == Some("D") {
+        return Ok(owner);
+    }
     let Element {
         name,
         prefix,
@@ -53,38 +59,49 @@ fn told_owner(alloc: Global, owner: Element) -> Result<Element, NoMemory> {
     } = owner;
     let own = prefix.as_deref().unwrap_or("");
     let uri = namespace.as_deref().unwrap_or("");
-    if own == "D" {
-        return Ok(Element {
-            name,
-            prefix,
-            namespace,
-            attributes,
-            children,
-        });
-    }
     let attributes = told_attributes(alloc, attributes, own, uri)?;
-    let namespace = if own == "xml" { None } else { namespace };
     Ok(Element {
         name,
         prefix: None,
-        namespace,
+        namespace: if is_xml { None } else { namespace },
         attributes,
         children,
     })
 }
 
-/// The body of a LOCK in which the owner, the last one, can be told with the prefix `D`, as the list of locks keeps it. Without this an
-/// attribute under the owner's own prefix would be told under one that nothing declares, and no reply that tells of the lock could be read.
-pub fn with_told_owner(alloc: Global, mut tree: Element) -> Result<Element, NoMemory> {
-    let mut last = None;
-    for _ in 0..tree.children.len() {
-        match tree.take_child("owner") {
-            Some(owner) => last = Some(owner),
-            None => break,
+// A child of the body, made ready where it is an owner.
+fn told_child(alloc: Global, child: XmlNode) -> Result<XmlNode, NoMemory> {
+    match child {
+        XmlNode::Element(element) => {
+            if element.name.as_str() == "owner" {
+                Ok(XmlNode::Element(told_owner(alloc, element)?))
+            } else {
+                Ok(XmlNode::Element(element))
+            }
         }
+        XmlNode::Text(text) => Ok(XmlNode::Text(text)),
     }
-    if let Some(owner) = last {
-        tree.push_element(told_owner(alloc, owner)?)?;
+}
+
+/// The body of a LOCK of which each owner can be told with the prefix `D`, as the list of locks keeps it. Without this an attribute under
+/// the owner's own prefix would be told under one that nothing declares, and no reply that tells of the lock could be read.
+pub fn with_told_owners(alloc: Global, tree: Element) -> Result<Element, NoMemory> {
+    let Element {
+        name,
+        prefix,
+        namespace,
+        attributes,
+        children,
+    } = tree;
+    let mut told = Vec::new(alloc);
+    for child in children {
+        told.push(told_child(alloc, child)?)?;
     }
-    Ok(tree)
+    Ok(Element {
+        name,
+        prefix,
+        namespace,
+        attributes,
+        children: told,
+    })
 }

@@ -6,7 +6,7 @@ use crate::heads::{
     with_timeout,
 };
 use crate::leases::{Lease, next_ended, note_locks, unlock_head};
-use crate::owner::with_told_owner;
+use crate::owner::with_told_owners;
 use crate::page::{ASKED, asking_head, page_answer};
 use crate::record::Record;
 use crate::render::{answer_of, bare_answer, unknown_user};
@@ -71,7 +71,7 @@ fn body_of(alloc: Global, method: &[u8], body: Bytes) -> Result<Body, AllocError
         return Ok(Body::Bytes(body));
     }
     match dav_xml::read(alloc, body.as_slice()) {
-        Ok(tree) if is_lock(method) => Ok(Body::Tree(with_told_owner(alloc, tree)?)),
+        Ok(tree) if is_lock(method) => Ok(Body::Tree(with_told_owners(alloc, tree)?)),
         Ok(tree) => Ok(Body::Tree(tree)),
         Err(XmlError::Memory) => Err(AllocError),
         Err(_) => Ok(Body::Malformed),
