@@ -21,6 +21,7 @@ pub mod Headers
 pub mod LanguageLaws
 pub mod LockHeaders
 pub mod LockInfo
+pub mod LockReach
 pub mod LockTree
 pub mod LockView
 pub mod Method

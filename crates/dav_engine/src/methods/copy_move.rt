@@ -25,7 +25,7 @@ use crate::conditions::Conditions;
 use crate::davinner::{Caller, DavInner};
 use crate::depth::{goes_below, whole_depth};
 use crate::folder::{closed, is_folder_found};
-use crate::locks::{drop_locks, is_open, parent_allowed};
+use crate::locks::{Reach, drop_locks, is_open, parent_allowed};
 use crate::methods::copy_move::copying::{CopyJob, copying, renaming};
 use crate::methods::copy_move::headers::CopyHeaders;
 use crate::methods::delete::removal::removal;
@@ -136,10 +136,10 @@ fn are_free<L: DavLockSystem>(
         (requester_of (map string_bytes tokens.now) false (option_copied principal.entry))
         (names destination.now) (locks_in L.locks ls.entry) }
 {
-    if moves && !is_open(ls, path, principal, true, tokens) {
+    if moves && !is_open(ls, path, principal, Reach::WithAllBelow, tokens) {
         return false;
     }
-    is_open(ls, destination, principal, true, tokens)
+    is_open(ls, destination, principal, Reach::WithAllBelow, tokens)
 }
 
 // Checks whether no lock conflicts on the folders above both: for a move at the source, and at the destination where its members

@@ -16,7 +16,7 @@ use crate::conditions::Conditions;
 use crate::davinner::{Caller, DavInner};
 use crate::depth::{depth_in, goes_below, whole_depth};
 use crate::folder::closed;
-use crate::locks::{drop_locks, member_allowed};
+use crate::locks::{Reach, drop_locks, member_allowed};
 use crate::methods::delete::removal::removal;
 use crate::reply::Reply;
 use crate::reply::multistatus::{MultiError, multi_error, status_reply};
@@ -62,7 +62,7 @@ fn allowed<F: DavFileSystem, L: DavLockSystem>(
     let caller = job.caller;
     member_allowed(
         ls,
-        true,
+        Reach::WithAllBelow,
         true,
         job.path,
         caller.principal,

@@ -31,7 +31,7 @@ use crate::conditions::Conditions;
 use crate::davinner::{Caller, DavInner};
 use crate::depth::whole_depth;
 use crate::folder::{closed, is_folder_found, tree_headers};
-use crate::locks::{is_open, parent_allowed};
+use crate::locks::{Reach, is_open, parent_allowed};
 use crate::methods::lock::headers::LockHeaders;
 use crate::methods::lock::info::{LockInfo, lock_info};
 use crate::opening::missing_status;
@@ -372,7 +372,7 @@ impl<'a, 'b, 'c, F: DavFileSystem, L: DavLockSystem> DavInner<'a, 'b, 'c, F, L> 
         let ls = backend.ls.as_ref();
         let (_, tokens) = headers.conditions.dav_if_match(alloc, fs, ls)?;
         let token = one_token(&tokens)?;
-        if !is_open(ls, path, caller.principal, false, &tokens) {
+        if !is_open(ls, path, caller.principal, Reach::Alone, &tokens) {
             return Err(DavError::Status(StatusCode::PRECONDITION_FAILED));
         }
         Ok(token.clone()?)

@@ -8,7 +8,7 @@ ghost use Rattle.dav_engine.specs.Mkcol as spec;
 
 use crate::conditions::Conditions;
 use crate::davinner::{Caller, DavInner};
-use crate::locks::member_allowed;
+use crate::locks::{Reach, member_allowed};
 use crate::reply::{Reply, ReplyBody, set_location};
 use crate::request::{Body, DavRequest};
 use dav_core::davpath::DavPath;
@@ -67,7 +67,7 @@ fn allowed<F: DavFileSystem, L: DavLockSystem>(
     };
     member_allowed(
         ls,
-        false,
+        Reach::Alone,
         found.is_none(),
         path,
         caller.principal,

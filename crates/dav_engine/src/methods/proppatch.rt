@@ -12,7 +12,7 @@ mod changes;
 use crate::conditions::Conditions;
 use crate::davinner::{Caller, DavInner};
 use crate::folder::{closed, tree_headers};
-use crate::locks::is_open;
+use crate::locks::{Reach, is_open};
 use crate::methods::proppatch::changes::{
     Change, all_done, all_failed, as_patches, changes_in, grouped, has_refused, judge,
 };
@@ -149,7 +149,7 @@ fn proppatch_found<F: DavFileSystem, L: DavLockSystem>(
         Ok(tokens) => tokens,
         Err(status) => return Err(DavError::Status(status)),
     };
-    if !is_open(ls, &path, caller.principal, false, &tokens) {
+    if !is_open(ls, &path, caller.principal, Reach::Alone, &tokens) {
         return Err(DavError::Status(StatusCode::LOCKED));
     }
     patch_properties(fs, alloc, asked, found, &path, body)

@@ -11,7 +11,7 @@ ghost use Rattle.dav_engine.specs.Put as spec;
 pub(crate) mod headers;
 
 use crate::davinner::DavInner;
-use crate::locks::member_allowed;
+use crate::locks::{Reach, member_allowed};
 use crate::methods::put::headers::{Bounds, PutHeaders, Writing};
 use crate::opening::missing_status;
 use crate::reply::{Reply, ReplyBody, set_header, set_length, set_validators};
@@ -388,7 +388,7 @@ impl<'a, 'b, 'c, F: DavFileSystem, L: DavLockSystem> DavInner<'a, 'b, 'c, F, L> 
         };
         member_allowed(
             ls,
-            false,
+            Reach::Alone,
             found.is_none(),
             &request.path,
             caller.principal,
