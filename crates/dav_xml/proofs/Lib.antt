@@ -31,3 +31,4 @@ pub mod CleanTokens
 pub mod NestedLegal
 pub mod ReadLegal
 pub mod SentTrees
+pub mod SentPrefixed

@@ -25,7 +25,7 @@ use Rattle.dav_xml.proofs.NestedLegal.{nested_legal}
 
 -- ---- namespaces
 
-abbrev HaveValues : List (List ℕ × List ℕ) → Type 0
+abbrev pub HaveValues : List (List ℕ × List ℕ) → Type 0
 HaveValues attributes = AllByRecursion HasValue attributes
 
 one_more : (ds : List (List ℕ × List ℕ)) (d : List ℕ × List ℕ) → HaveValues ds → HasValue d → HaveValues (ds ++ d ∷ [])
@@ -36,7 +36,7 @@ declared_legal : (scope : Scope) (a : List ℕ × List ℕ) (o : Option (List �
 declared_legal scope a None e h one = h
 declared_legal scope a (Some d) e h one = one_more scope d h (subst IsLegal (ap (λ (b : List ℕ × List ℕ). b.1) (declaration_is a d e)) one)
 
-within_legal : (attributes : List (List ℕ × List ℕ)) (scope inner : Scope) → HaveValues scope → HaveValues attributes → within scope attributes ≡ Ok inner → HaveValues inner
+pub within_legal : (attributes : List (List ℕ × List ℕ)) (scope inner : Scope) → HaveValues scope → HaveValues attributes → within scope attributes ≡ Ok inner → HaveValues inner
 within_legal [] scope inner h k e = subst HaveValues (ap (ok_or_else inner) e) h
 within_legal (a ∷ others) scope inner h k e =
     let one = bound (within_step scope a) (λ s. within s others) inner e in
@@ -92,7 +92,7 @@ unless_legal scope own kept out a None hs h one e =
     let parts = bound (qualified a.0) (kept_as scope own kept a) out e in
     as_legal scope own kept out a parts.value hs h one parts.next
 
-kept_legal : (given : List (List ℕ × List ℕ)) (scope : Scope) (own : Option (List ℕ)) (kept out : Kept) → HaveValues scope → HaveValues kept.0 → HaveValues given → kept_after scope own kept given ≡ Ok out → HaveValues out.0
+pub kept_legal : (given : List (List ℕ × List ℕ)) (scope : Scope) (own : Option (List ℕ)) (kept out : Kept) → HaveValues scope → HaveValues kept.0 → HaveValues given → kept_after scope own kept given ≡ Ok out → HaveValues out.0
 kept_legal [] scope own kept out hs h k e = subst (λ (x : Kept). HaveValues x.0) (ap (ok_or_else out) e) h
 kept_legal (a ∷ others) scope own kept out hs h k e =
     let one = bound (kept_step scope own kept a) (λ more. kept_after scope own more others) out e in

@@ -104,7 +104,7 @@ within_step_of scope a (Err f) is h inner others e rec = absurd cc
 within_step_of scope a (Ok None) is h inner others e rec = rec scope h e
 within_step_of scope a (Ok (Some d)) is h inner others e rec = rec (scope ++ d ∷ []) (all_and scope d h (declarable a d is)) e
 
-within_declarable : (attributes : List (List ℕ × List ℕ)) (scope inner : Scope) → AllByRecursion IsDeclarable scope → within scope attributes ≡ Ok inner → AllByRecursion IsDeclarable inner
+pub within_declarable : (attributes : List (List ℕ × List ℕ)) (scope inner : Scope) → AllByRecursion IsDeclarable scope → within scope attributes ≡ Ok inner → AllByRecursion IsDeclarable inner
 within_declarable [] scope inner h e = subst (AllByRecursion IsDeclarable) (ap (ok_or_else scope) e) h
 within_declarable (a ∷ others) scope inner h e = within_step_of scope a (declared_by a) refl h inner others e (λ next k j. within_declarable others next inner k j)
 
@@ -156,7 +156,7 @@ read_named scope (Some p) namespace h hp e l = prefix_read (uri_in scope p) refl
         let legal : IsLegalIfAny (Some u) = subst IsLegalIfAny (sym same) l in
         subst (IsExpandedName (Some p)) same (hp p refl, (fits, legal))
 
-both_legal : (bs : List (List ℕ × List ℕ)) → AllByRecursion (λ a. IsLegalName a.0) bs → AllByRecursion (λ a. IsLegal a.1) bs → AllByRecursion IsLegalAttribute bs
+pub both_legal : (bs : List (List ℕ × List ℕ)) → AllByRecursion (λ a. IsLegalName a.0) bs → AllByRecursion (λ a. IsLegal a.1) bs → AllByRecursion IsLegalAttribute bs
 both_legal [] h k = tt
 both_legal (b ∷ bs) h k = (record { name = h.0; value = k.0 }, both_legal bs h.1 k.1)
 

@@ -18,3 +18,4 @@ pub mod PlaceView
 pub mod Legal
 pub mod Expanded
 pub mod Sendable
+pub mod Prefixed

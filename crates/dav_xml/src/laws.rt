@@ -12,6 +12,7 @@ ghost use Rattle.dav_xml.specs.Namespaces.{document};
 ghost use Rattle.dav_xml.specs.Scopes.{Scope, uri_of};
 ghost use Rattle.dav_xml.specs.Expanded.{AllMean, IsExpanded, IsFew, IsPlain, Means};
 ghost use Rattle.dav_xml.specs.Legal.{HasLegal, HasLegalTexts};
+ghost use Rattle.dav_xml.specs.Prefixed.{PrefixedIsSendable};
 ghost use Rattle.dav_xml.specs.Sendable.{ExpandedIsSendable, ReadIsSendable, SendableIsRead};
 
 /// Pieces of markup that are written are read again.
@@ -107,4 +108,10 @@ pub fn sendable_is_read()
 pub fn expanded_is_sendable()
     ensures expanded { ExpandedIsSendable }
     ensures read { ReadIsSendable }
+{}
+
+/// An element that may be sent may be sent under another prefix, where that is known for a namespace.
+#[tactic(auto, using(crate::proofs::SentPrefixed::prefixed_is_sendable))]
+pub fn prefixed_is_sendable()
+    ensures { PrefixedIsSendable }
 {}

@@ -11,6 +11,7 @@ mod markup;
 mod names;
 mod namespaces;
 mod nesting;
+mod prefixed;
 mod references;
 mod scope;
 #[cfg(test)]
@@ -21,4 +22,5 @@ mod written;
 
 pub use error::{Fault, XmlError};
 pub use namespaces::read;
+pub use prefixed::with_prefix;
 pub use writing::write;

@@ -17,9 +17,9 @@ use std::alloc::Global;
 
 // The attributes that are kept, and the namespaces and local parts of those that have a prefix.
 #[derive(Drop)]
-struct Kept {
-    attributes: Vec<(String, String)>,
-    names: Vec<(String, String)>,
+pub struct Kept {
+    pub attributes: Vec<(String, String)>,
+    pub names: Vec<(String, String)>,
 }
 
 #[tactic(auto, unfolding(crate::specs::Namespaces::qualified))]
@@ -123,7 +123,7 @@ fn copied<'s>(
     Ok(copy)
 }
 
-fn within<'s>(
+pub fn within<'s>(
     alloc: Global,
     scope: &[(&'s [u8], &'s str)],
     attributes: &'s [(String, String)],
@@ -173,7 +173,7 @@ fn declaring(alloc: Global, prefix: &str) -> Result<String, XmlError>
     Ok(name)
 }
 
-fn has_prefix(own: Option<&str>, prefix: &str) -> bool
+pub fn has_prefix(own: Option<&str>, prefix: &str) -> bool
     ensures { result ≡ spec.has_prefix (option_map (λ p. p.now) own.entry) prefix.now }
 {
     match own {
@@ -291,7 +291,7 @@ fn kept_step(
     }
 }
 
-fn kept_of(
+pub fn kept_of(
     alloc: Global,
     scope: &[(&[u8], &str)],
     own: Option<&str>,

@@ -38,7 +38,7 @@ fn is_bound(uri: &str) -> bool
 }
 
 // Whether a prefix may be declared with a namespace.
-fn may_declare(alloc: Global, prefix: &str, uri: &str) -> Result<bool, XmlError>
+pub fn may_declare(alloc: Global, prefix: &str, uri: &str) -> Result<bool, XmlError>
     ensures { Gives (λ b. b) result (Ok (spec.may_declare prefix.now uri.now)) }
 {
     if prefix == "xml" {

@@ -6,6 +6,7 @@ mod errors;
 mod grammar;
 mod limits;
 mod namespaces;
+mod prefixed;
 mod values;
 
 use crate::{Fault, XmlError, read, write};

@@ -30,7 +30,7 @@ fn declared_prefix(name: &str) -> Option<&[u8]>
 }
 
 // The namespace of a prefix that stands in a tree without one.
-fn known(prefix: &str) -> &'static str
+pub fn known(prefix: &str) -> &'static str
     ensures { result.now ≡ spec.known prefix.now }
 {
     if prefix == "D" {
