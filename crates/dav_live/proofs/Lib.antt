@@ -15,3 +15,4 @@ mod SentRemovals
 mod SentOthers
 mod SentSteps
 mod SentOwners
+mod SentRequests

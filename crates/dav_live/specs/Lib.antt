@@ -2,3 +2,4 @@ pub mod Frames
 pub mod Records
 pub mod Sent
 pub mod SentLaws
+pub mod Owners

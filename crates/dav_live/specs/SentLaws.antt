@@ -11,6 +11,7 @@ use Rattle.dav_server.specs.Machine.{Exchange, Settings, Steps, StepCut}
 use Rattle.dav_server.specs.Run.{Turn, Runs}
 use Rattle.dav_server.specs.TagLaws.{MomentsAreDates}
 use Rattle.dav_xml.specs.Sendable.{IsSendable}
+use Rattle.dav_live.specs.Owners.{told_owners}
 use Rattle.dav_live.specs.Sent.{IsSendableTextIfAny, KeepsSendable, AreSendableLocks, IsSendableBody, IsUsualOwner, IsReadByClient}
 
 -- Of a request the body may be sent, and so may the name of who makes it, and the token for a lock that it creates.
@@ -51,3 +52,7 @@ CutsStaySendable =
 -- A tree that may be sent may be sent as a body, where each owner in it is as the standard has it (RFC 4918, section 14.17).
 abbrev pub UsualOwnersMayBeSent : Type 0
 UsualOwnersMayBeSent = (tree : ElementTree) → IsSendable tree → AllByRecursion IsUsualOwner (child_elements tree) → IsSendableBody (body.Tree tree)
+
+-- A tree that may be sent may be sent as a body, once each owner in it is ready to be told (RFC 4918, section 14.17).
+abbrev pub ToldOwnersMayBeSent : Type 0
+ToldOwnersMayBeSent = (tree : ElementTree) → IsSendable tree → IsSendableBody (body.Tree (told_owners tree))

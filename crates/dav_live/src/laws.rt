@@ -1,5 +1,5 @@
 //! Laws of replies. Each function does nothing: its contract is a theorem on the definitions.
-ghost use Rattle.dav_live.specs.SentLaws.{CutsStaySendable, NewIsSendable, RunsAreReadAgain, StepsAreReadAgain, UsualOwnersMayBeSent};
+ghost use Rattle.dav_live.specs.SentLaws.{CutsStaySendable, NewIsSendable, RunsAreReadAgain, StepsAreReadAgain, ToldOwnersMayBeSent, UsualOwnersMayBeSent};
 
 /// The element tree that a request is answered with is read again by its client as the tree that it means, whatever the store refuses,
 /// where it has at most 64 levels, each element that is written has at most 256 attributes and is within at most 256 declarations, and
@@ -23,4 +23,11 @@ pub fn runs_are_read_again()
 #[tactic(auto, using(crate::proofs::SentOwners::usual_owners_may_be_sent))]
 pub fn usual_owners_may_be_sent()
     ensures { UsualOwnersMayBeSent }
+{}
+
+/// An owner with attributes, or of another namespace, is made ready to be told before: so each tree that may be sent may be sent as a
+/// body (RFC 4918, section 14.17).
+#[tactic(auto, using(crate::proofs::SentOwners::told_owners_may_be_sent))]
+pub fn told_owners_may_be_sent()
+    ensures { ToldOwnersMayBeSent }
 {}

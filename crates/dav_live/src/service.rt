@@ -1,4 +1,8 @@
 //! What answers the requests of all connections, and keeps those that may change something.
+ghost use Rattle.std.specs.Prelude.{IfOk, option_copied};
+ghost use Rattle.dav_live.specs.Sent.{IsSendableBody, IsSendableTextIfAny};
+ghost use Rattle.dav_live.specs.SentLaws.{IsSendableRequest};
+
 use crate::basic::credentials_of;
 use crate::fault::{Fault, OpenError};
 use crate::heads::{
@@ -63,7 +67,9 @@ fn new_handler(alloc: Global, prefix: &str) -> Result<DavHandler<MemFs, MemLs>, 
 }
 
 // The body of a request with this method, as the handler takes it.
-fn body_of(alloc: Global, method: &[u8], body: Bytes) -> Result<Body, AllocError> {
+fn body_of(alloc: Global, method: &[u8], body: Bytes) -> Result<Body, AllocError>
+    ensures { IfOk result IsSendableBody }
+{
     if body.is_empty() {
         return Ok(Body::None);
     }
@@ -71,20 +77,24 @@ fn body_of(alloc: Global, method: &[u8], body: Bytes) -> Result<Body, AllocError
         return Ok(Body::Bytes(body));
     }
     match dav_xml::read(alloc, body.as_slice()) {
-        Ok(tree) if is_lock(method) => Ok(Body::Tree(with_told_owners(alloc, tree)?)),
-        Ok(tree) => Ok(Body::Tree(tree)),
+        Ok(tree) => Ok(Body::Tree(with_told_owners(alloc, tree)?)),
         Err(XmlError::Memory) => Err(AllocError),
         Err(_) => Ok(Body::Malformed),
     }
 }
 
 // The token of a text.
-fn token_of(alloc: Global, text: Option<&str>) -> Option<GrantToken> {
+fn token_of(alloc: Global, text: Option<&str>) -> Option<GrantToken>
+    ensures { IsSendableTextIfAny result }
+{
     GrantToken::new(alloc, text?).ok()
 }
 
 // A request as the handler takes it.
-fn exchange_of<'r>(alloc: Global, record: &Record<'r>, body: Bytes) -> Result<Exchange<'r>, Stop> {
+fn exchange_of<'r>(alloc: Global, record: &Record<'r>, body: Bytes) -> Result<Exchange<'r>, Stop>
+    ensures { IsSendableTextIfAny (option_copied record.now.principal)
+        → IfOk result IsSendableRequest }
+{
     let body = body_of(alloc, method_of(record.head), body)?;
     let token = token_of(alloc, record.token);
     let moment = record.moment.min(LAST_MOMENT);
