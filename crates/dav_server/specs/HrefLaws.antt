@@ -1,4 +1,5 @@
--- Hrefs lead back: each of a multistatus, as the target of a request, names the path that it tells of (RFC 4918, sections 8.3 and 14.7).
+-- Hrefs lead back: each href of a multistatus, as the target of a request, names the path that its response is about (RFC 4918, sections
+-- 8.3 and 14.7).
 use Rattle.std.specs.Prelude.{◌≡◌, ◌≢◌, ◌⊎◌, ℕ, ◌≤◌, Bool, true, false, List, [], ◌∷◌, All, map, codes, Option, None, Ok}
 use Rattle.http_header.specs.HeaderMap.{get_all}
 use Rattle.dav_core.specs.declared.method.DavMethod.{DavMethod}

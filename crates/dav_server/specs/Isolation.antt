@@ -23,7 +23,7 @@ use Rattle.dav_server.specs.Run.{Turn, begun, RunsBy, Runs}
 use Rattle.dav_server.specs.DavHandler.{DavHandler}
 use Rattle.dav_server.specs.TagLaws.{MomentsAreDates}
 
--- ---- a run while a lock stands
+-- ---- a run while a lock is in the list
 
 -- each turn brings a list of refusals, so none are left of the turn before
 abbrev pub AreLoaded : List Turn → Type 0

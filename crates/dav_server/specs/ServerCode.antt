@@ -1,4 +1,4 @@
--- Codes of servers, requests and turns, which a Model wants of its Value.
+-- How the logic encodes servers, requests and turns, as a Model needs it of its Value.
 use Rattle.std.specs.Prelude.{ℕ, List, Option, refl}
 use Rattle.std.specs.Coded.{Coded, code_by, coded_ℕ, coded_list, coded_option, coded×}
 use Rattle.dav_core.specs.declared.errors.FsError.{FsError}

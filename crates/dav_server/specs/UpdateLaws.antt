@@ -22,7 +22,7 @@ use Rattle.dav_server.specs.Run.{Turn, begun, Runs}
 use Rattle.dav_server.specs.TagLaws.{ShownIn, MomentsAreDates}
 use Rattle.dav_server.specs.Target.{TargetNames}
 
--- ---- what a client was told
+-- ---- what replies reported
 
 -- the request is a PUT of these bytes as the whole file: it has no Content-Range (RFC 9110, sections 9.3.4 and 14.5)
 abbrev pub PutsWhole : Exchange → List ℕ → Type 0

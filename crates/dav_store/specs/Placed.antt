@@ -1,4 +1,4 @@
--- The paths and nodes that a tree stands for, whose keys are names.
+-- The paths and nodes of a tree whose keys are names.
 use Rattle.std.specs.Prelude.{◌≡◌, ◌≢◌, ℕ, ◌+◌, ◌==◌, nat_eq, Bool, true, false, if◌then◌else◌, List, [], ◌∷◌, map, reverse, Option, None, Some, Vec}
 use Rattle.std.specs.Option.{option_and_then, option_map, option_map_or, IsSome}
 use Rattle.std.specs.Ordering.{nat_cmp, eq_by_cmp}
