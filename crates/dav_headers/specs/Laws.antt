@@ -120,12 +120,12 @@ abbrev pub ETagReadsAgain : Type 0
 ETagReadsAgain =
     (e : EntityTag) → IsUnquoted e.tag → IsText (tag_text e.weak e.tag) → IsETag (written (tag_text e.weak e.tag)) e
 
--- the numbers of a Content-Range are below 2^64
+-- the bounds of a Content-Range, where it has them, are below 2^64
 abbrev pub AreBoundsBelow : Option (ℕ × ℕ) → Type 0
 AreBoundsBelow None = ⊤
 AreBoundsBelow (Some (a, b)) = (a < 2 ^ 64) × (b < 2 ^ 64)
 
--- the length of a Content-Range is below 2^64
+-- the length of a Content-Range, where it has one, is below 2^64
 abbrev pub IsLengthBelow : Option ℕ → Type 0
 IsLengthBelow None = ⊤
 IsLengthBelow (Some n) = n < 2 ^ 64

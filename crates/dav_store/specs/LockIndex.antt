@@ -70,7 +70,7 @@ path_keys deep p = keys_from deep [] p
 unfoldable pub one_at : Key → Key → ℕ
 one_at key k = if same_key key k then 1 else 0
 
--- how often a key is among some
+-- how often a key is among these keys
 abbrev pub times : Key → List Key → ℕ
 times k keys = sum_by (λ x. one_at x k) keys
 

@@ -182,7 +182,7 @@ module _ {K D : Type 0} where
       else if has_children t n then Some Exists
       else None
 
-  -- the tree without a node that has no children
+  -- the tree without the node of a number, which has no children, and which isn't among those of its parent any more
   abbrev pub deleted : Tree K D → ℕ → Tree K D
   deleted t n = without (unlinked t n) n
 

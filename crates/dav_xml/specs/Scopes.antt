@@ -43,8 +43,8 @@ xmlns_uri = codes "http://www.w3.org/2000/xmlns/"
 abbrev pub is_bound : List ℕ → Bool
 is_bound uri = bytes_eq uri xml_uri || bytes_eq uri xmlns_uri
 
--- Whether a prefix may be declared with this namespace: `xml` with its own alone, `xmlns` not at all, any other with one that isn't empty
--- nor that of `xml` or `xmlns` (Namespaces in XML 1.0, section 3).
+-- Whether a prefix may be declared with this namespace: `xml` with its own alone, and `xmlns` not at all; any other where it is a name
+-- without a colon, and the namespace is neither empty nor that of `xml` or `xmlns` (Namespaces in XML 1.0, section 3).
 abbrev pub may_declare : List ℕ → List ℕ → Bool
 may_declare prefix uri =
     if bytes_eq prefix (codes "xml") then bytes_eq uri xml_uri
