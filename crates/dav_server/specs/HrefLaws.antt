@@ -92,7 +92,7 @@ abbrev pub HasConcernedHref : Settings → Exchange → ElementTree → Type 0
 HasConcernedHref s x response = (q : PathText) × ConcernsPath s x q × TellsOf s.prefix q response
 
 -- Each response of a multistatus that answers a request is about a path that the request concerns, whatever its method is and whatever
--- the store refuses (RFC 4918, sections 8.3 and 13).
+-- the store refuses, where the server's prefix is a prefix and its store holds a world (RFC 4918, sections 8.3 and 13).
 abbrev pub RepliesLeadBack : Type 0
 RepliesLeadBack =
     (s : Settings) (x : Exchange) (old new : StoreState) (ls ms : Locks) (reply : Reply)
@@ -112,8 +112,8 @@ abbrev pub TellAll : List ℕ → World → PathText → Option Depth → List E
 TellAll prefix w p depth responses = (ps : List PathText) × AreListed w p depth ps × TellOf prefix ps responses
 
 -- A PROPFIND that is answered 207 has a response for everything that it lists, where the store refuses none of its calls that list or
--- describe what is there: at Depth 0 for its target, at Depth 1 also for the members, at Depth infinity for all that is below it; without
--- a Depth for the members alone (RFC 4918, sections 9.1 and 10.2).
+-- describe what is there, and paths have fewer than 2^64 names: at Depth 0 for its target, at Depth 1 also for the members, at Depth
+-- infinity for all that is below it; without a Depth for the members alone (RFC 4918, sections 9.1 and 10.2).
 abbrev pub ListingsAreWhole : Type 0
 ListingsAreWhole =
     (s : Settings) (x : Exchange) (r : Request) (p : PathText) (depth : Option Depth) (old new : StoreState) (ls ms : Locks) (reply : Reply)
@@ -123,7 +123,8 @@ ListingsAreWhole =
     → TellAll s.prefix old.world (path_in old.world p) depth (responses_in reply.body)
 
 -- This reply to a PROPFIND, where it is a 207, has a response for everything that it lists, if the server's prefix is a prefix, its store
--- holds a world, no refusal is left to come, and the store hasn't run out of memory (RFC 4918, sections 9.1 and 10.2).
+-- holds a world whose paths have fewer than 2^64 names, no refusal is left to come, and the store hasn't run out of memory (RFC 4918,
+-- sections 9.1 and 10.2).
 abbrev pub ReplyIsWhole : DavHandler → Exchange → Reply → DavHandler → Type 0
 ReplyIsWhole old x reply new =
     (r : Request) (p : PathText) (depth : Option Depth)

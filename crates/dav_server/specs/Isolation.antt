@@ -125,8 +125,9 @@ HoldersAnswerAlike =
     → x.moment ≤ last_moment → IsHolderRequest s h x → StepsBy AsksWithNumbers s x old ls reply new ms → new.short ≡ false
     → AnswersAlso s h x reply new ms other ks
 
--- While a folder is guarded, and no request hands in the guard's token, the folder and the answers to its holder are those of the
--- holder's requests run alone (RFC 4918, section 7).
+-- In a run from a world whose turns each bring a list of refusals: while a folder that has folders above it is guarded, and no request
+-- hands in the guard's token, the folder and the answers to its holder are those of the holder's requests run alone (RFC 4918, section
+-- 7).
 abbrev pub HoldersAreAlone : Type 0
 HoldersAreAlone =
     (s : Settings) (h : Lock) (ts us : List Turn) (old new : StoreState) (ls ms : Locks) (replies : List Reply)
@@ -151,10 +152,10 @@ RunsFindNumbers =
 
 -- ---- what a run promises
 
--- A run of these turns with these replies isolates the holder of any lock: from any moment at which a lock guards a folder, as long as
--- the lock is in the list, all who name its token as its principal are its holder, and no request hands it in, the folder and the replies
--- to the holder are as if the holder's requests were run alone. The run begins with a world, no call found the change numbers used up,
--- and the store didn't run out of memory (RFC 4918, section 7).
+-- A run of these turns with these replies isolates the holder of any lock: from any moment at which a lock guards a folder that has
+-- folders above it, as long as the lock is in the list, all who name its token as its principal are its holder, and no request hands it
+-- in, the folder and the replies to the holder are as if the holder's requests were run alone. The run begins with a world, no call found
+-- the change numbers used up, and the store didn't run out of memory (RFC 4918, section 7).
 abbrev pub IsIsolated : DavHandler → List Turn → List Reply → Type 0
 IsIsolated old ts replies =
     (front later back us : List Turn) (h : Lock) (mid new : StoreState) (ks ms : Locks) (before given after : List Reply)

@@ -57,8 +57,8 @@ LacksTag s x p tag =
     × IsHead x.head r × GivesServed r.method (Ok m) × TargetNames s.prefix m r.target (Ok p)
     × IsTagList (get_all (headers_of r.fields) (codes "if-none-match")) (tags (tag ∷ []))
 
--- A request that is answered 304 to an If-None-Match of one tag finds at its path a file with the bytes that any GET of the run, before
--- it or after it, was answered with under that tag (RFC 9110, sections 13.1.2 and 15.4.5).
+-- In a run that begins with a world, a request that is answered 304 to an If-None-Match of one tag finds at its path a file with the
+-- bytes that any GET of the run, before it or after it, was answered with under that tag (RFC 9110, sections 13.1.2 and 15.4.5).
 abbrev pub NotModifiedIsTrue : Type 0
 NotModifiedIsTrue =
     (s : Settings) (front back : List Turn) (t : Turn) (old mid end new : StoreState) (ls ks js ms : Locks)
