@@ -5,7 +5,7 @@ use Rattle.std.specs.Prelude.{ℕ, ◌<◌, List, ◌∷◌, ◌++◌, ◌≡◌
 abbrev pub IsWithout : ℕ → List ℕ → Type 0
 IsWithout sign text = (i : ℕ) → i < length text → slice_index text i ≢ sign
 
--- the text before the first such byte, and the text after it
+-- the text is cut at the first byte of this value: `front` is before it, and `back` after it
 abbrev pub IsCut : ℕ → List ℕ → List ℕ → List ℕ → Type 0
 IsCut sign text front back = IsWithout sign front × (text ≡ front ++ sign ∷ back)
 

@@ -5,18 +5,18 @@ use Rattle.dav_headers.specs.Value.{only_text}
 use Rattle.dav_headers.specs.declared.depth.Depth.{Depth}
 use Rattle.dav_headers.specs.declared.depth.Depth.TheVariants.{Default, Zero, One, Infinity}
 
--- the texts that mean each depth; `Default`, for a header that is left out, has none
+-- the values of Depth that mean each depth; `Default`, for a header that is left out, has none (RFC 4918, section 10.2)
 abbrev pub IsDepthText : List ℕ → Depth → Type 0
 IsDepthText text Default = ⊥
 IsDepthText text Zero = text ≡ codes "0"
 IsDepthText text One = text ≡ codes "1"
 IsDepthText text Infinity = (text ≡ codes "infinity") ⊎ (text ≡ codes "Infinity")
 
--- the only value means this depth (RFC 4918, sections 10.2 and 10.6)
+-- the header has one value, and it means this depth (RFC 4918, section 10.2)
 abbrev pub IsDepth : List FieldValue → Depth → Type 0
 IsDepth values depth = IsSomeAnd (only_text values) (λ text. IsDepthText text depth)
 
--- the text that is written (RFC 4918, section 10.2)
+-- the value that is written for a depth; none for `Default`, which is written by leaving the header out (RFC 4918, section 10.2)
 abbrev pub depth_text : Depth → Option (List ℕ)
 depth_text Default = None
 depth_text Zero = Some (codes "0")

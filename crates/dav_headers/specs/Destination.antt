@@ -14,19 +14,21 @@ abbrev pub from_slash : List ℕ → List ℕ
 from_slash [] = 47 ∷ []
 from_slash (b ∷ bs) = if b == 47 then b ∷ bs else from_slash bs
 
--- an absolute path, as it is
+-- a Destination that begins with a slash is the path itself (RFC 4918, sections 8.3 and 10.3)
 abbrev pub IsPathText : List ℕ → List ℕ → Type 0
 IsPathText text path = (rest : List ℕ) × (text ≡ 47 ∷ rest) × (path ≡ text)
 
--- in an http or https URI, what follows the authority
+-- A Destination that is an http or https URI names what is from the first slash after its `//` on, or `/` where there is none; the host
+-- isn't looked at (RFC 4918, section 10.3).
 abbrev pub IsUriText : List ℕ → List ℕ → Type 0
 IsUriText text path =
     (scheme : List ℕ) × (after : List ℕ)
     × IsHttp scheme × (text ≡ scheme ++ 58 ∷ 47 ∷ 47 ∷ after) × (path ≡ from_slash after)
 
+-- a Destination's value names this path: it begins with a slash, or it is an http or https URI (RFC 4918, section 10.3)
 abbrev pub IsDestinationText : List ℕ → List ℕ → Type 0
 IsDestinationText text path = IsPathText text path ⊎ IsUriText text path
 
--- the only value names this path (RFC 4918, section 10.3; RFC 3986, section 3)
+-- the header has one value, and it names this path (RFC 4918, section 10.3)
 abbrev pub IsDestination : List FieldValue → List ℕ → Type 0
 IsDestination values path = IsSomeAnd (only_text values) (λ text. IsDestinationText text path)

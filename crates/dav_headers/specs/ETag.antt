@@ -9,7 +9,7 @@ pub record EntityTag : Type 0 where
   pub weak : Bool
   pub tag : List ℕ
 
--- a tag is stored as the pair of its fields
+-- how the logic encodes an entity tag: as the pair of its fields
 abbrev pub coded_tag : Coded EntityTag
 coded_tag =
     code_by (Bool × List ℕ) (coded× coded_bool (coded_list coded_ℕ))
@@ -20,7 +20,7 @@ abbrev pub tag_text : Bool → List ℕ → List ℕ
 tag_text true tag = codes "W/" ++ 34 ∷ (tag ++ 34 ∷ [])
 tag_text false tag = 34 ∷ (tag ++ 34 ∷ [])
 
--- a text without a quote (RFC 9110, section 8.8.3)
+-- the text has no double quote, so it may be between those of an entity tag (RFC 9110, section 8.8.3)
 abbrev pub IsUnquoted : List ℕ → Type 0
 IsUnquoted tag = ¬ Contains tag 34
 
@@ -28,7 +28,7 @@ IsUnquoted tag = ¬ Contains tag 34
 abbrev pub IsEntityTag : List ℕ → EntityTag → Type 0
 IsEntityTag text e = IsUnquoted e.tag × (text ≡ tag_text e.weak e.tag)
 
--- the only value of a header is this entity tag (RFC 9110, section 8.8.3)
+-- the header has one value, and it is the text of this entity tag (RFC 9110, section 8.8.3)
 abbrev pub IsETag : List FieldValue → EntityTag → Type 0
 IsETag values e = IsSomeAnd (only_text values) (λ text. IsEntityTag text e)
 

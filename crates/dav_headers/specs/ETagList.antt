@@ -9,25 +9,26 @@ use Rattle.dav_headers.specs.declared.etag_list.ETagList.TheVariants as list
 use Rattle.dav_headers.specs.declared.etag_list.IfRange.{IfRange}
 use Rattle.dav_headers.specs.declared.etag_list.IfRange.TheVariants as range
 
--- any tag, or one of these
+-- what If-Match and If-None-Match name: any entity tag (`*`), or one of these (RFC 9110, section 13.1)
 pub data TagList : Type 0 where
   star : TagList
   tags : List EntityTag → TagList
 
--- the tags that an `ETagList` holds (RFC 9110, section 13.1)
+-- the list of tags that an `ETagList` is: its tags without capacities, or `star`
 abbrev pub tag_list : ETagList → TagList
 tag_list (list.Tags v) = tags v.items
 tag_list list.Star = star
 
--- the list elements that are tags, in order; the others are skipped
+-- the entity tags among these list elements, in order; an element that is no entity tag is skipped
 abbrev pub AreTags : List (List ℕ) → List EntityTag → Type 0
 AreTags [] ts = ts ≡ []
 AreTags (p ∷ ps) ts =
     (((t : EntityTag) → ¬ IsEntityTag p t) × AreTags ps ts)
     ⊎ ((t : EntityTag) × (more : List EntityTag) × IsEntityTag p t × (ts ≡ t ∷ more) × AreTags ps more)
 
--- The values, in order; each that is read is text. The first one that is `*` apart from white space means any tag,
--- and what follows it isn't looked at; without such a value, the list holds the tags of all of them (RFC 9110, sections 13.1.1 and 13.1.2).
+-- What the values of If-Match or If-None-Match say, read in order, where each that is read is text. The first one that is `*` apart from
+-- white space means any tag, and what follows it isn't looked at; without such a value, the list holds the tags of all values (RFC 9110,
+-- sections 13.1.1 and 13.1.2).
 abbrev pub ReadTags : List FieldValue → TagList → Type 0
 ReadTags [] star = ⊥
 ReadTags [] (tags ts) = ts ≡ []
@@ -37,15 +38,16 @@ ReadTags (v ∷ vs) (tags ts) =
     × ((front : List EntityTag) × (back : List EntityTag)
     × (ts ≡ front ++ back) × AreTags (elements_of v.bytes) front × ReadTags vs (tags back))
 
--- there is at least one value, and the values mean this list (RFC 9110, sections 13.1.1 and 13.1.2)
+-- the header has at least one value, and the values of If-Match or If-None-Match mean this list (RFC 9110, sections 13.1.1 and 13.1.2)
 abbrev pub IsTagList : List FieldValue → TagList → Type 0
 IsTagList values l = (0 < length values) × ReadTags values l
 
--- the text that is written (RFC 9110, section 13.1.1)
+-- the value of If-Match or If-None-Match that is written: `*`, or the tags with a comma and a space between them (RFC 9110, sections
+-- 13.1.1 and 13.1.2)
 abbrev pub tag_list_text : TagList → List ℕ
 tag_list_text star = codes "*"
 tag_list_text (tags ts) = joined (map (λ t. tag_text t.weak t.tag) ts)
 
--- the tag of If-Range (RFC 9110, section 13.1)
+-- the entity tag of an If-Range (RFC 9110, section 13.1.5)
 abbrev pub range_tag : IfRange → EntityTag
 range_tag (range.ETag t) = t

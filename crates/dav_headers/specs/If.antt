@@ -7,22 +7,22 @@ use Rattle.url.specs.Parts.{Parts}
 use Rattle.dav_headers.specs.ETag.{EntityTag, IsEntityTag}
 use Rattle.dav_headers.specs.IfTokens.{Token, open_list, close_list, negation, angle, square, word, Spells}
 
--- what a condition asks for: a state token, or an entity tag of the resource (RFC 4918, sections 10.4.2 and 10.4.4)
+-- what a condition of an If header asks for: a state token, or an entity tag of the resource (RFC 4918, section 10.4.2)
 pub data Item : Type 0 where
   state_token : List ℕ → Item
   entity_tag : EntityTag → Item
 
--- an item, and whether there is a `Not` before it (RFC 4918, sections 10.4.2 and 10.4.4)
+-- a condition of an If header: what it asks for, and whether there is a `Not` before it (RFC 4918, section 10.4.2)
 pub record Condition : Type 0 where
   pub negated : Bool
   pub item : Item
 
--- a list of conditions, and the URL of its resource tag where it has one (RFC 4918, sections 10.4.2 and 10.4.4)
+-- one list of an If header: its conditions, and the URL of the resource tag right before it, where it has one (RFC 4918, section 10.4.2)
 pub record ConditionList : Type 0 where
   pub resource : Option Parts
   pub conditions : List Condition
 
--- A token as an item: UTF-8 in `<>` or alone is a state token; the text of an entity tag in `[]` is that tag
+-- A token as an item: UTF-8 in `<>` or alone is a state token; the text of an entity tag in `[]` is that tag; `(`, `)` and `Not` are none
 -- (RFC 4918, section 10.4.2; RFC 9110, section 8.8.3).
 abbrev pub IsItem : Token → Item → Type 0
 IsItem (angle t) i = IsUtf8 t × (i ≡ state_token t)
@@ -32,19 +32,20 @@ IsItem open_list i = ⊥
 IsItem close_list i = ⊥
 IsItem negation i = ⊥
 
--- the tokens of the conditions, one after the other (RFC 4918, section 10.4.2)
+-- the tokens are these conditions one after the other, each with `Not` before it where it is negated (RFC 4918, section 10.4.2)
 abbrev pub AreConditions : List Token → List Condition → Type 0
 AreConditions ts [] = ts ≡ []
 AreConditions ts (c ∷ cs) =
     (t : Token) × (more : List Token)
     × IsItem t c.item × (ts ≡ (if c.negated then negation ∷ t ∷ more else t ∷ more)) × AreConditions more cs
 
--- the tokens of a resource tag: none, or UTF-8 in `<>` that the URL Standard's parser reads, without a base, as the URL (RFC 4918, section 10.4.2)
+-- The tokens of a resource tag: none, or UTF-8 in `<>` that the URL Standard's parser reads, without a base, as this URL. So a relative
+-- reference is none (RFC 4918, section 10.4.2).
 abbrev pub IsResourceTag : List Token → Option Parts → Type 0
 IsResourceTag ts None = ts ≡ []
 IsResourceTag ts (Some url) = (t : List ℕ) × IsUtf8 t × (parse_url None t ≡ Ok url) × (ts ≡ angle t ∷ [])
 
--- the end of a list, with or without a `Not` that means nothing
+-- the tokens that end a list: `)`, or `Not` and `)` where true; that `Not` means nothing
 abbrev pub list_end : Bool → List Token
 list_end true = negation ∷ close_list ∷ []
 list_end false = close_list ∷ []
@@ -56,17 +57,17 @@ IsList ts l =
     × IsResourceTag tag l.resource × (0 < length l.conditions) × AreConditions inner l.conditions
     × (ts ≡ tag ++ open_list ∷ (inner ++ list_end idle))
 
--- lists one after the other (RFC 4918, section 10.4.2)
+-- the tokens are these lists one after the other (RFC 4918, section 10.4.2)
 abbrev pub AreLists : List Token → List ConditionList → Type 0
 AreLists ts [] = ts ≡ []
 AreLists ts (l ∷ ls) =
     (front : List Token) × (rest : List Token) × IsList front l × (ts ≡ front ++ rest) × AreLists rest ls
 
--- the text is that of one or more lists (RFC 4918, section 10.4.2)
+-- the text is that of an If header with these lists, of which there is at least one (RFC 4918, section 10.4.2)
 abbrev pub IsIf : List ℕ → List ConditionList → Type 0
 IsIf text ls = (ts : List Token) × Spells text ts × AreLists ts ls × (0 < length ls)
 
--- the only value of a header is that text (RFC 4918, section 10.4.2)
+-- the header has one value, and it is that of an If header with these lists (RFC 4918, section 10.4.2)
 abbrev pub IsIfHeader : List FieldValue → List ConditionList → Type 0
 IsIfHeader values ls = (v : FieldValue) × (values ≡ v ∷ []) × IsIf v.bytes ls
 
@@ -81,6 +82,6 @@ tokens_in (entity_tag e) = []
 abbrev pub tokens_among : List Condition → List (List ℕ)
 tokens_among conditions = flat_map (λ c. tokens_in c.item) conditions
 
--- all state tokens of the lists in order (RFC 4918, section 10.4)
+-- the state tokens of all lists of an If header in order, those under `Not` too, each as often as it occurs (RFC 4918, section 10.4)
 abbrev pub tokens_of : List ConditionList → List (List ℕ)
 tokens_of ls = flat_map (λ l. tokens_among l.conditions) ls

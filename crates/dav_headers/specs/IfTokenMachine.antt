@@ -3,19 +3,22 @@ use Rattle.std.specs.Prelude.{ℕ, ◌+◌, ◌==◌, ◌&&◌, ◌||◌, Bool, 
 use Rattle.std.specs.List.{starts_with, prefix_len}
 use Rattle.dav_headers.specs.IfTokens.{Token, open_list, close_list, negation, angle, square, word}
 
+-- whether a byte is white space in an If header: space, tab, CR or LF
 abbrev pub is_white_space : ℕ → Bool
 is_white_space b = b == 32 || b == 9 || b == 13 || b == 10
 
+-- whether a byte may be in a bare word: from 33 up, but none of `<>()[]`
 abbrev pub is_word_byte : ℕ → Bool
 is_word_byte b =
     nat_le 33 b && not (b == 60) && not (b == 62) && not (b == 40) && not (b == 41) && not (b == 91) && not (b == 93)
 
--- the text from its first byte on that isn't white space
+-- the text without the white space at its beginning
 abbrev pub skip : List ℕ → List ℕ
 skip [] = []
 skip (b ∷ bs) = if is_white_space b then skip bs else b ∷ bs
 
--- how many bytes are before the closing sign
+-- How many bytes are before the first closing sign that isn't between quotes (`quoted`: a quote is open); none where white space is
+-- before it, or where there is no such sign.
 abbrev pub inside_len : ℕ → Bool → List ℕ → Option ℕ
 inside_len close quoted [] = None
 inside_len close quoted (b ∷ bs) =
@@ -27,10 +30,11 @@ inside_len close quoted (b ∷ bs) =
 abbrev pub Split : Type 0
 Split = Option (Token × List ℕ)
 
--- the bytes before the closing sign, and those after it
+-- the bytes before the closing sign, and those after it; none where white space is before it, or where there is no such sign
 abbrev pub split_inside : ℕ → List ℕ → Option (List ℕ × List ℕ)
 split_inside close text = option_map (λ n. (take n text, drop (n + 1) text)) (inside_len close false text)
 
+-- the token of the bytes before the closing sign, and what follows that sign; none where there is none
 abbrev pub bracketed : (List ℕ → Token) → ℕ → List ℕ → Split
 bracketed make close text = option_map (λ x. (make x.0, x.1)) (split_inside close text)
 
@@ -38,12 +42,13 @@ bracketed make close text = option_map (λ x. (make x.0, x.1)) (split_inside clo
 abbrev pub word_len : List ℕ → ℕ
 word_len text = prefix_len is_word_byte text
 
+-- the bare word that the text begins with, and what follows it; none where it begins with none
 abbrev pub word_at : List ℕ → Split
 word_at text =
     if word_len text == 0 then None
     else Some (word (take (word_len text) text), drop (word_len text) text)
 
--- the token that the text begins with, and what follows it
+-- the token that the text begins with, and what follows it; none where it begins with none
 abbrev pub token_at : List ℕ → Split
 token_at text =
     if starts_with nat_eq text (40 ∷ []) then Some (open_list, drop 1 text)

@@ -1,7 +1,7 @@
 -- The tokens of an If header (RFC 4918, section 10.4): `(`, `)`, `Not`, and what is in brackets or alone.
 use Rattle.std.specs.Prelude.{◌≡◌, ◌≢◌, ℕ, ◌≤◌, ◌<◌, ◌==◌, ◌++◌, ◌⊎◌, ⊤, Bool, true, false, not, if◌then◌else◌, length, List, [], ◌∷◌, All}
 
--- white space: space, tab, CR and LF
+-- white space in an If header: space, tab, CR and LF
 abbrev pub IsWhiteSpace : ℕ → Type 0
 IsWhiteSpace b = (b ≡ 32) ⊎ ((b ≡ 9) ⊎ ((b ≡ 13) ⊎ (b ≡ 10)))
 
@@ -9,14 +9,14 @@ IsWhiteSpace b = (b ≡ 32) ⊎ ((b ≡ 9) ⊎ ((b ≡ 13) ⊎ (b ≡ 10)))
 abbrev pub IsWordByte : ℕ → Type 0
 IsWordByte b = (33 ≤ b) × (b ≢ 60) × (b ≢ 62) × (b ≢ 40) × (b ≢ 41) × (b ≢ 91) × (b ≢ 93)
 
--- What may be before the closing sign (`quoted`: a quote is open): no white space, the closing sign between quotes
--- only, and no quote still open at the end (RFC 4918, section 10.4.2).
+-- What may be before the closing sign of `<>` or `[]` (`quoted`: a quote is open): no white space, the closing sign between quotes only,
+-- and no quote still open at the end (RFC 4918, section 10.4.2).
 abbrev pub IsInside : ℕ → Bool → List ℕ → Type 0
 IsInside close quoted [] = quoted ≡ false
 IsInside close quoted (b ∷ bs) =
     (¬ IsWhiteSpace b) × (b ≡ close → quoted ≡ true) × IsInside close (if b == 34 then not quoted else quoted) bs
 
--- `(`, `)`, `Not`, what is in `<>`, what is in `[]`, and a bare word (RFC 4918, section 10.4.2)
+-- a token of an If header: `(`, `)`, `Not`, what is in `<>`, what is in `[]`, or a bare word (RFC 4918, section 10.4.2)
 pub data Token : Type 0 where
   open_list close_list negation : Token
   angle : List ℕ → Token
@@ -40,7 +40,7 @@ Begins text (word w) rest =
     (0 < length w) × All IsWordByte w × EndsWord rest × (text ≡ w ++ rest)
     × ((more : List ℕ) → text ≢ 78 ∷ 111 ∷ 116 ∷ more)
 
--- the text is these tokens, with optional white space before, between and after them (RFC 4918, section 10.4.2)
+-- the text consists of these tokens, with optional white space before, between and after them (RFC 4918, section 10.4.2)
 abbrev pub Spells : List ℕ → List Token → Type 0
 Spells text [] = All IsWhiteSpace text
 Spells text (t ∷ ts) =

@@ -6,11 +6,11 @@ use Rattle.http_header.specs.FieldValue.{FieldValue}
 use Rattle.dav_headers.specs.Elements.{elements_of}
 use Rattle.dav_headers.specs.Value.{IsText}
 
--- one or more letters, digits and hyphens (RFC 5646, section 2.1, without its order of subtags)
+-- a language tag, of which only the bytes are checked: one or more letters, digits and hyphens (RFC 5646, section 2.1)
 abbrev pub IsLanguage : List ℕ → Type 0
 IsLanguage item = (0 < length item) × All (λ b. IsTrue (is_ascii_alphanumeric b) ⊎ (b ≡ 45)) item
 
--- there are values, all text, and these are their list elements, each a language (RFC 9110, section 8.5)
+-- there are values, all text, and these are their list elements in order, each a language tag (RFC 9110, section 8.5)
 abbrev pub AreLanguages : List FieldValue → List (List ℕ) → Type 0
 AreLanguages values items =
     (0 < length values) × All (λ v. IsText v.bytes) values

@@ -19,11 +19,11 @@ use Rattle.dav_headers.specs.declared.timeout.DavTimeout.{DavTimeout}
 use Rattle.dav_headers.specs.declared.range.XUpdateRange.{XUpdateRange}
 use Rattle.dav_headers.specs.declared.range.XUpdateRange.TheVariants.{FromTo, AllFrom, Last, Append}
 
--- a single value with this text
+-- the header with this text as its one value
 abbrev pub written : List ℕ → List FieldValue
 written text = plain_value text ∷ []
 
--- the strong comparison of entity tags (RFC 9110, section 8.8.3.2)
+-- the strong comparison is symmetric (RFC 9110, section 8.8.3.2)
 abbrev pub StrongIsSymmetric : Type 0
 StrongIsSymmetric = (e f : EntityTag) → is_strong_match e f ≡ is_strong_match f e
 
@@ -35,7 +35,7 @@ StrongIsTransitive = (e f g : EntityTag) → is_strong_match e f ≡ true → is
 abbrev pub StrongMatchesItself : Type 0
 StrongMatchesItself = (e : EntityTag) → is_strong_match e e ≡ not e.weak
 
--- what is written is read back as the same
+-- what is written for an `Overwrite` is read as the same flag
 abbrev pub OverwriteReadsAgain : Type 0
 OverwriteReadsAgain = (o : Bool) → IsOverwrite (written (overwrite_text o)) o
 
@@ -43,14 +43,14 @@ OverwriteReadsAgain = (o : Bool) → IsOverwrite (written (overwrite_text o)) o
 abbrev pub DepthReadsAgain : Type 0
 DepthReadsAgain = (d : Depth) → (text : List ℕ) → depth_text d ≡ Some text → IsDepth (written text) d
 
--- the numbers of a range are below 2^64
+-- the numbers of an X-Update-Range are below 2^64
 abbrev pub AreBelow : XUpdateRange → Type 0
 AreBelow (FromTo a b) = (a < 2 ^ 64) × (b < 2 ^ 64)
 AreBelow (AllFrom a) = a < 2 ^ 64
 AreBelow (Last n) = n < 2 ^ 64
 AreBelow Append = ⊤
 
--- what is written for an `XUpdateRange` is read as this one
+-- what is written for an `XUpdateRange` whose numbers are below 2^64 is read as this one
 abbrev pub UpdateRangeReadsAgain : Type 0
 UpdateRangeReadsAgain = (r : XUpdateRange) → AreBelow r → IsUpdateRange (written (update_range_text r)) r
 
@@ -59,12 +59,12 @@ abbrev pub IsShort : DavTimeout → Type 0
 IsShort (Seconds n) = n < 2 ^ 32
 IsShort Infinite = ⊤
 
--- what is written for a `Timeout` is read as this one
+-- what is written for a `Timeout` of one TimeType or more, whose seconds are below 2^32, is read as this one
 abbrev pub TimeoutReadsAgain : Type 0
 TimeoutReadsAgain =
     (w : DavTimeout) → (ws : List DavTimeout) → All IsShort (w ∷ ws) → IsTimeout (written (timeout_text (w ∷ ws))) (w ∷ ws)
 
--- values have at most one meaning
+-- values are read as one Overwrite at most
 abbrev pub OneOverwrite : Type 0
 OneOverwrite = (values : List FieldValue) → (a b : Bool) → IsOverwrite values a → IsOverwrite values b → a ≡ b
 
@@ -111,20 +111,21 @@ OneEntityTag = (text : List ℕ) → (d e : EntityTag) → IsEntityTag text d �
 abbrev pub OneETag : Type 0
 OneETag = (values : List FieldValue) → (d e : EntityTag) → IsETag values d → IsETag values e → d ≡ e
 
--- a tag that was read is text, so that it can be written (RFC 9110, section 8.8.3)
+-- an entity tag that was read from a header can be written in one: its text is text there
 abbrev pub ReadTagIsText : Type 0
 ReadTagIsText = (values : List FieldValue) → (e : EntityTag) → IsETag values e → IsText (tag_text e.weak e.tag)
 
--- what is written for an entity tag that is text is read as this one
+-- what is written for an entity tag without a double quote, whose text is text in a header, is read as this one
 abbrev pub ETagReadsAgain : Type 0
 ETagReadsAgain =
     (e : EntityTag) → IsUnquoted e.tag → IsText (tag_text e.weak e.tag) → IsETag (written (tag_text e.weak e.tag)) e
 
--- the numbers of a Content-Range are below 2^64
+-- the bounds of a Content-Range, where it has them, are below 2^64
 abbrev pub AreBoundsBelow : Option (ℕ × ℕ) → Type 0
 AreBoundsBelow None = ⊤
 AreBoundsBelow (Some (a, b)) = (a < 2 ^ 64) × (b < 2 ^ 64)
 
+-- the length of a Content-Range, where it has one, is below 2^64
 abbrev pub IsLengthBelow : Option ℕ → Type 0
 IsLengthBelow None = ⊤
 IsLengthBelow (Some n) = n < 2 ^ 64

@@ -19,7 +19,8 @@ only_text (v ∷ w ∷ vs) = None
 abbrev pub IsOnlyText : List FieldValue → List ℕ → Type 0
 IsOnlyText values text = only_text values ≡ Some text
 
--- How a text is written: its bytes are the value; `Invalid` exactly where it isn't text, so `Memory` only where it is.
+-- How a text is written as a header's value: the value has its bytes; `Invalid` exactly where it isn't text, so `Memory` only where it
+-- is.
 abbrev pub Writes : Result FieldValue HeaderError → List ℕ → Type 0
 Writes (Ok v) text = IsText text × (v ≡ plain_value text)
 Writes (Err Invalid) text = ¬ IsText text
@@ -37,7 +38,7 @@ ReadsAs view grammar input (Ok x) = grammar input (view x)
 ReadsAs {B = B} view grammar input (Err Invalid) = (x : B) → ¬ grammar input x
 ReadsAs {B = B} view grammar input (Err Memory) = (x : B) × grammar input x
 
--- `ReadsAs` of the value itself
+-- `ReadsAs` of what is read itself, without a view
 abbrev pub ReadsBy : {A B : Type 0} → (A → B → Type 0) → A → Result B HeaderError → Type 0
 ReadsBy grammar input result = ReadsAs (λ x. x) grammar input result
 

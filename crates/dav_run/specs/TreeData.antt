@@ -8,17 +8,18 @@ use Rattle.serde_json.specs.View.{items_of}
 use Rattle.serde_json.specs.Written.{outline}
 use Rattle.dav_core.specs.Element.{ElementTree, element, text, ElementTrees, no_trees, tree_then}
 
--- a text, or null where there is none
+-- a text as a string, or null where there is none
 abbrev pub text_or_null : Option (List ℕ) → Data
 text_or_null None = null
 text_or_null (Some bytes) = string bytes
 
--- an attribute as a list of two texts, its name and its value
+-- an attribute as an array of two strings, its name and its value
 abbrev pub attribute_data : List ℕ × List ℕ → Data
 attribute_data a = array (item (string a.0) (item (string a.1) no_items))
 
 abbrev mutual
-  -- An element as an object with these five members; a text among its children as a text (RFC 8259).
+  -- An element as an object with five members, `attributes`, `children`, `name`, `namespace` and `prefix`; a text among its children as a
+  -- string.
   pub tree_data : ElementTree → Data
   tree_data (element name prefix namespace attributes children) =
       object
@@ -29,22 +30,22 @@ abbrev mutual
       (member (codes "prefix") (text_or_null prefix) no_members)))))
   tree_data (text bytes) = string bytes
 
-  -- children, in order
+  -- children as the items of an array, in order
   pub children_data : ElementTrees → Items
   children_data no_trees = no_items
   children_data (tree_then t ts) = item (tree_data t) (children_data ts)
 
--- a body that is a tree, as an object with the one member `element`
+-- a body that is an element tree, as an object with the one member `element`
 abbrev pub tree_body : ElementTree → Data
 tree_body tree = object (member (codes "element") (tree_data tree) no_members)
 
 -- ---- written a token at a time
 
--- the tokens of a value
+-- the JSON tokens of a value, in order
 abbrev pub tokens_of : Data → List Token
 tokens_of d = json_tokens (outline d)
 
--- these tokens were written, after what was there
+-- writing added these tokens after those that were there
 pub record Adds (old new : Written) (tokens : List Token) : Type 0 where
   pub before : new.before ≡ old.before
   pub added : new.tokens ≡ old.tokens ++ tokens

@@ -11,18 +11,19 @@ pub record DavHandler : Type 0 where
   pub settings : Settings
   pub state : ServerState
 
--- a handler: its store and its locks themselves, and the server that it is
+-- what contracts see of a handler: its store and, where it has one, its list of locks, and the server that these are with its settings
 pub record HandlerView (F L : Type 0) : Type 0 where
   pub fs : F
   pub ls : Option L
   pub server : DavHandler
 
--- the reply to a request and the server that is left are those of a step of the machine (RFC 9110, section 9.2.1; RFC 4918, section 9.10)
+-- the reply to a request and the server that is left are those of a step of the machine
 abbrev pub Answers : DavHandler → Exchange → Reply → DavHandler → Type 0
 Answers old x reply new = Steps old.settings x old.state.store old.state.locks reply new.state.store new.state.locks
 
--- Memory ran out in that step: each call of the store that was made is whole. A request that only reads has changed nothing; nor has a
--- LOCK that asks for a new lock, where no lock has the token that it hands in (RFC 9110, section 9.2.1; RFC 4918, section 9.10).
+-- What a request leaves in which memory ran out: each call of the store that was made is whole. A request of a safe method has changed
+-- nothing; nor has a LOCK that asks for a new lock, where no lock has the token that it hands in (RFC 9110, section 9.2.1; RFC 4918,
+-- section 9.10).
 pub record StopsIn (old : DavHandler) (x : Exchange) (new : DavHandler) : Type 0 where
   pub cut : StepCut old.settings x old.state.store old.state.locks new.state.store new.state.locks
   pub reading : SafeLeaves x old.state new.state
@@ -40,12 +41,12 @@ turn_of x = record { asked = x; refusals = None }
 abbrev pub turns : List Exchange → List Turn
 turns xs = map turn_of xs
 
--- the server when a turn begins
+-- the server when a turn begins: with the refusals that the turn brings, where it brings any
 abbrev pub at_turn : Turn → DavHandler → DavHandler
 at_turn t s = record s { state = record s.state { store = begun t.refusals s.state.store } }
 
--- Memory ran out in that run, after these replies, perhaps none: they are those of a run of the first turns, and memory ran out in the
--- next turn.
+-- What a run leaves in which memory ran out, with these replies, perhaps none: they are those of a run of the first turns, and memory ran
+-- out in the next turn.
 pub record AnswersSome (old : DavHandler) (ts : List Turn) (replies : List Reply) (new : DavHandler) : Type 0 where
   pub front : List Turn
   pub turn : Turn
@@ -55,6 +56,6 @@ pub record AnswersSome (old : DavHandler) (ts : List Turn) (replies : List Reply
   pub earlier : Runs old.settings front old.state.store old.state.locks replies was.store was.locks
   pub stopped : StopsIn (at_turn turn (record { settings = old.settings; state = was })) turn.asked new
 
--- the list has one more reply, that of a step from one server to the other
+-- the list of replies has one more, that of a step from one server to the other
 abbrev pub AddsReply : DavHandler → Exchange → List Reply → List Reply → DavHandler → Type 0
 AddsReply old x before after new = (reply : Reply) × (after ≡ before ++ reply ∷ []) × Answers old x reply new

@@ -11,8 +11,8 @@ use Rattle.dav_server.specs.DavHandler.{DavHandler}
 use Rattle.dav_server.specs.TagLaws.{ShownIn, LacksTag}
 use Rattle.dav_server.specs.UpdateLaws.{ToldIn, UpdatesIf, IsSuccess}
 
--- One request of a run of these turns with these replies: its turn and its reply, those before and after it, and the store and
--- the list of locks before its step and after it.
+-- One request of a run of these turns with these replies: its turn and its reply, those before and after it, and the store and the list
+-- of locks before its step, without the refusals that its turn brings (`was`), and after it (`now`).
 pub record RunStep (old : DavHandler) (ts : List Turn) (replies : List Reply) : Type 0 where
   pub front : List Turn
   pub turn : Turn
@@ -27,19 +27,19 @@ pub record RunStep (old : DavHandler) (ts : List Turn) (replies : List Reply) : 
   pub earlier : Runs old.settings front old.state.store old.state.locks before was.store was.locks
   pub stepped : Steps old.settings turn.asked (begun turn.refusals was.store) was.locks reply now.store now.locks
 
--- the file at this path has these bytes
+-- at this path is a file with these bytes
 abbrev pub HoldsBytes : ServerState → PathText → List ℕ → Type 0
 HoldsBytes state p bytes = (n : Node) × (node_at state.store.world (names p) ≡ Some n) × (n.kind ≡ File bytes)
 
--- A request that is answered 304 to an If-None-Match of one tag finds at its path a file of the bytes that any of these GETs shows
--- with that tag (RFC 9110, sections 13.1 and 15.4.5).
+-- A request that is answered 304 to an If-None-Match of one tag finds at its path a file with the bytes that any GET among these requests
+-- was answered with under that tag (RFC 9110, sections 13.1.2 and 15.4.5).
 abbrev pub Every304IsTrue : Settings → List Turn → List Reply → Exchange → Reply → ServerState → Type 0
 Every304IsTrue s ts replies x reply was =
     (p : PathText) (tag : EntityTag) (bytes : List ℕ)
     → reply.status ≡ 304 → LacksTag s x p tag → ShownIn ts replies (tag_text tag.weak tag.tag) bytes → HoldsBytes was p bytes
 
--- An update that asks for a tag and is answered with success finds at its path a file of the bytes that one of these replies told to
--- have that tag (RFC 9110, sections 13.1 and 15.4.5).
+-- An update on condition of one entity tag that is answered with success finds at its path a file with the bytes that a reply among these
+-- reported under that tag (RFC 9110, section 13.1.1; RFC 4918, section 10.4).
 abbrev pub UpdateFinds : Settings → List Turn → List Reply → Exchange → Reply → ServerState → Type 0
 UpdateFinds s ts replies x reply was =
     (p : PathText) (tag : EntityTag) (bytes : List ℕ)

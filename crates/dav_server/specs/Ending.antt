@@ -8,14 +8,15 @@ use Rattle.dav_engine.specs.Reply.{Reply}
 use Rattle.dav_server.specs.Machine.{Exchange, Settings, Steps, StepCut}
 use Rattle.dav_server.specs.Naming.{NamesToken}
 
--- A lock that is in the list when a request begins is in the list after it, perhaps refreshed, unless the request names its
--- token, or hands it in for a lock that it creates; whatever the store refuses (RFC 4918, sections 7, 9.11).
+-- A lock that is in the list when a request begins is in the list after it, perhaps refreshed, whatever the store refuses; unless the
+-- request names its token, or hands it in for a lock that it creates (RFC 4918, sections 7 and 9.11).
 abbrev pub NoLockEnds : Type 0
 NoLockEnds =
     (s : Settings) (x : Exchange) (old new : StoreState) (ls ms : Locks) (reply : Reply) (h : Lock)
     → Stands h ls → ¬ NamesToken x h.token → x.token ≢ Some h.token → Steps s x old ls reply new ms → Stands h ms
 
--- No lock ends without its token also where memory runs out in the step (RFC 4918, sections 7, 9.11).
+-- A lock that is in the list when a request begins is in the list also after a step in which memory runs out, unless the request names
+-- its token, or hands it in for a lock that it creates (RFC 4918, sections 7 and 9.11).
 abbrev pub NoLockEndsCut : Type 0
 NoLockEndsCut =
     (s : Settings) (x : Exchange) (old new : StoreState) (ls ms : Locks) (h : Lock)

@@ -3,7 +3,7 @@ use Rattle.dav_engine.specs.declared.request.Body.{Body}
 use Rattle.dav_server.specs.declared.body.Given.{Given}
 use Rattle.dav_server.specs.declared.body.Given.TheVariants.{Whole, Other}
 
--- the one that came in, or the other one
+-- the body that a method is handed: the request's own (`Whole`), or one in its place (`Other`)
 abbrev pub given_body : Given → Body
 given_body (Whole body) = body.now
 given_body (Other body) = body

@@ -14,7 +14,7 @@ pub record Request : Type 0 where
   pub target : List ℕ
   pub fields : List (List ℕ × List ℕ)
 
--- what a head of the grammar says
+-- what a head of HTTP's grammar says, without the bytes that only delimit its parts
 abbrev pub request_of_head : RequestHead → Request
 request_of_head h = record { method = h.method; target = h.target; fields = map name_and_value h.fields }
 
@@ -32,10 +32,10 @@ is_same_name a b = bytes_eq (map to_ascii_lowercase a) (map to_ascii_lowercase b
 abbrev pub values_of : List ℕ → List (List ℕ × List ℕ) → List (List ℕ)
 values_of name fields = map (λ field. field.1) (filter (λ field. is_same_name field.0 name) fields)
 
--- names and values of the grammar of fields (RFC 9110, sections 5.1 and 5.5)
+-- each field has a name and a value of HTTP's grammar (RFC 9110, sections 5.1 and 5.5)
 abbrev pub AreFields : List (List ℕ × List ℕ) → Type 0
 AreFields fields = All (λ field. IsFieldName field.0 × IsFieldValue field.1) fields
 
--- bytes are a head in one way at most (RFC 9112, section 2)
+-- bytes are read as a request's head in one way at most
 abbrev pub OneHead : Type 0
 OneHead = (bytes : List ℕ) (a b : Request) → IsHead bytes a → IsHead bytes b → a ≡ b

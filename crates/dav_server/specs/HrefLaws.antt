@@ -1,4 +1,5 @@
--- Hrefs lead back: each of a multistatus, as the target of a request, names the path that it tells of (RFC 4918, sections 8.3 and 14.7).
+-- Hrefs lead back: each href of a multistatus, as the target of a request, names the path that its response is about (RFC 4918, sections
+-- 8.3 and 14.7).
 use Rattle.std.specs.Prelude.{◌≡◌, ◌≢◌, ◌⊎◌, ℕ, ◌≤◌, Bool, true, false, List, [], ◌∷◌, All, map, codes, Option, None, Ok}
 use Rattle.http_header.specs.HeaderMap.{get_all}
 use Rattle.dav_core.specs.declared.method.DavMethod.{DavMethod}
@@ -29,15 +30,15 @@ use Rattle.dav_server.specs.Target.{TargetNames}
 
 -- ---- the text of a path
 
--- A path of a server with this prefix: after the prefix, without the slash at its end, come names, whatever their bytes are, each after a
--- slash, and perhaps a slash at the end (RFC 9112, section 3.2).
+-- A path of a server with this prefix: the prefix without a slash at its end, then names, whatever their bytes are, each after a slash,
+-- and perhaps a slash at the end.
 pub record IsServedPath (prefix : List ℕ) (p : PathText) : Type 0 where
   pub front : p.prefix ≡ without_slash prefix
   pub storable : IsStorable (names p)
   pub is_closed : Bool
   pub bytes_are : p.bytes ≡ path_bytes (names p) is_closed
 
--- What a target but `*` names is such a path (RFC 9112, section 3.2).
+-- What a target other than `*` names is a path of the server with this prefix.
 abbrev pub TargetsAreServed : Type 0
 TargetsAreServed = (prefix target : List ℕ) (m : DavMethod) (p : PathText) → target ≢ star → TargetNames prefix m target (Ok p) → IsServedPath prefix p
 
@@ -45,73 +46,74 @@ TargetsAreServed = (prefix target : List ℕ) (m : DavMethod) (p : PathText) →
 abbrev pub LeadsTo : List ℕ → List ℕ → PathText → Type 0
 LeadsTo prefix target p = (m : DavMethod) → TargetNames prefix m target (Ok p)
 
--- The text of such a path in a URL, with the prefix, leads to this path (RFC 4918, section 8.3).
+-- The text of a served path in a URL, with the prefix and with escapes, is a target that names this path (RFC 4918, section 8.3).
 abbrev pub TextsLeadBack : Type 0
 TextsLeadBack = (prefix : List ℕ) (p : PathText) → IsPrefix prefix → IsServedPath prefix p → LeadsTo prefix (path_text (full_bytes p)) p
 
 -- ---- responses
 
--- The response tells of this path: it has one href of its own, and that leads to the path (RFC 4918, sections 14.7 and 14.24).
+-- The response is about this path: it has one href of its own, and that is a target that names the path (RFC 4918, sections 14.7 and
+-- 14.24).
 pub record TellsOf (prefix : List ℕ) (p : PathText) (response : ElementTree) : Type 0 where
   pub text : List ℕ
   pub hrefs : children_named (codes "href") response ≡ dav_text (codes "href") text ∷ []
   pub leads : LeadsTo prefix text p
 
--- responses tell of these paths, in order (RFC 4918, sections 14.7 and 14.24)
+-- the responses are about these paths, one for each, in order (RFC 4918, sections 14.7 and 14.24)
 pub data TellOf (prefix : List ℕ) : List PathText → List ElementTree → Type 0 where
   none_told : TellOf prefix [] []
   one_told : {p : PathText} {ps : List PathText} {response : ElementTree} {responses : List ElementTree}
       → TellsOf prefix p response → TellOf prefix ps responses → TellOf prefix (p ∷ ps) (response ∷ responses)
 
--- A reply that reports a status of each of these paths has a response for each of them, in order, which tells of it
--- (RFC 4918, sections 13 and 14.16).
+-- A multistatus that reports a status for each of these paths has a response for each of them, in order, whose href leads back to the
+-- path (RFC 4918, sections 13 and 14.24).
 abbrev pub StatusesLeadBack : Type 0
 StatusesLeadBack =
     (prefix : List ℕ) (items : List PathStatus)
     → IsPrefix prefix → All (λ i. IsServedPath prefix i.0) items
     → TellOf prefix (map (λ i. i.0) items) (responses_in (multistatus_reply items).body)
 
--- The response with the properties of a path, under any statuses, has one href, which leads back to the path (RFC 4918, sections 13 and 14.16).
+-- The response with the properties of a path, under any statuses, has one href, which leads back to the path (RFC 4918, sections 9.1 and
+-- 14.24).
 abbrev pub PropertiesLeadBack : Type 0
 PropertiesLeadBack =
     (prefix : List ℕ) (p : PathText) (groups : List Group) → IsPrefix prefix → IsServedPath prefix p → TellsOf prefix p (property_response p groups)
 
 -- ---- replies
 
--- The request is about this path: it is at the target or below it, or for COPY and MOVE at the destination or below it
--- (RFC 4918, sections 8.3 and 13).
+-- The request concerns this path: it is the request's target or below it, or for COPY and MOVE the destination or below it.
 pub data ConcernsPath (s : Settings) (x : Exchange) (q : PathText) : Type 0 where
   at_target : (r : Request) (m : DavMethod) (p : PathText) → IsRequestTo s x r m p → is_at_or_under (names q) (names p) ≡ true → ConcernsPath s x q
   at_destination : (r : Request) (m : DavMethod) (p d : PathText) → IsRequestTo s x r m p → (m ≡ Copy) ⊎ (m ≡ Move)
       → DestinationNames p.prefix (get_all (headers_of r.fields) (codes "destination")) (Ok d) → is_at_or_under (names q) (names d) ≡ true → ConcernsPath s x q
 
--- the response tells of a path that the request is about
+-- the response is about a path that the request concerns, by an href that leads to it
 abbrev pub HasConcernedHref : Settings → Exchange → ElementTree → Type 0
 HasConcernedHref s x response = (q : PathText) × ConcernsPath s x q × TellsOf s.prefix q response
 
--- Each response of a multistatus that answers a request tells of a path that the request is about, whatever its method is and whatever the
--- store refuses (RFC 4918, sections 8.3 and 13).
+-- Each response of a multistatus that answers a request is about a path that the request concerns, whatever its method is and whatever
+-- the store refuses, where the server's prefix is a prefix and its store holds a world (RFC 4918, sections 8.3 and 13).
 abbrev pub RepliesLeadBack : Type 0
 RepliesLeadBack =
     (s : Settings) (x : Exchange) (old new : StoreState) (ls ms : Locks) (reply : Reply)
     → IsPrefix s.prefix → IsWorld old.world → x.moment ≤ last_moment → Steps s x old ls reply new ms
     → All (HasConcernedHref s x) (responses_in reply.body)
 
--- the hrefs of this reply lead back, of a server whose prefix is one and whose store holds a world, at a moment that HTTP can write
--- (RFC 4918, sections 8.3 and 13)
+-- The hrefs of this reply lead back to paths that the request concerns, where the server's prefix is a prefix, its store holds a world,
+-- and the moment is one that HTTP can write (RFC 4918, sections 8.3 and 13).
 abbrev pub ReplyLeadsBack : DavHandler → Exchange → Reply → Type 0
 ReplyLeadsBack old x reply =
     IsPrefix old.settings.prefix → IsWorld old.state.store.world → x.moment ≤ last_moment → All (HasConcernedHref old.settings x) (responses_in reply.body)
 
 -- ---- what is listed
 
--- The responses tell, in order, of what a PROPFIND of this depth lists (RFC 4918, sections 9.1 and 10.2).
+-- The responses are about what a PROPFIND of this depth lists, in order (RFC 4918, sections 9.1 and 10.2).
 abbrev pub TellAll : List ℕ → World → PathText → Option Depth → List ElementTree → Type 0
 TellAll prefix w p depth responses = (ps : List PathText) × AreListed w p depth ps × TellOf prefix ps responses
 
--- The responses of a PROPFIND that is answered 207 tell of all that it lists, where the store refuses neither to list what is there nor to tell of it: at Depth 0 of its
--- target, at Depth 1 also of the members, at Depth infinity of all that is below it (RFC 4918, sections 9.1 and 10.2), and without a depth
--- of the members alone.
+-- A PROPFIND that is answered 207 has a response for everything that it lists, where the store refuses none of its calls that list or
+-- describe what is there, and paths have fewer than 2^64 names: at Depth 0 for its target, at Depth 1 also for the members, at Depth
+-- infinity for all that is below it; without a Depth for the members alone (RFC 4918, sections 9.1 and 10.2).
 abbrev pub ListingsAreWhole : Type 0
 ListingsAreWhole =
     (s : Settings) (x : Exchange) (r : Request) (p : PathText) (depth : Option Depth) (old new : StoreState) (ls ms : Locks) (reply : Reply)
@@ -120,8 +122,9 @@ ListingsAreWhole =
     → StepsBy AsksListing s x old ls reply new ms → reply.status ≡ 207
     → TellAll s.prefix old.world (path_in old.world p) depth (responses_in reply.body)
 
--- The responses of this reply tell of all that it lists, of a server whose prefix is one and whose store holds a world, where no refusal is left to come, and the store
--- hasn't run out of memory when it is given (RFC 4918, sections 9.1 and 10.2).
+-- This reply to a PROPFIND, where it is a 207, has a response for everything that it lists, if the server's prefix is a prefix, its store
+-- holds a world whose paths have fewer than 2^64 names, no refusal is left to come, and the store hasn't run out of memory (RFC 4918,
+-- sections 9.1 and 10.2).
 abbrev pub ReplyIsWhole : DavHandler → Exchange → Reply → DavHandler → Type 0
 ReplyIsWhole old x reply new =
     (r : Request) (p : PathText) (depth : Option Depth)

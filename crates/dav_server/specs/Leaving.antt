@@ -19,7 +19,7 @@ use Rattle.dav_server.specs.TagLaws.{HasMethod, is_safe}
 use Rattle.dav_server.specs.UpdateLaws.{IsSuccess}
 use Rattle.dav_server.specs.WriteLaws.{IsCreateOnly, IsRefusedStatus, IsLockRequest, HandsInUnused}
 
--- the head of a request names one of the safe methods (RFC 9110, section 9.2.1)
+-- the request has a head with one of the methods GET, HEAD, OPTIONS and PROPFIND (RFC 9110, section 9.2.1; RFC 4918, section 9.1)
 abbrev pub IsSafeRequest : Exchange → Type 0
 IsSafeRequest x = (m : DavMethod) × HasMethod m x × (is_safe m ≡ true)
 
@@ -33,19 +33,19 @@ CreateOnlyFails =
 abbrev pub IsWriteRequest : Exchange → Type 0
 IsWriteRequest x = HasMethod Put x ⊎ HasMethod Patch x
 
--- An error by which a PUT or PATCH can end after it opened its file: the store's, or 416 where the store refused to seek
--- (RFC 9110, section 15; RFC 4918, section 9.10).
+-- an error in which a PUT or PATCH can end after it opened its file: one of the store, or 416 where the store refused to seek
 abbrev pub IsStoresError : DavError → Type 0
 IsStoresError e = ((refusal : FsError) × (e ≡ dav.FsError refusal)) ⊎ (e ≡ unsatisfiable)
 
--- An error in which a LOCK can end because the store refused it its empty file: the store's, 409 or 412
--- (RFC 9110, section 15; RFC 4918, section 9.10).
+-- an error in which a LOCK can end because the store refused to create its empty file: one of the store, 409 or 412 (RFC 4918, section
+-- 9.10.4)
 abbrev pub IsFileError : DavError → Type 0
 IsFileError e = ((refusal : FsError) × (e ≡ dav.FsError refusal)) ⊎ (e ≡ dav.Status 409) ⊎ (e ≡ dav.Status 412)
 
--- A request whose plan ends in an error leaves the world and the list of locks, whatever its method is and whatever the store
--- refuses. Apart is a PUT or PATCH with such an error; and of the list a LOCK with a token that a lock has, where the store may have
--- refused it its file: it takes back the lock of its token (RFC 9110, section 15; RFC 4918, section 9.10).
+-- A request whose plan ends in an error leaves the world and the list of locks as they were, whatever its method is and whatever the
+-- store refuses; with two exceptions. A PUT or PATCH that ends in an error as the store refuses it after opening (`IsStoresError`) may
+-- have changed them. And a LOCK that hands in a token that a lock of the list has, and ends in an error as the store refuses its file
+-- (`IsFileError`), may have changed the list: it takes the lock of that token back.
 abbrev pub ErrorsLeave : Type 0
 ErrorsLeave =
     (s : Settings) (x : Exchange) (plan : MethodPlan Reply) (old new : StoreState) (ls ms : Locks) (e : DavError)
@@ -54,36 +54,37 @@ ErrorsLeave =
 
 -- ---- of one request
 
--- the world and the list of locks are as they were (RFC 9110, sections 9.2.1, 13.1.2 and 13.2.1)
+-- the world and the list of locks are the same before and after
 abbrev pub SameContent : ServerState → ServerState → Type 0
 SameContent was now = (now.store.world ≡ was.store.world) × (now.locks ≡ was.locks)
 
--- a request of a safe method leaves them (RFC 9110, sections 9.2.1, 13.1.2 and 13.2.1)
+-- a request of a safe method leaves the world and the list of locks as they were (RFC 9110, section 9.2.1)
 abbrev pub SafeLeaves : Exchange → ServerState → ServerState → Type 0
 SafeLeaves x was now = IsSafeRequest x → SameContent was now
 
--- a PUT or PATCH with If-None-Match `*` leaves them where something is at its path, and isn't answered with success
--- (RFC 9110, sections 9.2.1, 13.1.2 and 13.2.1)
+-- A PUT or PATCH with If-None-Match `*`, where something is at its path, leaves the world and the list of locks as they were, and isn't
+-- answered with success (RFC 9110, section 13.1.2).
 abbrev pub CreateOnlyLeaves : Settings → Exchange → Reply → ServerState → ServerState → Type 0
 CreateOnlyLeaves s x reply was now =
     (p : PathText) (n : Node)
     → IsCreateOnly s x p → node_at was.store.world (names p) ≡ Some n → SameContent was now × ¬ IsSuccess reply.status
 
--- A request that is answered 412 or 423 leaves them: the list in a LOCK that is answered 412, where no lock of it has the token that the
--- request hands in (RFC 9110, sections 9.2.1, 13.1.2 and 13.2.1).
+-- A request that is answered 412 or 423 leaves the world as it was, and the list of locks; of the list this isn't said of a LOCK that is
+-- answered 412 and hands in a token that a lock of the list has (RFC 9110, section 13.2.1; RFC 4918, section 11.3).
 abbrev pub RefusedStatusLeaves : Exchange → Reply → ServerState → ServerState → Type 0
 RefusedStatusLeaves x reply was now =
     IsRefusedStatus reply.status
     → (now.store.world ≡ was.store.world) × ((reply.status ≡ 412 → IsLockRequest x → HandsInUnused x was.locks) → now.locks ≡ was.locks)
 
--- a LOCK with this body asks for a new lock; without a body it refreshes one (RFC 4918, section 9.10)
+-- the request has a body, where one of no bytes counts as none: a LOCK with a body asks for a new lock, one without refreshes a lock (RFC
+-- 4918, sections 9.10.1 and 9.10.2)
 abbrev pub HasLockBody : Exchange → Type 0
 HasLockBody x = body_for (taken_by LockMethod) x.body ≢ Ok body.None
 
--- the request is a LOCK that asks for a new lock (RFC 4918, section 9.10)
+-- the request is a LOCK for a new lock (RFC 4918, section 9.10.1)
 abbrev pub AsksForLock : Exchange → Type 0
 AsksForLock x = IsLockRequest x × HasLockBody x
 
--- A LOCK that asks for a new lock leaves them, where no lock of the list has the token that it hands in (RFC 4918, section 9.10).
+-- a LOCK for a new lock leaves the world and the list of locks as they were, where no lock of the list has the token that it hands in
 abbrev pub GrantsNothing : Exchange → ServerState → ServerState → Type 0
 GrantsNothing x was now = AsksForLock x → HandsInUnused x was.locks → SameContent was now

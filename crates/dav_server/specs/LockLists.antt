@@ -9,14 +9,15 @@ use Rattle.dav_engine.specs.Reply.{Reply}
 use Rattle.dav_server.specs.Machine.{Exchange, Settings, Steps, StepCut, caller}
 use Rattle.dav_server.specs.Run.{Turn, Runs}
 
--- A step changes the list by grants of a lock with the request's token where it may be granted, by refreshes, by unlocks and by
--- ends of the locks at a path and below it alone (RFC 4918, section 6.1).
+-- A step of a request changes the list of locks by these changes alone: a lock with the token that the request hands in is granted where
+-- it may be; a lock is refreshed or unlocked; or the locks at a path and below it end (RFC 4918, section 6.1).
 abbrev pub StepsChangeLists : Type 0
 StepsChangeLists =
     (s : Settings) (x : Exchange) (old new : StoreState) (ls : List Lock) (ms : Locks) (reply : Reply)
     → Steps s x old (Some ls) reply new ms → OnList (AreChanges (caller x) ls) ms
 
--- A step in which memory runs out changes the list by grants, refreshes, unlocks and ends of the locks below a path alone (RFC 4918, section 6.1).
+-- A step in which memory runs out changes the list of locks by grants, refreshes, unlocks and ends of the locks at a path and below it
+-- alone (RFC 4918, section 6.1).
 abbrev pub StepsChangeListsCut : Type 0
 StepsChangeListsCut =
     (s : Settings) (x : Exchange) (old new : StoreState) (ls : List Lock) (ms : Locks)
@@ -26,7 +27,7 @@ StepsChangeListsCut =
 abbrev pub IsHandedIn : List Turn → List ℕ → Type 0
 IsHandedIn ts token = (t : Turn) × Contains ts t × (t.asked.token ≡ Some token)
 
--- After a run from no locks each lock has a token that was handed in with one of the requests (RFC 4918, section 6.5).
+-- After a run from no locks the token of each lock was handed in with one of the requests (RFC 4918, section 6.5).
 abbrev pub TokensAreHandedIn : Type 0
 TokensAreHandedIn =
     (s : Settings) (ts : List Turn) (old new : StoreState) (ms : List Lock) (replies : List Reply)

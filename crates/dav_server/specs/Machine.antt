@@ -30,7 +30,8 @@ use Rattle.dav_server.specs.Headers.{headers_of}
 use Rattle.dav_server.specs.Method.{GivesServed}
 use Rattle.dav_server.specs.Target.{TargetNames}
 
--- A request as it comes in: the bytes of its head, its body, who makes it, when, and the token for a lock that it creates.
+-- A request as it comes in: the bytes of its head, its body, who makes it, when (in seconds since 1970), and the token that is handed in
+-- for a lock that it creates.
 pub record Exchange : Type 0 where
   pub head : List ℕ
   pub body : Body
@@ -49,6 +50,7 @@ pub data Taken : Type 0 where
   TakesTree : Taken
   TakesNone : Taken
 
+-- what each method takes as body: PUT and PATCH bytes; PROPFIND, PROPPATCH and LOCK an element tree; all others none
 abbrev pub taken_by : DavMethod → Taken
 taken_by Put = TakesBytes
 taken_by Patch = TakesBytes
@@ -57,12 +59,13 @@ taken_by PropPatch = TakesTree
 taken_by Lock = TakesTree
 taken_by _ = TakesNone
 
--- a tree of at most 64 levels of nested elements; 400 for a tree of more levels
+-- an element tree as a body, of at most 64 levels of nested elements; 400 for a tree of more levels
 abbrev pub given_tree : ElementTree → Result Body DavError
 given_tree tree = if nat_lt 64 (depth_of tree) then Err (dav.Status 400) else Ok (body.Tree tree)
 
--- The body that a method is handed, or the error that answers the request: 415 for one that the method doesn't take (RFC
--- 9110, section 15.5.16). An empty body counts as none; other bytes are no element tree.
+-- The body that a method is handed, or the error that answers the request. No body, and one of no bytes, is none. Bytes where a tree is
+-- taken are a malformed one. 400 for a tree of more than 64 levels; 415 for a body that the method doesn't take (RFC 9110, section
+-- 15.5.16).
 abbrev pub body_for : Taken → Body → Result Body DavError
 body_for taken body.None = Ok body.None
 body_for taken (body.Bytes []) = Ok body.None
@@ -76,12 +79,12 @@ body_for TakesTree body.Malformed = Ok body.Malformed
 body_for TakesBytes body.Malformed = Err (dav.Status 415)
 body_for TakesNone body.Malformed = Err (dav.Status 415)
 
--- who makes the request
+-- the client that makes a request: its principal, the moment, and the token that is handed in
 abbrev pub caller : Exchange → Caller
 caller x = record { principal = x.principal; moment = x.moment; token = x.token }
 
--- The plan of a method, with the set of the methods that are allowed, its headers, its path and its body. Only a method that is served has one
--- (RFC 9110, section 9.3; RFC 5789; RFC 4918, section 9).
+-- The plan of a request with this method, by the set of the methods that are allowed, its headers, its path, its body and its client. A
+-- method that isn't served has none (RFC 9110, section 9.3; RFC 5789; RFC 4918, section 9).
 pub data PlanOf (allowed : ℕ) (headers : Headers) (p : PathText) (body : Body) (who : Caller) : DavMethod → MethodPlan Reply → Type 0 where
   gets : {plan : MethodPlan Reply} → IsGet Get headers p who.moment plan → PlanOf allowed headers p body who Get plan
   heads : {plan : MethodPlan Reply} → IsGet Head headers p who.moment plan → PlanOf allowed headers p body who Head plan
@@ -97,9 +100,9 @@ pub data PlanOf (allowed : ℕ) (headers : Headers) (p : PathText) (body : Body)
   locks : {plan : MethodPlan Reply} → IsLock headers p body who plan → PlanOf allowed headers p body who Lock plan
   releases : {plan : MethodPlan Reply} → IsUnlock headers p who plan → PlanOf allowed headers p body who Unlock plan
 
--- The plan that a request results in, given what its head says and its method. It is refused, before anything is asked of
--- the store, for the first of these: 405 for a method that isn't allowed, and the connection closes; then the error of its
--- target, below the prefix; then the error of its body (RFC 9110, sections 15.5 and 15.6).
+-- The plan that a request results in whose head and method are known. The first of these refuses it, before anything is asked of the
+-- store: 405 for a method that isn't allowed, and the connection closes; the error of its target; the error of its body (RFC 9110,
+-- sections 15.5.6 and 15.5.16).
 pub data MeansOf (s : Settings) (x : Exchange) (r : Request) (m : DavMethod) : MethodPlan Reply → Type 0 where
   not_allowed : ¬ Has s.allowed m → MeansOf s x r m (fails (dav.StatusClose 405))
   no_path : (e : DavError) → Has s.allowed m → TargetNames s.prefix m r.target (Err e) → MeansOf s x r m (fails e)
@@ -107,8 +110,8 @@ pub data MeansOf (s : Settings) (x : Exchange) (r : Request) (m : DavMethod) : M
   method : (p : PathText) (body : Body) {plan : MethodPlan Reply} → Has s.allowed m → TargetNames s.prefix m r.target (Ok p) → body_for (taken_by m) x.body ≡ Ok body
       → PlanOf s.allowed (headers_of r.fields) p body (caller x) m plan → MeansOf s x r m plan
 
--- The plan that a request results in. 400 for bytes that are no head, and 501 for a method that isn't known; then the plan
--- with its method (RFC 9110, sections 15.5 and 15.6).
+-- The plan that a request results in: 400 for bytes that are no head, an error for a method that isn't served, else the plan that its
+-- method has (RFC 9110, sections 15.5.1 and 15.6.2).
 pub data Means (s : Settings) (x : Exchange) : MethodPlan Reply → Type 0 where
   no_head : ((r : Request) → ¬ IsHead x.head r) → Means s x (fails (dav.Status 400))
   no_method : (r : Request) (e : DavError) → IsHead x.head r → GivesServed r.method (Err e) → Means s x (fails e)
@@ -124,8 +127,8 @@ pub data StepsBy (step : CallStep) (s : Settings) (x : Exchange) (old : StoreSta
 abbrev pub Steps : Settings → Exchange → StoreState → Locks → Reply → StoreState → Locks → Type 0
 Steps = StepsBy Asks
 
--- Memory ran out in a step: nothing was done, or the first calls of its plan were made, each of them whole. The list of
--- locks is as before, or as the plan leaves it where each later call is refused.
+-- Memory ran out in a step: nothing was done, or the first calls of its plan were made, each of them whole. The list of locks is as
+-- before, or as the plan leaves it where each later call is refused.
 pub data StepCutBy (step : CallStep) (s : Settings) (x : Exchange) (old : StoreState) (ls : Locks) : StoreState → Locks → Type 0 where
   untouched : StepCutBy step s x old ls old ls
   cut : (plan : MethodPlan Reply) {new : StoreState} {ms : Locks} → Means s x plan → Cut step ls plan old ls new ms → StepCutBy step s x old ls new ms

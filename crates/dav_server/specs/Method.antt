@@ -6,14 +6,14 @@ use Rattle.dav_core.specs.declared.method.DavMethod.{DavMethod}
 use Rattle.dav_core.specs.declared.method.DavMethod.TheVariants.{Report, MkCalendar, MkAddressbook}
 use Rattle.dav_core.specs.Method.{method_name}
 
--- all methods but REPORT, MKCALENDAR and MKADDRESSBOOK
+-- a method is served: all that are known but REPORT, MKCALENDAR and MKADDRESSBOOK
 abbrev pub IsServed : DavMethod → Type 0
 IsServed Report = ⊥
 IsServed MkCalendar = ⊥
 IsServed MkAddressbook = ⊥
 IsServed _ = ⊤
 
--- The served method whose name the text is; `UnknownDavMethod` for any other text (RFC 9110, section 9).
+-- The served method of which the text is the name, case counting; `UnknownDavMethod` for any other text (RFC 9110, section 9.1).
 abbrev pub GivesServed : List ℕ → Result DavMethod DavError → Type 0
 GivesServed text (Ok m) = IsServed m × (text ≡ method_name m)
 GivesServed text (Err e) = (e ≡ dav.UnknownDavMethod) × ((m : DavMethod) → IsServed m → text ≢ method_name m)

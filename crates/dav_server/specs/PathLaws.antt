@@ -9,7 +9,7 @@ use Rattle.dav_engine.specs.CopyMove.{DestinationNames}
 use Rattle.dav_server.specs.Setup.{IsPrefix}
 use Rattle.dav_server.specs.Target.{BeginsWithSlash, TargetNames}
 
--- A text that begins with a slash results in one path, or in one error: as the target of a request with any method, and as the
+-- A text that begins with a slash names one path, or gives one error, whether it is the target of a request with any method, or the
 -- Destination of a request whose own target was cut after the same prefix (RFC 4918, section 10.3).
 abbrev pub OneTextOnePath : Type 0
 OneTextOnePath =

@@ -1,5 +1,4 @@
--- What a run promises of each of its requests, each promise under its name (RFC 9110, sections 8.8.1, 9.2.1, 13.1, 13.2.1 and 15.4.5; RFC
--- 4918, sections 6.1, 6.2, 7, 7.4, 8.3, 9.11 and 10.4), and of locked folders and locks.
+-- What a run promises of each of its requests, each promise under its name, and of locked folders and locks.
 use Rattle.std.specs.Prelude.{◌≡◌, ◌≢◌, ◌++◌, ⊤, true, false, List, [], ◌∷◌, All, Some}
 use Rattle.dav_core.specs.LockLaws.{CoveringAreShared}
 use Rattle.dav_core.specs.Locks.{Lock, covers}
@@ -21,8 +20,8 @@ use Rattle.dav_server.specs.DavHandler.{DavHandler, AnswersAll}
 use Rattle.dav_server.specs.Setup.{IsPrefix}
 use Rattle.dav_server.specs.TagLaws.{MomentsAreDates, EqualTagsShowEqualBytes}
 
--- One request of a run: the server's settings, the turns and the replies before it, its own and those after it, and the state before it
--- and after it.
+-- One request of a run: the server's settings, the turns and the replies before it, its own and those after it, and the state before it,
+-- without the refusals that its turn brings (`was`), and after it (`now`).
 pub record OneStep : Type 0 where
   pub settings : Settings
   pub front : List Turn
@@ -34,42 +33,45 @@ pub record OneStep : Type 0 where
   pub was : ServerState
   pub now : ServerState
 
--- all turns, and all replies
+-- all turns of the run that the request is of
 abbrev pub all_turns : OneStep → List Turn
 all_turns s = s.front ++ s.turn ∷ s.back
 
+-- all replies of the run that the request is of
 abbrev pub all_replies : OneStep → List Reply
 all_replies s = s.before ++ s.reply ∷ s.after
 
--- The names of the promises (RFC 9110, sections 8.8.1, 9.2.1, 13.1, 13.2.1 and 15.4.5; RFC 4918, sections 6.2, 7, 7.4, 8.3, 9.11 and 10.4).
+-- the names of the promises that each request of a run keeps
 pub data Promise : Type 0 where
-  -- a GET, HEAD, OPTIONS or PROPFIND leaves the world and the list of locks
+  -- a GET, HEAD, OPTIONS or PROPFIND leaves the world and the list of locks as they were (RFC 9110, section 9.2.1)
   reading : Promise
-  -- a PUT or PATCH with If-None-Match `*` leaves them where something is at its path, and isn't answered with success
+  -- A PUT or PATCH with If-None-Match `*`, where something is at its path, leaves the world and the list of locks as they were, and isn't
+  -- answered with success (RFC 9110, section 13.1.2).
   created : Promise
-  -- A request that is answered 412 or 423 leaves them: the list a LOCK that is answered 412, where no lock has the token that it hands in.
+  -- A request that is answered 412 or 423 leaves the world as it was, and the list of locks; of the list this isn't said of a LOCK that
+  -- is answered 412 and hands in a token that a lock has (RFC 9110, section 13.2.1; RFC 4918, section 11.3).
   refused : Promise
-  -- A 304 is true: where If-None-Match named one tag, the file has the bytes that any GET of the run shows with that tag, before it or
-  -- after it.
+  -- A 304 is true: where If-None-Match named one tag, the file has the bytes that any GET of the run, before it or after it, was answered
+  -- with under that tag (RFC 9110, sections 13.1.2 and 15.4.5).
   unmodified : Promise
-  -- No update is lost: an update that asks for a tag and is answered with success found at its path a file of the bytes that an earlier
-  -- reply told to have that tag.
+  -- No update is lost: an update on condition of one entity tag that is answered with success found at its path a file with the bytes
+  -- that an earlier reply reported under that tag (RFC 9110, section 13.1.1; RFC 4918, section 10.4).
   updated : Promise
-  -- No exclusive lock is passed: what it covers keeps its content, unless the request names its token as its principal.
+  -- What an exclusive lock covers keeps its content, unless the request names the lock's token as its principal (RFC 4918, section 7).
   passed : Promise
-  -- a lock stands unless the request names its token, or hands it in for a lock of its own
+  -- a lock stays in the list, unless the request names its token, or hands it in for a new lock (RFC 4918, sections 7 and 9.11)
   kept : Promise
-  -- where any two locks that cover one path are both shared, they are so after it
+  -- if any two locks that covered one path were both shared before the request, so are any two after it (RFC 4918, section 6.2)
   shared : Promise
-  -- in all replies of the run equal tags show equal bytes
+  -- in all replies of the run equal entity tags come with equal bytes (RFC 9110, section 8.8.1)
   tags : Promise
-  -- each response of a multistatus tells of a path that the request is about, by an href that leads to it
+  -- each response of a multistatus is about a path that the request concerns, by an href that leads to it (RFC 4918, section 8.3)
   hrefs : Promise
-  -- While an exclusive lock stands on a folder, of either depth, the folder stays with the same members, unless the request names the
-  -- lock's token as its principal.
+  -- While an exclusive lock of either depth is on a folder, the folder stays with the same members, unless the request names the lock's
+  -- token as its principal (RFC 4918, section 7.4).
   members : Promise
 
--- What each of them says of a request (RFC 9110, sections 8.8.1, 9.2.1, 13.1, 13.2.1 and 15.4.5; RFC 4918, sections 6.2, 7, 7.4, 8.3, 9.11 and 10.4).
+-- What a promise says of one request of a run.
 abbrev pub Keeps : Promise → OneStep → Type 0
 Keeps reading s = SafeLeaves s.turn.asked s.was s.now
 Keeps created s = CreateOnlyLeaves s.settings s.turn.asked s.reply s.was s.now
@@ -88,8 +90,8 @@ Keeps members s =
     (h : Lock) → h.shared ≡ false → Stands h s.was.locks → ¬ NamesLock h s.turn.asked → is_folder s.was.store.world (folder_of h) ≡ true
     → SameMembers (folder_of h) s.was.store.world s.now.store.world
 
--- What each of them asks of the server with which the run begins: that its store holds a world, or nothing; for hrefs also that its prefix
--- is one (RFC 9110, sections 8.8.1, 9.2.1, 13.1, 13.2.1 and 15.4.5; RFC 4918, sections 6.2, 7, 7.4, 8.3, 9.11 and 10.4).
+-- What a promise needs of the server with which the run begins: for `hrefs` that its prefix is a prefix and its store holds a world; for
+-- `unmodified`, `updated`, `passed`, `tags` and `members` that its store holds a world; for all others nothing.
 abbrev pub From : Promise → DavHandler → Type 0
 From unmodified old = IsWorld old.state.store.world
 From updated old = IsWorld old.state.store.world
@@ -99,7 +101,7 @@ From members old = IsWorld old.state.store.world
 From hrefs old = IsPrefix old.settings.prefix × IsWorld old.state.store.world
 From _ old = ⊤
 
--- a request of a run, by itself
+-- a request of a run as a `OneStep`
 abbrev pub step_of : {old : DavHandler} {ts : List Turn} {replies : List Reply} → RunStep old ts replies → OneStep
 step_of {old} u = record {
   settings = old.settings;
@@ -113,19 +115,20 @@ step_of {old} u = record {
   now = u.now;
 }
 
--- What a run of these turns with these replies promises (RFC 4918, sections 6.5, 7 and 9.11).
+-- What a run of these turns with these replies promises.
 pub record Promises (old : DavHandler) (ts : List Turn) (replies : List Reply) : Type 0 where
   -- each request keeps each promise
   pub each : (p : Promise) → From p old → (u : RunStep old ts replies) → Keeps p (step_of u)
-  -- While a lock guards a folder, and no request hands in its token, the folder and the answers to its holder are those of the holder's
-  -- requests alone, where each turn has refusals of its own.
+  -- Where each turn brings a list of refusals: while a lock guards a folder, and no request hands in its token, the folder and the
+  -- answers to its holder are those of the holder's requests run alone (RFC 4918, section 7).
   pub isolated : AreLoaded ts → IsIsolated old ts replies
-  -- The holder's requests are isolated from the grant of a lock on, in a run from a world and no locks, where no two requests hand in one token.
+  -- Where each turn brings a list of refusals, in a run from a world and no locks in which no two requests hand in one token: each holder
+  -- is isolated from the grant of the lock on (RFC 4918, section 7).
   pub granted : AreLoaded ts → IsIsolatedFromGrants old ts replies
-  -- In a run from no locks where no two requests hand in one token, a lock stands unless the request names its token.
+  -- In a run from no locks in which no two requests hand in one token, a lock stays in the list unless the request names its token (RFC
+  -- 4918, sections 7 and 9.11).
   pub standing : TokensDiffer ts → old.state.locks ≡ Some [] → (u : RunStep old ts replies) (h : Lock) → Stands h u.was.locks → ¬ NamesToken u.turn.asked h.token → Stands h u.now.locks
 
--- Each run of requests that are made at moments that HTTP can write keeps the promises, whatever the store refuses
--- (RFC 4918, sections 6.5, 7 and 9.11).
+-- Each run of requests that are made at moments that HTTP can write keeps the promises, whatever the store refuses.
 abbrev pub RunsPromise : Type 0
 RunsPromise = (old new : DavHandler) (ts : List Turn) (replies : List Reply) → MomentsAreDates ts → AnswersAll old ts replies new → Promises old ts replies

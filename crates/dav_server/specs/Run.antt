@@ -8,18 +8,19 @@ use Rattle.dav_engine.specs.PlanLaws.{ample}
 use Rattle.dav_engine.specs.Reply.{Reply}
 use Rattle.dav_server.specs.Machine.{Exchange, Settings, Means, StepsBy, Steps, StepCutBy, StepCut}
 
--- A turn: a request, and where there is one the list of the store's calls that are refused from then on.
+-- A turn of a run: a request and, where it brings one, the list of the store's calls that are refused from then on.
 pub record Turn : Type 0 where
   pub asked : Exchange
   pub refusals : Option (List (Option FsError))
 
--- the store when a turn begins
+-- the store when a turn begins: with the refusals that the turn brings, in place of those that were left; as it is where the turn brings
+-- none
 abbrev pub begun : Option (List (Option FsError)) → StoreState → StoreState
 begun None s = s
 begun (Some refusals) s = record s { refusals = refusals }
 
--- A run of the machine over stores that answer each call by this relation: the replies to the requests, one step after
--- another, and the store and the list of locks that are left.
+-- A run of the machine over stores that answer each call by this relation: the replies to the requests, one step after another, and the
+-- store and the list of locks that are left.
 pub data RunsBy (step : CallStep) (s : Settings) : List Turn → StoreState → Locks → List Reply → StoreState → Locks → Type 0 where
   no_more : {old : StoreState} {ls : Locks} → RunsBy step s [] old ls [] old ls
   one_more : {t : Turn} {ts : List Turn} {old mid new : StoreState} {ls ks ms : Locks} {reply : Reply} {replies : List Reply}
@@ -30,8 +31,8 @@ pub data RunsBy (step : CallStep) (s : Settings) : List Turn → StoreState → 
 abbrev pub Runs : Settings → List Turn → StoreState → Locks → List Reply → StoreState → Locks → Type 0
 Runs = RunsBy Asks
 
--- These replies, perhaps none, are those of a run of the first requests; in the next one memory ran out, and this store and
--- this list of locks are left.
+-- A run in which memory ran out: the replies, perhaps none, are those of a run of the first requests; in the next one memory ran out, and
+-- this store and this list of locks are left.
 abbrev pub RanInPartBy : CallStep → Settings → List Turn → StoreState → Locks → List Reply → StoreState → Locks → Type 0
 RanInPartBy step s ts old ls replies new ms =
     (front : List Turn) × (t : Turn) × (rest : List Turn) × (mid : StoreState) × (ks : Locks)
@@ -41,7 +42,7 @@ RanInPartBy step s ts old ls replies new ms =
 abbrev pub RanInPart : Settings → List Turn → StoreState → Locks → List Reply → StoreState → Locks → Type 0
 RanInPart = RanInPartBy Asks
 
--- Where the store never ran out of memory, a run is determined: its replies, and what it leaves.
+-- Where the store doesn't run out of memory, the replies of a run, and what it leaves, are determined by what it begins with.
 abbrev pub RunsAreDetermined : Type 0
 RunsAreDetermined =
     (s : Settings) (ts : List Turn) (old new other : StoreState) (ls ks ms : Locks) (replies others : List Reply)
@@ -56,7 +57,7 @@ RunsSplit =
     → (before : List Reply) × (after : List Reply) × (mid : StoreState) × (ks : Locks)
     × (replies ≡ before ++ after) × Runs s ts old ls before mid ks × Runs s us mid ks after new ms
 
--- A run, and one from what it leaves, are a run.
+-- A run, followed by a run that begins with what it leaves, is one run.
 abbrev pub RunsJoin : Type 0
 RunsJoin =
     (s : Settings) (ts us : List Turn) (old mid new : StoreState) (ls ks ms : Locks) (before after : List Reply)
@@ -78,21 +79,21 @@ CutsAreLikeSteps =
     ⊎ ((refusals : List (Option FsError)) × (reply : Reply) × (ks : Locks)
     × Steps s x (ample old.world refusals) ls reply (ample new.world []) ks × ((ms ≡ ls) ⊎ (ms ≡ ks)))
 
--- a request that results in a plan
+-- the request of a turn results in a plan
 abbrev pub HasPlan : Settings → Turn → Type 0
 HasPlan s t = (plan : MethodPlan Reply) × Means s t.asked plan
 
--- Requests that each result in a plan have a run from every state, in which the store doesn't run out of memory.
+-- Requests that each result in a plan have a run from every state, during which the store doesn't run out of memory.
 abbrev pub RunsEnd : Type 0
 RunsEnd =
     (s : Settings) (ts : List Turn) (old : StoreState) (ls : Locks) → All (HasPlan s) ts
     → (replies : List Reply) × (new : StoreState) × (ms : Locks) × Runs s ts old ls replies new ms × (new.short ≡ old.short)
 
--- No request is without a plan, whatever its bytes are.
+-- It can't be that a request, whatever its bytes are, results in no plan.
 abbrev pub RequestsHavePlans : Type 0
 RequestsHavePlans = (s : Settings) (x : Exchange) → ¬ ((plan : MethodPlan Reply) → ¬ Means s x plan)
 
--- No requests are without a run, from any state, in which the store doesn't run out of memory.
+-- It can't be that requests, whatever their bytes are, have from some state no run during which the store doesn't run out of memory.
 abbrev pub RequestsHaveRuns : Type 0
 RequestsHaveRuns =
     (s : Settings) (ts : List Turn) (old : StoreState) (ls : Locks)

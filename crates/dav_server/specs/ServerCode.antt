@@ -1,4 +1,4 @@
--- Codes of servers, requests and turns, which a Model wants of its Value.
+-- How the logic encodes servers, requests and turns, as a Model needs it of its Value.
 use Rattle.std.specs.Prelude.{ℕ, List, Option, refl}
 use Rattle.std.specs.Coded.{Coded, code_by, coded_ℕ, coded_list, coded_option, coded×}
 use Rattle.dav_core.specs.declared.errors.FsError.{FsError}
@@ -20,11 +20,13 @@ server_code refusal =
     code_by (Settings × ServerState) (coded× settings_code (coded_state refusal))
     (λ s. (s.settings, s.state)) (λ p. record { settings = p.0; state = p.1 }) (λ _. refl)
 
+-- how the logic encodes what contracts see of a handler: as the pair of its store, and of its locks and its server
 abbrev pub coded_handler : {F L : Type 0} → Coded F → Coded L → Coded FsError → Coded (HandlerView F L)
 coded_handler {F} {L} store locks refusal =
     code_by (F × (Option L × DavHandler)) (coded× store (coded× (coded_option locks) (server_code refusal)))
     (λ h. (h.fs, (h.ls, h.server))) (λ p. record { fs = p.0; ls = p.1.0; server = p.1.1 }) (λ _. refl)
 
+-- how the logic encodes a request: as the tuple of its fields
 abbrev pub coded_asked : Coded Body → Coded Exchange
 coded_asked body =
     code_by (List ℕ × (Body × (Option (List ℕ) × (ℕ × Option (List ℕ)))))
@@ -32,6 +34,7 @@ coded_asked body =
     (λ x. (x.head, (x.body, (x.principal, (x.moment, x.token)))))
     (λ p. record { head = p.0; body = p.1.0; principal = p.1.1.0; moment = p.1.1.1.0; token = p.1.1.1.1 }) (λ _. refl)
 
+-- how the logic encodes a turn: as the pair of its request and its refusals
 abbrev pub coded_turn : Coded Body → Coded FsError → Coded Turn
 coded_turn body refusal =
     code_by (Exchange × Option (List (Option FsError))) (coded× (coded_asked body) (coded_option (coded_list (coded_option refusal))))

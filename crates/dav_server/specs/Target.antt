@@ -13,28 +13,30 @@ use Rattle.dav_core.specs.Target.{Reads, IsRefused}
 abbrev pub BeginsWithSlash : List ℕ → Type 0
 BeginsWithSlash target = (rest : List ℕ) × (target ≡ 47 ∷ rest)
 
--- The absolute form (RFC 9112, section 3.2.2): a URI with a scheme and an authority and without `#`. What follows the
--- authority is the text; where nothing does, it is a slash.
+-- The absolute form of a target (RFC 9112, section 3.2.2): a URI with a scheme and an authority and without `#`. The text is what follows
+-- the authority, or a slash where nothing does.
 abbrev pub IsAbsolute : List ℕ → List ℕ → Type 0
 IsAbsolute target text =
     ¬ Contains target 35
     × (scheme : List ℕ) × (authority : List ℕ) × (behind : List ℕ)
     × IsUriText target (Some scheme) (Some authority) behind × (text ≡ or_slash behind)
 
--- the text in the target that is to name a path: in origin form the whole target
+-- the text in a target that is to name a path: in origin form the whole target, in absolute form what follows the authority (RFC 9112,
+-- section 3.2)
 abbrev pub HasPathText : List ℕ → List ℕ → Type 0
 HasPathText target text =
     (BeginsWithSlash target × (text ≡ target)) ⊎ (¬ BeginsWithSlash target × IsAbsolute target text)
 
--- why no path is read in a target: it has neither form, or its text names no path, or climbs above the root
+-- Why no path is read in a target: 400 where it is in neither form; `InvalidPath` where its text names no path; `ForbiddenPath` where its
+-- text climbs above the root.
 pub data IsUnreadable (target : List ℕ) : DavError → Type 0 where
   formless : ((text : List ℕ) → ¬ HasPathText target text) → IsUnreadable target (dav.Status 400)
   invalid : {text : List ℕ} → HasPathText target text → IsRefused text parse.InvalidPath → IsUnreadable target dav.InvalidPath
   climbing : {text : List ℕ} → HasPathText target text → IsRefused text parse.ForbiddenPath → IsUnreadable target dav.ForbiddenPath
 
--- What the target of a request with this method names, below a prefix: a path, cut after the prefix (without a slash at the
--- prefix's end), or the error that answers the request. `*` names the server, whatever the prefix, and is for OPTIONS alone
--- (RFC 9110, section 9.3.7).
+-- What the target of a request with this method names, below a prefix: a path, cut after the prefix (without a slash at the prefix's
+-- end), or the error that answers the request, which is `IllegalPath` for a path outside the prefix. `*` names the server, whatever the
+-- prefix, for OPTIONS alone; 400 for other methods (RFC 9110, section 9.3.7; RFC 9112, section 3.2).
 pub data TargetNames (prefix : List ℕ) (method : DavMethod) (target : List ℕ) : Result PathText DavError → Type 0 where
   server : target ≡ star → method ≡ Options → TargetNames prefix method target (Ok (record { prefix = []; bytes = star }))
   reserved : target ≡ star → method ≢ Options → TargetNames prefix method target (Err (dav.Status 400))
@@ -42,7 +44,7 @@ pub data TargetNames (prefix : List ℕ) (method : DavMethod) (target : List ℕ
   outside : {text bytes : List ℕ} → HasPathText target text → Reads text bytes → HasNoCut (without_slash prefix) bytes → TargetNames prefix method target (Err dav.IllegalPath)
   path : {text bytes : List ℕ} {p : PathText} → HasPathText target text → Reads text bytes → IsCut (without_slash prefix) bytes p → TargetNames prefix method target (Ok p)
 
--- a target results in one path or one error (RFC 9112, section 3.2.1)
+-- the target of a request with this method names one path, or gives one error
 abbrev pub OneOutcome : Type 0
 OneOutcome =
     (prefix : List ℕ) (method : DavMethod) (target : List ℕ) (a b : Result PathText DavError)

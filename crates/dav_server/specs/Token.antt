@@ -4,7 +4,7 @@ use Rattle.dav_server.specs.declared.exchange.TokenError.{TokenError}
 use Rattle.dav_server.specs.declared.exchange.TokenError.TheVariants.{Refused, Memory}
 use Rattle.dav_server.specs.GrantToken.{IsGrantToken}
 
--- the token of the text; `Refused` where the text can be none; `Memory` only for a text that can be one (RFC 4918, section 6.5)
+-- the result is the token of the text; `Refused` exactly where a lock can't be granted with this token, so `Memory` only where it can
 abbrev pub GivesToken : List ℕ → Result (List ℕ) TokenError → Type 0
 GivesToken text (Ok token) = IsGrantToken text × (token ≡ text)
 GivesToken text (Err Refused) = ¬ IsGrantToken text

@@ -22,7 +22,7 @@ use Rattle.dav_server.specs.Run.{Turn, begun, Runs}
 use Rattle.dav_server.specs.TagLaws.{ShownIn, MomentsAreDates}
 use Rattle.dav_server.specs.Target.{TargetNames}
 
--- ---- what a client was told
+-- ---- what replies reported
 
 -- the request is a PUT of these bytes as the whole file: it has no Content-Range (RFC 9110, sections 9.3.4 and 14.5)
 abbrev pub PutsWhole : Exchange → List ℕ → Type 0
@@ -31,18 +31,18 @@ PutsWhole x bytes =
     × IsHead x.head r × GivesServed r.method (Ok Put) × (get_all (headers_of r.fields) (codes "content-range") ≡ [])
     × (bytes_of_body x.body ≡ Some bytes)
 
--- a PUT without Content-Range among these requests, of these bytes, was answered with this tag
+-- a PUT of these bytes as the whole file is among these requests, and its reply has this entity tag
 abbrev pub StoredIn : List Turn → List Reply → List ℕ → List ℕ → Type 0
 StoredIn ts replies tag bytes =
     (t : Turn) × (reply : Reply) × Contains (zip ts replies) (t, reply) × PutsWhole t.asked bytes × Contains reply.headers (codes "etag", tag)
 
--- one of these replies tells that a file of these bytes has this tag: that to a GET, or that to a PUT (RFC 9110, section 8.8.3)
+-- one of these replies reports that a file with these bytes has this entity tag: the reply to a GET of it, or to a PUT of the whole file
 abbrev pub ToldIn : List Turn → List Reply → List ℕ → List ℕ → Type 0
 ToldIn ts replies tag bytes = ShownIn ts replies tag bytes ⊎ StoredIn ts replies tag bytes
 
 -- ---- what it asks for later
 
--- Whether a method changes, copies or moves what its target names, where the conditions on that hold.
+-- whether a method changes, removes, copies or moves what its target names: PUT, PATCH, DELETE, COPY, MOVE and PROPPATCH
 abbrev pub is_update : DavMethod → Bool
 is_update Put = true
 is_update Patch = true
@@ -52,8 +52,8 @@ is_update Move = true
 is_update PropPatch = true
 is_update _ = false
 
--- If-Match says this tag alone; or If has one list, without a resource tag, in which it stands, not under `Not`
--- (RFC 9110, section 13.1.1; RFC 4918, section 10.4).
+-- If-Match lists this tag alone; or If is one list, without a resource tag, with this tag as a condition without `Not` (RFC 9110, section
+-- 13.1.1; RFC 4918, section 10.4).
 abbrev pub AsksForTag : Headers → EntityTag → Type 0
 AsksForTag headers tag =
     IsTagList (get_all headers (codes "if-match")) (tags (tag ∷ []))
@@ -61,22 +61,23 @@ AsksForTag headers tag =
     × IsIfHeader (get_all headers (codes "if")) (record { resource = None; conditions = conditions } ∷ [])
     × Contains conditions (record { negated = false; item = entity_tag tag }))
 
--- the request is an update of what this path names, on condition that it has this tag (RFC 9110, section 13.1.1; RFC 4918, section 10.4)
+-- the request is an update of what is at this path, on condition that it has this entity tag (RFC 9110, section 13.1.1; RFC 4918, section
+-- 10.4)
 abbrev pub UpdatesIf : Settings → Exchange → PathText → EntityTag → Type 0
 UpdatesIf s x p tag =
     (r : Request) × (m : DavMethod)
     × IsHead x.head r × GivesServed r.method (Ok m) × (is_update m ≡ true) × TargetNames s.prefix m r.target (Ok p)
     × AsksForTag (headers_of r.fields) tag
 
--- 2xx (RFC 9110, section 15.3)
+-- a status of success, 2xx (RFC 9110, section 15.3)
 abbrev pub IsSuccess : ℕ → Type 0
 IsSuccess status = (200 ≤ status) × (status < 300)
 
 -- ---- the law
 
--- An update on condition of a tag that is answered with success finds the file with the bytes that the client was told to have
--- that tag, in any run from a world and whatever the store refuses: what others made of it in between is never written over
--- (RFC 9110, section 13.1.1; RFC 4918, section 10.4).
+-- An update on condition of an entity tag that is answered with success finds at its path a file with the bytes that an earlier reply of
+-- the run reported under that tag, in any run from a world and whatever the store refuses. So what others wrote in between is never
+-- overwritten (RFC 9110, section 13.1.1; RFC 4918, section 10.4).
 abbrev pub NoLostUpdate : Type 0
 NoLostUpdate =
     (s : Settings) (ts : List Turn) (t : Turn) (old mid new : StoreState) (ls ks ms : Locks)

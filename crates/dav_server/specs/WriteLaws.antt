@@ -23,28 +23,29 @@ IsCreateOnly s x p =
     × IsHead x.head r × GivesServed r.method (Ok m) × ((m ≡ Put) ⊎ (m ≡ Patch)) × TargetNames s.prefix m r.target (Ok p)
     × IsTagList (get_all (headers_of r.fields) (codes "if-none-match")) star
 
--- Where something is at its path, such a request leaves the world and the list of locks, whatever its reply is and whatever
--- the store refuses (RFC 9110, section 13.1.2).
+-- A PUT or PATCH with If-None-Match `*`, where something is at its path, leaves the world and the list of locks as they were, whatever
+-- its reply is and whatever the store refuses (RFC 9110, section 13.1.2).
 abbrev pub CreateOnlyKeeps : Type 0
 CreateOnlyKeeps =
     (s : Settings) (x : Exchange) (p : PathText) (n : Node) (old new : StoreState) (ls ms : Locks) (reply : Reply)
     → IsCreateOnly s x p → node_at old.world (names p) ≡ Some n → Steps s x old ls reply new ms
     → (new.world ≡ old.world) × (ms ≡ ls)
 
--- 412 answers a condition that fails, 423 a lock that conflicts (RFC 9110, section 15.5.13; RFC 4918, section 11.3)
+-- the status is 412, where a condition fails, or 423, where a lock conflicts (RFC 9110, section 15.5.13; RFC 4918, section 11.3)
 abbrev pub IsRefusedStatus : ℕ → Type 0
 IsRefusedStatus status = (status ≡ 412) ⊎ (status ≡ 423)
 
--- the request is a LOCK (RFC 4918, sections 6.5 and 9.10)
+-- the request is a LOCK (RFC 4918, section 9.10)
 abbrev pub IsLockRequest : Exchange → Type 0
 IsLockRequest x = (r : Request) × IsHead x.head r × GivesServed r.method (Ok LockMethod)
 
--- no lock of the list has the token that the request hands in (RFC 4918, sections 6.5 and 9.10)
+-- no lock of the list has the token that the request hands in, if it hands in one (RFC 4918, section 6.5)
 abbrev pub HandsInUnused : Exchange → Locks → Type 0
 HandsInUnused x ls = (token : List ℕ) → x.token ≡ Some token → IsUnused token ls
 
--- A request that is answered so leaves the world and the list of locks, whatever its method is and whatever the store refuses: the list
--- in a LOCK that is answered 412, where no lock has the token that it hands in (RFC 9110, section 13.2.1; RFC 4918, sections 7 and 11.3).
+-- A request that is answered 412 or 423 leaves the world as it was, and the list of locks, whatever its method is and whatever the store
+-- refuses; of the list this isn't said of a LOCK that is answered 412 and hands in a token that a lock of the list has (RFC 9110, section
+-- 13.2.1; RFC 4918, section 11.3).
 abbrev pub RefusedLeaves : Type 0
 RefusedLeaves =
     (s : Settings) (x : Exchange) (old new : StoreState) (ls ms : Locks) (reply : Reply)

@@ -4,12 +4,12 @@ use Rattle.std.specs.List.{AllByRecursion}
 use Rattle.dav_core.specs.World.{Nodes}
 use Rattle.dav_store.specs.Entries.{Held}
 
--- all are below a number
+-- every node was created under a change number below this one
 abbrev pub AreMadeBefore : ℕ → Nodes → Type 0
 AreMadeBefore n ns = AllByRecursion (λ e. e.1.made < n) ns
 
--- the nodes of a store were created under numbers below its next one, and the last number that its tree handed out is at
--- most that one, since each node that is added takes one of either
+-- The nodes of a store were created under change numbers below its next one, and the last number that its tree handed out is at most the
+-- next one, since each node that is added takes one of either.
 pub record IsNumbered (next : ℕ) (held : Held) : Type 0 where
   pub made : AreMadeBefore next held.nodes
   pub tree : held.last ≤ next

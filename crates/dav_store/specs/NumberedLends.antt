@@ -6,7 +6,7 @@ use Rattle.std.specs.BTreeMap.{is_at}
 use Rattle.std.specs.Map.{set_value}
 use Rattle.dav_store.specs.contracts.tree.numbered.Numbered.{the_row}
 
--- once the borrow ends, the number has the last value that was written through r, and nothing else has changed
+-- Once the borrow of the value of a number ends, that number has the last value that was written through r, and nothing else has changed.
 abbrev pub lends_at : (V : RattleType) → MutBor (List (ℕ × V.Denot)) → ℕ → Option (MutBor V.Denot) → Fml
 lends_at V s n r =
     LendsSo (the_row V) V s r (λ new w. new ≡ set_value (is_at (nat_cmp n)) s.now w) (λ new. new ≡ s.now)

@@ -5,5 +5,6 @@ use Rattle.dav_core.specs.World.{World}
 use Rattle.dav_core.specs.WorldCode.{coded_world}
 use Rattle.dav_store.specs.Store.{Store}
 
+-- how the logic encodes what contracts see of a store in memory: as the pair of its fields
 abbrev pub coded_store : Coded Store
 coded_store = code_by (World × Bool) (coded× coded_world coded_bool) (λ s. (s.world, s.short)) (λ p. record { world = p.0; short = p.1 }) (λ _. refl)

@@ -21,7 +21,7 @@ pub record Node (K D : Type 0) : Type 0 where
   pub value : D
   pub children : List (K × ℕ)
 
--- the nodes with their numbers, in order of these, and the last number that was handed out
+-- a tree: its nodes with their numbers, in order of these, and the last number that was handed out
 pub record Tree (K D : Type 0) : Type 0 where
   pub nodes : List (ℕ × Node K D)
   pub last : ℕ
@@ -30,7 +30,7 @@ pub record Tree (K D : Type 0) : Type 0 where
 abbrev pub root_id : ℕ
 root_id = 1
 
--- a child as it is listed: a clone of its key, and its number
+-- `listed` is this child as a listing has it: a clone of its key, and its number
 abbrev pub IsListedAs : {K : Type 0} → (K → K → Type 0) → K × ℕ → K × ℕ → Type 0
 IsListedAs is_clone child listed = is_clone child.0 listed.0 × (listed.1 ≡ child.1)
 
@@ -40,12 +40,12 @@ module _ {K : Type 0} where
   has_some [] = false
   has_some (e ∷ es) = true
 
-  -- the number of the first child
+  -- the number of the first of these children, if there are any
   abbrev pub first_number : List (K × ℕ) → Option ℕ
   first_number [] = None
   first_number (e ∷ es) = Some e.1
 
-  -- the child, where there is one alone
+  -- the child, where there is exactly one
   abbrev pub only_child : List (K × ℕ) → Option (K × ℕ)
   only_child [] = None
   only_child (e ∷ []) = Some e
@@ -55,11 +55,12 @@ module _ {K : Type 0} where
   abbrev pub IsFoundUnderKey : (K → K → Bool) → List (K × ℕ) → ℕ → Type 0
   IsFoundUnderKey eq es n = (k : K) × (lookup (eq k) es ≡ Some n)
 
-  -- the children without the one at a place, which the last takes
+  -- these children without the one at a place, which the last one takes
   abbrev pub without_place : ℕ → List (K × ℕ) → List (K × ℕ)
   without_place i es = option_map_or (λ e. swap_remove es i e) (slice_get es i) es
 
 module _ {K D : Type 0} where
+  -- how the logic encodes a node, by the encodings of keys and values
   abbrev pub coded_node : Coded K → Coded D → Coded (Node K D)
   coded_node k d =
       code_by (ℕ × (D × List (K × ℕ)))
@@ -67,17 +68,18 @@ module _ {K D : Type 0} where
       (λ n. (n.parent, (n.value, n.children)))
       (λ p. record { parent = p.0; value = p.1.0; children = p.1.1 }) (λ _. refl)
 
+  -- how the logic encodes a tree, by the encodings of keys and values
   abbrev pub coded_tree : Coded K → Coded D → Coded (Tree K D)
   coded_tree k d =
       code_by (List (ℕ × Node K D) × ℕ)
       (coded× (coded_list (coded× coded_ℕ (coded_node k d))) coded_ℕ)
       (λ t. (t.nodes, t.last)) (λ p. record { nodes = p.0; last = p.1 }) (λ _. refl)
 
-  -- the node of a number
+  -- the node of a number, if there is one
   abbrev pub node : Tree K D → ℕ → Option (Node K D)
   node t n = lookup (is_at (nat_cmp n)) t.nodes
 
-  -- the value of a node
+  -- the value of the node of a number, if there is one
   abbrev pub value_of : Tree K D → ℕ → Option D
   value_of t n = option_map (λ x. x.value) (node t n)
 
@@ -85,11 +87,11 @@ module _ {K D : Type 0} where
   abbrev pub parent_of : Tree K D → ℕ → ℕ
   parent_of t n = option_map_or (λ x. x.parent) (node t n) 0
 
-  -- the keys and numbers of the children of a node
+  -- the keys and numbers of the children of a node; none where there is no node
   abbrev pub children_of : Tree K D → ℕ → List (K × ℕ)
   children_of t n = option_map_or (λ x. x.children) (node t n) []
 
-  -- the number of the first child of a node
+  -- the number of the first child of a node, if it has one
   abbrev pub first_child : Tree K D → ℕ → Option ℕ
   first_child t n = option_and_then (λ x. first_number x.children) (node t n)
 
@@ -97,7 +99,7 @@ module _ {K D : Type 0} where
   abbrev pub has_children : Tree K D → ℕ → Bool
   has_children t n = option_map_or (λ x. has_some x.children) (node t n) false
 
-  -- whether n is `top` or comes to it by fewer than so many steps to the parent
+  -- whether n is `top`, or fewer than `steps` steps to the parent lead from n to it
   abbrev pub is_within : ℕ → Tree K D → ℕ → ℕ → Bool
   is_within zero t top n = false
   is_within (suc steps) t top n =
@@ -108,16 +110,16 @@ module _ {K D : Type 0} where
   abbrev pub is_at_or_below : Tree K D → ℕ → ℕ → Bool
   is_at_or_below t top n = is_within (length t.nodes) t top n
 
-  -- the place of a node among the children of another
+  -- the place of a node among the children of another, if it is one of them
   abbrev pub place_of : Tree K D → ℕ → ℕ → Option ℕ
   place_of t parent n =
       option_and_then (λ x. position (λ e. e.1 == n) x.children) (node t parent)
 
-  -- a node without children
+  -- a node with this parent and value, and without children
   abbrev pub leaf : ℕ → D → Node K D
   leaf parent value = record { parent = parent; value = value; children = [] }
 
-  -- the tree of a root alone
+  -- the tree of a root alone, with this value
   abbrev pub single : D → Tree K D
   single value = record { nodes = (root_id, leaf 0 value) ∷ []; last = root_id }
 
@@ -134,11 +136,11 @@ module _ {K D : Type 0} where
   abbrev pub without : Tree K D → ℕ → Tree K D
   without t n = record t { nodes = remove_entry (is_at (nat_cmp n)) t.nodes }
 
-  -- the tree without the node of a number, where there may be none to go
+  -- the tree without the node of a number, where a number is given; else the tree
   abbrev pub without_old : Option ℕ → Tree K D → Tree K D
   without_old old t = option_map_or (λ n. without t n) old t
 
-  -- the tree with one node more, which is nobody's child yet, and a tree without its last node
+  -- the tree with one node more, under the next number, which isn't among its parent's children yet
   abbrev pub grown : Tree K D → ℕ → D → Tree K D
   grown t parent value =
       record {
@@ -146,10 +148,11 @@ module _ {K D : Type 0} where
         last = t.last + 1;
       }
 
+  -- the tree without the node of the last number that was handed out, and with that number not handed out
   abbrev pub shrunk : Tree K D → Tree K D
   shrunk t = record (without t t.last) { last = t.last - 1 }
 
-  -- the tree without the child at a place of a node
+  -- the tree in which a node doesn't have the child at a place, where a place is given; else the tree
   abbrev pub unlinked_at : Tree K D → ℕ → Option ℕ → Tree K D
   unlinked_at t parent None = t
   unlinked_at t parent (Some i) =
@@ -157,7 +160,7 @@ module _ {K D : Type 0} where
       (λ x. with_node t parent (record x { children = without_place i x.children }))
       (node t parent) t
 
-  -- the tree in which n is no child of its parent
+  -- the tree in which n isn't among its parent's children
   abbrev pub unlinked : Tree K D → ℕ → Tree K D
   unlinked t n = unlinked_at t (parent_of t n) (place_of t (parent_of t n) n)
 
@@ -166,11 +169,12 @@ module _ {K D : Type 0} where
   seated t n parent =
       option_map_or (λ x. with_node t n (record x { parent = parent })) (node t n) t
 
-  -- no node has a number that wasn't handed out
+  -- no node has a number above the last one that was handed out
   abbrev pub NoneAbove : Tree K D → Type 0
   NoneAbove t = (n : ℕ) → t.last < n → node t n ≡ None
 
-  -- why a node isn't deleted; `None` where it is
+  -- The error by which a node isn't deleted: `NotFound` where there is none, `Forbidden` for the root, `Exists` where it has children;
+  -- none where it is deleted.
   abbrev pub delete_refusal : Tree K D → ℕ → Option FsError
   delete_refusal t n =
       if is_none (node t n) then Some NotFound
@@ -178,24 +182,24 @@ module _ {K D : Type 0} where
       else if has_children t n then Some Exists
       else None
 
-  -- the tree without a node that has no children
+  -- the tree without the node of a number, which has no children, and which isn't among those of its parent any more
   abbrev pub deleted : Tree K D → ℕ → Tree K D
   deleted t n = without (unlinked t n) n
 
-  -- why a node isn't deleted with all that is below it; `None` where it is
+  -- The error by which a node isn't deleted with all nodes below it: `NotFound` where there is none, `Forbidden` for the root; none where
+  -- it is.
   abbrev pub subtree_refusal : Tree K D → ℕ → Option FsError
   subtree_refusal t n =
       if is_none (node t n) then Some NotFound
       else if n == root_id then Some Forbidden
       else None
 
-  -- the nodes that aren't at or below n, each with its parent, value and children, but for n, which
-  -- is no child of its parent any more
+  -- the tree without n and all nodes below it, in which n isn't among its parent's children; the other nodes are as they were
   abbrev pub subtree_deleted : Tree K D → ℕ → Tree K D
   subtree_deleted t n =
       record t { nodes = filter (λ e. not (is_at_or_below t n e.0)) (unlinked t n).nodes }
 
-  -- how often a node stands among the children of another
+  -- how often a node is among the children of another
   abbrev pub times_listed : Tree K D → ℕ → ℕ → ℕ
   times_listed t parent n = count_by (λ e. e.1 == n) (children_of t parent)
 
@@ -203,9 +207,9 @@ module _ {K D : Type 0} where
   abbrev pub has_parent : Tree K D → ℕ → ℕ → Bool
   has_parent t n parent = option_map_or (λ x. x.parent == parent) (node t n) false
 
-  -- What holds of every tree that calls make: the nodes are in order of their numbers, of which none
-  -- is 0, and the root has no parent; each other node stands once among the children of its parent
-  -- and never among those of another; and steps to the parent lead from each node to the root.
+  -- What holds of every tree that calls make: the nodes are in order of their numbers, of which none is 0; the root has no parent; each
+  -- other node is once among the children of its parent and never among those of another; and steps to the parent lead from each node to
+  -- the root.
   pub record IsRooted (t : Tree K D) : Type 0 where
     pub in_order : IsStrictlySortedBy nat_cmp (keys_of t.nodes)
     pub none : node t 0 ≡ None
@@ -231,15 +235,16 @@ module _ {K D : Type 0} where
         (λ x. with_node t n (record x { children = put_key eq x.children k m }))
         (node t n) t
 
-    -- why a key isn't free for a node, which may be there already: another child is, which is not
-    -- to be replaced, or has children
+    -- The error by which a key of a parent can't be taken: `Exists` where it has a child that isn't to be replaced, or that has children;
+    -- none where it can.
     abbrev pub key_refusal : Tree K D → ℕ → K → Bool → Option FsError
     key_refusal t parent k overwrite =
         option_map_or
         (λ old. if not overwrite || has_children t old then Some Exists else None)
         (child t parent k) None
 
-    -- why a child isn't added; `None` where it is
+    -- The error by which a child isn't added: `NotFound` where there is no parent, `Exists` where the key can't be taken,
+    -- `GeneralFailure` where no number is left; none where it is added.
     abbrev pub add_refusal : Tree K D → ℕ → K → Bool → Option FsError
     add_refusal t parent k overwrite =
         if is_none (node t parent) then Some NotFound
@@ -251,7 +256,9 @@ module _ {K D : Type 0} where
     added t parent k value =
         without_old (child t parent k) (linked (grown t parent value) parent k (t.last + 1))
 
-    -- why a node isn't moved; `None` where it is
+    -- The error by which a node isn't moved: `NotFound` where it or the new parent isn't there; `Forbidden` for the root, and for a new
+    -- parent that is the node or below it; `Exists` where the key can't be taken by it. None where it is moved, or is under that key
+    -- already.
     abbrev pub move_refusal : Tree K D → ℕ → ℕ → K → Bool → Option FsError
     move_refusal t n parent k overwrite =
         if is_none (node t n) || is_none (node t parent) then Some NotFound
@@ -273,32 +280,31 @@ module _ {K D : Type 0} where
     moved t n parent k = if is_child t parent k n then t else moved_over t n parent k
 
 module _ {K D : Type 0} (is_key : K → K → Type 0) (is_value : D → D → Type 0) where
-  -- a node again: of the same parent, with a clone of the value, and the same children in the same
-  -- order under clones of their keys
+  -- a clone of a node: it has the same parent, a clone of the value, and the same children in the same order under clones of their keys
   abbrev pub IsCloneOfNode : Node K D → Node K D → Type 0
   IsCloneOfNode old new =
       (new.parent ≡ old.parent) × is_value old.value new.value
       × AllZip (IsListedAs is_key) old.children new.children
 
-  -- a tree again: the same numbers, and clones of the nodes
+  -- a clone of a tree: it has the same numbers, and clones of the nodes
   abbrev pub IsCloneOfTree : Tree K D → Tree K D → Type 0
   IsCloneOfTree old new =
       (new.last ≡ old.last) × AreClones IsCloneOfNode old.nodes new.nodes
 
--- the number of the child under a key of these bytes
+-- the number of the child of a node under a key of these bytes, if there is one
 abbrev pub child_of_bytes : {Z D : Type 0} → Tree (Vec ℕ Z) D → ℕ → List ℕ → Option ℕ
 child_of_bytes t n bytes =
     option_and_then (λ x. lookup (λ k. pointwise nat_eq bytes k.items) x.children) (node t n)
 
 module _ {X Y : Type 0} where
-  -- What a call answers and leaves: refused with this error, it changes nothing; else it answers
-  -- this and makes this of the tree.
+  -- What a call returns, and what it leaves: where a rule refuses it, this error, and nothing is changed; else this answer, and what it
+  -- made.
   abbrev pub Does : Option FsError → Y → X → Result Y FsError → X → X → Type 0
   Does None answer made result old new = (result ≡ Ok answer) × (new ≡ made)
   Does (Some e) answer made result old new = (result ≡ Err e) × (new ≡ old)
 
-  -- The same of a call that takes memory where `takes` is true: where no rule refuses it, it may
-  -- answer InsufficientStorage, which changes nothing.
+  -- What a call returns, and what it leaves, that allocates where `takes` is true: where a rule refuses it, this error, and nothing is
+  -- changed; else this answer and what it made, or, where it allocates, perhaps InsufficientStorage, and nothing is changed.
   abbrev pub DoesOrLacks : Bool → Option FsError → Y → X → Result Y FsError → X → X → Type 0
   DoesOrLacks takes None answer made result old new =
       ((result ≡ Ok answer) × (new ≡ made))

@@ -8,14 +8,15 @@ use Rattle.dav_store.specs.contracts.tree.nodes.Nodes.{the_row as nodes_row}
 use Rattle.dav_store.specs.contracts.tree.Tree.{the_row as tree_row}
 
 module _ (K D : RattleType) (key : HashMembers K.Denot) where
-  -- once the borrow ends, the node has the last value that was written through r
+  -- once the borrow of a node's own value ends, the node has the last value that was written through r
   abbrev pub lends_own_value : MutBor (Node K.Denot D.Denot) → MutBor D.Denot → Fml
   lends_own_value s r =
       Lends
       (node_row K D (record { eq = key.eq }) (record { hash_input = key.hash_input }))
       D s r (λ w. record s.now { value = w })
 
-  -- the value of the node of a number is lent, among the nodes of a tree; after an error all is as it was
+  -- Once the borrow of the value of a number ends, among the nodes of a tree, the node of that number has the last value that was written
+  -- through r, and nothing else has changed; after an error all is as it was.
   abbrev pub lends_value_in : {E : Type 0} → MutBor (Tree K.Denot D.Denot) → ℕ
       → Result (MutBor D.Denot) E → Fml
   lends_value_in s n r =
@@ -23,8 +24,8 @@ module _ (K D : RattleType) (key : HashMembers K.Denot) where
       (nodes_row K D (record { eq = key.eq }) (record { hash_input = key.hash_input }))
       D s r (with_value s.now n) s.now
 
-  -- once the borrow ends, the node of a number has the last value that was written through r, and
-  -- nothing else has changed; after an error the tree is as it was
+  -- Once the borrow of the value of a number ends, the node of that number has the last value that was written through r, and nothing
+  -- else in the tree has changed; after an error the tree is as it was.
   abbrev pub lends_value : {E : Type 0} → MutBor (Tree K.Denot D.Denot) → ℕ
       → Result (MutBor D.Denot) E → Fml
   lends_value s n r =
