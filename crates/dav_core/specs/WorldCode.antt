@@ -27,6 +27,7 @@ coded_node =
     (λ n. (n.made, (n.number, (n.kind, (n.properties, (n.created, n.modified))))))
     (λ p. record { made = p.0; number = p.1.0; kind = p.1.1.0; properties = p.1.1.1.0; created = p.1.1.1.1.0; modified = p.1.1.1.1.1 }) (λ _. refl)
 
+-- How the logic stores a world, one to one; nothing but the checker needs it.
 abbrev pub coded_world : Coded World
 coded_world =
     code_by (List (List (List ℕ) × Node) × ℕ) (coded× (coded_list (coded× (coded_list (coded_list coded_ℕ)) coded_node)) coded_ℕ)
