@@ -80,8 +80,8 @@ abbrev pub xmlns_name : List ℕ → List ℕ
 xmlns_name [] = codes "xmlns"
 xmlns_name (b ∷ prefix) = codes "xmlns:" ++ b ∷ prefix
 
--- The attributes with this value of the first one that has the name; where none has, a new one is added at the end (Namespaces
--- in XML 1.0, section 3).
+-- The attributes after the first one of this name got this value; where none has the name, a new one is added at the end
+-- (Namespaces in XML 1.0, section 3).
 abbrev pub set_attribute : List ℕ → List ℕ → List (List ℕ × List ℕ) → List (List ℕ × List ℕ)
 set_attribute name value [] = (name, value) ∷ []
 set_attribute name value (a ∷ others) = if bytes_eq a.0 name then (name, value) ∷ others else a ∷ set_attribute name value others

@@ -57,7 +57,7 @@ abbrev pub ReadsAgain : Type 0
 ReadsAgain =
     (src bytes written : List ℕ) → Reads src bytes → IsTextOf bytes written → Reads written bytes
 
--- The URL text of any path, whose names are made of bytes below 256, is read again as that path (RFC 3986, section 2.1).
+-- The URL text of any path whose names are made of bytes below 256 is read again as that path (RFC 3986, section 2.1).
 abbrev pub NamesReadAgain : Type 0
 NamesReadAgain =
     (ns : Path) (closed : Bool) → All IsName ns → All (All (λ b. b < 256)) ns → Reads (url_text (path_bytes ns closed)) (path_bytes ns closed)

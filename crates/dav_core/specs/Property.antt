@@ -78,7 +78,8 @@ shown_property content e = record {
   xml = if content then e.1 else None;
 }
 
--- A property whose element has one text and declares its namespace under its prefix (Namespaces in XML 1.0, section 3).
+-- A property of this name, prefix and namespace, whose element has one text and declares the namespace under the prefix
+-- (Namespaces in XML 1.0, section 3).
 abbrev pub text_property : List ℕ → List ℕ → List ℕ → List ℕ → Property
 text_property name prefix namespace value = record {
   name = name;

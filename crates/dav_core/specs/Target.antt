@@ -51,7 +51,7 @@ pub record IsRooted (src : List ℕ) : Type 0 where
 abbrev pub EndsInSlash : List ℕ → Type 0
 EndsInSlash text = (front : List ℕ) × (text ≡ front ++ 47 ∷ [])
 
--- Whether the text ends in a slash.
+-- The text ends in a slash where the Bool is true, and doesn't where it is false.
 abbrev pub IsClosed : List ℕ → Bool → Type 0
 IsClosed text true = EndsInSlash text
 IsClosed text false = ¬ EndsInSlash text

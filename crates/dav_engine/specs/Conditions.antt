@@ -110,9 +110,9 @@ http_conditions m match none_match found =
 
 -- ---- If (RFC 4918, section 10.4)
 
--- Whether a state token is true of a path: the path isn't locked against a requester who submits the token, whoever that is. So
--- any token is true of a path that no lock covers, where RFC 4918, section 10.4.4, asks for a lock with it. Without a list of
--- locks no token is true, and one that begins with `DAV:` never is (RFC 4918, section 10.4.8).
+-- Whether a state token is true of a path: the path isn't locked against a requester who submits it, whoever that is. So a
+-- token is also true where no lock covers the path, though RFC 4918, section 10.4.4, asks for a lock with that token. One that
+-- begins with `DAV:` is never true (section 10.4.8), and without a list of locks none is.
 abbrev pub token_holds : List ℕ → Path → Locks → Bool
 token_holds token p None = false
 token_holds token p (Some ls) = not (starts_with ◌==◌ token (codes "DAV:")) && is_free (requester_of (token ∷ []) true None) p ls

@@ -29,7 +29,7 @@ use Rattle.dav_engine.specs.Reply.{Reply}
 abbrev pub is_below_fault : List CopyFault → Path → Bool
 is_below_fault faults q = list_any (λ f. is_at_or_under q (names f.0)) faults
 
--- The dead properties of a copy: those of a file; a folder's aren't copied, though RFC 4918, section 9.8.2, wants that.
+-- The dead properties of a copy: those of a file; a folder's aren't copied, though RFC 4918, section 9.8.2, says that they should be.
 abbrev pub copied_properties : Node → Properties
 copied_properties n = if is_folder_kind n.kind then [] else n.properties
 
@@ -73,10 +73,10 @@ CopiesLeaveCopies =
 
 -- ---- a whole COPY
 
--- What a COPY of p, with everything below it, to d left, where a reply ends it. Either something that was at d wasn't removed: the reply
--- reports it, and nothing else changed. Or what was found at d was removed, so that only copies are there; the reply reports the faults
--- of the copy, or 204 or 201; and the locks at d and below it are gone where something was found there (RFC 4918, sections 9.8.4 and
--- 9.8.5).
+-- What a COPY of p, with everything below it, to d left, where a reply ends it. Either something that was at d wasn't removed:
+-- the reply reports it, and nothing else changed. Or what was found at d, if anything was, was removed, so that only copies are
+-- there, unless the store didn't report what was there; the reply reports the faults of the copy, or 204 or 201; and the locks
+-- at d and below it are gone where something was found there (RFC 4918, sections 9.8.4 and 9.8.5).
 pub data CopyLeaves (p d : PathText) (old new : StoreState) (ls ms : Locks) (r : Reply) : Type 0 where
   not_cleared : (f : Fault) (faults : List Fault) → LeavesSurvivors (names d) (f ∷ faults) old.world new.world
       → Ok r ≡ multi_reply (closed (is_folder old.world (names p)) p) (map report_of (f ∷ faults)) → ms ≡ ls → CopyLeaves p d old new ls ms r
@@ -110,10 +110,11 @@ pub record IsFoundAt (d : Path) (w : World) (found removed : Bool) : Type 0 wher
 abbrev pub locks_without : Bool → Path → Locks → Locks
 locks_without removed d ls = if removed then option_map (deleted d) ls else ls
 
--- What a COPY of p at Depth 0 to d left, where a reply ends it. Either a file that was at d wasn't removed: the reply reports it, and
--- nothing changed. Or a file that was found at d was removed, and then a copy of what was at p is at d, a folder without what was in
--- it, and nothing else changed; or the store answered for a folder that something is at d, and nothing more changed; or it refused the
--- copy, which the reply reports, and nothing more changed (RFC 4918, sections 9.8.3 to 9.8.5).
+-- What a COPY of p at Depth 0 to d left, where a reply ends it. Either a file that was at d wasn't removed: the reply reports
+-- it, and nothing changed. Or a file that was found at d, if one was, was removed, and then: a copy of what was at p is at d, a
+-- folder without what was in it, and nothing else changed; or the store answered for a folder that something is at d, and
+-- nothing more changed; or it refused the copy, which the reply reports, and nothing more changed
+-- (RFC 4918, sections 9.8.3 to 9.8.5).
 pub data CopyLeavesOne (p d : PathText) (old new : StoreState) (ls ms : Locks) (r : Reply) : Type 0 where
   file_stays : (f : Fault) (faults : List Fault) → LeavesSurvivors (names d) (f ∷ faults) old.world new.world
       → Ok r ≡ multi_reply (closed (is_folder old.world (names p)) p) (map report_of (f ∷ faults)) → ms ≡ ls → CopyLeavesOne p d old new ls ms r
@@ -162,9 +163,9 @@ pub record LeavesMoved (s d : Path) (old new : World) : Type 0 where
   pub elsewhere : (q : Path) → is_at_or_under q s ≡ false → is_at_or_under q d ≡ false → timeless_at new q ≡ timeless_at old q
 
 -- What a MOVE of p to d left, where a reply ends it. Either something that was at d wasn't removed: the reply reports it, and
--- nothing else changed. Or what was found at d was removed. Then all was moved, and the locks at p and below it are gone, and
--- where something was found at d those there and below it; or the store refused to move, which the reply reports, and all but
--- what was removed is as it was (RFC 4918, sections 7.6 and 9.9).
+-- nothing else changed. Or what was found at d, if anything was, was removed. Then all was moved, and the locks at p and below
+-- it are gone, and where something was found at d those there and below it; or the store refused to move, which the reply
+-- reports, and all but what was removed is as it was (RFC 4918, sections 7.6 and 9.9).
 pub data MoveLeaves (p d : PathText) (old new : StoreState) (ls ms : Locks) (r : Reply) : Type 0 where
   not_cleared_for : (f : Fault) (faults : List Fault) → LeavesSurvivors (names d) (f ∷ faults) old.world new.world
       → Ok r ≡ multi_reply (closed (is_folder old.world (names p)) p) (map report_of (f ∷ faults)) → ms ≡ ls → MoveLeaves p d old new ls ms r

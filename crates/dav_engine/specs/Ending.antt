@@ -60,7 +60,7 @@ DeleteKeepsLocks =
     (h : Lock) (headers : Headers) (p : PathText) (who : Caller) (plan : MethodPlan Reply)
     → IsStranger headers p who h → IsDelete headers p who plan → KeepsLock h plan
 
--- A COPY or MOVE keeps each lock that its client doesn't hold (RFC 4918, section 7.6).
+-- A COPY or MOVE keeps each lock that its client doesn't hold.
 abbrev pub CopyMoveKeepsLocks : Type 0
 CopyMoveKeepsLocks =
     (h : Lock) (m : DavMethod) (headers : Headers) (p : PathText) (who : Caller) (plan : MethodPlan Reply)

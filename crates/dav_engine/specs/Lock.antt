@@ -30,7 +30,7 @@ use Rattle.dav_engine.specs.Plan.{Locks, Done, Keep}
 use Rattle.dav_engine.specs.Put.{missing_status}
 use Rattle.dav_engine.specs.Reply.{Reply, Header}
 
--- ---- a lock that is refreshed (section 9.10.2)
+-- ---- a lock that is refreshed (RFC 4918, section 9.10.2)
 
 -- The only token that is submitted; 400 where there is none or several (RFC 4918, section 9.10.2).
 abbrev pub one_token : List (List ℕ) → Result (List ℕ) DavError

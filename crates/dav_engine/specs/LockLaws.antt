@@ -82,7 +82,7 @@ IsRefusedFile headers (dav.Status status) = (status ≡ 409) ⊎ ((status ≡ 41
 IsRefusedFile headers _ = ⊥
 
 -- A LOCK that ends in an error leaves the world. It leaves the list of locks, too, where no lock has the client's token
--- (RFC 4918, section 6.5), or the error isn't one of `IsRefusedFile`, but 400, 405 or 423, say.
+-- (RFC 4918, section 6.5), or the error isn't one of `IsRefusedFile`: where it is 400, 405 or 423, for instance.
 abbrev pub RefusedLockLeavesAll : Type 0
 RefusedLockLeavesAll =
     (headers : Headers) (p : PathText) (body : Body) (who : Caller) (plan : MethodPlan Reply) (old new : StoreState) (ls ms : Locks) (e : DavError)

@@ -75,7 +75,7 @@ named_properties = common_properties
     ∷ asked_property (codes "A") apache_space (codes "executable")
     ∷ asked_property (codes "Z") microsoft_space (codes "Win32LastAccessTime") ∷ []
 
--- ---- what is told of each resource
+-- ---- what is reported of each resource
 
 -- What is to be reported of properties, by the name of the element that asks for it (RFC 4918, section 14).
 abbrev pub telling_of : List ℕ → Telling
@@ -110,7 +110,7 @@ is_same_property e f = option_eq bytes_eq (namespace_of e) (namespace_of f) && b
 abbrev pub windows_properties : List ℕ → List ElementTree
 windows_properties agent = if holds agent (codes "Microsoft") then map (asked_property (codes "Z") microsoft_space) windows_names else []
 
--- The properties that follow those that the request names.
+-- The properties that follow those that the request names: none where it names all that it wants.
 abbrev pub listed_properties : Telling → List ℕ → List ElementTree
 listed_properties Requested agent = []
 listed_properties Outcomes agent = []
@@ -241,7 +241,7 @@ Quota = Option (ℕ × Option ℕ)
 abbrev pub QuotaKnown : Type 0
 QuotaKnown = Option Quota
 
--- The quota that is known, or else that which the store answers; none where it refuses.
+-- Asks the store for the quota, unless its answer is known already; none where the store refuses.
 abbrev pub cached_quota : QuotaKnown → MethodPlan Quota
 cached_quota (Some quota) = gives quota
 cached_quota None = do
@@ -315,7 +315,7 @@ found_property w p m known e = do
   locks ← look
   found_in w e p m known (source w e p m locks)
 
--- A list of properties with one more before it, if it was found.
+-- The properties that were found: this one, if it was, and those after it.
 abbrev pub with_found : Option ElementTree → List ElementTree → List ElementTree
 with_found None more = more
 with_found (Some e) more = e ∷ more

@@ -68,7 +68,7 @@ ResponsesLeadBack =
     → IsServerPrefix prefix → IsTarget prefix target p → IsWorld old.world → IsPropfind headers p content who plan
     → Ran Asks plan old ls (Ok r) new ms → All (IsOfOneUnder prefix (names p)) (responses_in r.body)
 
--- ---- what is told of
+-- ---- which paths have responses
 
 -- The responses are for these paths, in order.
 pub data AreResponsesFor (prefix : List ℕ) : List PathText → List ElementTree → Type 0 where

@@ -124,7 +124,7 @@ remove_status has e =
 abbrev pub change_status : Bool → Change → Option ℕ
 change_status has c = if c.is_set then set_status has c.property else remove_status has c.property
 
--- ---- what is told
+-- ---- what is reported
 
 -- The attribute that declares the namespace of an element, if it has one, under its prefix (Namespaces in XML 1.0, section 3).
 abbrev pub declares : Option (List ℕ) → Option (List ℕ) → List (List ℕ × List ℕ)

@@ -70,7 +70,8 @@ AnyList ls = ⊤
 abbrev pub SparesLock : Lock → MethodPlan Reply → Type 0
 SparesLock h plan = Sparing (covers h) (IsListed h) AnyList true Anything None plan
 
--- A whole plan that spares what a guard covers, as long as it guards its folder; at the end it still does, or isn't in the list.
+-- A whole plan that spares what a guard covers, as long as the lock guards its folder; after the plan the lock still does, or
+-- isn't in the list (RFC 4918, section 7).
 abbrev pub SparesGuard : Lock → MethodPlan Reply → Type 0
 SparesGuard h plan = Sparing (covers h) (Guards h) (StillGuards h) true Anything None plan
 
