@@ -109,7 +109,7 @@ abbrev pub is_nonempty : {X : Type 0} → List X → Bool
 is_nonempty [] = false
 is_nonempty (x ∷ xs) = true
 
--- What is between slashes in bytes and isn't empty.
+-- The names in bytes: what is between slashes and isn't empty. Of `*` that is one name, unlike in `names_of`.
 abbrev pub names_in : List ℕ → Path
 names_in bytes = filter is_nonempty (slice_split (λ b. b == 47) bytes)
 

@@ -128,12 +128,12 @@ pub record AreFindHeaders (headers : Headers) (h : FindHeaders) : Type 0 where
   pub depth : Decodes IsDepth (get_all headers (codes "depth")) h.depth
   pub is_test : h.is_test ≡ is_some (only_text (get_all headers (codes "x-litmus")))
 
--- The headers with two more, for which no cache answers with this reply again without asking the server (RFC 9111, sections 5.2.2.4 and 5.4).
+-- The headers of a reply with two more, by which a cache uses it again only after asking the server (RFC 9111, sections 5.2.2.4 and 5.4).
 abbrev pub uncached : List Header → List Header
 uncached headers = (codes "cache-control", codes "no-cache") ∷ (codes "pragma", codes "no-cache") ∷ headers
 
 -- The reply to a PROPFIND of infinite depth that isn't served: 501 with the condition `propfind-finite-depth`
--- (RFC 4918, section 16), for which section 9.1.1 has 403.
+-- (RFC 4918, section 16); section 9.1.1 has 403 for it.
 abbrev pub finite_depth : Reply
 finite_depth = record {
   status = 501;

@@ -67,8 +67,8 @@ ProppatchSpares =
 abbrev pub UnlockSpares : Type 0
 UnlockSpares = (h : Lock) (headers : Headers) (p : PathText) (who : Caller) (plan : MethodPlan Reply) → IsUnlock headers p who plan → SparesBoth h plan
 
--- A LOCK spares what an exclusive lock covers, whoever asks for it and whatever token it brings. As `SparesGuard` says it does
--- so where the lock is of infinite depth, too, and doesn't have the token that the LOCK brings.
+-- A LOCK spares what an exclusive lock covers, whoever asks for it and whatever token it brings. Where the lock is of infinite
+-- depth, too, and doesn't have the token that the LOCK brings, `SparesGuard` holds as well.
 abbrev pub LockSpares : Type 0
 LockSpares =
     (h : Lock) (headers : Headers) (p : PathText) (body : Body) (who : Caller) (plan : MethodPlan Reply)
