@@ -12,8 +12,9 @@ use Rattle.dav_core.specs.Handle.{Handle, Opening}
 use Rattle.dav_core.specs.Meaning.{Meaning}
 use Rattle.dav_core.specs.Calls.{metadata, read_dir, create_dir, remove_dir, remove_file, rename, copy, patch_props, get_props, get_prop, open_file, read_bytes, write_bytes, seek, flush, file_metadata}
 
--- The calls of a store, with their arguments. A number at the end is the moment of the call; that of Read is the most
--- bytes to read, and that of SetAccessed and SetModified the time to set (RFC 4331, section 3).
+-- A call of a store, with its arguments. A number at the end is the moment of the call, in seconds since 1970; but that of Read
+-- is the most bytes to read, and that of SetAccessed and SetModified the time to set. EntryMetadata is of a member that ReadDir
+-- listed; the Bool of GetProps says whether each property is given with its element.
 pub data Call : Type 0 where
   Metadata : Path → Call
   ReadDir : Path → Call
@@ -37,7 +38,9 @@ pub data Call : Type 0 where
   Flush : Handle → Call
   FileMetadata : Handle → Call
 
--- What a call answers when it isn't refused. A call that moves the position of an open file answers the file as it is then (RFC 4331, section 3).
+-- What a call answers when it isn't refused. ReadDir gives the name of each member and whether it is a folder, PatchProps a
+-- status with each property, GetQuota how many bytes are used and, where known, how many there are in all. Read, Write and Seek
+-- also give the open file with its new position.
 abbrev pub Answer : Call → Type 0
 Answer (Metadata p) = DavMetaData
 Answer (ReadDir p) = List (List ℕ × Bool)
@@ -61,7 +64,7 @@ Answer (Seek file to) = ℕ × Handle
 Answer (Flush file) = Unit {0}
 Answer (FileMetadata file) = DavMetaData
 
--- what a call means: every store has properties; reporting quotas and setting times are not implemented (RFC 4331, section 3)
+-- What a call means in a world. Every store has properties; to report quotas and to set times isn't implemented.
 unfoldable pub meaning : (call : Call) → World → Meaning (Answer call)
 meaning (Metadata p) w = metadata w p
 meaning (ReadDir p) w = read_dir w p
@@ -85,7 +88,7 @@ meaning (Seek file to) w = seek w file to
 meaning (Flush file) w = flush w file
 meaning (FileMetadata file) w = file_metadata w file
 
--- the calls that allocate, and so may run out of memory
+-- The call allocates, so it may fail because memory runs out.
 abbrev pub TakesMemory : Call → Type 0
 TakesMemory (ReadDir p) = ⊤
 TakesMemory (CreateDir p now) = ⊤
@@ -111,12 +114,13 @@ abbrev pub rest_of : List (Option FsError) → List (Option FsError)
 rest_of [] = []
 rest_of (r ∷ rs) = rs
 
--- an answer and the world after it; after an error the world is as it was
+-- What a call with this meaning answers, and the world after it; after an error the world is as it was.
 abbrev pub answered : {A : Type 0} → World → Meaning A → Result A FsError × World
 answered w (Ok (a, after)) = (Ok a, after)
 answered w (Err e) = (Err e, w)
 
--- an error at the head of the refusals is the answer; else the call is answered by what it means
+-- What the call answers, and the world after it: an error at the head of the list of refusals is the answer, and the world
+-- stays; else `meaning` answers.
 abbrev pub ask : (call : Call) → World → List (Option FsError) → Result (Answer call) FsError × World
 ask call w [] = answered w (meaning call w)
 ask call w (None ∷ rs) = answered w (meaning call w)
@@ -127,18 +131,18 @@ abbrev pub next_refusal : List (Option FsError) → Option FsError
 next_refusal [] = None
 next_refusal (r ∷ rs) = r
 
--- none of the call's own rules refuses it
+-- The call means an answer, not an error: none of its own rules refuses it.
 abbrev pub IsAnswered : {A : Type 0} → Meaning A → Type 0
 IsAnswered (Ok r) = ⊤
 IsAnswered (Err e) = ⊥
 
--- A call is answered as `ask` says, and the head of the refusals is used up.
+-- The call is answered as `ask` says, the head of the refusals is used up, and `short` stays as it was.
 pub record Answered (call : Call) (old : StoreState) (answer : Result (Answer call) FsError) (new : StoreState) : Type 0 where
   pub as_asked : (answer, new.world) ≡ ask call old.world old.refusals
   pub refusals : new.refusals ≡ rest_of old.refusals
   pub short : new.short ≡ old.short
 
--- Memory runs out in a call that allocates and that neither the list nor its own rules refuse: the answer is
+-- Memory runs out in a call that allocates and that neither the list of refusals nor its own rules refuse: the answer is
 -- InsufficientStorage, the world stays, the head of the refusals is used up, and the store remembers that memory ran out.
 pub record RanShort (call : Call) (old : StoreState) (answer : Result (Answer call) FsError) (new : StoreState) : Type 0 where
   pub takes_memory : TakesMemory call
@@ -149,13 +153,12 @@ pub record RanShort (call : Call) (old : StoreState) (answer : Result (Answer ca
   pub refusals : new.refusals ≡ rest_of old.refusals
   pub short : new.short ≡ true
 
--- A store in state `old` may give this answer to the call, and be in state `new` afterwards: the call is answered, or it
--- ran short of memory.
+-- A store in state `old` may give this answer to the call, and be in state `new` afterwards: the call is answered, or memory runs out in it.
 pub data Asks (call : Call) (old : StoreState) (answer : Result (Answer call) FsError) (new : StoreState) : Type 0 where
   asked : Answered call old answer new → Asks call old answer new
   ran_short : RanShort call old answer new → Asks call old answer new
 
--- an answer, with what its value stands for in place of the value
+-- The answer with `view` applied to its value; an error stays as it is.
 abbrev pub seen : {A B : Type 0} → (A → B) → Result A FsError → Result B FsError
 seen view (Ok a) = Ok (view a)
 seen view (Err e) = Err e

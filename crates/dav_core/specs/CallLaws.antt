@@ -50,23 +50,23 @@ PutStands = (p : Path) (n : Node) (q : Path) (ns : Nodes) → find path_cmp q (p
 abbrev pub KeepsOrder : (Nodes → Nodes) → Type 0
 KeepsOrder change = (ns : Nodes) → T (is_sorted path_cmp ns) → T (is_sorted path_cmp (change ns))
 
--- the list of nodes without those at a path and below it is in the order of their paths
+-- `prune` keeps nodes in the order of their paths.
 abbrev pub PruneKeepsOrder : Type 0
 PruneKeepsOrder = (p : Path) → KeepsOrder (prune p)
 
--- the list of nodes with copies of others grafted in is in the order of their paths
+-- `graft` gives nodes in the order of their paths where it is given such.
 abbrev pub GraftKeepsOrder : Type 0
 GraftKeepsOrder = (p t : Path) → KeepsOrder (graft p t)
 
--- the union of two lists of nodes is in the order of their paths, whatever the order of the first is
+-- A union is in the order of its paths where the second of the two lists is, whatever the order of the first.
 abbrev pub UnionKeepsOrder : Type 0
 UnionKeepsOrder = (es : Nodes) → KeepsOrder (union es)
 
--- the list of nodes of which some moved is in the order of their paths
+-- `moved` keeps nodes in the order of their paths.
 abbrev pub MovedKeepsOrder : Type 0
 MovedKeepsOrder = (from to : Path) → KeepsOrder (moved from to)
 
--- the list of nodes of which some changed is in the order of their paths
+-- `adjust` keeps nodes in the order of their paths.
 abbrev pub AdjustKeepsOrder : Type 0
 AdjustKeepsOrder = (p : Path) (f : Node → Node) → KeepsOrder (adjust p f)
 
@@ -90,11 +90,11 @@ IsProper _ = ⊤
 abbrev pub CallsKeepWorlds : Type 0
 CallsKeepWorlds = (call : Call) (w : World) (r : Answer call × World) → IsProper call → IsWorld w → meaning call w ≡ Ok r → IsWorld r.1
 
--- the next change number never falls (RFC 4918, section 5.1)
+-- The next change number never falls in a call.
 abbrev pub NumbersRise : Type 0
 NumbersRise = (call : Call) (w : World) (r : Answer call × World) → meaning call w ≡ Ok r → w.next ≤ r.1.next
 
--- both times can be shown as HTTP dates
+-- The time of creation and that of the last change can be shown as HTTP dates (RFC 9110, section 5.6.7).
 abbrev pub TimesAreDates : DavMetaData → Type 0
 TimesAreDates told = (told.created ≤ last_moment) × (told.modified ≤ last_moment)
 
@@ -105,7 +105,7 @@ ShowsTimes (EntryMetadata p) told = TimesAreDates told
 ShowsTimes (FileMetadata file) told = TimesAreDates told
 ShowsTimes _ _ = ⊤
 
--- in a world, the times that a call answers can be shown as HTTP dates (RFC 4918, section 5.1)
+-- In a world, the times that a call answers can be shown as HTTP dates (RFC 9110, section 5.6.7).
 abbrev pub TimesAreShown : Type 0
 TimesAreShown = (call : Call) (w : World) (r : Answer call × World) → IsWorld w → meaning call w ≡ Ok r → ShowsTimes call r.0
 
@@ -119,7 +119,7 @@ AskingIsDetermined =
 abbrev pub ErrorsLeaveWorlds : Type 0
 ErrorsLeaveWorlds = (call : Call) (old : StoreState) (e : FsError) (new : StoreState) → Asks call old (Err e) new → new.world ≡ old.world
 
--- where the list doesn't refuse the call but one of its own rules does, that error is the answer, even if memory runs out
+-- Where the list of refusals doesn't refuse the call but one of its own rules does, that error is the answer, even if memory runs out.
 abbrev pub RulesComeFirst : Type 0
 RulesComeFirst =
     (call : Call) (old : StoreState) (answer : Result (Answer call) FsError) (new : StoreState) (e : FsError)
@@ -141,7 +141,8 @@ CanBeAsked =
     (call : Call) (old : StoreState)
     → (answer : Result (Answer call) FsError) × (new : StoreState) × Asks call old answer new × (new.short ≡ old.short)
 
--- the first member of p under a name is the node of this name directly below p, if there is one (RFC 4918, section 5.2)
+-- Looking a name up among the members of p says whether the node of this name directly below p is a folder, and finds nothing
+-- where there is no such node (RFC 4918, section 5.2).
 abbrev pub MembersStandBelow : Type 0
 MembersStandBelow =
     (p : Path) (name : List ℕ) (ns : Nodes)
@@ -157,7 +158,7 @@ ListsWhatStands =
     (p : Path) (name : List ℕ) (dir : Bool) (w : World)
     → IsWorld w → Contains (members p w.nodes) (name, dir) ↔ ((n : Node) × (node_at w (p ++ name ∷ []) ≡ Some n) × (is_folder_kind n.kind ≡ dir))
 
--- where the node at p is after a rename
+-- Where the node at p is after a rename of `from` to `to`: in the same place below `to` if p is `from` or below it, else at p.
 abbrev pub path_after : Path → Path → Path → Path
 path_after from to p = unwrap_or (option_map (λ rest. to ++ rest) (rest_after from p)) p
 
@@ -189,21 +190,22 @@ IsUnchanged n m = m ≡ record n { modified = m.modified }
 abbrev pub IsSameNode : Node → Node → Type 0
 IsSameNode n m = (m.made ≡ n.made) × (is_folder_kind m.kind ≡ is_folder_kind n.kind)
 
--- what a rename doesn't take away is where the rename moved it, with its bytes, properties and numbers (RFC 4918, section 9.9)
+-- After a rename of `from` to `to`, each node that wasn't at `to` or below it is where the rename moved it, or where it was,
+-- with its bytes, properties and change numbers (RFC 4918, section 9.9).
 abbrev pub NodesFollowRenames : Type 0
 NodesFollowRenames =
     (from to : Path) (now : ℕ) (w : World) (r : Unit {0} × World) (p : Path) (n : Node)
     → meaning (Rename from to now) w ≡ Ok r → node_at w p ≡ Some n → is_at_or_under p to ≡ false
     → (m : Node) × (node_at r.1 (path_after from to p) ≡ Some m) × IsUnchanged n m
 
--- what a call doesn't take away is still there: a rename may have moved it, all other calls leave it where it was (RFC 4918, section 9.9)
+-- A node that a call doesn't take away is still there: a rename may have moved it, all other calls leave it where it was.
 abbrev pub NodesStay : Type 0
 NodesStay =
     (call : Call) (w : World) (r : Answer call × World) (p : Path) (n : Node)
     → IsProper call → IsWorld w → meaning call w ≡ Ok r → node_at w p ≡ Some n → ¬ TakesAway call p
     → (m : Node) × (node_at r.1 (brought call p) ≡ Some m) × IsSameNode n m
 
--- what a call neither takes away nor may change is as it was, but for the moment of its last change (RFC 4918, section 9.9)
+-- A node that a call neither takes away nor may change is as it was, but for the moment of its last change.
 abbrev pub OthersAreUnchanged : Type 0
 OthersAreUnchanged =
     (call : Call) (w : World) (r : Answer call × World) (p : Path) (n : Node)
@@ -217,13 +219,13 @@ NodesWereThere =
     → IsProper call → IsWorld w → meaning call w ≡ Ok r → node_at r.1 q ≡ Some m → m.made < w.next
     → (p : Path) × (n : Node) × (node_at w p ≡ Some n) × IsSameNode n m
 
--- what a call takes away is gone after it
+-- A node that a call takes away is at no path after it.
 abbrev pub TakenIsGone : Type 0
 TakenIsGone =
     (call : Call) (w : World) (r : Answer call × World) (p q : Path) (n m : Node)
     → IsProper call → IsWorld w → meaning call w ≡ Ok r → node_at w p ≡ Some n → TakesAway call p → node_at r.1 q ≡ Some m → m.made ≢ n.made
 
--- what has the same change number before and after a call is the same node with the same bytes (RFC 9110, section 8.8.1)
+-- A node that has the same change number as one before the call is that node, with the same bytes (RFC 9110, section 8.8.1).
 abbrev pub NumbersTellBytes : Type 0
 NumbersTellBytes =
     (call : Call) (w : World) (r : Answer call × World) (p q : Path) (n m : Node)
@@ -271,7 +273,7 @@ TakenFilesAreGone =
 abbrev pub IsOpenFile : World → Handle → Type 0
 IsOpenFile w file = file.made < w.next
 
--- what was opened in a world is an open file
+-- A handle that an open gives refers to its file by a change number that was handed out.
 abbrev pub OpenedIsOpenFile : Type 0
 OpenedIsOpenFile =
     (p : Path) (how : Opening) (now : ℕ) (w : World) (r : Handle × World)
@@ -292,19 +294,19 @@ pub record IsCopy (source : Node) (number now : ℕ) (m : Node) : Type 0 where
   pub created : m.created ≡ now
   pub modified : m.modified ≡ now
 
--- a copy that succeeds puts a copy of what is at `from` at `to`, with the next change number (RFC 4918, sections 9.8 and 9.6)
+-- A copy that succeeds puts a copy of what is at `from` at `to`, with the next change number (RFC 4918, section 9.8).
 abbrev pub CopyBrings : Type 0
 CopyBrings =
     (from to : Path) (now : ℕ) (w : World) (r : Unit {0} × World) (source : Node)
     → meaning (Copy from to now) w ≡ Ok r → node_at w from ≡ Some source → (m : Node) × (node_at r.1 to ≡ Some m) × IsCopy source w.next now m
 
--- nothing is copied over a folder (RFC 4918, sections 9.8 and 9.6)
+-- The store refuses to copy over a folder: Forbidden.
 abbrev pub CopySparesFolders : Type 0
 CopySparesFolders =
     (from to : Path) (now : ℕ) (w : World)
     → is_missing w from ≡ false → is_folder w to ≡ true → meaning (Copy from to now) w ≡ Err Forbidden
 
--- a folder with members isn't removed (RFC 4918, sections 9.8 and 9.6)
+-- The store refuses to remove a folder that has members: Exists. (The root it refuses to remove in any case.)
 abbrev pub RemovalSparesMembers : Type 0
 RemovalSparesMembers =
     (p : Path) (now : ℕ) (w : World)

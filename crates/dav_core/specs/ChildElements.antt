@@ -5,6 +5,6 @@ use Rattle.dav_core.specs.Element.{ElementTree, is_element}
 use Rattle.dav_core.specs.ElementView.{node_tree}
 use Rattle.dav_core.specs.declared.element.ChildElems.{ChildElems}
 
--- the elements that are still to come
+-- The child elements that the iterator has still to give, in order.
 abbrev pub elements_left : ChildElems → List ElementTree
 elements_left s = filter is_element (map node_tree s.rest.now)

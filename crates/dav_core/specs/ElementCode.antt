@@ -6,6 +6,7 @@ use Rattle.std.proofs.Common.{refl, ap, sym}
 use native.Mathlib.Nat.{suc-ne-zero}
 use Rattle.dav_core.specs.Element.{ElementTree, ElementTrees, element, text, no_trees, tree_then}
 
+-- How the logic stores bytes, one to one.
 abbrev pub bytes_code : Coded (List ℕ)
 bytes_code = coded_list coded_ℕ
 
@@ -17,10 +18,12 @@ abbrev parts_code : Coded Parts
 parts_code = coded× bytes_code (coded× (coded_option bytes_code) (coded× (coded_option bytes_code) (coded_list (coded× bytes_code bytes_code))))
 
 abbrev mutual
+  -- How the logic stores a tree: as a tree of numbers.
   pub tree_code : ElementTree → Gv
   tree_code (element n p s a c) = gcons (gnum 0) (gcons (parts_code.code (n, (p, (s, a)))) (trees_code c))
   tree_code (text b) = gcons (gnum 1) (bytes_code.code b)
 
+  -- How the logic stores the children of an element: as a tree of numbers.
   pub trees_code : ElementTrees → Gv
   trees_code no_trees = gnum 0
   trees_code (tree_then t ts) = gcons (tree_code t) (trees_code ts)
@@ -41,6 +44,7 @@ is_pair (gnum n) = 0
 is_pair (gcons a b) = 1
 
 mutual
+  -- Trees that are stored alike are the same.
   pub tree_code_inj : (x y : ElementTree) → tree_code x ≡ tree_code y → x ≡ y
   tree_code_inj (element n p s a c) (element m q t b d) e =
       let parts : ◌≡◌ {A = Parts} (n, (p, (s, a))) (m, (q, (t, b))) = parts_code.inj _ _ (ap (λ g. first_of (second_of g)) e) in
@@ -50,6 +54,7 @@ mutual
   tree_code_inj (element n p s a c) (text b) e = absurd (suc-ne-zero 0 (sym (ap (λ g. num (first_of g)) e)))
   tree_code_inj (text b) (element n p s a c) e = absurd (suc-ne-zero 0 (ap (λ g. num (first_of g)) e))
 
+  -- Children that are stored alike are the same.
   pub trees_code_inj : (xs ys : ElementTrees) → trees_code xs ≡ trees_code ys → xs ≡ ys
   trees_code_inj no_trees no_trees e = refl
   trees_code_inj (tree_then x xs) (tree_then y ys) e =
@@ -59,6 +64,6 @@ mutual
   trees_code_inj no_trees (tree_then y ys) e = absurd (suc-ne-zero 0 (sym (ap is_pair e)))
   trees_code_inj (tree_then x xs) no_trees e = absurd (suc-ne-zero 0 (ap is_pair e))
 
--- how the logic stores a tree, one to one; nothing but the checker needs it
+-- How the logic stores a tree, one to one; nothing but the checker needs it.
 abbrev pub coded_tree : Coded ElementTree
 coded_tree = record { code = tree_code; inj = tree_code_inj }

@@ -9,24 +9,26 @@ use Rattle.std.proofs.Common.{◌≡◌, refl, ap, sym, subst}
 use Rattle.std.proofs.lemmas.Slice.Eq.{bytes_eq-Decides}
 use Rattle.dav_core.specs.Element.{ElementTree, ElementTrees, element, text, no_trees, tree_then, name_of, prefix_of, namespace_of, attributes_of}
 
--- names and values are the same
+-- Whether two attributes have the same name and the same value.
 abbrev pub attribute_eq : List ℕ × List ℕ → List ℕ × List ℕ → Bool
 attribute_eq a b = bytes_eq a.0 b.0 && bytes_eq a.1 b.1
 
--- names, prefixes, namespaces and attributes are the same
+-- Whether two elements have the same name, prefix and namespace, and the same attributes in the same order.
 abbrev pub tag_eq : ElementTree → ElementTree → Bool
 tag_eq x y =
     bytes_eq (name_of x) (name_of y) && option_eq bytes_eq (prefix_of x) (prefix_of y) && option_eq bytes_eq (namespace_of x) (namespace_of y)
     && pointwise attribute_eq (attributes_of x) (attributes_of y)
 
 abbrev mutual
-  -- two trees are equal where their names, prefixes, namespaces and attributes are, and their children one by one
+  -- Whether two trees are the same: elements with the same name, prefix, namespace and attributes whose children are the same
+  -- one by one, or texts with the same bytes.
   pub tree_eq : ElementTree → ElementTree → Bool
   tree_eq (element n p s a c) (element m q t b d) = tag_eq (element n p s a c) (element m q t b d) && trees_eq c d
   tree_eq (text a) (text b) = bytes_eq a b
   tree_eq (element n p s a c) (text b) = false
   tree_eq (text a) (element m q t b d) = false
 
+  -- Whether children are the same, one by one.
   pub trees_eq : ElementTrees → ElementTrees → Bool
   trees_eq no_trees no_trees = true
   trees_eq (tree_then x xs) (tree_then y ys) = tree_eq x y && trees_eq xs ys
@@ -96,7 +98,7 @@ mutual
 pub tree_eq-Decides : (x y : ElementTree) → Decides (tree_eq x y) (x ≡ y)
 tree_eq-Decides x y = (tree_eq-same x y, λ e. subst (λ z. tree_eq x z ≡ true) e (tree_eq-refl x))
 
--- a test that is true exactly where two values are the same is an equality, on what the values stand for
+-- A test E that is true exactly where two keys are the same is an equality of values, by the keys that `view` gives them.
 pub equality_by : {X K : Type 0} (E : K → K → Bool) → ((a b : K) → Decides (E a b) (a ≡ b)) → (view : X → K) → IsEquivalence (on view E)
 equality_by E decides view = record {
   refl = λ x. (decides (view x) (view x)).1 refl;

@@ -7,7 +7,7 @@ use Rattle.dav_core.specs.declared.element.XmlNode.{XmlNode}
 use Rattle.dav_core.specs.declared.element.XmlNode.TheVariants.{Element, Text}
 use Rattle.dav_core.specs.declared.element.Element.TheInside.{Inside}
 
--- a child as a tree
+-- A child of an element, an element or a text, as a tree.
 abbrev pub node_tree : XmlNode → ElementTree
 node_tree (Element e) = e
 node_tree (Text t) = text (string_bytes t)
@@ -26,9 +26,10 @@ abbrev pub IsFirst : {X : Type 0} → (X → Bool) → List X → Option ℕ →
 IsFirst test xs None = list_any test xs ≡ false
 IsFirst {X} test xs (Some i) = (i < length xs) × (list_any test (take i xs) ≡ false) × ((d : X) → test (slice_index_or xs i d) ≡ true)
 
--- whether an attribute has that name, and whether a child is an element of that name
+-- Whether an attribute has that name.
 abbrev pub has_name : List ℕ → String Global × String Global → Bool
 has_name name a = bytes_eq (string_bytes a.0) name
 
+-- Whether a child is an element of that name.
 abbrev pub is_node_named : List ℕ → XmlNode → Bool
 is_node_named name n = is_named name (node_tree n)

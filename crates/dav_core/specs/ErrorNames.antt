@@ -3,7 +3,7 @@ use Rattle.std.specs.Prelude.{ℕ, List, codes}
 use Rattle.dav_core.specs.declared.errors.FsError.{FsError}
 use Rattle.dav_core.specs.declared.errors.FsError.TheVariants.{NotImplemented, GeneralFailure, Exists, NotFound, Forbidden, InsufficientStorage, LoopDetected, PathTooLong, TooLarge, IsRemote}
 
--- the variant's name
+-- The name of a store's error, as it is printed: that of its variant.
 abbrev pub fs_error_name : FsError → List ℕ
 fs_error_name NotImplemented = codes "NotImplemented"
 fs_error_name GeneralFailure = codes "GeneralFailure"

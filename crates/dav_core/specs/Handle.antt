@@ -5,7 +5,8 @@ use Rattle.std.specs.declared.io.traits.SeekFrom.{SeekFrom}
 use Rattle.std.specs.declared.io.traits.SeekFrom.TheVariants.{Start, End, Current}
 use Rattle.dav_core.specs.Numbers.{max_u64}
 
--- An open file: the number with which its file was made, the place where the next read or write begins, and whether it reads, writes and appends.
+-- An open file: the change number under which its file was created; the position at which the next read begins, and the next
+-- write unless the file was opened to append; and whether it was opened to read, to write and to append.
 pub record Handle : Type 0 where
   pub made : ℕ
   pub position : ℕ
@@ -13,7 +14,7 @@ pub record Handle : Type 0 where
   pub writes : Bool
   pub appends : Bool
 
--- How a file is opened. The length that is announced and the checksum are hints, which change nothing here.
+-- How a file is opened. `size`, the length that the client announces, and `checksum` are hints, which change nothing here.
 pub record Opening : Type 0 where
   pub read : Bool
   pub write : Bool
@@ -24,19 +25,19 @@ pub record Opening : Type 0 where
   pub size : Option ℕ
   pub checksum : Option (List ℕ)
 
--- a file that was just opened; appending is writing
+-- A file that was just opened, at position 0; to append is to write, too.
 abbrev pub opened : ℕ → Opening → Handle
 opened made how = record { made = made; position = 0; reads = how.read; writes = how.write || how.append; appends = how.append }
 
--- where the next write begins in a file of these bytes
+-- Where the next write begins in a file of these bytes: at their end if it was opened to append, else at its position.
 abbrev pub write_place : Handle → List ℕ → ℕ
 write_place file bytes = if file.appends then length bytes else file.position
 
--- the position that a number names; none before 0 or past 2^64 - 1
+-- The position that a number is; none where it is below 0 or above 2^64 - 1.
 abbrev pub place_within : ℤ → Option ℕ
 place_within z = if int_lt z (pos 0) then None else if nat_lt max_u64 (nat_abs z) then None else Some (nat_abs z)
 
--- the position to which a seek moves from a position in a file of this length
+-- The position to which a seek moves, from this position in a file of this length; none where it is below 0 or above 2^64 - 1.
 abbrev pub place_for : SeekFrom → ℕ → ℕ → Option ℕ
 place_for (Start k) position len = Some k
 place_for (End offset) position len = place_within (pos len +ℤ offset)

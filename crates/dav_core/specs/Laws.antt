@@ -10,15 +10,15 @@ use Rattle.std.specs.FinMap.{is_sorted}
 use Rattle.dav_core.specs.Property.{Properties, key_cmp}
 use Rattle.dav_core.specs.World.{World, Node, Kind, IsWorld, Renumbers, last_moment, last_number, empty_from, node_at, is_folder, with_new, adjust}
 
--- pieces leave one path at most (RFC 3986, section 5.2.4)
+-- Decoded segments leave one path at most (RFC 3986, section 5.2.4).
 abbrev pub LeavesOnePath : Type 0
 LeavesOnePath = (ps : List (List ℕ)) (a b : Path) → Leaves ps a → Leaves ps b → a ≡ b
 
--- pieces that leave a path don't climb above the root, and none of them is bad (RFC 3986, section 5.2.4)
+-- Decoded segments that leave a path don't climb above the root, and none of them is bad (RFC 3986, section 5.2.4).
 abbrev pub LeavesNoFault : Type 0
 LeavesNoFault = (ps : List (List ℕ)) (a : Path) → Leaves ps a → ¬ Climbs ps × ¬ HasBadPiece ps
 
--- one piece refuses first: pieces that climb have no bad piece before the `..` that does (RFC 3986, section 5.2.4)
+-- Decoded segments have one first fault: where it is a `..` above the root, it isn't a bad segment (RFC 3986, section 5.2.4).
 abbrev pub OneFault : Type 0
 OneFault = (ps : List (List ℕ)) → Climbs ps → ¬ HasBadPiece ps
 
@@ -40,7 +40,7 @@ abbrev pub ReadOrRefused : Type 0
 ReadOrRefused =
     (src : List ℕ) → ((a : List ℕ) → ¬ Reads src a) → ¬ IsRefused src InvalidPath → ¬ ¬ IsRefused src ForbiddenPath
 
--- the names in the bytes of a path are its names (RFC 3986, section 3.3)
+-- The names that are read from the bytes of a path are the names that the path was made of (RFC 3986, section 3.3).
 abbrev pub KeepsNames : Type 0
 KeepsNames = (ns : Path) (closed : Bool) → All IsName ns → names_of (path_bytes ns closed) ≡ ns
 
@@ -48,7 +48,7 @@ KeepsNames = (ns : Path) (closed : Bool) → All IsName ns → names_of (path_by
 abbrev pub ReadsNames : Type 0
 ReadsNames = (src a : List ℕ) → Reads src a → All IsName (names_of a) × All (All (λ b. b < 256)) (names_of a)
 
--- the star path has no names (RFC 3986, section 3.3)
+-- The star path has no names (RFC 9110, section 7.1).
 abbrev pub StarHasNoNames : Type 0
 StarHasNoNames = names_of star ≡ []
 
@@ -57,12 +57,12 @@ abbrev pub ReadsAgain : Type 0
 ReadsAgain =
     (src bytes written : List ℕ) → Reads src bytes → IsTextOf bytes written → Reads written bytes
 
--- the URL text of any path of names that are bytes is read again as that path (RFC 3986, section 2.1)
+-- The URL text of any path whose names are made of bytes below 256 is read again as that path (RFC 3986, section 2.1).
 abbrev pub NamesReadAgain : Type 0
 NamesReadAgain =
     (ns : Path) (closed : Bool) → All IsName ns → All (All (λ b. b < 256)) ns → Reads (url_text (path_bytes ns closed)) (path_bytes ns closed)
 
--- the empty world is a world, whatever number comes next but 0 (RFC 4918, section 5.1)
+-- The empty world is a world, whatever change number comes next, but for 0 and any above the last (RFC 4918, section 5.1).
 abbrev pub EmptyIsWorld : Type 0
 EmptyIsWorld = (next : ℕ) → 0 < next → next ≤ last_number → IsWorld (empty_from next)
 
@@ -74,7 +74,7 @@ NewKeepsWorld =
     → All IsName p → All (All (λ b. b < 256)) p → T (is_sorted key_cmp properties) → now ≤ last_moment
     → IsWorld (with_new w p kind properties now)
 
--- a change of the node at a path that takes the next number leaves a world (RFC 4918, section 5.1)
+-- A change of the node at a path that takes the next change number leaves a world (RFC 4918, section 5.1).
 abbrev pub ChangeKeepsWorld : Type 0
 ChangeKeepsWorld =
     (w : World) (p : Path) (f : Node → Node)
@@ -87,12 +87,13 @@ SameText =
     (src other a b s t : List ℕ)
     → Reads src a → Reads other b → IsTextOf a s → IsTextOf b t → (a ≡ b) ↔ (s ≡ t)
 
--- a path with a slash at the end has the same names (RFC 3986, section 3.3)
+-- The bytes of a path with a slash at the end are those of the closed path with the same names (RFC 3986, section 3.3).
 abbrev pub SlashKeepsNames : Type 0
 SlashKeepsNames =
     (ns : Path) (closed : Bool) → All IsName ns → with_slash (path_bytes ns closed) ≡ path_bytes ns true
 
--- a name that is added is the last of the names (RFC 3986, section 3.3)
+-- The bytes of a path, a slash unless one is at their end, and a name are the bytes of the path with this name as its last
+-- (RFC 3986, section 3.3).
 abbrev pub AddsName : Type 0
 AddsName =
     (ns : Path) (closed : Bool) (n : List ℕ)
@@ -142,15 +143,15 @@ ParentOfNames =
     (ns : Path) (closed : Bool)
     → All IsName ns → IsParent (path_bytes ns closed) (path_bytes (parent_of ns) true)
 
--- and, whatever the bytes of a path are, its parent has all of its names but the last (RFC 3986, section 3.3)
+-- Whatever the bytes of a path are, its parent has all of its names but the last (RFC 3986, section 3.3).
 abbrev pub ParentHasNames : Type 0
 ParentHasNames = (bytes parent : List ℕ) → IsParent bytes parent → names_of parent ≡ parent_of (names_of bytes)
 
--- a path has one parent (RFC 3986, section 3.3)
+-- A path has one parent at most (RFC 3986, section 3.3).
 abbrev pub OneParent : Type 0
 OneParent = (bytes a b : List ℕ) → IsParent bytes a → IsParent bytes b → a ≡ b
 
--- a prefix cuts a path in one way
+-- A prefix cuts a path in one way at most.
 abbrev pub OneCut : Type 0
 OneCut = (prefix bytes : List ℕ) (a b : PathText) → IsCut prefix bytes a → IsCut prefix bytes b → a ≡ b
 
@@ -162,7 +163,7 @@ OneMethod = (text : List ℕ) (m n : DavMethod) → NamesMethod text m → Names
 abbrev pub NameNames : Type 0
 NameNames = (m : DavMethod) → NamesMethod (method_name m) m
 
--- the members of a set are the methods that it has (RFC 9110, section 9.1)
+-- The methods that are listed for a set are those that it has (RFC 9110, section 9.1).
 abbrev pub MembersAreHad : Type 0
 MembersAreHad = (set : ℕ) (m : DavMethod) → Contains (methods_in set) m ↔ Has set m
 

@@ -19,6 +19,7 @@ reach_code = coded× (coded_option coded_ℕ) (coded× (coded_option coded_ℕ) 
 abbrev Fields : Type 0
 Fields = List ℕ × (PathText × (Option (List ℕ) × (Option ElementTree × Reach)))
 
+-- How the logic stores a lock, one to one; nothing but the checker needs it.
 abbrev pub lock_code : Coded Lock
 lock_code =
     code_by Fields (coded× bytes_code (coded× path_code (coded× (coded_option bytes_code) (coded× (coded_option coded_tree) reach_code))))

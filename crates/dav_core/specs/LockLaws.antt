@@ -17,13 +17,13 @@ FreeHoldsOwn =
     (who : Requester) (p : Path) (ls : List Lock) (l : Lock)
     → is_free who p ls ≡ true → Contains ls l → names l.path ≡ p → l.shared ≡ false → is_held who l ≡ true
 
--- where it is free with everything below, the requester holds each lock at it and below it too (RFC 4918, section 7.5)
+-- Where a path is free with everything below it, the requester holds each lock at it or below it (RFC 4918, section 7.5).
 abbrev pub FreeDeepHoldsBelow : Type 0
 FreeDeepHoldsBelow =
     (who : Requester) (p : Path) (ls : List Lock) (l : Lock)
     → is_free_deep who p ls ≡ true → Contains ls l → is_at_or_under (names l.path) p ≡ true → is_held who l ≡ true
 
--- a path is free exactly where no lock conflicts (RFC 4918, section 7.5)
+-- A path is free, by itself or with everything below it, exactly where no lock of the list conflicts (RFC 4918, section 7.5).
 abbrev pub FreeIsNoConflict : Type 0
 FreeIsNoConflict =
     (deep : Bool) (who : Requester) (p : Path) (ls : List Lock)
@@ -44,42 +44,42 @@ TakenBack =
 abbrev pub CoveringAreShared : List Lock → Type 0
 CoveringAreShared = AllPairs (λ l m. (p : Path) → covers l p ≡ true → covers m p ≡ true → (l.shared ≡ true) × (m.shared ≡ true))
 
--- locks that cover one path are still shared after one more lock was granted that may be (RFC 4918, section 6.2)
+-- Any two locks that cover one path are still both shared after one more was granted that is grantable (RFC 4918, section 6.2).
 abbrev pub GrantedAreShared : Type 0
 GrantedAreShared =
     (new : Lock) (ls : List Lock)
     → CoveringAreShared ls → is_grantable new ls ≡ true → CoveringAreShared (ls ++ new ∷ [])
 
--- after one was unlocked (RFC 4918, section 6.2)
+-- Any two locks that cover one path are still both shared after one was unlocked (RFC 4918, section 6.2).
 abbrev pub UnlockedAreShared : Type 0
 UnlockedAreShared =
     (token : List ℕ) (p : Path) (ls left : List Lock)
     → CoveringAreShared ls → unlocked token p ls ≡ Some left → CoveringAreShared left
 
--- after one got a new timeout (RFC 4918, section 6.2)
+-- Any two locks that cover one path are still both shared after one got a new timeout (RFC 4918, section 6.2).
 abbrev pub RefreshedAreShared : Type 0
 RefreshedAreShared =
     (token : List ℕ) (p : Path) (timeout : Option ℕ) (now : ℕ) (ls new : List Lock)
     → CoveringAreShared ls → refreshed token p timeout now ls ≡ Some new → CoveringAreShared new
 
--- locks that cover one path are still shared after those at a path and below it were deleted (RFC 4918, section 6.2)
+-- Any two locks that cover one path are still both shared after those at a path and below it were deleted (RFC 4918, section 6.2).
 abbrev pub DeletedAreShared : Type 0
 DeletedAreShared = (p : Path) (ls : List Lock) → CoveringAreShared ls → CoveringAreShared (deleted p ls)
 
--- a lock that a token and a path can mean: it has the token, and is on the path or above it (RFC 4918, sections 6.8, 9.10.2 and 9.11)
+-- A lock that a token and a path may name: it has the token, and its path is p or above p (RFC 4918, sections 9.10.2 and 9.11).
 pub record IsNamedLock (token : List ℕ) (p : Path) (l : Lock) : Type 0 where
   pub token_is : l.token ≡ token
   pub above : is_at_or_under p (names l.path) ≡ true
 
--- an unlock removes one lock that is meant, and leaves all others in their places (RFC 4918, section 9.11)
+-- An unlock removes one lock that the token and the path name, and leaves all others in their places (RFC 4918, section 9.11).
 abbrev pub UnlockTakesOne : Type 0
 UnlockTakesOne =
     (token : List ℕ) (p : Path) (ls left : List Lock)
     → unlocked token p ls ≡ Some left
     → (l : Lock) × (front : List Lock) × (back : List Lock) × IsNamedLock token p l × (ls ≡ front ++ l ∷ back) × (left ≡ front ++ back)
 
--- a refresh gives one lock that is meant a new timeout, and changes nothing else of it; all locks keep their places
--- (RFC 4918, section 9.10.2)
+-- A refresh gives one lock that the token and the path name a new timeout, and changes nothing else of it; all locks keep their
+-- places (RFC 4918, section 9.10.2).
 abbrev pub RefreshChangesOne : Type 0
 RefreshChangesOne =
     (token : List ℕ) (p : Path) (timeout : Option ℕ) (now : ℕ) (ls new : List Lock)
@@ -87,6 +87,6 @@ RefreshChangesOne =
     → (l : Lock) × (front : List Lock) × (back : List Lock) × IsNamedLock token p l
     × (ls ≡ front ++ l ∷ back) × (new ≡ front ++ refreshed_lock timeout now l ∷ back)
 
--- the locks that are listed for a path are those of the list that cover it (RFC 4918, section 6.8)
+-- The locks that are listed for a path are exactly those that cover it (RFC 4918, section 6.8).
 abbrev pub DiscoveredAreCovering : Type 0
 DiscoveredAreCovering = (p : Path) (ls : List Lock) (l : Lock) → Contains (discovered p ls) l ↔ (Contains ls l × (covers l p ≡ true))

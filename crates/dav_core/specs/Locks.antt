@@ -20,7 +20,7 @@ pub record Lock : Type 0 where
   pub shared : Bool
   pub deep : Bool
 
--- a lock covers its path, and where it is of infinite depth everything below it (RFC 4918, section 6.1)
+-- Whether a lock covers a path: its own path, and if it is of infinite depth everything below that (RFC 4918, section 6.1).
 abbrev pub covers : Lock → Path → Bool
 covers l p = is_same_path (names l.path) p || (l.deep && is_under p (names l.path))
 
@@ -28,11 +28,11 @@ covers l p = is_same_path (names l.path) p || (l.deep && is_under p (names l.pat
 abbrev pub covering : Path → List Lock → List Lock
 covering p ls = filter (λ l. covers l p) ls
 
--- the locks of the list that are below a path (RFC 4918, section 6.1)
+-- The locks of the list whose path is below p.
 abbrev pub locks_below : Path → List Lock → List Lock
 locks_below p ls = filter (λ l. is_under (names l.path) p) ls
 
--- Who may hold a lock: anyone who submits its token, or only the one with this principal, which may be none (RFC 4918, sections 6.4 and 7.5).
+-- Who may hold a lock: anyone who submits its token, or only the one with this principal, which may be none (RFC 4918, section 6.4).
 pub data Claimant : Type 0 where
   Anyone : Claimant
   By : Option (List ℕ) → Claimant
@@ -46,9 +46,11 @@ pub record Requester : Type 0 where
 abbrev pub requester_of : List (List ℕ) → Bool → Option (List ℕ) → Requester
 requester_of tokens ignored principal = record { tokens = tokens; principal = if ignored then Anyone else By principal }
 
+-- Whether two principals are the same; none is the same as none.
 abbrev pub is_same_principal : Option (List ℕ) → Option (List ℕ) → Bool
 is_same_principal = option_eq bytes_eq
 
+-- Whether this claimant may hold the lock: anyone, or the one whose principal is the lock's.
 abbrev pub is_of : Claimant → Lock → Bool
 is_of Anyone l = true
 is_of (By principal) l = is_same_principal l.principal principal
@@ -57,7 +59,8 @@ is_of (By principal) l = is_same_principal l.principal principal
 abbrev pub is_held : Requester → Lock → Bool
 is_held who l = list_any (bytes_eq l.token) who.tokens && is_of who.principal l
 
--- A path is free for a requester that holds every exclusive lock covering it, and at least one covering lock if there is any (RFC 4918, section 7.5).
+-- Whether a path is free for a requester: it holds every exclusive lock that covers the path and, where locks cover it, at
+-- least one of them (RFC 4918, section 7.5).
 abbrev pub is_free : Requester → Path → List Lock → Bool
 is_free who p ls =
     list_all (λ l. is_held who l || l.shared) (covering p ls)
@@ -67,16 +70,17 @@ is_free who p ls =
 abbrev pub is_free_deep : Requester → Path → List Lock → Bool
 is_free_deep who p ls = is_free who p ls && list_all (λ l. is_held who l || not (is_at_or_under (names l.path) p)) ls
 
+-- Whether a path is free: with everything below it where `deep` is true, else by itself.
 abbrev pub is_free_for : Bool → Requester → Path → List Lock → Bool
 is_free_for deep who p ls = if deep then is_free_deep who p ls else is_free who p ls
 
--- A path's folder may get, lose or change this member: the path is the root, or its parent is free, whatever is below that
+-- Whether a member may be added to the folder of p, removed or replaced there: p is the root, or its parent is free by itself
 -- (RFC 4918, section 7.4).
 abbrev pub is_free_parent : Requester → Path → List Lock → Bool
 is_free_parent who p ls = is_root p || is_free who (parent_of p) ls
 
--- A lock conflicts: the requester doesn't hold it, and it covers the path and is exclusive, or covers it while no covering
--- lock is held; or it is at the path or below it, where the path is checked with everything below (RFC 4918, section 16).
+-- Whether a lock conflicts: the requester doesn't hold it, and it covers the path and either is exclusive or no covering lock
+-- is held; or, where the path is checked with everything below, the lock is at it or below it (RFC 4918, sections 7.4 and 7.5).
 abbrev pub conflicts : Bool → Requester → Path → List Lock → Lock → Bool
 conflicts deep who p ls l =
     not (is_held who l)
@@ -88,7 +92,7 @@ pub data Checks (deep : Bool) (who : Requester) (p : Path) (ls : List Lock) : Re
   free : is_free_for deep who p ls ≡ true → Checks deep who p ls (Ok tt)
   conflicting : {l : Lock} → Contains ls l → conflicts deep who p ls l ≡ true → Checks deep who p ls (Err l)
 
--- an answer that lends the lock that conflicts (RFC 4918, section 6.4)
+-- The answer to a check with the lent lock itself, if one conflicts.
 abbrev pub lent : Result (Unit {0}) (Bor Lock) → Result (Unit {0}) Lock
 lent (Ok u) = Ok u
 lent (Err l) = Err l.now
@@ -100,11 +104,11 @@ is_grantable new ls =
     list_all (λ l. l.shared && new.shared) (covering (names new.path) ls)
     && (not new.deep || is_empty (locks_below (names new.path) ls))
 
--- the moment when a lock ends that has this timeout, in seconds; none without a timeout (RFC 4918, sections 6.6 and 9.10)
+-- The moment at which a lock ends that gets this timeout, in seconds, at `now`; none without a timeout (RFC 4918, section 6.6).
 abbrev pub ends_at : ℕ → Option ℕ → Option ℕ
 ends_at now timeout = option_map (λ seconds. now + seconds) timeout
 
--- a lock as it is granted (RFC 4918, sections 6.6 and 9.10)
+-- The lock that is granted at this moment with these parts (RFC 4918, section 9.10.1).
 abbrev pub new_lock : List ℕ → PathText → Option (List ℕ) → Option ElementTree → Option ℕ → Bool → Bool → ℕ → Lock
 new_lock token path principal owner timeout shared deep now = record {
   token = token;
@@ -117,35 +121,36 @@ new_lock token path principal owner timeout shared deep now = record {
   deep = deep;
 }
 
--- the lock with a new timeout; it stays the lock that it was (RFC 4918, section 9.10.2)
+-- The lock with a new timeout, which begins at this moment; nothing else of it changes (RFC 4918, section 9.10.2).
 abbrev pub refreshed_lock : Option ℕ → ℕ → Lock → Lock
 refreshed_lock timeout now l = record l { timeout_at = ends_at now timeout; timeout = timeout }
 
--- the lock has this token and this path
+-- Whether a lock has this token and is on this path.
 abbrev pub has_token_at : List ℕ → Path → Lock → Bool
 has_token_at token p l = bytes_eq l.token token && is_same_path (names l.path) p
 
--- The path of the lock that a token and a path mean: the shortest front of the path at which a lock has the token (RFC 4918, section 9.11).
+-- The path of the lock that a token and a path name: the shortest front of the path at which a lock has the token
+-- (RFC 4918, sections 9.10.2 and 9.11).
 abbrev pub lock_front : List ℕ → Path → List Lock → Option Path
 lock_front token p ls = first (λ q. list_any (has_token_at token q) ls) (fronts p)
 
--- the lock that a token and a path mean: the first with the token that was granted at the shortest front of the path where a lock has it
--- (RFC 4918, section 9.11)
+-- The lock that a token and a path name: of those with the token at the shortest front of the path where one has it, the one
+-- granted first (RFC 4918, sections 9.10.2 and 9.11).
 abbrev pub named_lock : List ℕ → Path → List Lock → Option Lock
 named_lock token p ls = option_and_then (λ q. first (has_token_at token q) ls) (lock_front token p ls)
 
--- the list without the lock that is meant; none where none is (RFC 4918, sections 9.10.2 and 9.11)
+-- The list without the lock that the token and the path name; none where they name none (RFC 4918, section 9.11).
 abbrev pub unlocked : List ℕ → Path → List Lock → Option (List Lock)
 unlocked token p ls = option_map (λ q. without_first (has_token_at token q) ls) (lock_front token p ls)
 
--- the list with a new timeout of the lock that is meant; none where none is (RFC 4918, sections 9.10.2 and 9.11)
+-- The list with a new timeout of the lock that the token and the path name; none where they name none (RFC 4918, section 9.10.2).
 abbrev pub refreshed : List ℕ → Path → Option ℕ → ℕ → List Lock → Option (List Lock)
 refreshed token p timeout now ls = option_map (λ q. change_first (has_token_at token q) (refreshed_lock timeout now) ls) (lock_front token p ls)
 
--- the locks that cover a path, the shortest path first, and of one path the first that was granted (RFC 4918, sections 6.8 and 9.6)
+-- The locks that cover a path, the shortest path first, and of one path the first granted first (RFC 4918, section 6.8).
 abbrev pub discovered : Path → List Lock → List Lock
 discovered p ls = flat_map (λ q. filter (λ l. is_same_path (names l.path) q && covers l p) ls) (fronts p)
 
--- the list without the locks at a path and below it (RFC 4918, sections 6.8 and 9.6)
+-- The list without the locks at a path and below it (RFC 4918, section 9.6).
 abbrev pub deleted : Path → List Lock → List Lock
 deleted p ls = filter (λ l. not (is_at_or_under (names l.path) p)) ls

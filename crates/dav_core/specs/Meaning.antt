@@ -14,11 +14,11 @@ abbrev pub refuse_if : {A : Type 0} → Bool → FsError → Meaning A → Meani
 refuse_if true e m = Err e
 refuse_if false e m = m
 
--- what follows, for the node that is there; else it is not found
+-- What follows for the node that is there; NotFound where there is none.
 abbrev pub at_node : {A : Type 0} → Option Node → (Node → Meaning A) → Meaning A
 at_node None f = Err NotFound
 at_node (Some n) f = f n
 
--- what follows, with the next number; where none is left, the call fails
+-- What follows with the next change number; GeneralFailure where none is left.
 abbrev pub numbered : {A : Type 0} → World → (ℕ → Meaning A) → Meaning A
 numbered w f = refuse_if (w.next == last_number) GeneralFailure (f w.next)

@@ -9,7 +9,7 @@ use Rattle.dav_core.specs.Handle.{Opening}
 abbrev pub tag_of : ℕ → List ℕ
 tag_of number = 34 ∷ (digits 16 false number ++ 34 ∷ [])
 
--- how a file is opened, with its texts as bytes
+-- How the options of a call open a file.
 abbrev pub opening_of : OpenOptions → Opening
 opening_of o = record {
   read = o.read;

@@ -10,7 +10,7 @@ use Rattle.dav_core.specs.declared.errors.DavError.TheVariants as dav
 use Rattle.dav_core.specs.declared.method.DavMethod.{DavMethod}
 use Rattle.dav_core.specs.declared.method.DavMethod.TheVariants.{Head, Get, Put, Patch, Options, PropFind, PropPatch, MkCol, Copy, Move, Delete, Lock, Unlock, Report, MkCalendar, MkAddressbook}
 
--- all methods, in order (RFC 9110, section 9.1)
+-- All methods that the server knows, in the order of `place_of` (RFC 9110, section 9.1).
 abbrev pub all_methods : List DavMethod
 all_methods =
     Head ∷ Get ∷ Put ∷ Patch ∷ Options ∷ PropFind ∷ PropPatch ∷ MkCol ∷ Copy ∷ Move ∷ Delete ∷ Lock ∷ Unlock
@@ -67,7 +67,7 @@ place_of Report = 13
 place_of MkCalendar = 14
 place_of MkAddressbook = 15
 
--- A set of methods is a number below 2^16. Its bit at the place of a method says whether the set has the method.
+-- The set that has this method alone. A set of methods is a number below 2^16, whose bit at the place of a method says whether the set has it.
 abbrev pub bit_of : DavMethod → ℕ
 bit_of m = 2 ^ place_of m
 
@@ -79,7 +79,7 @@ Has set m = bit_at set (place_of m) ≡ 1
 abbrev pub methods_in : ℕ → List DavMethod
 methods_in set = filter (λ m. bit_at set (place_of m) == 1) all_methods
 
--- the bytes of texts that are lent (RFC 9110, section 9.1)
+-- The bytes of texts that are lent.
 abbrev pub texts_of : List (Bor (List ℕ)) → List (List ℕ)
 texts_of = map (λ t. t.now)
 

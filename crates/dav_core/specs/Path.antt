@@ -10,7 +10,7 @@ use Rattle.std.specs.Cmp.Lexicographic.{slice_cmp, pointwise}
 abbrev pub parent_piece : List ℕ
 parent_piece = 46 ∷ 46 ∷ []
 
--- nothing, or `.`: a segment that names nothing
+-- A segment that is empty or `.`, which names nothing.
 abbrev pub IsBlank : List ℕ → Type 0
 IsBlank p = (p ≡ []) ⊎ (p ≡ 46 ∷ [])
 
@@ -18,7 +18,7 @@ IsBlank p = (p ≡ []) ⊎ (p ≡ 46 ∷ [])
 abbrev pub IsBarred : ℕ → Type 0
 IsBarred b = (b ≡ 0) ⊎ (b ≡ 47)
 
--- a name that no file can have: there is a zero byte or a slash in it
+-- A decoded segment with a zero byte or a slash in it, which can't be a name.
 abbrev pub IsBad : List ℕ → Type 0
 IsBad p = (b : ℕ) × IsBarred b × Contains p b
 
@@ -36,7 +36,7 @@ IsSegment p = (p ≢ []) × All (λ b. b ≢ 47) p
 abbrev pub Path : Type 0
 Path = List (List ℕ)
 
--- names in the order of their bytes, and paths in the order of their names
+-- Names in the order of their bytes.
 abbrev pub name_cmp : List ℕ → List ℕ → Ordering
 name_cmp = slice_cmp nat_cmp
 
@@ -44,6 +44,7 @@ name_cmp = slice_cmp nat_cmp
 abbrev pub path_cmp : Path → Path → Ordering
 path_cmp = slice_cmp name_cmp
 
+-- Whether two paths have the same names.
 abbrev pub is_same_path : Path → Path → Bool
 is_same_path p q = is_eq (path_cmp p q)
 
@@ -53,10 +54,11 @@ rest_after [] q = Some q
 rest_after (x ∷ p) [] = None
 rest_after (x ∷ p) (y ∷ q) = if is_eq (name_cmp x y) then rest_after p q else None
 
--- whether q is p, or under it
+-- Whether q is p or below it.
 abbrev pub is_at_or_under : Path → Path → Bool
 is_at_or_under q p = is_some (rest_after p q)
 
+-- Whether there is a path that isn't the root.
 abbrev pub has_names : Option Path → Bool
 has_names None = false
 has_names (Some []) = false
@@ -76,24 +78,24 @@ abbrev pub fronts : Path → List Path
 fronts [] = [] ∷ []
 fronts (x ∷ p) = [] ∷ map (λ q. x ∷ q) (fronts p)
 
--- the name of a path that has exactly one
+-- The name of a path that has exactly one; else none.
 abbrev pub only_name : Option Path → Option (List ℕ)
 only_name None = None
 only_name (Some []) = None
 only_name (Some (x ∷ [])) = Some x
 only_name (Some (x ∷ y ∷ rest)) = None
 
--- all names but the last; the root is its own parent
+-- The path with all names but the last; the root is its own parent.
 abbrev pub parent_of : Path → Path
 parent_of [] = []
 parent_of (x ∷ []) = []
 parent_of (x ∷ y ∷ p) = x ∷ parent_of (y ∷ p)
 
--- A path as bytes: the names, each after a slash
+-- The names of a path as bytes, each after a slash.
 abbrev pub joined : Path → List ℕ
 joined names = flat_map (λ n. 47 ∷ n) names
 
--- and, where it is closed, a slash at the end. Without names it is one slash (RFC 3986, section 3.3).
+-- A path as bytes: its names, each after a slash, and a slash at the end where it is closed. The root is one slash (RFC 3986, section 3.3).
 abbrev pub path_bytes : Path → Bool → List ℕ
 path_bytes [] closed = 47 ∷ []
 path_bytes (n ∷ ns) closed = joined (n ∷ ns) ++ (if closed then 47 ∷ [] else [])
@@ -102,11 +104,12 @@ path_bytes (n ∷ ns) closed = joined (n ∷ ns) ++ (if closed then 47 ∷ [] el
 abbrev pub star : List ℕ
 star = 42 ∷ []
 
+-- Whether a list has an item.
 abbrev pub is_nonempty : {X : Type 0} → List X → Bool
 is_nonempty [] = false
 is_nonempty (x ∷ xs) = true
 
--- The names in the bytes of a path: what is between slashes and isn't empty. The star path has none.
+-- The names in bytes: what is between slashes and isn't empty. Of `*` that is one name, unlike in `names_of`.
 abbrev pub names_in : List ℕ → Path
 names_in bytes = filter is_nonempty (slice_split (λ b. b == 47) bytes)
 
@@ -118,24 +121,24 @@ names_of bytes = if bytes_eq bytes star then [] else names_in bytes
 abbrev pub is_collection : List ℕ → Bool
 is_collection bytes = ends_with ◌==◌ bytes (47 ∷ [])
 
--- what is missing at the end of a path that is to end in a slash
+-- The slash to add to a path so that it ends in one: none where it already does.
 abbrev pub end_for : Bool → List ℕ
 end_for is_collection = if is_collection then [] else 47 ∷ []
 
--- the path with a slash at the end (RFC 4918, section 5.2)
+-- The path with a slash at its end, added where there is none (RFC 4918, section 5.2).
 abbrev pub with_slash : List ℕ → List ℕ
 with_slash bytes = bytes ++ end_for (is_collection bytes)
 
--- without the one slash at the end (RFC 4918, section 5.2)
+-- The path without the one slash at its end, if it ends in one.
 abbrev pub without_slash : List ℕ → List ℕ
 without_slash bytes = if is_collection bytes then take (length bytes - 1) bytes else bytes
 
--- without the slash that it begins with
+-- The bytes without the slash that they begin with, if they do.
 abbrev pub without_first_slash : List ℕ → List ℕ
 without_first_slash [] = []
 without_first_slash (b ∷ bs) = if b == 47 then bs else b ∷ bs
 
--- a path longer than one byte, without the one slash at its end (RFC 4918, section 5.2)
+-- The path without the one slash at its end; a path of one byte stays.
 abbrev pub trimmed : List ℕ → List ℕ
 trimmed bytes = if nat_lt 1 (length bytes) then without_slash bytes else bytes
 
@@ -157,7 +160,7 @@ IsParent bytes parent =
     IsAbove parent bytes
     ⊎ ((parent ≡ (if is_root (names_of bytes) then bytes else [])) × ((q : List ℕ) → ¬ IsAbove q bytes))
 
--- the last of the names, or nothing where there are none
+-- The last name in the bytes of a path; empty where there are no names.
 abbrev pub last_name : List ℕ → List ℕ
 last_name bytes = unwrap_or (last_or None (names_of bytes)) []
 

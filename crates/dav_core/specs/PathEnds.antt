@@ -12,7 +12,7 @@ abbrev pub without_end : (ℕ → Bool) → List ℕ → List ℕ
 without_end p [] = []
 without_end p (b ∷ bs) = onto_end p b (without_end p bs)
 
--- everything up to and with the slash before the last name
+-- Everything up to the slash before the last name, with that slash.
 abbrev pub before_last_name : List ℕ → List ℕ
 before_last_name bytes = without_end (λ b. not (b == 47)) (without_end (λ b. b == 47) bytes)
 
@@ -20,5 +20,6 @@ before_last_name bytes = without_end (λ b. not (b == 47)) (without_end (λ b. b
 abbrev pub parent_by : Bool → List ℕ → List ℕ
 parent_by is_root bytes = if is_nonempty (before_last_name bytes) || not is_root then before_last_name bytes else bytes
 
+-- The bytes of the parent of a path.
 abbrev pub parent_bytes : List ℕ → List ℕ
 parent_bytes bytes = parent_by (is_root (names_of bytes)) bytes

@@ -8,21 +8,20 @@ use Rattle.dav_core.specs.declared.davpath.DavPathRef.{DavPathRef}
 use Rattle.dav_core.specs.declared.davpath.Segments.{Segments}
 use Rattle.dav_core.specs.Path.{Path, names_in, end_for, IsCut, HasNoCut}
 
--- the bytes of the path
+-- The bytes of a lent path.
 abbrev pub ref_bytes : DavPathRef → List ℕ
 ref_bytes r = r.bytes.now
 
--- the names that are still to come
+-- The names that the iterator has still to give.
 abbrev pub names_left : Segments → Path
 names_left s = names_in s.rest.now
 
--- the text of these bytes, where there is one to give and it is UTF-8
+-- The text of these bytes is given exactly where it is wanted and they are UTF-8; else none.
 abbrev pub GivesText : Type 0 → List ℕ → Option (Bor (List ℕ)) → Type 0
 GivesText Wanted bytes None = ¬ (Wanted × IsUtf8 bytes)
 GivesText Wanted bytes (Some s) = Wanted × (s.now ≡ bytes)
 
--- why a prefix is refused: the path can't be cut after it; or memory ran out for the slash that is added where the prefix is
--- all of the path
+-- Why a path isn't cut after a prefix: it can't be; or memory ran out for the slash that is added where the prefix is all of the path.
 abbrev pub IsCutRefused : List ℕ → List ℕ → ParseError → Type 0
 IsCutRefused prefix bytes InvalidPath = ⊥
 IsCutRefused prefix bytes PrefixMismatch = HasNoCut prefix bytes

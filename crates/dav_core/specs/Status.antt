@@ -20,7 +20,7 @@ fs_status fs.PathTooLong = 414
 fs_status fs.TooLarge = 413
 fs_status fs.IsRemote = 502
 
--- the status of a method's error (RFC 9110, section 15; RFC 4918, section 11.5)
+-- The status that a method's error is answered with (RFC 9110, section 15; RFC 4918, section 11.5).
 abbrev pub dav_status : DavError → ℕ
 dav_status dav.XmlParseError = 400
 dav_status dav.InvalidPath = 400
@@ -33,7 +33,7 @@ dav_status (dav.StatusClose status) = status
 dav_status (dav.FsError e) = fs_status e
 dav_status dav.Memory = 507
 
--- the connection closes after the reply (RFC 9112, section 9.6)
+-- Whether the connection closes after the reply to this error (RFC 9112, section 9.6).
 abbrev pub must_close : DavError → Bool
 must_close dav.XmlParseError = false
 must_close dav.InvalidPath = false
@@ -46,7 +46,7 @@ must_close (dav.StatusClose status) = true
 must_close (dav.FsError e) = false
 must_close dav.Memory = false
 
--- what a method answers for a text that names no path, or none at or below the prefix (RFC 4918, section 9.8.5)
+-- The error of a method for a text that names no path, or no path at or below the prefix (RFC 4918, section 9.8.5).
 abbrev pub path_error : ParseError → DavError
 path_error parse.InvalidPath = dav.InvalidPath
 path_error parse.PrefixMismatch = dav.IllegalPath

@@ -21,7 +21,7 @@ use Rattle.dav_engine.specs.WorldLaws.{IsProperPlan}
 
 -- ---- change numbers
 
--- the calls that take a change number
+-- The call may take a change number.
 abbrev pub TakesNumber : Call → Type 0
 TakesNumber (CreateDir p now) = ⊤
 TakesNumber (Copy from to now) = ⊤
@@ -29,30 +29,31 @@ TakesNumber (Open p how now) = ⊤
 TakesNumber (Write file bytes now) = ⊤
 TakesNumber _ = ⊥
 
--- a call takes a number, and none is left
+-- The call fails because no change number is left for it.
 abbrev pub FindsNoNumber : Call → World → Type 0
 FindsNoNumber call w = TakesNumber call × (meaning call w ≡ Err GeneralFailure)
 
--- One call of a lawful store which, unless the list refuses it, finds a number where it takes one.
+-- One call of a lawful store to which change numbers are left: unless the list of refusals refuses the call, it finds a number
+-- where it takes one.
 abbrev pub AsksWithNumbers : (call : Call) → StoreState → Result (Answer call) FsError → StoreState → Type 0
 AsksWithNumbers call old answer new = Asks call old answer new × (next_refusal old.refusals ≡ None → ¬ FindsNoNumber call old.world)
 
 -- ---- answers that are the same but for numbers and times
 
--- both results are values that are related, or both are the same error
+-- Both results are values that R relates, or both are the same error.
 abbrev pub SameResult : {A B E : Type 0} → (A → B → Type 0) → Result A E → Result B E → Type 0
 SameResult R (Ok a) (Ok b) = R a b
 SameResult R (Err e) (Err f) = e ≡ f
 SameResult R _ _ = ⊥
 
--- metadata that agree in the length, in what is a folder, and in what has a change number
+-- Metadata that agree in the length, in whether they are a folder's, and in whether they have a change number.
 pub record SameMetadata (m n : DavMetaData) : Type 0 where
   pub len : m.len ≡ n.len
   pub dir : m.dir ≡ n.dir
   pub numbered : is_some m.number ≡ is_some n.number
 
--- The file that is open in both runs: its path from the folder, and the change numbers under which it was created in the run
--- of all and in the run alone.
+-- The file that is open in both runs: its path below the folder, and the change numbers under which it was created in the run
+-- of all requests (`here`) and in the run of the holder's requests alone (`alone`).
 pub record BothOpen : Type 0 where
   pub at : Path
   pub here : ℕ
@@ -62,17 +63,18 @@ pub record BothOpen : Type 0 where
 abbrev pub SameHandle : Handle → Handle → Type 0
 SameHandle j k = k ≡ record j { made = k.made }
 
--- two open files, one in each world, are this file
+-- The open files j and k, one in each run, are this file.
 pub record AreOpen (file : BothOpen) (j k : Handle) : Type 0 where
   pub same : SameHandle j k
   pub here : j.made ≡ file.here
   pub alone : k.made ≡ file.alone
 
+-- The file at this path below the folder that was opened as j in one run and as k in the other.
 abbrev pub opened_at : Path → Handle → Handle → Option BothOpen
 opened_at rest j k = Some (record { at = rest; here = j.made; alone = k.made })
 
--- A call at a folder or below it that needs no open file, or one that asks for the quota, which no path has. (The calls of a
--- method are added here with the method.)
+-- A call whose paths are all the folder or below it, and that neither opens a file nor needs an open one; or the one that asks
+-- for the quota, which has no path.
 abbrev pub IsCallInside : Path → Call → Type 0
 IsCallInside folder (Metadata p) = (rest : Path) × (p ≡ folder ++ rest)
 IsCallInside folder (ReadDir p) = (rest : Path) × (p ≡ folder ++ rest)
@@ -89,7 +91,7 @@ IsCallInside folder (GetProp p key) = (rest : Path) × (p ≡ folder ++ rest)
 IsCallInside folder GetQuota = ⊤
 IsCallInside folder _ = ⊥
 
--- answers that are the same but for numbers and times
+-- Two answers to a call are the same but for change numbers and times; nothing is said of the calls that have to do with open files.
 abbrev pub SameAnswer : (c : Call) → Answer c → Answer c → Type 0
 SameAnswer (Metadata p) m n = SameMetadata m n
 SameAnswer (ReadDir p) a b = a ≡ b
@@ -103,9 +105,10 @@ SameAnswer _ a b = ⊤
 
 -- ---- plans side by side
 
--- Two plans make the same calls at a guarded folder or below it, or on the same file there, one file at a time; where the
--- answers are the same but for numbers and times, they go on so. R holds of the file that is open at the end, and of what both
--- give. At the end of whole plans the lock may end, in both.
+-- Two plans, side by side, make the same calls at the guarded folder or below it, or on the file there that is open in both,
+-- one file at a time; where the answers are the same but for change numbers and times, both go on in the same way. The lock h
+-- guards the folder in each list of locks that they read or set. R holds of the file that is open at the end, and of what both
+-- give. Whole plans may end by setting a list without the lock, both of them.
 pub data Alongside {A : Type 0} (h : Lock) (whole : Bool) (R : Option BothOpen → A → A → Type 0) : Option BothOpen → MethodPlan A → MethodPlan A → Type 0 where
   side_ok : {file : Option BothOpen} {a b : A} → R file a b → Alongside h whole R file (Done (Ok a)) (Done (Ok b))
   side_err : {file : Option BothOpen} {e : DavError} → Alongside h whole R file (Done (Err e)) (Done (Err e))
@@ -137,16 +140,17 @@ pub data Alongside {A : Type 0} (h : Lock) (whole : Bool) (R : Option BothOpen �
 
 -- ---- worlds that are alike
 
--- at this path is a file that was created under this number
+-- At this path is a file that was created under this change number.
 abbrev pub IsFileAt : World → Path → ℕ → Type 0
 IsFileAt w p made = (n : Node) × (node_at w p ≡ Some n) × (n.made ≡ made) × (is_folder_kind n.kind ≡ false)
 
+-- The file that is open in both runs, if there is one, is at its path in both worlds.
 abbrev pub AreBothThere : Path → Option BothOpen → World → World → Type 0
 AreBothThere folder None w v = Unit {0}
 AreBothThere folder (Some file) w v = IsFileAt w (folder ++ file.at) file.here × IsFileAt v (folder ++ file.at) file.alone
 
--- Two worlds have the same content in a folder, there are folders above it in both, and the second has taken no more numbers
--- than the first (RFC 4918, section 7).
+-- Two worlds have the same content in a folder, there are folders above it in both, and the second has taken no more change
+-- numbers than the first. The file that is open in both runs, if there is one, is there in both.
 pub record AreAlike (folder : Path) (file : Option BothOpen) (w v : World) : Type 0 where
   pub same : SameInside folder w v
   pub next : v.next ≤ w.next
@@ -156,18 +160,19 @@ pub record AreAlike (folder : Path) (file : Option BothOpen) (w v : World) : Typ
   pub world_alone : IsWorld v
   pub there : AreBothThere folder file w v
 
--- what two runs side by side result in: related outcomes, alike worlds, and a lock that guards in both or in neither (RFC 4918, section 7)
+-- What two runs side by side result in: related outcomes, alike worlds, and lists of locks in which the lock guards its folder
+-- in both, or is in neither.
 pub record Agrees {A : Type 0} (R : A → A → Type 0) (h : Lock) (a b : Result A DavError) (w v : World) (ms ks : Locks) : Type 0 where
   pub outcomes : SameResult R a b
   pub alike : AreAlike (folder_of h) None w v
   pub locks : (Guarded h ms × Guarded h ks) ⊎ (¬ Stands h ms × ¬ Stands h ks)
 
--- replies whose compared parts are the same
+-- Replies whose compared parts are the same (`answers_of`).
 abbrev pub SameAnswers : Reply → Reply → Type 0
 SameAnswers a b = answers_of a ≡ answers_of b
 
--- A plan that goes along with itself has the same outcome from alike worlds, under the same refusals and where neither store
--- ran out of memory. Only the first has to find its numbers: the second then finds them too (RFC 4918, section 7).
+-- A plan that goes alongside itself has the same outcome from alike worlds, under the same refusals and where neither store ran
+-- out of memory. Only the first run has to find its change numbers: the second then finds them too.
 abbrev pub AlongsideAgree : Type 0
 AlongsideAgree =
     (h : Lock) (plan : MethodPlan Reply) (old new old' new' : StoreState) (ls ms ls' ms' : Locks) (a b : Result Reply DavError)
@@ -175,7 +180,7 @@ AlongsideAgree =
     → Ran AsksWithNumbers plan old ls a new ms → Ran Asks plan old' ls' b new' ms' → new.short ≡ false → new'.short ≡ false → old.refusals ≡ old'.refusals
     → Guarded h ls → Guarded h ls' → AreAlike (folder_of h) None old.world old'.world → Agrees SameAnswers h a b new.world new'.world ms ms'
 
--- A plan that ends with a number to spare, below the last, found each number that it took.
+-- Where the next change number is below the last one after a plan's run, the run found each number that it took.
 abbrev pub SpareNumbersSuffice : Type 0
 SpareNumbersSuffice =
     (plan : MethodPlan Reply) (old new : StoreState) (ls ms : Locks) (a : Result Reply DavError)

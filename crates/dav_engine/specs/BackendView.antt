@@ -5,13 +5,13 @@ use Rattle.dav_core.specs.declared.errors.FsError.{FsError}
 use Rattle.dav_engine.specs.Plan.{ServerState}
 use Rattle.dav_engine.specs.StateCode.{coded_state}
 
--- the store and the locks themselves, and the state that they are in
+-- The store and the lock system of a backend, if it has one, and the state that they are in.
 pub record BackendView (F L : Type 0) : Type 0 where
   pub fs : F
   pub ls : Option L
   pub state : ServerState
 
--- the code of a server's state, by those of a store, of locks and of an error
+-- How the logic stores a backend, given how it stores a store, a lock system and an error.
 abbrev pub coded_backend : {F L : Type 0} → Coded F → Coded L → Coded FsError → Coded (BackendView F L)
 coded_backend {F} {L} store locks refusal =
     code_by (F × (Option L × ServerState)) (coded× store (coded× (coded_option locks) (coded_state refusal)))

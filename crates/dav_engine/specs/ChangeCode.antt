@@ -1,4 +1,4 @@
--- The code of a change of a property, which a Model wants of its Value.
+-- How the logic stores a change of a property.
 use Rattle.std.specs.Prelude.{Bool, refl}
 use Rattle.std.specs.Coded.{Coded, code_by, coded_bool, coded×}
 use Rattle.dav_core.specs.Element.{ElementTree}

@@ -2,6 +2,6 @@
 use Rattle.dav_engine.specs.declared.methods.proppatch.changes.Change.TheInside.{Inside}
 use Rattle.dav_engine.specs.Proppatch.{Change}
 
--- a change, with the property as a tree
+-- A change as contracts see it, with the property as a tree.
 abbrev pub change_of : Inside → Change
 change_of c = record { is_set = c.is_set; property = c.property.now }

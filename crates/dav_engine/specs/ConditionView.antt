@@ -18,9 +18,11 @@ use Rattle.dav_engine.specs.Headers.{Headers, Decodes}
 use Rattle.dav_engine.specs.Method.{MethodPlan}
 use Rattle.dav_engine.specs.Plan.{Locks}
 
+-- A list of an If header as contracts see it.
 abbrev pub list_of : declared_list.Addressed → Addressed
 list_of l = record { path = option_map names l.path; conditions = map condition_value l.conditions.items }
 
+-- The conditions of a request as contracts see them.
 abbrev pub conditions_of : Inside → Conditions
 conditions_of c = record { if_match = option_map tag_list c.if_match; if_none_match = option_map tag_list c.if_none_match; lists = option_map (λ ls. map list_of ls.items) c.lists }
 
@@ -32,7 +34,7 @@ locks_in locks ls = option_map locks (option_copied ls)
 abbrev pub texts_of : Vec (String Global) → List (List ℕ)
 texts_of v = map string_bytes v.items
 
--- an answer of tokens or a status, as contracts see it
+-- Tokens or a status, as contracts see them.
 abbrev pub tokens_or_status : Result (Vec (String Global)) ℕ → Result (List (List ℕ)) ℕ
 tokens_or_status (Ok v) = Ok (texts_of v)
 tokens_or_status (Err status) = Err status
@@ -45,7 +47,7 @@ IsHttpVerdict m headers found status =
     × Decodes IsTagList (get_all headers (codes "if-none-match")) none_match
     × (status ≡ http_conditions m match none_match found)
 
--- the plan that finds out whether If holds, and gives the tokens that it submits (RFC 4918, section 10.4; RFC 9110, section 13.2)
+-- The plan that finds out whether If holds, and gives the tokens that it submits (RFC 4918, section 10.4).
 pub data IsDavIf (request : DavRequest) (path : PathText) : MethodPlan (Bool × List (List ℕ)) → Type 0 where
   is_dav_if : (lists : Option (List Addressed)) → Decodes (SaysLists request.path.prefix (names path)) (get_all request.headers (codes "if")) lists
       → IsDavIf request path (dav_if_match lists)

@@ -25,42 +25,45 @@ use Rattle.dav_engine.specs.Plan.{Locks, Done}
 
 -- ---- what the headers say
 
--- A list of conditions of an If header, and the path that it applies to, where it applies to one (RFC 9110, section 13.1; RFC 4918, section 10.4).
+-- A list of conditions of an If header, and the path that it applies to; none where its resource tag names no path of this
+-- server (RFC 4918, section 10.4.2).
 pub record Addressed : Type 0 where
   pub path : Option Path
   pub conditions : List Condition
 
--- The conditions of a request: what If-Match and If-None-Match say, and the lists of If (RFC 9110, section 13.1; RFC 4918, section 10.4).
+-- The conditions of a request: what If-Match and If-None-Match say, and the lists of If, each where the header is there
+-- (RFC 9110, section 13.1; RFC 4918, section 10.4).
 pub record Conditions : Type 0 where
-  -- the status that the conditions answer, if they do, with If first, as GET, HEAD and LOCK take them (RFC 9110, section 13.2; RFC 4918, section 10.4)
+  -- the list of If-Match, where the header is there (RFC 9110, section 13.1.1); the function `if_match` is below
   pub if_match : Option TagList
   pub if_none_match : Option TagList
   pub lists : Option (List Addressed)
 
--- the path of a URL names this path, below a prefix; `*` names none (RFC 4918, sections 10.4.2 and 10.4.4)
+-- The URL of a resource tag names the path q below the prefix, whatever its host is; `*` names none (RFC 4918, section 10.4.2).
 abbrev pub TagNames : List ℕ → Parts → Path → Type 0
 TagNames prefix url q =
     (bytes : List ℕ) × (p : PathText)
     × Reads url.path bytes × (bytes ≢ server) × IsCut (without_slash prefix) bytes p × (q ≡ names p)
 
--- The path that a list applies to: the one that its resource tag names, if it has one; else the request's own (RFC 4918, sections 10.4.2 and 10.4.4).
+-- The path that a list applies to: without a resource tag the request's own; else the one that the tag names, if it names one
+-- (RFC 4918, section 10.4.2).
 abbrev pub SpeaksOf : List ℕ → Path → Option Parts → Option Path → Type 0
 SpeaksOf prefix own None q = q ≡ Some own
 SpeaksOf prefix own (Some url) (Some q) = TagNames prefix url q
 SpeaksOf prefix own (Some url) None = (q : Path) → ¬ TagNames prefix url q
 
--- the lists in order, each with the path that it applies to (RFC 4918, sections 10.4.2 and 10.4.4)
+-- The lists of an If header in order, each with the path that it applies to (RFC 4918, section 10.4.2).
 abbrev pub AreAddressed : List ℕ → Path → List ConditionList → List Addressed → Type 0
 AreAddressed prefix own [] lists = lists ≡ []
 AreAddressed prefix own (l ∷ ls) lists =
     (q : Option Path) × (more : List Addressed)
     × SpeaksOf prefix own l.resource q × (lists ≡ record { path = q; conditions = l.conditions } ∷ more) × AreAddressed prefix own ls more
 
--- the only value of an If header holds these lists (RFC 4918, sections 10.4.2 and 10.4.4)
+-- The only value of an If header has these lists, each with the path that it applies to (RFC 4918, section 10.4.2).
 abbrev pub SaysLists : List ℕ → Path → List FieldValue → List Addressed → Type 0
 SaysLists prefix own values lists = (ls : List ConditionList) × IsIfHeader values ls × AreAddressed prefix own ls lists
 
--- What the headers say of a path, with the prefix of the request; a header that doesn't decode counts as absent.
+-- The conditions in the headers of a request to a path, below the request's prefix; a header that doesn't decode counts as absent.
 pub record AreConditions (headers : Headers) (prefix : List ℕ) (own : Path) (c : Conditions) : Type 0 where
   pub match : Decodes IsTagList (get_all headers (codes "if-match")) c.if_match
   pub none_match : Decodes IsTagList (get_all headers (codes "if-none-match")) c.if_none_match
@@ -73,14 +76,14 @@ abbrev pub tag_found : Option DavMetaData → Option EntityTag
 tag_found None = None
 tag_found (Some m) = option_map (λ number. record { weak = false; tag = digits 16 false number }) m.number
 
--- Whether a list matches what is there: `*` matches anything, tags match what has one of them, by the strong comparison, for
--- If-None-Match too, where the standard uses the weak one (RFC 9110, sections 8.8.3 and 13.1).
+-- Whether a list matches what is there: `*` matches anything, tags match what has one of them by the strong comparison.
+-- If-None-Match uses it too, where the standard has the weak one (RFC 9110, sections 8.8.3.2, 13.1.1 and 13.1.2).
 abbrev pub matches : TagList → Bool → Option EntityTag → Bool
 matches star exists tag = exists
 matches (tags ts) exists None = false
 matches (tags ts) exists (Some tag) = list_any (λ t. is_strong_match t tag) ts
 
--- whether a header's list is `*` (RFC 9110, sections 8.8.3 and 13.1)
+-- Whether a header is there, and its list is `*` (RFC 9110, section 13.1).
 abbrev pub is_star : Option TagList → Bool
 is_star None = false
 is_star (Some star) = true
@@ -97,8 +100,8 @@ is_reading Get = true
 is_reading Head = true
 is_reading _ = false
 
--- The status that these two conditions answer, if they do: 412 where If-Match doesn't match; and where If-None-Match
--- matches, 304 for GET and HEAD, 412 for other methods (RFC 9110, sections 13.1.1, 13.1.2 (which compares weakly) and 13.2.2).
+-- The status with which If-Match and If-None-Match answer, if they do: 412 where If-Match doesn't match; and where
+-- If-None-Match matches, 304 for GET and HEAD, 412 for other methods (RFC 9110, sections 13.1.1, 13.1.2 and 13.2.2).
 abbrev pub http_conditions : DavMethod → Option TagList → Option TagList → Option DavMetaData → Option ℕ
 http_conditions m match none_match found =
     if not (unwrap_or (matches_found match found) true) then Some 412
@@ -107,23 +110,24 @@ http_conditions m match none_match found =
 
 -- ---- If (RFC 4918, section 10.4)
 
--- A state token is true of a path that isn't locked against a requester who submits it, whoever that is; without a list of
--- locks no token is true. A token of the namespace `DAV:` never is (RFC 4918, section 10.4.8).
+-- Whether a state token is true of a path: the path isn't locked against a requester who submits it, whoever that is. So a
+-- token is also true where no lock covers the path, though RFC 4918, section 10.4.4, asks for a lock with that token. One that
+-- begins with `DAV:` is never true (section 10.4.8), and without a list of locks none is.
 abbrev pub token_holds : List ℕ → Path → Locks → Bool
 token_holds token p None = false
 token_holds token p (Some ls) = not (starts_with ◌==◌ token (codes "DAV:")) && is_free (requester_of (token ∷ []) true None) p ls
 
--- an entity tag is true of what the store reports to have it
+-- Whether an entity tag is that of the metadata that the store returned, by the strong comparison; false where the store refused.
 abbrev pub tag_holds : EntityTag → Result DavMetaData FsError → Bool
 tag_holds tag answer = matches (tags (tag ∷ [])) true (tag_found (result_ok answer))
 
--- whether what is at a path has an entity tag; the store is asked (RFC 4918, sections 10.4.4 and 10.4.8)
+-- Asks the store whether what is at a path has an entity tag (RFC 4918, section 10.4.4).
 abbrev pub has_tag : Path → EntityTag → MethodPlan Bool
 has_tag p e = do
   found ← answer_of (Metadata p)
   gives (tag_holds e found)
 
--- whether an item is true of a path; where there is no path, no item is true (RFC 4918, sections 10.4.4 and 10.4.8)
+-- Whether a state token or an entity tag is true of a path; where there is no path, neither is (RFC 4918, section 10.4.4).
 abbrev pub item_holds : Option Path → Item → MethodPlan Bool
 item_holds None i = gives false
 item_holds (Some p) (state_token t) = do
@@ -131,16 +135,17 @@ item_holds (Some p) (state_token t) = do
   gives (token_holds t p locks)
 item_holds (Some p) (entity_tag e) = has_tag p e
 
--- goes on, unless the answer is settled: by false for `and_then`, by true for `or_else`
+-- Goes on where the answer is true so far; else it is false.
 abbrev pub and_then : Bool → MethodPlan Bool → MethodPlan Bool
 and_then true next = next
 and_then false next = gives false
 
+-- Goes on where the answer is false so far; else it is true.
 abbrev pub or_else : Bool → MethodPlan Bool → MethodPlan Bool
 or_else true next = gives true
 or_else false next = next
 
--- an item under `Not` holds where it isn't true
+-- Whether a condition holds: under `Not`, where its item isn't true (RFC 4918, section 10.4.3).
 abbrev pub condition_holds : Bool → Bool → Bool
 condition_holds negated holds = if negated then not holds else holds
 
@@ -163,8 +168,7 @@ abbrev pub if_holds : Option (List Addressed) → MethodPlan Bool
 if_holds None = gives true
 if_holds (Some ls) = some_holds ls
 
--- the state tokens that are submitted: all tokens of the lists in order, whether or not the lists hold (RFC 4918, section
--- 10.4.1)
+-- The state tokens that an If header submits: all tokens of its lists in order, whether or not the lists hold (RFC 4918, section 10.4.1).
 abbrev pub submitted : Option (List Addressed) → List (List ℕ)
 submitted None = []
 submitted (Some ls) = flat_map (λ l. tokens_among l.conditions) ls
@@ -177,18 +181,20 @@ dav_if_match lists = do
   holds ← if_holds lists
   gives (holds, submitted lists)
 
--- The status that all conditions answer, if they do, with If evaluated first: 412 where If doesn't hold.
+-- The status with which all conditions answer, if they do, with If evaluated first, as for GET, HEAD and LOCK: 412 where If
+-- doesn't hold (RFC 9110, section 13.2; RFC 4918, section 10.4).
 abbrev pub if_match : DavMethod → Conditions → Option DavMetaData → MethodPlan (Option ℕ)
 if_match m c found = do
   holds ← if_holds c.lists
   gives (if holds then http_conditions m c.if_match c.if_none_match found else Some 412)
 
--- goes on, unless a status was answered
+-- Goes on, unless there is a status, which is then given.
 abbrev pub unless : {A : Type 0} → Option ℕ → MethodPlan (Result A ℕ) → MethodPlan (Result A ℕ)
 unless (Some status) next = gives (Err status)
 unless None next = next
 
--- The tokens that are submitted, or the status that the conditions answer, with If evaluated last (RFC 9110, section 13.2; RFC 4918, section 10.4).
+-- The submitted tokens, or the status with which the conditions answer, with If evaluated last: 412 where If doesn't hold
+-- (RFC 9110, section 13.2; RFC 4918, section 10.4).
 abbrev pub if_match_get_tokens : DavMethod → Conditions → Option DavMetaData → MethodPlan (Result (List (List ℕ)) ℕ)
 if_match_get_tokens m c found = unless (http_conditions m c.if_match c.if_none_match found) (do
   holds ← if_holds c.lists

@@ -25,29 +25,29 @@ use Rattle.dav_engine.specs.Removal.{Fault, report_of}
 use Rattle.dav_engine.specs.RemovalLaws.{timeless, timeless_at, LeavesSurvivors}
 use Rattle.dav_engine.specs.Reply.{Reply}
 
--- a fault names this path, or one above it (RFC 4918, section 9.8.2)
+-- Whether a fault names this path, or one above it.
 abbrev pub is_below_fault : List CopyFault → Path → Bool
 is_below_fault faults q = list_any (λ f. is_at_or_under q (names f.0)) faults
 
--- the dead properties of a copy: a folder's aren't copied
+-- The dead properties of a copy: those of a file; a folder's aren't copied, though RFC 4918, section 9.8.2, says that they should be.
 abbrev pub copied_properties : Node → Properties
 copied_properties n = if is_folder_kind n.kind then [] else n.properties
 
--- m is a copy of n, made in this world or later: a folder, or a file with the same bytes and dead properties, with a new change number
--- (RFC 4918, section 9.8.2)
+-- m is a copy, made after the world w, of n: a folder without dead properties, or a file with the same bytes and dead
+-- properties. It has a new change number (RFC 4918, sections 9.8.1 to 9.8.3).
 pub record IsCopied (w : World) (n m : Node) : Type 0 where
   pub kind : m.kind ≡ n.kind
   pub properties : m.properties ≡ copied_properties n
   pub number : w.next ≤ m.number
 
--- m is a copy of what was at p, which isn't at d or below it (RFC 4918, section 9.8.2)
+-- m is a copy of what was at p, and p isn't d or below it.
 abbrev pub IsCopyFrom : World → Path → Path → Node → Type 0
 IsCopyFrom w p d m = (n : Node) × (node_at w p ≡ Some n) × (is_at_or_under p d ≡ false) × IsCopied w n m
 
--- What a copy of s, with everything below it, to d left of a map, with these faults. Nothing changed but at d and below it, except for
--- times. What was at s or below it, and isn't at d or below it, has its copy at the same place of d, unless a fault names it or its
--- place, or what is above them. Whatever else is at d or below it was there. And each fault names what is at s or d, or below them
--- (RFC 4918, section 9.8.3).
+-- What a copy of s, with everything below it, to d left, with these faults. Nothing changed but at d and below it, except for
+-- times. What was at s or below it, and isn't at d or below it, has its copy at the same place of d, unless a fault names it or
+-- its place, or what is above them. Whatever else is at d or below it was there. And each fault names what is at s or d, or
+-- below them (RFC 4918, section 9.8.3).
 pub record LeavesCopies (s d : Path) (faults : List CopyFault) (old new : World) : Type 0 where
   pub elsewhere : (q : Path) → is_at_or_under q d ≡ false → timeless_at new q ≡ timeless_at old q
   pub copied : (rest : Path) (n : Node) → node_at old (s ++ rest) ≡ Some n → is_at_or_under (s ++ rest) d ≡ false
@@ -57,7 +57,7 @@ pub record LeavesCopies (s d : Path) (faults : List CopyFault) (old new : World)
       → (timeless_at old (d ++ rest) ≡ Some (timeless m)) ⊎ IsCopyFrom old (s ++ rest) d m
   pub below : All (λ f. (is_at_or_under (names f.0) s || is_at_or_under (names f.0) d) ≡ true) faults
 
--- what is at d or below it is a copy of what was at the same place of s (RFC 4918, section 9.8.3)
+-- What is at d or below it is a copy of what was at the same place of s.
 abbrev pub OnlyCopies : Path → Path → World → World → Type 0
 OnlyCopies s d old new = (rest : Path) (m : Node) → node_at new (d ++ rest) ≡ Some m → IsCopyFrom old (s ++ rest) d m
 
@@ -73,10 +73,10 @@ CopiesLeaveCopies =
 
 -- ---- a whole COPY
 
--- What a COPY of p, with everything below it, to d left, where a reply ends it. Either something that was at d wasn't removed: the reply
--- reports it, and nothing else changed. Or what was found at d was removed, so that only copies are there; the reply reports the faults
--- of the copy, or 204 or 201; and the locks at d and below it are gone where something was found there (RFC 4918, sections 9.8.4 and
--- 9.8.5).
+-- What a COPY of p, with everything below it, to d left, where a reply ends it. Either something that was at d wasn't removed:
+-- the reply reports it, and nothing else changed. Or what was found at d, if anything was, was removed, so that only copies are
+-- there, unless the store didn't report what was there; the reply reports the faults of the copy, or 204 or 201; and the locks
+-- at d and below it are gone where something was found there (RFC 4918, sections 9.8.4 and 9.8.5).
 pub data CopyLeaves (p d : PathText) (old new : StoreState) (ls ms : Locks) (r : Reply) : Type 0 where
   not_cleared : (f : Fault) (faults : List Fault) → LeavesSurvivors (names d) (f ∷ faults) old.world new.world
       → Ok r ≡ multi_reply (closed (is_folder old.world (names p)) p) (map report_of (f ∷ faults)) → ms ≡ ls → CopyLeaves p d old new ls ms r
@@ -86,8 +86,8 @@ pub data CopyLeaves (p d : PathText) (old new : StoreState) (ls ms : Locks) (r :
       → Ok r ≡ copy_reply (closed (is_folder old.world (names p)) p) (if found then 204 else 201) faults
       → ms ≡ (if found then option_map (deleted (names d)) ls else ls) → CopyLeaves p d old new ls ms r
 
--- A COPY of a path without Depth, or at infinite depth, leaves so, whatever the store refuses. Its destination is cut after the same
--- prefix as the path (RFC 4918, sections 9.8.3 to 9.8.5).
+-- A COPY without Depth, or of infinite depth, leaves what `CopyLeaves` says, whatever the store refuses. Its destination is cut
+-- after the same prefix as its path (RFC 4918, sections 9.8.3 to 9.8.5).
 abbrev pub CopyLeavesCopies : Type 0
 CopyLeavesCopies =
     (m : DavMethod) (h : CopyHeaders) (p d : PathText) (who : Caller) (old new : StoreState) (ls ms : Locks) (r : Reply)
@@ -97,7 +97,7 @@ CopyLeavesCopies =
 
 -- ---- a COPY at Depth 0
 
--- one map is another, but for times, without what is at d and below it where that was removed
+-- At the path q the world is as it was, but for times; where what was at d was removed, nothing is at d or below it.
 abbrev pub IsWithout : Bool → Path → World → World → Path → Type 0
 IsWithout removed d old new q = timeless_at new q ≡ (if removed && is_at_or_under q d then None else timeless_at old q)
 
@@ -106,14 +106,15 @@ pub record IsFoundAt (d : Path) (w : World) (found removed : Bool) : Type 0 wher
   pub there : found ≡ true → is_missing w d ≡ false
   pub file : removed ≡ true → (found ≡ true) × (is_folder w d ≡ false)
 
--- the locks at d and below it are gone where what was there was removed
+-- The list of locks, without those at d and below it where what was there was removed.
 abbrev pub locks_without : Bool → Path → Locks → Locks
 locks_without removed d ls = if removed then option_map (deleted d) ls else ls
 
--- What a COPY of p at Depth 0 to d left, where a reply ends it. Either a file that was at d wasn't removed: the reply reports it, and
--- nothing changed. Or a file that was found at d was removed, and then a copy of what was at p is at d, a folder without what was in
--- it, and nothing else changed; or the store answered for a folder that something is at d, and nothing more changed; or it refused the
--- copy, which the reply reports, and nothing more changed (RFC 4918, sections 9.8.3 to 9.8.5).
+-- What a COPY of p at Depth 0 to d left, where a reply ends it. Either a file that was at d wasn't removed: the reply reports
+-- it, and nothing changed. Or a file that was found at d, if one was, was removed, and then: a copy of what was at p is at d, a
+-- folder without what was in it, and nothing else changed; or the store answered for a folder that something is at d, and
+-- nothing more changed; or it refused the copy, which the reply reports, and nothing more changed
+-- (RFC 4918, sections 9.8.3 to 9.8.5).
 pub data CopyLeavesOne (p d : PathText) (old new : StoreState) (ls ms : Locks) (r : Reply) : Type 0 where
   file_stays : (f : Fault) (faults : List Fault) → LeavesSurvivors (names d) (f ∷ faults) old.world new.world
       → Ok r ≡ multi_reply (closed (is_folder old.world (names p)) p) (map report_of (f ∷ faults)) → ms ≡ ls → CopyLeavesOne p d old new ls ms r
@@ -129,8 +130,8 @@ pub data CopyLeavesOne (p d : PathText) (old new : StoreState) (ls ms : Locks) (
       → ((q : Path) → IsWithout removed (names d) old.world new.world q)
       → Ok r ≡ multi_reply (closed (is_folder old.world (names p)) p) (copy_report f ∷ []) → ms ≡ locks_without removed (names d) ls → CopyLeavesOne p d old new ls ms r
 
--- A COPY of a path at Depth 0 leaves so, whatever the store refuses. Its destination is cut after the same prefix as the path
--- (RFC 4918, sections 9.8.3 to 9.8.5).
+-- A COPY at Depth 0 leaves what `CopyLeavesOne` says, whatever the store refuses. Its destination is cut after the same prefix
+-- as its path (RFC 4918, sections 9.8.3 to 9.8.5).
 abbrev pub CopyLeavesOneCopy : Type 0
 CopyLeavesOneCopy =
     (m : DavMethod) (h : CopyHeaders) (p d : PathText) (who : Caller) (old new : StoreState) (ls ms : Locks) (r : Reply)
@@ -140,12 +141,12 @@ CopyLeavesOneCopy =
 
 -- ---- without a refusal
 
--- a call is answered, and neither refused nor short of memory (RFC 4918, section 9.8.3)
+-- A call is answered, and neither refused nor short of memory.
 abbrev pub AnswersAll : CallStep
 AnswersAll c old answer new = Asks c old answer new × (is_ok answer ≡ true)
 
--- A copy of which no call is refused, neither by the list nor by the call's own rules, copies all: what it reports are paths of 2^64
--- names or more, and no path that memory can hold has so many (RFC 4918, section 9.8.3).
+-- A copy of which no call is refused, neither by the list of refusals nor by the call's own rules, copies all: what it reports
+-- are paths of 2^64 names or more, and no path that memory can hold has so many (RFC 4918, section 9.8.3).
 abbrev pub UnrefusedCopiesCopyAll : Type 0
 UnrefusedCopiesCopyAll =
     (deep : Bool) (now : ℕ) (s d : PathText) (old new : StoreState) (ls ms : Locks) (faults : List CopyFault)
@@ -154,16 +155,17 @@ UnrefusedCopiesCopyAll =
 
 -- ---- a whole MOVE
 
--- What a move of s to d left: what was at s or below it is at the same place of d, with its change numbers and the same but for times;
--- nothing is at s or below it; and nothing changed elsewhere, except for times (RFC 4918, sections 7.7 and 9.9).
+-- What a move of s to d left: what was at s or below it is at the same place of d, with its change numbers and the same but for
+-- times; nothing is at s or below it; and nothing changed elsewhere, except for times (RFC 4918, section 9.9).
 pub record LeavesMoved (s d : Path) (old new : World) : Type 0 where
   pub arrived : (rest : Path) → timeless_at new (d ++ rest) ≡ timeless_at old (s ++ rest)
   pub gone : (q : Path) → is_at_or_under q s ≡ true → timeless_at new q ≡ None
   pub elsewhere : (q : Path) → is_at_or_under q s ≡ false → is_at_or_under q d ≡ false → timeless_at new q ≡ timeless_at old q
 
--- What a MOVE of p to d left, where a reply ends it. Either something that was at d wasn't removed: the reply reports it, and nothing else
--- changed. Or what was found at d was removed; and then all was moved, and the locks at p, and where something was found at d those there,
--- and below them are gone; or the store refused to move, which the reply reports, and all but what was removed is as it was (RFC 4918, sections 7.7 and 9.9).
+-- What a MOVE of p to d left, where a reply ends it. Either something that was at d wasn't removed: the reply reports it, and
+-- nothing else changed. Or what was found at d, if anything was, was removed. Then all was moved, and the locks at p and below
+-- it are gone, and where something was found at d those there and below it; or the store refused to move, which the reply
+-- reports, and all but what was removed is as it was (RFC 4918, sections 7.6 and 9.9).
 pub data MoveLeaves (p d : PathText) (old new : StoreState) (ls ms : Locks) (r : Reply) : Type 0 where
   not_cleared_for : (f : Fault) (faults : List Fault) → LeavesSurvivors (names d) (f ∷ faults) old.world new.world
       → Ok r ≡ multi_reply (closed (is_folder old.world (names p)) p) (map report_of (f ∷ faults)) → ms ≡ ls → MoveLeaves p d old new ls ms r
@@ -175,7 +177,7 @@ pub data MoveLeaves (p d : PathText) (old new : StoreState) (ls ms : Locks) (r :
       → Ok r ≡ multi_reply (closed (is_folder old.world (names p)) p) ((closed (is_folder old.world (names p)) p, fs_status e) ∷ [])
       → ms ≡ (if found then option_map (deleted (names d)) ls else ls) → MoveLeaves p d old new ls ms r
 
--- each MOVE leaves so, whatever the store refuses (RFC 4918, sections 7.7 and 9.9)
+-- Each MOVE leaves what `MoveLeaves` says, whatever the store refuses (RFC 4918, sections 7.6 and 9.9).
 abbrev pub MoveLeavesMoved : Type 0
 MoveLeavesMoved =
     (m : DavMethod) (h : CopyHeaders) (p d : PathText) (who : Caller) (old new : StoreState) (ls ms : Locks) (r : Reply)

@@ -35,23 +35,25 @@ use Rattle.dav_engine.specs.Reply.{Reply}
 
 -- ---- what the headers say
 
--- What the headers of a COPY or MOVE say: its conditions and its depth; whether it may overwrite; and its destination, or the
--- error that answers the request (RFC 4918, sections 10.2, 10.3 and 10.6).
+-- What the headers of a COPY or MOVE say: its conditions; its depth; whether it may overwrite; and its destination, or the
+-- error that answers the request instead (RFC 4918, sections 10.2, 10.3 and 10.6).
 pub record CopyHeaders : Type 0 where
   pub conditions : Conditions
   pub depth : Option Depth
   pub overwrite : Option Bool
   pub destination : Result PathText DavError
 
--- What Destination names, below the prefix of the request (RFC 4918, section 10.3), read as a target is read: a path; or 400
--- where there is none; or why no path is read in it; or that it isn't at or below the prefix.
+-- What Destination names, read as the target of a request is read (RFC 4918, section 10.3): a path at or below the prefix. Or
+-- the error: 400 without the header, that of a text that isn't read as a path, or 502 (`IllegalPath`) for a path outside the
+-- prefix.
 pub data DestinationNames (prefix : List ℕ) (values : List FieldValue) : Result PathText DavError → Type 0 where
   absent : ((text : List ℕ) → ¬ IsDestination values text) → DestinationNames prefix values (Err (dav.Status 400))
   unreadable : (text : List ℕ) {e : ParseError} → IsDestination values text → IsRefused text e → e ≢ parse.Memory → DestinationNames prefix values (Err (path_error e))
   outside : (text bytes : List ℕ) → IsDestination values text → Reads text bytes → HasNoCut (without_slash prefix) bytes → DestinationNames prefix values (Err dav.IllegalPath)
   inside : (text bytes : List ℕ) {d : PathText} → IsDestination values text → Reads text bytes → IsCut (without_slash prefix) bytes d → DestinationNames prefix values (Ok d)
 
--- The headers say so as those of a COPY or MOVE (RFC 4918, sections 10.2, 10.3 and 10.6).
+-- What the headers of a COPY or MOVE of p say; but for Destination, a header that doesn't decode counts as absent
+-- (RFC 4918, sections 10.2, 10.3 and 10.6).
 pub record AreCopyHeaders (headers : Headers) (p : PathText) (h : CopyHeaders) : Type 0 where
   pub conditions : AreConditions headers p.prefix (names p) h.conditions
   pub depth : Decodes IsDepth (get_all headers (codes "depth")) h.depth
@@ -60,13 +62,13 @@ pub record AreCopyHeaders (headers : Headers) (p : PathText) (h : CopyHeaders) :
 
 -- ---- the checks before anything changes
 
--- whether the method is MOVE (RFC 4918, sections 9.8.3 and 9.9.2)
+-- Whether the method is MOVE.
 abbrev pub is_move : DavMethod → Bool
 is_move Move = true
 is_move _ = false
 
--- Whether everything below goes along: without Depth it does. 400 for Depth 1, and for a MOVE at Depth 0 (RFC 4918, sections
--- 9.8.3 and 9.9.2).
+-- Whether a COPY or MOVE is of everything below its source too: at Depth 0 a COPY isn't. 400 for Depth 1, and for a MOVE at
+-- Depth 0 (RFC 4918, sections 9.8.3 and 9.9.2).
 abbrev pub copy_depth : Bool → Option Depth → Result Bool DavError
 copy_depth true (Some Zero) = Err (dav.Status 400)
 copy_depth moves depth = whole_depth depth
@@ -81,7 +83,7 @@ destination_found overwrite d = do
   _ ← require (unwrap_or overwrite true || not (is_ok there)) (dav.Status 412)
   gives (result_ok there)
 
--- a MOVE takes away what is at its source and below it, so no lock may conflict there (RFC 4918, sections 7.4, 7.5 and 9.8.5)
+-- For a MOVE, which takes away what is at its source and below it: 423 where a lock conflicts there (RFC 4918, section 7.5).
 abbrev pub source_free : Bool → Caller → List (List ℕ) → PathText → MethodPlan (Unit {0})
 source_free true who tokens p = require_free true (requester who tokens) (names p) (dav.Status 423)
 source_free false who tokens p = gives tt
@@ -91,8 +93,8 @@ abbrev pub is_replaced : Bool → Option DavMetaData → Bool
 is_replaced deep None = false
 is_replaced deep (Some m) = deep || not m.dir
 
--- whether the list of members at the destination changes: by a MOVE; by a COPY where nothing was found there, or where it is replaced
--- (RFC 4918, section 7.4)
+-- Whether the destination's folder gets or loses a member: by a MOVE; by a COPY where nothing was found at the destination, or
+-- what was found is replaced (RFC 4918, section 7.4).
 abbrev pub changes_members : Bool → Bool → Option DavMetaData → Bool
 changes_members moves deep there = moves || is_none there || is_replaced deep there
 
@@ -102,22 +104,23 @@ paths_free moves who tokens p d = do
   _ ← source_free moves who tokens p
   require_free true (requester who tokens) (names d) (dav.Status 423)
 
--- and where one does on the folder above the source, from which a MOVE takes a member, or on that above the destination, where its list
--- of members changes (section 7.4)
+-- 423 where a lock conflicts on the folder above the source, from which a MOVE takes a member, or on the folder above the
+-- destination, where that gets or loses one (RFC 4918, section 7.4).
 abbrev pub folders_free : Bool → Bool → Requester → PathText → PathText → MethodPlan (Unit {0})
 folders_free moves changes who p d = do
   _ ← require_parent moves who (names p) (dav.Status 423)
   require_parent changes who (names d) (dav.Status 423)
 
--- whether conditions and locks let the request go on: 412 where a condition on the source fails (RFC 4918, sections 7.4, 7.5 and 9.8.5)
+-- Whether conditions and locks let the request go on: 412 where a condition on the source fails, 423 where a lock conflicts
+-- (RFC 4918, sections 7.4, 7.5 and 9.8.5).
 abbrev pub copy_free : DavMethod → Bool → Conditions → PathText → PathText → Caller → DavMetaData → Option DavMetaData → MethodPlan (Unit {0})
 copy_free m deep c p d who found there = do
   tokens ← guarded dav.Status m c (Some found)
   _ ← paths_free (is_move m) who tokens p d
   folders_free (is_move m) (changes_members (is_move m) deep there) (requester who tokens) p d
 
--- The checks before anything changes, and what is found at the destination. 403 where that is the source itself, or above it: to
--- overwrite it would destroy the source (RFC 4918, sections 9.8.5 and 9.9.4).
+-- The checks before anything changes; gives what is found at the destination. 403 where the destination is the source itself,
+-- or above it: to overwrite it would destroy the source (RFC 4918, sections 9.8.5 and 9.9.4).
 abbrev pub copy_allowed : DavMethod → Bool → CopyHeaders → PathText → PathText → Caller → DavMetaData → MethodPlan (Option DavMetaData)
 copy_allowed m deep h p d who found = do
   there ← destination_found h.overwrite d
@@ -127,23 +130,23 @@ copy_allowed m deep h p d who found = do
 
 -- ---- what is at the destination is removed
 
--- removes it, with everything below it, as a DELETE does (RFC 4918, section 9.8.4)
+-- Removes what was found at the destination, if it is to be replaced, with everything below it as a DELETE does (RFC 4918, section 9.8.4).
 abbrev pub clearing : Bool → ℕ → PathText → Option DavMetaData → MethodPlan (List Fault)
 clearing deep now d there = if is_replaced deep there then removal true now d (is_folder_found there) else gives []
 
--- ends the locks there, where it was removed (RFC 4918, section 9.8.4)
+-- Ends the locks at the destination and below it, where what was there was removed (RFC 4918, section 9.6).
 abbrev pub drop_if : Bool → PathText → MethodPlan (Unit {0})
 drop_if true p = drop_locks (names p)
 drop_if false p = gives tt
 
 -- ---- the copy or the move
 
--- ends the locks at the source, where all of it was moved: locks don't move (RFC 4918, section 7.7)
+-- Ends the locks at the source and below it, where all of it was moved: locks don't move along (RFC 4918, section 7.6).
 abbrev pub drop_if_moved : PathText → List CopyFault → MethodPlan (Unit {0})
 drop_if_moved p [] = drop_locks (names p)
 drop_if_moved p (f ∷ faults) = gives tt
 
--- moves, or copies (RFC 4918, sections 7.7 and 9.9)
+-- Moves, and then ends the locks at the source; or copies (RFC 4918, sections 7.6, 9.8 and 9.9).
 abbrev pub transfer : Bool → Bool → ℕ → PathText → PathText → MethodPlan (List CopyFault)
 transfer true deep now p d = do
   faults ← renaming now p d
@@ -151,7 +154,7 @@ transfer true deep now p d = do
   gives faults
 transfer false deep now p d = copying deep now d p d
 
--- 204 where something was at the destination, else 201 (RFC 4918, sections 9.8.5 and 9.9.4)
+-- The status where all was done: 204 where something was at the destination, else 201 (RFC 4918, sections 9.8.5 and 9.9.4).
 abbrev pub copied_status : Option DavMetaData → ℕ
 copied_status there = if is_some there then 204 else 201
 
@@ -166,8 +169,8 @@ transfer_reply moves deep now p d status = do
   faults ← transfer moves deep now p d
   Done (copy_reply p status faults)
 
--- Goes on where the destination was cleared. Where something stays there, that is reported, and the source stays as it is
--- (RFC 4918, sections 9.8.5 and 9.9.4).
+-- Moves or copies where the destination was cleared. Where something stays there, the reply reports that, and the source stays
+-- as it is (RFC 4918, sections 9.8.5 and 9.9.4).
 abbrev pub transfer_if_cleared : Bool → Bool → ℕ → PathText → PathText → Option DavMetaData → List Fault → MethodPlan Reply
 transfer_if_cleared moves deep now p d there (f ∷ faults) = Done (multi_reply p (map report_of (f ∷ faults)))
 transfer_if_cleared moves deep now p d there [] = do

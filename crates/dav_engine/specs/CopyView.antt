@@ -12,6 +12,7 @@ use Rattle.dav_engine.specs.CopyMove.{CopyHeaders}
 use Rattle.dav_engine.specs.Copying.{CopyWalk, copy}
 use Rattle.dav_engine.specs.Folder.{room_at}
 
+-- The headers of a COPY or MOVE as contracts see them.
 abbrev pub copy_headers_of : Inside → CopyHeaders
 copy_headers_of h = record {
   conditions = h.conditions;
@@ -24,17 +25,17 @@ copy_headers_of h = record {
 abbrev pub NamesBelow : List ℕ → List ℕ → PathText → Type 0
 NamesBelow prefix text d = (bytes : List ℕ) × Reads text bytes × IsCut (without_slash prefix) bytes d
 
--- why it names none: it isn't read as a path, or the path isn't at or below the prefix; or memory ran out
+-- Why a text names no path below the prefix: it isn't read as a path, or its path isn't at or below the prefix; or memory ran out.
 abbrev pub NamesNoneBelow : List ℕ → List ℕ → ParseError → Type 0
 NamesNoneBelow prefix text e =
     (e ≡ parse.Memory) ⊎ ((IsRefused text e × (e ≢ parse.Memory))
     ⊎ ((e ≡ parse.PrefixMismatch) × (bytes : List ℕ) × Reads text bytes × HasNoCut (without_slash prefix) bytes))
 
--- what a copy or a move by itself returns: why the last of the paths wasn't copied
+-- What a copy or a move by itself returns: why the last of the paths wasn't copied, if one wasn't.
 abbrev pub result_of : Option FsError → Result (Unit {0}) DavError
 result_of None = Ok tt
 result_of (Some e) = Err (dav.FsError e)
 
--- the copy of what is below a path, as part of the copy to `top`
+-- The copy of what is below s, as part of the copy to `top`.
 abbrev pub copy_below : ℕ → PathText → PathText → CopyWalk
 copy_below now top s = λ a b. copy (room_at s - 1) true now top a b

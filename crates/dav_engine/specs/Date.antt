@@ -37,7 +37,7 @@ date_of moment =
     let year = year_of 8029 1970 (moment / 86400) in
     date_on year (month_of 11 year.0 1 year.1) (moment / 86400) (moment % 86400)
 
--- the text of that date, as in `Thu, 01 Jan 1970 00:00:01 GMT` (RFC 9110, section 5.6.7)
+-- The date of a moment as HTTP writes it, as in `Thu, 01 Jan 1970 00:00:01 GMT` (RFC 9110, section 5.6.7).
 abbrev pub date_text_of : ℕ → List ℕ
 date_text_of moment = imf_fixdate (date_of moment)
 

@@ -20,18 +20,18 @@ use Rattle.dav_engine.specs.Plan.{Done}
 use Rattle.dav_engine.specs.Removal.{Fault, report_of, removal}
 use Rattle.dav_engine.specs.Reply.{Reply}
 
--- What the headers of a DELETE say (RFC 4918, sections 9.6.1 and 10.2).
+-- What the headers of a DELETE say: its conditions and its depth (RFC 4918, sections 9.6.1 and 10.2).
 pub record DeleteHeaders : Type 0 where
   pub conditions : Conditions
   pub depth : Option Depth
 
--- The headers say so as those of a DELETE (RFC 4918, sections 9.6.1 and 10.2).
+-- What the headers of a DELETE of p say; a header that doesn't decode counts as absent (RFC 4918, sections 9.6.1 and 10.2).
 pub record AreDeleteHeaders (headers : Headers) (p : PathText) (h : DeleteHeaders) : Type 0 where
   pub conditions : AreConditions headers p.prefix (names p) h.conditions
   pub depth : Decodes IsDepth (get_all headers (codes "depth")) h.depth
 
--- Whether everything below goes too: without Depth it does, and at Depth 0 it doesn't. 400 for Depth 1 (RFC 4918, section
--- 9.6.1).
+-- Whether a request is of everything below its path too: without Depth it is, and at Depth 0 it isn't. 400 for Depth 1
+-- (RFC 4918, sections 9.6.1 and 10.2).
 abbrev pub whole_depth : Option Depth → Result Bool DavError
 whole_depth None = Ok true
 whole_depth (Some Default) = Ok true
@@ -39,19 +39,19 @@ whole_depth (Some Zero) = Ok false
 whole_depth (Some One) = Err (dav.Status 400)
 whole_depth (Some Infinity) = Ok true
 
--- The checks before anything is removed: 412 where a condition fails, 423 where a lock at the path or below it conflicts,
--- or one on the folder above it (RFC 4918, sections 7 and 9.6).
+-- The checks before anything is removed: 412 where a condition fails, 423 where a lock at the path or below it conflicts, or
+-- one on the folder above it (RFC 4918, sections 7.4 and 7.5).
 abbrev pub delete_allowed : Conditions → PathText → Caller → DavMetaData → MethodPlan (Unit {0})
 delete_allowed c p who found = do
   tokens ← guarded dav.Status method.Delete c (Some found)
   require_member true true (requester who tokens) (names p) (dav.Status 423)
 
--- where nothing stays, the locks at the path and below it end (RFC 4918, sections 7 and 9.6)
+-- Where nothing stays, the locks at the path and below it end (RFC 4918, section 9.6).
 abbrev pub drop_if_gone : PathText → List Fault → MethodPlan (Unit {0})
 drop_if_gone p (f ∷ faults) = gives tt
 drop_if_gone p [] = drop_locks (names p)
 
--- the reply to a DELETE: 204 where nothing stays, else what stays is reported (RFC 4918, sections 7 and 9.6)
+-- The reply to a DELETE: 204 where nothing stays, else it reports what stays (RFC 4918, section 9.6.1).
 abbrev pub delete_reply : PathText → List Fault → Result Reply DavError
 delete_reply p [] = Ok (status_reply 204)
 delete_reply p (f ∷ faults) = multi_reply p (map report_of (f ∷ faults))

@@ -1,4 +1,4 @@
--- Plans that leave a lock in the list (RFC 4918, sections 6.1 and 9.11).
+-- Plans that keep a lock in the list of locks.
 use Rattle.std.specs.Prelude.{◌≢◌, List, Some, Result}
 use Rattle.dav_core.specs.declared.errors.FsError.{FsError}
 use Rattle.dav_core.specs.declared.errors.DavError.{DavError}
@@ -24,61 +24,61 @@ use Rattle.dav_engine.specs.SparingPlans.{IsStranger}
 use Rattle.dav_engine.specs.Unlock.{IsUnlock}
 use Rattle.dav_engine.specs.WorldLaws.{IsReading}
 
--- Each list that a plan sets has the lock, as long as each list that it reads has it. A lock that is refreshed stays the
--- lock that it was (RFC 4918, sections 6.1, 9.11).
+-- Each list of locks that the plan sets has the lock h, as long as each list that it reads has it. A lock that is refreshed
+-- counts as the same lock.
 pub data KeepsLock (h : Lock) {A : Type 0} : Plan A → Type 0 where
   keeps_done : {a : A} → KeepsLock h (Done a)
   keeps_ask : {c : Call} {go : Result (Answer c) FsError → Plan A} → ((answer : Result (Answer c) FsError) → KeepsLock h (go answer)) → KeepsLock h (Ask c go)
   keeps_look : {go : Locks → Plan A} → ((ls : List Lock) → IsListed h ls → KeepsLock h (go (Some ls))) → KeepsLock h (Look go)
   keeps_list : {locks : List Lock} {rest : Plan A} → IsListed h locks → KeepsLock h rest → KeepsLock h (Keep locks rest)
 
--- A lock that a plan keeps stands after it, whatever the store refuses (RFC 4918, sections 6.1, 9.11).
+-- A lock that a plan keeps is still in the list after it, whatever the store refuses.
 abbrev pub KeptLocksStand : Type 0
 KeptLocksStand =
     (h : Lock) (plan : MethodPlan Reply) (old new : StoreState) (ls ms : Locks) (a : Result Reply DavError)
     → KeepsLock h plan → Ran Asks plan old ls a new ms → Stands h ls → Stands h ms
 
--- A lock that a plan keeps stands also where memory runs out in the plan (RFC 4918, sections 6.1, 9.11).
+-- A lock that a plan keeps is still in the list also where memory runs out in the plan.
 abbrev pub KeptLocksStandCut : Type 0
 KeptLocksStandCut =
     (h : Lock) (plan : MethodPlan Reply) (old new : StoreState) (ls ms : Locks)
     → KeepsLock h plan → Cut Asks ls plan old ls new ms → Stands h ls → Stands h ms
 
--- a plan that only reads keeps every lock (RFC 4918, sections 7, 9.6, 9.11)
+-- A plan that only reads keeps every lock.
 abbrev pub ReadingKeepsLocks : Type 0
 ReadingKeepsLocks = (h : Lock) (plan : MethodPlan Reply) → IsReading plan → KeepsLock h plan
 
--- a PUT or PATCH keeps each lock, whoever asks for it (RFC 4918, sections 7, 9.6, 9.11)
+-- A PUT or PATCH keeps each lock, whoever asks for it.
 abbrev pub PutKeepsLocks : Type 0
 PutKeepsLocks =
     (h : Lock) (m : DavMethod) (headers : Headers) (p : PathText) (body : Body) (who : Caller) (plan : MethodPlan Reply)
     → IsPut m headers p body who plan → KeepsLock h plan
 
--- a DELETE keeps each lock that its client doesn't hold (RFC 4918, sections 7, 9.6, 9.11)
+-- A DELETE keeps each lock that its client doesn't hold (RFC 4918, section 9.6).
 abbrev pub DeleteKeepsLocks : Type 0
 DeleteKeepsLocks =
     (h : Lock) (headers : Headers) (p : PathText) (who : Caller) (plan : MethodPlan Reply)
     → IsStranger headers p who h → IsDelete headers p who plan → KeepsLock h plan
 
--- a COPY or MOVE keeps each lock that its client doesn't hold (RFC 4918, sections 7, 9.6, 9.11)
+-- A COPY or MOVE keeps each lock that its client doesn't hold.
 abbrev pub CopyMoveKeepsLocks : Type 0
 CopyMoveKeepsLocks =
     (h : Lock) (m : DavMethod) (headers : Headers) (p : PathText) (who : Caller) (plan : MethodPlan Reply)
     → IsStranger headers p who h → IsCopyMove m headers p who plan → KeepsLock h plan
 
--- a MKCOL keeps each lock (RFC 4918, sections 7, 9.6, 9.11)
+-- A MKCOL keeps each lock.
 abbrev pub MkcolKeepsLocks : Type 0
 MkcolKeepsLocks =
     (h : Lock) (headers : Headers) (p : PathText) (who : Caller) (plan : MethodPlan Reply)
     → IsMkcol headers p who plan → KeepsLock h plan
 
--- a PROPPATCH keeps each lock (RFC 4918, section 7)
+-- A PROPPATCH keeps each lock.
 abbrev pub ProppatchKeepsLocks : Type 0
 ProppatchKeepsLocks =
     (h : Lock) (headers : Headers) (p : PathText) (content : Body) (who : Caller) (plan : MethodPlan Reply)
     → IsProppatch headers p content who plan → KeepsLock h plan
 
--- an UNLOCK keeps each lock but the one whose token its Lock-Token says (RFC 4918, sections 7, 9.6, 9.11)
+-- An UNLOCK keeps each lock but the one whose token its Lock-Token has (RFC 4918, section 9.11).
 abbrev pub UnlockKeepsLocks : Type 0
 UnlockKeepsLocks =
     (h : Lock) (headers : Headers) (p : PathText) (who : Caller) (plan : MethodPlan Reply)

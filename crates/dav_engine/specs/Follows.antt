@@ -7,7 +7,7 @@ use Rattle.dav_engine.specs.Plan.{Locks, ServerState, Ran, Cut}
 use Rattle.dav_engine.specs.Method.{MethodPlan}
 use Rattle.dav_engine.specs.Reply.{Reply}
 
--- a value that contracts see as it is
+-- The value itself, where contracts see it as it is.
 abbrev pub as_is : {A : Type 0} → A → A
 as_is x = x
 
@@ -33,7 +33,7 @@ pub data FollowsFrom {A X : Type 0} (first : Locks) (view : X → A) (plan : Met
 abbrev pub Follows : {A X : Type 0} → (X → A) → MethodPlan A → StoreState → Locks → Result X DavError → StoreState → Locks → Type 0
 Follows view plan old ls = FollowsFrom ls view plan old ls
 
--- The plan was carried out by code that reads the list of locks, and leaves it.
+-- The plan was carried out by code that only reads the list of locks: the list is the same before and after.
 abbrev pub FollowsWithLocks : {A X : Type 0} → Locks → (X → A) → MethodPlan A → StoreState → Result X DavError → StoreState → Type 0
 FollowsWithLocks locks view plan old result new = Follows view plan old locks result new locks
 

@@ -1,4 +1,4 @@
--- The plans of a lock's holder go along with themselves (RFC 4918, section 7).
+-- The plans of a lock's holder are isolated: what they do and answer doesn't depend on what is outside the lock's folder.
 use Rattle.std.specs.Prelude.{◌≡◌, ◌≢◌, ℕ, [], true, List, codes, None, Ok}
 use Rattle.http_header.specs.HeaderMap.{get_all}
 use Rattle.dav_core.specs.declared.method.DavMethod.{DavMethod}
@@ -24,7 +24,8 @@ use Rattle.dav_engine.specs.Put.{IsPut}
 use Rattle.dav_engine.specs.Reply.{Reply}
 use Rattle.dav_engine.specs.Unlock.{IsUnlock}
 
--- The headers of a request to a path submit the lock's token alone, and set no other condition (RFC 4918, section 7).
+-- The If header of a request to a path submits the lock's token alone, and the request has neither If-Match nor If-None-Match
+-- (RFC 4918, section 10.4; RFC 9110, section 13.1).
 pub record SubmitsAlone (headers : Headers) (p : PathText) (h : Lock) : Type 0 where
   pub lists : List Addressed
   pub only : SubmitOnly h lists
@@ -32,46 +33,47 @@ pub record SubmitsAlone (headers : Headers) (p : PathText) (h : Lock) : Type 0 w
   pub match : get_all headers (codes "if-match") ≡ []
   pub none_match : get_all headers (codes "if-none-match") ≡ []
 
--- a whole plan goes along with itself, and answers the same
+-- A plan is isolated in the folder that h guards: from any two worlds with the same content there it makes the same calls in
+-- the folder, and gives the same reply but for change numbers and times.
 abbrev pub IsIsolatedPlan : Lock → MethodPlan Reply → Type 0
 IsIsolatedPlan h plan = Alongside h true (λ file. SameAnswers) None plan plan
 
--- a PUT or PATCH strictly below a guarded folder, with the guard's token alone, goes along with itself (RFC 4918, section 7)
+-- A PUT or PATCH strictly below a guarded folder, whose If submits the guard's token alone, is isolated.
 abbrev pub PutIsIsolated : Type 0
 PutIsIsolated =
     (h : Lock) (m : DavMethod) (headers : Headers) (p : PathText) (body : Body) (who : Caller) (plan : MethodPlan Reply)
     → IsGuard h → IsInside h (names p) → SubmitsAlone headers p h → IsPut m headers p body who plan → IsIsolatedPlan h plan
 
--- a MKCOL strictly below a guarded folder, with the guard's token alone, goes along with itself (RFC 4918, section 7)
+-- A MKCOL strictly below a guarded folder, whose If submits the guard's token alone, is isolated.
 abbrev pub MkcolIsIsolated : Type 0
 MkcolIsIsolated =
     (h : Lock) (headers : Headers) (p : PathText) (who : Caller) (plan : MethodPlan Reply)
     → IsGuard h → IsInside h (names p) → SubmitsAlone headers p h → IsMkcol headers p who plan → IsIsolatedPlan h plan
 
--- a DELETE strictly below a guarded folder, with the guard's token alone, goes along with itself (RFC 4918, section 7)
+-- A DELETE strictly below a guarded folder, whose If submits the guard's token alone, is isolated.
 abbrev pub DeleteIsIsolated : Type 0
 DeleteIsIsolated =
     (h : Lock) (headers : Headers) (p : PathText) (who : Caller) (plan : MethodPlan Reply)
     → IsGuard h → p.bytes ≢ star → IsInside h (names p) → SubmitsAlone headers p h → IsDelete headers p who plan → IsIsolatedPlan h plan
 
--- an OPTIONS at a guarded folder or below it goes along with itself, whoever asks for it (RFC 4918, section 7)
+-- An OPTIONS at a guarded folder or below it is isolated, whoever asks for it.
 abbrev pub OptionsIsIsolated : Type 0
 OptionsIsIsolated = (h : Lock) (allowed : ℕ) (p : PathText) → IsInReach h (names p) → IsIsolatedPlan h (options allowed p)
 
--- a PROPFIND at a guarded folder or below it goes along with itself, whoever asks for it: the same paths, statuses and names of properties are told
--- (RFC 4918, section 7)
+-- A PROPFIND at a guarded folder or below it is isolated, whoever asks for it: its reply has the same paths, statuses and names of properties.
 abbrev pub PropfindIsIsolated : Type 0
 PropfindIsIsolated =
     (h : Lock) (headers : Headers) (p : PathText) (content : Body) (who : Caller) (plan : MethodPlan Reply)
     → IsInReach h (names p) → IsPropfind headers p content who plan → IsIsolatedPlan h plan
 
--- a PROPPATCH at a guarded folder or below it, with the guard's token alone, goes along with itself (RFC 4918, section 7)
+-- A PROPPATCH at a guarded folder or below it, whose If submits the guard's token alone, is isolated.
 abbrev pub ProppatchIsIsolated : Type 0
 ProppatchIsIsolated =
     (h : Lock) (headers : Headers) (p : PathText) (content : Body) (who : Caller) (plan : MethodPlan Reply)
     → IsGuard h → IsInReach h (names p) → SubmitsAlone headers p h → IsProppatch headers p content who plan → IsIsolatedPlan h plan
 
--- a COPY from a guarded folder or from below it, or a MOVE from below it, to strictly below it goes along with itself (RFC 4918, section 7)
+-- A COPY from a guarded folder or from below it, or a MOVE from below it, to a path strictly below it, whose If submits the
+-- guard's token alone, is isolated.
 abbrev pub CopyMoveIsIsolated : Type 0
 CopyMoveIsIsolated =
     (h : Lock) (m : DavMethod) (headers : Headers) (p : PathText) (who : Caller) (plan : MethodPlan Reply)
@@ -79,14 +81,14 @@ CopyMoveIsIsolated =
     → ((d : PathText) → DestinationNames p.prefix (get_all headers (codes "destination")) (Ok d) → IsInside h (names d))
     → SubmitsAlone headers p h → IsCopyMove m headers p who plan → IsIsolatedPlan h plan
 
--- an UNLOCK at a guarded folder or below it, with the guard's token, goes along with itself: the lock ends in both (RFC 4918, section 7)
+-- An UNLOCK at a guarded folder or below it, whose Lock-Token has the guard's token, is isolated: the lock ends in both runs.
 abbrev pub UnlockIsIsolated : Type 0
 UnlockIsIsolated =
     (h : Lock) (headers : Headers) (p : PathText) (who : Caller) (plan : MethodPlan Reply)
     → IsGuard h → IsInReach h (names p) → SaysLockToken headers h.token → IsUnlock headers p who plan → IsIsolatedPlan h plan
 
--- a LOCK without a body at a guarded folder or below it, with the guard's token alone, goes along with itself: the guard is refreshed in both
--- (RFC 4918, section 7)
+-- A LOCK without a body at a guarded folder or below it, whose If submits the guard's token alone, is isolated: the guard is
+-- refreshed in both runs.
 abbrev pub LockIsIsolated : Type 0
 LockIsIsolated =
     (h : Lock) (headers : Headers) (p : PathText) (body : Body) (who : Caller) (plan : MethodPlan Reply)

@@ -4,6 +4,6 @@ use Rattle.http_header.specs.FieldValue.{plain_value}
 use Rattle.dav_headers.specs.Language.{AreLanguages}
 use Rattle.dav_engine.specs.Proppatch.{are_languages}
 
--- a text is accepted exactly where the header Content-Language is read from it alone (RFC 9110, section 8.5)
+-- PROPPATCH accepts a text as a list of languages exactly where Content-Language is read from it alone (RFC 9110, section 8.5).
 abbrev pub AcceptedLanguagesAreRead : Type 0
 AcceptedLanguagesAreRead = (text : List ℕ) → IsTrue (are_languages text) ↔ ((items : List (List ℕ)) × AreLanguages (plain_value text ∷ []) items)

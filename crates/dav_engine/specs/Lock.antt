@@ -30,9 +30,9 @@ use Rattle.dav_engine.specs.Plan.{Locks, Done, Keep}
 use Rattle.dav_engine.specs.Put.{missing_status}
 use Rattle.dav_engine.specs.Reply.{Reply, Header}
 
--- ---- a lock that is refreshed (section 9.10.2)
+-- ---- a lock that is refreshed (RFC 4918, section 9.10.2)
 
--- the only token that is submitted; 400 where there is none or several
+-- The only token that is submitted; 400 where there is none or several (RFC 4918, section 9.10.2).
 abbrev pub one_token : List (List ℕ) → Result (List ℕ) DavError
 one_token (token ∷ []) = Ok token
 one_token tokens = Err (dav.Status 400)
@@ -46,27 +46,28 @@ token_to_refresh h p who = do
   _ ← require_free false (requester who (token ∷ [])) p (dav.Status 412)
   gives token
 
--- the lock that was meant, with its new timeout, and the list with it; 412 where none was meant
+-- Sets the list with the refreshed lock, and gives the lock; 412 where the token and the path named none.
 abbrev pub keep_refreshed : Option Lock → Option (List Lock) → MethodPlan Lock
 keep_refreshed None left = fails (dav.Status 412)
 keep_refreshed (Some l) None = fails (dav.Status 412)
 keep_refreshed (Some l) (Some ls) = Keep ls (gives l)
 
+-- Refreshes the lock of this list that a token and a path name; 412 where they name none, 405 without a lock system.
 abbrev pub refresh_in : List ℕ → Path → Option ℕ → ℕ → Locks → MethodPlan Lock
 refresh_in token p timeout now None = fails (dav.Status 405)
 refresh_in token p timeout now (Some ls) = keep_refreshed (option_map (refreshed_lock timeout now) (named_lock token p ls)) (refreshed token p timeout now ls)
 
--- gives the lock that a token and a path mean a new timeout (RFC 4918, section 9.10.2)
+-- Gives the lock that a token and a path name a new timeout (RFC 4918, section 9.10.2).
 abbrev pub refresh : List ℕ → Path → Option ℕ → ℕ → MethodPlan Lock
 refresh token p timeout now = do
   locks ← look
   refresh_in token p timeout now locks
 
--- the reply: 200, with the lock
+-- The reply to a refresh: 200, with the lock (RFC 4918, section 9.10.2).
 abbrev pub refreshed_reply : List Header → Lock → Reply
 refreshed_reply location l = record { status = 200; headers = location ++ xml_type ∷ []; body = reply.Tree (lock_reply l) }
 
--- a LOCK without a body, at a path that is a folder's where it ends in a slash (RFC 4918, section 9.10.2)
+-- A LOCK without a body, which refreshes a lock (RFC 4918, section 9.10.2).
 abbrev pub lock_again : LockHeaders → PathText → List Header → Caller → MethodPlan Reply
 lock_again h p location who = do
   token ← token_to_refresh h (names p) who
@@ -75,12 +76,13 @@ lock_again h p location who = do
 
 -- ---- a new lock
 
--- the lock that a body asks for, with this token (RFC 4918, sections 7.4 and 9.10)
+-- The lock that a body asks for, with this token (RFC 4918, section 9.10.1).
 abbrev pub lock_of : LockHeaders → PathText → Caller → Bool → LockInfo → List ℕ → Lock
 lock_of h p who deep info token = new_lock token p who.principal info.owner (granted_for info.shared h.timeout) info.shared deep who.moment
 
--- The lock that is asked for: 400 for Depth 1; what the conditions answer; 400 for a body that asks for none; 500 where there is no
--- token for it; 423 where a file is to be made, and a lock on the folder above it conflicts (RFC 4918, sections 7.4 and 9.10).
+-- The lock that is asked for. 400 for Depth 1; then the status with which the conditions answer; 400 for a body that asks for
+-- no lock; 500 where there is no token for it; 423 where nothing was found at the path, and a lock on the folder above it
+-- conflicts (RFC 4918, sections 7.4 and 9.10).
 abbrev pub asked_lock : LockHeaders → PathText → Body → Caller → Option DavMetaData → MethodPlan Lock
 asked_lock h p content who found = do
   deep ← Done (whole_depth h.depth)
@@ -91,54 +93,55 @@ asked_lock h p content who found = do
   _ ← require_parent (is_none found) (requester who (submitted h.conditions.lists)) (names p) (dav.Status 423)
   gives (lock_of h p who deep info token)
 
+-- Grants a lock in this list, at its end; 423 where it isn't grantable, 405 without a lock system.
 abbrev pub grant_in : Lock → Locks → MethodPlan (Unit {0})
 grant_in new None = fails (dav.Status 405)
 grant_in new (Some ls) = if is_grantable new ls then Keep (ls ++ new ∷ []) (gives tt) else fails (dav.Status 423)
 
--- grants a lock, at the end of the list; 423 where another lock conflicts (section 7)
+-- Grants a lock, at the end of the list; 423 where another lock conflicts (RFC 4918, section 9.10.6).
 abbrev pub grant : Lock → MethodPlan (Unit {0})
 grant new = do
   locks ← look
   grant_in new locks
 
--- the list without the lock that a token and a path mean, if one is meant (RFC 4918, sections 6.2 and 7)
+-- The list without the lock that a token and a path name, if they name one.
 abbrev pub taken_back : List ℕ → Path → List Lock → List Lock
 taken_back token p ls = unwrap_or (unlocked token p ls) ls
 
--- How the empty file is opened: for writing; it is made, unless If-Match is `*`; and with If-None-Match `*` nothing may be there
--- (RFC 4918, section 7.3).
+-- How the empty file at a locked path is opened: to write; it is created, unless If-Match is `*`; and with If-None-Match `*`
+-- nothing may be there (RFC 4918, section 7.3).
 abbrev pub empty_opening : Conditions → Opening
 empty_opening c = record no_opening { write = true; create = not (is_star c.if_match); create_new = is_star c.if_none_match }
 
--- the error where it isn't opened; other refusals as they are
+-- The error of a LOCK whose empty file isn't opened: that of `missing_status` where it is missing or already there; any other refusal as it is.
 abbrev pub empty_error : Opening → FsError → DavError
 empty_error how fs.NotFound = dav.Status (missing_status how)
 empty_error how fs.Exists = dav.Status (missing_status how)
 empty_error how e = dav.FsError e
 
--- where the file is refused, the lock is taken back
+-- Goes on where the empty file was opened; where that was refused, the lock is taken back, and the LOCK fails.
 abbrev pub create_or_unlock : Opening → List ℕ → Path → Result Handle FsError → MethodPlan (Unit {0})
 create_or_unlock how token p (Ok file) = gives tt
 create_or_unlock how token p (Err e) = do
   _ ← change_locks (taken_back token p)
   fails (empty_error how e)
 
--- opens an empty file at a path that was locked (RFC 4918, section 7.3)
+-- Opens an empty file at a path that was locked; where that is refused, takes the lock back and fails (RFC 4918, section 7.3).
 abbrev pub open_empty : Opening → List ℕ → Path → ℕ → MethodPlan (Unit {0})
 open_empty how token p now = do
   opened ← answer_of (Open p how now)
   create_or_unlock how token p opened
 
--- where nothing was found at the path of the lock, an empty file is made there (section 7.3)
+-- Creates an empty file at the path of the lock, where nothing was found there (RFC 4918, section 7.3).
 abbrev pub make_empty : Opening → List ℕ → Path → ℕ → Option DavMetaData → MethodPlan (Unit {0})
 make_empty how token p now (Some found) = gives tt
 make_empty how token p now None = open_empty how token p now
 
--- Lock-Token (section 10.5)
+-- The Lock-Token header of a new lock: its token in angle brackets (RFC 4918, section 10.5).
 abbrev pub lock_token_header : List ℕ → Header
 lock_token_header token = (codes "lock-token", 60 ∷ (token ++ 62 ∷ []))
 
--- the reply: 201 where nothing was found, else 200, with the lock and its token
+-- The reply to a new lock: 201 where nothing was found at its path, else 200, with the lock and its token (RFC 4918, sections 9.10.1 and 9.10.4).
 abbrev pub granted_reply : Bool → List Header → Lock → Reply
 granted_reply found location new = record {
   status = if found then 200 else 201;
@@ -146,7 +149,7 @@ granted_reply found location new = record {
   body = reply.Tree (lock_reply new);
 }
 
--- a LOCK with a body, at a path that is a folder's where it ends in a slash (RFC 4918, section 9.10)
+-- A LOCK with a body, which asks for a new lock (RFC 4918, section 9.10).
 abbrev pub lock_new : LockHeaders → PathText → List Header → Body → Caller → Option DavMetaData → MethodPlan Reply
 lock_new h p location content who found = do
   new ← asked_lock h p content who found
@@ -156,20 +159,20 @@ lock_new h p location content who found = do
 
 -- ---- the method
 
--- whether there is no body; one of no bytes is none (RFC 4918, section 9.10)
+-- Whether a request has no body; one of no bytes is none.
 abbrev pub is_absent : Body → Bool
 is_absent body.None = true
 is_absent (body.Bytes bytes) = length bytes == 0
 is_absent (body.Tree tree) = false
 is_absent body.Malformed = false
 
--- a LOCK of what was found: without a body a lock is refreshed
+-- A LOCK of what was found at its path: without a body a lock is refreshed (RFC 4918, section 9.10.2).
 abbrev pub lock_found : LockHeaders → PathText → Body → Caller → Option DavMetaData → MethodPlan Reply
 lock_found h p content who found =
     if is_absent content then lock_again h (path_found found p) (location_found found p) who
     else lock_new h (path_found found p) (location_found found p) content who found
 
--- LOCK: 405 without a lock system (RFC 4918, section 9.10)
+-- The plan of a LOCK, with what its headers say; 405 without a lock system (RFC 4918, section 9.10).
 abbrev pub lock : LockHeaders → PathText → Body → Caller → MethodPlan Reply
 lock h p content who = do
   _ ← require_locks (dav.Status 405)

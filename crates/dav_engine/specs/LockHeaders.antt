@@ -12,42 +12,42 @@ use Rattle.dav_headers.specs.declared.timeout.DavTimeout.TheVariants.{Seconds, I
 use Rattle.dav_engine.specs.Conditions.{Conditions, AreConditions}
 use Rattle.dav_engine.specs.Headers.{Headers, Decodes}
 
--- What the headers of a LOCK say: its conditions; how deep the lock goes; and how long it is wanted, in order of preference
--- (RFC 4918, sections 9.10, 10.2 and 10.7).
+-- What the headers of a LOCK say: its conditions; how deep the lock goes; and for how long the client wants it, in order of
+-- preference (RFC 4918, sections 10.2 and 10.7).
 pub record LockHeaders : Type 0 where
   pub conditions : Conditions
   pub depth : Option Depth
   pub timeout : Option (List DavTimeout)
 
--- The headers say so as those of a LOCK; what doesn't decode counts as absent (RFC 4918, sections 9.10, 10.2 and 10.7).
+-- What the headers of a LOCK to p say; a header that doesn't decode counts as absent (RFC 4918, sections 10.2 and 10.7).
 pub record AreLockHeaders (headers : Headers) (p : PathText) (h : LockHeaders) : Type 0 where
   pub conditions : AreConditions headers p.prefix (names p) h.conditions
   pub depth : Decodes IsDepth (get_all headers (codes "depth")) h.depth
   pub timeout : Decodes IsTimeout (get_all headers (codes "timeout")) h.timeout
 
--- how many seconds a lock lasts at most, by whether it is shared: a day, or ten minutes (RFC 4918, sections 6.6 and 10.7)
+-- For how many seconds a lock is granted at most: a day where it is shared, ten minutes where it is exclusive (RFC 4918, section 6.6).
 abbrev pub longest : Bool → ℕ
 longest shared = if shared then 86400 else 600
 
--- the first of the times that are wanted (RFC 4918, sections 6.6 and 10.7)
+-- The time that the client prefers: the first that Timeout has (RFC 4918, section 10.7).
 abbrev pub preferred : Option (List DavTimeout) → Option DavTimeout
 preferred timeout = option_and_then (λ times. slice_get times 0) timeout
 
--- for how many seconds a new lock is granted where this time is wanted: at most as long as it may last (RFC 4918, sections 6.6 and 10.7)
+-- For how many seconds a new lock is granted where this time is preferred: at most `longest` (RFC 4918, section 10.7).
 abbrev pub granted_seconds : Bool → DavTimeout → ℕ
 granted_seconds shared (Seconds n) = min n (longest shared)
 granted_seconds shared Infinite = longest shared
 
--- how many seconds a new lock lasts, by the preferred time; without one it never ends (RFC 4918, section 10.7)
+-- For how many seconds a new lock is granted; without a preferred time it never ends (RFC 4918, section 10.7).
 abbrev pub granted_for : Bool → Option (List DavTimeout) → Option ℕ
 granted_for shared timeout = option_map (granted_seconds shared) (preferred timeout)
 
--- for how many seconds a lock, shared or not, is refreshed where this time is wanted: at most as long as an exclusive one may
--- last; where the time is infinite, the lock never ends (RFC 4918, section 9.10.2)
+-- For how many seconds a lock, shared or not, is refreshed where this time is preferred: at most as long as an exclusive one is
+-- granted; where the time is infinite, the lock never ends (RFC 4918, sections 9.10.2 and 10.7).
 abbrev pub refreshed_seconds : DavTimeout → Option ℕ
 refreshed_seconds (Seconds n) = Some (min n (longest false))
 refreshed_seconds Infinite = None
 
--- how many seconds a lock lasts that is refreshed; without a preferred time it never ends (RFC 4918, section 9.10.2)
+-- For how many seconds a lock is refreshed; without a preferred time it never ends (RFC 4918, section 9.10.2).
 abbrev pub refreshed_for : Option (List DavTimeout) → Option ℕ
 refreshed_for timeout = option_and_then refreshed_seconds (preferred timeout)

@@ -4,7 +4,7 @@ use Rattle.http_header.specs.HeaderMap.{get_all}
 use Rattle.dav_headers.specs.Value.{IsOnlyText}
 use Rattle.dav_engine.specs.Headers.{Headers}
 
--- `<` or `>`
+-- The byte is `<` or `>`.
 abbrev pub IsAngle : ℕ → Type 0
 IsAngle b = (b ≡ 60) ⊎ (b ≡ 62)
 
@@ -16,7 +16,7 @@ BeginsBare text = (b : ℕ) (rest : List ℕ) → text ≡ b ∷ rest → ¬ IsA
 abbrev pub EndsBare : List ℕ → Type 0
 EndsBare text = (front : List ℕ) (b : ℕ) → text ≡ front ++ b ∷ [] → ¬ IsAngle b
 
--- the text without all `<` and `>` at its ends (RFC 4918, section 10.5)
+-- The token is the text without all `<` and `>` at its ends (RFC 4918, section 10.5).
 pub record IsBetweenAngles (text token : List ℕ) : Type 0 where
   pub front : List ℕ
   pub back : List ℕ

@@ -1,4 +1,4 @@
--- What the code gives that reads a Lock-Token.
+-- What the code that reads a Lock-Token gives.
 use Rattle.std.specs.Prelude.{◌≡◌, ℕ, ◌++◌, ◌∷◌, [], List, All, Option, Some, None}
 use Rattle.dav_engine.specs.LockToken.{IsAngle, BeginsBare, EndsBare, IsBetweenAngles}
 
@@ -24,7 +24,7 @@ pub record IsBeforeAngles (text rest : List ℕ) : Type 0 where
   pub whole : text ≡ rest ++ back
   pub bare : EndsBare rest
 
--- the token of a text that may be there (RFC 4918, section 10.5)
+-- The token of a text, where there is a text (RFC 4918, section 10.5).
 abbrev pub IsTokenIn : Option (List ℕ) → Option (List ℕ) → Type 0
 IsTokenIn None None = Unit {0}
 IsTokenIn (Some text) (Some token) = IsBetweenAngles text token

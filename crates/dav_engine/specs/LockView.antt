@@ -15,6 +15,7 @@ use Rattle.dav_engine.specs.LockHeaders.{LockHeaders}
 use Rattle.dav_engine.specs.LockInfo.{LockInfo}
 use Rattle.dav_engine.specs.Plan.{Locks, Ran}
 
+-- The headers of a LOCK as contracts see them.
 abbrev pub lock_headers_of : headers.Inside → LockHeaders
 lock_headers_of h = record {
   conditions = h.conditions;
@@ -22,16 +23,17 @@ lock_headers_of h = record {
   timeout = option_map (λ t. t.0.items) h.timeout;
 }
 
+-- What the body of a LOCK asks for, as contracts see it.
 abbrev pub lock_info_of : info.Inside → LockInfo
 lock_info_of i = record { shared = i.shared; owner = i.owner }
 
--- a lock that lasts from this moment on, to one that can be written
+-- The lock ends after its timeout, counted from this moment, and at a moment of at most 64 bits.
 pub record LastsFrom (now : ℕ) (l : Lock) : Type 0 where
   pub end : l.timeout_at ≡ ends_at now l.timeout
   pub small : IfSome l.timeout (λ seconds. now + seconds ≤ max_u64)
 
--- A lock is granted, and where nothing was found at its path an empty file is opened there: the grant is refused, and nothing is
--- done; it is granted, and something was found; or it is granted, and the file is asked for.
+-- How a new lock is granted, and where nothing was found at its path an empty file opened there: the grant is refused, and
+-- nothing is done; or it is granted, and something was found; or it is granted, and the store is asked for the file.
 pub data GrantsNew (new : Lock) (how : Opening) (now : ℕ) (found : Bool) (old : StoreState) (ls : Locks) (result : Result (Unit {0}) DavError) (after : StoreState) (ms : Locks) : Type 0 where
   not_granted : (e : DavError) → result ≡ Err e → FollowsOnLocks (λ (u : Unit {0}). u) (grant new) ls (Err e) ms → ms ≡ ls → after ≡ old → GrantsNew new how now found old ls result after ms
   on_what_is_there : result ≡ Ok tt → found ≡ true → FollowsOnLocks (λ (u : Unit {0}). u) (grant new) ls (Ok tt) ms → after ≡ old → GrantsNew new how now found old ls result after ms

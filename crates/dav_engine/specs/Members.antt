@@ -29,11 +29,11 @@ use Rattle.dav_engine.specs.SparingPlans.{IsStranger}
 use Rattle.dav_engine.specs.Unlock.{IsUnlock}
 use Rattle.dav_engine.specs.WorldLaws.{OnlyReads, IsReading, IsProperPlan}
 
--- p is directly below f (RFC 4918, section 7.4)
+-- Whether p is directly below f.
 abbrev pub is_member : Path → Path → Bool
 is_member f p = not (is_root p) && is_same_path (parent_of p) f
 
--- f itself, or directly below it (RFC 4918, section 7.4)
+-- Whether p is f itself, or directly below it.
 abbrev pub is_folder_or_member : Path → Path → Bool
 is_folder_or_member f p = is_same_path f p || is_member f p
 
@@ -42,11 +42,11 @@ pub record SameMembers (f : Path) (w v : World) : Type 0 where
   pub folder : is_folder v f ≡ true
   pub listed : members f v.nodes ≡ members f w.nodes
 
--- what may be put at p without a new member of f: p isn't directly below f, or something is known to be there already (RFC 4918, section 7.4)
+-- What is put at p isn't a new member of f: p isn't directly below f, or something is known to be at p already.
 abbrev pub BringsNoMember : Path → Option Path → Path → Type 0
 BringsNoMember f known p = (is_member f p ≡ false) ⊎ (known ≡ Some p)
 
--- A call that changes the store, but not which members f has: it brings none, and takes away neither f nor one of them (RFC 4918, section 7.4).
+-- A call that changes the store, but not which members f has: it brings none, and takes away neither f nor one of them.
 abbrev pub LeavesMembers : Path → Option Path → Call → Type 0
 LeavesMembers f known (CreateDir p now) = BringsNoMember f known p
 LeavesMembers f known (Open p how now) = BringsNoMember f known p
@@ -78,19 +78,19 @@ pub data MembersStay {A : Type 0} (h : Lock) (whole : Bool) (P : Option Path →
   stay_keep : {known : Option Path} {locks : List Lock} {rest : MethodPlan A} → IsListed h locks → MembersStay h whole P known rest → MembersStay h whole P known (Keep locks rest)
   stay_last : {known : Option Path} {locks : List Lock} {r : Result A DavError} → whole ≡ true → MembersStay h whole P known (Keep locks (Done r))
 
--- a whole plan that leaves the members of a lock's folder, and knows nothing when it begins (RFC 4918, section 7.4)
+-- A whole plan that leaves the members of a lock's folder, and knows of no path when it begins (RFC 4918, section 7.4).
 abbrev pub LeavesList : Lock → MethodPlan Reply → Type 0
 LeavesList h plan = MembersStay h true (λ known a. ⊤) None plan
 
--- A plan that leaves the members of a lock's folder leaves them, and the folder, whatever else is in the list of locks and whatever the
--- store refuses (RFC 4918, section 7.4).
+-- A plan that `LeavesList` holds of leaves the members of a lock's folder, and the folder, whatever else is in the list of
+-- locks and whatever the store refuses (RFC 4918, section 7.4).
 abbrev pub PlansLeaveMembers : Type 0
 PlansLeaveMembers =
     (h : Lock) (plan : MethodPlan Reply) (old new : StoreState) (ls ms : Locks) (a : Result Reply DavError)
     → LeavesList h plan → IsProperPlan plan → Ran Asks plan old ls a new ms
     → Stands h ls → IsWorld old.world → is_folder old.world (folder_of h) ≡ true → SameMembers (folder_of h) old.world new.world
 
--- A plan that leaves a folder's members leaves them also where memory runs out in it (RFC 4918, section 7.4).
+-- A plan that `LeavesList` holds of leaves the members of a lock's folder also where memory runs out in it (RFC 4918, section 7.4).
 abbrev pub PlansLeaveMembersCut : Type 0
 PlansLeaveMembersCut =
     (h : Lock) (plan : MethodPlan Reply) (old new : StoreState) (ls ms : Locks)
@@ -104,46 +104,47 @@ ParentFreeIsNoMember =
     (h : Lock) (who : Requester) (p : Path) (ls : List Lock)
     → h.shared ≡ false → is_held who h ≡ false → IsListed h ls → is_free_parent who p ls ≡ true → is_member (folder_of h) p ≡ false
 
--- The plans of requests that don't hold an exclusive lock leave the members of its folder: those that only read, (RFC 4918, section 7.4)
+-- A plan that only reads leaves the members of each lock's folder.
 abbrev pub ReadingLeavesMembers : Type 0
 ReadingLeavesMembers = (h : Lock) (plan : MethodPlan Reply) → IsReading plan → LeavesList h plan
 
--- a PUT or PATCH, (RFC 4918, section 7.4)
+-- A PUT or PATCH of a client that doesn't hold an exclusive lock leaves the members of the lock's folder (RFC 4918, section 7.4).
 abbrev pub PutLeavesMembers : Type 0
 PutLeavesMembers =
     (h : Lock) (m : DavMethod) (headers : Headers) (p : PathText) (body : Body) (who : Caller) (plan : MethodPlan Reply)
     → h.shared ≡ false → IsStranger headers p who h → IsPut m headers p body who plan → LeavesList h plan
 
--- a MKCOL, (RFC 4918, section 7.4)
+-- A MKCOL of a client that doesn't hold an exclusive lock leaves the members of the lock's folder (RFC 4918, section 7.4).
 abbrev pub MkcolLeavesMembers : Type 0
 MkcolLeavesMembers =
     (h : Lock) (headers : Headers) (p : PathText) (who : Caller) (plan : MethodPlan Reply)
     → h.shared ≡ false → IsStranger headers p who h → IsMkcol headers p who plan → LeavesList h plan
 
--- a DELETE, (RFC 4918, section 7.4)
+-- A DELETE of a client that doesn't hold an exclusive lock leaves the members of the lock's folder (RFC 4918, section 7.4).
 abbrev pub DeleteLeavesMembers : Type 0
 DeleteLeavesMembers =
     (h : Lock) (headers : Headers) (p : PathText) (who : Caller) (plan : MethodPlan Reply)
     → h.shared ≡ false → p.bytes ≢ star → IsStranger headers p who h → IsDelete headers p who plan → LeavesList h plan
 
--- a COPY or MOVE, (RFC 4918, section 7.4)
+-- A COPY or MOVE of a client that doesn't hold an exclusive lock leaves the members of the lock's folder (RFC 4918, section 7.4).
 abbrev pub CopyMoveLeavesMembers : Type 0
 CopyMoveLeavesMembers =
     (h : Lock) (m : DavMethod) (headers : Headers) (p : PathText) (who : Caller) (plan : MethodPlan Reply)
     → h.shared ≡ false → p.bytes ≢ star → IsStranger headers p who h → IsCopyMove m headers p who plan → LeavesList h plan
 
--- a LOCK: with the file that it makes where nothing is there, (RFC 4918, section 7.4)
+-- A LOCK of a client that doesn't hold an exclusive lock leaves the members of the lock's folder, also with the empty file that
+-- it creates where nothing is there (RFC 4918, section 7.4).
 abbrev pub LockLeavesMembers : Type 0
 LockLeavesMembers =
     (h : Lock) (headers : Headers) (p : PathText) (body : Body) (who : Caller) (plan : MethodPlan Reply)
     → h.shared ≡ false → IsStranger headers p who h → IsLock headers p body who plan → LeavesList h plan
 
--- and, whoever asks for it, a PROPPATCH (RFC 4918, section 7.4)
+-- A PROPPATCH leaves the members of each lock's folder, whoever asks for it.
 abbrev pub ProppatchLeavesMembers : Type 0
 ProppatchLeavesMembers =
     (h : Lock) (headers : Headers) (p : PathText) (content : Body) (who : Caller) (plan : MethodPlan Reply)
     → IsProppatch headers p content who plan → LeavesList h plan
 
--- and an UNLOCK (RFC 4918, section 7.4).
+-- An UNLOCK leaves the members of each lock's folder, whoever asks for it.
 abbrev pub UnlockLeavesMembers : Type 0
 UnlockLeavesMembers = (h : Lock) (headers : Headers) (p : PathText) (who : Caller) (plan : MethodPlan Reply) → IsUnlock headers p who plan → LeavesList h plan

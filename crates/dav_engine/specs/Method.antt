@@ -12,20 +12,20 @@ use Rattle.dav_engine.specs.Plan.{Plan, Locks, Done, Ask, Look, Keep}
 abbrev pub MethodPlan : Type 0 → Type 0
 MethodPlan A = Plan (Result A DavError)
 
--- goes on with the outcome of a part; an error ends the whole plan
+-- Goes on with what a part gives; an error of it ends the whole plan.
 abbrev pub then : {A B : Type 0} → Result A DavError → (A → MethodPlan B) → MethodPlan B
 then (Ok a) f = f a
 then (Err e) f = Done (Err e)
 
 infixl 10 ◌>>=◌
--- one part after another
+-- One part after another: the second gets what the first gives, and an error of the first ends the plan.
 abbrev pub ◌>>=◌ : {A B : Type 0} → MethodPlan A → (A → MethodPlan B) → MethodPlan B
 (Done r) >>= f = then r f
 (Ask c go) >>= f = Ask c (λ answer. go answer >>= f)
 (Look go) >>= f = Look (λ locks. go locks >>= f)
 (Keep locks rest) >>= f = Keep locks (rest >>= f)
 
--- ends with this outcome
+-- Ends with this value.
 abbrev pub gives : {A : Type 0} → A → MethodPlan A
 gives a = Done (Ok a)
 
@@ -46,21 +46,21 @@ answer_of c = Ask c (λ answer. Done (Ok answer))
 abbrev pub look : MethodPlan Locks
 look = Look (λ locks. Done (Ok locks))
 
--- an answer, with a refusal turned into an error of the method
+-- The answer of a call, with a refusal turned into an error of the method.
 abbrev pub refused_as : {A : Type 0} → (FsError → DavError) → Result A FsError → Result A DavError
 refused_as f (Ok a) = Ok a
 refused_as f (Err e) = Err (f e)
 
--- makes a call; where it is refused, ends with the error that f makes of the refusal
+-- Makes a call and gives its answer; where it is refused, ends with the error that f makes of the refusal.
 abbrev pub ask_or : (FsError → DavError) → (c : Call) → MethodPlan (Answer c)
 ask_or f c = Ask c (λ answer. Done (refused_as f answer))
 
--- makes a call; where it is refused, ends with the refusal
+-- Makes a call and gives its answer; where it is refused, ends with the refusal.
 abbrev pub ask_for : (c : Call) → MethodPlan (Answer c)
 ask_for = ask_or dav.FsError
 
--- whether a path isn't locked against the requester (RFC 4918, section 7.5), for infinite depth with everything below it;
--- without a list of locks no path is locked
+-- Whether a path isn't locked against the requester, for infinite depth together with everything below it; without a list of
+-- locks no path is locked (RFC 4918, section 7.5).
 abbrev pub is_open : Bool → Requester → Path → Locks → Bool
 is_open deep who p None = true
 is_open deep who p (Some ls) = is_free_for deep who p ls
@@ -72,13 +72,13 @@ require_free deep who p e = do
   locks ← look
   require (is_open deep who p locks) e
 
--- whether a member's folder isn't locked against the requester; without a list of locks none is (RFC 4918, section 7.4)
+-- Whether the folder above a path isn't locked against the requester; without a list of locks no folder is (RFC 4918, section 7.4).
 abbrev pub is_open_parent : Requester → Path → Locks → Bool
 is_open_parent who p None = true
 is_open_parent who p (Some ls) = is_free_parent who p ls
 
--- The parent's check, where it is wanted: goes on where the path's folder isn't locked against the requester; else ends with
--- this error (RFC 4918, section 7.4).
+-- Where a member of the path's folder is added or removed (the Bool): goes on if the folder isn't locked against the requester;
+-- else ends with this error (RFC 4918, section 7.4).
 abbrev pub require_parent : Bool → Requester → Path → DavError → MethodPlan (Unit {0})
 require_parent false who p e = gives tt
 require_parent true who p e = do
@@ -103,7 +103,7 @@ require_locks e = do
   locks ← look
   require (has_locks locks) e
 
--- what has to be there; else this error
+-- The value that has to be there; else this error.
 abbrev pub required : {A : Type 0} → Option A → DavError → Result A DavError
 required None e = Err e
 required (Some a) e = Ok a
@@ -113,7 +113,7 @@ abbrev pub set_by : (List Lock → List Lock) → Locks → MethodPlan (Unit {0}
 set_by f None = Done (Ok tt)
 set_by f (Some ls) = Keep (f ls) (Done (Ok tt))
 
--- the list of locks is changed by a function of the list as it is now
+-- Changes the list of locks by a function of the list as it is now; without a lock system it changes nothing.
 abbrev pub change_locks : (List Lock → List Lock) → MethodPlan (Unit {0})
 change_locks f = do
   locks ← look

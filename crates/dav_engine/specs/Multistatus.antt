@@ -12,7 +12,7 @@ use Rattle.dav_core.specs.UrlText.{path_text}
 use Rattle.dav_engine.specs.declared.reply.ReplyBody.TheVariants.{Nothing, Tree}
 use Rattle.dav_engine.specs.Reply.{Reply, Header}
 
--- an element of the namespace `DAV:` as it is written: with the prefix `D`
+-- An element of the namespace `DAV:` as it is written: with the prefix `D`, which an element around it declares.
 abbrev pub dav_element : List ℕ → List ElementTree → ElementTree
 dav_element name children = element name (Some (codes "D")) None [] (trees children)
 
@@ -20,11 +20,11 @@ dav_element name children = element name (Some (codes "D")) None [] (trees child
 abbrev pub dav_text : List ℕ → List ℕ → ElementTree
 dav_text name bytes = dav_element name (text bytes ∷ [])
 
--- the outermost element declares the prefix
+-- The element with one attribute, which declares the prefix `D` of the namespace `DAV:`.
 abbrev pub declares_dav : ElementTree → ElementTree
 declares_dav e = with_attributes e ((codes "xmlns:D", codes "DAV:") ∷ [])
 
--- where a path is: its text in a URL, with its prefix (RFC 4918, section 14.7)
+-- The element with the address of a path: its text in a URL, with its prefix (RFC 4918, section 14.7).
 abbrev pub href : PathText → ElementTree
 href p = dav_text (codes "href") (path_text (full_bytes p))
 
@@ -36,11 +36,11 @@ status_line status = codes "HTTP/1.1 " ++ decimal status ++ 32 ∷ unwrap_or (re
 abbrev pub status_element : ℕ → ElementTree
 status_element status = dav_text (codes "status") (status_line status)
 
--- a tree is sent as XML (RFC 4918, section 8.2)
+-- The Content-Type of a reply whose body is an element tree: it is sent as XML (RFC 4918, section 8.2).
 abbrev pub xml_type : Header
 xml_type = (codes "content-type", codes "application/xml; charset=utf-8")
 
--- responses for several resources (RFC 4918, section 14.16)
+-- The element with responses for several resources (RFC 4918, section 14.16).
 abbrev pub multistatus : List ElementTree → ElementTree
 multistatus responses = declares_dav (dav_element (codes "multistatus") responses)
 
@@ -50,20 +50,20 @@ multistatus responses = declares_dav (dav_element (codes "multistatus") response
 abbrev pub PathStatus : Type 0
 PathStatus = PathText × ℕ
 
--- a status as an error; that there is none is an error too
+-- The status of a path as an error; where there is none, the error that says so (`ChanError`, 500).
 abbrev pub error_of : Option PathStatus → DavError
 error_of None = ChanError
 error_of (Some item) = Status item.1
 
--- the last of the statuses, as an error (RFC 4918, section 13)
+-- The last of the statuses, as an error.
 abbrev pub last_error : List PathStatus → DavError
 last_error items = error_of (last_or None items)
 
--- in a list, success is reported as 200
+-- The status as a multistatus has it: 204 is reported as 200.
 abbrev pub listed_status : ℕ → ℕ
 listed_status status = if status == 204 then 200 else status
 
--- the response for one path (RFC 4918, section 14.24)
+-- The response for one path with one status (RFC 4918, section 14.24).
 abbrev pub response_for : PathStatus → ElementTree
 response_for item = dav_element (codes "response") (href item.0 ∷ status_element (listed_status item.1) ∷ [])
 
@@ -79,7 +79,7 @@ multistatus_reply items = record {
   body = Tree (multistatus (map response_for items));
 }
 
--- a status for the request's own path is the reply's status
+-- The reply where one path is reported: the status alone if that is the request's own path p, else 207 (RFC 4918, section 13).
 abbrev pub one_reply : PathText → PathStatus → Reply
 one_reply p item = if are_equal item.0 p then status_reply item.1 else multistatus_reply (item ∷ [])
 

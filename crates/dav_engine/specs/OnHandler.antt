@@ -18,21 +18,22 @@ use Rattle.dav_engine.specs.Put.{IsPut}
 use Rattle.dav_engine.specs.Reply.{Reply}
 use Rattle.dav_engine.specs.Unlock.{IsUnlock}
 
--- the request still borrows the same state of a server, and all else of it is as before: the allowed methods, the caller, and
--- what else the borrowed state's contracts read
+-- The request still borrows the same state of a server, in which the list of locks is as before, and the store may have
+-- changed; its allowed methods and its caller are as before.
 pub record SameLocksBorrowed {F A B L : Type 0} (old new : DavInner F A B L) : Type 0 where
   pub backend : new.backend.ghost_name ≡ old.backend.ghost_name
   pub allow : new.allow ≡ old.allow
   pub caller : new.caller ≡ old.caller
   pub locks : new.backend.now.state.locks ≡ old.backend.now.state.locks
 
--- the request still borrows the same state of a server, of which the list of locks may change
+-- The request still borrows the same state of a server, in which the store and the list of locks may have changed; its allowed
+-- methods and its caller are as before.
 pub record SameStateBorrowed {F A B L : Type 0} (old new : DavInner F A B L) : Type 0 where
   pub backend : new.backend.ghost_name ≡ old.backend.ghost_name
   pub allow : new.allow ≡ old.allow
   pub caller : new.caller ≡ old.caller
 
--- the files of the store that it borrows are as before
+-- What is stored in the state that the request borrows is as before.
 abbrev pub KeepsWorld : {F A B L : Type 0} → DavInner F A B L → DavInner F A B L → Type 0
 KeepsWorld old new = new.backend.now.state.store.world ≡ old.backend.now.state.store.world
 
@@ -40,7 +41,7 @@ KeepsWorld old new = new.backend.now.state.store.world ≡ old.backend.now.state
 abbrev pub ServesFrom : {F A B L : Type 0} → (Caller → MethodPlan Reply → Type 0) → DavInner F A B L → Result Reply DavError → DavInner F A B L → Type 0
 ServesFrom kind old result new = Serves (kind old.caller.now) old.backend.now.state result new.backend.now.state
 
--- a part of its plan was carried out for its caller, on the state that it borrows
+-- A part of the plan of a request was carried out for its caller, on the state that it borrows.
 abbrev pub FollowsOn : {F A B L X Y : Type 0} → (Y → X) → (Caller → MethodPlan X) → DavInner F A B L → Result Y DavError → DavInner F A B L → Type 0
 FollowsOn view plan old result new =
     Follows view (plan old.caller.now) old.backend.now.state.store old.backend.now.state.locks result new.backend.now.state.store new.backend.now.state.locks

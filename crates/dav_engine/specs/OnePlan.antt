@@ -17,59 +17,59 @@ use Rattle.dav_engine.specs.Put.{PutHeaders, ArePutHeaders, IsPut}
 use Rattle.dav_engine.specs.Reply.{Reply}
 use Rattle.dav_engine.specs.Unlock.{IsUnlock}
 
--- the headers of a request say one thing of a path, as conditions
+-- The headers of a request to a path say one thing as conditions, at most.
 abbrev pub OneReadingOfConditions : Type 0
 OneReadingOfConditions =
     (headers : Headers) (prefix : List ℕ) (own : Path) (a b : Conditions)
     → AreConditions headers prefix own a → AreConditions headers prefix own b → a ≡ b
 
--- the headers of a request say one thing as those of a PUT or PATCH
+-- The headers of a request say one thing as those of a PUT or PATCH, at most.
 abbrev pub OneReadingOfPut : Type 0
 OneReadingOfPut = (headers : Headers) (p : PathText) (a b : PutHeaders) → ArePutHeaders headers p a → ArePutHeaders headers p b → a ≡ b
 
--- A PUT or PATCH has one plan at most: its headers, its path, its body and its client determine what it does (RFC 9110, section 9.3.4).
+-- A PUT or PATCH has one plan at most: its headers, its path, its body and its client determine what it does.
 abbrev pub OnePutPlan : Type 0
 OnePutPlan =
     (m : DavMethod) (headers : Headers) (p : PathText) (body : Body) (who : Caller) (one other : MethodPlan Reply)
     → IsPut m headers p body who one → IsPut m headers p body who other → one ≡ other
 
--- A MKCOL has one plan at most, too (RFC 9110, section 9.3.4).
+-- A MKCOL has one plan at most: its headers, its path and its client determine what it does.
 abbrev pub OneMkcolPlan : Type 0
 OneMkcolPlan =
     (headers : Headers) (p : PathText) (who : Caller) (one other : MethodPlan Reply)
     → IsMkcol headers p who one → IsMkcol headers p who other → one ≡ other
 
--- a DELETE has one plan (RFC 9110, section 9.3.4)
+-- A DELETE has one plan at most: its headers, its path and its client determine what it does.
 abbrev pub OneDeletePlan : Type 0
 OneDeletePlan =
     (headers : Headers) (p : PathText) (who : Caller) (one other : MethodPlan Reply)
     → IsDelete headers p who one → IsDelete headers p who other → one ≡ other
 
--- an UNLOCK has one plan, and so has a LOCK (RFC 9110, section 9.3.4)
+-- An UNLOCK has one plan at most: its headers, its path and its client determine what it does.
 abbrev pub OneUnlockPlan : Type 0
 OneUnlockPlan =
     (headers : Headers) (p : PathText) (who : Caller) (one other : MethodPlan Reply)
     → IsUnlock headers p who one → IsUnlock headers p who other → one ≡ other
 
--- a LOCK has one plan
+-- A LOCK has one plan at most: its headers, its path, its body and its client determine what it does.
 abbrev pub OneLockPlan : Type 0
 OneLockPlan =
     (headers : Headers) (p : PathText) (body : Body) (who : Caller) (one other : MethodPlan Reply)
     → IsLock headers p body who one → IsLock headers p body who other → one ≡ other
 
--- a COPY or MOVE has one plan (RFC 9110, section 9.3.4)
+-- A COPY or MOVE has one plan at most: its headers, its path and its client determine what it does.
 abbrev pub OneCopyMovePlan : Type 0
 OneCopyMovePlan =
     (m : DavMethod) (headers : Headers) (p : PathText) (who : Caller) (one other : MethodPlan Reply)
     → IsCopyMove m headers p who one → IsCopyMove m headers p who other → one ≡ other
 
--- a PROPFIND has one plan, and so has a PROPPATCH
+-- A PROPFIND has one plan at most: its headers, its path, its body and its client determine what it does.
 abbrev pub OnePropfindPlan : Type 0
 OnePropfindPlan =
     (headers : Headers) (p : PathText) (content : Body) (who : Caller) (one other : MethodPlan Reply)
     → IsPropfind headers p content who one → IsPropfind headers p content who other → one ≡ other
 
--- a PROPPATCH has one plan
+-- A PROPPATCH has one plan at most: its headers, its path, its body and its client determine what it does.
 abbrev pub OneProppatchPlan : Type 0
 OneProppatchPlan =
     (headers : Headers) (p : PathText) (content : Body) (who : Caller) (one other : MethodPlan Reply)

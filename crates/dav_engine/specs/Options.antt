@@ -13,38 +13,41 @@ use Rattle.dav_engine.specs.declared.reply.ReplyBody.TheVariants as reply
 use Rattle.dav_engine.specs.Method.{MethodPlan, ◌>>=◌, has_locks, look, answer_of, gives}
 use Rattle.dav_engine.specs.Reply.{Reply, content_length}
 
--- the methods of a file alone: of what has bytes
+-- The methods that only a file allows, if it is one.
 abbrev pub methods_of_file : Bool → List DavMethod
 methods_of_file false = []
 methods_of_file true = method.Head ∷ method.Get ∷ method.Patch ∷ method.Put ∷ []
 
--- the methods of what may go away, which the root may not
+-- The methods that what is there allows, if it may go away: the root may not.
 abbrev pub methods_of_member : Bool → List DavMethod
 methods_of_member false = []
 methods_of_member true = method.Move ∷ method.Delete ∷ []
 
--- the methods of what is there, by whether it is a file, and whether it may go away (RFC 9110, section 9.3.7)
+-- The methods that what is there allows, by whether it is a file, and whether it may go away. PROPPATCH, which is served, isn't
+-- among them (RFC 9110, section 9.3.7).
 abbrev pub methods_found : Bool → Bool → List DavMethod
 methods_found file member =
     methods_of_file file ++ (method.Options ∷ method.PropFind ∷ method.Copy ∷ []) ++ methods_of_member member ++ (method.Lock ∷ method.Unlock ∷ [])
 
--- the methods of a path at which nothing is (RFC 9110, section 9.3.7)
+-- The methods that a path allows at which nothing is (RFC 9110, section 9.3.7).
 abbrev pub methods_missing : List DavMethod
 methods_missing = method.Options ∷ method.MkCol ∷ method.Put ∷ method.Lock ∷ []
 
+-- Whether the path, after its prefix, is one slash.
 abbrev pub is_root : PathText → Bool
 is_root p = bytes_eq p.bytes (codes "/")
 
--- the methods of a path, by what was found there
+-- The methods that a path allows, by what was found there.
 abbrev pub methods_at : PathText → Option DavMetaData → List DavMethod
 methods_at p None = methods_missing
 methods_at p (Some m) = methods_found (not m.dir) (not (is_root p))
 
--- the methods for a path by what was found there; of the whole server, `*`, those of a file, whatever was found (RFC 9110, section 9.3.7)
+-- The methods that a path allows, by what was found there; the whole server, `*`, allows those of a file, whatever was found
+-- (RFC 9110, section 9.3.7).
 abbrev pub methods_for : PathText → Option DavMetaData → List DavMethod
 methods_for p found = if bytes_eq p.bytes star then methods_found true true else methods_at p found
 
--- the methods that need a lock system
+-- Whether a method needs a lock system.
 abbrev pub needs_locks : DavMethod → Bool
 needs_locks method.Lock = true
 needs_locks method.Unlock = true
@@ -62,7 +65,8 @@ offered allowed locks ms = filter (is_offered allowed locks) ms
 abbrev pub listed : List DavMethod → List ℕ
 listed ms = join_by method_name (codes ",") ms
 
--- the reply: 200, with what the server complies with (RFC 4918, sections 10.1 and 18), and the methods
+-- The reply to an OPTIONS: 200, with the compliance classes in DAV, which are the same without a lock system
+-- (RFC 4918, sections 10.1 and 18), and the methods in Allow (RFC 9110, section 10.2.1).
 abbrev pub options_reply : List DavMethod → Reply
 options_reply ms = record {
   status = 200;
@@ -70,7 +74,8 @@ options_reply ms = record {
   body = reply.Nothing;
 }
 
--- OPTIONS, where these methods are allowed; a refusal of the store counts as nothing found (RFC 4918, sections 10.1 and 18)
+-- The plan of an OPTIONS, on a server that allows these methods; a refusal of the store counts as nothing found
+-- (RFC 9110, section 9.3.7; RFC 4918, section 10.1).
 abbrev pub options : ℕ → PathText → MethodPlan Reply
 options allowed p = do
   found ← answer_of (Metadata (names p))

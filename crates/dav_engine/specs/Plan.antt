@@ -14,7 +14,7 @@ pub record ServerState : Type 0 where
   pub store : StoreState
   pub locks : Locks
 
--- the list after it was set; without a lock system there is no list (RFC 4918, section 6)
+-- The list of locks after it was set; without a lock system there is no list.
 abbrev pub kept : Locks → List Lock → Locks
 kept None locks = None
 kept (Some old) locks = Some locks
@@ -47,7 +47,7 @@ pub data Refused {A : Type 0} : Plan A → Locks → A → Locks → Type 0 wher
   refused_look : {go : Locks → Plan A} {ls ms : Locks} {a : A} → Refused (go ls) ls a ms → Refused (Look go) ls a ms
   refused_keep : {locks : List Lock} {rest : Plan A} {ls ms : Locks} {a : A} → Refused rest (kept ls locks) a ms → Refused (Keep locks rest) ls a ms
 
--- The first calls of a plan were made, each of them whole; this list of locks was then set, and `rest` of the plan is left.
+-- The first calls of a plan were made, each of them whole; the list of locks is now as it was set so far, and `rest` of the plan is left.
 pub data RanUpTo (step : CallStep) {A : Type 0} : Plan A → StoreState → Locks → Plan A → StoreState → Locks → Type 0 where
   up_to_here : {plan : Plan A} {s : StoreState} {ls : Locks} → RanUpTo step plan s ls plan s ls
   up_to_ask : {c : Call} {go : Result (Answer c) FsError → Plan A} {old mid new : StoreState} {ls ms : Locks} {answer : Result (Answer c) FsError} {rest : Plan A}

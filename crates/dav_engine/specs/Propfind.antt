@@ -28,15 +28,17 @@ use Rattle.dav_engine.specs.Reply.{Reply, Header}
 
 -- ---- what is asked for
 
--- what a body asks for, and of which properties
+-- What the body of a PROPFIND asks for, and the properties that it names (RFC 4918, section 14.20).
 abbrev pub Query : Type 0
 Query = Telling × List ElementTree
 
+-- The child elements of an element, if there is one.
 abbrev pub children_of_found : Option ElementTree → List ElementTree
 children_of_found None = []
 children_of_found (Some e) = child_elements e
 
--- what one element asks for; with all properties come those that are included
+-- What one element of a `propfind` asks for; a request for all properties names those that are included
+-- (RFC 4918, sections 14.2, 14.18 and 14.21).
 abbrev pub query_by : List ElementTree → ElementTree → Option Query
 query_by included e =
     if bytes_eq (name_of e) (codes "propname") then Some (NamesAlone, [])
@@ -44,12 +46,12 @@ query_by included e =
     else if bytes_eq (name_of e) (codes "allprop") then Some (AllProperties, included)
     else None
 
--- what the first element that asks for something asks for
+-- What the first of the elements asks for that asks for something.
 abbrev pub query_among : List ElementTree → List ElementTree → Option Query
 query_among included [] = None
 query_among included (e ∷ es) = option_or (query_by included e) (query_among included es)
 
--- the elements that a `propfind` includes, beside all properties. They stand in `includes`, where the standard has `include`
+-- The elements that a `propfind` includes beside all properties. They are in `includes`, where the standard has `include`
 -- (RFC 4918, section 14.8).
 abbrev pub included_in : ElementTree → List ElementTree
 included_in tree = children_of_found (find (is_named (codes "includes")) (child_elements tree))
@@ -58,11 +60,13 @@ included_in tree = children_of_found (find (is_named (codes "includes")) (child_
 abbrev pub query_of : ElementTree → Option Query
 query_of tree = if bytes_eq (name_of tree) (codes "propfind") && is_in dav_space tree then query_among (included_in tree) (child_elements tree) else None
 
+-- What a body asks for that is an element tree; none for another body.
 abbrev pub tree_query : Body → Option Query
 tree_query (body.Tree tree) = query_of tree
 tree_query content = None
 
--- what a body asks for: without one all properties (RFC 4918, section 9.1); none where it isn't that of a PROPFIND
+-- What the body of a PROPFIND asks for: without one all properties; none where it isn't a `propfind` that asks for something
+-- (RFC 4918, section 9.1).
 abbrev pub query_in : Body → Option Query
 query_in content = if is_absent content then Some (AllProperties, []) else tree_query content
 
@@ -72,7 +76,7 @@ query_in content = if is_absent content then Some (AllProperties, []) else tree_
 abbrev pub Responses : Type 0
 Responses = WithQuota (List ElementTree)
 
--- how what is below a path is told, where that is wanted
+-- The plan that reports what is below a path, where the Bool says that this is wanted.
 abbrev pub Below : Type 0
 Below = PathText → Bool → QuotaKnown → MethodPlan Responses
 
@@ -83,12 +87,12 @@ tell_member below w p m known = do
   more ← below p m.dir one.1
   gives (one.0 ∷ more.0, more.1)
 
--- a member at which the store refuses to look is passed over
+-- The responses for a member and what is below it; none where the store refuses the member's metadata.
 abbrev pub tell_if_found : Below → Writer → PathText → List ℕ → QuotaKnown → Result DavMetaData FsError → MethodPlan Responses
 tell_if_found below w p name known (Err e) = gives ([], known)
 tell_if_found below w p name known (Ok m) = tell_member below w (child_of p name m.dir) m known
 
--- the members of a folder, in order
+-- The responses for the members of a folder, in order, each followed by those for what is below it.
 abbrev pub tell_members : Below → Writer → PathText → QuotaKnown → List (List ℕ × Bool) → MethodPlan Responses
 tell_members below w p known [] = gives ([], known)
 tell_members below w p known (entry ∷ entries) = do
@@ -97,13 +101,13 @@ tell_members below w p known (entry ∷ entries) = do
   more ← tell_members below w p one.1 entries
   gives (one.0 ++ more.0, more.1)
 
--- a folder that the store refuses to list is passed over
+-- The responses for the members of a folder; none where the store refuses to list it.
 abbrev pub tell_listed : Below → Writer → PathText → QuotaKnown → Result (List (List ℕ × Bool)) FsError → MethodPlan Responses
 tell_listed below w p known (Err e) = gives ([], known)
 tell_listed below w p known (Ok entries) = tell_members below w p known entries
 
--- What is below a path, where that is wanted: the members of the folder, and where `deep` holds what is below each of them behind
--- it, so many names deep at most (RFC 4918, section 9.1).
+-- The responses for what is below a path, where that is wanted: for the members of the folder and, where `deep` holds, after
+-- each of them those for what is below it, down to as many levels as there is room for (RFC 4918, section 9.1).
 abbrev pub tell_below : (deep : Bool) → ℕ → Writer → PathText → Bool → QuotaKnown → MethodPlan Responses
 tell_below deep room w p false known = gives ([], known)
 tell_below deep zero w p true known = gives ([], known)
@@ -113,21 +117,23 @@ tell_below deep (suc room) w p true known = do
 
 -- ---- the method
 
--- What the headers of a PROPFIND say: its depth, and whether it tests servers, for which alone there is no limit (sections 9.1
--- and 10.2).
+-- What the headers of a PROPFIND say: its depth, and whether it has X-Litmus, as programs that test servers send: only these
+-- may ask for infinite depth (RFC 4918, sections 9.1 and 10.2).
 pub record FindHeaders : Type 0 where
   pub depth : Option Depth
   pub is_test : Bool
 
+-- What the headers of a PROPFIND say; a Depth that doesn't decode counts as absent (RFC 4918, section 10.2).
 pub record AreFindHeaders (headers : Headers) (h : FindHeaders) : Type 0 where
   pub depth : Decodes IsDepth (get_all headers (codes "depth")) h.depth
   pub is_test : h.is_test ≡ is_some (only_text (get_all headers (codes "x-litmus")))
 
--- the reply isn't to be stored (RFC 9111, section 5.2)
+-- The headers of a reply with two more, by which a cache uses it again only after asking the server (RFC 9111, sections 5.2.2.4 and 5.4).
 abbrev pub uncached : List Header → List Header
 uncached headers = (codes "cache-control", codes "no-cache") ∷ (codes "pragma", codes "no-cache") ∷ headers
 
--- 501, with the condition that the depth be finite (RFC 4918, sections 9.1.1 and 16)
+-- The reply to a PROPFIND of infinite depth that isn't served: 501 with the condition `propfind-finite-depth`
+-- (RFC 4918, section 16); section 9.1.1 has 403 for it.
 abbrev pub finite_depth : Reply
 finite_depth = record {
   status = 501;
@@ -135,20 +141,21 @@ finite_depth = record {
   body = reply.Tree (declares_dav (dav_element (codes "error") (dav_element (codes "propfind-finite-depth") [] ∷ [])));
 }
 
+-- Whether Depth asks for infinite depth; without Depth it doesn't.
 abbrev pub is_infinite : Option Depth → Bool
 is_infinite (Some Infinity) = true
 is_infinite depth = false
 
--- whether the resource itself is told of: without a depth only its members are
+-- Whether there is a response for the resource itself: without Depth only for its members.
 abbrev pub tells_itself : Option Depth → Bool
 tells_itself depth = is_some depth
 
--- whether its members are told of
+-- Whether there are responses for the members: at any depth but 0.
 abbrev pub tells_members : Option Depth → Bool
 tells_members (Some Zero) = false
 tells_members depth = true
 
--- the response for the resource itself, where it is told of
+-- The response for the resource itself, where there is to be one.
 abbrev pub tell_itself : Bool → Writer → PathText → DavMetaData → MethodPlan Responses
 tell_itself false w p m = gives ([], None)
 tell_itself true w p m = do
@@ -172,20 +179,21 @@ propfind_found h headers p location content who m = do
   below ← tell_below (is_infinite h.depth) (room_at p) w p (m.dir && tells_members h.depth) itself.1
   gives (propfind_reply location w (itself.0 ++ below.0))
 
--- whether the depth has a limit, or needs none
+-- Whether the depth is finite, or needn't be.
 abbrev pub is_served_depth : FindHeaders → Bool
 is_served_depth h = not (is_infinite h.depth && not h.is_test)
 
+-- A PROPFIND of a depth that is served; else the reply that the depth be finite.
 abbrev pub propfind_if : Bool → FindHeaders → Headers → PathText → Body → Caller → MethodPlan Reply
 propfind_if false h headers p content who = gives finite_depth
 propfind_if true h headers p content who = do
   found ← ask_for (Metadata (names p))
   propfind_found h headers (closed found.dir p) (location_found (Some found) p) content who found
 
--- PROPFIND. No condition and no lock is checked (RFC 4918, sections 9.1 and 15; RFC 4331).
+-- The plan of a PROPFIND, with what its headers say. No condition and no lock is checked (RFC 4918, section 9.1).
 abbrev pub propfind : FindHeaders → Headers → PathText → Body → Caller → MethodPlan Reply
 propfind h headers p content who = propfind_if (is_served_depth h) h headers p content who
 
--- the plan is that of a PROPFIND with these headers and this body, of this path, by this client (RFC 4918, sections 9.1 and 15; RFC 4331)
+-- The plan of a PROPFIND with these headers and this body, of this path, by this client (RFC 4918, section 9.1).
 pub data IsPropfind (headers : Headers) (p : PathText) (content : Body) (who : Caller) : MethodPlan Reply → Type 0 where
   is_propfind : (h : FindHeaders) → AreFindHeaders headers h → IsPropfind headers p content who (propfind h headers p content who)

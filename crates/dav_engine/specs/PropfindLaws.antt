@@ -30,11 +30,11 @@ use Rattle.dav_engine.specs.Reply.{Reply}
 
 -- ---- responses and their paths
 
--- the prefix of a server: nothing, or a text that names a path of its own bytes
+-- The prefix of a server: nothing, or a text that is read as a path of the same bytes.
 abbrev pub IsServerPrefix : List ℕ → Type 0
 IsServerPrefix prefix = (prefix ≡ []) ⊎ ((prefix ≢ star) × Reads prefix prefix)
 
--- a target names this path below the prefix
+-- The target of a request names this path below the prefix.
 abbrev pub IsTarget : List ℕ → List ℕ → PathText → Type 0
 IsTarget prefix target p = (target ≢ star) × NamesBelow prefix target p
 
@@ -49,14 +49,14 @@ abbrev pub responses_in : ReplyBody → List ElementTree
 responses_in (reply.Tree tree) = children_named (codes "response") tree
 responses_in _ = []
 
--- What is told of a path is a response of this path (RFC 4918, sections 8.3 and 9.1).
+-- The response with the properties of a path is a response for this path (RFC 4918, section 8.3).
 abbrev pub PropertiesLeadBack : Type 0
 PropertiesLeadBack =
     (prefix target : List ℕ) (p : PathText) (w : Writer) (m : DavMetaData) (known : QuotaKnown)
     (old new : StoreState) (ls ms : Locks) (told : WithQuota ElementTree)
     → IsServerPrefix prefix → IsTarget prefix target p → Ran Asks (properties_of w p m known) old ls (Ok told) new ms → IsResponseFor prefix p told.0
 
--- a response is of a path at this one or below it
+-- The response is for this path or for one below it.
 abbrev pub IsOfOneUnder : List ℕ → Path → ElementTree → Type 0
 IsOfOneUnder prefix top response = (p : PathText) × (is_at_or_under (names p) top ≡ true) × IsResponseFor prefix p response
 
@@ -68,23 +68,23 @@ ResponsesLeadBack =
     → IsServerPrefix prefix → IsTarget prefix target p → IsWorld old.world → IsPropfind headers p content who plan
     → Ran Asks plan old ls (Ok r) new ms → All (IsOfOneUnder prefix (names p)) (responses_in r.body)
 
--- ---- what is told of
+-- ---- which paths have responses
 
--- responses are of these paths, in order (RFC 4918, section 9.1)
+-- The responses are for these paths, in order.
 pub data AreResponsesFor (prefix : List ℕ) : List PathText → List ElementTree → Type 0 where
   none_told : AreResponsesFor prefix [] []
   one_told : {p : PathText} {ps : List PathText} {response : ElementTree} {responses : List ElementTree}
       → IsResponseFor prefix p response → AreResponsesFor prefix ps responses → AreResponsesFor prefix (p ∷ ps) (response ∷ responses)
 
--- the path of what is there: that of a folder ends in a slash (RFC 4918, section 9.1)
+-- The path of what is there: that of a folder ends in a slash (RFC 4918, section 5.2).
 abbrev pub path_in : World → PathText → PathText
 path_in w p = closed (is_folder w (names p)) p
 
--- the paths of the members, each once, since no name is listed twice; a file has none (RFC 4918, section 9.1)
+-- The paths of a folder's members, each once, since no name is listed twice; a file has none.
 abbrev pub member_paths : World → PathText → List PathText
 member_paths w p = map (λ member. child_of p member.0 member.1) (members (names p) w.nodes)
 
--- These are the paths of these members of a path, in order, and behind each of them those of all that is below it (RFC 4918, section 9.1).
+-- These are the paths of these members of a path, in order, and after each of them those of all that is below it.
 pub data AreWithAllBelow (w : World) : PathText → List (List ℕ × Bool) → List PathText → Type 0 where
   no_member : {p : PathText} → AreWithAllBelow w p [] []
   one_member : {p : PathText} {member : List ℕ × Bool} {others : List (List ℕ × Bool)} {below behind : List PathText}
@@ -92,12 +92,12 @@ pub data AreWithAllBelow (w : World) : PathText → List (List ℕ × Bool) → 
       → AreWithAllBelow w p others behind
       → AreWithAllBelow w p (member ∷ others) (child_of p member.0 member.1 ∷ (below ++ behind))
 
--- These are the paths of all that is below a path, each once, and a folder before what is in it (RFC 4918, section 9.1).
+-- These are the paths of all that is below a path, each once, and a folder before what is in it.
 abbrev pub AreBelow : World → PathText → List PathText → Type 0
 AreBelow w p ps = AreWithAllBelow w p (members (names p) w.nodes) ps
 
--- Of these paths a PROPFIND of this depth tells: at Depth 0 of its target, at Depth 1 also of the members, at Depth infinity also of all that
--- is below it (RFC 4918, section 9.1), and without a depth of the members alone.
+-- These are the paths that a PROPFIND of this depth has responses for: at Depth 0 its target; at Depth 1 also the members; at
+-- infinite depth also all that is below them (RFC 4918, section 9.1); and without Depth the members alone.
 pub data AreListed (w : World) (p : PathText) : Option Depth → List PathText → Type 0 where
   itself : AreListed w p (Some Zero) (p ∷ [])
   with_members : AreListed w p (Some One) (p ∷ member_paths w p)
@@ -106,34 +106,34 @@ pub data AreListed (w : World) (p : PathText) : Option Depth → List PathText �
 
 -- ---- where nothing is refused
 
--- the store doesn't refuse to list a folder that is there, nor to tell of what is there (RFC 4918, sections 9.1 and 10.2)
+-- The store neither refuses to list a folder that is there, nor the metadata of a member that is there.
 abbrev pub IsListing : World → (call : Call) → Result (Answer call) FsError → Type 0
 IsListing w (ReadDir p) answer = is_folder w p ≡ true → is_ok answer ≡ true
 IsListing w (EntryMetadata p) answer = is_missing w p ≡ false → is_ok answer ≡ true
 IsListing w _ answer = ⊤
 
--- one call of a lawful store that refuses neither (RFC 4918, sections 9.1 and 10.2)
+-- One call of a lawful store that neither refuses to list a folder that is there, nor the metadata of a member that is there.
 abbrev pub AsksListing : CallStep
 AsksListing call old answer new = Asks call old answer new × IsListing old.world call answer
 
--- a store refuses neither where no refusal is left to come, and it doesn't run out of memory (RFC 4918, sections 9.1 and 10.2)
+-- A store to which no refusal is left, and that doesn't run out of memory, lists each folder and gives the metadata of each member.
 abbrev pub UnrefusedRunsList : Type 0
 UnrefusedRunsList =
     (plan : MethodPlan Reply) (old new : StoreState) (ls ms : Locks) (outcome : Result Reply DavError)
     → All (λ r. r ≡ None) old.refusals → new.short ≡ false → Ran Asks plan old ls outcome new ms → Ran AsksListing plan old ls outcome new ms
 
--- A path that a PROPFIND of this depth may list has fewer names than 2^64, as each that memory can hold: what is listed is the target, and
--- at Depth infinity all that is there (RFC 4918, sections 9.1 and 10.2).
+-- The target of a PROPFIND, and at infinite depth each path at which something is, has fewer than 2^64 names, as each path has
+-- that memory can hold.
 abbrev pub HasFewNames : Option Depth → World → PathText → Type 0
 HasFewNames (Some Infinity) w p = (q : Path) → is_missing w q ≡ false → length q < 2 ^ 64
 HasFewNames depth w p = length (names p) < 2 ^ 64
 
--- The responses are those of what is listed at this depth (RFC 4918, sections 9.1 and 10.2).
+-- The responses are those for what a PROPFIND of this depth lists (RFC 4918, section 9.1).
 abbrev pub ListAll : List ℕ → World → PathText → Option Depth → List ElementTree → Type 0
 ListAll prefix w p depth responses = (ps : List PathText) × AreListed w p depth ps × AreResponsesFor prefix ps responses
 
--- The responses of a PROPFIND that is answered 207 are a whole listing, where the store refuses neither to list what is there nor to tell of it
--- (RFC 4918, sections 9.1 and 10.2).
+-- The responses of a PROPFIND that is answered 207 are a whole listing, where the store neither refuses to list a folder that
+-- is there, nor the metadata of a member (RFC 4918, section 9.1).
 abbrev pub ListingsAreWhole : Type 0
 ListingsAreWhole =
     (prefix target : List ℕ) (headers : Headers) (depth : Option Depth) (p : PathText) (content : Body) (who : Caller) (plan : MethodPlan Reply)

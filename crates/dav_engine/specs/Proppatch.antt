@@ -27,7 +27,7 @@ use Rattle.dav_engine.specs.Reply.{Reply, Header}
 
 -- ---- what is to change
 
--- A change: a property by its element, and whether it is set or removed.
+-- A change that a PROPPATCH asks for: a property by its element, and whether it is set or removed (RFC 4918, section 14.19).
 pub record Change : Type 0 where
   pub is_set : Bool
   pub property : ElementTree
@@ -40,22 +40,22 @@ each_changed is_set es = map (λ e. record { is_set = is_set; property = e }) es
 abbrev pub changes_to : Bool → ElementTree → List Change
 changes_to is_set part = each_changed is_set (flat_map child_elements (filter (is_named (codes "prop")) (child_elements part)))
 
--- the changes of a part of a body: a `set` or a `remove` (RFC 4918, sections 14.26 and 14.23); of another element none
+-- The changes of a part of a body: of a `set` or a `remove`; another element has none (RFC 4918, sections 14.23 and 14.26).
 abbrev pub changes_by : ElementTree → List Change
 changes_by part =
     if bytes_eq (name_of part) (codes "set") then changes_to true part
     else if bytes_eq (name_of part) (codes "remove") then changes_to false part
     else []
 
--- all changes of a body, in order (RFC 4918, section 14.19); none where it isn't that of a PROPPATCH. Names count, and namespaces
--- don't.
+-- All changes of the body of a PROPPATCH, in order; none where it isn't a `propertyupdate`. Names count, and namespaces don't
+-- (RFC 4918, section 14.19).
 abbrev pub changes_in : Body → Option (List Change)
 changes_in (body.Tree tree) = if bytes_eq (name_of tree) (codes "propertyupdate") then Some (flat_map changes_by (child_elements tree)) else None
 changes_in content = None
 
 -- ---- what becomes of each
 
--- an element that has a text, and no element in it
+-- Whether an element has a text, and no element in it.
 abbrev pub has_text_alone : ElementTree → Bool
 has_text_alone e = is_some (text_of e) && not (is_nonempty (child_elements e))
 
@@ -63,23 +63,24 @@ has_text_alone e = is_some (text_of e) && not (is_nonempty (child_elements e))
 abbrev pub is_language : List ℕ → Bool
 is_language tag = is_nonempty tag && list_all (λ b. is_ascii_alphanumeric b || (b == 45)) tag
 
--- a text that the header Content-Language may have (RFC 9110, section 8.5)
+-- Whether the header Content-Language may have this text (RFC 9110, section 8.5).
 abbrev pub are_languages : List ℕ → Bool
 are_languages value = is_visible_text value && list_all is_language (elements_of value)
 
--- 409 for a value that isn't a text
+-- 409 for a property whose value isn't a text; else this status (RFC 4918, section 9.2.1).
 abbrev pub with_text : ElementTree → Option ℕ → Option ℕ
 with_text e verdict = if has_text_alone e then verdict else Some 409
 
--- the status of a property whose value has to be a list of languages
+-- 409 for a property whose value isn't a list of languages; else this status (RFC 4918, section 9.2.1).
 abbrev pub with_languages : ElementTree → Option ℕ → Option ℕ
 with_languages e verdict = with_text e (if are_languages (unwrap_or (text_of e) []) then verdict else Some 409)
 
--- to be stored, where the store keeps properties; else 403
+-- No status, so that the property is stored, where the store keeps properties; else 403.
 abbrev pub storable_if : Bool → Option ℕ
 storable_if has = if has then None else Some 403
 
--- a property of the namespace `DAV:` that is to be set (RFC 4918, section 15)
+-- The status of a property of the namespace `DAV:` that is to be set; none where it is to be stored: `displayname` and
+-- `getcontentlanguage` may be (RFC 4918, section 15).
 abbrev pub set_dav_status : Bool → ElementTree → Option ℕ
 set_dav_status has e =
     if bytes_eq (name_of e) (codes "displayname") then with_text e (storable_if has)
@@ -87,16 +88,16 @@ set_dav_status has e =
     else if bytes_eq (name_of e) (codes "getlastmodified") then with_text e (Some 403)
     else Some 403
 
--- a property of Apache's that is to be set
+-- The status of a property of Apache's that is to be set: none is accepted.
 abbrev pub set_apache_status : ElementTree → Option ℕ
 set_apache_status e = if bytes_eq (name_of e) (codes "executable") then with_text e (Some 403) else Some 403
 
--- a property of Microsoft's that is to be set: what Windows sets is accepted, and not stored
+-- The status of a property of Microsoft's that is to be set: what Windows sets is answered 200, and not stored.
 abbrev pub set_windows_status : ElementTree → Option ℕ
 set_windows_status e = if list_any (bytes_eq (name_of e)) windows_names then with_text e (Some 200) else Some 403
 
--- The status that answers at once to a property that is to be set, by whether the store keeps properties; none where it is to be
--- stored. A client can't set what the server computes (RFC 4918, section 15).
+-- The status with which a property that is to be set is answered at once, by whether the store keeps properties; none where it
+-- is to be stored. A client can't set what the server computes (RFC 4918, section 9.2.1).
 abbrev pub set_status : Bool → ElementTree → Option ℕ
 set_status has e =
     if is_in dav_space e then set_dav_status has e
@@ -104,25 +105,28 @@ set_status has e =
     else if is_in microsoft_space e then set_windows_status e
     else None
 
--- a property of the namespace `DAV:` that is to be removed
+-- The status of a property of the namespace `DAV:` that is to be removed: 200 for `displayname` and `getcontentlanguage` where
+-- the store keeps properties, though nothing is removed; else 403.
 abbrev pub remove_dav_status : Bool → ElementTree → Option ℕ
 remove_dav_status has e =
     if bytes_eq (name_of e) (codes "displayname") || bytes_eq (name_of e) (codes "getcontentlanguage") then (if has then Some 200 else Some 403)
     else Some 403
 
--- the status of a property that is to be removed (RFC 4918, sections 9.2, 11.4, 14.19 to 14.26 and 15)
+-- The status with which a property that is to be removed is answered at once, by whether the store keeps properties; none where
+-- the store is to remove it (RFC 4918, section 9.2.1).
 abbrev pub remove_status : Bool → ElementTree → Option ℕ
 remove_status has e =
     if is_in dav_space e then remove_dav_status has e
     else if is_in apache_space e || is_in microsoft_space e then Some 403
     else None
 
+-- The status with which a change is answered at once, by whether the store keeps properties; none where the store is to make it.
 abbrev pub change_status : Bool → Change → Option ℕ
 change_status has c = if c.is_set then set_status has c.property else remove_status has c.property
 
--- ---- what is told
+-- ---- what is reported
 
--- a namespace as the attribute of an element declares it (Namespaces in XML 1.0, section 3)
+-- The attribute that declares the namespace of an element, if it has one, under its prefix (Namespaces in XML 1.0, section 3).
 abbrev pub declares : Option (List ℕ) → Option (List ℕ) → List (List ℕ × List ℕ)
 declares prefix None = []
 declares prefix (Some space) = (xmlns_name (unwrap_or prefix []), space) ∷ []
@@ -131,17 +135,19 @@ declares prefix (Some space) = (xmlns_name (unwrap_or prefix []), space) ∷ []
 abbrev pub by_name : List ℕ → Option (List ℕ) → Option (List ℕ) → ElementTree
 by_name name prefix space = element name prefix space (declares prefix space) no_trees
 
+-- The element of a property by its name, with its namespace declared, and without its value.
 abbrev pub element_by_name : ElementTree → ElementTree
 element_by_name e = by_name (name_of e) (prefix_of e) (namespace_of e)
 
+-- A property that the store answered with, by its name, with its namespace declared, and without its value.
 abbrev pub property_by_name : Property → ElementTree
 property_by_name p = by_name p.name p.prefix p.namespace
 
--- a property, with the status that tells what became of it
+-- A property, with the status that reports what became of it.
 abbrev pub Told : Type 0
 Told = ℕ × ElementTree
 
--- a property more under a status; the statuses rise
+-- The properties under their statuses, with one more under this status; the statuses rise.
 abbrev pub told_under : ℕ → ElementTree → List Group → List Group
 told_under status e [] = (status, e ∷ []) ∷ []
 told_under status e (g ∷ gs) =
@@ -149,44 +155,46 @@ told_under status e (g ∷ gs) =
     else if nat_lt status g.0 then (status, e ∷ []) ∷ g ∷ gs
     else g ∷ told_under status e gs
 
--- properties under their statuses, in rising order
+-- The properties under their statuses, in rising order, with these added one after another.
 abbrev pub grouped_onto : List Group → List Told → List Group
 grouped_onto gs [] = gs
 grouped_onto gs (told ∷ more) = grouped_onto (told_under told.0 told.1 gs) more
 
--- the properties by the statuses that are told of them, in rising order (RFC 4918, sections 9.2, 11.4, 14.19 to 14.26 and 15)
+-- The properties under the statuses that report what became of them, in rising order (RFC 4918, section 14.22).
 abbrev pub grouped : List Told → List Group
 grouped told = grouped_onto [] told
 
--- the changes that are answered at once, each with its status
+-- The change, if it is answered at once, with its status.
 abbrev pub answered_by : Change → Option ℕ → List (ℕ × Change)
 answered_by c None = []
 answered_by c (Some status) = (status, c) ∷ []
 
+-- The changes that are answered at once, each with its status.
 abbrev pub answered_at_once : Bool → List Change → List (ℕ × Change)
 answered_at_once has cs = flat_map (λ c. answered_by c (change_status has c)) cs
 
--- the changes that are to be stored
+-- The changes that the store is to make.
 abbrev pub to_store : Bool → List Change → List Change
 to_store has cs = filter (λ c. is_none (change_status has c)) cs
 
--- whether one is refused
+-- Whether one of the changes that are answered at once is refused.
 abbrev pub has_refused : List (ℕ × Change) → Bool
 has_refused answers = list_any (λ r. not (r.0 == 200)) answers
 
--- where one is refused, the others fail with it (RFC 4918, section 11.4)
+-- The status of a change that is answered at once where one is refused: 424 where it would have been 200 (RFC 4918, sections 9.2.1 and 11.4).
 abbrev pub failed_status : ℕ → ℕ
 failed_status status = if status == 200 then 424 else status
 
--- a change that would have been stored: what was to be set is shown whole
+-- The property of a change that the store would have made: one that was to be set is reported with its value.
 abbrev pub failed_element : Change → ElementTree
 failed_element c = if c.is_set then c.property else element_by_name c.property
 
+-- What is reported of all changes where one is refused: all fail (RFC 4918, sections 9.2.1 and 11.4).
 abbrev pub all_failed : List (ℕ × Change) → List Change → List Told
 all_failed answers stored =
     map (λ r. (failed_status r.0, element_by_name r.1.property)) answers ++ map (λ c. (424, failed_element c)) stored
 
--- what became of all changes, those of the store by its answers
+-- What is reported of all changes where none is refused: of those that the store made, what it answered.
 abbrev pub all_done : List (ℕ × Change) → List (ℕ × Property) → List Told
 all_done answers stored =
     map (λ r. (r.0, element_by_name r.1.property)) answers ++ map (λ a. (a.0, property_by_name a.1)) stored
@@ -205,12 +213,12 @@ as_patch c = patch_of (
 
 -- ---- the method
 
--- stores changes, if there are any
+-- Asks the store for these changes, if there are any.
 abbrev pub store_changes : PathText → List Change → MethodPlan (List (ℕ × Property))
 store_changes p [] = gives []
 store_changes p (c ∷ cs) = ask_for (PatchProps (names p) (map as_patch (c ∷ cs)))
 
--- Where one change is refused, nothing is stored: all changes are made or none (RFC 4918, section 9.2).
+-- Makes all changes; where one is refused, none: the store isn't asked (RFC 4918, section 9.2).
 abbrev pub change_all : PathText → (refused : Bool) → List (ℕ × Change) → List Change → MethodPlan (List Told)
 change_all p true answers stored = gives (all_failed answers stored)
 change_all p false answers stored = do
@@ -225,42 +233,41 @@ proppatch_reply location p told = record {
   body = reply.Tree (multistatus (property_response p (grouped told) ∷ []));
 }
 
--- makes all changes, or none, and tells what became of each
+-- Makes all changes, or none, and reports what became of each (RFC 4918, section 9.2).
 abbrev pub change_properties : PathText → List Change → MethodPlan (List Told)
 change_properties p changes = do
   has ← has_properties p
   change_all p (has_refused (answered_at_once has changes)) (answered_at_once has changes) (to_store has changes)
 
--- the changes are made, and answered by a multistatus
+-- Makes the changes, or none, and replies with a multistatus.
 abbrev pub patch_properties : PathText → List Header → List Change → MethodPlan Reply
 patch_properties p location changes = do
   told ← change_properties p changes
   gives (proppatch_reply location p told)
 
--- the changes of a body; 400 where it tells none
+-- Makes the changes of a body; 400 where it is no `propertyupdate`.
 abbrev pub patch_body : PathText → List Header → Body → MethodPlan Reply
 patch_body p location content = do
   changes ← Done (required (changes_in content) dav.XmlParseError)
   patch_properties p location changes
 
--- a PROPPATCH of what was found: 412 where a condition fails, 423 where a lock is another's
+-- A PROPPATCH of what was found: 412 where a condition fails, 423 where a lock conflicts (RFC 4918, section 7.5).
 abbrev pub proppatch_found : Conditions → PathText → List Header → Body → Caller → DavMetaData → MethodPlan Reply
 proppatch_found c p location content who found = do
   tokens ← guarded dav.Status method.PropPatch c (Some found)
   _ ← require_free false (requester who tokens) (names p) (dav.Status 423)
   patch_body p location content
 
--- a PROPPATCH of what was found at a path, which may lack its slash
+-- A PROPPATCH of what was found at a path: that of a folder gets a slash at its end, if it has none.
 abbrev pub proppatch_at : Conditions → PathText → Body → Caller → DavMetaData → MethodPlan Reply
 proppatch_at c p content who found = proppatch_found c (closed found.dir p) (location_found (Some found) p) content who found
 
--- PROPPATCH (RFC 4918, sections 9.2, 11.4, 14.19 to 14.26 and 15)
+-- The plan of a PROPPATCH, with the conditions of its headers (RFC 4918, section 9.2).
 abbrev pub proppatch : Conditions → PathText → Body → Caller → MethodPlan Reply
 proppatch c p content who = do
   found ← ask_for (Metadata (names p))
   proppatch_at c p content who found
 
--- the plan is that of a PROPPATCH with these headers and this body, of this path, by this client
--- (RFC 4918, sections 9.2, 11.4, 14.19 to 14.26 and 15)
+-- The plan of a PROPPATCH with these headers and this body, of this path, by this client (RFC 4918, section 9.2).
 pub data IsProppatch (headers : Headers) (p : PathText) (content : Body) (who : Caller) : MethodPlan Reply → Type 0 where
   is_proppatch : (c : Conditions) → AreConditions headers p.prefix (names p) c → IsProppatch headers p content who (proppatch c p content who)

@@ -26,18 +26,18 @@ abbrev pub patched_world : Path → List Change → World → World
 patched_world p [] w = w
 patched_world p (c ∷ cs) w = record w { nodes = adjust p (repatched (map as_patch (c ∷ cs))) w.nodes }
 
--- each property is told with 200
+-- Each property is reported with 200.
 abbrev pub AreDone : List Told → Type 0
 AreDone told = All (λ t. t.0 ≡ 200) told
 
--- where no change is refused, all that are to be stored are made, and each is told with 200; else none is made, and one is told
--- otherwise
+-- Where no change is refused, all that the store is to make are made, and each property is reported with 200; else none is
+-- made, and a property is reported with another status.
 abbrev pub AreMade : (refused : Bool) → Path → List Change → List Told → World → World → Type 0
 AreMade false p stored told w v = AreDone told × (v ≡ patched_world p stored w)
 AreMade true p stored told w v = ¬ AreDone told × (v ≡ w)
 
--- What an answered PROPPATCH did. `dir` is whether its path was found to be that of a folder, and `has` whether the store said
--- that it keeps properties.
+-- What a PROPPATCH that is answered did: `AreMade` of the changes in its body. `dir` is whether its path was found to be that
+-- of a folder, and `has` whether the store said that it keeps properties.
 pub record IsPatched (p : PathText) (content : Body) (r : Reply) (w v : World) : Type 0 where
   pub dir : Bool
   pub has : Bool
@@ -48,7 +48,8 @@ pub record IsPatched (p : PathText) (content : Body) (r : Reply) (w v : World) :
   pub reply : r ≡ proppatch_reply location (closed dir p) told
   pub made : AreMade (has_refused (answered_at_once has changes)) (names (closed dir p)) (to_store has changes) told w v
 
--- All changes are made or none, whatever the store refuses (RFC 4918, section 9.2).
+-- A PROPPATCH that is answered makes all of its changes or none, whatever the store refuses, and leaves the list of locks
+-- (RFC 4918, section 9.2).
 abbrev pub ProppatchMakesAllOrNone : Type 0
 ProppatchMakesAllOrNone =
     (headers : Headers) (p : PathText) (content : Body) (who : Caller) (plan : MethodPlan Reply)

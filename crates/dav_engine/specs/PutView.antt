@@ -4,6 +4,7 @@ use Rattle.std.specs.Option.{option_map}
 use Rattle.dav_engine.specs.declared.methods.put.headers.PutHeaders.TheInside.{Inside}
 use Rattle.dav_engine.specs.Put.{PutHeaders}
 
+-- The headers of a PUT or PATCH as contracts see them.
 abbrev pub put_headers_of : Inside → PutHeaders
 put_headers_of h = record {
   conditions = h.conditions;

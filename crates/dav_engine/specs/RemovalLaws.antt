@@ -14,24 +14,24 @@ use Rattle.dav_engine.specs.Plan.{Locks, Ran}
 use Rattle.dav_engine.specs.Removal.{Fault, fault_path, report_of, removal, survives, is_withheld_by}
 use Rattle.dav_engine.specs.Reply.{Reply}
 
--- what is at a path, but for its times
+-- A node without its times.
 abbrev pub timeless : Node → Node
 timeless n = record n { created = 0; modified = 0 }
 
--- what is at a path, but for its times (RFC 4918, section 9.6.1)
+-- What is at a path, but for its times.
 abbrev pub timeless_at : World → Path → Option Node
 timeless_at w q = option_map timeless (node_at w q)
 
--- a fault names this path
+-- Whether a fault names this path.
 abbrev pub is_fault_path : List Fault → Path → Bool
 is_fault_path faults q = list_any (λ f. is_same_path q (names (fault_path f))) faults
 
--- a fault withholds this path
+-- Whether a fault withholds this path from the removal.
 abbrev pub is_withheld : List Fault → Path → Bool
 is_withheld faults q = list_any (is_withheld_by q) faults
 
--- What a removal of p with these faults left of a map: what was at p or below it is there exactly where it survives, and all else
--- is as it was, but for times. Each fault names p or a path below it; and the parent of what is withheld is named or withheld too
+-- What a removal of p with these faults left: what was at p or below it is there exactly where it survives, and all else is as
+-- it was, but for times. Each fault names p or a path below it; and the parent of what is withheld is named or withheld too
 -- (RFC 4918, section 9.6.1).
 pub record LeavesSurvivors (p : Path) (faults : List Fault) (old new : World) : Type 0 where
   pub after : (q : Path)
@@ -56,20 +56,21 @@ ReportedAreThere =
     → Ran Asks (removal deep now p (is_folder old.world (names p))) old ls (Ok faults) new ms
     → All (λ f. node_at new.world (names (fault_path f)) ≢ None) faults
 
--- the list of locks after a DELETE: where nothing stays, those at the path and below it are gone
+-- The list of locks after a DELETE: where nothing stays, those at the path and below it are gone (RFC 4918, section 9.6).
 abbrev pub locks_after : Path → List Fault → Locks → Locks
 locks_after p (f ∷ faults) ls = ls
 locks_after p [] ls = option_map (deleted p) ls
 
--- the status that a fault is reported with is an error (RFC 9110, sections 15.5 and 15.6)
+-- The status with which a fault is reported is an error (RFC 9110, sections 15.5 and 15.6).
 abbrev pub IsErrorReport : Fault → Type 0
 IsErrorReport f = 400 ≤ (report_of f).1
 
+-- The status with which each fault is reported is an error (RFC 9110, sections 15.5 and 15.6).
 abbrev pub AreErrorReports : List Fault → Type 0
 AreErrorReports faults = All IsErrorReport faults
 
--- What a DELETE of p with these faults left: what survives them. The reply reports them as errors, something is at each path that it
--- reports, and the locks at p and below it are gone exactly where there is none (RFC 4918, section 9.6).
+-- What a DELETE of p with these faults left: what survives them. The reply reports them as errors, something is at each path
+-- that it reports, and the locks at p and below it are gone exactly where there are no faults (RFC 4918, section 9.6).
 pub record DeleteLeaves (p : PathText) (faults : List Fault) (old new : StoreState) (ls ms : Locks) (r : Reply) : Type 0 where
   pub survivors : LeavesSurvivors (names p) faults old.world new.world
   pub errors : AreErrorReports faults
@@ -84,7 +85,7 @@ DeletesLeaveSurvivors =
     → IsWorld old.world → p.bytes ≢ star → Ran Asks (delete h p who) old ls (Ok r) new ms
     → (faults : List Fault) × DeleteLeaves p faults old new ls ms r
 
--- After a 204 nothing is at the path or below it (RFC 4918, section 9.6).
+-- After a DELETE that is answered 204 nothing is at its path or below it (RFC 4918, section 9.6).
 abbrev pub NoContentMeansGone : Type 0
 NoContentMeansGone =
     (h : DeleteHeaders) (p : PathText) (who : Caller) (old new : StoreState) (ls ms : Locks) (r : Reply) (q : Path)

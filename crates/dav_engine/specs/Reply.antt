@@ -31,11 +31,11 @@ header_pairs named = map (λ h. (h.0, h.1.bytes)) named
 abbrev pub headers_in : Entries FieldValue → List Header
 headers_in headers = header_pairs (pairs headers)
 
--- how many bytes the body has (RFC 9110, section 8.6)
+-- Content-Length: how many bytes the body has (RFC 9110, section 8.6).
 abbrev pub content_length : ℕ → Header
 content_length n = (codes "content-length", decimal n)
 
--- Content-Location: where a folder is, as the text of its path in a URL, with its prefix (RFC 9110, section 8.7)
+-- Content-Location: the address of a folder, which is the text of its path in a URL, with its prefix (RFC 9110, section 8.7).
 abbrev pub content_location : PathText → Header
 content_location p = (codes "content-location", path_text (full_bytes p))
 
@@ -47,12 +47,12 @@ etag number = (codes "etag", tag_of number)
 abbrev pub last_modified : ℕ → Header
 last_modified moment = (codes "last-modified", date_text_of moment)
 
--- the entity tag where there is a change number
+-- ETag, where there is a change number (RFC 9110, section 8.8.3).
 abbrev pub tag_headers : Option ℕ → List Header
 tag_headers None = []
 tag_headers (Some number) = etag number ∷ []
 
--- the validators of a file: its tag, and when it was last changed; none where the store didn't report them (RFC 9110, sections 8.8.2 and 8.8.3)
+-- The validators of a file: ETag and Last-Modified; none where the store didn't report them (RFC 9110, sections 8.8.2 and 8.8.3).
 abbrev pub validators : Option DavMetaData → List Header
 validators None = []
 validators (Some m) = tag_headers m.number ++ last_modified m.modified ∷ []
@@ -66,15 +66,15 @@ with_tag headers (Some number) = insert headers (codes "etag") (plain_value (tag
 abbrev pub with_validators : Entries FieldValue → DavMetaData → Entries FieldValue
 with_validators headers m = insert (with_tag headers m.number) (codes "last-modified") (plain_value (date_text_of m.modified))
 
--- the connection closes after the reply (RFC 9110, section 7.6.1)
+-- The header by which the connection closes after the reply, where it is to close (RFC 9110, section 7.6.1).
 abbrev pub closing : Bool → List Header
 closing close = if close then (codes "connection", codes "close") ∷ [] else []
 
--- the reply to an error: its status, without a body (RFC 9110, sections 7.6.1, 8.6 and 15)
+-- The reply to an error: its status, without a body (RFC 9110, section 15).
 abbrev pub error_reply : DavError → Reply
 error_reply e = record { status = dav_status e; headers = closing (must_close e) ++ content_length 0 ∷ []; body = Nothing }
 
--- the reply to a method's outcome (RFC 9110, sections 7.6.1, 8.6 and 15)
+-- The reply to the outcome of a method: its own, or that to its error.
 abbrev pub reply_to : Result Reply DavError → Reply
 reply_to (Ok response) = response
 reply_to (Err e) = error_reply e

@@ -20,8 +20,8 @@ use Rattle.dav_engine.specs.WorldLaws.{OnlyReads, IsProperPlan}
 abbrev pub NoneUnder : (Path → Bool) → Path → Type 0
 NoneUnder covered p = (q : Path) → is_at_or_under q p ≡ true → covered q ≡ false
 
--- A call that changes the store, but not the content at any of these paths, and takes away no folder above them. A call
--- that removes or moves something spares the paths below it too. (Open and Write have rules of their own.) (RFC 4918, section 7)
+-- A call that changes the store, but not the content at any of these paths, and takes away no folder above them. A call that
+-- removes or moves something spares the paths below it too. For Open and Write `Sparing` has rules of its own.
 abbrev pub Spares : (Path → Bool) → Call → Type 0
 Spares covered (CreateDir p now) = covered p ≡ false
 Spares covered (RemoveDir p now) = NoneUnder covered p
@@ -35,9 +35,9 @@ Spares covered _ = ⊥
 abbrev pub OpenFile : Type 0
 OpenFile = ℕ × Path
 
--- Each change that a plan makes spares these paths; one file is open at a time. G is what is known of the list of locks when
--- it is read, and has to hold of the list when it is set. P holds of the file that is open at the end, and of what the plan
--- gives. In a whole plan a last setting of the list needs E alone: with it the lock may end (RFC 4918, section 7).
+-- Each change that a plan makes spares these paths; one file is open at a time. G is what is known of the list of locks when it
+-- is read, and has to hold of the list when it is set. P holds of the file that is open at the end, and of what the plan gives.
+-- In a whole plan a last setting of the list needs E alone: with it the lock may end.
 pub data Sparing {A : Type 0} (covered : Path → Bool) (G E : List Lock → Type 0) (whole : Bool) (P : Option OpenFile → A → Type 0) : Option OpenFile → MethodPlan A → Type 0 where
   spares_ok : {file : Option OpenFile} {a : A} → P file a → Sparing covered G E whole P file (Done (Ok a))
   spares_err : {file : Option OpenFile} {e : DavError} → Sparing covered G E whole P file (Done (Err e))
@@ -66,35 +66,37 @@ Anything file a = ⊤
 abbrev pub AnyList : List Lock → Type 0
 AnyList ls = ⊤
 
--- a whole plan that spares what an exclusive lock covers, as long as the lock is in the list (RFC 4918, section 7)
+-- A whole plan that spares what a lock covers, as long as the lock is in the list (RFC 4918, section 7).
 abbrev pub SparesLock : Lock → MethodPlan Reply → Type 0
 SparesLock h plan = Sparing (covers h) (IsListed h) AnyList true Anything None plan
 
--- a whole plan that spares what a guard covers, and keeps the guard, or ends its lock (RFC 4918, section 7)
+-- A whole plan that spares what a guard covers, as long as the lock guards its folder; after the plan the lock still does, or
+-- isn't in the list (RFC 4918, section 7).
 abbrev pub SparesGuard : Lock → MethodPlan Reply → Type 0
 SparesGuard h plan = Sparing (covers h) (Guards h) (StillGuards h) true Anything None plan
 
--- the content at these paths is the same before and after, and what was a folder above one of them is a folder (RFC 4918, section 7)
+-- The content at these paths is the same before and after, and what was a folder above one of them still is one.
 pub record Spared (covered : Path → Bool) (w v : World) : Type 0 where
   pub same : (q : Path) → covered q ≡ true → option_map content_of (node_at w q) ≡ option_map content_of (node_at v q)
   pub above : (p q : Path) → is_under q p ≡ true → covered q ≡ true → is_folder w p ≡ true → is_folder v p ≡ true
 
--- A plan that spares what an exclusive lock covers leaves its content, whatever else is in the list of locks, whatever the
--- store refuses, and where it runs out of memory (RFC 4918, section 7).
+-- A plan that spares what a lock covers leaves the content there, whatever else is in the list of locks, whatever the store
+-- refuses, and where the store runs out of memory (RFC 4918, section 7).
 abbrev pub SparingLeavesCovered : Type 0
 SparingLeavesCovered =
     (h : Lock) (plan : MethodPlan Reply) (old new : StoreState) (ls ms : Locks) (a : Result Reply DavError)
     → SparesLock h plan → IsProperPlan plan → Ran Asks plan old ls a new ms
     → Stands h ls → IsWorld old.world → Spared (covers h) old.world new.world
 
--- A plan that spares what a lock covers leaves it also where memory runs out in it (RFC 4918, section 7).
+-- A plan that spares what a lock covers leaves the content there also where memory runs out in the plan (RFC 4918, section 7).
 abbrev pub SparingLeavesCoveredCut : Type 0
 SparingLeavesCoveredCut =
     (h : Lock) (plan : MethodPlan Reply) (old new : StoreState) (ls ms : Locks)
     → SparesLock h plan → IsProperPlan plan → Cut Asks ls plan old ls new ms
     → Stands h ls → IsWorld old.world → Spared (covers h) old.world new.world
 
--- what the request of another leaves of a guarded folder (RFC 4918, section 7)
+-- What the request of another client leaves of a guarded folder: its content is the same, there are folders above it, and it is
+-- still guarded if the lock is in the list. The world is still one, and has taken no fewer change numbers.
 pub record LeftAlone (h : Lock) (w v : World) (ms : Locks) : Type 0 where
   pub same : SameInside (folder_of h) w v
   pub above : HasFoldersAbove (folder_of h) v
@@ -103,7 +105,7 @@ pub record LeftAlone (h : Lock) (w v : World) (ms : Locks) : Type 0 where
   pub next : w.next ≤ v.next
 
 -- A plan that spares a guard's folder leaves what is inside, whatever the store refuses and where it runs out of memory; and
--- the folder stays guarded as long as the lock stands (RFC 4918, section 7).
+-- the folder stays guarded as long as the lock is in the list (RFC 4918, section 7).
 abbrev pub SparingLeavesInside : Type 0
 SparingLeavesInside =
     (h : Lock) (plan : MethodPlan Reply) (old new : StoreState) (ls ms : Locks) (a : Result Reply DavError)

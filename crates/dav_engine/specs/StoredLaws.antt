@@ -1,4 +1,4 @@
--- A property that a client stores is told again, as the same element (RFC 4918, sections 4 and 9.2).
+-- A property that a client stores is reported again, as the same element (RFC 4918, sections 4 and 9.2).
 use Rattle.std.specs.Prelude.{◌≡◌, ◌≢◌, ◌++◌, true, false, List, ◌∷◌, All, codes, Some, None, Ok}
 use Rattle.std.specs.FinMap.{find}
 use Rattle.http_header.specs.HeaderMap.{get_all}
@@ -22,13 +22,13 @@ use Rattle.dav_engine.specs.Proppatch.{Change, to_store}
 use Rattle.dav_engine.specs.ProppatchLaws.{patched_world, AreDone, IsPatched}
 use Rattle.dav_engine.specs.Reply.{Reply}
 
--- what is at a path keeps this element as its property (RFC 4918, sections 4 and 9.2)
+-- What is at the path keeps this element as one of its dead properties.
 pub record Keeps (w : World) (p : Path) (e : ElementTree) : Type 0 where
   pub node : Node
   pub stands : node_at w p ≡ Some node
   pub kept : find key_cmp (key_of e) node.properties ≡ Some (Some e)
 
--- these changes set this element, and none behind it is of the same property (RFC 4918, sections 4 and 9.2)
+-- These changes set this element, and none after it is of the same property (RFC 4918, section 9.2).
 pub record IsSetLast (e : ElementTree) (changes : List Change) : Type 0 where
   pub front : List Change
   pub back : List Change
@@ -41,21 +41,21 @@ SetIsKept =
     (p : Path) (changes : List Change) (e : ElementTree) (w : World) (n : Node)
     → node_at w p ≡ Some n → IsSetLast e changes → Keeps (patched_world p changes w) p e
 
--- A node keeps each element that a PROPPATCH of it set last of what was to be stored, where the reply tells 200 of each property
--- (RFC 4918, section 9.2).
+-- What is at the path of a PROPPATCH keeps each element that it set last of those that the store was to make, where the reply
+-- reports 200 for each property (RFC 4918, section 9.2).
 abbrev pub PatchedIsKept : Type 0
 PatchedIsKept =
     (p : PathText) (content : Body) (r : Reply) (e : ElementTree) (w v : World) (n : Node) (done : IsPatched p content r w v)
     → node_at w (names (closed done.dir p)) ≡ Some n → AreDone done.told → IsSetLast e (to_store done.has done.changes) → Keeps v (names (closed done.dir p)) e
 
--- the response for a path tells this element among the properties that were found, whole (RFC 4918, sections 9.1 and 14.22)
+-- The response for a path has this element, whole, among the properties that were found (RFC 4918, sections 9.1 and 14.22).
 pub record TellsWhole (p : PathText) (e response : ElementTree) : Type 0 where
   pub front : List ElementTree
   pub back : List ElementTree
   pub is : response ≡ property_response p (found_groups (front ++ e ∷ back))
 
--- Whatever a PROPFIND with a depth asks for, where it is answered 207, no refusal is left to come and the store doesn't run out of memory, its
--- first response is that of its target, and tells each element that the target keeps (RFC 4918, sections 9.1 and 14.22).
+-- Whatever a PROPFIND with a Depth asks for, if it is answered 207, no refusal is left to come and the store doesn't run out of
+-- memory, its first response is for its target, and has each element that the target keeps (RFC 4918, sections 9.1 and 14.22).
 abbrev pub KeptIsTold : Type 0
 KeptIsTold =
     (headers : Headers) (depth : Depth) (p : PathText) (content : Body) (who : Caller) (plan : MethodPlan Reply) (e : ElementTree)

@@ -14,21 +14,21 @@ use Rattle.dav_engine.specs.Method.{MethodPlan, ◌>>=◌, require_locks, requir
 use Rattle.dav_engine.specs.Plan.{Locks, Done, Keep}
 use Rattle.dav_engine.specs.Reply.{Reply, Header}
 
--- the list that is left without a lock; 409 where there is no such lock
+-- Sets the list that is left without the lock; 409 where there was no such lock (RFC 4918, section 9.11.1).
 abbrev pub keep_left : Option (List Lock) → MethodPlan (Unit {0})
 keep_left None = fails (dav.Status 409)
 keep_left (Some left) = Keep left (gives tt)
 
--- ends the lock of the list that a token and a path mean
+-- Ends the lock of this list that a token and a path name; 409 where they name none, 405 without a lock system.
 abbrev pub end_in : List ℕ → Path → Locks → MethodPlan (Unit {0})
 end_in token p None = fails (dav.Status 405)
 end_in token p (Some ls) = keep_left (unlocked token p ls)
 
--- the reply to an UNLOCK: 204, with the location of a folder
+-- The reply to an UNLOCK: 204, with Content-Location where the path of a folder lacked its slash (RFC 4918, section 9.11.1).
 abbrev pub unlocked_reply : List Header → Reply
 unlocked_reply location = record { status = 204; headers = location; body = reply.Nothing }
 
--- ends the lock that a token and a path mean, with the location of a folder whose path lacks its slash (RFC 4918, section 9.11)
+-- Ends the lock that a token and a path name, and replies (RFC 4918, section 9.11).
 abbrev pub end_lock : PathText → List ℕ → MethodPlan Reply
 end_lock p token = do
   found ← answer_of (Metadata (names p))
@@ -36,8 +36,8 @@ end_lock p token = do
   _ ← end_in token (names p) locks
   gives (unlocked_reply (location_found (result_ok found) p))
 
--- UNLOCK: 405 without a lock system; 400 without a token; 409 where no lock at the path or above it has the token. No condition
--- and no lock is checked, and whose the lock is isn't asked (RFC 4918, section 9.11).
+-- The plan of an UNLOCK: 405 without a lock system; 400 without a token; 409 where no lock at the path or above it has the
+-- token. No condition and no lock is checked, and anyone may end the lock, whoever its principal is (RFC 4918, section 9.11).
 abbrev pub unlock : Option (List ℕ) → PathText → MethodPlan Reply
 unlock token p = do
   _ ← require_locks (dav.Status 405)

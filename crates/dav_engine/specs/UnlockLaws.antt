@@ -12,7 +12,7 @@ use Rattle.dav_engine.specs.Plan.{Locks, Ran}
 use Rattle.dav_engine.specs.Reply.{Reply}
 use Rattle.dav_engine.specs.Unlock.{IsUnlock}
 
--- a list of locks before and after: it lost the lock that the token in Lock-Token and the path mean (RFC 4918, section 9.11)
+-- A list of locks before and after: it lost the lock that the token in Lock-Token and the path name (RFC 4918, section 9.11).
 pub record EndsLock (headers : Headers) (p : PathText) (ls ms : Locks) : Type 0 where
   pub token : List ℕ
   pub before : List Lock
@@ -22,13 +22,13 @@ pub record EndsLock (headers : Headers) (p : PathText) (ls ms : Locks) : Type 0 
   pub ended : unlocked token (names p) before ≡ Some after
   pub is : ms ≡ Some after
 
--- An UNLOCK that succeeds ends that lock, and leaves the world, whatever the store refuses (RFC 4918, section 9.11).
+-- An UNLOCK that succeeds ends a lock as `EndsLock` says, and leaves the world, whatever the store refuses (RFC 4918, section 9.11).
 abbrev pub UnlockEndsLock : Type 0
 UnlockEndsLock =
     (headers : Headers) (p : PathText) (who : Caller) (plan : MethodPlan Reply) (old new : StoreState) (ls ms : Locks) (r : Reply)
     → IsUnlock headers p who plan → Ran Asks plan old ls (Ok r) new ms → (new.world ≡ old.world) × EndsLock headers p ls ms
 
--- One that ends in an error leaves the world and the list of locks (RFC 4918, section 9.11).
+-- An UNLOCK that ends in an error leaves the world and the list of locks (RFC 4918, section 9.11).
 abbrev pub RefusedUnlockLeavesAll : Type 0
 RefusedUnlockLeavesAll =
     (headers : Headers) (p : PathText) (who : Caller) (plan : MethodPlan Reply) (old new : StoreState) (ls ms : Locks) (e : DavError)

@@ -14,17 +14,17 @@ use Rattle.dav_engine.specs.Multistatus.{PathStatus, last_error}
 use Rattle.dav_engine.specs.Plan.{Done, Ask, Look, Keep, Locks, Ran, RanUpTo, Cut}
 use Rattle.dav_engine.specs.Removal.{Fault, report_of}
 
--- A walk was carried out, whatever the list of locks is: its faults were reported after what was reported before, and this is
--- what they come to.
+-- A walk was carried out, whatever the list of locks is: its faults were reported after what was reported before, and `value`
+-- is what they result in.
 pub data Walked {F X : Type 0} (report : F → PathStatus) (outcome : List F → X) (plan : MethodPlan (List F)) (old : StoreState) (before after : List PathStatus) (value : X) (new : StoreState) : Type 0 where
   walked : (faults : List F) → ((ls : Locks) → Ran Asks plan old ls (Ok faults) new ls)
       → after ≡ before ++ map report faults → value ≡ outcome faults → Walked report outcome plan old before after value new
 
--- memory ran out in a part, which leaves the list of locks
+-- Memory ran out in a part of a plan, which leaves the list of locks.
 abbrev pub StoppedIn : {A : Type 0} → MethodPlan A → StoreState → StoreState → Type 0
 StoppedIn plan old new = (ls : Locks) → Cut Asks ls plan old ls new ls
 
--- Whatever its calls are answered, the plan gives such a value, or fails.
+-- Whatever its calls are answered, the plan gives a value of which P holds, or fails.
 pub data AlwaysGives {A : Type 0} (P : A → Type 0) : MethodPlan A → Type 0 where
   gives_such : {a : A} → P a → AlwaysGives P (Done (Ok a))
   or_fails : {e : DavError} → AlwaysGives P (Done (Err e))
@@ -45,19 +45,18 @@ pub record CutShort {F : Type 0} (report : F → PathStatus) (plan : MethodPlan 
   pub reported : after ≡ before ++ reports
   pub first_faults : AlwaysGives (BeginWith report reports) rest
 
--- What code that carries out a walk returns: what its faults come to; or memory ran out in the walk.
+-- What code that carries out a walk returns: what its faults result in; or memory ran out in the walk.
 abbrev pub Walks : {F X E : Type 0} → (F → PathStatus) → (List F → X) → MethodPlan (List F) → StoreState → List PathStatus → List PathStatus → Result X E → StoreState → Type 0
 Walks report outcome plan old before after (Ok value) new = Walked report outcome plan old before after value new
 Walks report outcome plan old before after (Err e) new = CutShort report plan old before after new
 
--- what a removal returns as a method does: nothing where nothing stays; else the status that was reported last; or that memory ran out
--- (RFC 4918, section 10.2)
+-- What a removal returns as a method: nothing where nothing stays; else the status that was reported last; or that memory ran out.
 abbrev pub removal_result : {E : Type 0} → List PathStatus → Result Bool E → Result (Unit {0}) DavError
 removal_result reported (Ok true) = Ok tt
 removal_result reported (Ok false) = Err (last_error reported)
 removal_result reported (Err e) = Err dav.Memory
 
--- a removal was carried out, or cut short, and the result is that of a method (RFC 4918, section 10.2)
+-- A removal was carried out, or memory ran out in it, and the result is `removal_result` of that.
 pub record Removes (plan : MethodPlan (List Fault)) (old : StoreState) (before after : List PathStatus) (result : Result (Unit {0}) DavError) (new : StoreState) : Type 0 where
   pub clean : Result Bool AllocError
   pub walks : Walks report_of is_empty plan old before after clean new

@@ -39,7 +39,7 @@ OnlyReads (Open p how now) = (how.truncate ≡ false) × (how.create ≡ false) 
 OnlyReads (Write file bytes now) = ⊥
 OnlyReads _ = ⊤
 
--- a plan that makes only such calls, and doesn't set the list of locks (RFC 9110, section 9.2.1)
+-- A plan all of whose calls only read, and that doesn't set the list of locks (RFC 9110, section 9.2.1).
 pub data IsReading {A : Type 0} : Plan A → Type 0 where
   reads_done : {a : A} → IsReading (Done a)
   reads_ask : {c : Call} {go : Result (Answer c) FsError → Plan A} → OnlyReads c → ((answer : Result (Answer c) FsError) → IsReading (go answer)) → IsReading (Ask c go)
@@ -50,7 +50,7 @@ abbrev pub MayTell : (call : Call) → Result (Answer call) FsError → Type 0
 MayTell (ReadDir p) (Ok entries) = All (λ e. IsStorable (e.0 ∷ [])) entries
 MayTell _ _ = ⊤
 
--- a plan that makes only calls that a caller may make, as long as the answers are those of a store that holds a world (RFC 4918, section 5.1)
+-- A plan that makes only calls that a caller may make (`IsProper`), as long as the answers are those of a store that holds a world.
 pub data IsProperPlan {A : Type 0} : Plan A → Type 0 where
   proper_done : {a : A} → IsProperPlan (Done a)
   proper_ask : {c : Call} {go : Result (Answer c) FsError → Plan A} → IsProper c → ((answer : Result (Answer c) FsError) → MayTell c answer → IsProperPlan (go answer)) → IsProperPlan (Ask c go)
@@ -67,32 +67,31 @@ ReadingLeavesAll =
 abbrev pub OptionsOnlyReads : Type 0
 OptionsOnlyReads = (allowed : ℕ) (p : PathText) → IsReading (options allowed p)
 
--- The plan of a PROPFIND only reads.
+-- The plan of a PROPFIND only reads (RFC 9110, section 9.2.1).
 abbrev pub PropfindOnlyReads : Type 0
 PropfindOnlyReads =
     (headers : Headers) (p : PathText) (content : Body) (who : Caller) (plan : MethodPlan Reply)
     → IsPropfind headers p content who plan → IsReading plan
 
--- A plan of calls that a caller may make keeps what makes a world a world (RFC 4918, section 5.1), and the next change
--- number never falls.
+-- A plan of calls that a caller may make keeps what makes a world a world, and the next change number never falls (RFC 4918, section 5.1).
 abbrev pub ProperPlansKeepWorlds : Type 0
 ProperPlansKeepWorlds =
     (plan : MethodPlan Reply) (old new : StoreState) (ls ms : Locks) (a : Result Reply DavError)
     → IsProperPlan plan → IsWorld old.world → Ran Asks plan old ls a new ms → IsWorld new.world × (old.world.next ≤ new.world.next)
 
--- The plans of PUT and PATCH make only such calls, at a path of names and a moment that HTTP can write.
+-- The plan of a PUT or PATCH makes only calls that a caller may make, at a path of names and a moment that HTTP can write.
 abbrev pub PutIsProper : Type 0
 PutIsProper =
     (m : DavMethod) (headers : Headers) (p : PathText) (body : Body) (who : Caller) (plan : MethodPlan Reply)
     → IsStorable (names p) → who.moment ≤ last_moment → IsPut m headers p body who plan → IsProperPlan plan
 
--- the plan of a MKCOL makes only calls that a caller may make
+-- The plan of a MKCOL makes only calls that a caller may make, at a path of names and a moment that HTTP can write.
 abbrev pub MkcolIsProper : Type 0
 MkcolIsProper =
     (headers : Headers) (p : PathText) (who : Caller) (plan : MethodPlan Reply)
     → IsStorable (names p) → who.moment ≤ last_moment → IsMkcol headers p who plan → IsProperPlan plan
 
--- the plan of a DELETE makes only calls that a caller may make, whatever its path is
+-- The plan of a DELETE makes only calls that a caller may make, whatever its path is, at a moment that HTTP can write.
 abbrev pub DeleteIsProper : Type 0
 DeleteIsProper =
     (headers : Headers) (p : PathText) (who : Caller) (plan : MethodPlan Reply)
@@ -102,19 +101,20 @@ DeleteIsProper =
 abbrev pub UnlockIsProper : Type 0
 UnlockIsProper = (headers : Headers) (p : PathText) (who : Caller) (plan : MethodPlan Reply) → IsUnlock headers p who plan → IsProperPlan plan
 
--- the plan of a LOCK makes only calls that a caller may make, at a path of names and a moment up to the end of 9999
+-- The plan of a LOCK makes only calls that a caller may make, at a path of names but not the star path, and a moment that HTTP can write.
 abbrev pub LockIsProper : Type 0
 LockIsProper =
     (headers : Headers) (p : PathText) (body : Body) (who : Caller) (plan : MethodPlan Reply)
     → IsStorable (names p) → p.bytes ≢ path_star → who.moment ≤ last_moment → IsLock headers p body who plan → IsProperPlan plan
 
--- the plan of a COPY or MOVE makes only calls that a caller may make, whatever its path is: what Destination names is a path of names
+-- The plan of a COPY or MOVE makes only calls that a caller may make, whatever its path is, at a moment that HTTP can write:
+-- what Destination names is a path of names.
 abbrev pub CopyMoveIsProper : Type 0
 CopyMoveIsProper =
     (m : DavMethod) (headers : Headers) (p : PathText) (who : Caller) (plan : MethodPlan Reply)
     → who.moment ≤ last_moment → IsCopyMove m headers p who plan → IsProperPlan plan
 
--- the plans of PROPFIND and PROPPATCH make only calls that a caller may make, whatever their path and their moment are
+-- The plan of a PROPFIND makes only calls that a caller may make, whatever its path and its moment are.
 abbrev pub PropfindIsProper : Type 0
 PropfindIsProper =
     (headers : Headers) (p : PathText) (content : Body) (who : Caller) (plan : MethodPlan Reply)
@@ -126,14 +126,14 @@ ProppatchIsProper =
     (headers : Headers) (p : PathText) (content : Body) (who : Caller) (plan : MethodPlan Reply)
     → IsProppatch headers p content who plan → IsProperPlan plan
 
--- An error of the checks before the file is opened is the outcome, and leaves the world and the list of locks as they are.
+-- An error of the checks of a PUT or PATCH, before the file is opened, is its outcome, and leaves the world and the list of locks as they were.
 abbrev pub RefusedPutLeavesAll : Type 0
 RefusedPutLeavesAll =
     (m : DavMethod) (h : PutHeaders) (p : Path) (who : Caller) (bytes : List ℕ) (old new : StoreState) (ls ms : Locks) (e : DavError)
     → Ran Asks (put_allowed m h p who bytes) old ls (Err e) new ms
     → Ran Asks (put m h p who bytes) old ls (Err e) new ms × (new.world ≡ old.world) × (ms ≡ ls)
 
--- a MKCOL that is refused before its folder is made leaves all as it was
+-- An error of the checks of a MKCOL, before the folder is created, is its outcome, and leaves the world and the list of locks as they were.
 abbrev pub RefusedMkcolLeavesAll : Type 0
 RefusedMkcolLeavesAll =
     (c : Conditions) (p : PathText) (who : Caller) (old new : StoreState) (ls ms : Locks) (e : DavError)
@@ -147,8 +147,8 @@ CreatesOnly =
     (m : DavMethod) (h : PutHeaders) (p : Path) (who : Caller) (bytes : List ℕ) (old new : StoreState) (ls ms : Locks) (r : Reply)
     → h.conditions.if_none_match ≡ Some star → Ran Asks (put m h p who bytes) old ls (Ok r) new ms → node_at old.world p ≡ None
 
--- Where something is at the path of such a PUT or PATCH, it leaves the world and the list of locks, whatever the store
--- refuses (RFC 9110, section 13.1.2).
+-- A PUT or PATCH with If-None-Match `*` of a path at which something is leaves the world and the list of locks, whatever the
+-- store refuses (RFC 9110, section 13.1.2).
 abbrev pub CreateOnlyLeavesAll : Type 0
 CreateOnlyLeavesAll =
     (m : DavMethod) (h : PutHeaders) (p : Path) (who : Caller) (bytes : List ℕ) (old new : StoreState) (ls ms : Locks)
@@ -161,7 +161,7 @@ pub record Remembers (number : ℕ) (bytes : List ℕ) (w : World) : Type 0 wher
   pub below : number < w.next
   pub bytes_are : (p : Path) (n : Node) → node_at w p ≡ Some n → n.number ≡ number → n.kind ≡ File bytes
 
--- A change number identifies bytes: what once holds of it holds from then on (RFC 9110, section 8.8.1).
+-- A change number identifies bytes: what `Remembers` once says of it holds from then on (RFC 9110, section 8.8.1).
 abbrev pub PlansRemember : Type 0
 PlansRemember =
     (plan : MethodPlan Reply) (old new : StoreState) (ls ms : Locks) (a : Result Reply DavError) (number : ℕ) (bytes : List ℕ)

@@ -1,4 +1,4 @@
--- Codes of what tells properties, which a Model wants of its Value.
+-- How the logic stores a writer of properties.
 use Rattle.std.specs.Prelude.{ℕ, List, Option, refl}
 use Rattle.std.specs.Coded.{Coded, code_by, coded_ℕ, coded_list, coded_option, coded×}
 use Rattle.dav_core.specs.Element.{ElementTree}
@@ -7,13 +7,13 @@ use Rattle.dav_engine.specs.declared.properties.kind.Telling.{Telling}
 use Rattle.dav_engine.specs.Properties.{Writer, QuotaKnown}
 use Rattle.dav_engine.specs.PropWriter.{PropWriter}
 
--- how properties are told, by the code of what they are told for
+-- How the logic stores how properties are reported, given how it stores what they are reported for.
 abbrev pub coded_writer : Coded Telling → Coded Writer
 coded_writer telling =
     code_by (Telling × (List ℕ × (Option (List ℕ) × List ElementTree))) (coded× telling (coded× (coded_list coded_ℕ) (coded× (coded_option (coded_list coded_ℕ)) (coded_list coded_tree))))
     (λ w. (w.telling, (w.agent, (w.principal, w.properties)))) (λ p. record { telling = p.0; agent = p.1.0; principal = p.1.1.0; properties = p.1.1.1 }) (λ _. refl)
 
--- what tells properties, by the same
+-- How the logic stores the state of a writer of properties, given how it stores what they are reported for.
 abbrev pub coded_writing : Coded Telling → Coded PropWriter
 coded_writing telling =
     code_by (Writer × (QuotaKnown × (List ElementTree × List ElementTree))) (coded× (coded_writer telling) (coded× (coded_option (coded_option (coded× coded_ℕ (coded_option coded_ℕ)))) (coded× (coded_list coded_tree) (coded_list coded_tree))))
