@@ -168,7 +168,7 @@ pub fn unrefused_copies_copy_all()
 
 /// A MOVE removes what is found at its destination, and brings all that is at its path or below it there, with its change numbers;
 /// nothing is left at its path or below it, and the locks at both paths and below them end. Where something isn't removed, or the store
-/// refuses to move, its reply reports that, and all but what was removed is as it was (RFC 4918, sections 7.7 and 9.9).
+/// refuses to move, its reply reports that, and all but what was removed is as it was (RFC 4918, sections 7.6 and 9.9).
 pub fn move_leaves_moved()
     ensures { MoveLeavesMoved }
 {}
