@@ -8,15 +8,17 @@ use Rattle.dav_xml.specs.Scopes.{Scope, declared_by}
 use Rattle.dav_xml.specs.Namespaces.{Expanded, namespace_of, has_attribute, are_distinct, kept_after}
 use Rattle.dav_xml.specs.Written.{scope_below, or_empty, wanted, is_in_scope, place_of}
 
--- a name without a colon ([4] NCName)
+-- A name without a colon (Namespaces in XML 1.0, [4] NCName).
 abbrev pub IsPlain : List ℕ → Type 0
 IsPlain name = plain_name name ≡ Ok name
 
--- an attribute may declare this prefix with this namespace
+-- An attribute may declare this prefix with this namespace; an empty prefix stands for names without one (Namespaces in XML 1.0,
+-- section 3).
 pub record IsDeclarable (d : List ℕ × List ℕ) : Type 0 where
   pub declared : declared_by (xmlns_name d.0, d.1) ≡ Ok (Some d)
 
--- A prefix with its namespace. A name without a prefix may have one or none, and a prefix has one.
+-- A name's prefix and namespace, as reading gives them: with a prefix it has a namespace, without one it may have one, and not an
+-- empty one (Namespaces in XML 1.0, sections 5 and 6.2).
 abbrev pub IsExpandedName : Option (List ℕ) → Option (List ℕ) → Type 0
 IsExpandedName None None = Unit {0}
 IsExpandedName None (Some []) = ⊥
@@ -24,7 +26,7 @@ IsExpandedName None (Some (b ∷ uri)) = IsDeclarable ([], b ∷ uri) × IsLegal
 IsExpandedName (Some prefix) None = ⊥
 IsExpandedName (Some prefix) (Some uri) = IsPlain prefix × (IsDeclarable (prefix, uri) × IsLegal uri)
 
--- The attributes are those that are kept of an element with that prefix and namespace, in some scope.
+-- These attributes are what is kept of some element's attributes, where the element's name has this prefix and namespace.
 pub record AreKept (prefix namespace : Option (List ℕ)) (attributes : List (List ℕ × List ℕ)) : Type 0 where
   pub scope : Scope
   pub given : List (List ℕ × List ℕ)

@@ -7,7 +7,8 @@ use Rattle.dav_xml.specs.Namespaces.{are_distinct, document}
 use Rattle.dav_xml.specs.Written.{or_empty, known, written, document_of}
 use Rattle.dav_xml.specs.Expanded.{IsPlain, IsDeclarable, IsExpandedName, AreKept, IsExpanded, IsDeclaration, IsFew, Means}
 
--- A prefix that stands without a namespace: it may be declared with the one that it is known for.
+-- A prefix that an element of a reply may have without a namespace: it may be declared with the one for which it is known
+-- (`known`; Namespaces in XML 1.0, section 3).
 pub record IsKnownPrefix (prefix : List ℕ) : Type 0 where
   pub plain : IsPlain prefix
   pub declarable : IsDeclarable (prefix, known prefix)
