@@ -91,13 +91,13 @@ known_settled s1 s2 own bs q h =
     (λ is e. ap (λ (t : Bool). uri_by t q s2) is ∙ sym (ap (λ (t : Bool). uri_by t q s1) is)) (λ other.
     by_test (has_prefix own q) (λ t. (t || has_attribute (declaring q) bs) ≡ true → uri_in s2 q ≡ uri_in s1 q) (λ is e. own_settled s1 s2 own q h.own_too is) (λ no e. h.others q e))
 
-known_more : (own : Option (List ℕ)) (xs ys : List (List ℕ × List ℕ)) (q : List ℕ) → is_known own xs q ≡ true → is_known own (xs ++ ys) q ≡ true
+pub known_more : (own : Option (List ℕ)) (xs ys : List (List ℕ × List ℕ)) (q : List ℕ) → is_known own xs q ≡ true → is_known own (xs ++ ys) q ≡ true
 known_more own xs ys q h =
     ap (λ (t : Bool). (bytes_eq q (codes "xml") || has_prefix own q) || t) (has_attribute_append (declaring q) xs ys) ∙ by_test (bytes_eq q (codes "xml") || has_prefix own q)
     (λ t. (t || has_attribute (declaring q) xs) ≡ true → (t || (has_attribute (declaring q) xs || has_attribute (declaring q) ys)) ≡ true) (λ e k. refl)
     (λ e k. ap (λ (t : Bool). t || has_attribute (declaring q) ys) k) h
 
-declared_known : (own : Option (List ℕ)) (xs : List (List ℕ × List ℕ)) (q uri : List ℕ) → is_known own (xs ++ (declaring q, uri) ∷ []) q ≡ true
+pub declared_known : (own : Option (List ℕ)) (xs : List (List ℕ × List ℕ)) (q uri : List ℕ) → is_known own (xs ++ (declaring q, uri) ∷ []) q ≡ true
 declared_known own xs q uri =
     ap (λ (t : Bool). (bytes_eq q (codes "xml") || has_prefix own q) || t) (has_attribute_append (declaring q) xs ((declaring q, uri) ∷ []) ∙ ap (λ (t : Bool). has_attribute (declaring q) xs || (t || false)) (same_bytes (declaring q)) ∙ or_true (has_attribute (declaring q) xs))
     ∙ or_true (bytes_eq q (codes "xml") || has_prefix own q)
@@ -108,16 +108,16 @@ declared_known own xs q uri =
 
 -- ---- one step
 
-abbrev go : Scope → Option (List ℕ) → List (List ℕ × List ℕ) → Kept → Result Kept Fault
+abbrev pub go : Scope → Option (List ℕ) → List (List ℕ × List ℕ) → Kept → Result Kept Fault
 go s own rest more = kept_after s own more rest
 
-plain_step : (s : Scope) (own : Option (List ℕ)) (kept : Kept) (a : List ℕ × List ℕ) (local : List ℕ) (rest : List (List ℕ × List ℕ)) → declared_by a ≡ Ok None → qualified a.0 ≡ Ok (None, local)
+pub plain_step : (s : Scope) (own : Option (List ℕ)) (kept : Kept) (a : List ℕ × List ℕ) (local : List ℕ) (rest : List (List ℕ × List ℕ)) → declared_by a ≡ Ok None → qualified a.0 ≡ Ok (None, local)
     → kept_after s own kept (a ∷ rest) ≡ kept_after s own (kept.0 ++ a ∷ [], kept.1) rest
 plain_step s own kept a local rest e is =
     ap (λ (r : Result (Option (List ℕ × List ℕ)) Fault). (r >>= kept_unless s own kept a) >>= go s own rest) e
     ∙ ap (λ (r : Result (Option (List ℕ) × List ℕ) Fault). (r >>= kept_as s own kept a) >>= go s own rest) is
 
-prefixed_step : (s : Scope) (own : Option (List ℕ)) (kept : Kept) (a : List ℕ × List ℕ) (q local uri : List ℕ) (rest : List (List ℕ × List ℕ)) → declared_by a ≡ Ok None → qualified a.0 ≡ Ok (Some q, local)
+pub prefixed_step : (s : Scope) (own : Option (List ℕ)) (kept : Kept) (a : List ℕ × List ℕ) (q local uri : List ℕ) (rest : List (List ℕ × List ℕ)) → declared_by a ≡ Ok None → qualified a.0 ≡ Ok (Some q, local)
     → uri_in s q ≡ Ok uri → has_expanded (uri, local) kept.1 ≡ false → kept_after s own kept (a ∷ rest) ≡ kept_after s own (again own (kept.0 ++ a ∷ []) q uri, kept.1 ++ (uri, local) ∷ []) rest
 prefixed_step s own kept a q local uri rest e is found new =
     ap (λ (r : Result (Option (List ℕ × List ℕ)) Fault). (r >>= kept_unless s own kept a) >>= go s own rest) e

@@ -32,3 +32,4 @@ pub mod NestedLegal
 pub mod ReadLegal
 pub mod SentTrees
 pub mod SentPrefixed
+pub mod PrefixedKept

@@ -41,7 +41,7 @@ opened_more [] scope o uri = ap (λ (p : Option (List ℕ)). with_prefix scope u
 opened_more (a ∷ bs) scope o uri = opened_more bs (with_prefix scope a.1 (declared_prefix a.0)) o uri
 
 -- where a prefix is declared by the attributes, or was so before, it has the namespace that it had
-settled : (s : Scope) (own : Option (List ℕ)) (bs : List (List ℕ × List ℕ)) (q : List ℕ) (scope : Scope) → AllByRecursion (IsGood s own) bs
+pub settled : (s : Scope) (own : Option (List ℕ)) (bs : List (List ℕ × List ℕ)) (q : List ℕ) (scope : Scope) → AllByRecursion (IsGood s own) bs
     → (has_attribute (declaring q) bs ≡ true) ⊎ (uri_of q scope ≡ uri_of q s) → uri_of q (scope_below scope bs) ≡ uri_of q s
 settled s own [] q scope h (inl e) = absurd cc
 settled s own [] q scope h (inr e) = e

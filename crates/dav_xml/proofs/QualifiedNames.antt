@@ -45,6 +45,7 @@ pub record OfQualified (name : List ℕ) (parts : Option (List ℕ) × List ℕ)
   pub legal : IsLegalName name
   pub prefix_plain : (p : List ℕ) → parts.0 ≡ Some p → IsPlain p
   pub local_plain : IsPlain parts.1
+  pub spelled : (p : List ℕ) → parts.0 ≡ Some p → name ≡ p ++ 58 ∷ parts.1
 
 abbrev parts_of : Option (List ℕ) × List ℕ → Result (Option (List ℕ) × List ℕ) Fault → Option (List ℕ) × List ℕ
 parts_of other (Ok p) = p
@@ -54,7 +55,7 @@ without : (name : List ℕ) (parts : Option (List ℕ) × List ℕ) (r : Result 
 without name parts (Err f) is h = absurd cc
 without name parts (Ok local) is h =
     let same : (None, local) ≡ parts = ap (parts_of parts) h in
-    subst (OfQualified name) same (record { legal = (of_plain name (ap plain_name (sym (plain_same name local is)) ∙ plain_is name local is ∙ ap (λ (x : List ℕ). Ok x) (plain_same name local is))).legal; prefix_plain = λ p e. absurd cc; local_plain = plain_is name local is })
+    subst (OfQualified name) same (record { legal = (of_plain name (ap plain_name (sym (plain_same name local is)) ∙ plain_is name local is ∙ ap (λ (x : List ℕ). Ok x) (plain_same name local is))).legal; prefix_plain = λ p e. absurd cc; local_plain = plain_is name local is; spelled = λ p e. absurd cc })
 
 abbrev joined : List ℕ → List ℕ → List ℕ
 joined prefix local = prefix ++ 58 ∷ local
@@ -70,6 +71,7 @@ with_local name prefix p parts e is (Ok local) is1 h =
       legal = subst IsLegalName text (name_behind prefix local front (plain_is p.1 local is1));
       prefix_plain = λ q k. let also : prefix ≡ q = cc in subst IsPlain also front;
       local_plain = plain_is p.1 local is1;
+      spelled = λ q k. let also : prefix ≡ q = cc in subst (λ (x : List ℕ). name ≡ x ++ 58 ∷ local) also (sym text);
     })
 
 with_prefix : (name : List ℕ) (p : List ℕ × List ℕ) (parts : Option (List ℕ) × List ℕ) → joined p.0 p.1 ≡ name → (r : Result (List ℕ) Fault) → plain_name p.0 ≡ r

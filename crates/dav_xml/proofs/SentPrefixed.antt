@@ -1,5 +1,5 @@
 -- An element that may be sent may be sent under another prefix.
-use Rattle.std.proofs.Common.{◌≡◌, ℕ, Bool, true, false, cond, not, ◌&&◌, ◌||◌, List, [], ◌∷◌, ◌++◌, codes, bytes_eq, Option, Some, None, Result, Ok, Err, refl, sym, ap, subst, ◌∙◌}
+use Rattle.std.proofs.Common.{◌≡◌, ℕ, Bool, true, false, cond, not, ◌||◌, List, [], ◌∷◌, ◌++◌, codes, bytes_eq, Option, Some, None, Result, Ok, Err, refl, sym, ap, subst, ◌∙◌}
 use Rattle.std.proofs.lemmas.Bool.{and_parts, and_from, or_parts}
 use Rattle.std.specs.List.{AllByRecursion}
 use Rattle.dav_core.specs.Element.{ElementTree, element, text, prefix_of, namespace_of, xmlns_name}
@@ -13,7 +13,7 @@ use Rattle.dav_xml.specs.Namespaces.{declared_uri, namespace_of as uri_named, ha
 use Rattle.dav_xml.specs.Written.{or_empty, known}
 use Rattle.dav_xml.specs.Expanded.{IsPlain, IsDeclarable, IsExpandedName, AreKept, IsDeclaration}
 use Rattle.dav_xml.specs.Sendable.{IsKnownPrefix, IsSendableAs, as_read, own_declared, known_prefix, IsSendable}
-use Rattle.dav_xml.specs.Prefixed.{is_under, not_under, own_declaration, namespace_under, scope_under, kept_under, attributes_or_none, renamed, under_prefix, PrefixedIsSendable}
+use Rattle.dav_xml.specs.Prefixed.{is_under, not_under, own_declaration, namespace_under, scope_under, kept_under, attributes_or_none, renamed, PrefixedIsSendable}
 use Rattle.dav_xml.proofs.Escapes.{by_test}
 use Rattle.dav_xml.proofs.Legal.{legal_utf8}
 use Rattle.dav_xml.proofs.LegalTrees.{legal_word}
@@ -139,7 +139,7 @@ apart : (d : List ℕ × List ℕ) → refused ≡ Ok (Some d) → ⊥
 apart d e = absurd cc
 
 -- no namespace but its own may be declared for `xml`
-not_xml : (prefix : List ℕ) → IsKnownPrefix prefix → bytes_eq prefix (codes "xml") ≡ false
+pub not_xml : (prefix : List ℕ) → IsKnownPrefix prefix → bytes_eq prefix (codes "xml") ≡ false
 not_xml prefix k = by_test (bytes_eq prefix (codes "xml")) (λ t. bytes_eq prefix (codes "xml") ≡ t → bytes_eq prefix (codes "xml") ≡ false)
     (λ is e. absurd (never (subst (λ (p : List ℕ). IsDeclarable (p, known p)) (bytes_same prefix (codes "xml") is) k.declarable))) (λ other e. e) refl
   where

@@ -1,18 +1,18 @@
 -- A tree that may be sent means a tree.
-use Rattle.std.proofs.Common.{◌≡◌, ℕ, zero, suc, max, ◌≤◌, Bool, true, false, cond, ◌||◌, ◌⊎◌, inl, inr, List, [], ◌∷◌, ◌++◌, ◌==◌, length, bytes_eq, Option, Some, None, Result, Ok, refl, sym, ap, subst, ◌∙◌, arith}
+use Rattle.std.proofs.Common.{◌≡◌, ℕ, zero, suc, max, ◌≤◌, Bool, true, false, cond, ◌||◌, ◌⊎◌, inl, inr, List, [], ◌∷◌, ◌++◌, ◌==◌, length, bytes_eq, Option, Some, None, refl, sym, ap, subst, ◌∙◌, arith}
 use Rattle.std.specs.List.{AllByRecursion}
 use Rattle.dav_core.specs.Element.{ElementTree, ElementTrees, element, text, no_trees, tree_then, xmlns_name, depth_of, depth_among}
 use Rattle.dav_xml.specs.Legal.{IsLegal, IsLegalAttribute}
 use Rattle.dav_xml.specs.Scopes.{Scope, uri_after, uri_of, declared_by}
 use Rattle.dav_xml.specs.Namespaces.{has_attribute, are_distinct}
 use Rattle.dav_xml.specs.Written.{declared_prefix, with_prefix, scope_below, or_empty, known, uri_or, wanted, is_in_scope, has_uri, placed, place_of, declared_too}
-use Rattle.dav_xml.specs.Expanded.{IsPlain, IsDeclarable, IsExpandedName, AreKept, IsExpanded, AreExpanded, IsDeclaration, AreDeclarations, none_kept, ElementMeans, Means, AllMean}
-use Rattle.dav_xml.specs.Sendable.{IsKnownPrefix, IsSendableAs, as_read, own_declared, known_prefix, IsSendable, AreSendable, IsReadAgain, SendableIsRead, ExpandedIsSendable, ReadIsSendable}
+use Rattle.dav_xml.specs.Expanded.{IsPlain, IsDeclarable, IsExpandedName, AreKept, AreExpanded, IsDeclaration, none_kept, ElementMeans, Means, AllMean}
+use Rattle.dav_xml.specs.Sendable.{IsKnownPrefix, IsSendableAs, as_read, own_declared, known_prefix, IsSendable, AreSendable, SendableIsRead, ExpandedIsSendable, ReadIsSendable}
 use Rattle.dav_xml.proofs.Escapes.{by_test}
 use Rattle.dav_xml.proofs.Nested.{same_bytes}
 use Rattle.dav_xml.proofs.LegalTrees.{legal_nil}
-use Rattle.dav_xml.proofs.Declared.{nonempty, bytes_same, bytes_other, uri_here, uri_there, prefix_declares}
-use Rattle.dav_xml.proofs.KeptAgain.{IsGood, plainly, declares_one, GoesOn, goes_on}
+use Rattle.dav_xml.proofs.Declared.{nonempty, bytes_same, uri_here, uri_there, prefix_declares}
+use Rattle.dav_xml.proofs.KeptAgain.{IsGood, plainly, declares_one, goes_on}
 use Rattle.dav_xml.proofs.PlacedAgain.{found_there, all_more}
 use Rattle.dav_xml.proofs.PlainNames.{declaring_name}
 use Rattle.dav_xml.proofs.ReadAgain.{read_is_expanded}

@@ -1,12 +1,14 @@
 -- An element under another prefix (Namespaces in XML 1.0, sections 3 to 6).
-use Rattle.std.specs.Prelude.{ℕ, Bool, false, ◌==◌, if◌then◌else◌, List, [], ◌∷◌, ◌++◌, Option, Some, None, Result, Ok, Err}
-use Rattle.dav_core.specs.Element.{ElementTree, element, text, prefix_of, namespace_of}
+use Rattle.std.specs.Prelude.{◌≡◌, ℕ, Bool, false, ◌==◌, if◌then◌else◌, List, [], ◌∷◌, ◌++◌, Option, Some, None, Result, Ok, Err}
+use Rattle.std.specs.Option.{is_some}
+use Rattle.dav_core.specs.Element.{ElementTree, element, text, attributes_of, prefix_of, namespace_of}
 use Rattle.dav_xml.specs.declared.error.Fault.{Fault}
 use Rattle.dav_xml.specs.Read.{◌>>=◌}
 use Rattle.dav_xml.specs.Bytes.{after_text}
 use Rattle.dav_xml.specs.Scopes.{Scope, may_declare}
 use Rattle.dav_xml.specs.Namespaces.{has_prefix, Kept, within, kept_after}
-use Rattle.dav_xml.specs.Written.{known}
+use Rattle.dav_xml.specs.Written.{declared_prefix, known}
+use Rattle.dav_xml.specs.Expanded.{IsExpanded}
 use Rattle.dav_xml.specs.Sendable.{IsKnownPrefix, IsSendable}
 
 -- whether a text is there that begins with a colon
@@ -45,7 +47,7 @@ abbrev pub kept_under : List ℕ → List ℕ → Option (List ℕ) → Option (
 kept_under prefix uri own namespace attributes =
     within [] attributes >>= λ scope. kept_after (scope_under prefix uri own namespace scope) (Some prefix) ([], []) (not_under prefix attributes)
 
--- the attributes that are kept; none where those given are none of an element that was read
+-- the attributes that are kept; none where there is a fault, which none of an element that was read has (law `others_are_kept`)
 abbrev pub attributes_or_none : Result Kept Fault → List (List ℕ × List ℕ)
 attributes_or_none (Ok kept) = kept.0
 attributes_or_none (Err fault) = []
@@ -59,6 +61,18 @@ renamed prefix uri (text bytes) = text bytes
 -- An element with that prefix: as it is where it has that one, else with a namespace that the prefix may have. Of a text, itself.
 abbrev pub under_prefix : List ℕ → ElementTree → ElementTree
 under_prefix prefix e = if has_prefix (prefix_of e) prefix then e else renamed prefix (namespace_under prefix (namespace_of e)) e
+
+-- the attributes that declare no prefix, in order
+abbrev pub undeclaring : List (List ℕ × List ℕ) → List (List ℕ × List ℕ)
+undeclaring [] = []
+undeclaring (a ∷ others) = if is_some (declared_prefix a.0) then undeclaring others else a ∷ undeclaring others
+
+-- Under another prefix an element that was read keeps all attributes but declarations, in order and with their values, but for those
+-- under that prefix.
+abbrev pub OthersAreKept : Type 0
+OthersAreKept =
+    (prefix : List ℕ) (n : ℕ) (e : ElementTree) → IsKnownPrefix prefix → IsExpanded n e → has_prefix (prefix_of e) prefix ≡ false
+    → undeclaring (attributes_of (under_prefix prefix e)) ≡ not_under prefix (undeclaring (attributes_of e))
 
 -- An element that may be sent may be sent under any prefix that is known for a namespace.
 abbrev pub PrefixedIsSendable : Type 0

@@ -12,7 +12,7 @@ ghost use Rattle.dav_xml.specs.Namespaces.{document};
 ghost use Rattle.dav_xml.specs.Scopes.{Scope, uri_of};
 ghost use Rattle.dav_xml.specs.Expanded.{AllMean, IsExpanded, IsFew, IsPlain, Means};
 ghost use Rattle.dav_xml.specs.Legal.{HasLegal, HasLegalTexts};
-ghost use Rattle.dav_xml.specs.Prefixed.{PrefixedIsSendable};
+ghost use Rattle.dav_xml.specs.Prefixed.{OthersAreKept, PrefixedIsSendable};
 ghost use Rattle.dav_xml.specs.Sendable.{ExpandedIsSendable, ReadIsSendable, SendableIsRead};
 
 /// Pieces of markup that are written are read again.
@@ -114,4 +114,11 @@ pub fn expanded_is_sendable()
 #[tactic(auto, using(crate::proofs::SentPrefixed::prefixed_is_sendable))]
 pub fn prefixed_is_sendable()
     ensures { PrefixedIsSendable }
+{}
+
+/// An element that was read keeps under another prefix each attribute that is no declaration, in order and with its value, but for
+/// those under that prefix.
+#[tactic(auto, using(crate::proofs::PrefixedKept::others_are_kept))]
+pub fn others_are_kept()
+    ensures { OthersAreKept }
 {}
