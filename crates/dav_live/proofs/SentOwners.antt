@@ -3,6 +3,7 @@ use Rattle.std.proofs.Common.{◌≡◌, ℕ, Bool, true, false, cond, List, [],
 use Rattle.std.specs.List.{AllByRecursion, filter, last_or}
 use Rattle.std.specs.Option.{option_map}
 use Rattle.dav_core.specs.Element.{ElementTree, ElementTrees, element, text, no_trees, tree_then, tree_list, trees, is_element, is_named, attributes_of, child_elements, namespace_of}
+use Rattle.dav_core.proofs.ElementLemmas.{tree_list_trees}
 use Rattle.dav_engine.specs.declared.request.Body.TheVariants as body
 use Rattle.dav_engine.specs.LockInfo.{LockInfo, is_owner, is_lock_info, last_scope, last_owner, with_dav_prefix, asked_by, lock_info}
 use Rattle.dav_xml.specs.Expanded.{AreKept}
@@ -146,3 +147,10 @@ pub told_owners_may_be_sent : ToldOwnersMayBeSent
 told_owners_may_be_sent tree h =
     let told = tree_told tree h in
     body_sendable (told_owners tree) told (each_ready (child_elements (told_owners tree)) (children_sendable (told_owners tree) told) (children_ready tree))
+
+-- ---- code
+
+pub told_is : (tree : ElementTree) (m : List ℕ) (p s : Option (List ℕ)) (a : List (List ℕ × List ℕ)) (children told : List ElementTree) → element m p s a (trees children) ≡ tree → told ≡ map told_child children
+    → element m p s a (trees told) ≡ told_owners tree
+told_is tree m p s a children told e is =
+    ap (λ (ts : List ElementTree). element m p s a (trees ts)) (is ∙ ap (map told_child) (sym (tree_list_trees children))) ∙ ap told_owners e

@@ -26,12 +26,15 @@ bytes_printed : (bs : List ℕ) → All IsTokenByte bs → list_all (λ b. nat_l
 bytes_printed [] h = refl
 bytes_printed (b ∷ bs) h =
     let one = All-head IsTokenByte b bs h in
-    and_from (nat_le 32 b && nat_le b 126) (list_all (λ b. nat_le 32 b && nat_le b 126) bs) (byte_printed b one.0 one.1.0) (bytes_printed bs (All-tail IsTokenByte b bs h))
+    and_from (nat_le 32 b && nat_le b 126) (list_all (λ b. nat_le 32 b && nat_le b 126) bs) (byte_printed b one.0 one.1) (bytes_printed bs (All-tail IsTokenByte b bs h))
 
 some_byte : (bs : List ℕ) → (bs ≡ [] → ⊥) → is_nonempty bs ≡ true
 some_byte [] n = absurd (n refl)
 some_byte (b ∷ bs) n = refl
 
--- a token that a lock can be granted with
-pub granted_token : (token : List ℕ) → IsGrantToken token → IsSendableText token
-granted_token token h = record { some = some_byte token h.0; legal = printed_legal token (record { all = bytes_printed token h.1.0 }) }
+granted_token : (token : List ℕ) → IsGrantToken token → IsSendableText token
+granted_token token h = record { some = some_byte token h.0; legal = printed_legal token (record { all = bytes_printed token h.1 }) }
+
+-- the token of a text that a lock can be granted with
+pub given_token : (text token : List ℕ) → IsGrantToken text × (token ≡ text) → IsSendableText token
+given_token text token h = subst IsSendableText (sym h.1) (granted_token text h.0)

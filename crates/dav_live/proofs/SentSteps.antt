@@ -1,5 +1,5 @@
 -- The tree of each reply is read again.
-use Rattle.std.proofs.Common.{◌≡◌, ◌≢◌, ◌⊎◌, ℕ, ◌≤◌, nat_lt, Bool, true, false, cond, List, [], ◌∷◌, ◌++◌, All, Option, Some, None, Result, Ok, Err, inl, inr, refl, sym, ap, subst}
+use Rattle.std.proofs.Common.{◌≡◌, ◌≢◌, ◌⊎◌, ℕ, ◌≤◌, nat_lt, arith, Bool, true, false, cond, List, [], ◌∷◌, ◌++◌, All, Option, Some, None, Result, Ok, Err, inl, inr, refl, sym, ap, subst}
 use Rattle.std.specs.Prelude.{IfOk}
 use Rattle.std.specs.List.{AllByRecursion}
 use Rattle.std.proofs.lemmas.List.Elements.{All-head, All-tail}
@@ -14,6 +14,7 @@ use Rattle.dav_core.specs.Element.{ElementTree, depth_of}
 use Rattle.dav_core.specs.Path.{PathText, names, IsCut, at_start, at_slash, at_end, path_bytes, is_nonempty, without_slash}
 use Rattle.dav_core.specs.Target.{Reads}
 use Rattle.dav_core.specs.World.{World, IsWorld, last_moment, empty_from}
+use Rattle.dav_core.proofs.Theorems.{empty_is_world}
 use Rattle.dav_engine.specs.declared.reply.ReplyBody.{ReplyBody}
 use Rattle.dav_engine.specs.declared.reply.ReplyBody.TheVariants as reply
 use Rattle.dav_engine.specs.declared.request.Body.{Body}
@@ -25,7 +26,7 @@ use Rattle.dav_engine.specs.Headers.{Headers}
 use Rattle.dav_engine.specs.Lock.{is_lock}
 use Rattle.dav_engine.specs.Method.{MethodPlan}
 use Rattle.dav_engine.specs.Mkcol.{is_mkcol}
-use Rattle.dav_engine.specs.Plan.{Locks}
+use Rattle.dav_engine.specs.Plan.{Locks, ServerState}
 use Rattle.dav_engine.specs.PlanLaws.{ample}
 use Rattle.dav_engine.specs.Propfind.{is_propfind}
 use Rattle.dav_engine.specs.Proppatch.{is_proppatch}
@@ -34,7 +35,7 @@ use Rattle.dav_engine.specs.Reply.{Reply, reply_to}
 use Rattle.dav_engine.specs.Unlock.{is_unlock}
 use Rattle.dav_engine.proofs.Theorems.{proper_keeps}
 use Rattle.dav_server.specs.Get.{IsGet, is_get}
-use Rattle.dav_server.specs.Machine.{Settings, Exchange, Taken, TakesBytes, TakesTree, TakesNone, given_tree, body_for, taken_by, caller, PlanOf, gets, heads, puts, patches, makes, deletes, copies, moves, offers, finds_properties, sets_properties, locks, releases, MeansOf, not_allowed, no_path, no_body, method, Means, no_head, no_method, known, Steps, steps}
+use Rattle.dav_server.specs.Machine.{Settings, Exchange, Taken, TakesBytes, TakesTree, TakesNone, given_tree, body_for, taken_by, caller, PlanOf, gets, heads, puts, patches, makes, deletes, copies, moves, offers, finds_properties, sets_properties, locks, releases, MeansOf, not_allowed, no_path, no_body, method, Means, no_head, no_method, known, Steps, StepCut, steps}
 use Rattle.dav_server.specs.Run.{Turn, begun, Runs, no_more, one_more}
 use Rattle.dav_server.specs.TagLaws.{MomentsAreDates}
 use Rattle.dav_server.specs.Target.{TargetNames, server, path}
@@ -44,7 +45,7 @@ use Rattle.dav_server.proofs.MeansWorld.{means_proper, begun_world}
 use Rattle.dav_xml.specs.Sendable.{IsSendable}
 use Rattle.dav_xml.proofs.SentTrees.{sendable_is_read}
 use Rattle.dav_live.specs.Sent.{IsSendableTextIfAny, KeepsSendable, AreSendableLocks, IsSendableBody, HoldsSendable, IsReadByClient}
-use Rattle.dav_live.specs.SentLaws.{IsSendableRequest, IsSendableState, NewIsSendable, StepsAreReadAgain, RunsAreReadAgain, CutsStaySendable}
+use Rattle.dav_live.specs.SentLaws.{IsSendableRequest, IsSendableServer, IsSendableState, NewIsSendable, StepsAreReadAgain, RunsAreReadAgain, CutsStaySendable}
 use Rattle.dav_live.proofs.SentFinds.{IsSent, propfind_sends}
 use Rattle.dav_live.proofs.SentLocks.{lock_sends, unlock_sends}
 use Rattle.dav_live.proofs.SentNames.{HasPath}
@@ -191,3 +192,28 @@ cuts_stay_sendable s x old new ls ms world small h state short = elim (cuts_are_
     by : (ks : Locks) → IsSendableState (ample new.world []) ks → (ms ≡ ls) ⊎ (ms ≡ ks) → IsSendableState new ms
     by ks done (inl same) = record { keeps = done.keeps; holds = subst AreSendableLocks (sym same) state.holds }
     by ks done (inr same) = record { keeps = done.keeps; holds = subst AreSendableLocks (sym same) done.holds }
+
+-- ---- servers
+
+pub server_answers : (s : Settings) (x : Exchange) (old new : ServerState) (r : Reply) → IsSendableServer old → x.moment ≤ last_moment → IsSendableRequest x → Steps s x old.store old.locks r new.store new.locks
+    → IsReadByClient r.body × IsSendableServer new
+server_answers s x old new r o small h step =
+    let done = stepped s x old.store new.store old.locks new.locks r o.world small h o.state step in
+    (done.read, record { world = done.world; state = done.state })
+
+pub server_stops : (s : Settings) (x : Exchange) (old new : ServerState) → IsSendableServer old → x.moment ≤ last_moment → IsSendableRequest x → StepCut s x old.store old.locks new.store new.locks → IsSendableServer new
+server_stops s x old new o small h short = record {
+  world = elim (cuts_are_like_steps cuts_are_like_refusals s x old.store new.store old.locks new.locks short) as (λ _. IsWorld new.store.world) [
+    | inl same ↦ subst (λ (store : StoreState). IsWorld store.world) (sym same.0) o.world
+    | inr like ↦
+        let at : IsSendableState (ample old.store.world like.0) old.locks = record { keeps = o.state.keeps; holds = o.state.holds } in
+        (stepped s x (ample old.store.world like.0) (ample new.store.world []) old.locks like.2 like.1 o.world small h at like.3).world
+  ];
+  state = cuts_stay_sendable s x old.store new.store old.locks new.locks o.world small h o.state short;
+}
+
+pub new_server : (store : StoreState) (locks : Locks) → store.world ≡ empty_from 1 → locks ≡ Some [] → IsSendableServer (record { store = store; locks = locks })
+new_server store locks is none = record {
+  world = subst IsWorld (sym is) (empty_is_world 1 (omega arith) (omega arith));
+  state = subst (λ (ls : Locks). IsSendableState store ls) (sym none) (new_is_sendable 1 store is).0;
+}

@@ -5,7 +5,7 @@ use Rattle.dav_core.specs.Element.{ElementTree, child_elements}
 use Rattle.dav_core.specs.Asking.{StoreState}
 use Rattle.dav_core.specs.World.{IsWorld, last_moment, empty_from}
 use Rattle.dav_engine.specs.declared.request.Body.TheVariants as body
-use Rattle.dav_engine.specs.Plan.{Locks}
+use Rattle.dav_engine.specs.Plan.{Locks, ServerState}
 use Rattle.dav_engine.specs.Reply.{Reply}
 use Rattle.dav_server.specs.Machine.{Exchange, Settings, Steps, StepCut}
 use Rattle.dav_server.specs.Run.{Turn, Runs}
@@ -24,6 +24,11 @@ pub record IsSendableRequest (x : Exchange) : Type 0 where
 pub record IsSendableState (store : StoreState) (locks : Locks) : Type 0 where
   pub keeps : KeepsSendable store.world
   pub holds : AreSendableLocks locks
+
+-- A server whose store holds a world, and all that its store keeps and its list of locks holds may be sent.
+pub record IsSendableServer (s : ServerState) : Type 0 where
+  pub world : IsWorld s.store.world
+  pub state : IsSendableState s.store s.locks
 
 -- A new server keeps nothing that may not be sent.
 abbrev pub NewIsSendable : Type 0

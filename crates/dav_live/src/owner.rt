@@ -1,5 +1,5 @@
 //! The owner of a lock, made ready to be told (RFC 4918, section 14.17).
-ghost use Rattle.std.specs.Prelude.{◌≡◌, IfOk};
+ghost use Rattle.std.specs.Prelude.{◌≡◌, map, IfOk};
 ghost use Rattle.dav_core.specs.ElementView.{node_tree};
 ghost use Rattle.dav_live.specs.Owners.{told_child, told_owners};
 
@@ -23,8 +23,21 @@ fn child_told(alloc: Global, child: XmlNode) -> Result<XmlNode, AllocError>
     }
 }
 
+// The children of the body, each owner with the prefix `D`.
+fn children_told(alloc: Global, children: Vec<XmlNode>) -> Result<Vec<XmlNode>, AllocError>
+    ensures { IfOk result (λ v. map node_tree v.items
+        ≡ map told_child (map node_tree children.items)) }
+{
+    let mut told = Vec::new(alloc);
+    for child in children {
+        told.push(child_told(alloc, child)?)?;
+    }
+    Ok(told)
+}
+
 /// A body of which each owner has the prefix `D`, with which the list of locks keeps it. Without this an attribute under
 /// the owner's own prefix would be told under one that nothing declares, and no reply that tells of the lock could be read.
+#[tactic(auto, using(crate::proofs::SentOwners::told_is))]
 pub fn with_told_owners(alloc: Global, tree: Element) -> Result<Element, AllocError>
     ensures { IfOk result (λ t. t ≡ told_owners tree) }
 {
@@ -35,15 +48,12 @@ pub fn with_told_owners(alloc: Global, tree: Element) -> Result<Element, AllocEr
         attributes,
         children,
     } = tree;
-    let mut told = Vec::new(alloc);
-    for child in children {
-        told.push(child_told(alloc, child)?)?;
-    }
+    let children = children_told(alloc, children)?;
     Ok(Element {
         name,
         prefix,
         namespace,
         attributes,
-        children: told,
+        children,
     })
 }

@@ -1,7 +1,8 @@
 //! What answers the requests of all connections, and keeps those that may change something.
-ghost use Rattle.std.specs.Prelude.{IfOk, option_copied};
-ghost use Rattle.dav_live.specs.Sent.{IsSendableBody, IsSendableTextIfAny};
-ghost use Rattle.dav_live.specs.SentLaws.{IsSendableRequest};
+ghost use Rattle.std.specs.Prelude.{◌≡◌, ◌≤◌, IfOk};
+ghost use Rattle.dav_core.specs.World.{last_moment};
+ghost use Rattle.dav_live.specs.Sent.{IsReadByClient, IsSendableBody, IsSendableTextIfAny};
+ghost use Rattle.dav_live.specs.SentLaws.{IsSendableRequest, IsSendableServer};
 
 use crate::basic::credentials_of;
 use crate::fault::{Fault, OpenError};
@@ -56,7 +57,9 @@ pub struct Service<D: Disk> {
 }
 
 // The handler of an empty store.
-fn new_handler(alloc: Global, prefix: &str) -> Result<DavHandler<MemFs, MemLs>, OpenError> {
+fn new_handler(alloc: Global, prefix: &str) -> Result<DavHandler<MemFs, MemLs>, OpenError>
+    ensures { IfOk result (λ h. IsSendableServer h.server.state) }
+{
     let fs = MemFs::new(alloc)?;
     let ls = MemLs::new(alloc)?;
     match DavHandler::new(alloc, prefix, DavMethodSet::all(), fs, Some(ls)) {
@@ -87,18 +90,22 @@ fn body_of(alloc: Global, method: &[u8], body: Bytes) -> Result<Body, AllocError
 fn token_of(alloc: Global, text: Option<&str>) -> Option<GrantToken>
     ensures { IsSendableTextIfAny result }
 {
-    GrantToken::new(alloc, text?).ok()
+    match GrantToken::new(alloc, text?) {
+        Ok(token) => Some(token),
+        Err(_) => None,
+    }
 }
 
 // A request as the handler takes it.
-fn exchange_of<'r>(alloc: Global, record: &Record<'r>, body: Bytes) -> Result<Exchange<'r>, Stop>
-    ensures { IsSendableTextIfAny (option_copied record.now.principal)
+fn exchange_of<'r>(alloc: Global, said: &Record<'r>, body: Bytes) -> Result<Exchange<'r>, Stop>
+    ensures moment { IfOk result (λ x. x.moment ≤ last_moment) }
+    ensures sendable { IsSendableTextIfAny said.now.principal
         → IfOk result IsSendableRequest }
 {
-    let body = body_of(alloc, method_of(record.head), body)?;
-    let token = token_of(alloc, record.token);
-    let moment = record.moment.min(LAST_MOMENT);
-    match Exchange::new(record.head, body, record.principal, moment, token) {
+    let body = body_of(alloc, method_of(said.head), body)?;
+    let token = token_of(alloc, said.token);
+    let moment = said.moment.min(LAST_MOMENT);
+    match Exchange::new(said.head, body, said.principal, moment, token) {
         Ok(exchange) => Ok(exchange),
         Err(_) => Err(Stop),
     }
@@ -198,18 +205,28 @@ impl<D: Disk + Drop> Service<D> {
         }
     }
 
-    // Hands a request to the handler, and notes when the locks of which it tells end.
-    fn run(&mut self, record: &Record<'_>, body: Bytes) -> Result<Reply, Stop> {
-        let exchange = exchange_of(self.alloc, record, body)?;
+    // Hands a request to the handler, and notes when the locks of which it tells end. What the client is told in XML it can read.
+    fn run(&mut self, said: &Record<'_>, body: Bytes) -> Result<Reply, Stop>
+        ensures { IsSendableTextIfAny said.now.principal
+            → IsSendableServer self.old.handler.server.state
+            → IfOk result (λ reply. IsReadByClient reply.body)
+            × IsSendableServer self.new.handler.server.state }
+    {
+        let exchange = exchange_of(self.alloc, said, body)?;
         let reply = self.handle(&exchange)?;
-        if is_lock(method_of(record.head)) {
-            self.note_locks(&reply, record.moment)?;
+        if is_lock(method_of(said.head)) {
+            self.note_locks(&reply, said.moment)?;
         }
         Ok(reply)
     }
 
     // The reply of the handler, whose store had memory for all that it did.
-    fn handle(&mut self, exchange: &Exchange<'_>) -> Result<Reply, Stop> {
+    fn handle(&mut self, exchange: &Exchange<'_>) -> Result<Reply, Stop>
+        ensures { exchange.now.moment ≤ last_moment → IsSendableRequest exchange.now
+            → IsSendableServer self.old.handler.server.state
+            → IfOk result (λ reply. IsReadByClient reply.body)
+            × IsSendableServer self.new.handler.server.state }
+    {
         match self.handler.handle(self.alloc, exchange) {
             Ok(reply) if !self.handler.fs().was_short() => Ok(reply),
             _ => Err(Stop),
@@ -217,7 +234,9 @@ impl<D: Disk + Drop> Service<D> {
     }
 
     // Notes when the locks of which a reply tells end.
-    fn note_locks(&mut self, reply: &Reply, moment: u64) -> Result<(), Stop> {
+    fn note_locks(&mut self, reply: &Reply, moment: u64) -> Result<(), Stop>
+        ensures { self.new.handler ≡ self.old.handler }
+    {
         match &reply.body {
             ReplyBody::Tree(tree) => Ok(note_locks(self.alloc, &mut self.leases, tree, moment)?),
             _ => Ok(()),
