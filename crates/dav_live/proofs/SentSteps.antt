@@ -212,8 +212,8 @@ server_stops s x old new o small h short = record {
   state = cuts_stay_sendable s x old.store new.store old.locks new.locks o.world small h o.state short;
 }
 
-pub new_server : (store : StoreState) (locks : Locks) → store.world ≡ empty_from 1 → locks ≡ Some [] → IsSendableServer (record { store = store; locks = locks })
-new_server store locks is none = record {
+pub new_server : (store : StoreState) (ls : Locks) → store.world ≡ empty_from 1 → ls ≡ Some [] → IsSendableServer (record { store = store; locks = ls })
+new_server store ls is none = record {
   world = subst IsWorld (sym is) (empty_is_world 1 (omega arith) (omega arith));
-  state = subst (λ (ls : Locks). IsSendableState store ls) (sym none) (new_is_sendable 1 store is).0;
+  state = subst (λ (l : Locks). IsSendableState store l) (sym none) (new_is_sendable 1 store is).0;
 }

@@ -214,6 +214,14 @@ impl<D: Disk + Drop> Service<D> {
     {
         let exchange = exchange_of(self.alloc, said, body)?;
         let reply = self.handle(&exchange)?;
+        self.noted(said, reply)
+    }
+
+    // The reply to a request, once it is noted when the locks of which it tells end.
+    fn noted(&mut self, said: &Record<'_>, reply: Reply) -> Result<Reply, Stop>
+        ensures same { self.new.handler ≡ self.old.handler }
+        ensures reply { IfOk result (λ r. r ≡ reply) }
+    {
         if is_lock(method_of(said.head)) {
             self.note_locks(&reply, said.moment)?;
         }
@@ -227,10 +235,13 @@ impl<D: Disk + Drop> Service<D> {
             → IfOk result (λ reply. IsReadByClient reply.body)
             × IsSendableServer self.new.handler.server.state }
     {
-        match self.handler.handle(self.alloc, exchange) {
-            Ok(reply) if !self.handler.fs().was_short() => Ok(reply),
-            _ => Err(Stop),
+        let Ok(reply) = self.handler.handle(self.alloc, exchange) else {
+            return Err(Stop);
+        };
+        if self.handler.fs().was_short() {
+            return Err(Stop);
         }
+        Ok(reply)
     }
 
     // Notes when the locks of which a reply tells end.

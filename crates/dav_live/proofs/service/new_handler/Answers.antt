@@ -1,0 +1,9 @@
+use Rattle.std.proofs.Common.{◌≡◌, ap, sym, subst, ◌∙◌, Some, []}
+use Rattle.dav_engine.specs.Plan.{ServerState}
+use Rattle.dav_live.specs.SentLaws.{IsSendableServer}
+use Rattle.dav_live.proofs.SentSteps.{new_server}
+use Rattle.dav_live.proofs.service.new_handler.Goals as goal
+
+pub returns-in-Ok : goal.returns-in-Ok
+returns-in-Ok c =
+    subst IsSendableServer (sym c.in-Ok.ensures.state) (new_server _ _ (ap (λ s. s.world) c.in_ok-fs.ensures) (ap (λ ls. Some ls) c.in_ok-ls.ensures))
