@@ -22,6 +22,7 @@ pub mod LanguageLaws
 pub mod LockHeaders
 pub mod LockInfo
 pub mod LockReach
+pub mod LockScope
 pub mod LockTree
 pub mod LockView
 pub mod Method

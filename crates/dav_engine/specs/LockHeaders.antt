@@ -1,5 +1,5 @@
 -- What the headers of a LOCK say (RFC 4918, section 9.10), and how long the lock is to last.
-use Rattle.std.specs.Prelude.{ℕ, min, Bool, false, List, codes, if◌then◌else◌, Option, Some, None}
+use Rattle.std.specs.Prelude.{ℕ, min, List, codes, Option, Some, None}
 use Rattle.std.specs.List.{slice_get}
 use Rattle.std.specs.Option.{option_map, option_and_then}
 use Rattle.http_header.specs.HeaderMap.{get_all}
@@ -9,6 +9,8 @@ use Rattle.dav_headers.specs.Timeout.{IsTimeout}
 use Rattle.dav_headers.specs.declared.depth.Depth.{Depth}
 use Rattle.dav_headers.specs.declared.timeout.DavTimeout.{DavTimeout}
 use Rattle.dav_headers.specs.declared.timeout.DavTimeout.TheVariants.{Seconds, Infinite}
+use Rattle.dav_engine.specs.declared.lock_scope.LockScope.{LockScope}
+use Rattle.dav_engine.specs.declared.lock_scope.LockScope.TheVariants.{Exclusive, Shared}
 use Rattle.dav_engine.specs.Conditions.{Conditions, AreConditions}
 use Rattle.dav_engine.specs.Headers.{Headers, Decodes}
 
@@ -25,27 +27,28 @@ pub record AreLockHeaders (headers : Headers) (p : PathText) (h : LockHeaders) :
   pub depth : Decodes IsDepth (get_all headers (codes "depth")) h.depth
   pub timeout : Decodes IsTimeout (get_all headers (codes "timeout")) h.timeout
 
--- how many seconds a lock lasts at most, by whether it is shared: a day, or ten minutes (RFC 4918, sections 6.6 and 10.7)
-abbrev pub longest : Bool → ℕ
-longest shared = if shared then 86400 else 600
+-- how many seconds a lock lasts at most: an exclusive one ten minutes, a shared one a day (RFC 4918, sections 6.6 and 10.7)
+abbrev pub longest : LockScope → ℕ
+longest Exclusive = 600
+longest Shared = 86400
 
 -- the first of the times that are wanted (RFC 4918, sections 6.6 and 10.7)
 abbrev pub preferred : Option (List DavTimeout) → Option DavTimeout
 preferred timeout = option_and_then (λ times. slice_get times 0) timeout
 
 -- for how many seconds a new lock is granted where this time is wanted: at most as long as it may last (RFC 4918, sections 6.6 and 10.7)
-abbrev pub granted_seconds : Bool → DavTimeout → ℕ
-granted_seconds shared (Seconds n) = min n (longest shared)
-granted_seconds shared Infinite = longest shared
+abbrev pub granted_seconds : LockScope → DavTimeout → ℕ
+granted_seconds scope (Seconds n) = min n (longest scope)
+granted_seconds scope Infinite = longest scope
 
 -- how many seconds a new lock lasts, by the preferred time; without one it never ends (RFC 4918, section 10.7)
-abbrev pub granted_for : Bool → Option (List DavTimeout) → Option ℕ
-granted_for shared timeout = option_map (granted_seconds shared) (preferred timeout)
+abbrev pub granted_for : LockScope → Option (List DavTimeout) → Option ℕ
+granted_for scope timeout = option_map (granted_seconds scope) (preferred timeout)
 
 -- for how many seconds a lock, shared or not, is refreshed where this time is wanted: at most as long as an exclusive one may
 -- last; where the time is infinite, the lock never ends (RFC 4918, section 9.10.2)
 abbrev pub refreshed_seconds : DavTimeout → Option ℕ
-refreshed_seconds (Seconds n) = Some (min n (longest false))
+refreshed_seconds (Seconds n) = Some (min n (longest Exclusive))
 refreshed_seconds Infinite = None
 
 -- how many seconds a lock lasts that is refreshed; without a preferred time it never ends (RFC 4918, section 9.10.2)

@@ -23,7 +23,7 @@ lock_headers_of h = record {
 }
 
 abbrev pub lock_info_of : info.Inside → LockInfo
-lock_info_of i = record { shared = i.shared; owner = i.owner }
+lock_info_of i = record { scope = i.scope; owner = i.owner }
 
 -- a lock that lasts from this moment on, to one that can be written
 pub record LastsFrom (now : ℕ) (l : Lock) : Type 0 where

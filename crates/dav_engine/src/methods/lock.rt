@@ -140,14 +140,14 @@ fn lock_of(
     ensures lasts { IfOk result (LastsFrom caller.now.moment) }
     ensures path { IfOk result (λ l. l.path ≡ path.now) }
 {
-    let timeout = headers.granted_for(info.shared);
+    let timeout = headers.granted_for(info.scope);
     Ok(DavLock {
         token: String::from_str(alloc, token)?,
         path: path.clone()?,
         principal: copy_of(alloc, caller.principal)?,
         timeout_at: ends_at(caller.moment, timeout),
         timeout,
-        shared: info.shared,
+        shared: info.scope.is_shared(),
         deep,
         owner: info.owner,
     })
