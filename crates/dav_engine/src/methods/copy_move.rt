@@ -388,7 +388,8 @@ fn copy_found<F: DavFileSystem, L: DavLockSystem>(
     requires moment { job.now.caller.now.moment ≤ last_moment }
     requires path { job.now.source.now.bytes ≢ star }
     requires destination { job.now.destination.now.bytes ≢ star }
-    ensures { Follows as_is (spec.copy_found job.now.method (reaches_below job.now.reach) headers.now
+    ensures { Follows as_is (spec.copy_found job.now.method
+        (reaches_below job.now.reach) headers.now
         job.now.source.now job.now.destination.now job.now.caller.now found.now)
         (F.state fs.old) (option_map L.locks ls.old) result
         (F.state fs.new) (option_map L.locks ls.new) }
