@@ -1,5 +1,5 @@
 -- How code follows a LOCK with a body.
-use Rattle.std.proofs.Common.{◌≡◌, ◌++◌, ℕ, List, [], ◌∷◌, Bool, true, false, not, if◌then◌else◌, Option, Some, None, Result, Ok, Err, refl, sym, ap, subst, ◌∙◌}
+use Rattle.std.proofs.Common.{◌≡◌, ◌++◌, ℕ, List, [], ◌∷◌, Bool, true, false, if◌then◌else◌, Option, Some, None, Result, Ok, Err, refl, sym, ap, subst, ◌∙◌}
 use Rattle.std.specs.Prelude.{IfOk, IfErr, IsErrOf, OnErr}
 use Rattle.std.specs.Option.{is_some, is_none, option_map, option_copied}
 use denote.Ref.{Bor}
@@ -29,7 +29,7 @@ use Rattle.dav_engine.specs.Method.{MethodPlan, ◌>>=◌, require_parent, requi
 use Rattle.dav_engine.specs.Plan.{Locks, Done, Keep, Ran, ran_done, ran_ask, ran_look, ran_keep}
 use Rattle.dav_engine.specs.Reply.{Reply, Header}
 use Rattle.dav_engine.proofs.Following.{ran_at, ran_bind, follows_done, follows_ask, follows_then, follows_err, follows_up_to}
-use Rattle.dav_engine.proofs.GuardLemmas.{follows_look, follows_ok, follows_fails, turned}
+use Rattle.dav_engine.proofs.GuardLemmas.{follows_look, follows_ok, follows_fails}
 use Rattle.dav_engine.proofs.LaterLemmas.{follows_keep, follows_then_from}
 
 -- ---- the lock that is asked for
@@ -126,11 +126,6 @@ above_for {k = k} p who b wanted {ls} {r} same told done =
 pub above_by : (tokens : List (List ℕ)) {lent : List (List ℕ)} (principal : Option (List ℕ)) (wanted : Bool) (p : Path) (e : DavError) {ls : Locks} {r : Result (Unit {0}) DavError} → lent ≡ tokens
     → FollowsOnLocks (λ (u : Unit {0}). u) (require_parent wanted (requester_of lent false principal) p e) ls r ls → FollowsOnLocks (λ (u : Unit {0}). u) (require_parent wanted (requester_of tokens false principal) p e) ls r ls
 above_by tokens principal wanted p e {ls} {r} same done = subst (λ ts. FollowsOnLocks (λ (u : Unit {0}). u) (require_parent wanted (requester_of ts false principal) p e) ls r ls) same done
-
--- what is borrowed is missing where the borrow is
-pub none_from : {A : Type 0} (o : Option (Bor A)) (b : Bool) → is_some o ≡ not b → b ≡ is_none (option_copied o)
-none_from None b told = turned b false told
-none_from (Some x) b told = turned b true told
 
 -- ---- the grant
 

@@ -1,7 +1,7 @@
 -- How code follows the parts of plans that conditions and locks guard.
 use Rattle.std.proofs.Common.{◌≡◌, ℕ, Bool, true, false, not, List, map, string_bytes, String, Option, Some, None, ◌||◌, Result, Ok, Err, refl, sym, subst, ap, ◌∙◌}
 use Rattle.std.specs.Global.{Vec, Global}
-use Rattle.std.specs.Option.{option_copied, option_map, is_some}
+use Rattle.std.specs.Option.{option_copied, option_map, is_none}
 use Rattle.std.specs.Result.{is_ok, result_ok}
 use denote.Ref.{Bor}
 use Rattle.dav_core.specs.declared.errors.FsError.{FsError}
@@ -109,16 +109,12 @@ carried {view = view} {kind} locks lent held plan {old} {new} {r} same is one =
 -- ---- the folder above
 
 -- whether nothing was found
-pub turned : (b x : Bool) → x ≡ not b → b ≡ not x
-turned true x is = sym (ap not is)
-turned false x is = sym (ap not is)
+none_ok : (answer : Result DavMetaData FsError) → is_none (result_ok answer) ≡ not (is_ok answer)
+none_ok (Ok m) = refl
+none_ok (Err e) = refl
 
-some_ok : (answer : Result DavMetaData FsError) → is_some (result_ok answer) ≡ is_ok answer
-some_ok (Ok m) = refl
-some_ok (Err e) = refl
-
-pub none_by : (answer : Result DavMetaData FsError) (file : Option DavMetaData) (b : Bool) → is_some file ≡ not b → file ≡ result_ok answer → b ≡ not (is_ok answer)
-none_by answer file b told kept = turned b (is_ok answer) (sym (ap is_some kept ∙ some_ok answer) ∙ told)
+pub none_by : (answer : Result DavMetaData FsError) (file : Option DavMetaData) (b : Bool) → b ≡ is_none file → file ≡ result_ok answer → b ≡ not (is_ok answer)
+none_by answer file b told kept = told ∙ ap is_none kept ∙ none_ok answer
 
 pub root_open : (who : Requester) (p : Path) (ls : Locks) (b : Bool) → b ≡ is_root p → b ≡ true → true ≡ is_open_parent who p ls
 root_open who p None b is root = refl

@@ -1,7 +1,7 @@
 -- How code follows a MKCOL.
 use Rattle.std.proofs.Common.{◌≡◌, ℕ, Bool, false, not, List, map, string_bytes, String, Option, Result, Ok, Err, ap}
 use Rattle.std.specs.Global.{Vec, Global}
-use Rattle.std.specs.Option.{is_some}
+use Rattle.std.specs.Option.{is_none}
 use Rattle.std.specs.Result.{is_ok, result_ok}
 use Rattle.dav_core.specs.declared.errors.FsError.{FsError}
 use Rattle.dav_core.specs.declared.errors.DavError.{DavError}
@@ -46,7 +46,7 @@ pub mkcol_checked : {E : Type 0} (c : Conditions) (p : PathText) (who : Caller) 
     (lent : List (String Global)) (b : Bool) (end : Result (Unit {0}) DavError) {old mid new : StoreState} {ls : Locks}
     → Asks (Metadata (names p)) old answer mid → before ≡ result_ok answer → r ≡ Ok verdict → verdict ≡ Ok tokens
     → Follows tokens_or_status (if_match_get_tokens MkCol c before) mid ls (or_memory r) new ls
-    → is_some file ≡ not b → file ≡ result_ok answer → lent ≡ tokens.items
+    → b ≡ is_none file → file ≡ result_ok answer → lent ≡ tokens.items
     → FollowsOnLocks (λ (u : Unit {0}). u) (require_member false b (requester_of (map string_bytes lent) false who.principal) (names p) (dav.Status 423)) ls end ls
     → Follows (λ (u : Unit {0}). u) (mkcol_allowed c p who) old ls end new ls
 mkcol_checked c p who answer before file r verdict tokens lent b end {new = new} asks same was is one told kept tells done =

@@ -1,7 +1,7 @@
 -- How code follows the checks before the file of a PUT or PATCH is opened.
 use Rattle.std.proofs.Common.{◌≡◌, ℕ, Bool, true, false, not, List, map, string_bytes, String, Option, Result, Ok, Err, refl, sym, ap, ◌∙◌}
 use Rattle.std.specs.Global.{Vec, Global}
-use Rattle.std.specs.Option.{is_some}
+use Rattle.std.specs.Option.{is_none, is_some}
 use Rattle.std.specs.Result.{is_ok, result_ok}
 use Rattle.dav_core.specs.declared.errors.FsError.{FsError}
 use Rattle.dav_core.specs.declared.errors.DavError.{DavError}
@@ -91,7 +91,7 @@ put_passed m h p who bytes answer before placed w seen r verdict tokens asks sam
 
 -- what the check of the locks did
 member_done : (p : Path) (who : Caller) (answer : Result DavMetaData FsError) (tokens : Vec (String Global)) (lent : List (String Global)) (b : Bool) (file : Option DavMetaData) {ls : Locks} {end : Result (Unit {0}) DavError}
-    → is_some file ≡ not b → file ≡ result_ok answer → lent ≡ tokens.items → FollowsOnLocks (λ (u : Unit {0}). u) (require_member false b (requester_of (map string_bytes lent) false who.principal) p (dav.StatusClose 423)) ls end ls
+    → b ≡ is_none file → file ≡ result_ok answer → lent ≡ tokens.items → FollowsOnLocks (λ (u : Unit {0}). u) (require_member false b (requester_of (map string_bytes lent) false who.principal) p (dav.StatusClose 423)) ls end ls
     → FollowsOnLocks (λ (u : Unit {0}). u) (require_member false (not (is_ok answer)) (requester who (texts_of tokens)) p (dav.StatusClose 423)) ls end ls
 member_done p who answer tokens lent b file told kept tells done =
     member_for false b (not (is_ok answer)) tokens lent who.principal p (dav.StatusClose 423) (none_by answer file b told kept) tells done
@@ -101,7 +101,7 @@ pub put_locked : {E : Type 0} (m : DavMethod) (h : PutHeaders) (p : Path) (who :
     (seen : Option DavMetaData) (r : Result (Result (Vec (String Global)) ℕ) E) (verdict : Result (Vec (String Global)) ℕ) (tokens : Vec (String Global)) (lent : List (String Global)) (b : Bool) (file : Option DavMetaData) (e : DavError) {old mid new : StoreState} {ls : Locks}
     → Asks (Metadata p) old answer mid → before ≡ result_ok answer → placed ≡ writing_of m h before → placed ≡ Ok w
     → seen ≡ result_ok answer → r ≡ Ok verdict → verdict ≡ Ok tokens → Follows tokens_or_status (if_match_get_tokens m h.conditions seen) mid ls (or_memory r) new ls
-    → is_some file ≡ not b → file ≡ result_ok answer → lent ≡ tokens.items → FollowsOnLocks (λ (u : Unit {0}). u) (require_member false b (requester_of (map string_bytes lent) false who.principal) p (dav.StatusClose 423)) ls (Err e) ls
+    → b ≡ is_none file → file ≡ result_ok answer → lent ≡ tokens.items → FollowsOnLocks (λ (u : Unit {0}). u) (require_member false b (requester_of (map string_bytes lent) false who.principal) p (dav.StatusClose 423)) ls (Err e) ls
     → Follows (λ (x : Writing × Bool). x) (put_allowed m h p who bytes) old ls (Err e) new ls
 put_locked m h p who bytes answer before placed w seen r verdict tokens lent b file e {new = new} asks same there is found was holds one told kept tells barred =
     put_passed m h p who bytes answer before placed w seen r verdict tokens asks same there is found was holds one
@@ -113,7 +113,7 @@ put_free : {E : Type 0} (m : DavMethod) (h : PutHeaders) (p : Path) (who : Calle
     {old mid new : StoreState} {ls : Locks} {end : Result (Writing × Bool) DavError}
     → Asks (Metadata p) old answer mid → before ≡ result_ok answer → placed ≡ writing_of m h before → placed ≡ Ok w
     → seen ≡ result_ok answer → r ≡ Ok verdict → verdict ≡ Ok tokens → Follows tokens_or_status (if_match_get_tokens m h.conditions seen) mid ls (or_memory r) new ls
-    → is_some file ≡ not b → file ≡ result_ok answer → lent ≡ tokens.items → FollowsOnLocks (λ (u : Unit {0}). u) (require_member false b (requester_of (map string_bytes lent) false who.principal) p (dav.StatusClose 423)) ls (Ok tt) ls
+    → b ≡ is_none file → file ≡ result_ok answer → lent ≡ tokens.items → FollowsOnLocks (λ (u : Unit {0}). u) (require_member false b (requester_of (map string_bytes lent) false who.principal) p (dav.StatusClose 423)) ls (Ok tt) ls
     → Follows (λ (x : Writing × Bool). x) (length_next w (is_ok answer) bytes tt) new ls end new ls
     → Follows (λ (x : Writing × Bool). x) (put_allowed m h p who bytes) old ls end new ls
 put_free m h p who bytes answer before placed w seen r verdict tokens lent b file {new = new} asks same there is found was holds one told kept tells freed rest =
@@ -125,7 +125,7 @@ pub put_other_length : {E : Type 0} (m : DavMethod) (h : PutHeaders) (p : Path) 
     (seen : Option DavMetaData) (r : Result (Result (Vec (String Global)) ℕ) E) (verdict : Result (Vec (String Global)) ℕ) (tokens : Vec (String Global)) (lent : List (String Global)) (b : Bool) (file : Option DavMetaData) (fits : Bool) {old mid new : StoreState} {ls : Locks}
     → Asks (Metadata p) old answer mid → before ≡ result_ok answer → placed ≡ writing_of m h before → placed ≡ Ok w
     → seen ≡ result_ok answer → r ≡ Ok verdict → verdict ≡ Ok tokens → Follows tokens_or_status (if_match_get_tokens m h.conditions seen) mid ls (or_memory r) new ls
-    → is_some file ≡ not b → file ≡ result_ok answer → lent ≡ tokens.items → FollowsOnLocks (λ (u : Unit {0}). u) (require_member false b (requester_of (map string_bytes lent) false who.principal) p (dav.StatusClose 423)) ls (Ok tt) ls
+    → b ≡ is_none file → file ≡ result_ok answer → lent ≡ tokens.items → FollowsOnLocks (λ (u : Unit {0}). u) (require_member false b (requester_of (map string_bytes lent) false who.principal) p (dav.StatusClose 423)) ls (Ok tt) ls
     → fits ≡ is_announced w.announced bytes → fits ≡ false
     → Follows (λ (x : Writing × Bool). x) (put_allowed m h p who bytes) old ls (Err (dav.StatusClose 400)) new ls
 put_other_length m h p who bytes answer before placed w seen r verdict tokens lent b file fits asks same there is found was holds one told kept tells freed compared differs =
@@ -138,7 +138,7 @@ pub put_agreed : {E : Type 0} (m : DavMethod) (h : PutHeaders) (p : Path) (who :
     {old mid new : StoreState} {ls : Locks}
     → Asks (Metadata p) old answer mid → before ≡ result_ok answer → placed ≡ writing_of m h before → placed ≡ Ok w
     → seen ≡ result_ok answer → r ≡ Ok verdict → verdict ≡ Ok tokens → Follows tokens_or_status (if_match_get_tokens m h.conditions seen) mid ls (or_memory r) new ls
-    → is_some file ≡ not b → file ≡ result_ok answer → lent ≡ tokens.items → FollowsOnLocks (λ (u : Unit {0}). u) (require_member false b (requester_of (map string_bytes lent) false who.principal) p (dav.StatusClose 423)) ls (Ok tt) ls
+    → b ≡ is_none file → file ≡ result_ok answer → lent ≡ tokens.items → FollowsOnLocks (λ (u : Unit {0}). u) (require_member false b (requester_of (map string_bytes lent) false who.principal) p (dav.StatusClose 423)) ls (Ok tt) ls
     → fits ≡ is_announced w.announced bytes → fits ≡ true → exists ≡ is_some file
     → Follows (λ (x : Writing × Bool). x) (put_allowed m h p who bytes) old ls (Ok (w, exists)) new ls
 put_agreed m h p who bytes answer before placed w seen r verdict tokens lent b file fits exists asks same there is found was holds one told kept tells freed compared agrees shown =

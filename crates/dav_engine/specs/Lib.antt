@@ -21,7 +21,7 @@ pub mod Headers
 pub mod LanguageLaws
 pub mod LockHeaders
 pub mod LockInfo
-pub mod LockReach
+pub mod LockScope
 pub mod LockTree
 pub mod LockView
 pub mod Method
@@ -45,6 +45,7 @@ pub mod ProppatchLaws
 pub mod Proppatch
 pub mod Put
 pub mod PutView
+pub mod Reach
 pub mod Removal
 pub mod RemovalLaws
 pub mod Reply
@@ -60,6 +61,7 @@ pub mod StoredLaws
 pub mod Sparing
 pub mod SparingPlans
 pub mod Members
+pub mod MembersView
 pub mod Ending
 pub mod ListChanges
 pub mod AnswerParts

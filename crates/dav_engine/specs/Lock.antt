@@ -23,6 +23,7 @@ use Rattle.dav_engine.specs.Folder.{path_found, location_found}
 use Rattle.dav_engine.specs.Headers.{Headers}
 use Rattle.dav_engine.specs.LockHeaders.{LockHeaders, AreLockHeaders, granted_for, refreshed_for}
 use Rattle.dav_engine.specs.LockInfo.{LockInfo, lock_info}
+use Rattle.dav_engine.specs.LockScope.{is_shared}
 use Rattle.dav_engine.specs.LockTree.{lock_reply}
 use Rattle.dav_engine.specs.Method.{MethodPlan, ◌>>=◌, require_free, require_parent, require_locks, required, change_locks, unless_status, look, answer_of, gives, fails}
 use Rattle.dav_engine.specs.Multistatus.{xml_type}
@@ -78,7 +79,7 @@ lock_again h p location who = do
 
 -- The lock that a body asks for, with this token (RFC 4918, section 9.10.1).
 abbrev pub lock_of : LockHeaders → PathText → Caller → Bool → LockInfo → List ℕ → Lock
-lock_of h p who deep info token = new_lock token p who.principal info.owner (granted_for info.shared h.timeout) info.shared deep who.moment
+lock_of h p who deep info token = new_lock token p who.principal info.owner (granted_for info.scope h.timeout) (is_shared info.scope) deep who.moment
 
 -- The lock that is asked for. 400 for Depth 1; then the status with which the conditions answer; 400 for a body that asks for
 -- no lock; 500 where there is no token for it; 423 where nothing was found at the path, and a lock on the folder above it

@@ -1,5 +1,5 @@
 -- What the headers of a LOCK say (RFC 4918, section 9.10), and how long the lock is to last.
-use Rattle.std.specs.Prelude.{ℕ, min, Bool, false, List, codes, if◌then◌else◌, Option, Some, None}
+use Rattle.std.specs.Prelude.{ℕ, min, List, codes, Option, Some, None}
 use Rattle.std.specs.List.{slice_get}
 use Rattle.std.specs.Option.{option_map, option_and_then}
 use Rattle.http_header.specs.HeaderMap.{get_all}
@@ -9,6 +9,8 @@ use Rattle.dav_headers.specs.Timeout.{IsTimeout}
 use Rattle.dav_headers.specs.declared.depth.Depth.{Depth}
 use Rattle.dav_headers.specs.declared.timeout.DavTimeout.{DavTimeout}
 use Rattle.dav_headers.specs.declared.timeout.DavTimeout.TheVariants.{Seconds, Infinite}
+use Rattle.dav_engine.specs.declared.lock_scope.LockScope.{LockScope}
+use Rattle.dav_engine.specs.declared.lock_scope.LockScope.TheVariants.{Exclusive, Shared}
 use Rattle.dav_engine.specs.Conditions.{Conditions, AreConditions}
 use Rattle.dav_engine.specs.Headers.{Headers, Decodes}
 
@@ -26,26 +28,27 @@ pub record AreLockHeaders (headers : Headers) (p : PathText) (h : LockHeaders) :
   pub timeout : Decodes IsTimeout (get_all headers (codes "timeout")) h.timeout
 
 -- For how many seconds a lock is granted at most: a day where it is shared, ten minutes where it is exclusive (RFC 4918, section 6.6).
-abbrev pub longest : Bool → ℕ
-longest shared = if shared then 86400 else 600
+abbrev pub longest : LockScope → ℕ
+longest Exclusive = 600
+longest Shared = 86400
 
 -- The time that the client prefers: the first that Timeout has (RFC 4918, section 10.7).
 abbrev pub preferred : Option (List DavTimeout) → Option DavTimeout
 preferred timeout = option_and_then (λ times. slice_get times 0) timeout
 
 -- For how many seconds a new lock is granted where this time is preferred: at most `longest` (RFC 4918, section 10.7).
-abbrev pub granted_seconds : Bool → DavTimeout → ℕ
-granted_seconds shared (Seconds n) = min n (longest shared)
-granted_seconds shared Infinite = longest shared
+abbrev pub granted_seconds : LockScope → DavTimeout → ℕ
+granted_seconds scope (Seconds n) = min n (longest scope)
+granted_seconds scope Infinite = longest scope
 
 -- For how many seconds a new lock is granted; without a preferred time it never ends (RFC 4918, section 10.7).
-abbrev pub granted_for : Bool → Option (List DavTimeout) → Option ℕ
-granted_for shared timeout = option_map (granted_seconds shared) (preferred timeout)
+abbrev pub granted_for : LockScope → Option (List DavTimeout) → Option ℕ
+granted_for scope timeout = option_map (granted_seconds scope) (preferred timeout)
 
 -- For how many seconds a lock, shared or not, is refreshed where this time is preferred: at most as long as an exclusive one is
 -- granted; where the time is infinite, the lock never ends (RFC 4918, sections 9.10.2 and 10.7).
 abbrev pub refreshed_seconds : DavTimeout → Option ℕ
-refreshed_seconds (Seconds n) = Some (min n (longest false))
+refreshed_seconds (Seconds n) = Some (min n (longest Exclusive))
 refreshed_seconds Infinite = None
 
 -- For how many seconds a lock is refreshed; without a preferred time it never ends (RFC 4918, section 9.10.2).

@@ -1,14 +1,16 @@
 -- What the body of a LOCK asks for (RFC 4918, section 14.11).
-use Rattle.std.specs.Prelude.{ℕ, ◌&&◌, ◌||◌, Bool, true, false, List, bytes_eq, codes, if◌then◌else◌, Option, Some, None}
+use Rattle.std.specs.Prelude.{ℕ, ◌&&◌, ◌||◌, Bool, List, bytes_eq, codes, if◌then◌else◌, Option, Some, None}
 use Rattle.std.specs.List.{filter, filter_map, last_or, list_all, list_any, slice_get}
 use Rattle.std.specs.Option.{is_some, option_and_then, option_eq, option_map}
 use Rattle.dav_core.specs.Element.{ElementTree, element, text, child_elements, name_of}
+use Rattle.dav_engine.specs.declared.lock_scope.LockScope.{LockScope}
+use Rattle.dav_engine.specs.declared.lock_scope.LockScope.TheVariants.{Exclusive, Shared}
 use Rattle.dav_engine.specs.declared.request.Body.{Body}
 use Rattle.dav_engine.specs.declared.request.Body.TheVariants as body
 
 -- The write lock that a body asks for: whether it is to be shared, and the element in which its owner describes itself (RFC 4918, section 14.11).
 pub record LockInfo : Type 0 where
-  pub shared : Bool
+  pub scope : LockScope
   pub owner : Option ElementTree
 
 -- The name of the first element in an element, if there is one.
@@ -16,11 +18,11 @@ abbrev pub first_name : ElementTree → Option (List ℕ)
 first_name e = option_map name_of (slice_get (child_elements e) 0)
 
 -- Whether the scope of this name is shared or exclusive; none for another name (RFC 4918, section 14.13).
-abbrev pub scope_named : List ℕ → Option Bool
-scope_named name = if bytes_eq name (codes "exclusive") then Some false else if bytes_eq name (codes "shared") then Some true else None
+abbrev pub scope_named : List ℕ → Option LockScope
+scope_named name = if bytes_eq name (codes "exclusive") then Some Exclusive else if bytes_eq name (codes "shared") then Some Shared else None
 
 -- The scope that a `lockscope` states; none for another element (RFC 4918, section 14.13).
-abbrev pub scope_of : ElementTree → Option Bool
+abbrev pub scope_of : ElementTree → Option LockScope
 scope_of e = if bytes_eq (name_of e) (codes "lockscope") then option_and_then scope_named (first_name e) else None
 
 -- Whether an element is a `locktype` that states a write lock (RFC 4918, section 14.15).
@@ -41,7 +43,7 @@ is_lock_info e =
     bytes_eq (name_of e) (codes "lockinfo") && list_all is_known (child_elements e) && list_any is_write_type (child_elements e)
 
 -- The scope that is stated last, if one is.
-abbrev pub last_scope : List ElementTree → Option Bool
+abbrev pub last_scope : List ElementTree → Option LockScope
 last_scope es = last_or None (filter_map scope_of es)
 
 -- The last `owner`, if there is one.
@@ -55,7 +57,7 @@ with_dav_prefix (text bytes) = text bytes
 
 -- What the child elements of a `lockinfo` ask for: of several scopes and owners the last counts; none without a scope (RFC 4918, section 14.11).
 abbrev pub asked_by : List ElementTree → Option LockInfo
-asked_by es = option_map (λ shared. record { shared = shared; owner = option_map with_dav_prefix (last_owner es) }) (last_scope es)
+asked_by es = option_map (λ scope. record { scope = scope; owner = option_map with_dav_prefix (last_owner es) }) (last_scope es)
 
 -- What the body of a LOCK asks for; none where it isn't a `lockinfo` as `is_lock_info` has it. Names count, and namespaces
 -- don't (RFC 4918, section 14.11).

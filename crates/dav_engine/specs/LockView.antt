@@ -25,7 +25,7 @@ lock_headers_of h = record {
 
 -- What the body of a LOCK asks for, as contracts see it.
 abbrev pub lock_info_of : info.Inside → LockInfo
-lock_info_of i = record { shared = i.shared; owner = i.owner }
+lock_info_of i = record { scope = i.scope; owner = i.owner }
 
 -- The lock ends after its timeout, counted from this moment, and at a moment of at most 64 bits.
 pub record LastsFrom (now : ℕ) (l : Lock) : Type 0 where

@@ -9,6 +9,7 @@ use Rattle.dav_core.specs.Locks.{Lock}
 use Rattle.dav_core.specs.LockCode.{lock_code}
 use Rattle.dav_core.specs.World.{World}
 use Rattle.dav_core.specs.WorldCode.{coded_world}
+use Rattle.dav_engine.specs.declared.lock_scope.LockScope.{LockScope}
 use Rattle.dav_engine.specs.declared.reply.ReplyBody.{ReplyBody}
 use Rattle.dav_engine.specs.LockInfo.{LockInfo}
 use Rattle.dav_engine.specs.Plan.{ServerState}
@@ -33,7 +34,7 @@ coded_response body =
     (λ r. (r.status, (r.headers, r.body))) (λ p. record { status = p.0; headers = p.1.0; body = p.1.1 }) (λ _. refl)
 
 -- How the logic stores what the body of a LOCK asks for.
-abbrev pub coded_lock_info : Coded LockInfo
-coded_lock_info =
-    code_by (Bool × Option ElementTree) (coded× coded_bool (coded_option coded_tree))
-    (λ i. (i.shared, i.owner)) (λ p. record { shared = p.0; owner = p.1 }) (λ _. refl)
+abbrev pub coded_lock_info : Coded LockScope → Coded LockInfo
+coded_lock_info scope =
+    code_by (LockScope × Option ElementTree) (coded× scope (coded_option coded_tree))
+    (λ i. (i.scope, i.owner)) (λ p. record { scope = p.0; owner = p.1 }) (λ _. refl)

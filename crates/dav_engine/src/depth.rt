@@ -1,9 +1,11 @@
-//! How deep a request goes (RFC 4918, section 10.2).
+//! How far below its path a request reaches (RFC 4918, section 10.2).
 ghost use Rattle.std.specs.Prelude.{◌≡◌, codes, IfOk};
 ghost use Rattle.http_header.specs.HeaderMap.{get_all};
 ghost use Rattle.dav_headers.specs.Depth.{IsDepth};
 ghost use Rattle.dav_engine.specs.Delete as spec;
+ghost use Rattle.dav_engine.specs.Follows.{viewed};
 ghost use Rattle.dav_engine.specs.Headers.{Decodes};
+ghost use Rattle.dav_engine.specs.Reach.{reaches_below};
 ghost use Rattle.dav_engine.specs.Walked.{goes_below};
 
 use crate::headers::{absent_if_invalid, values_of};
@@ -13,6 +15,24 @@ use http::StatusCode;
 use http_header::HeaderMap;
 use std::alloc::Global;
 
+/// What of a path a request is for (RFC 4918, section 10.2).
+#[derive(Clone, Copy, Debug)]
+pub enum Reach {
+    /// The path alone.
+    Alone,
+    /// It, and everything below it.
+    WithAllBelow,
+}
+
+impl Reach {
+    /// Whether everything below the path belongs to it.
+    pub fn reaches_below(self) -> bool
+        ensures { result ≡ reaches_below self }
+    {
+        matches!(self, Reach::WithAllBelow)
+    }
+}
+
 // What the header Depth says.
 pub(crate) fn depth_in(alloc: Global, headers: &HeaderMap) -> Result<Option<Depth>, NoMemory>
     ensures { IfOk result (λ depth. Decodes IsDepth (get_all headers.now (codes "depth")) depth) }
@@ -21,25 +41,25 @@ pub(crate) fn depth_in(alloc: Global, headers: &HeaderMap) -> Result<Option<Dept
     absent_if_invalid(Depth::decode(alloc, &values))
 }
 
-// Whether everything below goes too: it is removed, or locked.
-pub(crate) fn whole_depth(depth: Option<Depth>) -> DavResult<bool>
-    ensures { result ≡ spec.whole_depth depth }
+// What a request with this Depth removes, copies or locks; the error for Depth 1.
+pub(crate) fn whole_depth(depth: Option<Depth>) -> DavResult<Reach>
+    ensures { viewed reaches_below result ≡ spec.whole_depth depth }
 {
     match depth {
-        None => Ok(true),
-        Some(Depth::Default) => Ok(true),
-        Some(Depth::Zero) => Ok(false),
+        None => Ok(Reach::WithAllBelow),
+        Some(Depth::Default) => Ok(Reach::WithAllBelow),
+        Some(Depth::Zero) => Ok(Reach::Alone),
         Some(Depth::One) => Err(DavError::Status(StatusCode::BAD_REQUEST)),
-        Some(Depth::Infinity) => Ok(true),
+        Some(Depth::Infinity) => Ok(Reach::WithAllBelow),
     }
 }
 
-// Whether the removal goes below a folder.
-pub(crate) fn goes_below(depth: Depth) -> bool
-    ensures { result ≡ goes_below depth }
+// What a removal or a copy at this depth takes: at any depth but 0 what is below a folder too.
+pub(crate) fn reach_at(depth: Depth) -> Reach
+    ensures { reaches_below result ≡ goes_below depth }
 {
     match depth {
-        Depth::Zero => false,
-        Depth::Default | Depth::One | Depth::Infinity => true,
+        Depth::Zero => Reach::Alone,
+        Depth::Default | Depth::One | Depth::Infinity => Reach::WithAllBelow,
     }
 }

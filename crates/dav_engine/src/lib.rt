@@ -8,6 +8,7 @@ mod depth;
 mod folder;
 pub mod headers;
 pub mod laws;
+mod lock_scope;
 pub mod lock_token;
 mod locks;
 pub mod methods;

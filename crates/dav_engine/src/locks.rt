@@ -1,32 +1,46 @@
 //! Whether locks conflict with a request, and those that end with what they are on (RFC 4918, sections 6 and 7).
 ghost use Rattle.std.specs.Prelude.{◌≡◌, map, string_bytes, false, IfOk};
-ghost use Rattle.std.specs.Option.{option_copied, option_map};
+ghost use Rattle.std.specs.Option.{is_none, option_copied, option_map};
 ghost use Rattle.dav_core.specs.Locks.{deleted, requester_of};
 ghost use Rattle.dav_core.specs.Path.{names};
 ghost use Rattle.dav_engine.specs.ConditionView.{locks_in};
 ghost use Rattle.dav_engine.specs.Follows.{FollowsOnLocks};
-ghost use Rattle.dav_engine.specs.LockReach.{reaches_below};
+ghost use Rattle.dav_engine.specs.MembersView.{members_change};
 ghost use Rattle.dav_engine.specs.Method.{is_open, is_open_parent, require_parent, require_member};
+ghost use Rattle.dav_engine.specs.Reach.{reaches_below};
 
+use crate::depth::Reach;
 use dav_core::davpath::DavPath;
 use dav_core::errors::{DavError, DavResult, NoMemory};
+use dav_core::fs::DavMetaData;
 use dav_core::ls::DavLockSystem;
 
-/// What of a path is asked for (RFC 4918, section 10.2).
+/// What a request does to the members of the folder above a path: a lock on a folder protects its list of members (RFC 4918,
+/// section 7.4).
 #[derive(Clone, Copy, Debug)]
-pub enum Reach {
-    /// The path alone.
-    Alone,
-    /// It, and everything below it.
-    WithAllBelow,
+pub enum Members {
+    /// A member is made, removed or replaced.
+    Change,
+    /// Each member stays, and none is made.
+    Stay,
 }
 
-impl Reach {
-    // Whether it is asked for with everything below it.
-    fn is_deep(self) -> bool
-        ensures { result ≡ reaches_below self }
+impl Members {
+    /// What a request does to them that makes something at a path, or overwrites the file there, where this was found.
+    pub fn when_made(found: Option<&DavMetaData>) -> Members
+        ensures { members_change result ≡ is_none (option_copied found.entry) }
     {
-        matches!(self, Reach::WithAllBelow)
+        match found {
+            Some(_) => Members::Stay,
+            None => Members::Change,
+        }
+    }
+
+    // Whether they change.
+    fn change(self) -> bool
+        ensures { result ≡ members_change self }
+    {
+        matches!(self, Members::Change)
     }
 }
 
@@ -45,7 +59,7 @@ pub fn is_open<L: DavLockSystem>(
 {
     match ls {
         Some(ls) => ls
-            .check(path, principal, false, reach.is_deep(), tokens)
+            .check(path, principal, false, reach.reaches_below(), tokens)
             .is_ok(),
         None => true,
     }
@@ -70,20 +84,21 @@ pub fn is_parent_open<L: DavLockSystem>(
     Ok(is_open(ls, &parent, principal, Reach::Alone, tokens))
 }
 
-/// Checks, where that is wanted, whether a path's folder isn't locked against the requester; else this is the error.
+/// Checks, where the members of a path's folder change, whether that folder isn't locked against the requester; else this is
+/// the error (RFC 4918, section 7.4).
 pub fn parent_allowed<L: DavLockSystem>(
     ls: Option<&L>,
-    wanted: bool,
+    members: Members,
     path: &DavPath,
     principal: Option<&str>,
     tokens: &[String],
     locked: DavError,
 ) -> DavResult<()>
-    ensures { FollowsOnLocks (λ u. u) (require_parent wanted
+    ensures { FollowsOnLocks (λ u. u) (require_parent (members_change members)
         (requester_of (map string_bytes tokens.now) false (option_copied principal.entry))
         (names path.now) locked) (locks_in L.locks ls.entry) result (locks_in L.locks ls.entry) }
 {
-    if !wanted {
+    if !members.change() {
         return Ok(());
     }
     if is_parent_open(ls, path, principal, tokens)? {
@@ -93,25 +108,25 @@ pub fn parent_allowed<L: DavLockSystem>(
     }
 }
 
-/// Checks whether a path, or it with everything below it, isn't locked against the requester, and, where a member
-/// of its folder is made or removed, its folder isn't either; else this is the error.
+/// Checks whether a path, or it with everything below it, isn't locked against the requester, and, where the members
+/// of its folder change, its folder isn't either; else this is the error (RFC 4918, sections 7.4 and 7.5).
 pub fn member_allowed<L: DavLockSystem>(
     ls: Option<&L>,
     reach: Reach,
-    changes: bool,
+    members: Members,
     path: &DavPath,
     principal: Option<&str>,
     tokens: &[String],
     locked: DavError,
 ) -> DavResult<()>
-    ensures { FollowsOnLocks (λ u. u) (require_member (reaches_below reach) changes
+    ensures { FollowsOnLocks (λ u. u) (require_member (reaches_below reach) (members_change members)
         (requester_of (map string_bytes tokens.now) false (option_copied principal.entry))
         (names path.now) locked) (locks_in L.locks ls.entry) result (locks_in L.locks ls.entry) }
 {
     if !is_open(ls, path, principal, reach, tokens) {
         return Err(locked);
     }
-    parent_allowed(ls, changes, path, principal, tokens, locked)
+    parent_allowed(ls, members, path, principal, tokens, locked)
 }
 
 // Ends the locks at a path and below it, where there is a lock system.

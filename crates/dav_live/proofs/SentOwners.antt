@@ -4,6 +4,7 @@ use Rattle.std.specs.List.{AllByRecursion, filter, last_or}
 use Rattle.std.specs.Option.{option_map}
 use Rattle.dav_core.specs.Element.{ElementTree, ElementTrees, element, text, no_trees, tree_then, tree_list, trees, is_element, is_named, attributes_of, child_elements, namespace_of}
 use Rattle.dav_core.proofs.ElementLemmas.{tree_list_trees}
+use Rattle.dav_engine.specs.declared.lock_scope.LockScope.{LockScope}
 use Rattle.dav_engine.specs.declared.request.Body.TheVariants as body
 use Rattle.dav_engine.specs.LockInfo.{LockInfo, is_owner, is_lock_info, last_scope, last_owner, with_dav_prefix, asked_by, lock_info}
 use Rattle.dav_xml.specs.Expanded.{AreKept}
@@ -63,11 +64,11 @@ kept_owner : (o : Option ElementTree) → ((e : ElementTree) → o ≡ Some e �
 kept_owner None h = tt
 kept_owner (Some e) h = h e refl
 
-asked_owner : (es : List ElementTree) (o : Option Bool) (info : LockInfo) → AllByRecursion MayBeKept (filter is_owner es)
-    → option_map (λ shared. record { shared = shared; owner = option_map with_dav_prefix (last_owner es) }) o ≡ Some info → IsSendableIfAny info.owner
+asked_owner : (es : List ElementTree) (o : Option LockScope) (info : LockInfo) → AllByRecursion MayBeKept (filter is_owner es)
+    → option_map (λ scope. record { scope = scope; owner = option_map with_dav_prefix (last_owner es) }) o ≡ Some info → IsSendableIfAny info.owner
 asked_owner es None info all is = absurd cc
-asked_owner es (Some shared) info all is =
-    let asked : LockInfo = record { shared = shared; owner = option_map with_dav_prefix (last_owner es) } in
+asked_owner es (Some scope) info all is =
+    let asked : LockInfo = record { scope = scope; owner = option_map with_dav_prefix (last_owner es) } in
     let same : asked ≡ info = cc in
     subst (λ (i : LockInfo). IsSendableIfAny i.owner) same (kept_owner (last_owner es) (λ e there. each_last MayBeKept None (filter is_owner es) (λ x none. absurd cc) all e there))
 

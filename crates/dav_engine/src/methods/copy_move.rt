@@ -12,9 +12,11 @@ ghost use Rattle.dav_engine.specs.Copied.{Copies, FollowsLater};
 ghost use Rattle.dav_engine.specs.CopyMove as spec;
 ghost use Rattle.dav_engine.specs.CopyView.{result_of};
 ghost use Rattle.dav_engine.specs.Copying as walk;
-ghost use Rattle.dav_engine.specs.Follows.{as_is, Follows, FollowsWithLocks, FollowsOnStore, FollowsOnLocks};
+ghost use Rattle.dav_engine.specs.Follows.{as_is, viewed, Follows, FollowsWithLocks, FollowsOnStore, FollowsOnLocks};
+ghost use Rattle.dav_engine.specs.MembersView.{members_change};
 ghost use Rattle.dav_engine.specs.Method.{is_open};
 ghost use Rattle.dav_engine.specs.Plan.{Locks};
+ghost use Rattle.dav_engine.specs.Reach.{reaches_below};
 ghost use Rattle.dav_engine.specs.Removal.{report_of};
 ghost use Rattle.dav_engine.specs.Walked.{Walks, goes_below};
 
@@ -23,9 +25,9 @@ mod headers;
 
 use crate::conditions::Conditions;
 use crate::davinner::{Caller, DavInner};
-use crate::depth::{goes_below, whole_depth};
+use crate::depth::{Reach, reach_at, whole_depth};
 use crate::folder::{closed, is_folder_found};
-use crate::locks::{Reach, drop_locks, is_open, parent_allowed};
+use crate::locks::{Members, drop_locks, is_open, parent_allowed};
 use crate::methods::copy_move::copying::{CopyJob, copying, renaming};
 use crate::methods::copy_move::headers::CopyHeaders;
 use crate::methods::delete::removal::removal;
@@ -48,8 +50,8 @@ const LOCKED: DavError = DavError::Status(StatusCode::LOCKED);
 struct Transfer<'a, 'c> {
     /// Which of both it is.
     method: DavMethod,
-    /// Whether everything below goes along.
-    deep: bool,
+    /// Whether the source goes alone, or with everything below it.
+    reach: Reach,
     /// What is copied or moved.
     source: &'a DavPath,
     /// Where it goes.
@@ -65,12 +67,12 @@ fn is_move(method: DavMethod) -> bool
     matches!(method, DavMethod::Move)
 }
 
-// Whether everything below goes along.
-fn copy_depth(moves: bool, depth: Option<Depth>) -> DavResult<bool>
-    ensures { result ≡ spec.copy_depth moves depth }
+// Whether the source goes alone, or with everything below it; the error for a depth that the method doesn't have.
+fn copy_depth(method: DavMethod, depth: Option<Depth>) -> DavResult<Reach>
+    ensures { viewed reaches_below result ≡ spec.copy_depth (spec.is_move method) depth }
 {
     match depth {
-        Some(Depth::Zero) if moves => Err(DavError::Status(StatusCode::BAD_REQUEST)),
+        Some(Depth::Zero) if is_move(method) => Err(DavError::Status(StatusCode::BAD_REQUEST)),
         other => whole_depth(other),
     }
 }
@@ -104,39 +106,55 @@ fn destination_found<F: DavFileSystem>(
 }
 
 // Whether what was found at the destination is removed.
-fn is_replaced(deep: bool, there: Option<&DavMetaData>) -> bool
-    ensures { result ≡ spec.is_replaced deep (option_copied there.entry) }
+fn is_replaced(reach: Reach, there: Option<&DavMetaData>) -> bool
+    ensures { result ≡ spec.is_replaced (reaches_below reach) (option_copied there.entry) }
 {
     match there {
-        Some(meta) => deep || !meta.dir,
+        Some(meta) => reach.reaches_below() || !meta.dir,
         None => false,
     }
 }
 
-// Whether the list of members at the destination changes.
-fn changes_members(moves: bool, deep: bool, there: Option<&DavMetaData>) -> bool
-    ensures { result ≡ spec.changes_members moves deep (option_copied there.entry) }
+// What the request does to the members of the folder above the source: a MOVE takes one away.
+fn source_members(method: DavMethod) -> Members
+    ensures { members_change result ≡ spec.is_move method }
 {
-    moves || there.is_none() || is_replaced(deep, there)
+    if is_move(method) {
+        Members::Change
+    } else {
+        Members::Stay
+    }
+}
+
+// What the request does to the members of the folder above the destination.
+fn destination_members(method: DavMethod, reach: Reach, there: Option<&DavMetaData>) -> Members
+    ensures { members_change result ≡ spec.changes_members (spec.is_move method)
+        (reaches_below reach) (option_copied there.entry) }
+{
+    if is_move(method) || there.is_none() || is_replaced(reach, there) {
+        Members::Change
+    } else {
+        Members::Stay
+    }
 }
 
 // Checks whether no lock conflicts: for a move at the source, and at the destination.
 fn are_free<L: DavLockSystem>(
     ls: Option<&L>,
-    moves: bool,
+    method: DavMethod,
     path: &DavPath,
     destination: &DavPath,
     principal: Option<&str>,
     tokens: &[String],
 ) -> bool
-    ensures { result ≡ (if moves then is_open true
+    ensures { result ≡ (if spec.is_move method then is_open true
         (requester_of (map string_bytes tokens.now) false (option_copied principal.entry))
         (names path.now) (locks_in L.locks ls.entry) else true)
         && is_open true
         (requester_of (map string_bytes tokens.now) false (option_copied principal.entry))
         (names destination.now) (locks_in L.locks ls.entry) }
 {
-    if moves && !is_open(ls, path, principal, Reach::WithAllBelow, tokens) {
+    if is_move(method) && !is_open(ls, path, principal, Reach::WithAllBelow, tokens) {
         return false;
     }
     is_open(ls, destination, principal, Reach::WithAllBelow, tokens)
@@ -146,20 +164,21 @@ fn are_free<L: DavLockSystem>(
 // change.
 fn folders_free<L: DavLockSystem>(
     ls: Option<&L>,
-    moves: bool,
-    changes: bool,
+    method: DavMethod,
+    members: Members,
     path: &DavPath,
     destination: &DavPath,
     principal: Option<&str>,
     tokens: &[String],
 ) -> DavResult<()>
-    ensures { FollowsOnLocks (λ u. u) (spec.folders_free moves changes
+    ensures { FollowsOnLocks (λ u. u) (spec.folders_free
+        (spec.is_move method) (members_change members)
         (requester_of (map string_bytes tokens.now) false (option_copied principal.entry))
         path.now destination.now)
         (locks_in L.locks ls.entry) result (locks_in L.locks ls.entry) }
 {
-    parent_allowed(ls, moves, path, principal, tokens, LOCKED)?;
-    parent_allowed(ls, changes, destination, principal, tokens, LOCKED)
+    parent_allowed(ls, source_members(method), path, principal, tokens, LOCKED)?;
+    parent_allowed(ls, members, destination, principal, tokens, LOCKED)
 }
 
 // Checks whether conditions and locks let the request go on; else returns the error that says why not.
@@ -173,7 +192,7 @@ fn copy_free<F: DavFileSystem, L: DavLockSystem>(
     there: Option<&DavMetaData>,
 ) -> DavResult<()>
     ensures { FollowsWithLocks (locks_in L.locks ls.entry) (λ u. u)
-        (spec.copy_free job.now.method job.now.deep conditions.now
+        (spec.copy_free job.now.method (reaches_below job.now.reach) conditions.now
         job.now.source.now job.now.destination.now job.now.caller.now found.now
         (option_copied there.entry))
         (F.state fs.old) result (F.state fs.new) }
@@ -183,17 +202,17 @@ fn copy_free<F: DavFileSystem, L: DavLockSystem>(
         Ok(tokens) => tokens,
         Err(status) => return Err(DavError::Status(status)),
     };
-    let moves = is_move(job.method);
-    let changes = changes_members(moves, job.deep, there);
+    let method = job.method;
+    let members = destination_members(method, job.reach, there);
     let caller = job.caller;
     let principal = caller.principal;
-    if !are_free(ls, moves, job.source, job.destination, principal, &tokens) {
+    if !are_free(ls, method, job.source, job.destination, principal, &tokens) {
         return Err(LOCKED);
     }
     folders_free(
         ls,
-        moves,
-        changes,
+        method,
+        members,
         job.source,
         job.destination,
         principal,
@@ -211,7 +230,7 @@ fn copy_allowed<F: DavFileSystem, L: DavLockSystem>(
     found: &DavMetaData,
 ) -> DavResult<Option<DavMetaData>>
     ensures { FollowsWithLocks (locks_in L.locks ls.entry) as_is
-        (spec.copy_allowed job.now.method job.now.deep headers.now
+        (spec.copy_allowed job.now.method (reaches_below job.now.reach) headers.now
         job.now.source.now job.now.destination.now job.now.caller.now found.now)
         (F.state fs.old) result (F.state fs.new) }
 {
@@ -234,16 +253,25 @@ fn clearing<F: DavFileSystem>(
 ) -> Result<bool, NoMemory>
     requires moment { job.now.caller.now.moment ≤ last_moment }
     requires path { job.now.destination.now.bytes ≢ star }
-    ensures { Walks report_of is_empty (spec.clearing job.now.deep job.now.caller.now.moment
+    ensures { Walks report_of is_empty (spec.clearing
+        (reaches_below job.now.reach) job.now.caller.now.moment
         job.now.destination.now (option_copied there.entry))
         (F.state fs.old) errors.old errors.new result (F.state fs.new) }
 {
-    if !is_replaced(job.deep, there) {
+    if !is_replaced(job.reach, there) {
         return Ok(true);
     }
     let dir = is_folder_found(there);
     let caller = job.caller;
-    removal(fs, alloc, true, job.destination, dir, caller.moment, errors)
+    removal(
+        fs,
+        alloc,
+        Reach::WithAllBelow,
+        job.destination,
+        dir,
+        caller.moment,
+        errors,
+    )
 }
 
 // The status of the reply where all was copied or moved.
@@ -266,7 +294,8 @@ fn move_to<F: DavFileSystem, L: DavLockSystem>(
     status: StatusCode,
 ) -> DavResult<Reply>
     requires moment { job.now.caller.now.moment ≤ last_moment }
-    ensures { FollowsLater as_is (spec.transfer_reply true job.now.deep job.now.caller.now.moment
+    ensures { FollowsLater as_is (spec.transfer_reply true
+        (reaches_below job.now.reach) job.now.caller.now.moment
         job.now.source.now job.now.destination.now status)
         (F.state fs.old) (option_map L.locks ls.old) result
         (F.state fs.new) (option_map L.locks ls.new) }
@@ -291,7 +320,7 @@ fn copy_to<F: DavFileSystem>(
     requires moment { job.now.caller.now.moment ≤ last_moment }
     requires path { job.now.source.now.bytes ≢ star }
     ensures { (ls : Locks) → FollowsLater as_is
-        (spec.transfer_reply false job.now.deep job.now.caller.now.moment
+        (spec.transfer_reply false (reaches_below job.now.reach) job.now.caller.now.moment
         job.now.source.now job.now.destination.now status)
         (F.state fs.old) ls result (F.state fs.new) ls }
 {
@@ -301,7 +330,7 @@ fn copy_to<F: DavFileSystem>(
         top: job.destination,
         source: job.source,
         destination: job.destination,
-        deep: job.deep,
+        reach: job.reach,
         moment: caller.moment,
     };
     if copying(fs, alloc, &whole, &mut errors)?.is_some() {
@@ -331,13 +360,14 @@ fn bring<F: DavFileSystem, L: DavLockSystem>(
 ) -> DavResult<Reply>
     requires moment { job.now.caller.now.moment ≤ last_moment }
     requires path { job.now.source.now.bytes ≢ star }
-    ensures { Follows as_is (spec.transfer_if_cleared (spec.is_move job.now.method) job.now.deep
+    ensures { Follows as_is (spec.transfer_if_cleared
+        (spec.is_move job.now.method) (reaches_below job.now.reach)
         job.now.caller.now.moment job.now.source.now job.now.destination.now
         (option_copied there.entry) [])
         (F.state fs.old) (option_map L.locks ls.old) result
         (F.state fs.new) (option_map L.locks ls.new) }
 {
-    drop_if(ls, is_replaced(job.deep, there), job.destination);
+    drop_if(ls, is_replaced(job.reach, there), job.destination);
     let status = copied_status(there);
     if is_move(job.method) {
         move_to(fs, ls, alloc, job, status)
@@ -358,7 +388,8 @@ fn copy_found<F: DavFileSystem, L: DavLockSystem>(
     requires moment { job.now.caller.now.moment ≤ last_moment }
     requires path { job.now.source.now.bytes ≢ star }
     requires destination { job.now.destination.now.bytes ≢ star }
-    ensures { Follows as_is (spec.copy_found job.now.method job.now.deep headers.now
+    ensures { Follows as_is (spec.copy_found job.now.method
+        (reaches_below job.now.reach) headers.now
         job.now.source.now job.now.destination.now job.now.caller.now found.now)
         (F.state fs.old) (option_map L.locks ls.old) result
         (F.state fs.new) (option_map L.locks ls.new) }
@@ -375,12 +406,12 @@ fn copy_found<F: DavFileSystem, L: DavLockSystem>(
 // What is at the source: of a symbolic link a MOVE moves the link itself.
 fn source_metadata<F: DavFileSystem>(
     fs: &mut F,
-    moves: bool,
+    method: DavMethod,
     path: &DavPath,
 ) -> FsResult<DavMetaData>
     ensures { Asks (Metadata (names path.now)) (F.state fs.old) result (F.state fs.new) }
 {
-    if moves {
+    if is_move(method) {
         fs.symlink_metadata(path)
     } else {
         fs.metadata(path)
@@ -404,20 +435,19 @@ fn copy_or_move<F: DavFileSystem, L: DavLockSystem>(
         (F.state fs.old) (option_map L.locks ls.old) result
         (F.state fs.new) (option_map L.locks ls.new) }
 {
-    let moves = is_move(method);
-    let deep = copy_depth(moves, headers.depth)?;
+    let reach = copy_depth(method, headers.depth)?;
     let destination = match &headers.destination {
         Ok(destination) => destination,
         Err(error) => return Err(*error),
     };
-    let found = match source_metadata(fs, moves, path) {
+    let found = match source_metadata(fs, method, path) {
         Ok(found) => found,
         Err(e) => return Err(DavError::FsError(e)),
     };
     let source = closed(path, found.dir)?;
     let job = Transfer {
         method,
-        deep,
+        reach,
         source: &source,
         destination,
         caller,
@@ -434,7 +464,7 @@ fn copy_items<F: DavFileSystem>(
 ) -> DavResult<()>
     requires moment { job.now.moment ≤ last_moment }
     requires path { job.now.source.now.bytes ≢ star }
-    ensures { Copies (walk.copying job.now.deep job.now.moment
+    ensures { Copies (walk.copying (reaches_below job.now.reach) job.now.moment
         job.now.top.now job.now.source.now job.now.destination.now)
         (F.state fs.old) errors.old errors.new result (F.state fs.new) }
 {
@@ -539,7 +569,7 @@ impl<'a, 'b, 'c, F: DavFileSystem, L: DavLockSystem> DavInner<'a, 'b, 'c, F, L> 
             top: topdest,
             source,
             destination: dest,
-            deep: goes_below(depth),
+            reach: reach_at(depth),
             moment: caller.moment,
         };
         copy_items(&mut backend.fs, alloc, &job, errors)

@@ -7,6 +7,7 @@ ghost use Rattle.dav_engine.specs.OnHandler.{SameLocksBorrowed, SameStateBorrowe
 ghost use Rattle.dav_engine.specs.ConditionView.{locks_in};
 ghost use Rattle.dav_engine.specs.Delete.{delete_allowed, delete_found, deleting};
 ghost use Rattle.dav_engine.specs.Follows.{as_is, Follows, FollowsWithLocks};
+ghost use Rattle.dav_engine.specs.Reach.{reaches_below};
 ghost use Rattle.dav_engine.specs.Removal.{removal};
 ghost use Rattle.dav_engine.specs.Walked.{Removes, goes_below};
 
@@ -14,9 +15,9 @@ pub(crate) mod removal;
 
 use crate::conditions::Conditions;
 use crate::davinner::{Caller, DavInner};
-use crate::depth::{depth_in, goes_below, whole_depth};
+use crate::depth::{Reach, depth_in, reach_at, whole_depth};
 use crate::folder::closed;
-use crate::locks::{Reach, drop_locks, member_allowed};
+use crate::locks::{Members, drop_locks, member_allowed};
 use crate::methods::delete::removal::removal;
 use crate::reply::Reply;
 use crate::reply::multistatus::{MultiError, multi_error, status_reply};
@@ -35,8 +36,8 @@ use std::alloc::Global;
 struct Deletion<'a, 'c> {
     /// What is removed.
     path: &'a DavPath,
-    /// Whether everything below goes too.
-    deep: bool,
+    /// Whether it is removed alone, or with everything below it.
+    reach: Reach,
     /// Who makes the request, and when.
     caller: &'a Caller<'c>,
 }
@@ -63,7 +64,7 @@ fn allowed<F: DavFileSystem, L: DavLockSystem>(
     member_allowed(
         ls,
         Reach::WithAllBelow,
-        true,
+        Members::Change,
         job.path,
         caller.principal,
         &tokens,
@@ -86,8 +87,8 @@ fn delete_items<F: DavFileSystem>(
     ensures { Removes (removal (goes_below depth) caller.now.moment path.now meta.now.dir)
         (F.state fs.old) errors.old errors.new result (F.state fs.new) }
 {
-    let deep = goes_below(depth);
-    if removal(fs, alloc, deep, path, meta.dir, caller.moment, errors)? {
+    let reach = reach_at(depth);
+    if removal(fs, alloc, reach, path, meta.dir, caller.moment, errors)? {
         return Ok(());
     }
     Err(errors.last_error())
@@ -104,7 +105,7 @@ fn delete_found<F: DavFileSystem, L: DavLockSystem>(
 ) -> DavResult<Reply>
     requires moment { job.now.caller.now.moment ≤ last_moment }
     requires path { job.now.path.now.bytes ≢ star }
-    ensures { Follows as_is (delete_found job.now.deep conditions.now
+    ensures { Follows as_is (delete_found (reaches_below job.now.reach) conditions.now
         job.now.path.now job.now.caller.now found.now)
         (F.state fs.old) (option_map L.locks ls.old) result
         (F.state fs.new) (option_map L.locks ls.new) }
@@ -114,7 +115,7 @@ fn delete_found<F: DavFileSystem, L: DavLockSystem>(
     let path = job.path;
     let caller = job.caller;
     let moment = caller.moment;
-    if !removal(fs, alloc, job.deep, path, found.dir, moment, &mut errors)? {
+    if !removal(fs, alloc, job.reach, path, found.dir, moment, &mut errors)? {
         return multi_error(alloc, path, errors.into_items());
     }
     drop_locks(ls, path);
@@ -137,7 +138,7 @@ fn delete<F: DavFileSystem, L: DavLockSystem>(
         (F.state fs.old) (option_map L.locks ls.old) result
         (F.state fs.new) (option_map L.locks ls.new) }
 {
-    let deep = whole_depth(depth)?;
+    let reach = whole_depth(depth)?;
     let found = match fs.symlink_metadata(path) {
         Ok(found) => found,
         Err(e) => return Err(DavError::FsError(e)),
@@ -145,7 +146,7 @@ fn delete<F: DavFileSystem, L: DavLockSystem>(
     let path = closed(path, found.dir)?;
     let job = Deletion {
         path: &path,
-        deep,
+        reach,
         caller,
     };
     delete_found(fs, ls, alloc, conditions, &job, &found)

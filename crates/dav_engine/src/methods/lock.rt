@@ -19,9 +19,11 @@ ghost use Rattle.dav_engine.specs.Follows.{as_is, FollowsOnLocks, viewed};
 ghost use Rattle.dav_engine.specs.Lock as spec;
 ghost use Rattle.dav_engine.specs.Lock.{is_absent};
 ghost use Rattle.dav_engine.specs.LockView.{GrantsNew, LastsFrom};
+ghost use Rattle.dav_engine.specs.MembersView.{members_change};
 ghost use Rattle.dav_engine.specs.Method.{require_parent};
 ghost use Rattle.dav_engine.specs.Multistatus.{xml_type};
 ghost use Rattle.dav_engine.specs.Plan.{Ran};
+ghost use Rattle.dav_engine.specs.Reach.{reaches_below};
 ghost use Rattle.dav_core.specs.Asking.{Asks};
 
 mod headers;
@@ -29,9 +31,9 @@ mod info;
 
 use crate::conditions::Conditions;
 use crate::davinner::{Caller, DavInner};
-use crate::depth::whole_depth;
+use crate::depth::{Reach, whole_depth};
 use crate::folder::{closed, is_folder_found, tree_headers};
-use crate::locks::{Reach, is_open, parent_allowed};
+use crate::locks::{Members, is_open, parent_allowed};
 use crate::methods::lock::headers::LockHeaders;
 use crate::methods::lock::info::{LockInfo, lock_info};
 use crate::opening::missing_status;
@@ -130,45 +132,45 @@ fn lock_of(
     headers: &LockHeaders,
     path: &DavPath,
     caller: &Caller<'_>,
-    deep: bool,
+    reach: Reach,
     info: LockInfo,
     token: &str,
 ) -> Result<DavLock, NoMemory>
     requires { caller.now.moment ≤ last_moment }
     ensures lock { IfOk result (λ l. l
-        ≡ spec.lock_of headers.now path.now caller.now deep info token.now) }
+        ≡ spec.lock_of headers.now path.now caller.now (reaches_below reach) info token.now) }
     ensures lasts { IfOk result (LastsFrom caller.now.moment) }
     ensures path { IfOk result (λ l. l.path ≡ path.now) }
 {
-    let timeout = headers.granted_for(info.shared);
+    let timeout = headers.granted_for(info.scope);
     Ok(DavLock {
         token: String::from_str(alloc, token)?,
         path: path.clone()?,
         principal: copy_of(alloc, caller.principal)?,
         timeout_at: ends_at(caller.moment, timeout),
         timeout,
-        shared: info.shared,
-        deep,
+        shared: info.scope.is_shared(),
+        deep: reach.reaches_below(),
         owner: info.owner,
     })
 }
 
-// Checks the locks on the folder above a path, where a file is to be made there.
+// Checks the locks on the folder above a path, where its members change.
 fn folder_allowed<L: DavLockSystem>(
     ls: Option<&L>,
     alloc: Global,
     conditions: &Conditions,
     path: &DavPath,
     caller: &Caller<'_>,
-    makes: bool,
+    members: Members,
 ) -> DavResult<()>
-    ensures { FollowsOnLocks (λ u. u) (require_parent makes
+    ensures { FollowsOnLocks (λ u. u) (require_parent (members_change members)
         (requester caller.now (submitted conditions.now.lists)) (names path.now)
         (DavError.Status 423)) (locks_in L.locks ls.entry) result (locks_in L.locks ls.entry) }
 {
     let tokens = conditions.tokens(alloc)?;
     let locked = DavError::Status(StatusCode::LOCKED);
-    parent_allowed(ls, makes, path, caller.principal, &tokens, locked)
+    parent_allowed(ls, members, path, caller.principal, &tokens, locked)
 }
 
 // Why a lock isn't granted, if it isn't.
@@ -418,7 +420,7 @@ impl<'a, 'b, 'c, F: DavFileSystem, L: DavLockSystem> DavInner<'a, 'b, 'c, F, L> 
         ensures lasts { IfOk result (LastsFrom self.old.caller.now.moment) }
         ensures path { IfOk result (λ l. l.path ≡ path.now) }
     {
-        let deep = whole_depth(headers.depth)?;
+        let reach = whole_depth(headers.depth)?;
         let caller = self.caller;
         let backend = &mut *self.backend;
         let fs = &mut backend.fs;
@@ -441,9 +443,9 @@ impl<'a, 'b, 'c, F: DavFileSystem, L: DavLockSystem> DavInner<'a, 'b, 'c, F, L> 
             &headers.conditions,
             path,
             caller,
-            found.is_none(),
+            Members::when_made(found),
         )?;
-        Ok(lock_of(alloc, headers, path, caller, deep, info, token)?)
+        Ok(lock_of(alloc, headers, path, caller, reach, info, token)?)
     }
 
     // Grants a new lock. All memory for the reply is had before, so that no lock is granted whose token the client doesn't learn.

@@ -8,7 +8,8 @@ ghost use Rattle.dav_engine.specs.Mkcol as spec;
 
 use crate::conditions::Conditions;
 use crate::davinner::{Caller, DavInner};
-use crate::locks::{Reach, member_allowed};
+use crate::depth::Reach;
+use crate::locks::{Members, member_allowed};
 use crate::reply::{Reply, ReplyBody, set_location};
 use crate::request::{Body, DavRequest};
 use dav_core::davpath::DavPath;
@@ -68,7 +69,7 @@ fn allowed<F: DavFileSystem, L: DavLockSystem>(
     member_allowed(
         ls,
         Reach::Alone,
-        found.is_none(),
+        Members::when_made(found.as_ref()),
         path,
         caller.principal,
         &tokens,

@@ -105,9 +105,9 @@ fn told<F: DavFileSystem, L: DavLockSystem>(
     if headers.tells_itself() {
         writer.tell(alloc, fs, ls, found)?;
     }
-    let deep = headers.is_infinite();
+    let reach = headers.member_reach();
     let wanted = found.meta.dir && headers.tells_members();
-    tell_below(fs, ls, alloc, deep, &mut writer, found.path, wanted)?;
+    tell_below(fs, ls, alloc, reach, &mut writer, found.path, wanted)?;
     Ok(writer)
 }
 

@@ -11,8 +11,9 @@ mod changes;
 
 use crate::conditions::Conditions;
 use crate::davinner::{Caller, DavInner};
+use crate::depth::Reach;
 use crate::folder::{closed, tree_headers};
-use crate::locks::{Reach, is_open};
+use crate::locks::is_open;
 use crate::methods::proppatch::changes::{
     Change, all_done, all_failed, as_patches, changes_in, grouped, has_refused, judge,
 };

@@ -11,7 +11,8 @@ ghost use Rattle.dav_engine.specs.Put as spec;
 pub(crate) mod headers;
 
 use crate::davinner::DavInner;
-use crate::locks::{Reach, member_allowed};
+use crate::depth::Reach;
+use crate::locks::{Members, member_allowed};
 use crate::methods::put::headers::{Bounds, PutHeaders, Writing};
 use crate::opening::missing_status;
 use crate::reply::{Reply, ReplyBody, set_header, set_length, set_validators};
@@ -389,7 +390,7 @@ impl<'a, 'b, 'c, F: DavFileSystem, L: DavLockSystem> DavInner<'a, 'b, 'c, F, L> 
         member_allowed(
             ls,
             Reach::Alone,
-            found.is_none(),
+            Members::when_made(found.as_ref()),
             &request.path,
             caller.principal,
             &tokens,

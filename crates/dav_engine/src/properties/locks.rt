@@ -3,10 +3,12 @@ ghost use Rattle.std.specs.Prelude.{◌≡◌, ◌∷◌, [], codes, string_byte
 ghost use Rattle.dav_core.specs.Path.{names};
 ghost use Rattle.dav_headers.specs.Timeout.{time_type_text};
 ghost use Rattle.dav_engine.specs.ConditionView.{locks_in};
+ghost use Rattle.dav_engine.specs.LockScope.{is_shared};
 ghost use Rattle.dav_engine.specs.LockTree.{active_lock, locks_found, locks_supported, lock_reply};
 ghost use Rattle.dav_engine.specs.LockTree as spec;
 ghost use Rattle.dav_engine.specs.Multistatus.{dav_element, href as spec_href};
 
+use crate::lock_scope::LockScope;
 use crate::reply::multistatus::href;
 use crate::reply::tree::{declaring_dav, holding, saying, with_child};
 use dav_core::davpath::DavPath;
@@ -15,14 +17,13 @@ use dav_core::errors::NoMemory;
 use dav_core::ls::{DavLock, DavLockSystem};
 use std::alloc::Global;
 
-// Whether a lock is shared.
-fn lock_scope(alloc: Global, shared: bool) -> Result<Element, NoMemory>
-    ensures { IfOk result (λ e. e ≡ spec.lock_scope shared) }
+// The scope of a lock.
+fn lock_scope(alloc: Global, scope: LockScope) -> Result<Element, NoMemory>
+    ensures { IfOk result (λ e. e ≡ spec.lock_scope (is_shared scope)) }
 {
-    if shared {
-        holding(alloc, "D:lockscope", Element::new2(alloc, "D:shared")?)
-    } else {
-        holding(alloc, "D:lockscope", Element::new2(alloc, "D:exclusive")?)
+    match scope {
+        LockScope::Exclusive => holding(alloc, "D:lockscope", Element::new2(alloc, "D:exclusive")?),
+        LockScope::Shared => holding(alloc, "D:lockscope", Element::new2(alloc, "D:shared")?),
     }
 }
 
@@ -82,7 +83,7 @@ fn unowned(alloc: Global, lock: &DavLock) -> Result<Element, NoMemory>
     ensures { IfOk result (λ e. e ≡ dav_element (codes "activelock") (spec.lock_parts lock.now)) }
 {
     let element = Element::new2(alloc, "D:activelock");
-    let element = with_child(element, lock_scope(alloc, lock.shared));
+    let element = with_child(element, lock_scope(alloc, LockScope::of(lock.shared)));
     let element = with_child(element, lock_type(alloc));
     let element = with_child(element, lock_depth(alloc, lock.deep));
     let element = with_child(element, lock_timeout(alloc, lock.timeout));
@@ -128,11 +129,11 @@ pub fn list_lockdiscovery<L: DavLockSystem>(
 }
 
 // A kind of lock that is supported.
-fn lock_entry(alloc: Global, shared: bool) -> Result<Element, NoMemory>
-    ensures { IfOk result (λ e. e ≡ spec.lock_entry shared) }
+fn lock_entry(alloc: Global, scope: LockScope) -> Result<Element, NoMemory>
+    ensures { IfOk result (λ e. e ≡ spec.lock_entry (is_shared scope)) }
 {
     let element = Element::new2(alloc, "D:lockentry");
-    let element = with_child(element, lock_scope(alloc, shared));
+    let element = with_child(element, lock_scope(alloc, scope));
     with_child(element, lock_type(alloc))
 }
 
@@ -148,8 +149,8 @@ pub fn list_supportedlock<L: DavLockSystem>(
     if ls.is_none() {
         return element;
     }
-    let element = with_child(element, lock_entry(alloc, false));
-    with_child(element, lock_entry(alloc, true))
+    let element = with_child(element, lock_entry(alloc, LockScope::Exclusive));
+    with_child(element, lock_entry(alloc, LockScope::Shared))
 }
 
 // What the reply to a LOCK holds.

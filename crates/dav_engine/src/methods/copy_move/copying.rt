@@ -9,9 +9,11 @@ ghost use Rattle.dav_engine.specs.Copying.{copy_report, last_refusal, copy_folde
 ghost use Rattle.dav_engine.specs.Copying as spec;
 ghost use Rattle.dav_engine.specs.CopyView.{copy_below};
 ghost use Rattle.dav_engine.specs.Folder.{child_of};
+ghost use Rattle.dav_engine.specs.Reach.{reaches_below};
 ghost use Rattle.dav_engine.specs.Walked.{Walked, Walks};
 ghost use Rattle.dav_engine.specs.WalkView.{entry_view};
 
+use crate::depth::Reach;
 use crate::folder::{child, names_fit};
 use crate::methods::delete::removal::{report, status_of};
 use crate::reply::multistatus::MultiError;
@@ -29,8 +31,8 @@ pub struct CopyJob<'a> {
     pub source: &'a DavPath,
     /// Where it is copied to.
     pub destination: &'a DavPath,
-    /// Whether everything below goes along.
-    pub deep: bool,
+    /// Whether the source is copied alone, or with everything below it.
+    pub reach: Reach,
     /// When it is copied, in seconds since 1970.
     pub moment: u64,
 }
@@ -107,7 +109,8 @@ fn copy_one<F: DavFileSystem>(
 ) -> Result<Option<FsError>, NoMemory>
     requires moment { job.now.moment ≤ last_moment }
     requires path { job.now.source.now.bytes ≢ star }
-    ensures { Walks copy_report last_refusal (spec.copying job.now.deep job.now.moment
+    ensures { Walks copy_report last_refusal (spec.copying
+        (reaches_below job.now.reach) job.now.moment
         job.now.top.now job.now.source.now job.now.destination.now)
         (F.state fs.old) errors.old errors.new result (F.state fs.new) }
 {
@@ -122,7 +125,7 @@ fn copy_one<F: DavFileSystem>(
     if !meta.dir {
         return copy_file(fs, alloc, job, errors);
     }
-    if !job.deep {
+    if !job.reach.reaches_below() {
         return copy_alone(fs, alloc, job.destination, job.moment, errors);
     }
     copy_folder(fs, alloc, job, errors)
@@ -209,7 +212,7 @@ fn copy_entry<F: DavFileSystem>(
         top: job.top,
         source: &from,
         destination: &to,
-        deep: true,
+        reach: Reach::WithAllBelow,
         moment: job.moment,
     };
     copy_one(fs, alloc, &member, errors)
@@ -225,7 +228,8 @@ pub fn copying<F: DavFileSystem>(
 ) -> Result<Option<FsError>, NoMemory>
     requires moment { job.now.moment ≤ last_moment }
     requires path { job.now.source.now.bytes ≢ star }
-    ensures { Walks copy_report last_refusal (spec.copying job.now.deep job.now.moment
+    ensures { Walks copy_report last_refusal (spec.copying
+        (reaches_below job.now.reach) job.now.moment
         job.now.top.now job.now.source.now job.now.destination.now)
         (F.state fs.old) errors.old errors.new result (F.state fs.new) }
 {

@@ -5,10 +5,12 @@ ghost use Rattle.dav_core.specs.World.{last_moment};
 ghost use Rattle.dav_core.specs.Path.{names, star};
 ghost use Rattle.dav_core.specs.Status.{fs_status};
 ghost use Rattle.dav_engine.specs.Folder.{room_at};
+ghost use Rattle.dav_engine.specs.Reach.{reaches_below};
 ghost use Rattle.dav_engine.specs.Removal.{remove, removal, remove_member, each, emptied_status, report_of};
 ghost use Rattle.dav_engine.specs.Walked.{Walks};
 ghost use Rattle.dav_engine.specs.WalkView.{below, entry_view};
 
+use crate::depth::Reach;
 use crate::folder::{child, names_fit};
 use crate::reply::multistatus::MultiError;
 use dav_core::davpath::DavPath;
@@ -144,12 +146,12 @@ fn remove_entry<F: DavFileSystem>(
     remove_one(fs, alloc, &child, meta.dir, now, errors)
 }
 
-/// Removes what is at a path, which is a folder or not, with everything below it if `deep`, else alone; it goes on where the
+/// Removes what is at a path, which is a folder or not, alone or with everything below it; it goes on where the
 /// store refuses a call (RFC 4918, section 9.6.1). Whether nothing stays: what does is added to the collector.
 pub fn removal<F: DavFileSystem>(
     fs: &mut F,
     alloc: Global,
-    deep: bool,
+    reach: Reach,
     path: &DavPath,
     dir: bool,
     now: u64,
@@ -157,10 +159,10 @@ pub fn removal<F: DavFileSystem>(
 ) -> Result<bool, NoMemory>
     requires moment { now ≤ last_moment }
     requires path { path.now.bytes ≢ star }
-    ensures { Walks report_of is_empty (removal deep now path.now dir)
+    ensures { Walks report_of is_empty (removal (reaches_below reach) now path.now dir)
         (F.state fs.old) errors.old errors.new result (F.state fs.new) }
 {
-    if deep {
+    if reach.reaches_below() {
         return remove_one(fs, alloc, path, dir, now, errors);
     }
     if !dir {

@@ -9,6 +9,7 @@ ghost use Rattle.dav_engine.specs.LockHeaders as spec;
 use crate::conditions::Conditions;
 use crate::depth::depth_in;
 use crate::headers::{absent_if_invalid, values_of};
+use crate::lock_scope::LockScope;
 use crate::request::DavRequest;
 use dav_core::errors::NoMemory;
 use dav_headers::{DavTimeout, Depth, Timeout, names};
@@ -44,19 +45,22 @@ fn timeout_in(alloc: Global, headers: &HeaderMap) -> Result<Option<Timeout>, NoM
 }
 
 // How many seconds a lock lasts at most.
-fn longest(shared: bool) -> u64
-    ensures { result ≡ spec.longest shared }
+fn longest(scope: LockScope) -> u64
+    ensures { result ≡ spec.longest scope }
 {
-    if shared { 86_400 } else { 600 }
+    match scope {
+        LockScope::Exclusive => 600,
+        LockScope::Shared => 86_400,
+    }
 }
 
 // For how many seconds a new lock is granted where this time is wanted.
-fn granted_seconds(shared: bool, wanted: &DavTimeout) -> u64
-    ensures { result ≡ spec.granted_seconds shared wanted.now }
+fn granted_seconds(scope: LockScope, wanted: &DavTimeout) -> u64
+    ensures { result ≡ spec.granted_seconds scope wanted.now }
 {
     match wanted {
-        DavTimeout::Seconds(seconds) => u64::from(*seconds).min(longest(shared)),
-        DavTimeout::Infinite => longest(shared),
+        DavTimeout::Seconds(seconds) => u64::from(*seconds).min(longest(scope)),
+        DavTimeout::Infinite => longest(scope),
     }
 }
 
@@ -65,7 +69,9 @@ fn refreshed_seconds(wanted: &DavTimeout) -> Option<u64>
     ensures { result ≡ spec.refreshed_seconds wanted.now }
 {
     match wanted {
-        DavTimeout::Seconds(seconds) => Some(u64::from(*seconds).min(longest(false))),
+        DavTimeout::Seconds(seconds) => Some(u64::from(*seconds).min(longest(
+            LockScope::Exclusive,
+        ))),
         DavTimeout::Infinite => None,
     }
 }
@@ -91,10 +97,10 @@ impl LockHeaders {
     }
 
     /// How many seconds a new lock lasts; without a number it never ends.
-    pub fn granted_for(&self, shared: bool) -> Option<u64>
-        ensures { result ≡ spec.granted_for shared self.now.timeout }
+    pub fn granted_for(&self, scope: LockScope) -> Option<u64>
+        ensures { result ≡ spec.granted_for scope self.now.timeout }
     {
-        Some(granted_seconds(shared, self.preferred()?))
+        Some(granted_seconds(scope, self.preferred()?))
     }
 
     /// How many seconds a lock lasts that is refreshed; without a number it never ends.

@@ -6,6 +6,7 @@ ghost use Rattle.dav_core.specs.Element.{child_elements};
 ghost use Rattle.dav_engine.specs.LockInfo.{with_dav_prefix};
 ghost use Rattle.dav_engine.specs.LockInfo as spec;
 
+use crate::lock_scope::LockScope;
 use crate::request::Body;
 use dav_core::element::Element;
 use dav_core::errors::NoMemory;
@@ -15,8 +16,8 @@ use std::marker::Model;
 /// A lock for writing.
 #[derive(Drop)]
 pub struct LockInfo {
-    /// Whether others may share it.
-    pub shared: bool,
+    /// Whether it is exclusive or shared.
+    pub scope: LockScope,
     /// The element in which its owner describes itself.
     pub owner: Option<Element>,
 }
@@ -27,8 +28,9 @@ impl Model for LockInfo {
     ghost Value = { asked.LockInfo };
 
     ghost use Rattle.dav_engine.specs.StateCode.{coded_lock_info};
+    ghost use Rattle.dav_engine.specs.contracts.lock_scope.LockScope as lock_scope;
 
-    ghost coded = { coded_lock_info };
+    ghost coded = { coded_lock_info lock_scope.the_row.coded };
 
     ghost use Rattle.dav_engine.specs.LockView.{lock_info_of};
 
@@ -42,19 +44,19 @@ fn first_name(element: &Element) -> Option<&str>
     Some(element.child_elems().next()?.name.as_str())
 }
 
-// Whether the scope of this name is that of shared locks.
-fn scope_named(name: &str) -> Option<bool>
+// The scope of this name.
+fn scope_named(name: &str) -> Option<LockScope>
     ensures { result ≡ spec.scope_named name.now }
 {
     match name {
-        "exclusive" => Some(false),
-        "shared" => Some(true),
+        "exclusive" => Some(LockScope::Exclusive),
+        "shared" => Some(LockScope::Shared),
         _ => None,
     }
 }
 
 // The scope that a `lockscope` states.
-fn scope_of(part: &Element) -> Option<bool>
+fn scope_of(part: &Element) -> Option<LockScope>
     ensures { result ≡ spec.scope_of part.now }
 {
     if part.name.as_str() == "lockscope" {
@@ -117,16 +119,16 @@ fn is_lock_info(element: &Element) -> bool
 }
 
 // The scope that is stated last.
-fn last_scope(element: &Element) -> Option<bool>
+fn last_scope(element: &Element) -> Option<LockScope>
     ensures { result ≡ spec.last_scope (child_elements element.now) }
 {
-    let mut scope = None;
+    let mut last = None;
     for part in element.child_elems() {
-        if let Some(shared) = scope_of(part) {
-            scope = Some(shared);
+        if let Some(scope) = scope_of(part) {
+            last = Some(scope);
         }
     }
-    scope
+    last
 }
 
 // The last owner.
@@ -175,9 +177,9 @@ pub fn lock_info(alloc: Global, body: &Body) -> Result<Option<LockInfo>, NoMemor
     if !is_lock_info(tree) {
         return Ok(None);
     }
-    let Some(shared) = last_scope(tree) else {
+    let Some(scope) = last_scope(tree) else {
         return Ok(None);
     };
     let owner = owner_in(alloc, tree)?;
-    Ok(Some(LockInfo { shared, owner }))
+    Ok(Some(LockInfo { scope, owner }))
 }

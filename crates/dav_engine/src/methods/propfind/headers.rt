@@ -4,8 +4,9 @@ ghost use Rattle.std.specs.Option.{is_some};
 ghost use Rattle.http_header.specs.HeaderMap.{get_all};
 ghost use Rattle.dav_headers.specs.Value.{only_text};
 ghost use Rattle.dav_engine.specs.Propfind as spec;
+ghost use Rattle.dav_engine.specs.Reach.{reaches_below};
 
-use crate::depth::depth_in;
+use crate::depth::{Reach, depth_in};
 use crate::headers::{absent_if_invalid, values_of};
 use dav_core::errors::NoMemory;
 use dav_headers::{Depth, XLitmus, names};
@@ -60,8 +61,8 @@ impl FindHeaders {
         !(self.is_infinite() && !self.is_test)
     }
 
-    /// Whether the depth has no limit.
-    pub fn is_infinite(&self) -> bool
+    // Whether the depth has no limit.
+    fn is_infinite(&self) -> bool
         ensures { result ≡ spec.is_infinite self.now.depth }
     {
         matches!(self.depth, Some(Depth::Infinity))
@@ -72,6 +73,17 @@ impl FindHeaders {
         ensures { result ≡ spec.tells_itself self.now.depth }
     {
         self.depth.is_some()
+    }
+
+    /// Whether each member is told of alone, or with everything below it.
+    pub fn member_reach(&self) -> Reach
+        ensures { reaches_below result ≡ spec.is_infinite self.now.depth }
+    {
+        if self.is_infinite() {
+            Reach::WithAllBelow
+        } else {
+            Reach::Alone
+        }
     }
 
     /// Whether its members are told of.

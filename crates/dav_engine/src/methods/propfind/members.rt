@@ -6,9 +6,11 @@ ghost use Rattle.dav_engine.specs.FindView.{told_below, told_entry};
 ghost use Rattle.dav_engine.specs.Folder.{room_at};
 ghost use Rattle.dav_engine.specs.Follows.{as_is};
 ghost use Rattle.dav_engine.specs.Propfind.{tell_below, tell_members};
+ghost use Rattle.dav_engine.specs.Reach.{reaches_below};
 ghost use Rattle.dav_engine.specs.WalkView.{entry_view};
 ghost use Rattle.dav_engine.specs.PropWriter.{Tells};
 
+use crate::depth::Reach;
 use crate::folder::{child, names_fit};
 use crate::properties::live::Resource;
 use crate::properties::prop_writer::PropWriter;
@@ -18,21 +20,21 @@ use dav_core::fs::{DavDirEntry, DavFileSystem, ReadDirMeta};
 use dav_core::ls::DavLockSystem;
 use std::alloc::Global;
 
-/// Adds the responses for what is below a path, where that is wanted: for the members of the folder, and if `deep` for what is
-/// below each of them behind it. What the store refuses to list or to tell of is passed over.
+/// Adds the responses for what is below a path, where that is wanted: for each member of the folder alone, or with everything
+/// below the member after it. What the store refuses to list or to tell of is passed over.
 #[cycle(members)]
 pub fn tell_below<F: DavFileSystem, L: DavLockSystem>(
     fs: &mut F,
     ls: Option<&L>,
     alloc: Global,
-    deep: bool,
+    reach: Reach,
     writer: &mut PropWriter,
     path: &DavPath,
     wanted: bool,
 ) -> Result<(), NoMemory>
     requires path { path.now.bytes ≢ star }
     ensures { Tells (locks_in L.locks ls.entry) as_is
-        (tell_below deep (room_at path.now) writer.old.writer path.now wanted)
+        (tell_below (reaches_below reach) (room_at path.now) writer.old.writer path.now wanted)
         writer.old (λ _. writer.new) (F.state fs.old) result (F.state fs.new) }
 {
     if !wanted {
@@ -40,7 +42,7 @@ pub fn tell_below<F: DavFileSystem, L: DavLockSystem>(
     }
     names_fit(path);
     match fs.read_dir(alloc, path, ReadDirMeta::DataSymlink) {
-        Ok(entries) => tell_members(fs, ls, alloc, deep, writer, path, &entries),
+        Ok(entries) => tell_members(fs, ls, alloc, reach, writer, path, &entries),
         Err(_) => Ok(()),
     }
 }
@@ -51,7 +53,7 @@ fn tell_members<F: DavFileSystem, L: DavLockSystem>(
     fs: &mut F,
     ls: Option<&L>,
     alloc: Global,
-    deep: bool,
+    reach: Reach,
     writer: &mut PropWriter,
     path: &DavPath,
     entries: &[F::Entry],
@@ -59,13 +61,13 @@ fn tell_members<F: DavFileSystem, L: DavLockSystem>(
     requires path { path.now.bytes ≢ star }
     requires folder { All (λ e. F.Entry.entry_folder e ≡ names path.now) entries.now }
     ensures { Tells (locks_in L.locks ls.entry) as_is
-        (λ known. tell_members (told_below deep path.now writer.old.writer)
+        (λ known. tell_members (told_below (reaches_below reach) path.now writer.old.writer)
         writer.old.writer path.now known
         (map (entry_view F.Entry.entry_name F.Entry.entry_dir) entries.now))
         writer.old (λ _. writer.new) (F.state fs.old) result (F.state fs.new) }
 {
     for entry in entries {
-        tell_entry(fs, ls, alloc, deep, writer, path, entry)?;
+        tell_entry(fs, ls, alloc, reach, writer, path, entry)?;
     }
     Ok(())
 }
@@ -76,7 +78,7 @@ fn tell_entry<F: DavFileSystem, L: DavLockSystem>(
     fs: &mut F,
     ls: Option<&L>,
     alloc: Global,
-    deep: bool,
+    reach: Reach,
     writer: &mut PropWriter,
     path: &DavPath,
     entry: &F::Entry,
@@ -84,7 +86,8 @@ fn tell_entry<F: DavFileSystem, L: DavLockSystem>(
     requires path { path.now.bytes ≢ star }
     requires folder { F.Entry.entry_folder entry.now ≡ names path.now }
     ensures { Tells (locks_in L.locks ls.entry) as_is
-        (told_entry deep path.now writer.old.writer (F.Entry.entry_name entry.now))
+        (told_entry (reaches_below reach) path.now
+        writer.old.writer (F.Entry.entry_name entry.now))
         writer.old (λ _. writer.new) (F.state fs.old) result (F.state fs.new) }
 {
     let Ok(meta) = fs.entry_metadata(entry) else {
@@ -97,5 +100,6 @@ fn tell_entry<F: DavFileSystem, L: DavLockSystem>(
         meta: &meta,
     };
     writer.tell(alloc, fs, ls, member)?;
-    tell_below(fs, ls, alloc, deep, writer, &child, meta.dir && deep)
+    let wanted = meta.dir && reach.reaches_below();
+    tell_below(fs, ls, alloc, reach, writer, &child, wanted)
 }

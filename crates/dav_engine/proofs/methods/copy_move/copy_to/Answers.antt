@@ -1,5 +1,6 @@
 use Rattle.std.proofs.Common.{sym, ◌∙◌}
 use Rattle.std.proofs.lemmas.Result.{err_from_is_err_and}
+use Rattle.dav_engine.specs.Reach.{reaches_below}
 use Rattle.dav_engine.proofs.CutWalks.{cut_stops}
 use Rattle.dav_engine.proofs.CopyMoveLemmas.{copy_short, copy_left, copy_done}
 use Rattle.dav_engine.proofs.methods.copy_move.copy_to.Goals as goal
@@ -7,12 +8,12 @@ use Rattle.dav_engine.proofs.methods.copy_move.copy_to.Goals as goal
 pub returns-in_err-copying : goal.returns-in_err-copying
 returns-in_err-copying g c =
     let p = err_from_is_err_and c.from_residual.result c.from_residual.ensures.1 in
-    rw (p.1, p.2) (rw (← c.caller.view_is) (copy_short c.args.job.now.deep c.caller.inside.moment c.args.job.now.source.now c.args.job.now.destination.now c.args.status (cut_stops c.in_err-copying.ensures)))
+    rw (p.1, p.2) (rw (← c.caller.view_is) (copy_short (reaches_below c.args.job.now.reach) c.caller.inside.moment c.args.job.now.source.now c.args.job.now.destination.now c.args.status (cut_stops c.in_err-copying.ensures)))
 
 pub returns-then-is_some : goal.returns-then-is_some
 returns-then-is_some g c =
-    rw (← c.caller.view_is) (copy_left c.args.job.now.deep c.caller.inside.moment c.args.job.now.source.now c.args.job.now.destination.now c.args.status c.in_ok-copying.field-0 _ _ (sym c.is_some.ensures ∙ c.if-is_some.true) c.in_ok-copying.ensures (c.new-errors.ensures ∙ c.new.ensures.items) c.into_items.ensures c.multi_error.ensures.ok c.multi_error.ensures.err)
+    rw (← c.caller.view_is) (copy_left (reaches_below c.args.job.now.reach) c.caller.inside.moment c.args.job.now.source.now c.args.job.now.destination.now c.args.status c.in_ok-copying.field-0 _ _ (sym c.is_some.ensures ∙ c.if-is_some.true) c.in_ok-copying.ensures (c.new-errors.ensures ∙ c.new.ensures.items) c.into_items.ensures c.multi_error.ensures.ok c.multi_error.ensures.err)
 
 pub returns : goal.returns
 returns g c =
-    rw (← c.caller.view_is) (copy_done c.args.job.now.deep c.caller.inside.moment c.args.job.now.source.now c.args.job.now.destination.now c.args.status c.in_ok-copying.field-0 _ (sym c.is_some.ensures ∙ c.if-is_some.false) c.in_ok-copying.ensures c.status_reply.ensures)
+    rw (← c.caller.view_is) (copy_done (reaches_below c.args.job.now.reach) c.caller.inside.moment c.args.job.now.source.now c.args.job.now.destination.now c.args.status c.in_ok-copying.field-0 _ (sym c.is_some.ensures ∙ c.if-is_some.false) c.in_ok-copying.ensures c.status_reply.ensures)

@@ -24,7 +24,7 @@ returns-in_err-tell_below g c =
       | else-found w ↦ rw w.if-found.false (w.wanted-is ∙ w.if-found.false)
     ] in
     let p = err_from_is_err_and c.from_residual-in_err-tell_below.result c.from_residual-in_err-tell_below.ensures.1 in
-    rw p.1 (below_cut _ c.args.headers.now c.args.writer c.args.found.path.now c.args.found.meta.now _ _ _ c.is_infinite-deep.ensures both first c.in_err-tell_below.ensures)
+    rw p.1 (below_cut _ c.args.headers.now c.args.writer c.args.found.path.now c.args.found.meta.now _ _ _ c.member_reach-reach.ensures both first c.in_err-tell_below.ensures)
 
 pub returns : goal.returns
 returns g c =
@@ -36,4 +36,4 @@ returns g c =
       | then-found w ↦ rw w.if-found.true (w.wanted-is ∙ w.tells_members-wanted.ensures)
       | else-found w ↦ rw w.if-found.false (w.wanted-is ∙ w.if-found.false)
     ] in
-    both_told _ c.args.headers.now c.args.writer c.args.found.path.now c.args.found.meta.now _ _ _ _ c.is_infinite-deep.ensures both first c.in_ok-tell_below.ensures
+    both_told _ c.args.headers.now c.args.writer c.args.found.path.now c.args.found.meta.now _ _ _ _ c.member_reach-reach.ensures both first c.in_ok-tell_below.ensures

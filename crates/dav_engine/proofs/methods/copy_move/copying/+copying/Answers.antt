@@ -3,6 +3,7 @@ use Rattle.dav_core.specs.Path.{names, star, are_equal}
 use Rattle.dav_engine.specs.CopyView.{copy_below}
 use Rattle.dav_engine.specs.Folder.{room_at}
 use Rattle.dav_engine.specs.WalkView.{entry_view}
+use Rattle.dav_engine.specs.Reach.{reaches_below}
 use Rattle.dav_engine.proofs.CopyLemmas.{none_made, is_file, is_dir, top_skipped, look_told, kind_walks, alone_walks, deep_walks, folder_told, list_told, inside_walks, whole_first, unseen_told, part_member, whole_more, part_more, whole_ended, entry_walks, source_smaller}
 use Rattle.dav_engine.proofs.CutWalks.{cut_out}
 use Rattle.dav_engine.proofs.RemovalLemmas.{from_place, from_end, child_path}
@@ -106,30 +107,30 @@ copy_folder-returns-in-Err-read_dir g t c =
 pub copy_one-returns-then-eq : goal.copy_one-returns-then-eq
 copy_one-returns-then-eq g t c =
     let job = c.args.job.now in
-    top_skipped job.deep job.moment job.top.now job.source.now job.destination.now c.names_fit.ensures (sym c.eq.ensures ∙ c.if-eq.true)
+    top_skipped (reaches_below job.reach) job.moment job.top.now job.source.now job.destination.now c.names_fit.ensures (sym c.eq.ensures ∙ c.if-eq.true)
 
 pub copy_one-returns-in-Err : goal.copy_one-returns-in-Err
 copy_one-returns-in-Err g t c =
     let job = c.args.job.now in
     let other : are_equal job.source.now job.top.now ≡ false = sym c.eq.ensures ∙ c.if-eq.false in
-    look_told job.deep job.moment job.top.now job.source.now job.destination.now c.names_fit.ensures other c.refused.result _ _ c.in-Err.ensures.asks c.refused.ensures.ok c.refused.ensures.err
+    look_told (reaches_below job.reach) job.moment job.top.now job.source.now job.destination.now c.names_fit.ensures other c.refused.result _ _ c.in-Err.ensures.asks c.refused.ensures.ok c.refused.ensures.err
 
 pub copy_one-returns-then-not-meta : goal.copy_one-returns-then-not-meta
 copy_one-returns-then-not-meta g t c =
     let job = c.args.job.now in
     let other : are_equal job.source.now job.top.now ≡ false = sym c.eq.ensures ∙ c.if-eq.false in
-    kind_walks job.deep job.moment job.top.now job.source.now job.destination.now c.names_fit.ensures other c.in-Ok.ensures.asks c.copy_file.result _ _ _ false (is_file c.in-Ok.meta.dir c.if-not-meta.true) c.copy_file.ensures
+    kind_walks (reaches_below job.reach) job.moment job.top.now job.source.now job.destination.now c.names_fit.ensures other c.in-Ok.ensures.asks c.copy_file.result _ _ _ false (is_file c.in-Ok.meta.dir c.if-not-meta.true) c.copy_file.ensures
 
-pub copy_one-returns-then-not-job : goal.copy_one-returns-then-not-job
-copy_one-returns-then-not-job g t c =
+pub copy_one-returns-then-not-reaches_below : goal.copy_one-returns-then-not-reaches_below
+copy_one-returns-then-not-reaches_below g t c =
     let job = c.args.job.now in
     let other : are_equal job.source.now job.top.now ≡ false = sym c.eq.ensures ∙ c.if-eq.false in
-    kind_walks job.deep job.moment job.top.now job.source.now job.destination.now c.names_fit.ensures other c.in-Ok.ensures.asks c.copy_alone.result _ _ _ true (is_dir c.in-Ok.meta.dir c.if-not-meta.false)
-    (alone_walks job.deep _ job.moment job.source.now job.destination.now c.copy_alone.result _ _ _ _ c.if-not-job.true c.copy_alone.ensures)
+    kind_walks (reaches_below job.reach) job.moment job.top.now job.source.now job.destination.now c.names_fit.ensures other c.in-Ok.ensures.asks c.copy_alone.result _ _ _ true (is_dir c.in-Ok.meta.dir c.if-not-meta.false)
+    (alone_walks (reaches_below job.reach) _ job.moment job.source.now job.destination.now c.copy_alone.result _ _ _ _ (sym c.reaches_below.ensures ∙ c.if-not-reaches_below.true) c.copy_alone.ensures)
 
 pub copy_one-returns : goal.copy_one-returns
 copy_one-returns g t c =
     let job = c.args.job.now in
     let other : are_equal job.source.now job.top.now ≡ false = sym c.eq.ensures ∙ c.if-eq.false in
-    kind_walks job.deep job.moment job.top.now job.source.now job.destination.now c.names_fit.ensures other c.in-Ok.ensures.asks c.copy_folder.result _ _ _ true (is_dir c.in-Ok.meta.dir c.if-not-meta.false)
-    (deep_walks job.deep job.moment job.top.now job.source.now job.destination.now c.copy_folder.result _ _ _ _ c.if-not-job.false c.copy_folder.ensures)
+    kind_walks (reaches_below job.reach) job.moment job.top.now job.source.now job.destination.now c.names_fit.ensures other c.in-Ok.ensures.asks c.copy_folder.result _ _ _ true (is_dir c.in-Ok.meta.dir c.if-not-meta.false)
+    (deep_walks (reaches_below job.reach) job.moment job.top.now job.source.now job.destination.now c.copy_folder.result _ _ _ _ (sym c.reaches_below.ensures ∙ c.if-not-reaches_below.false) c.copy_folder.ensures)

@@ -6,4 +6,4 @@ use Rattle.dav_engine.specs.LockInfo.{scope_of, last_scope}
 use Rattle.dav_engine.proofs.methods.lock.info.last_scope.Given as goal
 
 abbrev pub invariant-loop-part : goal.invariant-loop-part
-invariant-loop-part l = last_or l.scope (filter_map scope_of (elements_left l.part-iterator)) ≡ last_scope (child_elements l.element)
+invariant-loop-part l = last_or l.last (filter_map scope_of (elements_left l.part-iterator)) ≡ last_scope (child_elements l.element)

@@ -2,6 +2,7 @@ use Rattle.std.proofs.Common.{◌+◌, ◌*◌, map, drop}
 use Rattle.dav_engine.specs.ConditionView.{locks_in}
 use Rattle.dav_engine.specs.Folder.{room_at}
 use Rattle.dav_engine.specs.WalkView.{entry_view}
+use Rattle.dav_engine.specs.Reach.{reaches_below}
 use Rattle.dav_engine.proofs.TellLemmas.{Rest}
 use Rattle.dav_engine.proofs.methods.propfind.members.+members.Given as goal
 
@@ -19,4 +20,4 @@ abbrev pub invariant-tell_members-loop-entry : goal.invariant-tell_members-loop-
 invariant-tell_members-loop-entry g l =
     let state = g.F.DavFileSystem.state in
     let view = entry_view g.F.Entry.DavDirEntry.entry_name g.F.Entry.DavDirEntry.entry_dir in
-    Rest (locks_in g.L.DavLockSystem.locks l.ls) l.deep l.path (map view l.fn.entries) l.fn.writer (state l.fn.fs) (map view (drop l.entry-index l.entries)) l.writer (state l.fs)
+    Rest (locks_in g.L.DavLockSystem.locks l.ls) (reaches_below l.reach) l.path (map view l.fn.entries) l.fn.writer (state l.fn.fs) (map view (drop l.entry-index l.entries)) l.writer (state l.fs)
