@@ -235,13 +235,15 @@ impl<D: Disk + Drop> Service<D> {
             → IfOk result (λ reply. IsReadByClient reply.body)
             × IsSendableServer self.new.handler.server.state }
     {
-        let Ok(reply) = self.handler.handle(self.alloc, exchange) else {
-            return Err(Stop);
-        };
-        if self.handler.fs().was_short() {
-            return Err(Stop);
+        match self.handler.handle(self.alloc, exchange) {
+            Ok(reply) => {
+                if self.handler.fs().was_short() {
+                    return Err(Stop);
+                }
+                Ok(reply)
+            }
+            Err(_) => Err(Stop),
         }
-        Ok(reply)
     }
 
     // Notes when the locks of which a reply tells end.
