@@ -1,5 +1,5 @@
 -- The reply to a PROPFIND may be sent.
-use Rattle.std.proofs.Common.{◌≡◌, ℕ, zero, suc, Bool, true, false, ◌&&◌, List, [], ◌∷◌, ◌++◌, Option, Some, None, Result, Ok, Err, subst}
+use Rattle.std.proofs.Common.{◌≡◌, ℕ, zero, suc, Bool, true, false, ◌&&◌, List, [], ◌∷◌, ◌++◌, Some, None, Result, Ok, Err, subst}
 use Rattle.dav_core.specs.declared.errors.FsError.{FsError}
 use Rattle.dav_core.specs.declared.errors.DavError.TheVariants as dav
 use Rattle.dav_core.specs.declared.fs.DavMetaData.{DavMetaData}
@@ -11,7 +11,7 @@ use Rattle.dav_engine.specs.Caller.{Caller}
 use Rattle.dav_engine.specs.Folder.{closed, child_of, location_found, room_at}
 use Rattle.dav_engine.specs.Headers.{Headers}
 use Rattle.dav_engine.specs.Method.{◌>>=◌, gives, required, refused_as}
-use Rattle.dav_engine.specs.Properties.{Writer, writer, user_agent, QuotaKnown, properties_of}
+use Rattle.dav_engine.specs.Properties.{Writer, writer, user_agent, QuotaKnown}
 use Rattle.dav_engine.specs.Propfind.{Responses, Below, query_in, tell_member, tell_if_found, tell_members, tell_listed, tell_below, tell_itself, tells_itself, tells_members, is_infinite, is_served_depth, FindHeaders, propfind_reply, propfind_found, propfind_if, propfind}
 use Rattle.dav_engine.specs.Reply.{Reply, Header}
 use Rattle.dav_engine.proofs.LockPlans.{required_is}

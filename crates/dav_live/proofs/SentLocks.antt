@@ -1,10 +1,9 @@
 -- The reply to a LOCK may be sent, and so may the locks that it and an UNLOCK leave.
-use Rattle.std.proofs.Common.{◌≡◌, ℕ, Bool, true, false, cond, List, [], ◌∷◌, ◌++◌, Option, Some, None, Result, Ok, Err, refl, sym, ap, subst}
+use Rattle.std.proofs.Common.{◌≡◌, ℕ, Bool, List, [], ◌∷◌, Option, Some, None, Result, Ok, Err, refl, subst}
 use Rattle.std.specs.List.{AllByRecursion, find as first}
 use Rattle.std.specs.Option.{option_map, option_and_then, unwrap_or, is_none}
 use Rattle.std.specs.Result.{result_ok}
 use Rattle.dav_core.specs.declared.errors.FsError.{FsError}
-use Rattle.dav_core.specs.declared.errors.DavError.{DavError}
 use Rattle.dav_core.specs.declared.errors.DavError.TheVariants as dav
 use Rattle.dav_core.specs.declared.fs.DavMetaData.{DavMetaData}
 use Rattle.dav_core.specs.declared.method.DavMethod.TheVariants as method
@@ -12,17 +11,17 @@ use Rattle.dav_core.specs.Asking.{Metadata, Open}
 use Rattle.dav_core.specs.Handle.{Handle, Opening}
 use Rattle.dav_core.specs.Lists.{without_first, change_first}
 use Rattle.dav_core.specs.Locks.{Lock, is_grantable, has_token_at, lock_front, named_lock, refreshed, refreshed_lock, unlocked, deleted}
-use Rattle.dav_core.specs.Path.{Path, PathText, names, is_at_or_under}
+use Rattle.dav_core.specs.Path.{Path, PathText, names}
 use Rattle.dav_engine.specs.declared.request.Body.{Body}
 use Rattle.dav_engine.specs.declared.request.Body.TheVariants as body
 use Rattle.dav_engine.specs.Caller.{Caller, requester}
-use Rattle.dav_engine.specs.Conditions.{if_match, submitted}
+use Rattle.dav_engine.specs.Conditions.{submitted}
 use Rattle.dav_engine.specs.Delete.{whole_depth}
 use Rattle.dav_engine.specs.Folder.{is_folder_found, path_found, location_found}
-use Rattle.dav_engine.specs.Lock.{token_to_refresh, keep_refreshed, refresh_in, lock_again, lock_of, asked_lock, grant_in, taken_back, empty_opening, create_or_unlock, make_empty, lock_new, is_absent, lock_found, lock}
+use Rattle.dav_engine.specs.Lock.{keep_refreshed, refresh_in, lock_again, lock_of, asked_lock, grant_in, taken_back, empty_opening, create_or_unlock, make_empty, lock_new, is_absent, lock}
 use Rattle.dav_engine.specs.LockHeaders.{LockHeaders, refreshed_for}
 use Rattle.dav_engine.specs.LockInfo.{LockInfo, lock_info}
-use Rattle.dav_engine.specs.Method.{MethodPlan, require, require_parent, has_locks, required, set_by, change_locks, drop_locks, unless_status}
+use Rattle.dav_engine.specs.Method.{has_locks, required, set_by, change_locks, drop_locks}
 use Rattle.dav_engine.specs.Plan.{Locks}
 use Rattle.dav_engine.specs.Reply.{Header}
 use Rattle.dav_engine.specs.Unlock.{keep_left, end_in, unlock}

@@ -1,12 +1,10 @@
 -- Paths that are told, and elements that are asked for by their names.
-use Rattle.std.proofs.Common.{◌≡◌, ℕ, Bool, true, false, cond, if◌then◌else◌, List, [], ◌∷◌, ◌++◌, map, codes, Option, Some, None, Ok, refl, ap, subst}
-use Rattle.std.specs.List.{AllByRecursion}
-use Rattle.std.specs.Option.{unwrap_or}
-use Rattle.dav_core.specs.Element.{ElementTree, element, text, no_trees, name_of, prefix_of, namespace_of, xmlns_name}
+use Rattle.std.proofs.Common.{◌≡◌, ℕ, Bool, true, false, List, [], ◌∷◌, ◌++◌, Option, Some, None, Ok, refl, subst}
+use Rattle.dav_core.specs.Element.{ElementTree, element, text}
 use Rattle.dav_core.specs.Path.{PathText, with_bytes, with_slash, is_nonempty}
 use Rattle.dav_engine.specs.Folder.{closed, child_of}
 use Rattle.dav_engine.specs.Properties.{asked_property}
-use Rattle.dav_engine.specs.Proppatch.{declares, by_name, element_by_name}
+use Rattle.dav_engine.specs.Proppatch.{declares, element_by_name}
 use Rattle.dav_xml.specs.Namespaces.{namespace_of as uri_named}
 use Rattle.dav_xml.specs.Expanded.{IsPlain, IsExpandedName, AreKept}
 use Rattle.dav_xml.specs.Sendable.{IsSendableAs, as_read, own_declared, known_prefix, IsSendable}

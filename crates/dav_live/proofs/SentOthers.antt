@@ -1,5 +1,5 @@
 -- Methods whose replies hold no tree.
-use Rattle.std.proofs.Common.{◌≡◌, ℕ, Bool, true, false, not, ◌==◌, List, length, Option, Some, None, Result, Ok, Err}
+use Rattle.std.proofs.Common.{ℕ, not, ◌==◌, List, length, Option, Some, None, Result, Ok, Err}
 use Rattle.std.specs.declared.io.traits.SeekFrom.TheVariants.{Start}
 use Rattle.dav_core.specs.declared.errors.FsError.{FsError}
 use Rattle.dav_core.specs.declared.errors.DavError.TheVariants as dav
@@ -10,8 +10,8 @@ use Rattle.dav_core.specs.Asking.{Metadata, Open, Read, Write, Seek, Flush, File
 use Rattle.dav_core.specs.Handle.{Handle}
 use Rattle.dav_core.specs.Path.{Path, PathText, names}
 use Rattle.dav_engine.specs.Caller.{Caller}
-use Rattle.dav_engine.specs.Conditions.{Conditions, if_match}
-use Rattle.dav_engine.specs.Method.{MethodPlan, ask_for, gives, require, refused_as}
+use Rattle.dav_engine.specs.Conditions.{Conditions}
+use Rattle.dav_engine.specs.Method.{MethodPlan, ask_for, gives, refused_as}
 use Rattle.dav_engine.specs.Mkcol.{create_error, mkcol}
 use Rattle.dav_engine.specs.Options.{options}
 use Rattle.dav_engine.specs.Plan.{Done}

@@ -1,12 +1,12 @@
 -- The owner of a lock may be sent as the server keeps it, where it is as the standard has it.
-use Rattle.std.proofs.Common.{◌≡◌, ℕ, Bool, true, false, cond, List, [], ◌∷◌, map, bytes_eq, codes, Option, Some, None, Result, Ok, refl, sym, ap, subst, ◌∙◌}
-use Rattle.std.specs.List.{AllByRecursion, filter, last_or}
+use Rattle.std.proofs.Common.{◌≡◌, ℕ, Bool, true, false, cond, List, [], ◌∷◌, map, bytes_eq, codes, Option, Some, None, refl, sym, ap, subst, ◌∙◌}
+use Rattle.std.specs.List.{AllByRecursion, filter}
 use Rattle.std.specs.Option.{option_map}
 use Rattle.dav_core.specs.Element.{ElementTree, ElementTrees, element, text, no_trees, tree_then, tree_list, trees, is_element, is_named, attributes_of, child_elements, namespace_of}
 use Rattle.dav_core.proofs.ElementLemmas.{tree_list_trees}
 use Rattle.dav_engine.specs.declared.lock_scope.LockScope.{LockScope}
 use Rattle.dav_engine.specs.declared.request.Body.TheVariants as body
-use Rattle.dav_engine.specs.LockInfo.{LockInfo, is_owner, is_lock_info, last_scope, last_owner, with_dav_prefix, asked_by, lock_info}
+use Rattle.dav_engine.specs.LockInfo.{LockInfo, is_owner, is_lock_info, last_scope, last_owner, with_dav_prefix, asked_by}
 use Rattle.dav_xml.specs.Expanded.{AreKept}
 use Rattle.dav_xml.specs.Namespaces.{has_prefix}
 use Rattle.dav_xml.specs.Prefixed.{namespace_under, renamed, under_prefix}

@@ -1,33 +1,28 @@
 -- The elements that the server writes may be sent.
-use Rattle.std.proofs.Common.{◌≡◌, ℕ, suc, Bool, true, false, cond, not, ◌&&◌, ◌||◌, ◌==◌, nat_lt, List, [], ◌∷◌, ◌++◌, map, codes, bytes_eq, Option, Some, None, Ok, refl, sym, ap, subst, ◌∙◌}
+use Rattle.std.proofs.Common.{◌≡◌, ℕ, Bool, true, false, cond, not, ◌&&◌, ◌||◌, List, [], ◌∷◌, ◌++◌, map, codes, bytes_eq, Option, Some, None, refl, ap, ◌∙◌}
 use Rattle.std.proofs.lemmas.Bool.{or_parts, and_parts, and_from}
 use Rattle.std.specs.Fmt.{decimal}
-use Rattle.std.specs.List.{AllByRecursion, filter, flat_map, list_any}
-use Rattle.std.specs.Option.{unwrap_or, option_to_list}
-use Rattle.http.specs.StatusCode.{reason_phrase}
-use Rattle.dav_core.specs.Element.{ElementTree, ElementTrees, element, text, trees, tree_list, no_trees, tree_then, name_of, prefix_of, namespace_of, child_elements, is_element, with_child, xmlns_name}
+use Rattle.std.specs.List.{AllByRecursion, filter, list_any}
+use Rattle.std.specs.Option.{option_to_list}
+use Rattle.dav_core.specs.Element.{ElementTree, ElementTrees, element, text, trees, tree_list, no_trees, tree_then, name_of, child_elements, is_element, with_child}
 use Rattle.dav_core.specs.Locks.{Lock, covers, discovered}
 use Rattle.dav_core.specs.Path.{Path, PathText, names, full_bytes, fronts, is_same_path, is_nonempty}
 use Rattle.dav_core.specs.UrlText.{path_text}
 use Rattle.dav_headers.specs.Timeout.{time_type_text}
-use Rattle.dav_headers.specs.declared.timeout.DavTimeout.{DavTimeout}
-use Rattle.dav_headers.specs.declared.timeout.DavTimeout.TheVariants.{Seconds, Infinite}
-use Rattle.dav_engine.specs.LockTree.{lock_scope, lock_type, lock_depth, time_type, lock_timeout, lock_token, lock_parts, active_lock, lock_discovery, locks_found, lock_entry, locks_supported, lock_reply}
+use Rattle.dav_engine.specs.LockTree.{lock_scope, lock_type, lock_depth, time_type, lock_parts, active_lock, lock_discovery, locks_found, lock_entry, locks_supported, lock_reply}
 use Rattle.dav_engine.specs.Multistatus.{dav_element, dav_text, declares_dav, href, status_line, status_element, multistatus, PathStatus, listed_status, response_for}
 use Rattle.dav_engine.specs.Plan.{Locks}
 use Rattle.dav_engine.specs.declared.properties.kind.Telling.{Telling}
 use Rattle.dav_engine.specs.declared.properties.kind.Telling.TheVariants.{Requested, AllProperties, NamesAlone, Outcomes, Others}
 use Rattle.dav_engine.specs.Properties.{Space, other_spaces, declaration, declared_for, is_in, Writer, told_by, value_text, has_values, live, Group, propstat, property_response}
-use Rattle.dav_engine.specs.Propfind.{finite_depth}
 use Rattle.dav_xml.specs.Legal.{IsLegal}
 use Rattle.dav_xml.specs.Namespaces.{has_attribute, are_distinct}
-use Rattle.dav_xml.specs.Written.{or_empty}
-use Rattle.dav_xml.specs.Expanded.{IsPlain, IsExpandedName, AreKept, IsDeclaration}
-use Rattle.dav_xml.specs.Sendable.{IsKnownPrefix, IsSendableAs, as_read, own_declared, known_prefix, IsSendable, AreSendable}
+use Rattle.dav_xml.specs.Expanded.{IsPlain, IsDeclaration}
+use Rattle.dav_xml.specs.Sendable.{IsKnownPrefix, IsSendableAs, known_prefix, IsSendable, AreSendable}
 use Rattle.dav_live.specs.Sent.{IsSendableText, IsSendableIfAny, IsSendableLock, AreSendableLocks}
-use Rattle.dav_live.proofs.Each.{test_of, each_append, each_filter, each_map, each_flat_map, each_weaker}
-use Rattle.dav_live.proofs.PlainWords.{plain_word, IsSpace, dav_is_space, apache_is_space, microsoft_is_space, nextcloud_is_space, owncloud_is_space, dav_known, declares_space}
-use Rattle.dav_live.proofs.Printed.{IsPrinted, printed_legal, printed_append, printed_more, none_printed, decimal_printed, path_printed, path_some, reason_printed}
+use Rattle.dav_live.proofs.Each.{test_of, each_append, each_filter, each_map, each_flat_map}
+use Rattle.dav_live.proofs.PlainWords.{plain_word, dav_is_space, apache_is_space, microsoft_is_space, nextcloud_is_space, owncloud_is_space, dav_known, declares_space}
+use Rattle.dav_live.proofs.Printed.{IsPrinted, printed_legal, printed_append, printed_more, decimal_printed, path_printed, path_some, reason_printed}
 
 abbrev pub AllSendable : List ElementTree → Type 0
 AllSendable es = AllByRecursion IsSendable es

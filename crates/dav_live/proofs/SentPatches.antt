@@ -1,5 +1,5 @@
 -- The reply to a PROPPATCH may be sent, and so may what it stores.
-use Rattle.std.proofs.Common.{◌≡◌, ℕ, Bool, true, false, cond, ◌||◌, ◌==◌, nat_lt, List, [], ◌∷◌, ◌++◌, map, codes, bytes_eq, Option, Some, None, Result, Ok, Err, refl, sym, ap, subst}
+use Rattle.std.proofs.Common.{◌≡◌, ℕ, Bool, true, false, cond, ◌==◌, nat_lt, List, [], ◌∷◌, ◌++◌, map, codes, bytes_eq, Option, Some, None, Result, Ok, Err, refl, sym, subst}
 use Rattle.std.specs.List.{AllByRecursion, filter, flat_map}
 use Rattle.std.specs.Option.{is_none, unwrap_or}
 use Rattle.std.specs.Prelude.{IfOk}
@@ -12,16 +12,16 @@ use Rattle.dav_core.specs.declared.method.DavMethod.TheVariants as method
 use Rattle.dav_core.specs.Asking.{Metadata, HaveProps, PatchProps}
 use Rattle.dav_core.specs.Element.{ElementTree, name_of, prefix_of, namespace_of, child_elements, is_named}
 use Rattle.dav_core.specs.Path.{Path, PathText, names}
-use Rattle.dav_core.specs.Property.{Property, Patch, patch_of, patched_property, without_xml}
+use Rattle.dav_core.specs.Property.{Property, patch_of, patched_property, without_xml}
 use Rattle.dav_engine.specs.declared.request.Body.{Body}
 use Rattle.dav_engine.specs.declared.request.Body.TheVariants as body
 use Rattle.dav_engine.specs.Caller.{Caller, requester}
-use Rattle.dav_engine.specs.Conditions.{Conditions, guarded}
+use Rattle.dav_engine.specs.Conditions.{Conditions}
 use Rattle.dav_engine.specs.Folder.{closed, location_found}
-use Rattle.dav_engine.specs.Method.{required, refused_as, require_free}
+use Rattle.dav_engine.specs.Method.{required, refused_as}
 use Rattle.dav_engine.specs.Multistatus.{multistatus}
 use Rattle.dav_engine.specs.Properties.{Group, property_response}
-use Rattle.dav_engine.specs.Proppatch.{Change, each_changed, changes_to, changes_by, changes_in, change_status, by_name, element_by_name, property_by_name, Told, told_under, grouped_onto, grouped, answered_by, answered_at_once, to_store, has_refused, failed_status, failed_element, all_failed, all_done, as_patch, store_changes, change_all, proppatch_reply, patch_properties, proppatch_found, proppatch}
+use Rattle.dav_engine.specs.Proppatch.{Change, each_changed, changes_to, changes_by, changes_in, change_status, by_name, element_by_name, property_by_name, Told, told_under, grouped_onto, grouped, answered_by, answered_at_once, to_store, has_refused, failed_status, failed_element, all_failed, all_done, as_patch, store_changes, change_all, patch_properties, proppatch_found, proppatch}
 use Rattle.dav_engine.specs.Reply.{Header}
 use Rattle.dav_engine.proofs.LockPlans.{required_is}
 use Rattle.dav_engine.proofs.PutWorld.{only_guarded, only_free}

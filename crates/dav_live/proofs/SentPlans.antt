@@ -1,14 +1,13 @@
 -- Plans whose replies may be sent, on stores and lists of locks of which all may be sent.
-use Rattle.std.proofs.Common.{◌≡◌, ℕ, Bool, true, false, if◌then◌else◌, List, [], ◌∷◌, map, Option, Some, None, Result, Ok, Err, refl, sym, ap, subst, ◌∙◌}
+use Rattle.std.proofs.Common.{◌≡◌, ℕ, Bool, true, false, if◌then◌else◌, List, map, Some, None, Result, Ok, Err, refl, sym, subst}
 use Rattle.std.specs.Bool.{⊤}
 use Rattle.std.specs.Prelude.{IfOk}
-use Rattle.std.specs.FinMap.{find}
 use Rattle.std.specs.List.{AllByRecursion}
 use Rattle.dav_core.specs.declared.errors.FsError.{FsError}
 use Rattle.dav_core.specs.declared.errors.DavError.{DavError}
 use Rattle.dav_core.specs.declared.fs.DavMetaData.{DavMetaData}
-use Rattle.dav_core.specs.Asking.{Call, Metadata, ReadDir, EntryMetadata, CreateDir, RemoveDir, RemoveFile, Rename, Copy, HaveProps, PatchProps, GetProps, GetProp, GetQuota, SetAccessed, SetModified, Open, Read, Write, Seek, Flush, FileMetadata, Answer, meaning, StoreState, Asks}
-use Rattle.dav_core.specs.CallLaws.{TimesAreDates, IsProper}
+use Rattle.dav_core.specs.Asking.{Call, Metadata, EntryMetadata, PatchProps, GetProps, GetProp, Answer, meaning, StoreState, Asks}
+use Rattle.dav_core.specs.CallLaws.{TimesAreDates}
 use Rattle.dav_core.specs.Element.{ElementTree}
 use Rattle.dav_core.specs.Locks.{Lock}
 use Rattle.dav_core.specs.Path.{Path}
@@ -16,8 +15,8 @@ use Rattle.dav_core.specs.Property.{Property, PropertyKey, Patch, without_xml, p
 use Rattle.dav_core.specs.World.{World, IsWorld}
 use Rattle.dav_core.proofs.KeptLemmas.{times_are_shown}
 use Rattle.dav_engine.specs.Method.{MethodPlan, then as followed_by, ◌>>=◌, require}
-use Rattle.dav_engine.specs.Plan.{Plan, Done, Ask, Look, Keep, Locks, Ran, ran_done, ran_ask, ran_look, ran_keep, kept}
-use Rattle.dav_engine.specs.WorldLaws.{IsProperPlan, proper_done, proper_ask, proper_look, proper_keep}
+use Rattle.dav_engine.specs.Plan.{Done, Ask, Look, Keep, Locks, Ran, ran_done, ran_ask, ran_look, ran_keep, kept}
+use Rattle.dav_engine.specs.WorldLaws.{IsProperPlan, proper_ask, proper_look, proper_keep}
 use Rattle.dav_engine.proofs.CallWorlds.{Did, stays, means, did, asks_keep, asks_tell}
 use Rattle.dav_engine.proofs.PutWorld.{IsLook, looks}
 use Rattle.dav_engine.proofs.WorldPlans.{Only, only_done, only_ask, only_look}

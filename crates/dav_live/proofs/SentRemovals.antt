@@ -1,11 +1,9 @@
 -- The replies to DELETE, COPY and MOVE may be sent.
-use Rattle.std.proofs.Common.{◌≡◌, ℕ, zero, suc, Bool, true, false, cond, not, List, [], ◌∷◌, ◌++◌, map, Option, Some, None, Result, Ok, Err, refl}
+use Rattle.std.proofs.Common.{◌≡◌, ℕ, zero, suc, Bool, true, false, cond, List, [], ◌∷◌, ◌++◌, map, Option, Result, Ok, Err}
 use Rattle.std.specs.Prelude.{IfOk}
 use Rattle.std.specs.List.{AllByRecursion}
-use Rattle.std.specs.Result.{result_ok, is_ok}
 use Rattle.dav_core.specs.declared.errors.FsError.{FsError}
 use Rattle.dav_core.specs.declared.errors.FsError.TheVariants as fs
-use Rattle.dav_core.specs.declared.errors.DavError.{DavError}
 use Rattle.dav_core.specs.declared.errors.DavError.TheVariants as dav
 use Rattle.dav_core.specs.declared.fs.DavMetaData.{DavMetaData}
 use Rattle.dav_core.specs.declared.method.DavMethod.{DavMethod}
@@ -15,8 +13,8 @@ use Rattle.dav_core.specs.Status.{fs_status}
 use Rattle.dav_engine.specs.Caller.{Caller}
 use Rattle.dav_engine.specs.Conditions.{Conditions}
 use Rattle.dav_engine.specs.Copying.{CopyFault, CopyWalk, copy_report, refused_at, faults_at_depth_0, copy_seen, copy_members, copy_listed, copy_inside, copy_kind, copy_looked, copy}
-use Rattle.dav_engine.specs.CopyMove.{CopyHeaders, is_move, copy_depth, copy_allowed, is_replaced, clearing, drop_if, drop_if_moved, transfer, copied_status, copy_reply, transfer_if_cleared, copy_found, copy_or_move}
-use Rattle.dav_engine.specs.Delete.{DeleteHeaders, whole_depth, delete_allowed, drop_if_gone, delete_reply, delete_found, delete}
+use Rattle.dav_engine.specs.CopyMove.{CopyHeaders, is_move, copy_depth, is_replaced, clearing, drop_if, drop_if_moved, transfer, copied_status, copy_reply, transfer_if_cleared, copy_found, copy_or_move}
+use Rattle.dav_engine.specs.Delete.{DeleteHeaders, whole_depth, drop_if_gone, delete_reply, delete_found, delete}
 use Rattle.dav_engine.specs.Folder.{closed, child_of, room_at, is_folder_found}
 use Rattle.dav_engine.specs.Method.{MethodPlan, gives, refused_as}
 use Rattle.dav_engine.specs.Multistatus.{PathStatus, status_reply, multistatus_reply, multi_reply}
@@ -29,7 +27,7 @@ use Rattle.dav_live.proofs.SentFinds.{IsSent}
 use Rattle.dav_live.proofs.SentLocks.{Any, drop_sends}
 use Rattle.dav_live.proofs.SentNames.{HasPath, closed_path, child_path}
 use Rattle.dav_live.proofs.SentParts.{HasBytes, statuses_sendable}
-use Rattle.dav_live.proofs.SentPlans.{Sends, sends_ok, sends_err, sends_ask, sends_outcome, sends_then, sends_bind, sends_looked, sends_either}
+use Rattle.dav_live.proofs.SentPlans.{Sends, sends_ok, sends_ask, sends_outcome, sends_then, sends_bind, sends_looked, sends_either}
 
 -- ---- replies
 

@@ -1,5 +1,5 @@
 -- What the server reads of a request may be sent.
-use Rattle.std.proofs.Common.{◌≡◌, ℕ, ◌<◌, Bool, true, ◌&&◌, nat_le, List, [], ◌∷◌, All, Option, Some, None, Ok, refl, ap, subst, sym, arith}
+use Rattle.std.proofs.Common.{◌≡◌, ℕ, ◌<◌, true, ◌&&◌, nat_le, List, [], ◌∷◌, All, Ok, refl, subst, sym, arith}
 use Rattle.std.proofs.lemmas.Bool.{and_from}
 use Rattle.std.proofs.lemmas.Bool.Decides.{nat_tests}
 use Rattle.std.proofs.lemmas.List.Elements.{All-head, All-tail}
@@ -12,7 +12,7 @@ use Rattle.dav_xml.specs.Namespaces.{document}
 use Rattle.dav_xml.proofs.SentTrees.{read_is_sendable}
 use Rattle.dav_live.specs.Owners.{told_owners}
 use Rattle.dav_live.specs.Sent.{IsSendableText, IsSendableBody}
-use Rattle.dav_live.proofs.Printed.{IsPrinted, printed_legal}
+use Rattle.dav_live.proofs.Printed.{printed_legal}
 use Rattle.dav_live.proofs.SentOwners.{told_owners_may_be_sent}
 
 -- a tree that was read, once its owners are ready

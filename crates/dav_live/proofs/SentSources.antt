@@ -1,7 +1,7 @@
 -- What a PROPFIND tells of a property may be sent.
-use Rattle.std.proofs.Common.{◌≡◌, ℕ, zero, suc, ◌-◌, ◌≤◌, ◌++◌, Bool, true, false, cond, not, ◌&&◌, ◌||◌, ◌==◌, length, replicate, List, [], ◌∷◌, map, codes, bytes_eq, Option, Some, None, Result, Ok, Err, refl, sym, ap, subst}
+use Rattle.std.proofs.Common.{◌≡◌, ℕ, zero, suc, ◌-◌, ◌≤◌, ◌++◌, Bool, true, false, cond, not, ◌&&◌, length, replicate, List, [], ◌∷◌, map, codes, bytes_eq, Option, Some, None, Result, Ok, Err, refl, subst}
 use Rattle.std.specs.Fmt.{decimal, digits}
-use Rattle.std.specs.List.{AllByRecursion, filter, filter_map, list_any, find as first}
+use Rattle.std.specs.List.{AllByRecursion, filter, list_any, find as first}
 use Rattle.std.specs.Option.{option_or}
 use Rattle.std.specs.Result.{result_ok}
 use Rattle.dav_core.specs.declared.errors.FsError.{FsError}
@@ -21,22 +21,20 @@ use Rattle.dav_engine.specs.declared.properties.kind.Telling.{Telling}
 use Rattle.dav_engine.specs.declared.properties.kind.Telling.TheVariants.{Requested, AllProperties, NamesAlone, Outcomes, Others}
 use Rattle.dav_engine.specs.Date.{date_of, date_text_of}
 use Rattle.dav_engine.specs.Lock.{is_absent}
-use Rattle.dav_engine.specs.LockTree.{locks_found, locks_supported}
 use Rattle.dav_engine.specs.Multistatus.{dav_element, dav_text}
 use Rattle.dav_engine.specs.Plan.{Locks}
-use Rattle.dav_engine.specs.Properties.{is_in, asked_property, dav_space, apache_space, microsoft_space, common_properties, windows_names, named_properties, holds, Writer, is_same_property, windows_properties, listed_properties, wanted_properties, has_values, live, internet_date, padded, tag_source, length_source, content_type_of, principal_element, principal_source, resource_type, locks_told, dav_source, windows_attributes, windows_source, source, Quota, QuotaKnown, cached_quota, used_bytes, used_text, used_told, available_told, has_properties, key_of, kept_if, kept_property, WithQuota, found_in, found_property, with_found, found_properties, kept_elements, stored_properties, all_kept, found_groups, properties_of}
-use Rattle.dav_engine.specs.Propfind.{Query, children_of_found, query_by, query_among, included_in, query_of, tree_query, query_in}
+use Rattle.dav_engine.specs.Properties.{is_in, asked_property, dav_space, apache_space, microsoft_space, common_properties, windows_names, named_properties, holds, Writer, is_same_property, windows_properties, listed_properties, wanted_properties, has_values, live, internet_date, padded, tag_source, content_type_of, principal_element, principal_source, resource_type, locks_told, dav_source, windows_attributes, windows_source, source, Quota, QuotaKnown, cached_quota, used_bytes, used_text, used_told, available_told, has_properties, key_of, kept_if, kept_property, WithQuota, found_in, found_property, with_found, found_properties, kept_elements, stored_properties, all_kept, found_groups, properties_of}
+use Rattle.dav_engine.specs.Propfind.{Query, children_of_found, query_by, query_among, included_in, tree_query, query_in}
 use Rattle.dav_engine.proofs.DateLemmas.{dates_of_moments}
-use Rattle.dav_xml.specs.Legal.{IsLegal}
 use Rattle.dav_xml.specs.Expanded.{IsPlain}
-use Rattle.dav_xml.specs.Sendable.{IsKnownPrefix, IsSendable}
+use Rattle.dav_xml.specs.Sendable.{IsSendable}
 use Rattle.dav_live.specs.Sent.{IsSendableTextIfAny, IsSendableIfAny, AreSendableLocks, IsSendableBody}
-use Rattle.dav_live.proofs.Each.{each_append, each_filter, each_map, each_filter_map, each_first}
+use Rattle.dav_live.proofs.Each.{each_append, each_filter, each_filter_map, each_first}
 use Rattle.dav_live.proofs.PlainWords.{plain_word, dav_is_space, apache_is_space, microsoft_is_space, dav_known, microsoft_known}
 use Rattle.dav_live.proofs.Printed.{IsPrinted, printed_legal, printed_append, printed_more, none_printed, decimal_printed, hex_printed, date_printed, internet_printed}
 use Rattle.dav_live.proofs.SentNames.{HasPath, asked_sendable}
 use Rattle.dav_live.proofs.SentParts.{AllSendable, dav_of, dav_text_of, with_child_sendable, children_sendable, live_sendable, found_sendable, supported_sendable, IsSendableGroup, property_response_sendable}
-use Rattle.dav_live.proofs.SentPlans.{Says, Sends, sends_ok, sends_err, sends_ask, sends_look, sends_bind}
+use Rattle.dav_live.proofs.SentPlans.{Says, Sends, sends_ok, sends_ask, sends_look, sends_bind}
 
 -- ---- names that are listed
 

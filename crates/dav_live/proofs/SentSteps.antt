@@ -1,19 +1,16 @@
 -- The tree of each reply is read again.
-use Rattle.std.proofs.Common.{◌≡◌, ◌≢◌, ◌⊎◌, ℕ, ◌≤◌, nat_lt, arith, Bool, true, false, cond, List, [], ◌∷◌, ◌++◌, All, Option, Some, None, Result, Ok, Err, inl, inr, refl, sym, ap, subst}
+use Rattle.std.proofs.Common.{◌≡◌, ◌⊎◌, ℕ, ◌≤◌, nat_lt, arith, Bool, true, false, cond, List, [], ◌∷◌, Some, Result, Ok, Err, inl, inr, refl, sym, ap, subst}
 use Rattle.std.specs.Prelude.{IfOk}
-use Rattle.std.specs.List.{AllByRecursion}
 use Rattle.std.proofs.lemmas.List.Elements.{All-head, All-tail}
 use Rattle.http_header.specs.FieldValue.{FieldValue}
-use Rattle.dav_core.specs.declared.errors.FsError.{FsError}
 use Rattle.dav_core.specs.declared.errors.DavError.{DavError}
 use Rattle.dav_core.specs.declared.errors.DavError.TheVariants as dav
 use Rattle.dav_core.specs.declared.method.DavMethod.{DavMethod}
-use Rattle.dav_core.specs.declared.method.DavMethod.TheVariants.{Get, Head, Put, Patch, Copy, Move}
-use Rattle.dav_core.specs.Asking.{StoreState, Asks}
+use Rattle.dav_core.specs.Asking.{StoreState}
 use Rattle.dav_core.specs.Element.{ElementTree, depth_of}
 use Rattle.dav_core.specs.Path.{PathText, names, IsCut, at_start, at_slash, at_end, path_bytes, is_nonempty, without_slash}
 use Rattle.dav_core.specs.Target.{Reads}
-use Rattle.dav_core.specs.World.{World, IsWorld, last_moment, empty_from}
+use Rattle.dav_core.specs.World.{IsWorld, last_moment, empty_from}
 use Rattle.dav_core.proofs.Theorems.{empty_is_world}
 use Rattle.dav_engine.specs.declared.reply.ReplyBody.{ReplyBody}
 use Rattle.dav_engine.specs.declared.reply.ReplyBody.TheVariants as reply
@@ -35,14 +32,12 @@ use Rattle.dav_engine.specs.Reply.{Reply, reply_to}
 use Rattle.dav_engine.specs.Unlock.{is_unlock}
 use Rattle.dav_engine.proofs.Theorems.{proper_keeps}
 use Rattle.dav_server.specs.Get.{IsGet, is_get}
-use Rattle.dav_server.specs.Machine.{Settings, Exchange, Taken, TakesBytes, TakesTree, TakesNone, given_tree, body_for, taken_by, caller, PlanOf, gets, heads, puts, patches, makes, deletes, copies, moves, offers, finds_properties, sets_properties, locks, releases, MeansOf, not_allowed, no_path, no_body, method, Means, no_head, no_method, known, Steps, StepCut, steps}
-use Rattle.dav_server.specs.Run.{Turn, begun, Runs, no_more, one_more}
-use Rattle.dav_server.specs.TagLaws.{MomentsAreDates}
+use Rattle.dav_server.specs.Machine.{Settings, Exchange, Taken, TakesBytes, TakesTree, TakesNone, body_for, taken_by, PlanOf, gets, heads, puts, patches, makes, deletes, copies, moves, offers, finds_properties, sets_properties, locks, releases, not_allowed, no_path, no_body, method, Means, no_head, no_method, known, Steps, StepCut, steps}
+use Rattle.dav_server.specs.Run.{Turn, begun, no_more, one_more}
 use Rattle.dav_server.specs.Target.{TargetNames, server, path}
 use Rattle.dav_engine.proofs.PlanAnswers.{cuts_are_like_refusals}
 use Rattle.dav_server.proofs.CutSteps.{cuts_are_like_steps}
 use Rattle.dav_server.proofs.MeansWorld.{means_proper, begun_world}
-use Rattle.dav_xml.specs.Sendable.{IsSendable}
 use Rattle.dav_xml.proofs.SentTrees.{sendable_is_read}
 use Rattle.dav_live.specs.Sent.{IsSendableTextIfAny, KeepsSendable, AreSendableLocks, IsSendableBody, HoldsSendable, IsReadByClient}
 use Rattle.dav_live.specs.SentLaws.{IsSendableRequest, IsSendableServer, IsSendableState, NewIsSendable, StepsAreReadAgain, RunsAreReadAgain, CutsStaySendable}
@@ -51,7 +46,7 @@ use Rattle.dav_live.proofs.SentLocks.{lock_sends, unlock_sends}
 use Rattle.dav_live.proofs.SentNames.{HasPath}
 use Rattle.dav_live.proofs.SentOthers.{put_sends, mkcol_sends, options_sends, get_sends}
 use Rattle.dav_live.proofs.SentPatches.{proppatch_sends}
-use Rattle.dav_live.proofs.SentPlans.{Sends, sends_err, Sent, sends_ran}
+use Rattle.dav_live.proofs.SentPlans.{Sends, sends_err, sends_ran}
 use Rattle.dav_live.proofs.SentRemovals.{delete_sends, copymove_sends}
 
 -- ---- the paths that targets name

@@ -1,22 +1,20 @@
 -- What calls do to the elements that properties keep.
-use Rattle.std.proofs.Common.{◌≡◌, ◌⊎◌, inl, inr, ℕ, ◌+◌, ◌==◌, ◌&&◌, ◌||◌, nat_lt, Bool, true, false, cond, not, List, [], ◌∷◌, ◌++◌, map, length, Option, Some, None, Result, Ok, Err, refl, sym, ap, subst, ◌∙◌}
+use Rattle.std.proofs.Common.{◌≡◌, inl, inr, ℕ, ◌+◌, ◌==◌, ◌&&◌, ◌||◌, nat_lt, Bool, true, false, not, List, [], ◌∷◌, ◌++◌, map, length, Option, Some, None, Ok, refl, sym, ap, subst}
 use Rattle.std.specs.Bool.{⊤}
 use Rattle.std.specs.FinMap.{find, put}
-use Rattle.std.specs.List.{AllByRecursion, filter}
+use Rattle.std.specs.List.{AllByRecursion}
 use Rattle.std.specs.Option.{option_map}
-use Rattle.dav_core.specs.declared.errors.FsError.{FsError}
 use Rattle.dav_core.specs.declared.errors.FsError.TheVariants.{GeneralFailure, NotFound, Forbidden, Exists, TooLarge}
-use Rattle.dav_core.specs.declared.fs.DavMetaData.{DavMetaData}
 use Rattle.dav_core.specs.Asking.{Call, Metadata, ReadDir, EntryMetadata, CreateDir, RemoveDir, RemoveFile, Rename, Copy, HaveProps, PatchProps, GetProps, GetProp, GetQuota, SetAccessed, SetModified, Open, Read, Write, Seek, Flush, FileMetadata, Answer, meaning}
-use Rattle.dav_core.specs.Calls.{metadata, metadata_of, read_dir, create_dir, remove_file, remove_dir, rename, copy, copied_over, with_copy, without, emptied, open_found, open_missing, open_at, read_bytes, written, write_bytes, sought, repatched, patch_props, get_props, stored_tree, get_prop}
+use Rattle.dav_core.specs.Calls.{metadata_of, read_dir, create_dir, remove_file, remove_dir, rename, copy, copied_over, with_copy, without, emptied, open_at, read_bytes, written, write_bytes, sought, repatched, patch_props, get_props, stored_tree, get_prop}
 use Rattle.dav_core.specs.Element.{ElementTree}
 use Rattle.dav_core.specs.Handle.{Handle, Opening, opened, write_place, place_for}
-use Rattle.dav_core.specs.Meaning.{Meaning, refuse_if, at_node, numbered}
+use Rattle.dav_core.specs.Meaning.{Meaning, at_node}
 use Rattle.dav_core.specs.Path.{Path, path_cmp, is_same_path, is_under, is_root, is_at_or_under, is_nonempty, parent_of, rest_after}
 use Rattle.dav_core.specs.Property.{Property, PropertyKey, Properties, Patch, SetTo, Remove, key_cmp, property_key, is_same_key, patched_by, patched, patched_property, without_xml, shown_property}
 use Rattle.dav_core.specs.World.{World, Node, Nodes, Kind, Folder, File, node_at, is_folder_kind, is_folder, is_file, is_missing, bytes_of, members, has_members, prune, graft, union, moved, touched, modified_at, with_new, fresh, adjust, change_node, is_file_made_with, file_made_with, last_number, max_file_len}
 use Rattle.dav_core.proofs.Theorems.{went_on, found, left, went_if}
-use Rattle.dav_live.proofs.Each.{each_append, each_filter, each_change_first, each_put, each_found, each_filter_map}
+use Rattle.dav_live.proofs.Each.{each_filter, each_change_first, each_put, each_found, each_filter_map}
 
 -- `Q` holds of the element of each property
 module _ (Q : Option ElementTree → Type 0) where

@@ -1,5 +1,5 @@
 -- The owners in the body of a LOCK, made ready to be told (RFC 4918, section 14.17).
-use Rattle.std.specs.Prelude.{if◌then◌else◌, List, map, codes}
+use Rattle.std.specs.Prelude.{if◌then◌else◌, map, codes}
 use Rattle.dav_core.specs.Element.{ElementTree, children_of, is_named, with_children}
 use Rattle.dav_xml.specs.Prefixed.{under_prefix}
 

@@ -1,5 +1,5 @@
 -- The element tree of each reply is read again by its client (RFC 4918, section 8.2).
-use Rattle.std.specs.Prelude.{◌≡◌, ℕ, ◌≤◌, List, [], Option, Some, None}
+use Rattle.std.specs.Prelude.{◌≡◌, ℕ, ◌≤◌, List, [], Some, None}
 use Rattle.std.specs.List.{AllByRecursion}
 use Rattle.dav_core.specs.Element.{ElementTree, child_elements}
 use Rattle.dav_core.specs.Asking.{StoreState}

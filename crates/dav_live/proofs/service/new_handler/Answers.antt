@@ -1,5 +1,4 @@
-use Rattle.std.proofs.Common.{◌≡◌, ap, sym, subst, ◌∙◌, Some, []}
-use Rattle.dav_engine.specs.Plan.{ServerState}
+use Rattle.std.proofs.Common.{ap, sym, subst, Some}
 use Rattle.dav_live.specs.SentLaws.{IsSendableServer}
 use Rattle.dav_live.proofs.SentSteps.{new_server}
 use Rattle.dav_live.proofs.service.new_handler.Goals as goal
