@@ -16,3 +16,4 @@ mod SentOthers
 mod SentSteps
 mod SentOwners
 mod SentRequests
+mod SentTexts

@@ -212,9 +212,3 @@ new_server store ls is none = record {
   world = subst IsWorld (sym is) (empty_is_world 1 (omega arith) (omega arith));
   state = subst (λ (l : Locks). IsSendableState store l) (sym none) (new_is_sendable 1 store is).0;
 }
-
--- a reply that is handed on, by a call that leaves the handler as it is
-pub handed_on : {E : Type 0} (result : Result Reply E) (r : Reply) (old new : ServerState) → new ≡ old → IfOk result (λ x. x ≡ r) → IsReadByClient r.body × IsSendableServer old
-    → IfOk result (λ x. IsReadByClient x.body) × IsSendableServer new
-handed_on (Ok x) r old new e is h = (subst (λ (y : Reply). IsReadByClient y.body) (sym is) h.0, subst IsSendableServer (sym e) h.1)
-handed_on (Err f) r old new e is h = (tt, subst IsSendableServer (sym e) h.1)

@@ -3,3 +3,4 @@ pub mod Records
 pub mod Sent
 pub mod SentLaws
 pub mod Owners
+pub mod Asked

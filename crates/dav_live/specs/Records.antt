@@ -2,6 +2,7 @@
 use Rattle.std.specs.Prelude.{◌<◌, ◌^◌, IfSome, ℕ, List, [], ◌∷◌, ◌++◌, Option, Some, None, length}
 use Rattle.std.specs.Str.{IsUtf8}
 use Rattle.std.specs.Int.{w16, w64, to_be_bytes}
+use Rattle.dav_live.specs.Sent.{IsSendableTextIfAny}
 
 -- a text as a record has it: its length in 8 bytes, and its bytes
 abbrev pub text_bytes : List ℕ → List ℕ
@@ -28,9 +29,10 @@ record_bytes r =
     to_be_bytes w64 r.moment ++ (to_be_bytes w16 r.status ++ (optional_bytes r.principal ++ (optional_bytes r.token
     ++ (text_bytes r.head ++ text_bytes r.body))))
 
--- what a record can be: its moment has 64 bits, the status 16, and its principal and its token, where it has them, are UTF-8
+-- what a record can be: its moment has 64 bits, the status 16; its principal, where it has one, may stand in a reply, and its token, where
+-- it has one, is UTF-8
 pub record IsRecord (r : RecordView) : Type 0 where
   pub moment_fits : r.moment < 2 ^ 64
   pub status_fits : r.status < 2 ^ 16
-  pub principal_is_text : IfSome r.principal (λ t. IsUtf8 t)
+  pub principal_is_sendable : IsSendableTextIfAny r.principal
   pub token_is_text : IfSome r.token (λ t. IsUtf8 t)

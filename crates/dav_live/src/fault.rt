@@ -70,18 +70,33 @@ pub enum OpenError {
 }
 
 impl From<AllocError> for OpenError {
+    ghost use Rattle.std.specs.Prelude.{◌≡◌};
+    ghost use Rattle.dav_live.specs.declared.fault.OpenError.TheVariants.{Memory};
+
+    ghost from_gives = { λ _ e. e ≡ Memory };
+
     fn from(_error: AllocError) -> OpenError {
         OpenError::Memory
     }
 }
 
 impl<T: Drop> From<AllocFailed<T>> for OpenError {
+    ghost use Rattle.std.specs.Prelude.{◌≡◌};
+    ghost use Rattle.dav_live.specs.declared.fault.OpenError.TheVariants.{Memory};
+
+    ghost from_gives = { λ _ e. e ≡ Memory };
+
     fn from(_error: AllocFailed<T>) -> OpenError {
         OpenError::Memory
     }
 }
 
 impl From<Stop> for OpenError {
+    ghost use Rattle.std.specs.Prelude.{◌≡◌};
+    ghost use Rattle.dav_live.specs.declared.fault.OpenError.TheVariants.{Memory};
+
+    ghost from_gives = { λ _ e. e ≡ Memory };
+
     fn from(_stop: Stop) -> OpenError {
         OpenError::Memory
     }

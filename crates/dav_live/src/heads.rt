@@ -1,4 +1,7 @@
 //! What is read of the bytes of a head before the handler gets it (RFC 9112, sections 3 and 5). The connection has seen that it is one.
+ghost use Rattle.std.specs.Prelude.{◌≡◌, ◌↔◌, IsTrue, codes};
+ghost use Rattle.dav_live.specs.Asked.{TakesTree};
+
 use std::alloc::{AllocError, Global};
 use std::str;
 
@@ -42,12 +45,16 @@ pub fn field<'h>(head: &'h [u8], name: &[u8]) -> Option<&'h [u8]> {
 }
 
 // Whether a method is LOCK.
-pub fn is_lock(method: &[u8]) -> bool {
+pub fn is_lock(method: &[u8]) -> bool
+    ensures { IsTrue result ↔ (method.now ≡ codes "LOCK") }
+{
     method == b"LOCK".as_slice()
 }
 
 // Whether a method's body is an element tree.
-pub fn takes_tree(method: &[u8]) -> bool {
+pub fn takes_tree(method: &[u8]) -> bool
+    ensures { IsTrue result ↔ TakesTree method.now }
+{
     method == b"PROPFIND".as_slice() || method == b"PROPPATCH".as_slice() || is_lock(method)
 }
 

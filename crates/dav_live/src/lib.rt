@@ -8,6 +8,7 @@
 mod basic;
 mod fault;
 mod frames;
+mod handler;
 mod heads;
 pub mod laws;
 mod leases;
@@ -17,6 +18,7 @@ mod page;
 mod password;
 mod record;
 mod render;
+mod sendable;
 mod service;
 mod settings;
 mod users;

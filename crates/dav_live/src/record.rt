@@ -4,12 +4,15 @@ ghost use Rattle.std.specs.Int.{w16, w64, from_be_bytes, to_be_bytes};
 ghost use Rattle.std.specs.Option.{option_copied};
 ghost use Rattle.std.specs.Str.{IsUtf8};
 ghost use Rattle.dav_live.specs.Records.{optional_bytes, text_bytes};
+ghost use Rattle.dav_live.specs.Sent.{IsSendableTextIfAny};
 
+use crate::sendable::is_sendable_if_any;
 use std::alloc::AllocError;
 use std::marker::Model;
 use std::str;
 
 /// A request that was answered: when, by whom, with which token for a lock, its head and body, and the status of the reply.
+/// The name of who made it may stand in a reply.
 #[derive(Drop)]
 pub struct Record<'a> {
     pub moment: u64,
@@ -94,12 +97,29 @@ fn taken_option(bytes: &[u8]) -> Option<(Option<&str>, &[u8])>
     }
 }
 
+// The name in front of bytes that may be missing, and what follows it. It may stand in a reply.
+fn taken_name(bytes: &[u8]) -> Option<(Option<&str>, &[u8])>
+    ensures sendable { IfSome result (λ p. IsSendableTextIfAny (option_copied p.0)) }
+    ensures taken { MatchOption result
+        ((name : Option (List ℕ)) (rest : List ℕ) → IsSendableTextIfAny name
+        → bytes.now ≢ optional_bytes name ++ rest)
+        (λ p. bytes.now ≡ optional_bytes (option_copied p.0) ++ p.1.now) }
+{
+    let (name, rest) = taken_option(bytes)?;
+    if is_sendable_if_any(name) {
+        Some((name, rest))
+    } else {
+        None
+    }
+}
+
 /// The most bytes of a record besides its texts.
 const AROUND: usize = 64;
 
 impl<'a> Model for Record<'a> {
     ghost use Rattle.std.specs.Option.{option_copied};
     ghost use Rattle.dav_live.specs.Records.{RecordView};
+    ghost use Rattle.dav_live.specs.Sent.{IsSendableTextIfAny};
 
     ghost Value = { RecordView };
 
@@ -111,6 +131,8 @@ impl<'a> Model for Record<'a> {
       head = r.head.now;
       body = r.body.now;
     } };
+
+    ghost invariant = { λ r. IsSendableTextIfAny (option_copied r.principal) };
 }
 
 impl<'a> Record<'a> {
@@ -188,14 +210,15 @@ fn when_in(bytes: &[u8]) -> Option<(u64, u16, &[u8])>
 
 // The principal and the token in front of bytes, and what follows them.
 fn who_in(bytes: &[u8]) -> Option<(Option<&str>, Option<&str>, &[u8])>
-    ensures { MatchOption result
-        ((who token : Option (List ℕ)) (rest : List ℕ) → IfSome who (λ t. IsUtf8 t)
+    ensures sendable { IfSome result (λ p. IsSendableTextIfAny (option_copied p.0)) }
+    ensures taken { MatchOption result
+        ((who token : Option (List ℕ)) (rest : List ℕ) → IsSendableTextIfAny who
         → IfSome token (λ t. IsUtf8 t)
         → bytes.now ≢ optional_bytes who ++ (optional_bytes token ++ rest))
         (λ p. bytes.now
         ≡ optional_bytes (option_copied p.0) ++ (optional_bytes (option_copied p.1) ++ p.2.now)) }
 {
-    let (principal, rest) = taken_option(bytes)?;
+    let (principal, rest) = taken_name(bytes)?;
     let (token, rest) = taken_option(rest)?;
     Some((principal, token, rest))
 }

@@ -1,12 +1,18 @@
 //! Replies of the handler as the connection sends them.
+ghost use Rattle.std.specs.Prelude.{◌≡◌, IfOk};
+ghost use Rattle.dav_live.specs.Asked.{sent_bytes};
+
 use bytes::Bytes;
 use dav_engine::{Reply, ReplyBody};
 use dav_wire::{Answer, Stop};
 use dav_xml::write;
+use http_header::HeaderMap;
 use std::alloc::Global;
 
 // Adds a field.
-pub fn add_field(alloc: Global, answer: &mut Answer, name: &str, value: &[u8]) -> Result<(), Stop> {
+pub fn add_field(alloc: Global, answer: &mut Answer, name: &str, value: &[u8]) -> Result<(), Stop>
+    ensures { (answer.new.status ≡ answer.old.status) × (answer.new.body ≡ answer.old.body) }
+{
     let name = String::from_str(alloc, name)?;
     let value = Bytes::copy_from_slice(alloc, value)?;
     answer.headers.push((name, value))?;
@@ -14,7 +20,9 @@ pub fn add_field(alloc: Global, answer: &mut Answer, name: &str, value: &[u8]) -
 }
 
 // The body of a reply: an element tree is sent as XML.
-fn body_of(alloc: Global, body: ReplyBody) -> Result<Bytes, Stop> {
+fn body_of(alloc: Global, body: ReplyBody) -> Result<Bytes, Stop>
+    ensures { IfOk result (λ sent. sent ≡ sent_bytes body) }
+{
     match body {
         ReplyBody::Nothing => Ok(Bytes::from_static(b"")),
         ReplyBody::Bytes(bytes) => Ok(bytes),
@@ -25,17 +33,27 @@ fn body_of(alloc: Global, body: ReplyBody) -> Result<Bytes, Stop> {
     }
 }
 
-// A reply of the handler as the connection sends it.
-pub fn answer_of(alloc: Global, reply: Reply) -> Result<Answer, Stop> {
+// A reply with this status and these headers, and no body yet.
+fn with_headers(alloc: Global, status: u16, headers: &HeaderMap) -> Result<Answer, Stop>
+    ensures { IfOk result (λ answer. answer.status ≡ status) }
+{
+    let mut answer = Answer::new(alloc, status);
+    for (name, value) in headers.iter() {
+        add_field(alloc, &mut answer, name.as_str(), value.as_bytes())?;
+    }
+    Ok(answer)
+}
+
+// A reply of the handler as the connection sends it: with its status, and its tree as XML.
+pub fn answer_of(alloc: Global, reply: Reply) -> Result<Answer, Stop>
+    ensures { IfOk result (λ a. (a.status ≡ reply.status) × (a.body ≡ sent_bytes reply.body)) }
+{
     let Reply {
         status,
         headers,
         body,
     } = reply;
-    let mut answer = Answer::new(alloc, status.as_u16());
-    for (name, value) in headers.iter() {
-        add_field(alloc, &mut answer, name.as_str(), value.as_bytes())?;
-    }
+    let mut answer = with_headers(alloc, status.as_u16(), &headers)?;
     answer.body = body_of(alloc, body)?;
     Ok(answer)
 }

@@ -1,33 +1,27 @@
 //! What answers the requests of all connections, and keeps those that may change something.
-ghost use Rattle.std.specs.Prelude.{◌≡◌, ◌≤◌, IfOk};
-ghost use Rattle.dav_core.specs.World.{last_moment};
-ghost use Rattle.dav_live.specs.Sent.{IsReadByClient, IsSendableBody, IsSendableTextIfAny};
-ghost use Rattle.dav_live.specs.SentLaws.{IsSendableRequest, IsSendableServer};
+ghost use Rattle.std.specs.Prelude.{◌≡◌, IfOk, string_bytes};
+ghost use Rattle.std.specs.Option.{option_copied, option_map};
+ghost use Rattle.dav_live.specs.Asked.{IsAnswered};
+ghost use Rattle.dav_live.specs.Sent.{IsSendableTextIfAny};
 
 use crate::basic::credentials_of;
 use crate::fault::{Fault, OpenError};
+use crate::handler::Handler;
 use crate::heads::{
     field, has_many_names, is_for, is_lock, method_of, only_reads, takes_tree, target_of,
     with_timeout,
 };
 use crate::leases::{Lease, next_ended, note_locks, unlock_head};
-use crate::owner::with_told_owners;
 use crate::page::{ASKED, asking_head, page_answer};
 use crate::record::Record;
 use crate::render::{answer_of, bare_answer, unknown_user};
 use crate::settings::Settings;
 use crate::users::Users;
 use bytes::Bytes;
-use dav_core::fs::DavFileSystem;
-use dav_core::method::DavMethodSet;
-use dav_engine::{Body, Reply, ReplyBody};
+use dav_engine::{Reply, ReplyBody};
 use dav_journal::{Journal, JournalError};
-use dav_server::davhandler::{DavHandler, HandlerError};
-use dav_server::exchange::{Exchange, GrantToken, LAST_MOMENT};
-use dav_store::memfs::MemFs;
-use dav_store::memls::MemLs;
+use dav_server::exchange::LAST_MOMENT;
 use dav_wire::{Answer, Answerer, Stop};
-use dav_xml::XmlError;
 use sqlite_disk::Disk;
 use std::alloc::{AllocError, Global};
 use std::str;
@@ -41,7 +35,7 @@ pub struct Service<D: Disk> {
     alloc: Global,
     settings: Settings,
     users: Option<Users>,
-    handler: DavHandler<MemFs, MemLs>,
+    handler: Handler,
     journal: Journal<D>,
     /// The records since the last commit.
     batch: Vec<u8>,
@@ -54,61 +48,6 @@ pub struct Service<D: Disk> {
     fault: Fault,
     /// Lines of the requests that were answered, where the settings ask for them.
     log: String,
-}
-
-// The handler of an empty store.
-fn new_handler(alloc: Global, prefix: &str) -> Result<DavHandler<MemFs, MemLs>, OpenError>
-    ensures { IfOk result (λ h. IsSendableServer h.server.state) }
-{
-    let fs = MemFs::new(alloc)?;
-    let ls = MemLs::new(alloc)?;
-    match DavHandler::new(alloc, prefix, DavMethodSet::all(), fs, Some(ls)) {
-        Ok(handler) => Ok(handler),
-        Err(HandlerError::BadPrefix) => Err(OpenError::Settings),
-        Err(HandlerError::Memory) => Err(OpenError::Memory),
-    }
-}
-
-// The body of a request with this method, as the handler takes it.
-fn body_of(alloc: Global, method: &[u8], body: Bytes) -> Result<Body, AllocError>
-    ensures { IfOk result IsSendableBody }
-{
-    if body.is_empty() {
-        return Ok(Body::None);
-    }
-    if !takes_tree(method) {
-        return Ok(Body::Bytes(body));
-    }
-    match dav_xml::read(alloc, body.as_slice()) {
-        Ok(tree) => Ok(Body::Tree(with_told_owners(alloc, tree)?)),
-        Err(XmlError::Memory) => Err(AllocError),
-        Err(_) => Ok(Body::Malformed),
-    }
-}
-
-// The token of a text.
-fn token_of(alloc: Global, text: Option<&str>) -> Option<GrantToken>
-    ensures { IsSendableTextIfAny result }
-{
-    match GrantToken::new(alloc, text?) {
-        Ok(token) => Some(token),
-        Err(_) => None,
-    }
-}
-
-// A request as the handler takes it.
-fn exchange_of<'r>(alloc: Global, said: &Record<'r>, body: Bytes) -> Result<Exchange<'r>, Stop>
-    ensures moment { IfOk result (λ x. x.moment ≤ last_moment) }
-    ensures sendable { IsSendableTextIfAny said.now.principal
-        → IfOk result IsSendableRequest }
-{
-    let body = body_of(alloc, method_of(said.head), body)?;
-    let token = token_of(alloc, said.token);
-    let moment = said.moment.min(LAST_MOMENT);
-    match Exchange::new(said.head, body, said.principal, moment, token) {
-        Ok(exchange) => Ok(exchange),
-        Err(_) => Err(Stop),
-    }
 }
 
 // Eight bytes as a number.
@@ -127,7 +66,7 @@ impl<D: Disk + Drop> Service<D> {
         users: Option<Users>,
         settings: Settings,
     ) -> Result<Service<D>, OpenError> {
-        let handler = new_handler(alloc, settings.prefix.as_str())?;
+        let handler = Handler::new(alloc, settings.prefix.as_str())?;
         let mut service = Service {
             alloc,
             settings,
@@ -207,43 +146,14 @@ impl<D: Disk + Drop> Service<D> {
 
     // Hands a request to the handler, and notes when the locks of which it tells end. What the client is told in XML it can read.
     fn run(&mut self, said: &Record<'_>, body: Bytes) -> Result<Reply, Stop>
-        ensures { IsSendableTextIfAny said.now.principal
-            → IsSendableServer self.old.handler.server.state
-            → IfOk result (λ reply. IsReadByClient reply.body)
-            × IsSendableServer self.new.handler.server.state }
+        ensures { IfOk result (λ reply.
+            IsAnswered said.now body self.old.handler.server reply self.new.handler.server) }
     {
-        let exchange = exchange_of(self.alloc, said, body)?;
-        let reply = self.handle(&exchange)?;
-        self.noted(said, reply)
-    }
-
-    // The reply to a request, once it is noted when the locks of which it tells end.
-    fn noted(&mut self, said: &Record<'_>, reply: Reply) -> Result<Reply, Stop>
-        ensures same { self.new.handler ≡ self.old.handler }
-        ensures reply { IfOk result (λ r. r ≡ reply) }
-    {
+        let reply = self.handler.handle(self.alloc, said, body)?;
         if is_lock(method_of(said.head)) {
             self.note_locks(&reply, said.moment)?;
         }
         Ok(reply)
-    }
-
-    // The reply of the handler, whose store had memory for all that it did.
-    fn handle(&mut self, exchange: &Exchange<'_>) -> Result<Reply, Stop>
-        ensures { exchange.now.moment ≤ last_moment → IsSendableRequest exchange.now
-            → IsSendableServer self.old.handler.server.state
-            → IfOk result (λ reply. IsReadByClient reply.body)
-            × IsSendableServer self.new.handler.server.state }
-    {
-        match self.handler.handle(self.alloc, exchange) {
-            Ok(reply) => {
-                if self.handler.fs().was_short() {
-                    return Err(Stop);
-                }
-                Ok(reply)
-            }
-            Err(_) => Err(Stop),
-        }
     }
 
     // Notes when the locks of which a reply tells end.
@@ -359,8 +269,10 @@ impl<D: Disk + Drop> Service<D> {
         format!(in self.alloc; "urn:uuid:{a:08x}-{b:04x}-8{c:03x}-{d:04x}-{e:012x}")
     }
 
-    // Who asks, where users are known; `Err` where it is nobody who is.
-    fn principal_of(&mut self, head: &[u8]) -> Result<Option<String>, ()> {
+    // Who asks, where users are known; `Err` where it is nobody who is. The name may stand in a reply.
+    fn principal_of(&mut self, head: &[u8]) -> Result<Option<String>, ()>
+        ensures { IfOk result (λ name. IsSendableTextIfAny (option_map string_bytes name)) }
+    {
         let Some(users) = &mut self.users else {
             return Ok(None);
         };
@@ -383,7 +295,9 @@ impl<D: Disk + Drop> Service<D> {
         principal: Option<&str>,
         head: &[u8],
         body: Bytes,
-    ) -> Result<Answer, Stop> {
+    ) -> Result<Answer, Stop>
+        requires { IsSendableTextIfAny (option_copied principal) }
+    {
         let method = method_of(head);
         if is_lock(method) {
             return self.answer_lock(principal, head, body);
@@ -416,7 +330,9 @@ impl<D: Disk + Drop> Service<D> {
         principal: Option<&str>,
         head: &[u8],
         body: Bytes,
-    ) -> Result<Answer, Stop> {
+    ) -> Result<Answer, Stop>
+        requires { IsSendableTextIfAny (option_copied principal) }
+    {
         let head = with_timeout(self.alloc, head, self.settings.lock_time)?;
         let token = if body.is_empty() {
             None
@@ -444,7 +360,9 @@ impl<D: Disk + Drop> Service<D> {
     }
 
     // Answers a GET or HEAD of a folder by a page.
-    fn answer_page(&mut self, principal: Option<&str>, head: &[u8]) -> Result<Answer, Stop> {
+    fn answer_page(&mut self, principal: Option<&str>, head: &[u8]) -> Result<Answer, Stop>
+        requires { IsSendableTextIfAny (option_copied principal) }
+    {
         let asking = asking_head(self.alloc, target_of(head))?;
         let record = Record {
             moment: self.moment,

@@ -45,7 +45,7 @@ fn text_of(refusal: Refusal) -> &'static str {
         Refusal::State =>
             "FOLDER/state can't be opened: the folder is missing, or another server has it",
         Refusal::Open(OpenError::Settings) =>
-            "the prefix isn't one, or FOLDER/users has a line that isn't name:$5$.. (openssl passwd -5)",
+            "the prefix isn't one, or FOLDER/users has a line that isn't name:$5$.. (openssl passwd -5), or a name with control characters",
         Refusal::Open(OpenError::OtherPrefix) => "FOLDER/state was kept under another --prefix",
         Refusal::Open(OpenError::Foreign) =>
             "FOLDER/state isn't a state of this version; nothing was changed",

@@ -1,4 +1,6 @@
 //! What answers the requests of a connection.
+ghost use Rattle.std.specs.Prelude.{◌≡◌, []};
+
 use bytes::Bytes;
 use std::alloc::{AllocError, AllocFailed, Global};
 
@@ -16,7 +18,11 @@ pub struct Answer {
 
 impl Answer {
     /// A reply of this status, with nothing else.
-    pub fn new(alloc: Global, status: u16) -> Answer {
+    pub fn new(alloc: Global, status: u16) -> Answer
+        ensures status { result.status ≡ status }
+        ensures headers { result.headers.items ≡ [] }
+        ensures body { result.body ≡ [] }
+    {
         Answer {
             status,
             headers: Vec::new(alloc),

@@ -5,7 +5,7 @@ use Rattle.std.proofs.lemmas.Bool.Decides.{nat_tests}
 use Rattle.std.proofs.lemmas.Str.{utf8_valid_len-IsUtf8}
 use Rattle.std.proofs.lemmas.List.Folds.{list_all-append}
 use Rattle.std.specs.List.{list_all}
-use Rattle.std.specs.Str.{encode_utf8_all, all_scalars}
+use Rattle.std.specs.Str.{IsUtf8, encode_utf8_all, all_scalars}
 use Rattle.std.specs.Str.Lossy.{utf8_valid_len}
 use lib.Utf8.{encode, next, scalar}
 use Rattle.dav_xml.specs.Bytes.{after_text, split_text, behind, found_or}
@@ -117,6 +117,9 @@ chars_of cs e = rw (utf8_of cs e, all_printed cs e, all_unmarked cs 190 e (omega
 
 pub legal_chars : (bytes : List ℕ) → IsLegal bytes → are_chars bytes ≡ true
 legal_chars bytes h = subst (λ (bs : List ℕ). are_chars bs ≡ true) h.spelled (chars_of h.characters h.legal)
+
+pub legal_is_utf8 : (bytes : List ℕ) → IsLegal bytes → IsUtf8 bytes
+legal_is_utf8 bytes h = subst IsUtf8 h.spelled (h.characters, (scalars_of h.characters h.legal, refl))
 
 pub legal_utf8 : (bytes : List ℕ) → IsLegal bytes → (utf8_valid_len bytes == length bytes) ≡ true
 legal_utf8 bytes h = subst (λ (bs : List ℕ). (utf8_valid_len bs == length bs) ≡ true) h.spelled (utf8_of h.characters h.legal)

@@ -1,5 +1,5 @@
 -- What is read is of legal characters.
-use Rattle.std.proofs.Common.{◌≡◌, ℕ, ◌≤◌, Bool, true, false, cond, not, ltb, ◌&&◌, ◌==◌, List, [], ◌∷◌, ◌++◌, length, codes, bytes_eq, Option, Some, None, is_some, Result, Ok, Err, refl, sym, ap, subst, ◌∙◌, arith}
+use Rattle.std.proofs.Common.{◌≡◌, ◌↔◌, ℕ, ◌≤◌, Bool, true, false, cond, not, ltb, ◌&&◌, ◌==◌, List, [], ◌∷◌, ◌++◌, length, codes, bytes_eq, Option, Some, None, is_some, IsTrue, Result, Ok, Err, refl, sym, ap, subst, ◌∙◌, arith}
 use Rattle.std.proofs.lemmas.Bool.{and_parts, and_from, and_right}
 use Rattle.std.specs.List.{list_all, AllByRecursion}
 use Rattle.std.specs.Str.Lossy.{utf8_valid_len}
@@ -15,10 +15,11 @@ use Rattle.dav_xml.specs.Legal.{IsLegal, IsLegalIfAny, HasLegalTexts, HaveLegalT
 use Rattle.dav_xml.specs.Scopes.{Scope, xml_uri, uri_after, uri_of, declared_by}
 use Rattle.dav_xml.specs.Namespaces.{qualified, default_of, declared_uri, uri_in, namespace_of, with_declared, within_step, within, inside, declaring, is_known, again, has_expanded, Kept, kept_prefixed, kept_as, kept_unless, kept_step, kept_after, expanded, expanded_tree, expanded_after, document}
 use Rattle.dav_xml.proofs.Escapes.{by_test}
+use Rattle.dav_xml.proofs.Legal.{legal_chars}
 use Rattle.dav_xml.proofs.LegalTrees.{legal_word}
 use Rattle.dav_xml.proofs.Declared.{ok_or_else, found_of}
 use Rattle.dav_xml.proofs.ReadTrees.{declaration_is, of_inside, after_joined}
-use Rattle.dav_xml.proofs.Clean.{mark, HasNoMark, IsClean, mark_parts, mark_join, after_clean, split_text_clean}
+use Rattle.dav_xml.proofs.Clean.{mark, HasNoMark, IsClean, mark_parts, mark_join, after_clean, split_text_clean, clean_legal}
 use Rattle.dav_xml.proofs.CleanReferences.{is_inner, first_or_zero, tail_of, mark_found, last_inner}
 use Rattle.dav_xml.proofs.CleanTokens.{bound, needed_some, HasValue, tokens_legal}
 use Rattle.dav_xml.proofs.NestedLegal.{nested_legal}
@@ -155,6 +156,18 @@ chars_clean bytes e =
     let front = and_parts (utf8_valid_len bytes == length bytes) (list_all is_printed bytes) parts.0 in
     let marks = and_parts no1 no2 parts.1 in
     record { printed = front.1; no_fffe = none_by (split_text (mark 190) bytes) marks.0; no_ffff = none_by (split_text (mark 191) bytes) marks.1 }
+
+chars_legal : (bytes : List ℕ) → are_chars bytes ≡ true → IsLegal bytes
+unfolding are_chars
+chars_legal bytes e =
+    let utf8_printed = (utf8_valid_len bytes == length bytes) && list_all is_printed bytes in
+    let unmarked = not (is_some (split_text (mark 190) bytes)) && not (is_some (split_text (mark 191) bytes)) in
+    let front = (and_parts utf8_printed unmarked e).0 in
+    clean_legal bytes (and_parts (utf8_valid_len bytes == length bytes) (list_all is_printed bytes) front).0 (chars_clean bytes e)
+
+-- the test of a text's characters, whose result is given
+pub chars_are_legal : (b : Bool) (bytes : List ℕ) → b ≡ are_chars bytes → IsTrue b ↔ IsLegal bytes
+chars_are_legal b bytes e = ((λ is. chars_legal bytes (sym e ∙ is)), (λ legal. e ∙ legal_chars bytes legal))
 
 lines_printed : (returned : Bool) (bs : List ℕ) → list_all is_printed bs ≡ true → list_all is_printed (lines returned bs) ≡ true
 unfolding lines

@@ -1,11 +1,12 @@
 //! What comes before the markup, and documents.
-ghost use Rattle.std.specs.Prelude.{◌≡◌, ◌==◌, ◌∷◌, false, map, length, codes, string_bytes, Ok};
+ghost use Rattle.std.specs.Prelude.{◌≡◌, ◌↔◌, ◌==◌, ◌∷◌, false, map, length, codes, string_bytes, IsTrue, Ok};
 ghost use Rattle.std.specs.List.{list_all};
 ghost use Rattle.std.specs.Char.{is_ascii_digit};
 ghost use Rattle.std.specs.Str.Lossy.{utf8_valid_len};
 ghost use Rattle.dav_xml.specs.Read.{Gives};
 ghost use Rattle.dav_core.specs.ElementView.{attribute_bytes};
 ghost use Rattle.dav_xml.specs.Front as spec;
+ghost use Rattle.dav_xml.specs.Legal.{IsLegal};
 
 use crate::bytes::{after_space, after_text, is_space, split_text};
 use crate::error::{Fault, XmlError};
@@ -37,6 +38,14 @@ fn are_chars(bytes: &[u8]) -> bool
     is_text
         && split_text(bytes, &[239, 191, 190]).is_none()
         && split_text(bytes, &[239, 191, 191]).is_none()
+}
+
+/// Whether a text is of characters that a document may have (XML 1.0, section 2.2): no control characters below 32 but tabs, line
+/// feeds and carriage returns, and neither U+FFFE nor U+FFFF.
+pub fn is_legal(text: &str) -> bool
+    ensures { IsTrue result ↔ IsLegal text.now }
+{
+    are_chars(text.as_bytes())
 }
 
 #[tactic(auto, unfolding(crate::specs::Front::lines))]

@@ -21,6 +21,7 @@ mod writing;
 mod written;
 
 pub use error::{Fault, XmlError};
+pub use front::is_legal;
 pub use namespaces::read;
 pub use prefixed::with_prefix;
 pub use writing::write;
