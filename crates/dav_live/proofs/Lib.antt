@@ -17,3 +17,4 @@ mod SentSteps
 mod SentOwners
 mod SentRequests
 mod SentTexts
+mod HeadWords

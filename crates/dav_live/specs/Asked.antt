@@ -9,6 +9,7 @@ use Rattle.dav_engine.specs.declared.request.Body.TheVariants as body
 use Rattle.dav_engine.specs.Reply.{Reply}
 use Rattle.dav_server.specs.DavHandler.{DavHandler, Answers}
 use Rattle.dav_server.specs.GrantToken.{IsGrantToken}
+use Rattle.dav_server.specs.Head.{Request, IsHead}
 use Rattle.dav_server.specs.Machine.{Exchange}
 use Rattle.dav_xml.specs.declared.error.Fault.{Fault}
 use Rattle.dav_xml.specs.Namespaces.{document}
@@ -39,11 +40,12 @@ pub data IsTokenOf : Option (List ℕ) → Option (List ℕ) → Type 0 where
   granted : {text : List ℕ} → IsGrantToken text → IsTokenOf (Some text) (Some text)
   refused : {text : List ℕ} → ¬ IsGrantToken text → IsTokenOf (Some text) None
 
--- The request that the machine gets: the bytes of its head as they came, its body by these bytes, who makes it, when, at most at the end
--- of the year 9999, and the token for a lock that it creates.
+-- The request that the machine gets: the bytes of its head as they came, its body by these bytes and by the method of the head, who makes
+-- it, when, at most at the end of the year 9999, and the token for a lock that it creates.
 pub record IsAsked (said : RecordView) (bytes : List ℕ) (x : Exchange) : Type 0 where
   pub head : x.head ≡ said.head
   pub method : List ℕ
+  pub is_method : (request : Request) → IsHead said.head request → method ≡ request.method
   pub body : IsBodyOf method bytes x.body
   pub principal : x.principal ≡ said.principal
   pub moment : x.moment ≡ min said.moment last_moment

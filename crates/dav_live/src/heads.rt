@@ -1,5 +1,7 @@
 //! What is read of the bytes of a head before the handler gets it (RFC 9112, sections 3 and 5). The connection has seen that it is one.
-ghost use Rattle.std.specs.Prelude.{◌≡◌, ◌↔◌, IsTrue, codes};
+ghost use Rattle.std.specs.Prelude.{◌≡◌, ◌↔◌, ◌==◌, IsTrue, codes, position};
+ghost use Rattle.std.specs.List.{before_first, position_or_len};
+ghost use Rattle.dav_server.specs.Head.{IsHead, Request};
 ghost use Rattle.dav_live.specs.Asked.{TakesTree};
 
 use std::alloc::{AllocError, Global};
@@ -8,12 +10,32 @@ use std::str;
 /// The most names in a path.
 const MOST_NAMES: usize = 1024;
 
+// The place of the first such byte.
+fn first_place(bytes: &[u8], byte: u8) -> Option<usize>
+    ensures { result ≡ position (λ b. b == byte) bytes.now }
+{
+    bytes.iter().position(|b| *b == byte)
+}
+
+// How many bytes come before the first such byte: all where there is none.
+fn len_before(bytes: &[u8], byte: u8) -> usize
+    ensures { result ≡ position_or_len (λ b. b == byte) bytes.now }
+{
+    first_place(bytes, byte).unwrap_or(bytes.len())
+}
+
+// The bytes before the first space.
+fn first_word(bytes: &[u8]) -> &[u8]
+    ensures { result.now ≡ before_first (λ b. b == 32) bytes.now }
+{
+    bytes.get(..len_before(bytes, b' ')).unwrap_or(bytes)
+}
+
 // The method of a head.
-pub fn method_of(head: &[u8]) -> &[u8] {
-    head.trim_ascii_start()
-        .split(|b| *b == b' ')
-        .next()
-        .unwrap_or(&[])
+pub fn method_of(head: &[u8]) -> &[u8]
+    ensures { (r : Request) → IsHead head.now r → result.now ≡ r.method }
+{
+    first_word(head.trim_ascii_start())
 }
 
 // The target of a head.

@@ -1,7 +1,25 @@
-use Rattle.std.proofs.Common.{ap, subst, sym}
+use Rattle.std.proofs.Common.{ap, min, subst, sym, ◌∙◌}
+use Rattle.dav_core.specs.World.{last_moment}
+use Rattle.dav_server.specs.Head.{IsHead}
 use Rattle.dav_server.specs.Machine.{Exchange}
+use Rattle.dav_live.specs.Asked.{IsBodyOf, IsTokenOf}
+use Rattle.dav_live.specs.Records.{RecordView}
 use Rattle.dav_live.specs.Sent.{IsSendableTextIfAny}
 use Rattle.dav_live.proofs.handler.exchange_of.Goals as goal
+
+pub returns-in-Ok-clause-asked : goal.returns-in-Ok-clause-asked
+returns-in-Ok-clause-asked c =
+    let value = c.in-Ok.ensures.value in
+    let seen = c.said.view_is in
+    record {
+      head = ap (λ (x : Exchange). x.head) value ∙ ap (λ (r : RecordView). r.head) seen;
+      method = c.method_of.result.now;
+      is_method = λ request is. c.method_of.ensures request (subst (λ bytes. IsHead bytes request) (sym (ap (λ (r : RecordView). r.head) seen)) is);
+      body = subst (IsBodyOf c.method_of.result.now c.args.body) (sym (ap (λ (x : Exchange). x.body) value)) c.in_ok-body.ensures;
+      principal = ap (λ (x : Exchange). x.principal) value ∙ ap (λ (r : RecordView). r.principal) seen;
+      moment = ap (λ (x : Exchange). x.moment) value ∙ c.min-moment.ensures ∙ ap (λ (r : RecordView). min r.moment last_moment) seen;
+      token = subst (λ t. IsTokenOf t c.in-Ok.exchange.token) (ap (λ (r : RecordView). r.token) seen) (subst (IsTokenOf _) (sym (ap (λ (x : Exchange). x.token) value)) c.in_ok-token.ensures);
+    }
 
 pub returns-in-Ok-clause-sendable : goal.returns-in-Ok-clause-sendable
 returns-in-Ok-clause-sendable c = subst IsSendableTextIfAny (sym (ap (λ (x : Exchange). x.principal) c.in-Ok.ensures.value)) c.said.invariant
