@@ -69,8 +69,8 @@ pub struct Users {
 
 impl Users {
     /// The users of a text of lines `name:secret`, each with a secret as `openssl passwd -5` makes it; empty lines and
-    /// those that begin with `#` are skipped. A name isn't empty, and may stand in a reply, so it has no control characters but
-    /// tabs. `Settings` where a line is anything else, or no user is there.
+    /// those that begin with `#` are skipped. A name isn't empty, and is of characters that a document of XML may have, as
+    /// it stands in replies (XML 1.0, section 2.2). `Settings` where a line is anything else, or no user is there.
     pub fn read(alloc: Global, text: &str) -> Result<Users, OpenError> {
         let mut users = Vec::new(alloc);
         for line in text.lines() {
