@@ -1,27 +1,40 @@
 //! The front: it moves bytes between sockets and the core, and knows nothing of HTTP.
 //!
-//! Each connection has a slot and a thread. The core answers each report but GONE, TICK and HELLO with one order: bytes to write, and
-//! what to do then. The thread carries it out and reports once. So at most one message of a connection is under way in each
+//! Each connection has a slot and a thread. The core answers each report but GONE, TICK, HELLO and USERS with one order: bytes to write,
+//! and what to do then. The thread carries it out and reports once. So at most one message of a connection is under way in each
 //! direction, and a client that doesn't read stops only itself.
 //!
 //! A report is `slot u32, kind u8, length u32, seconds u64, bytes`, an order `slot u32, next u8, length u32, bytes`; numbers
 //! are little-endian.
-#![forbid(unsafe_code)]
+//!
+//! SIGTERM and Ctrl-C end the core's input: it answers what it has, and ends; then the front does. SIGHUP reports the users again.
+#![deny(unsafe_code)]
 
-use std::fs::File;
-use std::io::{self, BufReader, Read, Write};
+mod signals;
+
+use signals::{HANG_UP, INTERRUPT, Signals, TERMINATE};
+use std::fs::{self, File};
+use std::io::{self, BufReader, ErrorKind, Read, Write};
 use std::net::{Shutdown, TcpListener, TcpStream};
 use std::os::unix::process::CommandExt;
-use std::process::{ChildStdin, Command, Stdio, exit};
+use std::process::{Child, ChildStdin, Command, Stdio, exit};
+use std::sync::atomic::{AtomicUsize, Ordering};
 use std::sync::mpsc::{Receiver, Sender, channel};
 use std::sync::{Arc, Condvar, Mutex};
 use std::thread;
-use std::time::{Duration, SystemTime, UNIX_EPOCH};
+use std::time::{Duration, Instant, SystemTime, UNIX_EPOCH};
 
 const SLOTS: usize = 512;
 const PIECE: usize = 65_536;
 const LINGER: Duration = Duration::from_secs(2);
 const SECOND: Duration = Duration::from_secs(1);
+const MOMENT: Duration = Duration::from_millis(20);
+
+/// So long an address is waited for that another server is letting go.
+const FREED: Duration = Duration::from_secs(3);
+
+/// So long the last replies have to be written, once the core has ended.
+const LAST: Duration = Duration::from_secs(2);
 
 /// What the core may order to be done after the bytes were written; 0: say that they were.
 const READ: u8 = 1;
@@ -37,6 +50,22 @@ const GOT: u8 = 2;
 const SENT: u8 = 3;
 const GONE: u8 = 4;
 const TICK: u8 = 5;
+const USERS: u8 = 6;
+
+/// The most bytes of a report.
+const MOST: usize = 65_536;
+
+/// What the front is told when it begins.
+struct Settings {
+    idle: Duration,
+    /// The file of the users, which SIGHUP has read again.
+    users: Option<String>,
+    /// What is said once the core answers; `{port}` stands for the port.
+    ready: Option<String>,
+    address: String,
+    program: String,
+    arguments: Vec<String>,
+}
 
 struct Order {
     next: u8,
@@ -44,9 +73,12 @@ struct Order {
 }
 
 struct Front {
-    core: Mutex<ChildStdin>,
+    /// The core's input; none once it has ended.
+    core: Mutex<Option<ChildStdin>>,
     slots: Mutex<Vec<Option<Sender<Order>>>>,
     freed: Condvar,
+    /// How many orders were handed out whose bytes aren't written yet.
+    writing: AtomicUsize,
     idle: Duration,
 }
 
@@ -55,14 +87,33 @@ fn seconds() -> u64 {
 }
 
 impl Front {
+    fn new(core: ChildStdin, idle: Duration) -> Front {
+        Front {
+            core: Mutex::new(Some(core)),
+            slots: Mutex::new((0..SLOTS).map(|_| None).collect()),
+            freed: Condvar::new(),
+            writing: AtomicUsize::new(0),
+            idle,
+        }
+    }
+
     fn report(&self, slot: usize, kind: u8, bytes: &[u8]) -> io::Result<()> {
         let mut frame = Vec::with_capacity(17 + bytes.len());
         frame.extend_from_slice(&(slot as u32).to_le_bytes());
         frame.push(kind);
         frame.extend_from_slice(&(bytes.len() as u32).to_le_bytes());
+        let mut core = self.core.lock().unwrap();
         frame.extend_from_slice(&seconds().to_le_bytes());
         frame.extend_from_slice(bytes);
-        self.core.lock().unwrap().write_all(&frame)
+        match &mut *core {
+            Some(input) => input.write_all(&frame),
+            None => Err(ErrorKind::BrokenPipe.into()),
+        }
+    }
+
+    /// Ends the core's input: it answers what it has, and ends.
+    fn end(&self) {
+        *self.core.lock().unwrap() = None;
     }
 
     /// Waits for a free slot; until then peers wait in the kernel's queue.
@@ -87,16 +138,20 @@ impl Front {
         let _ = stream.set_nodelay(true);
         let _ = stream.set_read_timeout(Some(self.idle));
         let _ = stream.set_write_timeout(Some(self.idle));
-        self.report(slot, OPENED, &[])?;
+        let peer = stream.peer_addr().map_or(String::new(), |address| address.ip().to_string());
+        self.report(slot, OPENED, peer.as_bytes())?;
         let mut piece = vec![0u8; PIECE];
         while let Ok(order) = orders.recv() {
             if order.next == CLOSE {
                 self.free(slot); // the core has let it go
                 let _ = (&stream).write_all(&order.bytes);
+                self.writing.fetch_sub(1, Ordering::SeqCst);
                 linger(&stream);
                 return Ok(());
             }
-            let done = match (&stream).write_all(&order.bytes) {
+            let written = (&stream).write_all(&order.bytes);
+            self.writing.fetch_sub(1, Ordering::SeqCst);
+            let done = match written {
                 Ok(()) if order.next == READ => (&stream).read(&mut piece).map(|count| (GOT, count)),
                 Ok(()) => Ok((SENT, 0)),
                 Err(error) => Err(error),
@@ -139,56 +194,105 @@ fn hand_out(front: &Front, core: impl Read) -> io::Result<()> {
         core.read_exact(&mut bytes)?;
         let slots = front.slots.lock().unwrap();
         if let Some(Some(sender)) = slots.get(slot) {
-            let _ = sender.send(Order { next: head[4], bytes });
+            front.writing.fetch_add(1, Ordering::SeqCst);
+            if sender.send(Order { next: head[4], bytes }).is_err() {
+                front.writing.fetch_sub(1, Ordering::SeqCst);
+            }
         }
     }
 }
 
 fn main() {
-    let mut words = std::env::args().skip(1);
-    let mut address = words.next().unwrap_or_else(|| usage());
-    let idle = if address == "--idle" {
-        let told = words.next().and_then(|text| text.parse().ok()).unwrap_or_else(|| usage());
-        address = words.next().unwrap_or_else(|| usage());
-        told
-    } else {
-        75
-    };
-    let program = words.next().unwrap_or_else(|| usage());
-    let listener = TcpListener::bind(&address).unwrap_or_else(|error| fail(&address, error));
-    let mut command = Command::new(&program);
-    command.args(words).stdin(Stdio::piped()).stdout(Stdio::piped());
-    let mut child = command.spawn().unwrap_or_else(|error| fail(&program, error));
-    let stdin = child.stdin.take().unwrap();
-    let stdout = child.stdout.take().unwrap();
-    let front = Arc::new(Front {
-        core: Mutex::new(stdin),
-        slots: Mutex::new((0..SLOTS).map(|_| None).collect()),
-        freed: Condvar::new(),
-        idle: Duration::from_secs(idle),
-    });
+    let signals = Signals::block(&[HANG_UP, INTERRUPT, TERMINATE]);
+    let settings = read_settings();
+    let listener = bind(&settings.address);
+    let mut command = Command::new(&settings.program);
+    command.args(&settings.arguments).stdin(Stdio::piped()).stdout(Stdio::piped());
+    command.process_group(0); // Ctrl-C at a terminal is for the front alone
+    let mut child = command.spawn().unwrap_or_else(|error| fail(&settings.program, error));
+    let front = Arc::new(Front::new(child.stdin.take().unwrap(), settings.idle));
     let handing = front.clone();
-    thread::spawn(move || {
-        let _ = hand_out(&handing, stdout);
-        match child.wait().ok().and_then(|status| status.code()) {
-            Some(NO_MEMORY) => begin_again(),
-            status => exit(status.unwrap_or(75)),
-        }
-    });
+    thread::spawn(move || end_with_core(&handing, child));
+    let hearing = front.clone();
+    let users = settings.users.clone();
+    thread::spawn(move || hear(&hearing, &signals, users.as_deref()));
     let mut random = [0u8; 16];
     File::open("/dev/urandom")
         .and_then(|mut file| file.read_exact(&mut random))
         .unwrap_or_else(|error| fail("/dev/urandom", error));
     let _ = front.report(0, HELLO, &random);
+    wait_for_core(&front);
+    if let (Some(text), Ok(address)) = (&settings.ready, listener.local_addr()) {
+        if std::env::var_os("FRONT_BEGUN").is_none() {
+            eprintln!("{}", text.replace("{port}", &address.port().to_string()));
+        }
+    }
     let ticking = front.clone();
     thread::spawn(move || {
         while ticking.report(0, TICK, &[]).is_ok() {
             thread::sleep(SECOND);
         }
     });
+    accept(&front, &listener);
+}
+
+fn read_settings() -> Settings {
+    let mut words = std::env::args().skip(1);
+    let mut settings = Settings {
+        idle: Duration::from_secs(75),
+        users: None,
+        ready: None,
+        address: String::new(),
+        program: String::new(),
+        arguments: Vec::new(),
+    };
+    let mut word = words.next().unwrap_or_else(|| usage());
+    while word.starts_with("--") {
+        let value = words.next().unwrap_or_else(|| usage());
+        match word.as_str() {
+            "--idle" => match value.parse() {
+                Ok(seconds) if seconds > 0 => settings.idle = Duration::from_secs(seconds),
+                _ => usage(),
+            },
+            "--users" => settings.users = Some(value),
+            "--ready" => settings.ready = Some(value),
+            _ => usage(),
+        }
+        word = words.next().unwrap_or_else(|| usage());
+    }
+    settings.address = word;
+    settings.program = words.next().unwrap_or_else(|| usage());
+    settings.arguments = words.collect();
+    settings
+}
+
+/// Listens at an address. One that is in use is tried again for a while: another server may be letting it go.
+fn bind(address: &str) -> TcpListener {
+    let begun = Instant::now();
+    loop {
+        match TcpListener::bind(address) {
+            Ok(listener) => return listener,
+            Err(error) if error.kind() == ErrorKind::AddrInUse && begun.elapsed() < FREED => thread::sleep(MOMENT),
+            Err(error) => fail(address, error),
+        }
+    }
+}
+
+/// Waits until the core answers, as a connection that comes and goes: then it has read its state.
+fn wait_for_core(front: &Front) {
+    let (slot, orders) = front.take_slot();
+    if front.report(slot, OPENED, &[]).is_ok() && orders.recv().is_ok() {
+        front.writing.fetch_sub(1, Ordering::SeqCst);
+        let _ = front.report(slot, GONE, &[]);
+    }
+    front.free(slot);
+}
+
+/// Takes connections, for ever.
+fn accept(front: &Arc<Front>, listener: &TcpListener) {
     for stream in listener.incoming() {
         let Ok(stream) = stream else {
-            thread::sleep(Duration::from_millis(10));
+            thread::sleep(MOMENT);
             continue;
         };
         let (slot, orders) = front.take_slot();
@@ -198,6 +302,40 @@ fn main() {
             front.free(slot); // the core doesn't know of it
         }
     }
+}
+
+/// Does what the signals ask.
+fn hear(front: &Front, signals: &Signals, users: Option<&str>) {
+    loop {
+        match (signals.next(), users) {
+            (HANG_UP, Some(file)) => match fs::read(file) {
+                Ok(text) if text.len() <= MOST => {
+                    let _ = front.report(0, USERS, &text);
+                }
+                Ok(_) => eprintln!("serve: {file} has more than {MOST} bytes; the users are as they were"),
+                Err(error) => eprintln!("serve: {file}: {error}; the users are as they were"),
+            },
+            (HANG_UP, None) => {}
+            _ => front.end(),
+        }
+    }
+}
+
+/// Hands out the core's orders until it ends, and ends with its status, once the last replies are written.
+fn end_with_core(front: &Front, mut child: Child) {
+    if let Some(core) = child.stdout.take() {
+        let _ = hand_out(front, core);
+    }
+    let status = child.wait().ok().and_then(|status| status.code());
+    let goes_on = front.core.lock().unwrap().is_some();
+    if status == Some(NO_MEMORY) && goes_on {
+        begin_again();
+    }
+    let ended = Instant::now();
+    while front.writing.load(Ordering::SeqCst) > 0 && ended.elapsed() < LAST {
+        thread::sleep(MOMENT);
+    }
+    exit(status.unwrap_or(75));
 }
 
 /// Begins again in this process's place after the core ran out of memory, at most three times a minute.
@@ -210,23 +348,23 @@ fn begin_again() -> ! {
         exit(NO_MEMORY);
     }
     times.push(now);
-    eprintln!("front: the core ran out of memory; it begins again");
+    eprintln!("serve: the core ran out of memory; it begins again");
     let texts: Vec<String> = times.iter().map(|time| time.to_string()).collect();
     let mut words = std::env::args_os();
-    let program = std::env::current_exe().unwrap_or_else(|error| fail("front", error));
+    let program = std::env::current_exe().unwrap_or_else(|error| fail("the front", error));
     let error = Command::new(program)
         .args(words.by_ref().skip(1))
         .env("FRONT_BEGUN", texts.join(","))
         .exec();
-    fail("front", error)
+    fail("the front", error)
 }
 
 fn usage() -> ! {
-    eprintln!("usage: front [--idle SECONDS] ADDRESS:PORT PROGRAM [ARGUMENT..]");
+    eprintln!("usage: front [--idle SECONDS] [--users FILE] [--ready TEXT] ADDRESS:PORT PROGRAM [ARGUMENT..]");
     exit(64)
 }
 
 fn fail(what: &str, error: io::Error) -> ! {
-    eprintln!("front: {what}: {error}");
+    eprintln!("serve: {what}: {error}");
     exit(1)
 }

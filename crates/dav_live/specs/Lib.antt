@@ -4,3 +4,5 @@ pub mod Sent
 pub mod SentLaws
 pub mod Owners
 pub mod Asked
+pub mod Withheld
+pub mod Line

@@ -8,7 +8,7 @@ use std::alloc::AllocError;
 
 /// The front began, with random bytes.
 pub const HELLO: u8 = 0;
-/// A connection came.
+/// A connection came, from the address that is told.
 pub const OPENED: u8 = 1;
 /// Bytes came on a connection; none are its end.
 pub const GOT: u8 = 2;
@@ -18,6 +18,8 @@ pub const SENT: u8 = 3;
 pub const GONE: u8 = 4;
 /// A second passed.
 pub const TICK: u8 = 5;
+/// The list of the users was written anew: its bytes.
+pub const USERS: u8 = 6;
 
 /// Say when the bytes are sent.
 pub const TELL: u8 = 0;

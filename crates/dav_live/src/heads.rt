@@ -11,7 +11,7 @@ use std::str;
 const MOST_NAMES: usize = 1024;
 
 // The place of the first such byte.
-fn first_place(bytes: &[u8], byte: u8) -> Option<usize>
+pub fn first_place(bytes: &[u8], byte: u8) -> Option<usize>
     ensures { result ≡ position (λ b. b == byte) bytes.now }
 {
     bytes.iter().position(|b| *b == byte)
@@ -143,12 +143,20 @@ fn asked_seconds(head: &[u8], most: u64) -> u64 {
     seconds_in(first).unwrap_or(most).min(most)
 }
 
-// A head whose Timeout asks for a time that is at most this long.
+// Whether a line is a field that only the connection reads (RFC 9112, sections 3.2 and 6).
+fn is_of_connection(line: &[u8]) -> bool {
+    value_in(line, b"host").is_some()
+        || value_in(line, b"content-length").is_some()
+        || value_in(line, b"transfer-encoding").is_some()
+}
+
+// A head of a LOCK whose Timeout asks for a time that is at most this long. Its fields are no more than they were: what only
+// the connection reads of it, as Host, is left out.
 pub fn with_timeout(alloc: Global, head: &[u8], most: u64) -> Result<Vec<u8>, AllocError> {
     let mut out = Vec::new(alloc);
     let seconds = asked_seconds(head, most);
     for line in head.trim_ascii().split(|b| *b == b'\n') {
-        if value_in(line, b"timeout").is_none() {
+        if value_in(line, b"timeout").is_none() && !is_of_connection(line) {
             out.extend_from_slice(line.trim_ascii_end())?;
             out.extend_from_slice(b"\r\n")?;
         }

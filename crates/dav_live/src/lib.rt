@@ -12,6 +12,7 @@ mod handler;
 mod heads;
 pub mod laws;
 mod leases;
+mod line;
 mod live;
 mod owner;
 mod page;
@@ -22,8 +23,9 @@ mod sendable;
 mod service;
 mod settings;
 mod users;
+mod withheld;
 
 pub use fault::{Fault, OpenError};
 pub use live::{Live, Watch};
 pub use settings::Settings;
-pub use users::Users;
+pub use users::{Users, UsersError};

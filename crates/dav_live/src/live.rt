@@ -1,7 +1,8 @@
 //! All connections.
 use crate::fault::{Fault, OpenError};
 use crate::frames::{
-    CLOSE, GONE, GOT, HELLO, Next, OPENED, READ, Report, SENT, TELL, TICK, add_order, report_at,
+    CLOSE, GONE, GOT, HELLO, Next, OPENED, READ, Report, SENT, TELL, TICK, USERS, add_order,
+    report_at,
 };
 use crate::service::Service;
 use crate::settings::Settings;
@@ -10,7 +11,8 @@ use dav_journal::Journal;
 use dav_wire::{Peer, Stop};
 use sqlite_disk::Disk;
 use std::alloc::{AllocError, Global};
-use std::io::{Read, Write};
+use std::io::{ErrorKind, Read, Write};
+use std::str;
 
 /// At most so many connections are open.
 const MOST_SLOTS: usize = 512;
@@ -22,13 +24,23 @@ pub trait Watch {
 
     /// These requests were answered, one in a line, and what they changed is kept.
     fn tell(&mut self, lines: &str);
+
+    /// Who runs the server is to know this, a notice in a line.
+    fn say(&mut self, notices: &str);
+}
+
+// A connection, and the address that it came from.
+#[derive(Drop)]
+struct Connection {
+    peer: Peer,
+    address: String,
 }
 
 /// A live server: its connections, and what answers their requests.
 #[derive(Drop)]
 pub struct Live<D: Disk> {
     alloc: Global,
-    slots: Vec<Option<Peer>>,
+    slots: Vec<Option<Connection>>,
     service: Service<D>,
 }
 
@@ -117,8 +129,11 @@ impl<D: Disk + Drop> Live<D> {
         pipe.orders.clear();
         if !self.service.log().is_empty() {
             watch.tell(self.service.log());
-            self.service.clear_log();
         }
+        if !self.service.notices().is_empty() {
+            watch.say(self.service.notices());
+        }
+        self.service.clear_log();
         Ok(())
     }
 
@@ -133,7 +148,8 @@ impl<D: Disk + Drop> Live<D> {
                 Ok(())
             }
             TICK => Ok(()),
-            OPENED => self.begin(report.slot, orders),
+            USERS => Ok(self.service.hear_users(bytes)?),
+            OPENED => self.begin(report.slot, bytes, orders),
             GONE => self.end(report.slot),
             GOT => self.go_on(report.slot, Some(bytes), orders),
             SENT => self.go_on(report.slot, None, orders),
@@ -141,11 +157,15 @@ impl<D: Disk + Drop> Live<D> {
         }
     }
 
-    // A connection came.
-    fn begin(&mut self, slot: u32, orders: &mut Vec<u8>) -> Result<(), Fault> {
+    // A connection came from this address.
+    fn begin(&mut self, slot: u32, address: &[u8], orders: &mut Vec<u8>) -> Result<(), Fault> {
+        let address = String::from_str(self.alloc, str::from_utf8(address).unwrap_or("?"))?;
         match self.slots.get_mut(slot as usize) {
             Some(place) if place.is_none() => {
-                *place = Some(Peer::new(self.alloc));
+                *place = Some(Connection {
+                    peer: Peer::new(self.alloc),
+                    address,
+                });
                 Ok(add_order(orders, slot, READ, &[])?)
             }
             _ => Err(Fault::Pipe),
@@ -173,13 +193,13 @@ impl<D: Disk + Drop> Live<D> {
         let Some(place) = self.slots.get_mut(slot as usize) else {
             return Err(Fault::Pipe);
         };
-        let Some(peer) = place else {
+        let Some(connection) = place else {
             return Err(Fault::Pipe);
         };
-        if advance(peer, &mut self.service, bytes).is_err() {
+        if advance(connection, &mut self.service, bytes).is_err() {
             return Err(self.service.fault());
         }
-        let next = hand_out(peer, slot, orders)?;
+        let next = hand_out(&mut connection.peer, slot, orders)?;
         if next == CLOSE {
             *place = None;
         }
@@ -194,9 +214,13 @@ fn piece(alloc: Global) -> Result<Vec<u8>, AllocError> {
     Ok(piece)
 }
 
-// Reads once.
+// Reads once; a read that a signal interrupts gives nothing.
 fn read_more<R: Read>(pipe: &mut Pipe, reader: &mut R) -> Result<(), Fault> {
-    let count = reader.read(&mut pipe.piece)?;
+    let count = match reader.read(&mut pipe.piece) {
+        Ok(count) => count,
+        Err(error) if error.kind() == ErrorKind::Interrupted => return Ok(()),
+        Err(_) => return Err(Fault::Pipe),
+    };
     if count == 0 {
         return Err(Fault::Ended);
     }
@@ -217,7 +241,7 @@ fn drop_front(input: &mut Vec<u8>, used: usize) {
 }
 
 // No connection in each slot.
-fn no_connections(alloc: Global) -> Result<Vec<Option<Peer>>, AllocError> {
+fn no_connections(alloc: Global) -> Result<Vec<Option<Connection>>, AllocError> {
     let mut slots = Vec::new(alloc);
     for _ in 0..MOST_SLOTS {
         slots.push(None)?;
@@ -227,14 +251,15 @@ fn no_connections(alloc: Global) -> Result<Vec<Option<Peer>>, AllocError> {
 
 // Gives a connection what came, and answers its requests.
 fn advance<D: Disk + Drop>(
-    peer: &mut Peer,
+    connection: &mut Connection,
     service: &mut Service<D>,
     bytes: Option<&[u8]>,
 ) -> Result<(), Stop> {
+    service.hear_address(connection.address.as_str())?;
     if let Some(bytes) = bytes {
-        peer.take(bytes)?;
+        connection.peer.take(bytes)?;
     }
-    peer.advance(service)
+    connection.peer.advance(service)
 }
 
 // Orders the front to send what waits, and answers what it is to do then.

@@ -123,6 +123,15 @@ fn add_row(
     page.push_str("</tr>\n")
 }
 
+// The address of the folder above (RFC 3986, section 5.2.4).
+fn address_above(address: &str) -> &str {
+    let name = address.trim_end_matches('/');
+    match name.rfind('/') {
+        Some(place) => address.get(..place.saturating_add(1)).unwrap_or("/"),
+        None => "/",
+    }
+}
+
 // Adds the begin of the page of a folder, with the way up.
 fn add_top(alloc: Global, page: &mut String, address: &str) -> Result<(), AllocError> {
     page.push_str("<!DOCTYPE html>\n<html><head><meta charset=\"utf-8\"><title>")?;
@@ -133,7 +142,9 @@ fn add_top(alloc: Global, page: &mut String, address: &str) -> Result<(), AllocE
     if last_name(address).is_empty() {
         return Ok(());
     }
-    page.push_str("<tr><td><a href=\"..\">..</a></td><td></td><td></td></tr>\n")
+    page.push_str("<tr><td><a href=\"")?;
+    add_text(page, address_above(address))?;
+    page.push_str("\">..</a></td><td></td><td></td></tr>\n")
 }
 
 // Adds what one response tells: the first is of the folder itself.

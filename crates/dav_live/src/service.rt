@@ -12,15 +12,20 @@ use crate::heads::{
     with_timeout,
 };
 use crate::leases::{Lease, next_ended, note_locks, unlock_head};
+use crate::line::{Answered, line_of};
 use crate::page::{ASKED, asking_head, page_answer};
 use crate::record::Record;
 use crate::render::{answer_of, bare_answer, unknown_user};
 use crate::settings::Settings;
-use crate::users::Users;
+use crate::users::{Users, UsersError};
+use crate::withheld::without_credentials;
 use bytes::Bytes;
+use dav_core::errors::DavError;
+use dav_core::method::DavMethod;
 use dav_engine::{Reply, ReplyBody};
 use dav_journal::{Journal, JournalError};
 use dav_server::exchange::LAST_MOMENT;
+use dav_server::target::path_of;
 use dav_wire::{Answer, Answerer, Stop};
 use sqlite_disk::Disk;
 use std::alloc::{AllocError, Global};
@@ -46,8 +51,12 @@ pub struct Service<D: Disk> {
     moment: u64,
     /// Why it stopped.
     fault: Fault,
+    /// Where the requests come from that are answered now.
+    address: String,
     /// Lines of the requests that were answered, where the settings ask for them.
     log: String,
+    /// What else there is to be told to who runs the server.
+    notices: String,
 }
 
 // Eight bytes as a number.
@@ -79,7 +88,9 @@ impl<D: Disk + Drop> Service<D> {
             random: [0; 16],
             moment: 0,
             fault: Fault::Memory,
+            address: String::new(alloc),
             log: String::new(alloc),
+            notices: String::new(alloc),
         };
         service.replay()?;
         Ok(service)
@@ -173,6 +184,31 @@ impl<D: Disk + Drop> Service<D> {
         }
     }
 
+    /// Takes the list of the users anew. Where the bytes are none, the users stay as they were; either is told.
+    pub fn hear_users(&mut self, bytes: &[u8]) -> Result<(), AllocError> {
+        let read = match str::from_utf8(bytes) {
+            Ok(text) => Users::read(self.alloc, text),
+            Err(_) => Err(UsersError::Nobody),
+        };
+        match read {
+            Ok(users) => {
+                self.users = Some(users);
+                self.notices.push_str("users: read again\n")
+            }
+            Err(UsersError::Memory) => Err(AllocError),
+            Err(error) => {
+                let notice = format!(in self.alloc; "users: {error}; the users are as they were\n")?;
+                self.notices.push_str(notice.as_str())
+            }
+        }
+    }
+
+    /// Takes the address from which what follows comes.
+    pub fn hear_address(&mut self, address: &str) -> Result<(), AllocError> {
+        self.address.clear();
+        self.address.push_str(address)
+    }
+
     /// Takes the moment of a report, and ends the locks whose time has passed. A clock that goes back stands still.
     pub fn hear_moment(&mut self, seconds: u64) -> Result<(), Stop> {
         let moment = seconds.min(LAST_MOMENT);
@@ -252,9 +288,15 @@ impl<D: Disk + Drop> Service<D> {
         self.log.as_str()
     }
 
+    /// What else there is to be told since this was last asked, in lines.
+    pub fn notices(&self) -> &str {
+        self.notices.as_str()
+    }
+
     /// Forgets these lines.
     pub fn clear_log(&mut self) {
         self.log.clear();
+        self.notices.clear();
     }
 
     // The next token: a UUID of version 8 with 58 random bits and the count of tokens (RFC 9562, section 5.8).
@@ -269,23 +311,23 @@ impl<D: Disk + Drop> Service<D> {
         format!(in self.alloc; "urn:uuid:{a:08x}-{b:04x}-8{c:03x}-{d:04x}-{e:012x}")
     }
 
-    // Who asks, where users are known; `Err` where it is nobody who is. The name may stand in a reply.
-    fn principal_of(&mut self, head: &[u8]) -> Result<Option<String>, ()>
+    // Who asks, where users are known; `Err` with the name that was shown where it is nobody who is. The name may stand in a reply.
+    fn principal_of(&mut self, head: &[u8]) -> Result<Option<String>, String>
         ensures { IfOk result (λ name. IsSendableTextIfAny (option_map string_bytes name)) }
     {
         let Some(users) = &mut self.users else {
             return Ok(None);
         };
         let Some(value) = field(head, b"authorization") else {
-            return Err(());
+            return Err(String::new(self.alloc));
         };
         let Some(told) = credentials_of(self.alloc, value) else {
-            return Err(());
+            return Err(String::new(self.alloc));
         };
         if users.knows(told.name.as_str(), told.password.as_bytes()) {
             Ok(Some(told.name))
         } else {
-            Err(())
+            Err(told.name)
         }
     }
 
@@ -379,37 +421,70 @@ impl<D: Disk + Drop> Service<D> {
         }
     }
 
-    // Adds the line of a request.
-    fn add_line(
-        &mut self,
-        principal: Option<&str>,
-        head: &[u8],
-        answer: &Answer,
-    ) -> Result<(), Stop> {
+    // Adds the line of a request of somebody who says to be this user.
+    fn add_line(&mut self, user: &str, head: &[u8], answer: &Answer) -> Result<(), Stop> {
         if !self.settings.logs {
             return Ok(());
         }
-        let method = str::from_utf8(method_of(head)).unwrap_or("?");
-        let target = str::from_utf8(target_of(head)).unwrap_or("?");
-        let (name, status, len) = (principal.unwrap_or("-"), answer.status, answer.body.len());
-        let line = format!(in self.alloc; "{name} {method} {target} {status} {len}\n")?;
+        let told = Answered {
+            moment: self.moment,
+            address: self.address.as_bytes(),
+            user: user.as_bytes(),
+            method: method_of(head),
+            target: target_of(head),
+            status: answer.status,
+            bytes: answer.body.len(),
+        };
+        let line = line_of(self.alloc, &told)?;
         self.log.push_str(line.as_str())?;
+        self.log.push_str("\n")?;
         Ok(())
+    }
+
+    // Whether a head's target names a path that isn't at or below the prefix.
+    fn is_outside(&self, head: &[u8]) -> Result<bool, Stop> {
+        let Ok(target) = str::from_utf8(target_of(head)) else {
+            return Ok(false);
+        };
+        let prefix = self.settings.prefix.as_str();
+        match path_of(self.alloc, DavMethod::Get, target, prefix) {
+            Err(DavError::IllegalPath) => Ok(true),
+            Err(DavError::Memory) => Err(Stop),
+            _ => Ok(false),
+        }
+    }
+
+    // Answers a request of somebody who may ask: what is run and kept of its head doesn't show who that is.
+    fn admitted(
+        &mut self,
+        principal: Option<&str>,
+        head: &[u8],
+        body: Bytes,
+    ) -> Result<Answer, Stop>
+        requires { IsSendableTextIfAny (option_copied principal) }
+    {
+        if has_many_names(head) {
+            return bare_answer(self.alloc, 414);
+        }
+        if self.is_outside(head)? {
+            return bare_answer(self.alloc, 404);
+        }
+        let kept = without_credentials(self.alloc, head)?;
+        self.answer_for(principal, &kept, body)
     }
 
     // Answers a request that came for this host.
     fn answer_known(&mut self, head: &[u8], body: Bytes) -> Result<Answer, Stop> {
-        let Ok(principal) = self.principal_of(head) else {
-            let answer = unknown_user(self.alloc)?;
-            self.add_line(None, head, &answer)?;
-            return Ok(answer);
+        let principal = match self.principal_of(head) {
+            Ok(principal) => principal,
+            Err(shown) => {
+                let answer = unknown_user(self.alloc)?;
+                self.add_line(shown.as_str(), head, &answer)?;
+                return Ok(answer);
+            }
         };
-        let answer = if has_many_names(head) {
-            bare_answer(self.alloc, 414)?
-        } else {
-            self.answer_for(principal.as_deref(), head, body)?
-        };
-        self.add_line(principal.as_deref(), head, &answer)?;
+        let answer = self.admitted(principal.as_deref(), head, body)?;
+        self.add_line(principal.as_deref().unwrap_or(""), head, &answer)?;
         Ok(answer)
     }
 }
@@ -437,7 +512,7 @@ impl<D: Disk + Drop> Answerer for Service<D> {
             return self.answer_known(head, body);
         }
         let answer = bare_answer(alloc, 421)?;
-        self.add_line(None, head, &answer)?;
+        self.add_line("", head, &answer)?;
         Ok(answer)
     }
 }

@@ -2,12 +2,48 @@
 ghost use Rattle.std.specs.Prelude.{IsTrue};
 ghost use Rattle.dav_live.specs.Sent.{IsSendableText};
 
-use crate::fault::OpenError;
 use crate::password::{fits, is_secret};
 use crate::sendable::is_sendable;
 use sha2::{Digest, Sha256};
-use std::alloc::Global;
+use std::alloc::{AllocError, AllocFailed, Global};
 use std::marker::Model;
+use thiserror::Error;
+
+/// Why a text is no list of users.
+#[derive(Clone, Copy, Debug, PartialEq, Eq, Error)]
+pub enum UsersError {
+    /// The line with this number, from 1, is none of a user.
+    #[error("line {0} isn't name:$5$.. as `openssl passwd -5` makes it, or its name can't be written in XML")]
+    Line(usize),
+    /// There is no user.
+    #[error("there is no user in it")]
+    Nobody,
+    /// Memory ran out.
+    #[error("out of memory")]
+    Memory,
+}
+
+impl From<AllocError> for UsersError {
+    ghost use Rattle.std.specs.Prelude.{◌≡◌};
+    ghost use Rattle.dav_live.specs.declared.users.UsersError.TheVariants.{Memory};
+
+    ghost from_gives = { λ _ e. e ≡ Memory };
+
+    fn from(_error: AllocError) -> UsersError {
+        UsersError::Memory
+    }
+}
+
+impl<T: Drop> From<AllocFailed<T>> for UsersError {
+    ghost use Rattle.std.specs.Prelude.{◌≡◌};
+    ghost use Rattle.dav_live.specs.declared.users.UsersError.TheVariants.{Memory};
+
+    ghost from_gives = { λ _ e. e ≡ Memory };
+
+    fn from(_error: AllocFailed<T>) -> UsersError {
+        UsersError::Memory
+    }
+}
 
 /// The name of a user. It may stand in a reply.
 #[derive(Drop)]
@@ -27,21 +63,20 @@ impl Model for Name {
 }
 
 impl Name {
-    ghost use Rattle.std.specs.Prelude.{◌≡◌, IfOk};
-    ghost use Rattle.std.specs.Result.{IsErrOf};
+    ghost use Rattle.std.specs.Prelude.{◌≡◌, IfOk, MatchOption};
     ghost use Rattle.dav_live.specs.Sent.{IsSendableText};
 
-    // The name of a text. `Settings` where the text can't stand in a reply.
-    fn new(alloc: Global, text: &str) -> Result<Name, OpenError>
-        ensures name { IfOk result (λ name. name ≡ text.now) }
-        ensures other { IsErrOf result OpenError.Settings → ¬ IsSendableText text.now }
+    // The name of a text; `None` where the text can't stand in a reply.
+    fn new(alloc: Global, text: &str) -> Result<Option<Name>, AllocError>
+        ensures name { IfOk result (λ name. MatchOption name (¬ IsSendableText text.now)
+            (λ n. n ≡ text.now)) }
     {
         if !is_sendable(text) {
-            return Err(OpenError::Settings);
+            return Ok(None);
         }
-        Ok(Name {
+        Ok(Some(Name {
             text: String::from_str(alloc, text)?,
-        })
+        }))
     }
 
     // The name's text.
@@ -70,17 +105,21 @@ pub struct Users {
 impl Users {
     /// The users of a text of lines `name:secret`, each with a secret as `openssl passwd -5` makes it; empty lines and
     /// those that begin with `#` are skipped. A name isn't empty, and is of characters that a document of XML may have, as
-    /// it stands in replies (XML 1.0, section 2.2). `Settings` where a line is anything else, or no user is there.
-    pub fn read(alloc: Global, text: &str) -> Result<Users, OpenError> {
+    /// it stands in replies (XML 1.0, section 2.2). `Line` with the number of the first line that is anything else; `Nobody`
+    /// where no user is there.
+    pub fn read(alloc: Global, text: &str) -> Result<Users, UsersError> {
         let mut users = Vec::new(alloc);
-        for line in text.lines() {
+        for (place, line) in text.lines().enumerate() {
             let line = line.trim();
             if !line.is_empty() && !line.starts_with('#') {
-                users.push(user_of(alloc, line)?)?;
+                match user_of(alloc, line)? {
+                    Some(user) => users.push(user)?,
+                    None => return Err(UsersError::Line(place.saturating_add(1))),
+                }
             }
         }
         if users.is_empty() {
-            return Err(OpenError::Settings);
+            return Err(UsersError::Nobody);
         }
         Ok(Users { users })
     }
@@ -98,21 +137,23 @@ impl Users {
     }
 }
 
-// The user of a line.
-fn user_of(alloc: Global, line: &str) -> Result<User, OpenError> {
+// The user of a line; `None` where it is none of a user.
+fn user_of(alloc: Global, line: &str) -> Result<Option<User>, AllocError> {
     let Some((name, secret)) = line.split_once(':') else {
-        return Err(OpenError::Settings);
+        return Ok(None);
     };
     if !is_secret(secret) {
-        return Err(OpenError::Settings);
+        return Ok(None);
     }
-    let name = Name::new(alloc, name)?;
+    let Some(name) = Name::new(alloc, name)? else {
+        return Ok(None);
+    };
     let secret = String::from_str(alloc, secret)?;
-    Ok(User {
+    Ok(Some(User {
         name,
         secret,
         known: None,
-    })
+    }))
 }
 
 // Whether a password is that of a user; one that fitted last is known by its digest alone.

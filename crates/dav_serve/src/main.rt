@@ -12,55 +12,77 @@ ghost use Rattle.dav_serve.specs.Status.{status_after};
 mod options;
 mod watcher;
 
-use dav_live::{Fault, Live, OpenError, Users};
-use options::Options;
+use dav_live::{Fault, Live, OpenError, Users, UsersError};
+use options::{Options, OptionsError};
 use sqlite_disk::Files;
 use sqlite_std_file::{File, Unknown, open};
-use std::alloc::Global;
+use std::alloc::{AllocError, Global};
 use std::process::ExitCode;
 use std::rt::Runtime;
 use std::{env, fs, io};
+use thiserror::Error;
 use watcher::Watcher;
 
 /// Why the program can't begin.
-#[derive(Clone, Copy, Debug, PartialEq, Eq)]
+#[derive(Debug, Drop, Error)]
 enum Refusal {
     /// The arguments are wrong.
-    Arguments,
-    /// FOLDER/users can't be read.
-    Users,
-    /// FOLDER/state can't be opened, or is in use.
-    State,
-    /// The server can't begin.
-    Open(OpenError),
+    #[error("{0}")]
+    Options(OptionsError),
+    /// The prefix is none.
+    #[error("--prefix: '{0}' isn't a path as /dav or /team/files")]
+    Prefix(String),
+    /// The users of the folder can't be read.
+    #[error("{0}/users can't be read")]
+    UsersFile(String),
+    /// The users of the folder aren't such a list.
+    #[error("{0}/users: {1}")]
+    Users(String, UsersError),
+    /// The state of the folder can't be opened, or is in use.
+    #[error("{0}/state can't be opened: the folder is missing, or another server has it")]
+    State(String),
+    /// The server of the folder can't begin.
+    #[error("{0}/state {1}")]
+    Open(String, &'static str, OpenError),
+    /// Memory ran out.
+    #[error("out of memory")]
+    Memory,
 }
 
-// The text of a refusal.
-fn text_of(refusal: Refusal) -> &'static str {
-    match refusal {
-        Refusal::Arguments =>
-            "usage: dav-serve FOLDER [--prefix /PATH] [--host NAME].. [--lock-time SECONDS] [--body BYTES] [--log]",
-        Refusal::Users =>
-            "FOLDER/users can't be read, or has a line that isn't name:$5$.. (openssl passwd -5)",
-        Refusal::State =>
-            "FOLDER/state can't be opened: the folder is missing, or another server has it",
-        Refusal::Open(OpenError::Settings) =>
-            "the prefix isn't one, or FOLDER/users has a line that isn't name:$5$.. (openssl passwd -5), or a name with control characters",
-        Refusal::Open(OpenError::OtherPrefix) => "FOLDER/state was kept under another --prefix",
-        Refusal::Open(OpenError::Foreign) =>
-            "FOLDER/state isn't a state of this version; nothing was changed",
-        Refusal::Open(OpenError::Damaged) => "FOLDER/state is damaged; nothing was changed",
-        Refusal::Open(OpenError::Disk) => "the disk failed or is full",
-        Refusal::Open(OpenError::Memory) => "out of memory",
+impl From<OptionsError> for Refusal {
+    fn from(error: OptionsError) -> Refusal {
+        match error {
+            OptionsError::Memory => Refusal::Memory,
+            error => Refusal::Options(error),
+        }
     }
 }
 
+impl From<AllocError> for Refusal {
+    fn from(_error: AllocError) -> Refusal {
+        Refusal::Memory
+    }
+}
+
+// Why the server of a folder with this prefix can't begin.
+fn refused(folder: String, prefix: String, error: OpenError) -> Refusal {
+    let text = match error {
+        OpenError::Settings => return Refusal::Prefix(prefix),
+        OpenError::Memory => return Refusal::Memory,
+        OpenError::OtherPrefix => "was kept under another --prefix",
+        OpenError::Foreign => "isn't a state of this version; nothing was changed",
+        OpenError::Damaged => "is damaged; nothing was changed",
+        OpenError::Disk => "can't be read or written: the disk failed or is full",
+    };
+    Refusal::Open(folder, text, error)
+}
+
 // The exit status of a refusal.
-fn status_of(refusal: Refusal) -> u8 {
+fn status_of(refusal: &Refusal) -> u8 {
     match refusal {
-        Refusal::Open(OpenError::Memory) => 3,
-        Refusal::Open(OpenError::Foreign) | Refusal::Open(OpenError::Damaged) => 4,
-        Refusal::Open(OpenError::Disk) => 5,
+        Refusal::Memory => 3,
+        Refusal::Open(_, _, OpenError::Foreign) | Refusal::Open(_, _, OpenError::Damaged) => 4,
+        Refusal::Open(_, _, OpenError::Disk) => 5,
         _ => 1,
     }
 }
@@ -79,19 +101,19 @@ fn status_after(fault: Fault) -> u8
 
 // The users of a folder, where it has a file of them.
 fn users_in<R: Runtime>(rt: &R, alloc: Global, folder: &str) -> Result<Option<Users>, Refusal> {
-    let Ok(path) = format!(in alloc; "{folder}/users") else {
-        return Err(Refusal::Open(OpenError::Memory));
+    let path = format!(in alloc; "{folder}/users")?;
+    let text = match fs::exists(rt, path.as_str()) {
+        Ok(false) => return Ok(None),
+        Ok(true) => fs::read_to_string(rt, path.as_str()),
+        Err(error) => Err(error),
     };
-    match fs::exists(rt, path.as_str()) {
-        Ok(false) => Ok(None),
-        Ok(true) => match fs::read_to_string(rt, path.as_str()) {
-            Ok(text) => match Users::read(alloc, text.as_str()) {
-                Ok(users) => Ok(Some(users)),
-                Err(error) => Err(Refusal::Open(error)),
-            },
-            Err(_) => Err(Refusal::Users),
-        },
-        Err(_) => Err(Refusal::Users),
+    let Ok(text) = text else {
+        return Err(Refusal::UsersFile(String::from_str(alloc, folder)?));
+    };
+    match Users::read(alloc, text.as_str()) {
+        Ok(users) => Ok(Some(users)),
+        Err(UsersError::Memory) => Err(Refusal::Memory),
+        Err(error) => Err(Refusal::Users(String::from_str(alloc, folder)?, error)),
     }
 }
 
@@ -99,28 +121,25 @@ fn users_in<R: Runtime>(rt: &R, alloc: Global, folder: &str) -> Result<Option<Us
 fn open_live(rt: &HostRuntime, alloc: Global, options: Options) -> Result<Live<File>, Refusal> {
     let Options { folder, settings } = options;
     let users = users_in(rt, alloc, folder.as_str())?;
-    let Ok(path) = format!(in alloc; "{folder}/state") else {
-        return Err(Refusal::Open(OpenError::Memory));
-    };
+    let path = format!(in alloc; "{folder}/state")?;
     let Ok(files) = open(rt, path.as_str(), Unknown) else {
-        return Err(Refusal::State);
+        return Err(Refusal::State(folder));
     };
     let Files { db, log: _ } = files;
+    let prefix = settings.prefix.clone()?;
     match Live::open(alloc, db, users, settings) {
         Ok(live) => Ok(live),
-        Err(error) => Err(Refusal::Open(error)),
+        Err(error) => Err(refused(folder, prefix, error)),
     }
 }
 
 // Begins with the arguments of the program.
 fn begin(rt: &HostRuntime, alloc: Global) -> Result<Live<File>, Refusal> {
     let Ok(mut arguments) = env::args(rt) else {
-        return Err(Refusal::Open(OpenError::Memory));
+        return Err(Refusal::Memory);
     };
     let _program = arguments.next();
-    let Some(options) = Options::read(alloc, &mut arguments) else {
-        return Err(Refusal::Arguments);
-    };
+    let options = Options::read(alloc, &mut arguments)?;
     open_live(rt, alloc, options)
 }
 
@@ -133,10 +152,9 @@ fn main(rt: HostRuntime) -> ExitCode {
             ExitCode::from(status_after(fault))
         }
         Err(refusal) => {
-            let text = text_of(refusal);
             // A failed write to standard error can't be reported anywhere.
-            let _ = eprintln!(rt; "dav-serve: {text}");
-            ExitCode::from(status_of(refusal))
+            let _ = eprintln!(rt; "serve: {refusal}");
+            ExitCode::from(status_of(&refusal))
         }
     }
 }

@@ -1,10 +1,14 @@
 //! The arguments of the program.
 use dav_live::Settings;
-use std::alloc::Global;
+use std::alloc::{AllocError, AllocFailed, Global};
 use std::env::Args;
+use thiserror::Error;
 
 /// The longest time of a lock in seconds where none is told: a day.
 const LOCK_TIME: u64 = 86_400;
+
+/// The most seconds that a lock's time can be told in (RFC 4918, section 10.7).
+const MOST_LOCK_TIME: u64 = 4_294_967_295;
 
 /// The most bytes of a body where none is told: 256 MiB.
 const BODY: u64 = 268_435_456;
@@ -16,10 +20,45 @@ pub struct Options {
     pub settings: Settings,
 }
 
+/// Why arguments aren't understood.
+#[derive(Debug, Drop, Error)]
+pub enum OptionsError {
+    /// There is no folder among them.
+    #[error("usage: dav-serve FOLDER [--prefix /PATH] [--host NAME].. [--lock-time SECONDS] [--body BYTES] [--log]")]
+    NoFolder,
+    /// No option has this name.
+    #[error("'{0}' isn't an option")]
+    Unknown(String),
+    /// The option with this name has no value.
+    #[error("{0}: its value is missing")]
+    NoValue(String),
+    /// The option with this name has a value that isn't a number within its bounds.
+    #[error("{0}: '{1}' isn't a number that it can be")]
+    NoNumber(String, String),
+    /// Memory ran out.
+    #[error("out of memory")]
+    Memory,
+}
+
+impl From<AllocError> for OptionsError {
+    fn from(_error: AllocError) -> OptionsError {
+        OptionsError::Memory
+    }
+}
+
+impl<T: Drop> From<AllocFailed<T>> for OptionsError {
+    fn from(_error: AllocFailed<T>) -> OptionsError {
+        OptionsError::Memory
+    }
+}
+
 impl Options {
-    /// The options of arguments; `None` where they aren't understood, or memory runs out.
-    pub fn read(alloc: Global, arguments: &mut Args) -> Option<Options> {
-        let folder = arguments.next()?;
+    /// The options of arguments: a folder, and then options, each with its value but for `--log`. Of an option that comes
+    /// twice the last one counts, but for `--host`.
+    pub fn read(alloc: Global, arguments: &mut Args) -> Result<Options, OptionsError> {
+        let Some(folder) = arguments.next() else {
+            return Err(OptionsError::NoFolder);
+        };
         let mut settings = Settings {
             prefix: String::new(alloc),
             hosts: Vec::new(alloc),
@@ -34,22 +73,39 @@ impl Options {
             if name.as_str() == "--log" {
                 settings.logs = true;
             } else {
-                let value = arguments.next()?;
-                set(&mut settings, name.as_str(), value)?;
+                set(&mut settings, name, arguments.next())?;
             }
         }
-        Some(Options { folder, settings })
+        Ok(Options { folder, settings })
     }
 }
 
 // Sets what an option names.
-fn set(settings: &mut Settings, name: &str, value: String) -> Option<()> {
-    match name {
-        "--prefix" => settings.prefix = value,
-        "--host" => settings.hosts.push(value).ok()?,
-        "--lock-time" => settings.lock_time = value.as_str().parse::<u64>().ok()?,
-        "--body" => settings.most_body = value.as_str().parse::<u64>().ok()?,
-        _ => return None,
+fn set(settings: &mut Settings, name: String, value: Option<String>) -> Result<(), OptionsError> {
+    if !takes_value(name.as_str()) {
+        return Err(OptionsError::Unknown(name));
     }
-    Some(())
+    let Some(value) = value else {
+        return Err(OptionsError::NoValue(name));
+    };
+    match name.as_str() {
+        "--prefix" => settings.prefix = value,
+        "--host" => settings.hosts.push(value)?,
+        "--lock-time" => settings.lock_time = number(name, value, MOST_LOCK_TIME)?,
+        _ => settings.most_body = number(name, value, u64::MAX)?,
+    }
+    Ok(())
+}
+
+// Whether there is an option with this name that has a value.
+fn takes_value(name: &str) -> bool {
+    matches!(name, "--prefix" | "--host" | "--lock-time" | "--body")
+}
+
+// A value as a number from 1 to the most that it can be.
+fn number(name: String, value: String, most: u64) -> Result<u64, OptionsError> {
+    match value.as_str().parse::<u64>() {
+        Ok(number) if 0 < number && number <= most => Ok(number),
+        _ => Err(OptionsError::NoNumber(name, value)),
+    }
 }

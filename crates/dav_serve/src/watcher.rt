@@ -3,7 +3,8 @@ use dav_live::Watch;
 use std::rt::{Clock, Runtime};
 use std::time::Instant;
 
-/// Writes a line for each request: who, method, target, status, bytes, and the microseconds until its turn was kept.
+/// Writes a line for each request: date, address, user, method, target, status, bytes, and the microseconds until its turn was
+/// kept.
 #[derive(Drop)]
 pub struct Watcher<'r> {
     rt: &'r HostRuntime,
@@ -38,6 +39,13 @@ impl<'r> Watch for Watcher<'r> {
         for line in lines.lines() {
             // A failed write to standard error can't be reported anywhere.
             let _ = eprintln!(self.rt; "{line} {micros}");
+        }
+    }
+
+    fn say(&mut self, notices: &str) {
+        for line in notices.lines() {
+            // A failed write to standard error can't be reported anywhere.
+            let _ = eprintln!(self.rt; "serve: {line}");
         }
     }
 }
