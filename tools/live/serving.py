@@ -18,9 +18,15 @@ def free_port():
         return it.getsockname()[1]
 
 
-def is_proved():
-    """Whether the proved program is there; the unproved build drops large files byte by byte."""
-    return os.path.exists(f"{TOP}/crates/dav_serve/out/dav_serve")
+def program():
+    """The program that ./serve runs, built where it isn't there."""
+    done = subprocess.run([f"{TOP}/tools/program", "dav_serve"], stdout=subprocess.PIPE, text=True, check=True)
+    return done.stdout.strip()
+
+
+def is_fast():
+    """Whether the program isn't the slow build, which drops large files byte by byte and can't be held to --memory."""
+    return not program().endswith("-slow")
 
 
 def secret_of(password):

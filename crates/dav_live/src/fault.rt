@@ -28,21 +28,9 @@ impl From<AllocError> for Fault {
     }
 }
 
-impl<T: Drop> From<AllocFailed<T>> for Fault {
-    fn from(_error: AllocFailed<T>) -> Fault {
-        Fault::Memory
-    }
-}
-
 impl From<io::Error> for Fault {
     fn from(_error: io::Error) -> Fault {
         Fault::Pipe
-    }
-}
-
-impl From<Stop> for Fault {
-    fn from(_stop: Stop) -> Fault {
-        Fault::Memory
     }
 }
 
