@@ -1,1 +1,6 @@
 mod BlockLemmas
+mod CutLemmas
+mod JournalLemmas
+mod MixedLemmas
+mod PartLemmas
+mod WriteLemmas

@@ -1,12 +1,15 @@
 //! A journal over a file.
-ghost use Rattle.dav_journal.specs.Journal.{end_of};
-ghost use Rattle.std.specs.Prelude.{◌≤◌, ◌≡◌, ◌+◌, length, IsTrue, IfOk, IfSome, OnOk, OnErr, IsNone, MatchOption};
+ghost use Rattle.std.specs.Prelude.{◌≡◌, ◌≢◌, ◌⊎◌, ◌≤◌, ◌<◌, ◌+◌, ◌^◌, ◌++◌, ◌∷◌, [], ℕ, List, Some, length, slice_index, IsTrue, IfOk, IfSome, OnOk, OnErr, IsNone, MatchOption};
+ghost use Rattle.sqlite_disk.specs.Disk.{Follows, Holds, Only, Torn};
+ghost use Rattle.dav_journal.specs.Block.{IsBlock, IsNoBlock, Recovers, end_of, front_of, head_of};
+ghost use Rattle.dav_journal.specs.Journal.{HasRead, IsKept, IsReading, IsShut, IsWrittenBlock, LeavesAtMost, LeavesOnly, OnlyReads, Stays, blocks_end, blocks_len, disk_of};
+ghost use Rattle.dav_journal.specs.Write.{HasZeros, KeepsBelow};
 
-use crate::block::{FRONT, HEAD, Head, front_bytes, head_at, head_bytes, is_begun, key_in};
+use crate::block::{FRONT, HEAD, OPEN, bytes_of, front_bytes, is_begun, is_head, key_in, len_in, told_len};
 use crate::error::JournalError;
-use sqlite_disk::{Disk, digest_of};
+use crate::write::{write_once, write_twice};
+use sqlite_disk::{Crash, Disk};
 use std::alloc::Global;
-use std::marker::Model;
 
 /// So much room is made at once, where the disk has it.
 const ROOM: usize = 1_048_576;
@@ -14,112 +17,111 @@ const ROOM: usize = 1_048_576;
 /// So many bytes are written or looked through at once.
 const PIECE: usize = 65_536;
 
-/// A journal: its file, the key of its digests, where its blocks end, and where the file ends.
+/// A journal: its file, the key of its digests, where its blocks end, up to where zeros are kept behind them, and where the file ends.
 #[derive(Drop)]
 pub struct Journal<D: Disk> {
     disk: D,
     key: u64,
     end: usize,
+    zeros: usize,
     len: usize,
 }
 
-// What contracts see of a journal: where its blocks end.
-impl<D: Disk> Model for Journal<D> {
-    ghost use Rattle.dav_journal.specs.Journal.{JournalView};
-
-    ghost Value = { JournalView };
-
-    ghost view = { λ j. record { end = j.end; len = j.len } };
-}
-
 impl<D: Disk + Drop> Journal<D> {
-    /// Opens a journal. An empty file becomes one. `Foreign` where the file is something else, and then nothing is
-    /// changed.
-    pub fn open(disk: D) -> Result<Journal<D>, JournalError>
-        ensures { IfOk result (λ j. j.end ≡ 16) }
+    /// A journal over a disk, which isn't open yet.
+    pub fn new(disk: D) -> Journal<D>
+        ensures { disk_of result ≡ disk }
     {
-        if !disk.may_be_used() {
+        Journal {
+            disk,
+            key: 0,
+            end: FRONT,
+            zeros: 0,
+            len: 0,
+        }
+    }
+
+    /// Opens the file. An empty one becomes a journal. `Foreign` where the file is something else, and then nothing is changed.
+    pub fn open(&mut self) -> Result<(), JournalError>
+        ensures reading { OnOk result (IsTrue (D.Disk.is_clean (disk_of self.new)) → IsReading D.Disk self.new []) }
+        ensures any_moment { IsTrue (D.Disk.is_clean (disk_of self.new)) → (contents : List (List ℕ))
+            → LeavesOnly D.Disk (disk_of self.old) contents → LeavesOnly D.Disk (disk_of self.new) contents }
+    {
+        if !self.disk.may_be_used() {
             return Err(JournalError::Io);
         }
-        let mut disk = disk;
-        let len = disk.len()?;
+        self.disk.sync()?;
+        let len = self.disk.len()?;
         if len < FRONT {
-            return Journal::make(disk, len);
+            return self.make(len);
         }
         let mut front = [0u8; FRONT];
-        disk.read_at(0, &mut front)?;
-        match key_in(&front) {
-            Some(key) => Ok(Journal {
-                disk,
-                key,
-                end: FRONT,
-                len,
-            }),
-            None => Err(JournalError::Foreign),
-        }
+        self.disk.read_at(0, &mut front)?;
+        let Some(key) = key_in(&front) else {
+            return Err(JournalError::Foreign);
+        };
+        self.key = key;
+        self.end = FRONT;
+        self.len = len;
+        Ok(())
     }
 
     // Makes a journal of a file that is empty, or has what a crash left of the front.
-    fn make(disk: D, len: usize) -> Result<Journal<D>, JournalError>
-        ensures { IfOk result (λ j. j.end ≡ 16) }
+    fn make(&mut self, len: usize) -> Result<(), JournalError>
+        ensures reading { OnOk result (IsTrue (D.Disk.is_clean (disk_of self.new))
+            → length (D.Disk.seen (disk_of self.old)) ≡ len → IsReading D.Disk self.new []) }
+        ensures clean { IsTrue (D.Disk.is_clean (disk_of self.new)) → IsTrue (D.Disk.is_clean (disk_of self.old)) }
     {
-        if !disk.may_be_used() {
+        if !self.disk.may_be_used() {
             return Err(JournalError::Io);
         }
-        let mut disk = disk;
         let mut found = [0u8; FRONT];
-        let found = match found.get_mut(..len) {
-            Some(found) => found,
-            None => return Err(JournalError::Foreign),
+        let Some(found) = found.get_mut(..len) else {
+            return Err(JournalError::Foreign);
         };
-        disk.read_at(0, found)?;
+        self.disk.read_at(0, found)?;
         if !is_begun(found) {
             return Err(JournalError::Foreign);
         }
-        let key = disk.key();
-        disk.write_at(0, &front_bytes(key))?;
-        disk.sync()?;
-        Ok(Journal {
-            disk,
-            key,
-            end: FRONT,
-            len: FRONT,
-        })
+        let key = self.disk.key();
+        self.disk.write_at(0, &front_bytes(key))?;
+        self.disk.sync()?;
+        self.key = key;
+        self.end = FRONT;
+        self.len = FRONT;
+        Ok(())
     }
 
-    /// The content of the next block that is there. `None` where no block follows: then all that lies behind is
-    /// cut off at the next `append`. `Damaged` where what follows is no block, and blocks come behind it.
+    /// The content of the next block that is there. `None` where no block follows. `Damaged` where what follows is no block, and
+    /// blocks come behind it.
     pub fn next(&mut self, alloc: Global) -> Result<Option<Vec<u8>>, JournalError>
-        ensures ok { IfOk result (λ block. MatchOption block (self.new.end ≡ self.old.end)
-            (λ b. self.new.end ≡ end_of self.old.end (length b.items))) }
-        ensures err { OnErr result (self.new.end ≡ self.old.end) }
+        ensures reads { OnlyReads D.Disk (disk_of self.old) (disk_of self.new) }
+        ensures read { IfOk result (λ block. IsTrue (D.Disk.is_clean (disk_of self.new)) → (contents : List (List ℕ))
+            → IsReading D.Disk self.old contents → MatchOption block (HasRead D.Disk self.new contents)
+            (λ b. IsReading D.Disk self.new (contents ++ b.items ∷ []))) }
     {
         let Some(head) = self.next_head()? else {
             return self.no_block();
         };
-        let Some(len) = self.fitting(head.len) else {
+        let Some(len) = self.fitting(&head) else {
             return self.no_block();
         };
-        let mut content = Vec::new(alloc);
-        content.resize(len, 0u8)?;
-        if !self.disk.may_be_used() {
-            return Err(JournalError::Io);
-        }
-        self.disk
-            .read_at(self.end.saturating_add(HEAD), &mut content)?;
-        if digest_of(self.key, &content) != head.digest {
+        let content = self.content(alloc, len)?;
+        if !is_head(alloc, self.key, self.end as u64, &head, &content)? {
             return self.no_block();
         }
         self.end += HEAD + len;
         Ok(Some(content))
     }
 
-    // The head of a block at the end of those that were read.
-    fn next_head(&mut self) -> Result<Option<Head>, JournalError>
-        ensures end { self.new.end ≡ self.old.end }
-        ensures len { self.new.len ≡ self.old.len }
+    // The bytes at the end of the blocks that were read, as many as a gate and a head have; `None` where the file has fewer.
+    fn next_head(&mut self) -> Result<Option<[u8; HEAD]>, JournalError>
+        ensures stays { Stays D.Disk self.old self.new }
+        ensures head { IfOk result (λ head. MatchOption head (blocks_len self.old < blocks_end self.old + 49)
+            (λ h. (length h ≡ 49) × (blocks_end self.old + 49 ≤ blocks_len self.old) × (IsTrue (D.Disk.is_clean (disk_of self.new))
+            → Holds (D.Disk.seen (disk_of self.old)) (blocks_end self.old) h))) }
     {
-        if self.len < self.end.saturating_add(HEAD) {
+        if self.len < HEAD || self.len - HEAD < self.end {
             return Ok(None);
         }
         if !self.disk.may_be_used() {
@@ -127,63 +129,119 @@ impl<D: Disk + Drop> Journal<D> {
         }
         let mut bytes = [0u8; HEAD];
         self.disk.read_at(self.end, &mut bytes)?;
-        Ok(head_at(self.key, self.end as u64, &bytes))
+        Ok(Some(bytes))
     }
 
-    // The length of a block's content, where so much of it is in the file.
-    fn fitting(&self, len: u64) -> Option<usize>
-        ensures { IfSome result (λ n. end_of self.now.end n ≤ self.now.len) }
+    // The length that a head tells, where a content of it fits.
+    fn fitting(&self, head: &[u8]) -> Option<usize>
+        ensures none { (key place : ℕ) (content : List ℕ) → length content < 2 ^ 64
+            → head.now ≡ 1 ∷ head_of key place content → blocks_end self.now + 49 + length content ≤ blocks_len self.now
+            → result ≡ Some (length content) }
+        ensures some { IfSome result (λ n. blocks_end self.now + 49 + n ≤ blocks_len self.now) }
     {
-        let len = usize::try_from(len).ok()?;
+        let len = usize::try_from(len_in(head)?).ok()?;
         let rest = self.len.checked_sub(self.end)?.checked_sub(HEAD)?;
         if len <= rest { Some(len) } else { None }
     }
 
+    // So many bytes behind a head.
+    fn content(&mut self, alloc: Global, len: usize) -> Result<Vec<u8>, JournalError>
+        requires { blocks_end self.old + 49 + len < 2 ^ 64 }
+        ensures stays { Stays D.Disk self.old self.new }
+        ensures len { IfOk result (λ v. length v.items ≡ len) }
+        ensures read { IfOk result (λ v. IsTrue (D.Disk.is_clean (disk_of self.new)) → 0 < len
+            → Holds (D.Disk.seen (disk_of self.old)) (blocks_end self.old + 49) v.items) }
+    {
+        let mut content = Vec::new(alloc);
+        content.resize(len, 0u8)?;
+        if !self.disk.may_be_used() {
+            return Err(JournalError::Io);
+        }
+        self.disk.read_at(self.end + HEAD, &mut content)?;
+        Ok(content)
+    }
+
     // No block is here: what follows is a torn one, or damage.
     fn no_block(&mut self) -> Result<Option<Vec<u8>>, JournalError>
+        ensures stays { Stays D.Disk self.old self.new }
         ensures none { IfOk result (λ block. IsNone block) }
-        ensures end { self.new.end ≡ self.old.end }
-    {
-        if self.has_later()? {
-            Err(JournalError::Damaged)
-        } else {
-            Ok(None)
-        }
-    }
-
-    // Whether the head of a block stands anywhere behind the end of those that were read.
-    fn has_later(&mut self) -> Result<bool, JournalError>
-        ensures { self.new.end ≡ self.old.end }
     {
         let from = self.end.saturating_add(1);
-        has_head_behind(&mut self.disk, self.key, from, self.len)
+        if has_head_behind(&mut self.disk, self.key, from, self.len)? {
+            return Err(JournalError::Damaged);
+        }
+        Ok(None)
     }
 
-    /// Cuts off what lies behind the last block that was read.
+    /// Makes the end of the blocks that were read the end of the file. What lies behind is cut off.
     pub fn cut(&mut self) -> Result<(), JournalError>
-        ensures { self.new.end ≡ self.old.end }
+        ensures kept { OnOk result (IsTrue (D.Disk.is_clean (disk_of self.new)) → (contents : List (List ℕ))
+            → HasRead D.Disk self.old contents → IsKept D.Disk self.new contents) }
+        ensures any_moment { IsTrue (D.Disk.is_clean (disk_of self.new)) → (contents : List (List ℕ))
+            → HasRead D.Disk self.old contents → LeavesOnly D.Disk (disk_of self.new) contents }
     {
-        if self.len == self.end {
+        self.shut()?;
+        self.level()
+    }
+
+    // Shuts the gate at the end of the blocks, where it is open.
+    fn shut(&mut self) -> Result<(), JournalError>
+        ensures shut { OnOk result (IsTrue (D.Disk.is_clean (disk_of self.new)) → (contents : List (List ℕ))
+            → HasRead D.Disk self.old contents → IsShut D.Disk self.new contents) }
+        ensures any_moment { IsTrue (D.Disk.is_clean (disk_of self.new)) → (contents : List (List ℕ))
+            → HasRead D.Disk self.old contents → LeavesOnly D.Disk (disk_of self.new) contents }
+    {
+        if self.len <= self.end {
             return Ok(());
         }
         if !self.disk.may_be_used() {
             return Err(JournalError::Io);
         }
-        self.disk.set_len(self.end)?;
-        self.len = self.end;
+        let mut gate = [0u8; 1];
+        self.disk.read_at(self.end, &mut gate)?;
+        if gate[0] != OPEN {
+            return Ok(());
+        }
+        self.disk.write_at(self.end, &[0])?;
         self.disk.sync()?;
         Ok(())
     }
 
-    /// Makes room for a block of so many bytes. `NoRoom` where the disk has none.
-    pub fn room(&mut self, count: usize) -> Result<(), JournalError>
-        ensures { self.new.end ≡ self.old.end }
+    // Cuts the file behind its last gate, which is shut.
+    fn level(&mut self) -> Result<(), JournalError>
+        ensures clean { IsTrue (D.Disk.is_clean (disk_of self.new)) → IsTrue (D.Disk.is_clean (disk_of self.old)) }
+        ensures kept { OnOk result ((contents : List (List ℕ)) → IsShut D.Disk self.old contents
+            → IsKept D.Disk self.new contents) }
+        ensures any_moment { (contents : List (List ℕ)) → IsShut D.Disk self.old contents
+            → LeavesOnly D.Disk (disk_of self.new) contents }
     {
-        let wanted = self.end.saturating_add(HEAD).saturating_add(count);
+        let Some(end) = self.end.checked_add(1) else {
+            return Err(JournalError::NoRoom);
+        };
+        if !self.disk.may_be_used() {
+            return Err(JournalError::Io);
+        }
+        self.disk.set_len(end)?;
+        self.disk.sync()?;
+        self.disk.write_at(self.end, &[0])?;
+        self.disk.sync()?;
+        self.zeros = end;
+        self.len = end;
+        Ok(())
+    }
+
+    /// Makes room for a block of so many bytes. `NoRoom` where the disk has none; the journal is as it was then.
+    pub fn room(&mut self, count: usize) -> Result<(), JournalError>
+        ensures kept { (contents : List (List ℕ)) → IsKept D.Disk self.old contents → IsKept D.Disk self.new contents }
+    {
+        let wanted = self.end.saturating_add(HEAD + 1).saturating_add(count);
         if wanted <= self.len {
             return Ok(());
         }
-        if self.grow(wanted.saturating_add(ROOM))? || self.grow(wanted)? {
+        if self.grow(wanted.saturating_add(ROOM))? {
+            return Ok(());
+        }
+        if self.grow(wanted)? {
             return Ok(());
         }
         Err(JournalError::NoRoom)
@@ -191,62 +249,117 @@ impl<D: Disk + Drop> Journal<D> {
 
     // Writes zeros up to this length. False where that fails.
     fn grow(&mut self, len: usize) -> Result<bool, JournalError>
-        ensures { self.new.end ≡ self.old.end }
+        ensures kept { (contents : List (List ℕ)) → IsKept D.Disk self.old contents → IsKept D.Disk self.new contents }
+    {
+        if self.zeros != self.len {
+            return self.grow_more(len);
+        }
+        let reached = fill(&mut self.disk, self.len, len)?;
+        self.len = reached;
+        if reached < len {
+            return Ok(false);
+        }
+        if !self.disk.mixes() {
+            return Ok(true);
+        }
+        self.settle()?;
+        Ok(true)
+    }
+
+    // The same, where what is in front of the zeros isn't known to be zeros.
+    fn grow_more(&mut self, len: usize) -> Result<bool, JournalError>
+        ensures kept { (contents : List (List ℕ)) → IsKept D.Disk self.old contents → IsKept D.Disk self.new contents }
     {
         let reached = fill(&mut self.disk, self.len, len)?;
         self.len = reached;
         Ok(reached >= len)
     }
 
-    /// Writes a block of this content behind the others; room has been made for it. It isn't kept before `commit`.
-    pub fn append(&mut self, content: &[u8]) -> Result<(), JournalError>
-        ensures ok { OnOk result (self.new.end ≡ end_of self.old.end (length content.now)) }
-        ensures err { OnErr result (self.new.end ≡ self.old.end) }
-    {
-        let head = Head {
-            len: content.len() as u64,
-            digest: digest_of(self.key, content),
-        };
-        let bytes = head_bytes(self.key, self.end as u64, &head);
-        let Some(start) = self.end.checked_add(HEAD) else {
-            return Err(JournalError::NoRoom);
-        };
-        let Some(end) = start.checked_add(content.len()) else {
-            return Err(JournalError::NoRoom);
-        };
-        if !self.disk.may_be_used() {
-            return Err(JournalError::Io);
-        }
-        self.disk.write_at(start, content)?;
-        self.disk.write_at(self.end, &bytes)?;
-        self.end = end;
-        self.len = self.len.max(end);
-        Ok(())
-    }
-
-    /// Makes sure that the blocks that were appended are kept. After an error nothing more may be asked.
-    pub fn commit(&mut self) -> Result<(), JournalError>
-        ensures { self.new.end ≡ self.old.end }
+    // Makes sure that the zeros up to the end of the file are kept.
+    fn settle(&mut self) -> Result<(), JournalError>
+        ensures kept { (contents : List (List ℕ)) → IsKept D.Disk self.old contents
+            → HasZeros (D.Disk.seen (disk_of self.old)) self.old.zeros self.old.len → IsKept D.Disk self.new contents }
     {
         if !self.disk.may_be_used() {
             return Err(JournalError::Io);
         }
         self.disk.sync()?;
+        self.zeros = self.len;
         Ok(())
     }
 
     /// How many bytes the blocks take.
     pub fn len(&self) -> usize
-        ensures { result ≡ self.now.end }
+        ensures { result ≡ blocks_end self.now }
     {
         self.end
+    }
+
+    /// Writes a block of this content behind the others, and makes sure that it is kept. After an error, but for `Memory`,
+    /// nothing more may be asked.
+    pub fn keep(&mut self, alloc: Global, content: &[u8]) -> Result<(), JournalError>
+        ensures kept { OnOk result ((contents : List (List ℕ)) → IsKept D.Disk self.old contents
+            → IsKept D.Disk self.new (contents ++ content.now ∷ [])) }
+        ensures any_moment { (contents : List (List ℕ)) → IsKept D.Disk self.old contents
+            → LeavesAtMost D.Disk (disk_of self.new) contents content.now }
+    {
+        let bytes = bytes_of(alloc, self.key, self.end as u64, content)?;
+        let Some(zeros) = self.end.checked_add(bytes.len()) else {
+            return Err(JournalError::NoRoom);
+        };
+        if !self.disk.may_be_used() {
+            return Err(JournalError::Io);
+        }
+        let end = zeros - 1;
+        if self.disk.mixes() && zeros <= self.zeros {
+            return self.keep_once(end, &bytes);
+        }
+        self.keep_twice(end, &bytes)
+    }
+
+    // Writes a block, and the gate behind it, by two syncs.
+    fn keep_twice(&mut self, end: usize, bytes: &[u8]) -> Result<(), JournalError>
+        requires usable { IsTrue (D.Disk.is_usable (disk_of self.old)) }
+        requires some { 1 < length bytes.now }
+        requires opens { slice_index bytes.now 0 ≡ 1 }
+        requires ends { end + 1 ≡ blocks_end self.old + length bytes.now }
+        requires fits { end + 1 < 2 ^ 64 }
+        ensures kept { OnOk result ((contents : List (List ℕ)) (content : List ℕ) → IsWrittenBlock self.old content bytes.now
+            → IsKept D.Disk self.old contents → IsKept D.Disk self.new (contents ++ content ∷ [])) }
+        ensures any_moment { (contents : List (List ℕ)) (content : List ℕ) → IsWrittenBlock self.old content bytes.now
+            → IsKept D.Disk self.old contents → LeavesAtMost D.Disk (disk_of self.new) contents content }
+    {
+        write_twice(&mut self.disk, self.end, bytes)?;
+        self.end = end;
+        self.zeros = end + 1;
+        self.len = self.len.max(end + 1);
+        Ok(())
+    }
+
+    // Writes a block over zeros that are kept, and the gate behind it, by one sync.
+    fn keep_once(&mut self, end: usize, bytes: &[u8]) -> Result<(), JournalError>
+        requires usable { IsTrue (D.Disk.is_usable (disk_of self.old)) }
+        requires mixes { IsTrue (D.Disk.is_mixing (disk_of self.old)) }
+        requires some { 1 < length bytes.now }
+        requires ends { end + 1 ≡ blocks_end self.old + length bytes.now }
+        requires room { end + 1 ≤ self.old.zeros }
+        requires fits { end + 1 < 2 ^ 64 }
+        ensures kept { OnOk result ((contents : List (List ℕ)) (content : List ℕ) → IsWrittenBlock self.old content bytes.now
+            → IsKept D.Disk self.old contents → IsKept D.Disk self.new (contents ++ content ∷ [])) }
+        ensures any_moment { (contents : List (List ℕ)) (content : List ℕ) → IsWrittenBlock self.old content bytes.now
+            → IsKept D.Disk self.old contents → LeavesAtMost D.Disk (disk_of self.new) contents content }
+    {
+        write_once(&mut self.disk, self.end, bytes)?;
+        self.end = end;
+        Ok(())
     }
 }
 
 // Whether a head of a block stands in these bytes, which are at this place.
 fn has_head(key: u64, place: usize, bytes: &[u8]) -> bool {
     for (k, window) in bytes.windows(HEAD).enumerate() {
-        if head_at(key, place.saturating_add(k) as u64, window).is_some() {
+        let (gate, head) = window.split_at(1);
+        if gate == [OPEN].as_slice() && told_len(key, place.saturating_add(k) as u64, head).is_some() {
             return true;
         }
     }
@@ -254,7 +367,12 @@ fn has_head(key: u64, place: usize, bytes: &[u8]) -> bool {
 }
 
 // Writes zeros from here up to a length: how far that went.
-fn fill<D: Disk>(disk: &mut D, from: usize, len: usize) -> Result<usize, JournalError> {
+fn fill<D: Disk>(disk: &mut D, from: usize, len: usize) -> Result<usize, JournalError>
+    ensures reached { IfOk result (λ n. from ≤ n) }
+    ensures zeros { IfOk result (λ n. from ≤ length (D.Disk.seen disk.old) → HasZeros (D.Disk.seen disk.new) from n) }
+    ensures crash { (n : ℕ) → n ≤ from
+        → Follows (KeepsBelow n) (D.Disk.may_leave disk.old) (D.Disk.may_leave disk.new) }
+{
     let zeros = [0u8; PIECE];
     let mut at = from;
     for _ in 0..u64::MAX {
@@ -265,10 +383,12 @@ fn fill<D: Disk>(disk: &mut D, from: usize, len: usize) -> Result<usize, Journal
         if !disk.may_be_used() {
             return Err(JournalError::Io);
         }
-        let piece = zeros.get(..count).unwrap_or(&[]);
-        if disk.write_at(at, piece).is_err() {
+        let Some(piece) = zeros.get(..count) else {
             break;
-        }
+        };
+        let Ok(()) = disk.write_at(at, piece) else {
+            break;
+        };
         at = at.saturating_add(count);
     }
     Ok(at)
@@ -280,7 +400,9 @@ fn has_head_behind<D: Disk>(
     key: u64,
     from: usize,
     len: usize,
-) -> Result<bool, JournalError> {
+) -> Result<bool, JournalError>
+    ensures { OnlyReads D.Disk disk.old disk.new }
+{
     let zeros = [0u8; PIECE];
     let mut piece = [0u8; PIECE];
     let mut at = from;
@@ -302,4 +424,25 @@ fn has_head_behind<D: Disk>(
         at = at.saturating_add(count - HEAD + 1);
     }
     Ok(false)
+}
+
+/// Keeps a content, and then the machine stops and comes back: whether it was acknowledged. Over a `Fuse` of any count of
+/// calls this is a crash at any call of `keep`.
+pub fn keep_and_crash<D: Crash + Drop>(
+    journal: &mut Journal<D>,
+    alloc: Global,
+    content: &[u8],
+) -> bool
+    ensures left { (contents : List (List ℕ)) → IsKept D.Disk journal.old contents
+        → Recovers (D.Disk.seen (disk_of journal.new)) contents
+        ⊎ Recovers (D.Disk.seen (disk_of journal.new)) (contents ++ content.now ∷ []) }
+    ensures acknowledged { IsTrue result → (contents : List (List ℕ)) → IsKept D.Disk journal.old contents
+        → Recovers (D.Disk.seen (disk_of journal.new)) (contents ++ content.now ∷ []) }
+{
+    let Ok(()) = journal.keep(alloc, content) else {
+        journal.disk.crash();
+        return false;
+    };
+    journal.disk.crash();
+    true
 }

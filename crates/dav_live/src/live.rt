@@ -49,7 +49,8 @@ impl<D: Disk + Drop> Live<D> {
         users: Option<Users>,
         settings: Settings,
     ) -> Result<Live<D>, OpenError> {
-        let journal = Journal::open(disk)?;
+        let mut journal = Journal::new(disk);
+        journal.open()?;
         let service = Service::open(alloc, journal, users, settings)?;
         Ok(Live {
             alloc,

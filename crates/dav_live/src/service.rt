@@ -108,8 +108,7 @@ impl<D: Disk + Drop> Service<D> {
         self.journal.cut()?;
         let prefix = kept_prefix(self.settings.prefix.as_str());
         self.journal.room(prefix.len())?;
-        self.journal.append(prefix)?;
-        self.journal.commit()?;
+        self.journal.keep(self.alloc, prefix)?;
         Ok(())
     }
 
@@ -235,11 +234,14 @@ impl<D: Disk + Drop> Service<D> {
         if self.batch.is_empty() {
             return Ok(());
         }
-        if self.journal.append(&self.batch).is_err() || self.journal.commit().is_err() {
-            return Err(Fault::Disk);
+        match self.journal.keep(self.alloc, &self.batch) {
+            Ok(()) => {
+                self.batch.clear();
+                Ok(())
+            }
+            Err(JournalError::Memory) => Err(Fault::Memory),
+            Err(_) => Err(Fault::Disk),
         }
-        self.batch.clear();
-        Ok(())
     }
 
     /// Why an answer stopped the server.
