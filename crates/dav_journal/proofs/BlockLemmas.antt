@@ -4,9 +4,11 @@ use Rattle.std.specs.Bool.{⊤}
 use Rattle.std.proofs.lemmas.Bool.{cases_lt}
 use Rattle.std.proofs.lemmas.List.{ext_get_or, get_or_at, get_or_append_left, get_or-append-add}
 use Rattle.sqlite_disk.specs.Disk.{Holds}
-use Rattle.dav_journal.specs.Block.{AreBlocks, IsBlock, IsNoBlock, Recovers, block_bytes, end_of, front_of, head_of, twice}
+use Rattle.dav_journal.specs.Block.{AreBlocks, IsBlock, IsNoBlock, block_bytes, end_of, front_of, head_of, twice}
+use Rattle.dav_journal.specs.File.{Recovers}
 use Rattle.dav_journal.specs.Journal.{Rests}
 use Rattle.dav_journal.specs.Write.{KeepsFront, AllOrShut}
+use Rattle.dav_journal.proofs.MarkLemmas.{marks_kept}
 
 pub length-head : (key place : ℕ) (content : List ℕ) → length (head_of key place content) ≡ 48
 unfolding head_of twice
@@ -15,7 +17,8 @@ length-head key place content = refl
 pub length-block : (key place : ℕ) (content : List ℕ) → length (block_bytes key place content) ≡ 49 + length content
 length-block key place content = omega (arith, length-append (head_of key place content) content, length-head key place content)
 
-pub length-front : (key : ℕ) → length (front_of key) ≡ 16
+pub length-front : (key : ℕ) → length (front_of key) ≡ 24
+unfolding twice
 length-front key = refl
 
 pub holds_kept : (n a : ℕ) (bytes old new : List ℕ) → Holds old a bytes → KeepsFront n old new → a + length bytes ≤ n → Holds new a bytes
@@ -73,6 +76,8 @@ rests_recovers key contents end upto file small r = record {
   front = r.front;
   end = end;
   blocks = r.blocks;
+  more = omega (arith, r.some, r.within);
+  marks = r.marks;
   nothing = no_block key file end (shut_if_zero (r.blank end (omega arith) r.some));
 }
 
@@ -82,11 +87,20 @@ pub leaves_one_more : (key : ℕ) (contents : List (List ℕ)) (content bytes : 
     → Recovers new contents ⊎ Recovers new (contents ++ content ∷ [])
 leaves_one_more key contents content bytes end upto old new small fits is r step =
     let after = step (omega (arith, r.some, r.within)) (shut_if_zero (r.blank end (omega arith) r.some)) in
-    let low = blocks_le key old 16 contents end r.blocks in
+    let low = blocks_le key old 72 contents end r.blocks in
     let front = holds_kept end 0 (front_of key) old new r.front (after.0) (omega (arith, low, length-front key)) in
-    let blocks = blocks_kept key old new 16 contents end end r.blocks (omega arith) (after.0) in
-    elim (after.1) [
-      | inl shut ↦ inl (record { key = key; small = small; front = front; end = end; blocks = blocks; nothing = no_block key new end shut })
+    let blocks = blocks_kept key old new 72 contents end end r.blocks (omega arith) (after.0) in
+    elim (after.2) [
+      | inl shut ↦ inl (record {
+        key = key;
+        small = small;
+        front = front;
+        end = end;
+        blocks = blocks;
+        more = omega (arith, r.some, r.within, after.1);
+        marks = marks_kept end end end old new low (omega arith) r.marks (after.0);
+        nothing = no_block key new end shut;
+      })
       | inr whole ↦
           let held : Holds new end (block_bytes key end content ++ 0 ∷ []) = subst (λ (bs : List ℕ). Holds new end bs) is whole in
           inr (record {
@@ -94,7 +108,9 @@ leaves_one_more key contents content bytes end upto old new small fits is r step
             small = small;
             front = front;
             end = end_of end (length content);
-            blocks = blocks_more key new 16 contents end content blocks (whole_block key new end content fits held);
+            blocks = blocks_more key new 72 contents end content blocks (whole_block key new end content fits held);
+            more = omega (arith, held.within, length-append (block_bytes key end content) (0 ∷ []), length-block key end content);
+            marks = marks_kept end end (end_of end (length content)) old new low (omega arith) r.marks (after.0);
             nothing = no_block key new (end_of end (length content)) (shut_if_zero (gate_behind key new end content held));
           })
     ]
@@ -105,14 +121,15 @@ pub rests_more : (key : ℕ) (contents : List (List ℕ)) (content bytes : List 
     → Rests key (contents ++ content ∷ []) end' upto' new
 rests_more key contents content bytes end upto end' upto' old new fits is zeros_is end_is r k whole =
     let held : Holds new end (block_bytes key end content ++ 0 ∷ []) = subst (λ (bs : List ℕ). Holds new end bs) is whole in
-    let low = blocks_le key old 16 contents end r.blocks in
+    let low = blocks_le key old 72 contents end r.blocks in
     let long : length bytes ≡ 49 + length content + 1 = ap length is ∙ omega (arith, length-append (block_bytes key end content) (0 ∷ []), length-block key end content) in
     let place : end_of end (length content) ≡ end' = omega arith in
     record {
       front = holds_kept end 0 (front_of key) old new r.front k (omega (arith, low, length-front key));
-      blocks = subst (λ (e : ℕ). AreBlocks key new 16 (contents ++ content ∷ []) e) place (blocks_more key new 16 contents end content (blocks_kept key old new 16 contents end end r.blocks (omega arith) k) (whole_block key new end content fits held));
+      blocks = subst (λ (e : ℕ). AreBlocks key new 72 (contents ++ content ∷ []) e) place (blocks_more key new 72 contents end content (blocks_kept key old new 72 contents end end r.blocks (omega arith) k) (whole_block key new end content fits held));
       within = omega (arith, whole.within);
       some = omega arith;
+      marks = marks_kept end end end' old new low (omega arith) r.marks k;
       blank = λ i from below. let here : i ≡ end_of end (length content) = omega arith in ap (slice_index new) here ∙ gate_behind key new end content held;
     }
 
@@ -206,12 +223,13 @@ no_block_short key file at short content b = absurd (omega (arith, b.holds.withi
 -- a write behind the zeros
 pub rests_below : (key : ℕ) (contents : List (List ℕ)) (end upto : ℕ) (old new : List ℕ) → Rests key contents end upto old → KeepsFront upto old new → Rests key contents end upto new
 rests_below key contents end upto old new r k =
-    let low = blocks_le key old 16 contents end r.blocks in
+    let low = blocks_le key old 72 contents end r.blocks in
     record {
       front = holds_kept upto 0 (front_of key) old new r.front k (omega (arith, low, r.some, length-front key));
-      blocks = blocks_kept key old new 16 contents end upto r.blocks (omega (arith, r.some)) k;
+      blocks = blocks_kept key old new 72 contents end upto r.blocks (omega (arith, r.some)) k;
       within = k.within;
       some = r.some;
+      marks = marks_kept upto end end old new (omega (arith, low, r.some)) (omega arith) r.marks k;
       blank = λ i from below. k.each i below ∙ r.blank i from below;
     }
 

@@ -1,22 +1,16 @@
 -- The end of a file is cut.
-use Rattle.std.proofs.Common.{◌≡◌, ℕ, ◌+◌, ◌<◌, ◌≤◌, ◌^◌, List, [], ◌∷◌, length, slice_index, sym, ◌∙◌, ap, subst, inl, inr, arith}
+use Rattle.std.proofs.Common.{◌≡◌, ◌≢◌, ℕ, ◌+◌, ◌<◌, ◌≤◌, ◌^◌, List, [], ◌∷◌, length, slice_index, sym, ◌∙◌, ap, subst, inl, inr, arith}
 use Rattle.std.proofs.lemmas.Bool.{cases_eq, cases_lt}
 use Rattle.sqlite_disk.specs.Disk.{Cut, Holds, Torn}
 use Rattle.sqlite_disk.specs.declared.Disk.{Ghosts}
 use Rattle.dav_journal.specs.declared.journal.Journal.{Journal}
-use Rattle.dav_journal.specs.Block.{AreBlocks, IsNoBlock, Recovers, end_of, front_of}
-use Rattle.dav_journal.specs.Journal.{Ends, HasRead, Rests}
+use Rattle.dav_journal.specs.Block.{AreBlocks, IsNoBlock, front_of}
+use Rattle.dav_journal.specs.File.{Recovers}
+use Rattle.dav_journal.specs.Journal.{Ends, IsCleared, Rests}
+use Rattle.dav_journal.specs.Mark.{AreMarks}
 use Rattle.dav_journal.specs.Write.{KeepsFront}
-use Rattle.dav_journal.proofs.BlockLemmas.{blocks_kept, blocks_le, holds_kept, length-block, length-front, no_block, no_block_short, shut_if_zero}
-
--- the blocks lie in the file
-pub blocks_within : (key : ℕ) (file : List ℕ) (at : ℕ) (bs : List (List ℕ)) (end : ℕ) → at ≤ length file → AreBlocks key file at bs end → end ≤ length file
-blocks_within key file at [] end low is = omega (arith, is, low)
-blocks_within key file at (b ∷ bs) end low (is, more) =
-    blocks_within key file (end_of at (length b)) bs end (omega (arith, is.holds.within, length-block key at b)) more
-
-pub front_within : (key : ℕ) (file : List ℕ) → Holds file 0 (front_of key) → 16 ≤ length file
-front_within key file h = omega (arith, h.within, length-front key)
+use Rattle.dav_journal.proofs.MarkLemmas.{marks_kept}
+use Rattle.dav_journal.proofs.BlockLemmas.{blocks_kept, blocks_le, holds_kept, length-front, no_block, no_block_short, shut_if_zero}
 
 pub ends_recovers : (key : ℕ) (contents : List (List ℕ)) (end : ℕ) (file : List ℕ) → key < 2 ^ 64 → Ends key contents end file → Recovers file contents
 ends_recovers key contents end file small e = record {
@@ -25,18 +19,21 @@ ends_recovers key contents end file small e = record {
   front = e.front;
   end = end;
   blocks = e.blocks;
+  more = e.more;
+  marks = e.marks;
   nothing = elim (e.shut) [ inl shut ↦ no_block key file end shut | inr short ↦ no_block_short key file end short ];
 }
 
-pub ends_front : (key : ℕ) (contents : List (List ℕ)) (end : ℕ) (old new : List ℕ) → Holds old 0 (front_of key) → AreBlocks key old 16 contents end → KeepsFront end old new
-    → Holds new 0 (front_of key) × AreBlocks key new 16 contents end
-ends_front key contents end old new front blocks k =
-    let low = blocks_le key old 16 contents end blocks in (
+pub ends_front : (key : ℕ) (contents : List (List ℕ)) (end : ℕ) (old new : List ℕ) → Holds old 0 (front_of key) → AreBlocks key old 72 contents end → AreMarks old end → KeepsFront end old new
+    → Holds new 0 (front_of key) × AreBlocks key new 72 contents end × AreMarks new end
+ends_front key contents end old new front blocks marks k =
+    let low = blocks_le key old 72 contents end blocks in (
       holds_kept end 0 (front_of key) old new front k (omega (arith, low, length-front key)),
-      blocks_kept key old new 16 contents end end blocks (omega arith) k,
+      blocks_kept key old new 72 contents end end blocks (omega arith) k,
+      marks_kept end end end old new low (omega arith) marks k,
     )
 
-cut_front : (n end : ℕ) (old new : List ℕ) → end ≤ n → end ≤ length old → Cut n old new → KeepsFront end old new
+pub cut_front : (n end : ℕ) (old new : List ℕ) → end ≤ n → end ≤ length old → Cut n old new → KeepsFront end old new
 cut_front n end old new low in_old t = record { within = omega (arith, t.no_shorter); each = λ i below. t.below i (omega arith) (omega arith) }
 
 pub torn_front : (end n : ℕ) (old new : List ℕ) → end ≤ length old → Torn end n old new → KeepsFront end old new
@@ -45,11 +42,12 @@ torn_front end n old new in_old t = record { within = omega (arith, t.no_shorter
 -- a cut behind the gate
 pub ends_cut : (key : ℕ) (contents : List (List ℕ)) (end : ℕ) (old new : List ℕ) → Ends key contents end old → Cut (end + 1) old new → Ends key contents end new
 ends_cut key contents end old new e t =
-    let inside = blocks_within key old 16 contents end (front_within key old e.front) e.blocks in
-    let both = ends_front key contents end old new e.front e.blocks (cut_front (end + 1) end old new (omega arith) inside t) in
+    let both = ends_front key contents end old new e.front e.blocks e.marks (cut_front (end + 1) end old new (omega arith) (omega (arith, e.more)) t) in
     record {
       front = both.0;
       blocks = both.1;
+      more = omega (arith, e.more, t.no_shorter);
+      marks = both.2;
       shut = elim (cases_lt end (length old)) [
         | inl there ↦ elim (e.shut) [
           | inl gate ↦ inl (λ is. gate (sym (t.below end there (omega arith)) ∙ is))
@@ -62,8 +60,8 @@ ends_cut key contents end old new e t =
 -- a gate that is written at the end of the file
 pub ends_gate : (key : ℕ) (contents : List (List ℕ)) (end : ℕ) (old new : List ℕ) → Ends key contents end old → length old ≡ end + 1 → Torn end 1 old new → Ends key contents end new
 ends_gate key contents end old new e long t =
-    let both = ends_front key contents end old new e.front e.blocks (torn_front end 1 old new (omega (arith, long)) t) in
-    record { front = both.0; blocks = both.1; shut = inr (omega (arith, long, t.no_longer)) }
+    let both = ends_front key contents end old new e.front e.blocks e.marks (torn_front end 1 old new (omega (arith, long)) t) in
+    record { front = both.0; blocks = both.1; more = omega (arith, long, t.no_shorter); marks = both.2; shut = inr (omega (arith, long, t.no_longer)) }
 
 pub ends_rests : (key : ℕ) (contents : List (List ℕ)) (end : ℕ) (file : List ℕ) → Ends key contents end file → Holds file end (0 ∷ []) → Rests key contents end (end + 1) file
 ends_rests key contents end file e h = record {
@@ -71,6 +69,7 @@ ends_rests key contents end file e h = record {
   blocks = e.blocks;
   within = h.within;
   some = omega arith;
+  marks = e.marks;
   blank = λ i from below. let here : i ≡ end + 0 = omega arith in ap (slice_index file) here ∙ h.each 0 (omega arith);
 }
 
@@ -93,34 +92,53 @@ gate_shut key end old new nothing there is_open t = elim (cases_eq (slice_index 
   })
 ]
 
-pub read_recovers : {D : Type 0} (g : Ghosts D) (j : Journal D) (contents : List (List ℕ)) (c : List ℕ) → HasRead g j contents → g.may_leave j.disk c → Recovers c contents
-read_recovers g j contents c r may = subst (λ (f : List ℕ). Recovers f contents) (sym (r.reading.only c may)) (record {
+pub cleared_recovers : {D : Type 0} (g : Ghosts D) (j : Journal D) (contents : List (List ℕ)) (c : List ℕ) → IsCleared g j contents → g.may_leave j.disk c → Recovers c contents
+cleared_recovers g j contents c r may = subst (λ (f : List ℕ). Recovers f contents) (sym (r.read.reading.only c may)) (record {
   key = j.key;
-  small = r.reading.small;
-  front = r.reading.front;
+  small = r.read.reading.small;
+  front = r.read.reading.front;
   end = j.end;
-  blocks = r.reading.blocks;
-  nothing = r.nothing;
+  blocks = r.read.reading.blocks;
+  more = r.read.more;
+  nothing = r.read.nothing;
+  marks = r.marks;
 })
 
 -- while the gate is shut
-pub shutting : {D : Type 0} (g : Ghosts D) (j : Journal D) (contents : List (List ℕ)) (c : List ℕ) → HasRead g j contents → j.end < length (g.seen j.disk) → slice_index (g.seen j.disk) j.end ≡ 1
+pub shutting : {D : Type 0} (g : Ghosts D) (j : Journal D) (contents : List (List ℕ)) (c : List ℕ) → IsCleared g j contents → slice_index (g.seen j.disk) j.end ≡ 1
     → Torn j.end 1 (g.seen j.disk) c → Recovers c contents
-shutting g j contents c r there is_open t =
-    let both = ends_front j.key contents j.end (g.seen j.disk) c r.reading.front r.reading.blocks (torn_front j.end 1 (g.seen j.disk) c (omega arith) t) in
+shutting g j contents c r is_open t =
+    let reading = r.read.reading in
+    let there = r.read.more in
+    let both = ends_front j.key contents j.end (g.seen j.disk) c reading.front reading.blocks r.marks (torn_front j.end 1 (g.seen j.disk) c (omega (arith, there)) t) in
     record {
       key = j.key;
-      small = r.reading.small;
+      small = reading.small;
       front = both.0;
       end = j.end;
       blocks = both.1;
-      nothing = gate_shut j.key j.end (g.seen j.disk) c r.nothing there is_open t;
+      more = omega (arith, there, t.no_shorter);
+      marks = both.2;
+      nothing = gate_shut j.key j.end (g.seen j.disk) c r.read.nothing there is_open t;
     }
 
 -- once it is shut
-pub is_shut : {D : Type 0} (g : Ghosts D) (j : Journal D) (contents : List (List ℕ)) (c : List ℕ) → HasRead g j contents → j.end < length (g.seen j.disk)
+pub is_shut : {D : Type 0} (g : Ghosts D) (j : Journal D) (contents : List (List ℕ)) (c : List ℕ) → IsCleared g j contents
     → Torn j.end 1 (g.seen j.disk) c → Holds c j.end (0 ∷ []) → Ends j.key contents j.end c
-is_shut g j contents c r there t h =
-    let both = ends_front j.key contents j.end (g.seen j.disk) c r.reading.front r.reading.blocks (torn_front j.end 1 (g.seen j.disk) c (omega arith) t) in
+is_shut g j contents c r t h =
+    let reading = r.read.reading in
+    let there = r.read.more in
+    let both = ends_front j.key contents j.end (g.seen j.disk) c reading.front reading.blocks r.marks (torn_front j.end 1 (g.seen j.disk) c (omega (arith, there)) t) in
     let place : j.end ≡ j.end + 0 = omega arith in
-    record { front = both.0; blocks = both.1; shut = inl (shut_if_zero (ap (slice_index c) place ∙ h.each 0 (omega arith))) }
+    record { front = both.0; blocks = both.1; more = omega (arith, there, t.no_shorter); marks = both.2; shut = inl (shut_if_zero (ap (slice_index c) place ∙ h.each 0 (omega arith))) }
+
+-- where it was shut already
+pub was_shut : {D : Type 0} (g : Ghosts D) (j : Journal D) (contents : List (List ℕ)) (c : List ℕ) → IsCleared g j contents → slice_index (g.seen j.disk) j.end ≢ 1 → g.may_leave j.disk c
+    → Ends j.key contents j.end c
+was_shut g j contents c r shut may = subst (λ (f : List ℕ). Ends j.key contents j.end f) (sym (r.read.reading.only c may)) (record {
+  front = r.read.reading.front;
+  blocks = r.read.reading.blocks;
+  more = r.read.more;
+  shut = inl shut;
+  marks = r.marks;
+})

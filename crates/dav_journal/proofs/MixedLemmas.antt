@@ -1,22 +1,19 @@
 -- A block that is written at once over zeros, on a disk that leaves each byte as it was or as it was written.
-use Rattle.std.proofs.Common.{◌≡◌, ◌≢◌, ◌⊎◌, ℕ, zero, suc, ◌+◌, ◌-◌, ◌<◌, ◌≤◌, ◌^◌, List, [], ◌∷◌, ◌++◌, length, slice_index, sym, refl, ◌∙◌, ap, subst, inl, inr, arith, add-zero, length-append}
+use Rattle.std.proofs.Common.{◌≡◌, ◌≢◌, ◌⊎◌, ℕ, suc, ◌+◌, ◌-◌, ◌<◌, ◌≤◌, ◌^◌, List, [], ◌∷◌, ◌++◌, length, slice_index, sym, refl, ◌∙◌, ap, subst, inl, inr, arith, add-zero, length-append}
 use Rattle.std.proofs.lemmas.Bool.{cases_eq, cases_lt}
 use Rattle.std.proofs.lemmas.Bool.Decides.{nat_tests}
-use Rattle.std.proofs.lemmas.List.{ext_get_or, get_or_append_left, get_or-append-add, get_or_at}
-use Rattle.std.proofs.lemmas.Nat.{from_be_bytes-to_be_bytes_8}
-use Rattle.std.specs.Int.{w64, to_be_bytes, from_be_bytes}
+use Rattle.std.proofs.lemmas.List.{get_or_append_left, get_or-append-add, get_or_at}
+use Rattle.std.specs.Int.{w64, to_be_bytes}
 use Rattle.sqlite_disk.specs.Disk.{Holds, Mixed, Torn}
 use Rattle.sqlite_disk.specs.Digest.{digest}
-use Rattle.dav_journal.specs.Block.{IsBlock, Recovers, block_bytes, digest_at, end_of, front_of, head_of, twice, zeros_in}
+use Rattle.dav_journal.specs.Block.{IsBlock, block_bytes, digest_at, end_of, front_of, head_of, twice, zeros_in}
+use Rattle.dav_journal.specs.File.{Recovers}
+use Rattle.dav_journal.specs.Mark.{IsFaint}
 use Rattle.dav_journal.specs.Journal.{Rests}
 use Rattle.dav_journal.specs.Write.{KeepsFront}
+use Rattle.dav_journal.proofs.MarkLemmas.{marks_kept}
+use Rattle.dav_journal.proofs.TwiceLemmas.{twice_same}
 use Rattle.dav_journal.proofs.BlockLemmas.{blocks_kept, blocks_le, blocks_more, holds_kept, length-block, length-front, no_block, rests_more, shut_if_zero}
-
--- a byte, and what was written beside it, where each may have been lost
-pub pair_same : (x y a b : ℕ) → x + y ≡ 255 → a + b ≡ 255 → (x ≡ 0) ⊎ (x ≡ a) → (y ≡ 0) ⊎ (y ≡ b) → x ≡ a
-pair_same x y a b e f (inr same) q = same
-pair_same x y a b e f (inl none) (inl lost) = absurd (omega (arith, e, none, lost))
-pair_same x y a b e f (inl none) (inr same) = omega (arith, e, f, none, same)
 
 pub zeros_none : (b : ℕ) (bs : List ℕ) → b ≡ 0 → zeros_in (b ∷ bs) ≡ suc (zeros_in bs)
 zeros_none b bs is = grind (arith, nat_tests)
@@ -69,30 +66,6 @@ fades_same (x ∷ xs) (y ∷ ys) (byte, more) count =
     cons_same : (b a : ℕ) (bs cs : List ℕ) → b ≡ a → bs ≡ cs → b ∷ bs ≡ a ∷ cs
     cons_same b a bs cs e f = ap (λ (n : ℕ). n ∷ bs) e ∙ ap (λ (l : List ℕ). a ∷ l) f
 
--- bytes and complements
-pub twice_sums : (n i : ℕ) → n < 2 ^ 64 → i < 8 → slice_index (twice n) i + slice_index (twice n) (8 + i) ≡ 255
-unfolding twice
-twice_sums n zero small low = omega arith
-twice_sums n (suc zero) small low = omega arith
-twice_sums n (suc (suc zero)) small low = omega arith
-twice_sums n (suc (suc (suc zero))) small low = omega arith
-twice_sums n (suc (suc (suc (suc zero)))) small low = omega arith
-twice_sums n (suc (suc (suc (suc (suc zero))))) small low = omega arith
-twice_sums n (suc (suc (suc (suc (suc (suc zero)))))) small low = omega arith
-twice_sums n (suc (suc (suc (suc (suc (suc (suc zero))))))) small low = omega arith
-twice_sums n (suc (suc (suc (suc (suc (suc (suc (suc i)))))))) small low = absurd (omega arith)
-
--- a number that was written twice is there, or it shows that bytes are lost
-pub twice_same : (n m : ℕ) → n < 2 ^ 64 → m < 2 ^ 64 → ((i : ℕ) → i < 16 → (slice_index (twice m) i ≡ 0) ⊎ (slice_index (twice m) i ≡ slice_index (twice n) i)) → m ≡ n
-unfolding twice
-twice_same n m small fits each =
-    let bytes : to_be_bytes w64 m ≡ to_be_bytes w64 n = ext_get_or 0 (to_be_bytes w64 m) (to_be_bytes w64 n) refl (λ i low.
-    let low8 : i < 8 = low in
-    let mine = get_or_append_left (to_be_bytes w64 m) (to_be_bytes w64 (2 ^ 64 - 1 - m)) 0 i low in
-    let other = get_or_append_left (to_be_bytes w64 n) (to_be_bytes w64 (2 ^ 64 - 1 - n)) 0 i low in
-    sym mine ∙ pair_same (slice_index (twice m) i) (slice_index (twice m) (8 + i)) (slice_index (twice n) i) (slice_index (twice n) (8 + i)) (twice_sums m i fits low8) (twice_sums n i small low8) (each i (omega (arith, low8))) (each (8 + i) (omega (arith, low8))) ∙ other) in
-    sym (from_be_bytes-to_be_bytes_8 m fits) ∙ ap (from_be_bytes w64) bytes ∙ from_be_bytes-to_be_bytes_8 n small
-
 pub zeros_few : (bs : List ℕ) → zeros_in bs ≤ length bs
 zeros_few [] = omega arith
 zeros_few (b ∷ bs) = elim (cases_eq b 0) [
@@ -128,10 +101,6 @@ block_at_content : (key at : ℕ) (content : List ℕ) (i : ℕ) → slice_index
 unfolding head_of twice
 block_at_content key at content i = get_or-append-add (1 ∷ head_of key at content) content i 0
 
--- each byte of a place is 0, or as it was written
-abbrev pub IsFaint : List ℕ → ℕ → List ℕ → Type 0
-IsFaint file at bytes = (i : ℕ) → i < length bytes → (slice_index file (at + i) ≡ 0) ⊎ (slice_index file (at + i) ≡ slice_index bytes i)
-
 -- a block that is there where another one was written over zeros is that one
 pub faint_block : (key : ℕ) (file : List ℕ) (at : ℕ) (content found : List ℕ) → length content < 2 ^ 64 → IsFaint file at (block_bytes key at content) → IsBlock key file at found → found ≡ content
 faint_block key file at content found small faint b = same
@@ -159,11 +128,11 @@ pub mixed_leaves : (key : ℕ) (contents : List (List ℕ)) (content bytes : Lis
     → (IsBlock key new end content → ⊥) ⊎ IsBlock key new end content
     → Recovers new contents ⊎ Recovers new (contents ++ content ∷ [])
 mixed_leaves key contents content bytes end upto old new small fits is room r m known =
-    let low = blocks_le key old 16 contents end r.blocks in
+    let low = blocks_le key old 72 contents end r.blocks in
     let long : length bytes ≡ 49 + length content + 1 = ap length is ∙ omega (arith, length-append (block_bytes key end content) (0 ∷ []), length-block key end content) in
     let keeps : KeepsFront end old new = record { within = omega (arith, m.torn.no_shorter, r.within, r.some); each = λ i below. m.torn.below i (omega (arith, r.within, r.some)) below } in
     let front = holds_kept end 0 (front_of key) old new r.front keeps (omega (arith, low, length-front key)) in
-    let blocks = blocks_kept key old new 16 contents end end r.blocks (omega arith) keeps in
+    let blocks = blocks_kept key old new 72 contents end end r.blocks (omega arith) keeps in
     let faint : IsFaint new end bytes = λ i below. elim (m.each i below (omega (arith, room, r.within))) [
       | inl was ↦ inl (was ∙ r.blank (end + i) (omega arith) (omega (arith, room)))
       | inr put ↦ inr put
@@ -182,6 +151,8 @@ mixed_leaves key contents content bytes end upto old new small fits is room r m 
         front = front;
         end = end;
         blocks = blocks;
+        more = omega (arith, m.torn.no_shorter, r.within, r.some);
+        marks = marks_kept end end end old new low (omega arith) r.marks keeps;
         nothing = λ found b. other (subst (λ (l : List ℕ). IsBlock key new end l) (faint_block key new end content found fits block b) b);
       })
       | inr whole ↦ inr (record {
@@ -189,7 +160,9 @@ mixed_leaves key contents content bytes end upto old new small fits is room r m 
         small = small;
         front = front;
         end = end_of end (length content);
-        blocks = blocks_more key new 16 contents end content blocks whole;
+        blocks = blocks_more key new 72 contents end content blocks whole;
+        more = omega (arith, m.torn.no_shorter, r.within, room, long);
+        marks = marks_kept end end (end_of end (length content)) old new low (omega arith) r.marks keeps;
         nothing = no_block key new (end_of end (length content)) (shut_if_zero gate);
       })
     ]
@@ -235,6 +208,7 @@ rests_once key contents content bytes end upto end' old new fits is ends room r 
       blocks = once.blocks;
       within = omega (arith, r.within, t.no_shorter);
       some = omega arith;
+      marks = once.marks;
       blank = λ i from below. elim (cases_lt i (end + length bytes)) [
         | inl near ↦ once.blank i from near
         | inr far ↦ t.above i (omega (arith, below, r.within)) far ∙ r.blank i (omega arith) below

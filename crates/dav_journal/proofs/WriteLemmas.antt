@@ -32,13 +32,14 @@ opened at bytes mid new some behind torn gate =
 -- a write behind the gate leaves it shut
 pub behind_shut : (at n : ℕ) (bytes old new : List ℕ) → Torn (at + 1) n old new → AllOrShut at bytes old new
 behind_shut at n bytes old new t inside shut =
-    (front_torn at (at + 1) n old new (omega arith) (omega arith) t, inl (λ is. shut (sym (t.below at inside (omega arith)) ∙ is)))
+    (front_torn at (at + 1) n old new (omega arith) (omega arith) t, t.no_shorter, inl (λ is. shut (sym (t.below at inside (omega arith)) ∙ is)))
 
 -- whatever lands on the gate, it is open, and then all is there, or it is shut
 pub gate_decides : (at n : ℕ) (bytes old mid new : List ℕ) → 1 < length bytes → slice_index bytes 0 ≡ 1 → Torn (at + 1) n old mid → Holds mid (at + 1) (slice_range bytes 1 (length bytes))
     → Torn at 1 mid new → AllOrShut at bytes old new
 gate_decides at n bytes old mid new some opens first behind second inside shut = (
       front_then at old mid new (front_torn at (at + 1) n old mid (omega arith) (omega arith) first) (front_torn at at 1 mid new (omega arith) (omega (arith, first.no_shorter)) second),
+      omega (arith, first.no_shorter, second.no_shorter),
       elim (cases_eq (slice_index new at) 1) [
         | inl is_open ↦ inr (opened at bytes mid new some behind second (is_open ∙ sym opens))
         | inr other ↦ inl other
@@ -77,7 +78,7 @@ zeros_more from at piece old new next (within, blank) t h none low = (
     )
 
 -- a part of zeros
-zero_at : (n k : ℕ) → slice_index (replicate n 0) k ≡ 0
+pub zero_at : (n k : ℕ) → slice_index (replicate n 0) k ≡ 0
 zero_at n k = go (cases_lt k n)
   where
     zeros : List ℕ

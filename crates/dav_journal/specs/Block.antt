@@ -9,7 +9,7 @@ abbrev pub zeros_in : List ℕ → ℕ
 zeros_in [] = 0
 zeros_in (b ∷ bs) = if b == 0 then suc (zeros_in bs) else zeros_in bs
 
--- a number in 16 bytes, so that one of them that is lost, and is 0, shows: its eight bytes, and those of its complement
+-- a number in 16 bytes: its eight bytes, and those of its complement. A byte of them that is lost, and is 0, shows.
 unfoldable pub twice : ℕ → List ℕ
 twice n = to_be_bytes w64 n ++ to_be_bytes w64 (2 ^ 64 - 1 - n)
 
@@ -18,7 +18,7 @@ twice n = to_be_bytes w64 n ++ to_be_bytes w64 (2 ^ 64 - 1 - n)
 abbrev pub digest_at : ℕ → ℕ → ℕ → ℕ → ℕ
 digest_at key place len told = digest key (to_be_bytes w64 place ++ (to_be_bytes w64 len ++ to_be_bytes w64 told))
 
--- the 48 bytes of a block's head, behind its gate: the length of the content, how many of its bytes are 0, its digest, and the head's own
+-- the 48 bytes of a block's head, after its gate: the length of the content, how many of its bytes are 0, its digest, and the head's own
 unfoldable pub head_of : ℕ → ℕ → List ℕ → List ℕ
 head_of key place content =
     twice (length content) ++ (twice (zeros_in content) ++ (to_be_bytes w64 (digest key content) ++ to_be_bytes w64 (digest_at key place (length content) (digest key content))))
@@ -31,29 +31,20 @@ block_bytes key place content = 1 ∷ (head_of key place content ++ content)
 abbrev pub end_of : ℕ → ℕ → ℕ
 end_of at len = at + 49 + len
 
--- a block with this content stands here
+-- a block with this content is at this place
 pub record IsBlock (key : ℕ) (file : List ℕ) (at : ℕ) (content : List ℕ) : Type 0 where
   pub small : length content < 2 ^ 64
   pub holds : Holds file at (block_bytes key at content)
 
--- no block stands here
+-- no block is at this place
 abbrev pub IsNoBlock : ℕ → List ℕ → ℕ → Type 0
 IsNoBlock key file at = (content : List ℕ) → ¬ IsBlock key file at content
 
--- blocks of these contents stand one behind the other, from this place up to that one
+-- blocks of these contents follow one another, from this place up to that one
 abbrev pub AreBlocks : ℕ → List ℕ → ℕ → List (List ℕ) → ℕ → Type 0
 AreBlocks key file at [] end = at ≡ end
 AreBlocks key file at (b ∷ bs) end = IsBlock key file at b × AreBlocks key file (end_of at (length b)) bs end
 
--- the 16 bytes of a journal's file before its first block: `vuldarg2`, by which it is known, and the key of its digests
+-- the first 24 bytes of a journal's file: `vuldarg2`, by which it is known, and the key of its digests, twice
 abbrev pub front_of : ℕ → List ℕ
-front_of key = codes "vuldarg2" ++ to_be_bytes w64 key
-
--- A file stands for these contents: it has the front, and then blocks of them, and no block behind those.
-pub record Recovers (file : List ℕ) (contents : List (List ℕ)) : Type 0 where
-  pub key : ℕ
-  pub small : key < 2 ^ 64
-  pub front : Holds file 0 (front_of key)
-  pub end : ℕ
-  pub blocks : AreBlocks key file 16 contents end
-  pub nothing : IsNoBlock key file end
+front_of key = codes "vuldarg2" ++ twice key

@@ -1,3 +1,5 @@
 pub mod Block
+pub mod File
 pub mod Journal
+pub mod Mark
 pub mod Write

@@ -7,10 +7,11 @@ pub record KeepsFront (n : ℕ) (old new : List ℕ) : Type 0 where
   pub within : n ≤ length new
   pub each : (i : ℕ) → i < n → slice_index new i ≡ slice_index old i
 
--- Over a gate that is in the file and shut: what is in front stays, and either the gate is shut or all of these bytes are there.
+-- Over a gate that is in the file and shut: what is before it stays, the file doesn't get shorter, and either the gate is shut or all of
+-- these bytes are there.
 abbrev pub AllOrShut : ℕ → List ℕ → List ℕ → List ℕ → Type 0
-AllOrShut at bytes old new =
-    at < length old → slice_index old at ≢ 1 → KeepsFront at old new × ((slice_index new at ≢ 1) ⊎ Holds new at bytes)
+AllOrShut at bytes old new = at < length old → slice_index old at ≢ 1
+    → KeepsFront at old new × (length old ≤ length new) × ((slice_index new at ≢ 1) ⊎ Holds new at bytes)
 
 -- a file that has n bytes keeps these
 abbrev pub KeepsBelow : ℕ → List ℕ → List ℕ → Type 0

@@ -1,7 +1,8 @@
 //! The bytes of blocks, and of the front of the file.
-ghost use Rattle.std.specs.Prelude.{◌≡◌, ◌≤◌, ◌<◌, ◌^◌, ◌++◌, ◌∷◌, [], ℕ, List, Some, length, take, IfSome, IfOk, OnOk, IsTrue, ◌↔◌};
+ghost use Rattle.std.specs.Prelude.{◌≡◌, ◌≢◌, ◌≤◌, ◌<◌, ◌^◌, ◌++◌, ◌∷◌, [], ℕ, List, Some, length, replicate, IfSome, IfNone, IfOk, OnOk, IsTrue, ◌↔◌};
 ghost use Rattle.std.specs.Int.{w64, from_be_bytes, to_be_bytes};
 ghost use Rattle.dav_journal.specs.Block.{block_bytes, digest_at, front_of, head_of, twice, zeros_in};
+ghost use Rattle.dav_journal.specs.File.{AreZeros, IsBegun};
 
 use sqlite_disk::digest_of;
 use std::alloc::{AllocError, Global};
@@ -10,11 +11,14 @@ use std::alloc::{AllocError, Global};
 /// complement, the digest of its content, the digest of the length, of that digest and of the place.
 pub const HEAD: usize = 49;
 
-/// The bytes in front of the first block: what the file is, and the key of its digests.
-pub const FRONT: usize = 16;
+/// The first bytes of a file: its version, and the key of its digests with its complement.
+pub const FRONT: usize = 24;
+
+/// Where the first block begins, after the front and three marks of 16 bytes.
+pub const START: usize = 72;
 
 /// What a file of this version begins with.
-pub const MARK: [u8; 8] = *b"vuldarg2";
+const VERSION: [u8; 8] = *b"vuldarg2";
 
 /// The gate of a block that counts.
 pub const OPEN: u8 = 1;
@@ -91,7 +95,7 @@ pub fn add_head(
     add_digests(out, told, digest_of_head(key, place, len, told))
 }
 
-// The bytes of a block with this content at this place, and the gate behind it, which is shut.
+// The bytes of a block with this content at this place, and the gate after it, which is shut.
 pub fn bytes_of(
     alloc: Global,
     key: u64,
@@ -132,31 +136,30 @@ pub fn len_in(head: &[u8]) -> Option<u64>
     Some(number(head.get(1..9)?))
 }
 
-// Whether these bytes can be the head of a block at this place: the length that they tell.
-pub fn told_len(key: u64, place: u64, bytes: &[u8]) -> Option<u64> {
-    let len = number(bytes.get(..8)?);
-    let told = number(bytes.get(32..40)?);
-    let own = number(bytes.get(40..48)?);
-    if digest_of_head(key, place, len, told) == own {
-        Some(len)
-    } else {
-        None
-    }
-}
-
-// The bytes in front of the first block, of a file with this key.
-pub fn front_bytes(key: u64) -> [u8; 16]
-    ensures { result ≡ front_of key }
+// A number and its complement.
+pub fn twice_bytes(n: u64) -> [u8; 16]
+    ensures { result ≡ twice n }
 {
     let mut bytes = [0u8; 16];
-    bytes[..8].copy_from_slice(&MARK);
-    bytes[8..].copy_from_slice(&key.to_be_bytes());
+    bytes[..8].copy_from_slice(&n.to_be_bytes());
+    bytes[8..].copy_from_slice(&(u64::MAX - n).to_be_bytes());
+    bytes
+}
+
+// The front of a file with this key.
+fn front_bytes(key: u64) -> [u8; FRONT]
+    ensures { result ≡ front_of key }
+{
+    let mut bytes = [0u8; FRONT];
+    bytes[..8].copy_from_slice(&VERSION);
+    bytes[8..].copy_from_slice(&twice_bytes(key));
     bytes
 }
 
 // The key of a file that begins with these bytes.
-pub fn key_in(front: &[u8; 16]) -> Option<u64>
-    ensures { IfSome result (λ key. front.now ≡ front_of key) }
+pub fn key_in(front: &[u8; FRONT]) -> Option<u64>
+    ensures some { IfSome result (λ key. front.now ≡ front_of key) }
+    ensures none { IfNone result ((key : ℕ) → key < 2 ^ 64 → front.now ≢ front_of key) }
 {
     let key = number(&front[8..16]);
     if *front == front_bytes(key) {
@@ -166,9 +169,37 @@ pub fn key_in(front: &[u8; 16]) -> Option<u64>
     }
 }
 
-// Whether bytes that are fewer than a front can be what a crash left of one.
-pub fn is_begun(bytes: &[u8]) -> bool {
-    let known = MARK.as_slice();
-    let shown = bytes.get(..8).unwrap_or(bytes);
-    bytes.iter().all(|byte| *byte == 0) || known.starts_with(shown)
+// A new file with this key: the front, no marks, and a shut gate.
+pub fn new_bytes(key: u64) -> [u8; START + 1]
+    ensures { result ≡ front_of key ++ replicate 49 0 }
+{
+    let mut bytes = [0u8; START + 1];
+    bytes[..FRONT].copy_from_slice(&front_bytes(key));
+    bytes
+}
+
+// Whether all of the bytes are 0.
+fn are_zeros(bytes: &[u8]) -> bool
+    ensures { IsTrue result ↔ AreZeros bytes.now }
+{
+    zeros_of(bytes) == bytes.len() as u64
+}
+
+// Whether a crash may have left these bytes of the first write of a file.
+pub fn is_begun(bytes: &[u8]) -> bool
+    ensures { IsTrue result ↔ IsBegun bytes.now }
+{
+    if bytes.len() > START + 1 {
+        return false;
+    }
+    if are_zeros(bytes) {
+        return true;
+    }
+    if bytes.len() < VERSION.len() {
+        return bytes == &VERSION[..bytes.len()];
+    }
+    if &bytes[..8] != VERSION.as_slice() {
+        return false;
+    }
+    bytes.len() <= FRONT || are_zeros(&bytes[FRONT..])
 }

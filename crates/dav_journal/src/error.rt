@@ -15,9 +15,9 @@ pub enum JournalError {
     /// The file isn't a journal of this version.
     #[error("Foreign")]
     Foreign,
-    /// A block is damaged, and blocks follow it.
+    /// No block is at this place, and one was.
     #[error("Damaged")]
-    Damaged,
+    Damaged(usize),
     /// Memory ran out.
     #[error("Memory")]
     Memory,

@@ -1,12 +1,15 @@
 //! A journal over a file.
 ghost use Rattle.std.specs.Prelude.{◌≡◌, ◌≢◌, ◌⊎◌, ◌≤◌, ◌<◌, ◌+◌, ◌^◌, ◌++◌, ◌∷◌, [], ℕ, List, Some, length, slice_index, IsTrue, IfOk, IfSome, OnOk, OnErr, IsNone, MatchOption};
 ghost use Rattle.sqlite_disk.specs.Disk.{Follows, Holds, Only, Torn};
-ghost use Rattle.dav_journal.specs.Block.{IsBlock, IsNoBlock, Recovers, end_of, front_of, head_of};
-ghost use Rattle.dav_journal.specs.Journal.{HasRead, IsKept, IsReading, IsShut, IsWrittenBlock, LeavesAtMost, LeavesOnly, OnlyReads, Stays, blocks_end, blocks_len, disk_of};
+ghost use Rattle.dav_journal.specs.Block.{front_of, head_of, twice};
+ghost use Rattle.dav_journal.specs.File.{IsBegun, Recovers};
+ghost use Rattle.dav_journal.specs.Mark.{IsLastMark, IsMark, IsMarkPlace, NoneMarkedPast};
+ghost use Rattle.dav_journal.specs.Journal.{HasRead, IsCleared, IsKept, IsReading, IsShut, IsWrittenBlock, LeavesAtMost, LeavesOnly, OnlyReads, Stays, blocks_end, blocks_len, disk_of};
 ghost use Rattle.dav_journal.specs.Write.{HasZeros, KeepsBelow};
 
-use crate::block::{FRONT, HEAD, OPEN, bytes_of, front_bytes, is_begun, is_head, key_in, len_in, told_len};
+use crate::block::{FRONT, HEAD, OPEN, START, bytes_of, is_begun, is_head, key_in, len_in, new_bytes, twice_bytes};
 use crate::error::JournalError;
+use crate::mark::{MARK, mark_after, mark_in};
 use crate::write::{write_once, write_twice};
 use sqlite_disk::{Crash, Disk};
 use std::alloc::Global;
@@ -17,7 +20,8 @@ const ROOM: usize = 1_048_576;
 /// So many bytes are written or looked through at once.
 const PIECE: usize = 65_536;
 
-/// A journal: its file, the key of its digests, where its blocks end, up to where zeros are kept behind them, and where the file ends.
+/// A journal: its file, the key of its digests, where its blocks end, up to where zeros are kept after them, where the file ends, and where
+/// the next mark is written.
 #[derive(Drop)]
 pub struct Journal<D: Disk> {
     disk: D,
@@ -25,6 +29,7 @@ pub struct Journal<D: Disk> {
     end: usize,
     zeros: usize,
     len: usize,
+    mark: usize,
 }
 
 impl<D: Disk + Drop> Journal<D> {
@@ -35,47 +40,53 @@ impl<D: Disk + Drop> Journal<D> {
         Journal {
             disk,
             key: 0,
-            end: FRONT,
+            end: START,
             zeros: 0,
             len: 0,
+            mark: FRONT,
         }
     }
 
-    /// Opens the file. An empty one becomes a journal. `Foreign` where the file is something else, and then nothing is changed.
+    /// Opens the file. One that is empty, or has what a crash left of the first write, becomes a journal; no other is changed.
+    /// `Foreign` where it is something else.
     pub fn open(&mut self) -> Result<(), JournalError>
         ensures reading { OnOk result (IsTrue (D.Disk.is_clean (disk_of self.new)) → IsReading D.Disk self.new []) }
         ensures any_moment { IsTrue (D.Disk.is_clean (disk_of self.new)) → (contents : List (List ℕ))
             → LeavesOnly D.Disk (disk_of self.old) contents → LeavesOnly D.Disk (disk_of self.new) contents }
+        ensures begun { IsTrue (D.Disk.is_clean (disk_of self.new))
+            → IsBegun (D.Disk.seen (disk_of self.old)) ⊎ OnlyReads D.Disk (disk_of self.old) (disk_of self.new) }
     {
         if !self.disk.may_be_used() {
             return Err(JournalError::Io);
         }
         self.disk.sync()?;
         let len = self.disk.len()?;
-        if len < FRONT {
+        if len <= START {
             return self.make(len);
         }
         let mut front = [0u8; FRONT];
         self.disk.read_at(0, &mut front)?;
         let Some(key) = key_in(&front) else {
-            return Err(JournalError::Foreign);
+            return self.make(len);
         };
         self.key = key;
-        self.end = FRONT;
+        self.end = START;
         self.len = len;
         Ok(())
     }
 
-    // Makes a journal of a file that is empty, or has what a crash left of the front.
+    // Makes a journal of a file that is empty, or has what a crash left of the first write.
     fn make(&mut self, len: usize) -> Result<(), JournalError>
         ensures reading { OnOk result (IsTrue (D.Disk.is_clean (disk_of self.new))
             → length (D.Disk.seen (disk_of self.old)) ≡ len → IsReading D.Disk self.new []) }
         ensures clean { IsTrue (D.Disk.is_clean (disk_of self.new)) → IsTrue (D.Disk.is_clean (disk_of self.old)) }
+        ensures begun { IsTrue (D.Disk.is_clean (disk_of self.new)) → length (D.Disk.seen (disk_of self.old)) ≡ len
+            → IsBegun (D.Disk.seen (disk_of self.old)) ⊎ OnlyReads D.Disk (disk_of self.old) (disk_of self.new) }
     {
         if !self.disk.may_be_used() {
             return Err(JournalError::Io);
         }
-        let mut found = [0u8; FRONT];
+        let mut found = [0u8; START + 1];
         let Some(found) = found.get_mut(..len) else {
             return Err(JournalError::Foreign);
         };
@@ -84,16 +95,16 @@ impl<D: Disk + Drop> Journal<D> {
             return Err(JournalError::Foreign);
         }
         let key = self.disk.key();
-        self.disk.write_at(0, &front_bytes(key))?;
+        self.disk.write_at(0, &new_bytes(key))?;
         self.disk.sync()?;
         self.key = key;
-        self.end = FRONT;
-        self.len = FRONT;
+        self.end = START;
+        self.len = START + 1;
         Ok(())
     }
 
-    /// The content of the next block that is there. `None` where no block follows. `Damaged` where what follows is no block, and
-    /// blocks come behind it.
+    /// The content of the next block that is there. `None` where no block follows. `Damaged` where no block follows, and one did: a mark
+    /// says so, or the file ends there, or the gate is open on a disk that isn't mixing.
     pub fn next(&mut self, alloc: Global) -> Result<Option<Vec<u8>>, JournalError>
         ensures reads { OnlyReads D.Disk (disk_of self.old) (disk_of self.new) }
         ensures read { IfOk result (λ block. IsTrue (D.Disk.is_clean (disk_of self.new)) → (contents : List (List ℕ))
@@ -132,7 +143,7 @@ impl<D: Disk + Drop> Journal<D> {
         Ok(Some(bytes))
     }
 
-    // The length that a head tells, where a content of it fits.
+    // The length that a head has, where a content of it fits.
     fn fitting(&self, head: &[u8]) -> Option<usize>
         ensures none { (key place : ℕ) (content : List ℕ) → length content < 2 ^ 64
             → head.now ≡ 1 ∷ head_of key place content → blocks_end self.now + 49 + length content ≤ blocks_len self.now
@@ -144,7 +155,7 @@ impl<D: Disk + Drop> Journal<D> {
         if len <= rest { Some(len) } else { None }
     }
 
-    // So many bytes behind a head.
+    // So many bytes after a head.
     fn content(&mut self, alloc: Global, len: usize) -> Result<Vec<u8>, JournalError>
         requires { blocks_end self.old + 49 + len < 2 ^ 64 }
         ensures stays { Stays D.Disk self.old self.new }
@@ -161,39 +172,169 @@ impl<D: Disk + Drop> Journal<D> {
         Ok(content)
     }
 
-    // No block is here: what follows is a torn one, or damage.
+    // No block follows: what does is a torn one, or damage.
     fn no_block(&mut self) -> Result<Option<Vec<u8>>, JournalError>
         ensures stays { Stays D.Disk self.old self.new }
         ensures none { IfOk result (λ block. IsNone block) }
+        ensures more { OnOk result (blocks_end self.old < blocks_len self.old) }
+        ensures unmarked { OnOk result (IsTrue (D.Disk.is_clean (disk_of self.new))
+            → NoneMarkedPast (D.Disk.seen (disk_of self.old)) (blocks_end self.old)) }
     {
-        let from = self.end.saturating_add(1);
-        if has_head_behind(&mut self.disk, self.key, from, self.len)? {
-            return Err(JournalError::Damaged);
+        if self.len <= self.end || self.last_mark()?.1 > self.end as u64 {
+            return Err(JournalError::Damaged(self.end));
+        }
+        if self.gate()? == OPEN && !self.disk.mixes() {
+            return Err(JournalError::Damaged(self.end));
         }
         Ok(None)
     }
 
-    /// Makes the end of the blocks that were read the end of the file. What lies behind is cut off.
+    // The place and the number of the last mark of the file, 0 where it has none.
+    fn last_mark(&mut self) -> Result<(usize, u64), JournalError>
+        ensures stays { Stays D.Disk self.old self.new }
+        ensures place { IfOk result (λ last. IsMarkPlace last.0) }
+        ensures last { IfOk result (λ last. IsTrue (D.Disk.is_clean (disk_of self.new))
+            → IsLastMark (D.Disk.seen (disk_of self.old)) last.0 last.1) }
+    {
+        let first = self.mark_at(FRONT)?;
+        let second = self.mark_at(FRONT + MARK)?;
+        let third = self.mark_at(FRONT + 2 * MARK)?;
+        if third >= first && third >= second {
+            return Ok((FRONT + 2 * MARK, third));
+        }
+        if second >= first {
+            return Ok((FRONT + MARK, second));
+        }
+        Ok((FRONT, first))
+    }
+
+    // The number of the mark at this place, 0 where there is none.
+    fn mark_at(&mut self, place: usize) -> Result<u64, JournalError>
+        ensures stays { Stays D.Disk self.old self.new }
+        ensures some { IfOk result (λ n. IsTrue (D.Disk.is_clean (disk_of self.new)) → 0 < n
+            → Holds (D.Disk.seen (disk_of self.old)) place (twice n)) }
+        ensures most { IfOk result (λ n. IsTrue (D.Disk.is_clean (disk_of self.new)) → (m : ℕ) → m < 2 ^ 64
+            → Holds (D.Disk.seen (disk_of self.old)) place (twice m) → m ≤ n) }
+    {
+        if !self.disk.may_be_used() {
+            return Err(JournalError::Io);
+        }
+        let mut bytes = [0u8; MARK];
+        self.disk.read_at(place, &mut bytes)?;
+        Ok(mark_in(&bytes).unwrap_or(0))
+    }
+
+    // The gate at the end of the blocks.
+    fn gate(&mut self) -> Result<u8, JournalError>
+        ensures stays { Stays D.Disk self.old self.new }
+        ensures gate { IfOk result (λ gate. IsTrue (D.Disk.is_clean (disk_of self.new))
+            → slice_index (D.Disk.seen (disk_of self.old)) (blocks_end self.old) ≡ gate) }
+    {
+        if !self.disk.may_be_used() {
+            return Err(JournalError::Io);
+        }
+        let mut gate = [0u8; 1];
+        self.disk.read_at(self.end, &mut gate)?;
+        Ok(gate[0])
+    }
+
+    /// Makes the end of the blocks that were read the end of the file: what follows is cut off. `Foreign` where the disk isn't mixing and the
+    /// file has marks.
     pub fn cut(&mut self) -> Result<(), JournalError>
         ensures kept { OnOk result (IsTrue (D.Disk.is_clean (disk_of self.new)) → (contents : List (List ℕ))
             → HasRead D.Disk self.old contents → IsKept D.Disk self.new contents) }
         ensures any_moment { IsTrue (D.Disk.is_clean (disk_of self.new)) → (contents : List (List ℕ))
-            → HasRead D.Disk self.old contents → LeavesOnly D.Disk (disk_of self.new) contents }
+            → HasRead D.Disk self.old contents → LeavesOnly D.Disk (disk_of self.old) contents
+            → LeavesOnly D.Disk (disk_of self.new) contents }
     {
+        self.clear_marks()?;
         self.shut()?;
-        self.level()
+        self.level()?;
+        self.set_mark()
+    }
+
+    // Leaves the last mark alone, with zeros at the places of the others. Where the disk isn't mixing there are none.
+    fn clear_marks(&mut self) -> Result<(), JournalError>
+        ensures clean { IsTrue (D.Disk.is_clean (disk_of self.new)) → IsTrue (D.Disk.is_clean (disk_of self.old)) }
+        ensures cleared { OnOk result (IsTrue (D.Disk.is_clean (disk_of self.new)) → (contents : List (List ℕ))
+            → HasRead D.Disk self.old contents → IsCleared D.Disk self.new contents) }
+        ensures any_moment { IsTrue (D.Disk.is_clean (disk_of self.new)) → (contents : List (List ℕ))
+            → HasRead D.Disk self.old contents → LeavesOnly D.Disk (disk_of self.old) contents
+            → LeavesOnly D.Disk (disk_of self.new) contents }
+    {
+        let (place, number) = self.last_mark()?;
+        if !self.disk.mixes() {
+            return self.see_no_marks();
+        }
+        if number == 0 {
+            return self.clear_all();
+        }
+        self.clear_others(place)
+    }
+
+    // `Foreign` where anything but zeros is at the places of marks.
+    fn see_no_marks(&mut self) -> Result<(), JournalError>
+        ensures reads { OnlyReads D.Disk (disk_of self.old) (disk_of self.new) }
+        ensures cleared { OnOk result (IsTrue (D.Disk.is_clean (disk_of self.new)) → (contents : List (List ℕ))
+            → HasRead D.Disk self.old contents → IsCleared D.Disk self.new contents) }
+    {
+        if !self.disk.may_be_used() {
+            return Err(JournalError::Io);
+        }
+        let mut marks = [0u8; 3 * MARK];
+        self.disk.read_at(FRONT, &mut marks)?;
+        if marks != [0; 3 * MARK] {
+            return Err(JournalError::Foreign);
+        }
+        self.mark = FRONT;
+        Ok(())
+    }
+
+    // Writes zeros over all marks.
+    fn clear_all(&mut self) -> Result<(), JournalError>
+        ensures clean { IsTrue (D.Disk.is_clean (disk_of self.new)) → IsTrue (D.Disk.is_clean (disk_of self.old)) }
+        ensures cleared { OnOk result ((contents : List (List ℕ)) → HasRead D.Disk self.old contents
+            → IsCleared D.Disk self.new contents) }
+        ensures any_moment { IsTrue (D.Disk.is_mixing (disk_of self.old)) → (contents : List (List ℕ))
+            → LeavesOnly D.Disk (disk_of self.old) contents → LeavesOnly D.Disk (disk_of self.new) contents }
+    {
+        if !self.disk.may_be_used() {
+            return Err(JournalError::Io);
+        }
+        self.disk.write_at(FRONT, &[0; 3 * MARK])?;
+        self.disk.sync()?;
+        self.mark = FRONT;
+        Ok(())
+    }
+
+    // Writes zeros over the marks but for the one at this place.
+    fn clear_others(&mut self, place: usize) -> Result<(), JournalError>
+        requires { IsMarkPlace place }
+        ensures clean { IsTrue (D.Disk.is_clean (disk_of self.new)) → IsTrue (D.Disk.is_clean (disk_of self.old)) }
+        ensures cleared { OnOk result ((contents : List (List ℕ)) → HasRead D.Disk self.old contents
+            → IsMark (D.Disk.seen (disk_of self.old)) (blocks_end self.old) place → IsCleared D.Disk self.new contents) }
+        ensures any_moment { IsTrue (D.Disk.is_mixing (disk_of self.old)) → (contents : List (List ℕ))
+            → LeavesOnly D.Disk (disk_of self.old) contents → LeavesOnly D.Disk (disk_of self.new) contents }
+    {
+        let next = mark_after(place);
+        if !self.disk.may_be_used() {
+            return Err(JournalError::Io);
+        }
+        self.disk.write_at(next, &[0; MARK])?;
+        self.disk.write_at(mark_after(next), &[0; MARK])?;
+        self.disk.sync()?;
+        self.mark = next;
+        Ok(())
     }
 
     // Shuts the gate at the end of the blocks, where it is open.
     fn shut(&mut self) -> Result<(), JournalError>
         ensures shut { OnOk result (IsTrue (D.Disk.is_clean (disk_of self.new)) → (contents : List (List ℕ))
-            → HasRead D.Disk self.old contents → IsShut D.Disk self.new contents) }
+            → IsCleared D.Disk self.old contents → IsShut D.Disk self.new contents) }
         ensures any_moment { IsTrue (D.Disk.is_clean (disk_of self.new)) → (contents : List (List ℕ))
-            → HasRead D.Disk self.old contents → LeavesOnly D.Disk (disk_of self.new) contents }
+            → IsCleared D.Disk self.old contents → LeavesOnly D.Disk (disk_of self.new) contents }
+        ensures clean { IsTrue (D.Disk.is_clean (disk_of self.new)) → IsTrue (D.Disk.is_clean (disk_of self.old)) }
     {
-        if self.len <= self.end {
-            return Ok(());
-        }
         if !self.disk.may_be_used() {
             return Err(JournalError::Io);
         }
@@ -207,13 +348,14 @@ impl<D: Disk + Drop> Journal<D> {
         Ok(())
     }
 
-    // Cuts the file behind its last gate, which is shut.
+    // Cuts the file after its last gate, which is shut.
     fn level(&mut self) -> Result<(), JournalError>
         ensures clean { IsTrue (D.Disk.is_clean (disk_of self.new)) → IsTrue (D.Disk.is_clean (disk_of self.old)) }
         ensures kept { OnOk result ((contents : List (List ℕ)) → IsShut D.Disk self.old contents
             → IsKept D.Disk self.new contents) }
         ensures any_moment { (contents : List (List ℕ)) → IsShut D.Disk self.old contents
             → LeavesOnly D.Disk (disk_of self.new) contents }
+        ensures synced { OnOk result (Only (D.Disk.seen (disk_of self.new)) (D.Disk.may_leave (disk_of self.new))) }
     {
         let Some(end) = self.end.checked_add(1) else {
             return Err(JournalError::NoRoom);
@@ -227,6 +369,28 @@ impl<D: Disk + Drop> Journal<D> {
         self.disk.sync()?;
         self.zeros = end;
         self.len = end;
+        Ok(())
+    }
+
+    // Says in the front that the blocks reach to here, on a disk that is mixing. The next sync keeps that.
+    fn set_mark(&mut self) -> Result<(), JournalError>
+        ensures clean { IsTrue (D.Disk.is_clean (disk_of self.new)) → IsTrue (D.Disk.is_clean (disk_of self.old)) }
+        ensures kept { OnOk result ((contents : List (List ℕ)) → IsKept D.Disk self.old contents
+            → Only (D.Disk.seen (disk_of self.old)) (D.Disk.may_leave (disk_of self.old)) → IsKept D.Disk self.new contents) }
+        ensures any_moment { (contents : List (List ℕ)) → IsKept D.Disk self.old contents
+            → Only (D.Disk.seen (disk_of self.old)) (D.Disk.may_leave (disk_of self.old))
+            → LeavesOnly D.Disk (disk_of self.new) contents }
+    {
+        if !self.disk.mixes() {
+            return Ok(());
+        }
+        if !self.disk.may_be_used() {
+            return Err(JournalError::Io);
+        }
+        let next = mark_after(self.mark);
+        self.disk.write_at(self.mark, &twice_bytes(self.end as u64))?;
+        self.disk.write_at(next, &[0; MARK])?;
+        self.mark = next;
         Ok(())
     }
 
@@ -266,7 +430,7 @@ impl<D: Disk + Drop> Journal<D> {
         Ok(true)
     }
 
-    // The same, where what is in front of the zeros isn't known to be zeros.
+    // The same, where what is before the zeros isn't known to be zeros.
     fn grow_more(&mut self, len: usize) -> Result<bool, JournalError>
         ensures kept { (contents : List (List ℕ)) → IsKept D.Disk self.old contents → IsKept D.Disk self.new contents }
     {
@@ -295,7 +459,7 @@ impl<D: Disk + Drop> Journal<D> {
         self.end
     }
 
-    /// Writes a block of this content behind the others, and makes sure that it is kept. After an error, but for `Memory`,
+    /// Writes a block of this content after the others, and makes sure that it is kept. After an error, but for `Memory`,
     /// nothing more may be asked.
     pub fn keep(&mut self, alloc: Global, content: &[u8]) -> Result<(), JournalError>
         ensures kept { OnOk result ((contents : List (List ℕ)) → IsKept D.Disk self.old contents
@@ -310,14 +474,30 @@ impl<D: Disk + Drop> Journal<D> {
         if !self.disk.may_be_used() {
             return Err(JournalError::Io);
         }
-        let end = zeros - 1;
-        if self.disk.mixes() && zeros <= self.zeros {
-            return self.keep_once(end, &bytes);
-        }
-        self.keep_twice(end, &bytes)
+        self.write(zeros - 1, &bytes)?;
+        self.set_mark()
     }
 
-    // Writes a block, and the gate behind it, by two syncs.
+    // Writes a block, and the gate after it, so that both are kept.
+    fn write(&mut self, end: usize, bytes: &[u8]) -> Result<(), JournalError>
+        requires usable { IsTrue (D.Disk.is_usable (disk_of self.old)) }
+        requires some { 1 < length bytes.now }
+        requires opens { slice_index bytes.now 0 ≡ 1 }
+        requires ends { end + 1 ≡ blocks_end self.old + length bytes.now }
+        requires fits { end + 1 < 2 ^ 64 }
+        ensures kept { OnOk result ((contents : List (List ℕ)) (content : List ℕ) → IsWrittenBlock self.old content bytes.now
+            → IsKept D.Disk self.old contents → IsKept D.Disk self.new (contents ++ content ∷ [])) }
+        ensures synced { OnOk result (Only (D.Disk.seen (disk_of self.new)) (D.Disk.may_leave (disk_of self.new))) }
+        ensures any_moment { (contents : List (List ℕ)) (content : List ℕ) → IsWrittenBlock self.old content bytes.now
+            → IsKept D.Disk self.old contents → LeavesAtMost D.Disk (disk_of self.new) contents content }
+    {
+        if self.disk.mixes() && end < self.zeros {
+            return self.keep_once(end, bytes);
+        }
+        self.keep_twice(end, bytes)
+    }
+
+    // Writes a block, and the gate after it, by two syncs.
     fn keep_twice(&mut self, end: usize, bytes: &[u8]) -> Result<(), JournalError>
         requires usable { IsTrue (D.Disk.is_usable (disk_of self.old)) }
         requires some { 1 < length bytes.now }
@@ -326,6 +506,7 @@ impl<D: Disk + Drop> Journal<D> {
         requires fits { end + 1 < 2 ^ 64 }
         ensures kept { OnOk result ((contents : List (List ℕ)) (content : List ℕ) → IsWrittenBlock self.old content bytes.now
             → IsKept D.Disk self.old contents → IsKept D.Disk self.new (contents ++ content ∷ [])) }
+        ensures synced { OnOk result (Only (D.Disk.seen (disk_of self.new)) (D.Disk.may_leave (disk_of self.new))) }
         ensures any_moment { (contents : List (List ℕ)) (content : List ℕ) → IsWrittenBlock self.old content bytes.now
             → IsKept D.Disk self.old contents → LeavesAtMost D.Disk (disk_of self.new) contents content }
     {
@@ -336,7 +517,7 @@ impl<D: Disk + Drop> Journal<D> {
         Ok(())
     }
 
-    // Writes a block over zeros that are kept, and the gate behind it, by one sync.
+    // Writes a block over zeros that are kept, and the gate after it, by one sync.
     fn keep_once(&mut self, end: usize, bytes: &[u8]) -> Result<(), JournalError>
         requires usable { IsTrue (D.Disk.is_usable (disk_of self.old)) }
         requires mixes { IsTrue (D.Disk.is_mixing (disk_of self.old)) }
@@ -346,6 +527,7 @@ impl<D: Disk + Drop> Journal<D> {
         requires fits { end + 1 < 2 ^ 64 }
         ensures kept { OnOk result ((contents : List (List ℕ)) (content : List ℕ) → IsWrittenBlock self.old content bytes.now
             → IsKept D.Disk self.old contents → IsKept D.Disk self.new (contents ++ content ∷ [])) }
+        ensures synced { OnOk result (Only (D.Disk.seen (disk_of self.new)) (D.Disk.may_leave (disk_of self.new))) }
         ensures any_moment { (contents : List (List ℕ)) (content : List ℕ) → IsWrittenBlock self.old content bytes.now
             → IsKept D.Disk self.old contents → LeavesAtMost D.Disk (disk_of self.new) contents content }
     {
@@ -355,20 +537,10 @@ impl<D: Disk + Drop> Journal<D> {
     }
 }
 
-// Whether a head of a block stands in these bytes, which are at this place.
-fn has_head(key: u64, place: usize, bytes: &[u8]) -> bool {
-    for (k, window) in bytes.windows(HEAD).enumerate() {
-        let (gate, head) = window.split_at(1);
-        if gate == [OPEN].as_slice() && told_len(key, place.saturating_add(k) as u64, head).is_some() {
-            return true;
-        }
-    }
-    false
-}
-
 // Writes zeros from here up to a length: how far that went.
 fn fill<D: Disk>(disk: &mut D, from: usize, len: usize) -> Result<usize, JournalError>
     ensures reached { IfOk result (λ n. from ≤ n) }
+    ensures others { (n : ℕ) → n ≤ from → KeepsBelow n (D.Disk.seen disk.old) (D.Disk.seen disk.new) }
     ensures zeros { IfOk result (λ n. from ≤ length (D.Disk.seen disk.old) → HasZeros (D.Disk.seen disk.new) from n) }
     ensures crash { (n : ℕ) → n ≤ from
         → Follows (KeepsBelow n) (D.Disk.may_leave disk.old) (D.Disk.may_leave disk.new) }
@@ -394,38 +566,6 @@ fn fill<D: Disk>(disk: &mut D, from: usize, len: usize) -> Result<usize, Journal
     Ok(at)
 }
 
-// Whether the head of a block stands anywhere from here up to a length.
-fn has_head_behind<D: Disk>(
-    disk: &mut D,
-    key: u64,
-    from: usize,
-    len: usize,
-) -> Result<bool, JournalError>
-    ensures { OnlyReads D.Disk disk.old disk.new }
-{
-    let zeros = [0u8; PIECE];
-    let mut piece = [0u8; PIECE];
-    let mut at = from;
-    for _ in 0..u64::MAX {
-        let count = PIECE.min(len.saturating_sub(at));
-        if count < HEAD {
-            break;
-        }
-        if !disk.may_be_used() {
-            return Err(JournalError::Io);
-        }
-        let Some(window) = piece.get_mut(..count) else {
-            break;
-        };
-        disk.read_at(at, window)?;
-        if Some(&*window) != zeros.get(..count) && has_head(key, at, window) {
-            return Ok(true);
-        }
-        at = at.saturating_add(count - HEAD + 1);
-    }
-    Ok(false)
-}
-
 /// Keeps a content, and then the machine stops and comes back: whether it was acknowledged. Over a `Fuse` of any count of
 /// calls this is a crash at any call of `keep`.
 pub fn keep_and_crash<D: Crash + Drop>(
@@ -445,4 +585,10 @@ pub fn keep_and_crash<D: Crash + Drop>(
     };
     journal.disk.crash();
     true
+}
+
+/// A file stands for one list of contents alone: what a start reads is all that there is to read.
+pub fn stands_for_one_list()
+    ensures { (file : List ℕ) (xs ys : List (List ℕ)) → Recovers file xs → Recovers file ys → xs ≡ ys }
+{
 }

@@ -4,6 +4,7 @@
 mod block;
 mod error;
 mod journal;
+mod mark;
 mod write;
 
 pub use error::JournalError;

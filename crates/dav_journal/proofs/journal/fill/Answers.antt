@@ -9,6 +9,7 @@ loop-preserved g c = record {
       let (mid, was, torn) = c.write_at.ensures.crash left may in
       let (before, first, same) = c.loop.invariant.step n low mid was in
       (before, first, below_then n c.loop.at _ before mid left (omega (arith, low, c.loop.invariant.low)) same torn);
+  others = λ n low. below_then n c.loop.at _ _ _ _ (omega (arith, low, c.loop.invariant.low)) (c.loop.invariant.others n low) c.write_at.ensures.others;
   zeros = λ inside.
       let is = c.in-Some.ensures.lookup.0.2 in
       let long : length c.in-Some.piece.now ≡ c.min-count.result = omega (arith, c.in-Some.ensures.lookup.0.3) in
@@ -21,3 +22,7 @@ returns-in_default-write_at-clause-crash g c n low left may =
     let (mid, was, torn) = c.write_at.ensures.crash left may in
     let (before, first, same) = c.loop.invariant.step n low mid was in
     (before, first, below_then n c.loop.at _ before mid left (omega (arith, low, c.loop.invariant.low)) same torn)
+
+pub returns-in_default-write_at-clause-others : goal.returns-in_default-write_at-clause-others
+returns-in_default-write_at-clause-others g c n low =
+    below_then n c.loop.at _ _ _ _ (omega (arith, low, c.loop.invariant.low)) (c.loop.invariant.others n low) c.write_at.ensures.others

@@ -7,5 +7,6 @@ abbrev pub invariant-loop : goal.invariant-loop
 invariant-loop g l = record {
   low : l.from ≤ l.at;
   step : (n : ℕ) → n ≤ l.from → Follows (KeepsBelow n) (g.D.Disk.may_leave l.fn.disk) (g.D.Disk.may_leave l.disk);
+  others : (n : ℕ) → n ≤ l.from → KeepsBelow n (g.D.Disk.seen l.fn.disk) (g.D.Disk.seen l.disk);
   zeros : l.from ≤ length (g.D.Disk.seen l.fn.disk) → HasZeros (g.D.Disk.seen l.disk) l.from l.at;
 }

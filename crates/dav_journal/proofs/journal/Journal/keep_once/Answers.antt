@@ -1,6 +1,8 @@
 use Rattle.std.proofs.Common.{ℕ, List, [], ◌∷◌, ◌++◌, sym, subst, arith}
 use Rattle.dav_journal.specs.Journal.{Rests}
-use Rattle.dav_journal.proofs.BlockLemmas.{content_small}
+use Rattle.dav_journal.proofs.BlockLemmas.{blocks_le, content_small}
+use Rattle.dav_journal.proofs.CutLemmas.{torn_front}
+use Rattle.dav_journal.proofs.MarkLemmas.{blank_kept}
 use Rattle.dav_journal.proofs.MixedLemmas.{rests_once}
 use Rattle.dav_journal.proofs.journal.Journal.keep_once.Goals as goal
 
@@ -21,4 +23,8 @@ returns-clause-kept g c contents content is kept =
       small = kept.small;
       low = kept.low;
       outcomes = λ left may. subst (λ (f : List ℕ). Rests c.args.self.now.key (contents ++ content ∷ []) c.args.end c.args.self.now.zeros f) (sym (c.in_ok-write_once.ensures.synced left may)) rests;
+      place = kept.place;
+      blank =
+          let far = blocks_le c.args.self.now.key _ 72 contents c.args.self.now.end now.blocks in
+          blank_kept c.args.self.now.end _ _ c.args.self.now.mark far kept.place kept.blank (torn_front c.args.self.now.end _ _ _ (omega (arith, now.some, now.within)) c.write_once.ensures.others);
     }

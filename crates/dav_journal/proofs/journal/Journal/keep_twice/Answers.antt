@@ -1,6 +1,7 @@
 use Rattle.std.proofs.Common.{ℕ, List, [], ◌∷◌, ◌++◌, ◌≤◌, ◌+◌, length, sym, subst, arith, rules}
 use Rattle.dav_journal.specs.Journal.{Rests}
-use Rattle.dav_journal.proofs.BlockLemmas.{content_small, leaves_one_more, rests_more}
+use Rattle.dav_journal.proofs.BlockLemmas.{blocks_le, content_small, leaves_one_more, rests_more}
+use Rattle.dav_journal.proofs.MarkLemmas.{blank_kept}
 use Rattle.dav_journal.proofs.journal.Journal.keep_twice.Goals as goal
 
 pub returns-in_err-write_twice-clause-any_moment : goal.returns-in_err-write_twice-clause-any_moment
@@ -25,4 +26,6 @@ returns-clause-kept g c contents content is kept =
       small = kept.small;
       low = search rules;
       outcomes = λ left may. subst (λ (f : List ℕ). Rests c.args.self.now.key (contents ++ content ∷ []) c.args.end (c.args.end + 1) f) (sym (c.in_ok-write_twice.ensures.synced left may)) rests;
+      place = kept.place;
+      blank = blank_kept c.args.self.now.end _ _ c.args.self.now.mark (blocks_le c.args.self.now.key _ 72 contents c.args.self.now.end now.blocks) kept.place kept.blank (c.write_twice.ensures.front low);
     }

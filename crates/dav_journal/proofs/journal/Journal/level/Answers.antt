@@ -1,7 +1,9 @@
-use Rattle.std.proofs.Common.{◌≡◌, ◌+◌, ℕ, List, length, sym, ◌∙◌, subst, arith}
+use Rattle.std.proofs.Common.{◌≡◌, ◌+◌, ℕ, List, length, slice_index, sym, ◌∙◌, ap, subst, arith}
 use Rattle.sqlite_disk.specs.Disk.{Cut, Torn}
 use Rattle.dav_journal.specs.Journal.{Rests}
-use Rattle.dav_journal.proofs.CutLemmas.{ends_cut, ends_gate, ends_recovers, ends_rests}
+use Rattle.dav_journal.proofs.CutLemmas.{cut_front, ends_cut, ends_gate, ends_recovers, ends_rests, torn_front}
+use Rattle.dav_journal.proofs.BlockLemmas.{blocks_le}
+use Rattle.dav_journal.proofs.MarkLemmas.{blank_kept}
 use Rattle.dav_journal.proofs.journal.Journal.level.Goals as goal
 
 pub returns-in_default-clause-any_moment : goal.returns-in_default-clause-any_moment
@@ -73,4 +75,11 @@ returns-clause-kept g c contents shut =
       small = shut.small;
       low = omega arith;
       outcomes = λ left may. subst (λ (f : List ℕ). Rests j.key contents j.end c.in-Some.end f) (sym (c.in_ok-sync-2.ensures.durable left may)) (subst (λ (n : ℕ). Rests j.key contents j.end n (g.D.Disk.seen c.write_at.new.self)) (sym place) rests);
+      place = shut.place;
+      blank =
+          let far = blocks_le j.key (g.D.Disk.seen j.disk) 72 contents j.end now.blocks in
+          let first = cut_front (j.end + 1) j.end (g.D.Disk.seen j.disk) (g.D.Disk.seen c.set_len.new.self) (omega arith) (omega (arith, now.more)) (subst (λ (n : ℕ). Cut n (g.D.Disk.seen j.disk) (g.D.Disk.seen c.set_len.new.self)) place c.set_len.ensures.others) in
+          let second = torn_front j.end 1 _ (g.D.Disk.seen c.write_at.new.self) (omega (arith, long)) torn in
+          let blank = blank_kept j.end _ _ j.mark far shut.place (blank_kept j.end _ _ j.mark far shut.place shut.blank first) second in
+          λ i low. ap (λ (f : List ℕ). slice_index f (j.mark + i)) c.sync-2.ensures.seen ∙ blank i low;
     }

@@ -2,22 +2,24 @@ use Rattle.std.proofs.Common.{◌≡◌, ℕ, ◌+◌, ◌<◌, ◌^◌, List, [
 use Rattle.sqlite_disk.specs.Disk.{Holds}
 use Rattle.dav_journal.specs.Block.{AreBlocks, end_of, head_of}
 use Rattle.dav_journal.proofs.BlockLemmas.{blocks_more, no_block_read, no_block_short, no_block_told, read_block}
-use Rattle.dav_journal.proofs.JournalLemmas.{none_read, nothing_stays, reading_stays, stays_then}
+use Rattle.dav_journal.proofs.JournalLemmas.{more_stays, none_read, nothing_stays, reading_stays, stays_then, unmarked_stays}
 use Rattle.dav_journal.proofs.journal.Journal.next.Goals as goal
 
 pub returns-in_default-clause-read : goal.returns-in_default-clause-read
 returns-in_default-clause-read g c =
-    none_read g.D.Disk c.args.self.now c.no_block.new.self c.no_block.result c.no_block.ensures.none λ clean contents reading.
+    none_read g.D.Disk c.args.self.now c.no_block.new.self c.no_block.result _ _ c.no_block.ensures.none c.no_block.ensures.more c.no_block.ensures.unmarked λ more unmarked clean contents reading.
     let stays = stays_then g.D.Disk _ _ _ c.next_head.ensures.stays c.no_block.ensures.stays in
     let short = rw c.in_default.is at c.in_ok-head.ensures.head in
     record {
       reading = reading_stays g.D.Disk _ _ contents stays reading;
       nothing = nothing_stays g.D.Disk _ _ stays (no_block_short _ _ _ (omega (arith, reading.whole, short)));
+      more = more_stays g.D.Disk _ _ _ contents c.next_head.ensures.stays c.no_block.ensures.stays reading more;
+      unmarked = unmarked_stays g.D.Disk _ _ c.no_block.ensures.stays (unmarked clean);
     }
 
 pub returns-in_default-fitting-clause-read : goal.returns-in_default-fitting-clause-read
 returns-in_default-fitting-clause-read g c =
-    none_read g.D.Disk c.args.self.now c.no_block-in_default-fitting.new.self c.no_block-in_default-fitting.result c.no_block-in_default-fitting.ensures.none λ clean contents reading.
+    none_read g.D.Disk c.args.self.now c.no_block-in_default-fitting.new.self c.no_block-in_default-fitting.result _ _ c.no_block-in_default-fitting.ensures.none c.no_block-in_default-fitting.ensures.more c.no_block-in_default-fitting.ensures.unmarked λ more unmarked clean contents reading.
     let first = c.next_head.ensures.stays in
     let later = c.no_block-in_default-fitting.ensures.stays in
     let mid = c.next_head.new.self in
@@ -29,11 +31,13 @@ returns-in_default-fitting-clause-read g c =
     record {
       reading = reading_stays g.D.Disk _ _ contents later now;
       nothing = nothing_stays g.D.Disk _ _ later nothing;
+      more = more_stays g.D.Disk _ _ _ contents first later reading more;
+      unmarked = unmarked_stays g.D.Disk _ _ later (unmarked clean);
     }
 
 pub returns-then-not-branch-clause-read : goal.returns-then-not-branch-clause-read
 returns-then-not-branch-clause-read g c =
-    none_read g.D.Disk c.args.self.now c.no_block-then-not-branch.new.self c.no_block-then-not-branch.result c.no_block-then-not-branch.ensures.none λ clean contents reading.
+    none_read g.D.Disk c.args.self.now c.no_block-then-not-branch.new.self c.no_block-then-not-branch.result _ _ c.no_block-then-not-branch.ensures.none c.no_block-then-not-branch.ensures.more c.no_block-then-not-branch.ensures.unmarked λ more unmarked clean contents reading.
     let first = c.next_head.ensures.stays in
     let second = c.content.ensures.stays in
     let later = stays_then g.D.Disk _ _ _ second c.no_block-then-not-branch.ensures.stays in
@@ -52,6 +56,8 @@ returns-then-not-branch-clause-read g c =
     record {
       reading = reading_stays g.D.Disk _ _ contents later now;
       nothing = nothing_stays g.D.Disk _ _ later nothing;
+      more = more_stays g.D.Disk _ _ _ contents (stays_then g.D.Disk _ _ _ first second) c.no_block-then-not-branch.ensures.stays reading more;
+      unmarked = unmarked_stays g.D.Disk _ _ c.no_block-then-not-branch.ensures.stays (unmarked clean);
     }
 
 pub returns-clause-read : goal.returns-clause-read
@@ -69,7 +75,7 @@ returns-clause-read g c clean contents reading =
     let fits : length found < 2 ^ 64 = omega (arith, len) in
     let block = read_block mid.key (g.D.Disk.seen mid.disk) mid.end c.in-Some.head found fits held is (omega (arith, len, now.whole, c.in-Some-fitting.ensures.some)) (λ more. c.in_ok-content.ensures.read clean (omega (arith, len, more))) in
     let place : end_of mid.end (length found) ≡ c.content.new.self.end + (49 + c.in-Some-fitting.len) = omega (arith, len, second.end) in
-    let blocks = subst (λ (e : ℕ). AreBlocks mid.key (g.D.Disk.seen mid.disk) 16 (contents ++ found ∷ []) e) place (blocks_more mid.key (g.D.Disk.seen mid.disk) 16 contents mid.end found now.blocks block) in
+    let blocks = subst (λ (e : ℕ). AreBlocks mid.key (g.D.Disk.seen mid.disk) 72 (contents ++ found ∷ []) e) place (blocks_more mid.key (g.D.Disk.seen mid.disk) 72 contents mid.end found now.blocks block) in
     let after = reading_stays g.D.Disk _ _ contents second now in
     record {
       small = after.small;
