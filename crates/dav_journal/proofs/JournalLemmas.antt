@@ -1,5 +1,5 @@
 -- A journal that only reads.
-use Rattle.std.proofs.Common.{◌≡◌, ℕ, ◌<◌, ◌≤◌, List, [], ◌∷◌, ◌++◌, Vec, Option, Some, None, Result, Ok, Err, IfOk, OnOk, IsNone, IsTrue, MatchOption, length, slice_index, sym, ◌∙◌, ap, arith, rules}
+use Rattle.std.proofs.Common.{◌≡◌, ℕ, ◌<◌, ◌≤◌, List, [], ◌∷◌, ◌++◌, Vec, Option, Some, None, Result, Ok, Err, IfOk, OnOk, IsNone, IsTrue, MatchOption, length, slice_index, sym, ◌∙◌, ap, subst, arith}
 use Rattle.std.proofs.lemmas.List.{ext_get_or}
 use Rattle.std.specs.declared.alloc.Global.{Global}
 use Rattle.sqlite_disk.specs.Disk.{Follows, Holds}
@@ -7,11 +7,13 @@ use Rattle.dav_journal.specs.Write.{KeepsBelow}
 use Rattle.sqlite_disk.specs.declared.Disk.{Ghosts}
 use Rattle.dav_journal.specs.declared.error.JournalError.{JournalError}
 use Rattle.dav_journal.specs.declared.journal.Journal.{Journal}
-use Rattle.dav_journal.specs.Block.{IsNoBlock}
+use Rattle.dav_journal.specs.Block.{AreBlocks, IsNoBlock}
+use Rattle.dav_journal.specs.File.{Recovers}
 use Rattle.dav_journal.specs.Journal.{HasRead, IsKept, IsReading, Stays, blocks_end, blocks_len, disk_of}
 use Rattle.dav_journal.specs.Mark.{NoneMarkedPast}
 use Rattle.dav_journal.proofs.BlockLemmas.{blocks_le, rests_below}
-use Rattle.dav_journal.proofs.MarkLemmas.{blank_kept}
+use Rattle.dav_journal.proofs.MarkLemmas.{blank_kept, none_past}
+use Rattle.dav_journal.proofs.OneLemmas.{one_key, one_list}
 
 pub stays_then : {D : Type 0} (g : Ghosts D) (old mid new : Journal D) → Stays g old mid → Stays g mid new → Stays g old new
 stays_then g old mid new a b = record {
@@ -53,12 +55,14 @@ more_stays g old mid new contents first later r more =
 pub unmarked_stays : {D : Type 0} (g : Ghosts D) (mid new : Journal D) → Stays g mid new → NoneMarkedPast (g.seen mid.disk) mid.end → NoneMarkedPast (g.seen new.disk) new.end
 unmarked_stays g mid new s none = rw (s.reads.seen, s.end) none
 
-pub none_read : {D : Type 0} (g : Ghosts D) (old new : Journal D) (result : Result (Option (Vec ℕ Global)) JournalError) (A B : Type 0) → IfOk result (λ block. IsNone block) → OnOk result A → OnOk result B
-    → (A → B → IsTrue (g.is_clean (disk_of new)) → (contents : List (List ℕ)) → IsReading g old contents → HasRead g new contents)
-    → IfOk result (λ block. IsTrue (g.is_clean (disk_of new)) → (contents : List (List ℕ)) → IsReading g old contents → MatchOption block (HasRead g new contents) (λ b. IsReading g new (contents ++ b.items ∷ [])))
-none_read g old new (Ok None) A B none a b has = has a b
-none_read g old new (Ok (Some block)) A B none a b has = let no : ⊥ = search (rules, none) in absurd no
-none_read g old new (Err e) A B none a b has = none
+-- where no block follows, and yet the file doesn't end as it has to, it stands for nothing
+pub damage_stands : {D : Type 0} (g : Ghosts D) (j : Journal D) (contents others : List (List ℕ)) → IsReading g j contents → IsNoBlock j.key (g.seen j.disk) j.end → (NoneMarkedPast (g.seen j.disk) j.end → j.end < j.len → ⊥)
+    → Recovers (g.seen j.disk) others → ⊥
+damage_stands g j contents others reading nothing damaged r =
+    let file = g.seen j.disk in
+    let key = one_key file r.key j.key r.small reading.small r.front reading.front in
+    let end : r.end ≡ j.end = (one_list j.key file 72 others contents r.end j.end (subst (λ k. AreBlocks k file 72 others r.end) key r.blocks) reading.blocks (subst (λ k. IsNoBlock k file r.end) key r.nothing) nothing).1 in
+    damaged (subst (λ e. NoneMarkedPast file e) end (none_past file r.end r.marks)) (omega (arith, end, r.more, reading.whole))
 
 -- zeros were written behind the file
 pub kept_grown : {D : Type 0} (g : Ghosts D) (old : Journal D) (disk : D) (len : ℕ) (contents : List (List ℕ)) → g.may_leave old.disk (g.seen old.disk) → old.len ≤ len
@@ -81,3 +85,12 @@ kept_grown g old disk len contents stays low step others kept = record {
 -- all of a file was read
 pub whole_held : (file bytes : List ℕ) → length bytes ≡ length file → (0 < length bytes → Holds file 0 bytes) → bytes ≡ file
 whole_held file bytes long h = ext_get_or 0 bytes file long (λ i low. sym (ap (slice_index file) (omega arith) ∙ (h (omega (arith, low))).each i low))
+
+-- an error, whatever the result would have been
+moved : {A B E : Type 0} → E → Result A E → Result B E
+moved x (Ok a) = Err x
+moved x (Err e) = Err e
+
+pub err_moved : {A B E : Type 0} (x y : E) → ◌≡◌ {A = Result A E} (Err x) (Err y) → ◌≡◌ {A = Result B E} (Err x) (Err y)
+unfolding moved
+err_moved x y e = ap (moved x) e

@@ -1,4 +1,5 @@
 pub mod Block
+pub mod Error
 pub mod File
 pub mod Journal
 pub mod Mark

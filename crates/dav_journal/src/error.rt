@@ -24,12 +24,22 @@ pub enum JournalError {
 }
 
 impl From<AllocError> for JournalError {
+    ghost use Rattle.std.specs.Prelude.{◌≡◌};
+    ghost use Rattle.dav_journal.specs.declared.error.JournalError.TheVariants.{Memory};
+
+    ghost from_gives = { λ _ e. e ≡ Memory };
+
     fn from(_error: AllocError) -> JournalError {
         JournalError::Memory
     }
 }
 
 impl From<io::Error> for JournalError {
+    ghost use Rattle.std.specs.Prelude.{◌≡◌};
+    ghost use Rattle.dav_journal.specs.declared.error.JournalError.TheVariants.{Io};
+
+    ghost from_gives = { λ _ e. e ≡ Io };
+
     fn from(_error: io::Error) -> JournalError {
         JournalError::Io
     }

@@ -1,9 +1,11 @@
 //! A journal over a file.
-ghost use Rattle.std.specs.Prelude.{◌≡◌, ◌≢◌, ◌⊎◌, ◌≤◌, ◌<◌, ◌+◌, ◌^◌, ◌++◌, ◌∷◌, [], ℕ, List, Some, length, slice_index, IsTrue, IfOk, IfSome, OnOk, OnErr, IsNone, MatchOption};
+ghost use Rattle.std.specs.Prelude.{◌≡◌, ◌≢◌, ◌⊎◌, ◌≤◌, ◌<◌, ◌+◌, ◌^◌, ◌++◌, ◌∷◌, [], ℕ, List, Some, length, slice_index, IsTrue, IfOk, IfErr, IfNone, IfSome, OnOk, IsErrOf, IsNone, MatchOption};
 ghost use Rattle.sqlite_disk.specs.Disk.{Follows, Holds, Only, Torn};
-ghost use Rattle.dav_journal.specs.Block.{front_of, head_of, twice};
+ghost use Rattle.dav_journal.specs.Block.{IsBlock, IsNoBlock, front_of, head_of, twice};
 ghost use Rattle.dav_journal.specs.File.{IsBegun, Recovers};
 ghost use Rattle.dav_journal.specs.Mark.{IsLastMark, IsMark, IsMarkPlace, NoneMarkedPast};
+ghost use Rattle.dav_journal.specs.declared.error.JournalError.TheVariants.{Damaged};
+ghost use Rattle.dav_journal.specs.Error.{IsNoDamage};
 ghost use Rattle.dav_journal.specs.Journal.{HasRead, IsCleared, IsKept, IsReading, IsShut, IsWrittenBlock, LeavesAtMost, LeavesOnly, OnlyReads, Stays, blocks_end, blocks_len, disk_of};
 ghost use Rattle.dav_journal.specs.Write.{HasZeros, KeepsBelow};
 
@@ -110,23 +112,46 @@ impl<D: Disk + Drop> Journal<D> {
         ensures read { IfOk result (λ block. IsTrue (D.Disk.is_clean (disk_of self.new)) → (contents : List (List ℕ))
             → IsReading D.Disk self.old contents → MatchOption block (HasRead D.Disk self.new contents)
             (λ b. IsReading D.Disk self.new (contents ++ b.items ∷ []))) }
+        ensures damaged { (place : ℕ) → IsErrOf result (Damaged place) → IsTrue (D.Disk.is_clean (disk_of self.new))
+            → IsTrue (D.Disk.is_mixing (disk_of self.new)) → (contents : List (List ℕ))
+            → IsReading D.Disk self.old contents → (place ≡ blocks_end self.old)
+            × ((others : List (List ℕ)) → Recovers (D.Disk.seen (disk_of self.old)) others → ⊥) }
+    {
+        let Some(content) = self.block_here(alloc)? else {
+            self.see_end()?;
+            return Ok(None);
+        };
+        self.end += HEAD + content.len();
+        Ok(Some(content))
+    }
+
+    // The content of the block after those that were read; `None` where none is there.
+    fn block_here(&mut self, alloc: Global) -> Result<Option<Vec<u8>>, JournalError>
+        ensures sound { IfErr result IsNoDamage }
+        ensures stays { Stays D.Disk self.old self.new }
+        ensures fits { IfOk result (λ block. IfSome block (λ b.
+            blocks_end self.old + 49 + length b.items ≤ blocks_len self.old)) }
+        ensures read { IfOk result (λ block. IsTrue (D.Disk.is_clean (disk_of self.new))
+            → length (D.Disk.seen (disk_of self.old)) ≡ blocks_len self.old
+            → MatchOption block (IsNoBlock self.old.key (D.Disk.seen (disk_of self.old)) (blocks_end self.old))
+            (λ b. IsBlock self.old.key (D.Disk.seen (disk_of self.old)) (blocks_end self.old) b.items)) }
     {
         let Some(head) = self.next_head()? else {
-            return self.no_block();
+            return Ok(None);
         };
         let Some(len) = self.fitting(&head) else {
-            return self.no_block();
+            return Ok(None);
         };
         let content = self.content(alloc, len)?;
         if !is_head(alloc, self.key, self.end as u64, &head, &content)? {
-            return self.no_block();
+            return Ok(None);
         }
-        self.end += HEAD + len;
         Ok(Some(content))
     }
 
     // The bytes at the end of the blocks that were read, as many as a gate and a head have; `None` where the file has fewer.
     fn next_head(&mut self) -> Result<Option<[u8; HEAD]>, JournalError>
+        ensures sound { IfErr result IsNoDamage }
         ensures stays { Stays D.Disk self.old self.new }
         ensures head { IfOk result (λ head. MatchOption head (blocks_len self.old < blocks_end self.old + 49)
             (λ h. (length h ≡ 49) × (blocks_end self.old + 49 ≤ blocks_len self.old) × (IsTrue (D.Disk.is_clean (disk_of self.new))
@@ -149,6 +174,7 @@ impl<D: Disk + Drop> Journal<D> {
             → head.now ≡ 1 ∷ head_of key place content → blocks_end self.now + 49 + length content ≤ blocks_len self.now
             → result ≡ Some (length content) }
         ensures some { IfSome result (λ n. blocks_end self.now + 49 + n ≤ blocks_len self.now) }
+        ensures small { IfSome result (λ n. blocks_end self.now + 49 + n < 2 ^ 64) }
     {
         let len = usize::try_from(len_in(head)?).ok()?;
         let rest = self.len.checked_sub(self.end)?.checked_sub(HEAD)?;
@@ -158,6 +184,7 @@ impl<D: Disk + Drop> Journal<D> {
     // So many bytes after a head.
     fn content(&mut self, alloc: Global, len: usize) -> Result<Vec<u8>, JournalError>
         requires { blocks_end self.old + 49 + len < 2 ^ 64 }
+        ensures sound { IfErr result IsNoDamage }
         ensures stays { Stays D.Disk self.old self.new }
         ensures len { IfOk result (λ v. length v.items ≡ len) }
         ensures read { IfOk result (λ v. IsTrue (D.Disk.is_clean (disk_of self.new)) → 0 < len
@@ -172,25 +199,33 @@ impl<D: Disk + Drop> Journal<D> {
         Ok(content)
     }
 
-    // No block follows: what does is a torn one, or damage.
-    fn no_block(&mut self) -> Result<Option<Vec<u8>>, JournalError>
+    // Whether the blocks may end here, where no other follows: `Damaged` where one did.
+    fn see_end(&mut self) -> Result<(), JournalError>
         ensures stays { Stays D.Disk self.old self.new }
-        ensures none { IfOk result (λ block. IsNone block) }
         ensures more { OnOk result (blocks_end self.old < blocks_len self.old) }
         ensures unmarked { OnOk result (IsTrue (D.Disk.is_clean (disk_of self.new))
             → NoneMarkedPast (D.Disk.seen (disk_of self.old)) (blocks_end self.old)) }
+        ensures damaged { (place : ℕ) → IsErrOf result (Damaged place) → IsTrue (D.Disk.is_clean (disk_of self.new))
+            → IsTrue (D.Disk.is_mixing (disk_of self.new)) → (place ≡ blocks_end self.old)
+            × (NoneMarkedPast (D.Disk.seen (disk_of self.old)) (blocks_end self.old)
+            → blocks_end self.old < blocks_len self.old → ⊥) }
     {
-        if self.len <= self.end || self.last_mark()?.1 > self.end as u64 {
+        if self.len <= self.end {
+            return Err(JournalError::Damaged(self.end));
+        }
+        let (_, reached) = self.last_mark()?;
+        if reached > self.end as u64 {
             return Err(JournalError::Damaged(self.end));
         }
         if self.gate()? == OPEN && !self.disk.mixes() {
             return Err(JournalError::Damaged(self.end));
         }
-        Ok(None)
+        Ok(())
     }
 
     // The place and the number of the last mark of the file, 0 where it has none.
     fn last_mark(&mut self) -> Result<(usize, u64), JournalError>
+        ensures sound { IfErr result IsNoDamage }
         ensures stays { Stays D.Disk self.old self.new }
         ensures place { IfOk result (λ last. IsMarkPlace last.0) }
         ensures last { IfOk result (λ last. IsTrue (D.Disk.is_clean (disk_of self.new))
@@ -210,6 +245,7 @@ impl<D: Disk + Drop> Journal<D> {
 
     // The number of the mark at this place, 0 where there is none.
     fn mark_at(&mut self, place: usize) -> Result<u64, JournalError>
+        ensures sound { IfErr result IsNoDamage }
         ensures stays { Stays D.Disk self.old self.new }
         ensures some { IfOk result (λ n. IsTrue (D.Disk.is_clean (disk_of self.new)) → 0 < n
             → Holds (D.Disk.seen (disk_of self.old)) place (twice n)) }
@@ -226,6 +262,7 @@ impl<D: Disk + Drop> Journal<D> {
 
     // The gate at the end of the blocks.
     fn gate(&mut self) -> Result<u8, JournalError>
+        ensures sound { IfErr result IsNoDamage }
         ensures stays { Stays D.Disk self.old self.new }
         ensures gate { IfOk result (λ gate. IsTrue (D.Disk.is_clean (disk_of self.new))
             → slice_index (D.Disk.seen (disk_of self.old)) (blocks_end self.old) ≡ gate) }
@@ -236,6 +273,43 @@ impl<D: Disk + Drop> Journal<D> {
         let mut gate = [0u8; 1];
         self.disk.read_at(self.end, &mut gate)?;
         Ok(gate[0])
+    }
+
+    /// How many bytes `cut` drops: from the end of the blocks that were read to the last byte that isn't 0.
+    pub fn rest(&mut self) -> Result<usize, JournalError>
+        ensures stays { Stays D.Disk self.old self.new }
+    {
+        let mut piece = [0u8; PIECE];
+        let mut count = 0usize;
+        let mut at = self.end;
+        for _ in 0..u64::MAX {
+            let room = PIECE.min(self.len.saturating_sub(at));
+            let Some(window) = piece.get_mut(..room) else {
+                break;
+            };
+            if room == 0 {
+                break;
+            }
+            self.read(at, window)?;
+            if let Some(last) = last_byte(window) {
+                count = at.saturating_sub(self.end).saturating_add(last).saturating_add(1);
+            }
+            at = at.saturating_add(room);
+        }
+        Ok(count)
+    }
+
+    /// Reads bytes of the file from this place on.
+    pub fn read(&mut self, at: usize, piece: &mut [u8]) -> Result<(), JournalError>
+        ensures stays { Stays D.Disk self.old self.new }
+        ensures read { OnOk result (IsTrue (D.Disk.is_clean (disk_of self.new)) → 0 < length piece.old
+            → Holds (D.Disk.seen (disk_of self.old)) at piece.new) }
+    {
+        if !self.disk.may_be_used() {
+            return Err(JournalError::Io);
+        }
+        self.disk.read_at(at, piece)?;
+        Ok(())
     }
 
     /// Makes the end of the blocks that were read the end of the file: what follows is cut off. `Foreign` where the disk isn't mixing and the
@@ -535,6 +609,21 @@ impl<D: Disk + Drop> Journal<D> {
         self.end = end;
         Ok(())
     }
+}
+
+// Where the last byte is that isn't 0.
+fn last_byte(bytes: &[u8]) -> Option<usize>
+    ensures some { IfSome result (λ last. (i : ℕ) → last < i → slice_index bytes.now i ≡ 0) }
+    ensures none { IfNone result ((i : ℕ) → slice_index bytes.now i ≡ 0) }
+{
+    let mut rest = bytes;
+    while let [before @ .., last] = rest {
+        if *last != 0 {
+            return Some(before.len());
+        }
+        rest = before;
+    }
+    None
 }
 
 // Writes zeros from here up to a length: how far that went.

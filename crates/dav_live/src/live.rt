@@ -41,8 +41,8 @@ struct Pipe {
 }
 
 impl<D: Disk + Drop> Live<D> {
-    /// A server over the file of its journal: what it answers is as after the requests that the journal has. On an error the
-    /// file is as it was.
+    /// A server over the file of its journal: what it answers is as after the requests that the journal has. The file is as it was,
+    /// unless it was empty; `begin` comes next.
     pub fn open(
         alloc: Global,
         disk: D,
@@ -57,6 +57,21 @@ impl<D: Disk + Drop> Live<D> {
             slots: no_connections(alloc)?,
             service,
         })
+    }
+
+    /// Where the state's last whole block ends, and how many bytes follow that `begin` drops.
+    pub fn rest(&mut self) -> Result<(usize, usize), OpenError> {
+        self.service.rest()
+    }
+
+    /// Reads bytes of the state's file.
+    pub fn read(&mut self, at: usize, piece: &mut [u8]) -> Result<(), OpenError> {
+        self.service.read(at, piece)
+    }
+
+    /// Makes the state ready for requests.
+    pub fn begin(&mut self) -> Result<(), OpenError> {
+        self.service.begin()
     }
 
     /// Answers each whole report by one order, but for those that need none, and keeps what may have changed something
@@ -134,7 +149,7 @@ impl<D: Disk + Drop> Live<D> {
                 Ok(())
             }
             TICK => Ok(()),
-            OPENED => self.begin(report.slot, orders),
+            OPENED => self.connect(report.slot, orders),
             GONE => self.end(report.slot),
             GOT => self.go_on(report.slot, Some(bytes), orders),
             SENT => self.go_on(report.slot, None, orders),
@@ -143,7 +158,7 @@ impl<D: Disk + Drop> Live<D> {
     }
 
     // A connection came.
-    fn begin(&mut self, slot: u32, orders: &mut Vec<u8>) -> Result<(), Fault> {
+    fn connect(&mut self, slot: u32, orders: &mut Vec<u8>) -> Result<(), Fault> {
         match self.slots.get_mut(slot as usize) {
             Some(place) if place.is_none() => {
                 *place = Some(Peer::new(self.alloc));

@@ -10,10 +10,12 @@ ghost use Rattle.std.specs.Prelude.{◌≡◌};
 ghost use Rattle.dav_serve.specs.Status.{status_after};
 
 mod options;
+mod rest;
 mod watcher;
 
 use dav_live::{Fault, Live, OpenError, Users};
 use options::Options;
+use rest::keep_rest;
 use sqlite_disk::Files;
 use sqlite_std_file::{File, Unknown, open};
 use std::alloc::Global;
@@ -31,6 +33,8 @@ enum Refusal {
     Users,
     /// FOLDER/state can't be opened, or is in use.
     State,
+    /// What a start drops of FOLDER/state can't be kept beside.
+    Cut,
     /// The server can't begin.
     Open(OpenError),
 }
@@ -47,9 +51,11 @@ fn text_of(refusal: Refusal) -> &'static str {
         Refusal::Open(OpenError::Settings) =>
             "the prefix isn't one, or FOLDER/users has a line that isn't name:$5$.. (openssl passwd -5), or a name with control characters",
         Refusal::Open(OpenError::OtherPrefix) => "FOLDER/state was kept under another --prefix",
+        Refusal::Cut =>
+            "FOLDER/state.cut-N can't be written, so what a crash left in FOLDER/state isn't dropped; nothing was changed",
         Refusal::Open(OpenError::Foreign) =>
-            "FOLDER/state isn't a state of this version; nothing was changed",
-        Refusal::Open(OpenError::Damaged) => "FOLDER/state is damaged; nothing was changed",
+            "FOLDER/state isn't a state of this version, or its first bytes are damaged; nothing was changed",
+        Refusal::Open(OpenError::Damaged(_)) => "FOLDER/state is damaged; nothing was changed",
         Refusal::Open(OpenError::Disk) => "the disk failed or is full",
         Refusal::Open(OpenError::Memory) => "out of memory",
     }
@@ -59,8 +65,8 @@ fn text_of(refusal: Refusal) -> &'static str {
 fn status_of(refusal: Refusal) -> u8 {
     match refusal {
         Refusal::Open(OpenError::Memory) => 3,
-        Refusal::Open(OpenError::Foreign) | Refusal::Open(OpenError::Damaged) => 4,
-        Refusal::Open(OpenError::Disk) => 5,
+        Refusal::Open(OpenError::Foreign) | Refusal::Open(OpenError::Damaged(_)) => 4,
+        Refusal::Open(OpenError::Disk) | Refusal::Cut => 5,
         _ => 1,
     }
 }
@@ -106,8 +112,13 @@ fn open_live(rt: &HostRuntime, alloc: Global, options: Options) -> Result<Live<F
         return Err(Refusal::State);
     };
     let Files { db, log: _ } = files;
-    match Live::open(alloc, db, users, settings) {
-        Ok(live) => Ok(live),
+    let mut live = match Live::open(alloc, db, users, settings) {
+        Ok(live) => live,
+        Err(error) => return Err(Refusal::Open(error)),
+    };
+    keep_rest(rt, alloc, folder.as_str(), &mut live)?;
+    match live.begin() {
+        Ok(()) => Ok(live),
         Err(error) => Err(Refusal::Open(error)),
     }
 }
@@ -135,7 +146,10 @@ fn main(rt: HostRuntime) -> ExitCode {
         Err(refusal) => {
             let text = text_of(refusal);
             // A failed write to standard error can't be reported anywhere.
-            let _ = eprintln!(rt; "dav-serve: {text}");
+            let _ = match refusal {
+                Refusal::Open(OpenError::Damaged(place)) => eprintln!(rt; "dav-serve: {text} (byte {place})"),
+                _ => eprintln!(rt; "dav-serve: {text}"),
+            };
             ExitCode::from(status_of(refusal))
         }
     }
