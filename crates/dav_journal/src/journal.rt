@@ -16,6 +16,9 @@ use crate::write::{write_once, write_twice};
 use sqlite_disk::{Crash, Disk};
 use std::alloc::Global;
 
+#[cfg(test)]
+mod tests;
+
 /// So much room is made at once, where the disk has it.
 const ROOM: usize = 1_048_576;
 
