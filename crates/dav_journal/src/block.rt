@@ -1,28 +1,30 @@
-//! The heads of blocks, and of the file.
-ghost use Rattle.std.specs.Prelude.{◌≡◌, ◌≢◌, ◌≤◌, ◌<◌, ◌^◌, ◌++◌, ℕ, List, Some, length, take, IfSome};
-ghost use Rattle.std.specs.Int.{w64, from_be_bytes};
-ghost use Rattle.dav_journal.specs.Block.{digest_at, front_of, head_of_block};
+//! The bytes of blocks, and of the front of the file.
+ghost use Rattle.std.specs.Prelude.{◌≡◌, ◌≢◌, ◌≤◌, ◌<◌, ◌^◌, ◌++◌, ◌∷◌, [], ℕ, List, Some, length, replicate, IfSome, IfNone, IfOk, OnOk, IsTrue, ◌↔◌};
+ghost use Rattle.std.specs.Int.{w64, from_be_bytes, to_be_bytes};
+ghost use Rattle.dav_journal.specs.Block.{block_bytes, digest_at, front_of, head_of, twice, zeros_in};
+ghost use Rattle.dav_journal.specs.File.{AreZeros, IsBegun};
 
 use sqlite_disk::digest_of;
+use std::alloc::{AllocError, Global};
 
-/// The bytes of a block's head: the length of its content, the digest of its content, the digest of this and of its place.
-pub const HEAD: usize = 24;
+/// The bytes of a block's gate and head: the gate, the length of its content and how many of its bytes are 0, each with its
+/// complement, the digest of its content, the digest of the length, of that digest and of the place.
+pub const HEAD: usize = 49;
 
-/// The bytes in front of the first block: what the file is, and the key of its digests.
-pub const FRONT: usize = 16;
+/// The first bytes of a file: its version, and the key of its digests with its complement.
+pub const FRONT: usize = 24;
+
+/// Where the first block begins, after the front and three marks of 16 bytes.
+pub const START: usize = 72;
 
 /// What a file of this version begins with.
-pub const MARK: [u8; 8] = *b"vuldarg1";
+const VERSION: [u8; 8] = *b"vuldarg2";
 
-/// A block's head.
-#[derive(Clone, Copy, Debug, PartialEq, Eq)]
-pub struct Head {
-    pub len: u64,
-    pub digest: u64,
-}
+/// The gate of a block that counts.
+pub const OPEN: u8 = 1;
 
 // Eight bytes as a number.
-fn number(bytes: &[u8]) -> u64
+pub fn number(bytes: &[u8]) -> u64
     ensures { length bytes.now ≡ 8 → result ≡ from_be_bytes w64 bytes.now }
 {
     match bytes {
@@ -31,78 +33,173 @@ fn number(bytes: &[u8]) -> u64
     }
 }
 
-// The digest that a head at this place has at its end.
-fn digest_of_head(key: u64, place: u64, head: &Head) -> u64
-    ensures { result ≡ digest_at key place head.now.len head.now.digest }
+// How many of the bytes are 0.
+fn zeros_of(bytes: &[u8]) -> u64
+    ensures value { result ≡ zeros_in bytes.now }
+    ensures few { result ≤ length bytes.now }
 {
-    let (at, len, digest) = (
-        place.to_be_bytes(),
-        head.len.to_be_bytes(),
-        head.digest.to_be_bytes(),
-    );
+    let mut count = 0u64;
+    let mut rest = bytes;
+    while let [first, after @ ..] = rest {
+        if *first == 0 {
+            count += 1;
+        }
+        rest = after;
+    }
+    count
+}
+
+// The digest that a head at this place has at its end.
+fn digest_of_head(key: u64, place: u64, len: u64, told: u64) -> u64
+    ensures { result ≡ digest_at key place len told }
+{
+    let (at, len, told) = (place.to_be_bytes(), len.to_be_bytes(), told.to_be_bytes());
     let mut bytes = [0u8; 24];
     bytes[..8].copy_from_slice(&at);
     bytes[8..16].copy_from_slice(&len);
-    bytes[16..].copy_from_slice(&digest);
+    bytes[16..].copy_from_slice(&told);
     digest_of(key, &bytes)
 }
 
-// The bytes of a head at this place.
-pub fn head_bytes(key: u64, place: u64, head: &Head) -> [u8; 24]
-    ensures { result ≡ head_of_block key place head.now.len head.now.digest }
+// Adds a number and its complement.
+fn add_twice(out: &mut Vec<u8>, n: u64) -> Result<(), AllocError>
+    ensures { OnOk result (out.new.items ≡ out.old.items ++ twice n) }
 {
-    let mut bytes = [0u8; 24];
-    bytes[..8].copy_from_slice(&head.len.to_be_bytes());
-    bytes[8..16].copy_from_slice(&head.digest.to_be_bytes());
-    bytes[16..].copy_from_slice(&digest_of_head(key, place, head).to_be_bytes());
+    out.extend_from_slice(&n.to_be_bytes())?;
+    out.extend_from_slice(&(u64::MAX - n).to_be_bytes())?;
+    Ok(())
+}
+
+// Adds two digests.
+fn add_digests(out: &mut Vec<u8>, told: u64, own: u64) -> Result<(), AllocError>
+    ensures { OnOk result (out.new.items
+        ≡ out.old.items ++ (to_be_bytes w64 told ++ to_be_bytes w64 own)) }
+{
+    out.extend_from_slice(&told.to_be_bytes())?;
+    out.extend_from_slice(&own.to_be_bytes())
+}
+
+// Adds the head of a block with this content at this place.
+pub fn add_head(
+    out: &mut Vec<u8>,
+    key: u64,
+    place: u64,
+    content: &[u8],
+) -> Result<(), AllocError>
+    ensures { OnOk result (out.new.items ≡ out.old.items ++ head_of key place content.now) }
+{
+    let len = content.len() as u64;
+    let told = digest_of(key, content);
+    add_twice(out, len)?;
+    add_twice(out, zeros_of(content))?;
+    add_digests(out, told, digest_of_head(key, place, len, told))
+}
+
+// The bytes of a block with this content at this place, and the gate after it, which is shut.
+pub fn bytes_of(
+    alloc: Global,
+    key: u64,
+    place: u64,
+    content: &[u8],
+) -> Result<Vec<u8>, AllocError>
+    ensures { IfOk result (λ v. v.items ≡ block_bytes key place content.now ++ 0 ∷ []) }
+{
+    let mut bytes = Vec::new(alloc);
+    bytes.push(OPEN)?;
+    add_head(&mut bytes, key, place, content)?;
+    bytes.extend_from_slice(content)?;
+    bytes.push(0)?;
+    Ok(bytes)
+}
+
+// Whether these are the gate and the head of a block with this content at this place.
+pub fn is_head(
+    alloc: Global,
+    key: u64,
+    place: u64,
+    head: &[u8],
+    content: &[u8],
+) -> Result<bool, AllocError>
+    ensures { IfOk result (λ b. IsTrue b ↔ (head.now ≡ 1 ∷ head_of key place content.now)) }
+{
+    let mut wanted = Vec::new(alloc);
+    wanted.push(OPEN)?;
+    add_head(&mut wanted, key, place, content)?;
+    Ok(wanted.as_slice() == head)
+}
+
+// The length that a gate and a head tell.
+pub fn len_in(head: &[u8]) -> Option<u64>
+    ensures { (key place : ℕ) (content : List ℕ) → length content < 2 ^ 64
+        → head.now ≡ 1 ∷ head_of key place content → result ≡ Some (length content) }
+{
+    Some(number(head.get(1..9)?))
+}
+
+// A number and its complement.
+pub fn twice_bytes(n: u64) -> [u8; 16]
+    ensures { result ≡ twice n }
+{
+    let mut bytes = [0u8; 16];
+    bytes[..8].copy_from_slice(&n.to_be_bytes());
+    bytes[8..].copy_from_slice(&(u64::MAX - n).to_be_bytes());
     bytes
 }
 
-// The head that these bytes are at this place, if they are one.
-pub fn head_at(key: u64, place: u64, bytes: &[u8]) -> Option<Head>
-    ensures whole { IfSome result (λ h. take 24 bytes.now
-        ≡ head_of_block key place h.len h.digest) }
-    ensures back { (len told : ℕ) (rest : List ℕ) → len ≢ 0 → len < 2 ^ 64 → told < 2 ^ 64
-        → bytes.now ≡ head_of_block key place len told ++ rest
-        → result ≡ Some (record { len = len; digest = told }) }
-{
-    let len = number(bytes.get(..8)?);
-    let digest = number(bytes.get(8..16)?);
-    let told = number(bytes.get(16..24)?);
-    let head = Head { len, digest };
-    if len == 0 {
-        return None;
-    }
-    if digest_of_head(key, place, &head) != told {
-        return None;
-    }
-    Some(head)
-}
-
-// The bytes in front of the first block, of a file with this key.
-pub fn front_bytes(key: u64) -> [u8; 16]
+// The front of a file with this key.
+fn front_bytes(key: u64) -> [u8; FRONT]
     ensures { result ≡ front_of key }
 {
-    let mut bytes = [0u8; 16];
-    bytes[..8].copy_from_slice(&MARK);
-    bytes[8..].copy_from_slice(&key.to_be_bytes());
+    let mut bytes = [0u8; FRONT];
+    bytes[..8].copy_from_slice(&VERSION);
+    bytes[8..].copy_from_slice(&twice_bytes(key));
     bytes
 }
 
 // The key of a file that begins with these bytes.
-pub fn key_in(front: &[u8]) -> Option<u64>
-    ensures { (key : ℕ) (rest : List ℕ) → key < 2 ^ 64
-        → front.now ≡ front_of key ++ rest → result ≡ Some key }
+pub fn key_in(front: &[u8; FRONT]) -> Option<u64>
+    ensures some { IfSome result (λ key. front.now ≡ front_of key) }
+    ensures none { IfNone result ((key : ℕ) → key < 2 ^ 64 → front.now ≢ front_of key) }
 {
-    if front.get(..8)? != MARK.as_slice() {
-        return None;
+    let key = number(&front[8..16]);
+    if *front == front_bytes(key) {
+        Some(key)
+    } else {
+        None
     }
-    Some(number(front.get(8..16)?))
 }
 
-// Whether bytes that are fewer than a front can be what a crash left of one.
-pub fn is_begun(bytes: &[u8]) -> bool {
-    let known = MARK.as_slice();
-    let shown = bytes.get(..8).unwrap_or(bytes);
-    bytes.iter().all(|byte| *byte == 0) || known.starts_with(shown)
+// A new file with this key: the front, no marks, and a shut gate.
+pub fn new_bytes(key: u64) -> [u8; START + 1]
+    ensures { result ≡ front_of key ++ replicate 49 0 }
+{
+    let mut bytes = [0u8; START + 1];
+    bytes[..FRONT].copy_from_slice(&front_bytes(key));
+    bytes
+}
+
+// Whether all of the bytes are 0.
+fn are_zeros(bytes: &[u8]) -> bool
+    ensures { IsTrue result ↔ AreZeros bytes.now }
+{
+    zeros_of(bytes) == bytes.len() as u64
+}
+
+// Whether a crash may have left these bytes of the first write of a file.
+pub fn is_begun(bytes: &[u8]) -> bool
+    ensures { IsTrue result ↔ IsBegun bytes.now }
+{
+    if bytes.len() > START + 1 {
+        return false;
+    }
+    if are_zeros(bytes) {
+        return true;
+    }
+    if bytes.len() < VERSION.len() {
+        return bytes == &VERSION[..bytes.len()];
+    }
+    if &bytes[..8] != VERSION.as_slice() {
+        return false;
+    }
+    bytes.len() <= FRONT || are_zeros(&bytes[FRONT..])
 }

@@ -15,21 +15,31 @@ pub enum JournalError {
     /// The file isn't a journal of this version.
     #[error("Foreign")]
     Foreign,
-    /// A block is damaged, and blocks follow it.
+    /// No block is at this place, and one was.
     #[error("Damaged")]
-    Damaged,
+    Damaged(usize),
     /// Memory ran out.
     #[error("Memory")]
     Memory,
 }
 
 impl From<AllocError> for JournalError {
+    ghost use Rattle.std.specs.Prelude.{◌≡◌};
+    ghost use Rattle.dav_journal.specs.declared.error.JournalError.TheVariants.{Memory};
+
+    ghost from_gives = { λ _ e. e ≡ Memory };
+
     fn from(_error: AllocError) -> JournalError {
         JournalError::Memory
     }
 }
 
 impl From<io::Error> for JournalError {
+    ghost use Rattle.std.specs.Prelude.{◌≡◌};
+    ghost use Rattle.dav_journal.specs.declared.error.JournalError.TheVariants.{Io};
+
+    ghost from_gives = { λ _ e. e ≡ Io };
+
     fn from(_error: io::Error) -> JournalError {
         JournalError::Io
     }

@@ -1,12 +1,11 @@
 //! A file to which blocks are appended, each with its length and digests, and from which they are read again.
-//!
-//! A block is kept once `commit` has answered. Of a block that was appended and not committed a crash leaves the whole or a part;
-//! a part at the end of the file is found and cut off, anything else that isn't a block is damage.
 #![tactic(auto)]
 
 mod block;
 mod error;
 mod journal;
+mod mark;
+mod write;
 
 pub use error::JournalError;
-pub use journal::Journal;
+pub use journal::{Journal, keep_and_crash};

@@ -46,9 +46,9 @@ pub enum OpenError {
     /// The file isn't a state of this version.
     #[error("Foreign")]
     Foreign,
-    /// The state is damaged, or a request is answered otherwise than it was.
+    /// The state is damaged at this place, or the request there is answered otherwise than it was.
     #[error("Damaged")]
-    Damaged,
+    Damaged(usize),
     /// The disk failed or is full.
     #[error("Disk")]
     Disk,
@@ -95,7 +95,7 @@ impl From<JournalError> for OpenError {
         match error {
             JournalError::Io | JournalError::NoRoom => OpenError::Disk,
             JournalError::Foreign => OpenError::Foreign,
-            JournalError::Damaged => OpenError::Damaged,
+            JournalError::Damaged(place) => OpenError::Damaged(place),
             JournalError::Memory => OpenError::Memory,
         }
     }

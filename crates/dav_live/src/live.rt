@@ -53,21 +53,37 @@ struct Pipe {
 }
 
 impl<D: Disk + Drop> Live<D> {
-    /// A server over the file of its journal: what it answers is as after the requests that the journal has. On an error the
-    /// file is as it was.
+    /// A server over the file of its journal: what it answers is as after the requests that the journal has. The file is as it was,
+    /// unless it was empty; `begin` comes next.
     pub fn open(
         alloc: Global,
         disk: D,
         users: Option<Users>,
         settings: Settings,
     ) -> Result<Live<D>, OpenError> {
-        let journal = Journal::open(disk)?;
+        let mut journal = Journal::new(disk);
+        journal.open()?;
         let service = Service::open(alloc, journal, users, settings)?;
         Ok(Live {
             alloc,
             slots: no_connections(alloc)?,
             service,
         })
+    }
+
+    /// Where the state's last whole block ends, and how many bytes follow that `begin` drops.
+    pub fn rest(&mut self) -> Result<(usize, usize), OpenError> {
+        self.service.rest()
+    }
+
+    /// Reads bytes of the state's file.
+    pub fn read(&mut self, at: usize, piece: &mut [u8]) -> Result<(), OpenError> {
+        self.service.read(at, piece)
+    }
+
+    /// Makes the state ready for requests.
+    pub fn begin(&mut self) -> Result<(), OpenError> {
+        self.service.begin()
     }
 
     /// Answers each whole report by one order, but for those that need none, and keeps what may have changed something
@@ -149,7 +165,7 @@ impl<D: Disk + Drop> Live<D> {
             }
             TICK => Ok(()),
             USERS => Ok(self.service.hear_users(bytes)?),
-            OPENED => self.begin(report.slot, bytes, orders),
+            OPENED => self.connect(report.slot, bytes, orders),
             GONE => self.end(report.slot),
             GOT => self.go_on(report.slot, Some(bytes), orders),
             SENT => self.go_on(report.slot, None, orders),
@@ -158,7 +174,7 @@ impl<D: Disk + Drop> Live<D> {
     }
 
     // A connection came from this address.
-    fn begin(&mut self, slot: u32, address: &[u8], orders: &mut Vec<u8>) -> Result<(), Fault> {
+    fn connect(&mut self, slot: u32, address: &[u8], orders: &mut Vec<u8>) -> Result<(), Fault> {
         let address = String::from_str(self.alloc, str::from_utf8(address).unwrap_or("?"))?;
         match self.slots.get_mut(slot as usize) {
             Some(place) if place.is_none() => {

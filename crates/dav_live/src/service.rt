@@ -42,6 +42,8 @@ pub struct Service<D: Disk> {
     users: Option<Users>,
     handler: Handler,
     journal: Journal<D>,
+    /// Whether the journal has no block.
+    is_new: bool,
     /// The records since the last commit.
     batch: Vec<u8>,
     leases: Vec<Lease>,
@@ -82,6 +84,7 @@ impl<D: Disk + Drop> Service<D> {
             users,
             handler,
             journal,
+            is_new: true,
             batch: Vec::new(alloc),
             leases: Vec::new(alloc),
             tokens: 0,
@@ -96,52 +99,67 @@ impl<D: Disk + Drop> Service<D> {
         Ok(service)
     }
 
-    // Plays what the journal has, and cuts off what isn't whole.
+    // Plays what the journal has.
     fn replay(&mut self) -> Result<(), OpenError> {
         let Some(prefix) = self.journal.next(self.alloc)? else {
-            return self.begin();
+            return Ok(());
         };
+        self.is_new = false;
         if prefix.as_slice() != kept_prefix(self.settings.prefix.as_str()) {
             return Err(OpenError::OtherPrefix);
         }
         for _ in 0..u64::MAX {
+            let place = self.journal.len();
             let Some(block) = self.journal.next(self.alloc)? else {
                 break;
             };
-            self.play_block(&block)?;
+            self.play_block(&block, place)?;
         }
-        self.journal.cut()?;
         Ok(())
     }
 
-    // Begins an empty journal: its first block is the prefix.
-    fn begin(&mut self) -> Result<(), OpenError> {
+    /// How many bytes of the state's file `begin` drops, after the last whole block and where: what a crash left of one that
+    /// was never answered. 0 where none follow but zeros.
+    pub fn rest(&mut self) -> Result<(usize, usize), OpenError> {
+        let count = self.journal.rest()?;
+        Ok((self.journal.len(), count))
+    }
+
+    /// Reads bytes of the state's file.
+    pub fn read(&mut self, at: usize, piece: &mut [u8]) -> Result<(), OpenError> {
+        Ok(self.journal.read(at, piece)?)
+    }
+
+    /// Makes the state ready for requests: drops what isn't whole. The first block of a new one is the prefix.
+    pub fn begin(&mut self) -> Result<(), OpenError> {
         self.journal.cut()?;
+        if !self.is_new {
+            return Ok(());
+        }
         let prefix = kept_prefix(self.settings.prefix.as_str());
         self.journal.room(prefix.len())?;
-        self.journal.append(prefix)?;
-        self.journal.commit()?;
+        self.journal.keep(self.alloc, prefix)?;
         Ok(())
     }
 
-    // Plays the records of a block.
-    fn play_block(&mut self, block: &[u8]) -> Result<(), OpenError> {
+    // Plays the records of the block at this place.
+    fn play_block(&mut self, block: &[u8], place: usize) -> Result<(), OpenError> {
         let mut rest = block;
         for _ in 0..block.len() {
             if rest.is_empty() {
                 break;
             }
             let Some((record, after)) = Record::read(rest) else {
-                return Err(OpenError::Damaged);
+                return Err(OpenError::Damaged(place));
             };
-            self.play(&record)?;
+            self.play(&record, place)?;
             rest = after;
         }
         Ok(())
     }
 
     // Plays a record: the reply has to have the status that it had.
-    fn play(&mut self, record: &Record<'_>) -> Result<(), OpenError> {
+    fn play(&mut self, record: &Record<'_>, place: usize) -> Result<(), OpenError> {
         self.moment = self.moment.max(record.moment);
         if record.token.is_some() {
             self.tokens = self.tokens.saturating_add(1);
@@ -151,7 +169,7 @@ impl<D: Disk + Drop> Service<D> {
         if reply.status.as_u16() == record.status {
             Ok(())
         } else {
-            Err(OpenError::Damaged)
+            Err(OpenError::Damaged(place))
         }
     }
 
@@ -271,11 +289,14 @@ impl<D: Disk + Drop> Service<D> {
         if self.batch.is_empty() {
             return Ok(());
         }
-        if self.journal.append(&self.batch).is_err() || self.journal.commit().is_err() {
-            return Err(Fault::Disk);
+        match self.journal.keep(self.alloc, &self.batch) {
+            Ok(()) => {
+                self.batch.clear();
+                Ok(())
+            }
+            Err(JournalError::Memory) => Err(Fault::Memory),
+            Err(_) => Err(Fault::Disk),
         }
-        self.batch.clear();
-        Ok(())
     }
 
     /// Why an answer stopped the server.

@@ -10,82 +10,21 @@ ghost use Rattle.std.specs.Prelude.{◌≡◌};
 ghost use Rattle.dav_serve.specs.Status.{status_after};
 
 mod options;
+mod refusal;
+mod rest;
 mod watcher;
 
-use dav_live::{Fault, Live, OpenError, Users, UsersError};
-use options::{Options, OptionsError};
+use dav_live::{Fault, Live, Users, UsersError};
+use options::Options;
+use refusal::{Refusal, refused, status_of};
+use rest::keep_rest;
 use sqlite_disk::Files;
 use sqlite_std_file::{File, Unknown, open};
-use std::alloc::{AllocError, Global};
+use std::alloc::Global;
 use std::process::ExitCode;
 use std::rt::Runtime;
 use std::{env, fs, io};
-use thiserror::Error;
 use watcher::Watcher;
-
-/// Why the program can't begin.
-#[derive(Debug, Drop, Error)]
-enum Refusal {
-    /// The arguments are wrong.
-    #[error("{0}")]
-    Options(OptionsError),
-    /// The prefix is none.
-    #[error("--prefix: '{0}' isn't a path as /dav or /team/files")]
-    Prefix(String),
-    /// The users of the folder can't be read.
-    #[error("{0}/users can't be read")]
-    UsersFile(String),
-    /// The users of the folder aren't such a list.
-    #[error("{0}/users: {1}")]
-    Users(String, UsersError),
-    /// The state of the folder can't be opened, or is in use.
-    #[error("{0}/state can't be opened: the folder is missing, or another server has it")]
-    State(String),
-    /// The server of the folder can't begin.
-    #[error("{0}/state {1}")]
-    Open(String, &'static str, OpenError),
-    /// Memory ran out.
-    #[error("out of memory")]
-    Memory,
-}
-
-impl From<OptionsError> for Refusal {
-    fn from(error: OptionsError) -> Refusal {
-        match error {
-            OptionsError::Memory => Refusal::Memory,
-            error => Refusal::Options(error),
-        }
-    }
-}
-
-impl From<AllocError> for Refusal {
-    fn from(_error: AllocError) -> Refusal {
-        Refusal::Memory
-    }
-}
-
-// Why the server of a folder with this prefix can't begin.
-fn refused(folder: String, prefix: String, error: OpenError) -> Refusal {
-    let text = match error {
-        OpenError::Settings => return Refusal::Prefix(prefix),
-        OpenError::Memory => return Refusal::Memory,
-        OpenError::OtherPrefix => "was kept under another --prefix",
-        OpenError::Foreign => "isn't a state of this version; nothing was changed",
-        OpenError::Damaged => "is damaged; nothing was changed",
-        OpenError::Disk => "can't be read or written: the disk failed or is full",
-    };
-    Refusal::Open(folder, text, error)
-}
-
-// The exit status of a refusal.
-fn status_of(refusal: &Refusal) -> u8 {
-    match refusal {
-        Refusal::Memory => 3,
-        Refusal::Open(_, _, OpenError::Foreign) | Refusal::Open(_, _, OpenError::Damaged) => 4,
-        Refusal::Open(_, _, OpenError::Disk) => 5,
-        _ => 1,
-    }
-}
 
 // The exit status of a server that ended.
 fn status_after(fault: Fault) -> u8
@@ -127,8 +66,13 @@ fn open_live(rt: &HostRuntime, alloc: Global, options: Options) -> Result<Live<F
     };
     let Files { db, log: _ } = files;
     let prefix = settings.prefix.clone()?;
-    match Live::open(alloc, db, users, settings) {
-        Ok(live) => Ok(live),
+    let mut live = match Live::open(alloc, db, users, settings) {
+        Ok(live) => live,
+        Err(error) => return Err(refused(folder, prefix, error)),
+    };
+    keep_rest(rt, alloc, folder.as_str(), &mut live)?;
+    match live.begin() {
+        Ok(()) => Ok(live),
         Err(error) => Err(refused(folder, prefix, error)),
     }
 }

@@ -1,0 +1,31 @@
+use Rattle.std.proofs.Common.{List, ℕ, replicate, subst, sym, refl, inl, arith}
+use Rattle.sqlite_disk.specs.Disk.{Holds, Only}
+use Rattle.dav_journal.proofs.BlockLemmas.{blocks_le}
+use Rattle.dav_journal.proofs.FrontLemmas.{all_blank, cleared_left, read_cleared}
+use Rattle.dav_journal.proofs.MarkLemmas.{KeepsOthers, blank_mark, torn_others}
+use Rattle.dav_journal.proofs.journal.Journal.clear_all.Goals as goal
+
+pub returns-in_err-write_at-clause-any_moment : goal.returns-in_err-write_at-clause-any_moment
+returns-in_err-write_at-clause-any_moment g c mixing contents leaves left may =
+    let (before, was, step) = c.write_at.ensures.mixed mixing (omega arith) left may in
+    cleared_left 24 48 before left contents (omega arith) (omega arith) (leaves before was) step
+
+pub returns-in_err-sync-clause-any_moment : goal.returns-in_err-sync-clause-any_moment
+returns-in_err-sync-clause-any_moment g c mixing contents leaves left may =
+    let (before, was, step) = c.write_at.ensures.mixed mixing (omega arith) left (c.sync.ensures.crash left may) in
+    cleared_left 24 48 before left contents (omega arith) (omega arith) (leaves before was) step
+
+pub returns-clause-any_moment : goal.returns-clause-any_moment
+returns-clause-any_moment g c mixing contents leaves left may =
+    let (before, was, step) = c.write_at.ensures.mixed mixing (omega arith) left (c.sync.ensures.crash left may) in
+    cleared_left 24 48 before left contents (omega arith) (omega arith) (leaves before was) step
+
+pub returns-clause-cleared : goal.returns-clause-cleared
+returns-clause-cleared g c contents r =
+    let j = c.args.self.now in
+    let far = blocks_le j.key _ 72 contents j.end r.reading.blocks in
+    let others = torn_others 24 48 (g.D.Disk.seen j.disk) (g.D.Disk.seen c.write_at.new.self) (omega arith) (omega arith) (omega (arith, far, r.more)) c.write_at.ensures.others in
+    let kept : KeepsOthers (g.D.Disk.seen j.disk) (g.D.Disk.seen c.sync.new.self) = subst (λ (f : List ℕ). KeepsOthers (g.D.Disk.seen j.disk) f) (sym c.sync.ensures.seen) others in
+    let zeros : Holds (g.D.Disk.seen c.sync.new.self) 24 (replicate 48 0) = subst (λ (f : List ℕ). Holds f 24 (replicate 48 0)) (sym c.sync.ensures.seen) (c.in_ok-write_at.ensures.written (omega arith)) in
+    let only : Only (g.D.Disk.seen c.sync.new.self) (g.D.Disk.may_leave c.sync.new.self) = subst (λ (f : List ℕ). Only f (g.D.Disk.may_leave c.sync.new.self)) (sym c.sync.ensures.seen) c.in_ok-sync.ensures.durable in
+    read_cleared g.D.Disk j _ contents r kept only refl refl refl (λ at is. blank_mark _ _ at (all_blank _ at zeros is)) (inl refl) (all_blank _ 24 zeros (inl refl))

@@ -1,0 +1,80 @@
+//! Why the program can't begin.
+use crate::options::OptionsError;
+use dav_live::{OpenError, UsersError};
+use std::alloc::AllocError;
+use thiserror::Error;
+
+/// Why the program can't begin.
+#[derive(Debug, Drop, Error)]
+pub enum Refusal {
+    /// The arguments are wrong.
+    #[error("{0}")]
+    Options(OptionsError),
+    /// The prefix is none.
+    #[error("--prefix: '{0}' isn't a path as /dav or /team/files")]
+    Prefix(String),
+    /// The users of the folder can't be read.
+    #[error("{0}/users can't be read")]
+    UsersFile(String),
+    /// The users of the folder aren't such a list.
+    #[error("{0}/users: {1}")]
+    Users(String, UsersError),
+    /// The state of the folder can't be opened, or is in use.
+    #[error("{0}/state can't be opened: the folder is missing, or another server has it")]
+    State(String),
+    /// The state of the folder was kept under another prefix.
+    #[error("{0}/state was kept under another --prefix")]
+    OtherPrefix(String),
+    /// The state of the folder is of another version.
+    #[error("{0}/state isn't a state of this version, or its first bytes are damaged; nothing was changed")]
+    Foreign(String),
+    /// The state of the folder is damaged at this place.
+    #[error("{0}/state is damaged at byte {1}; nothing was changed")]
+    Damaged(String, usize),
+    /// What a start drops of the state can't be kept beside.
+    #[error("{0}/state.cut-N can't be written, so what a crash left in {0}/state isn't dropped; nothing was changed")]
+    Cut(String),
+    /// The disk failed or is full.
+    #[error("{0}/state can't be read or written: the disk failed or is full")]
+    Disk(String),
+    /// Memory ran out.
+    #[error("out of memory")]
+    Memory,
+}
+
+impl From<OptionsError> for Refusal {
+    fn from(error: OptionsError) -> Refusal {
+        match error {
+            OptionsError::Memory => Refusal::Memory,
+            error => Refusal::Options(error),
+        }
+    }
+}
+
+impl From<AllocError> for Refusal {
+    fn from(_error: AllocError) -> Refusal {
+        Refusal::Memory
+    }
+}
+
+// Why the server of a folder with this prefix can't begin.
+pub fn refused(folder: String, prefix: String, error: OpenError) -> Refusal {
+    match error {
+        OpenError::Settings => Refusal::Prefix(prefix),
+        OpenError::OtherPrefix => Refusal::OtherPrefix(folder),
+        OpenError::Foreign => Refusal::Foreign(folder),
+        OpenError::Damaged(place) => Refusal::Damaged(folder, place),
+        OpenError::Disk => Refusal::Disk(folder),
+        OpenError::Memory => Refusal::Memory,
+    }
+}
+
+// The exit status of a refusal.
+pub fn status_of(refusal: &Refusal) -> u8 {
+    match refusal {
+        Refusal::Memory => 3,
+        Refusal::Foreign(_) | Refusal::Damaged(_, _) => 4,
+        Refusal::Cut(_) | Refusal::Disk(_) => 5,
+        _ => 1,
+    }
+}
