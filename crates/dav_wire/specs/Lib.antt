@@ -1,0 +1,5 @@
+pub mod Exchange
+pub mod Refusals
+pub mod History
+pub mod Place
+pub mod Peer
