@@ -1,2 +1,4 @@
 pub mod Bodies
+pub mod Replies
+pub mod Runs
 pub mod Streams

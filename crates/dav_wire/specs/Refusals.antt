@@ -2,7 +2,6 @@
 use Rattle.std.specs.Prelude.{◌≡◌, ◌≢◌, ℕ, ◌<◌, ◌⊎◌, ◌||◌, ◌==◌, Bool, List, [], ◌∷◌, length, codes, if◌then◌else◌, IsTrue}
 use Rattle.http1.specs.declared.conn.Limits.{Limits}
 use Rattle.http1.specs.ReadError.{status_of}
-use Rattle.http1.specs.Conn.{connection_header, length_header}
 use Rattle.http1.specs.Head.{response_text}
 use Rattle.http1_typed.specs.Parts.{reason_of}
 use Rattle.http_server.specs.History.{HasNoMessage, NextIs, HasTooManyFields, HasUnknownCoding, IsReadError}
@@ -25,7 +24,8 @@ known_status status =
 
 -- a response with this status and its phrase, no body, and the word that the connection is closed (RFC 9112, section 9.6)
 abbrev pub closing_text : ℕ → List ℕ
-closing_text status = response_text 1 status (reason_of status) (connection_header (codes "close") ∷ length_header 0 ∷ [])
+closing_text status =
+    response_text 1 status (reason_of status) ((codes "connection", codes "close") ∷ (codes "content-length", codes "0") ∷ [])
 
 -- Why the request that begins the stream is refused: the input ended within it; or, whatever bytes might follow, it has too
 -- many fields, or can't be read at all, or its body is longer than its method may have, or has an unknown coding.
