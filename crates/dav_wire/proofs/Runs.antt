@@ -1,5 +1,8 @@
 -- What holds of a connection, and what each step does to that.
-use Rattle.std.proofs.Common.{◌≡◌, ◌≢◌, ℕ, zero, suc, ◌<◌, ◌≤◌, ◌⊎◌, Bool, true, false, cond, ◌==◌, List, [], ◌∷◌, ◌++◌, length, take, drop, refl, sym, ap, ◌∙◌, subst, arith, append_assoc, append-nil, take-append-drop, inl, inr, IsTrue, IsFalse}
+use Rattle.std.proofs.Common.{◌≡◌, ◌≢◌, ℕ, zero, suc, ◌<◌, ◌≤◌, ◌⊎◌, Bool, true, false, cond, ◌==◌, List, [], ◌∷◌, ◌++◌, length, take, drop, refl, sym, ap, ◌∙◌, subst, subst₂, arith, append_assoc, append-nil, take-append-drop, inl, inr, IsTrue, IsFalse}
+use Rattle.std.proofs.Math.Logic.{∥∥₁_prop, ∥∥₁_elim}
+use mathlib.Core.Bool.{Bool-set}
+use denote.Struct.Props.{props}
 use Rattle.http1.specs.declared.conn.Limits.{Limits}
 use Rattle.http1.specs.declared.error.WriteError.{WriteError}
 use Rattle.http1.specs.Message as Wire
@@ -16,8 +19,8 @@ use Rattle.dav_wire.specs.declared.state.Refusal.TheVariants.{Truncated, Unreada
 use Rattle.dav_wire.specs.declared.state.State.{State}
 use Rattle.dav_wire.specs.declared.state.State.TheVariants.{Open, Closing, Aborted}
 use Rattle.dav_wire.specs.Exchange.{Call, Serves, most_of}
-use Rattle.dav_wire.specs.History.{History, told, HasWork, IsCalledFor, MayBeCalledFor, IsUnsendable, IsLast, IsAtEnd, IsAborted, Stands, IsServed, Rests, after_taken, after_sent}
-use Rattle.dav_wire.specs.Place.{Place, place, history_of, Base, IsRunning, HoldsAt, Holds, Standing, IsStarved, aborted, closed_with}
+use Rattle.dav_wire.specs.History.{History, told, HasWork, IsCalledFor, MayBeCalledFor, IsUnsendable, IsLast, IsAtEnd, IsAborted, Stands, IsServed, Rests, new_history, after_sent}
+use Rattle.dav_wire.specs.Place.{Place, place, history_of, Base, IsRunning, HoldsAt, Holds, Standing, IsStarved, aborted, closed_with, Reaches}
 use Rattle.dav_wire.specs.Refusals.{IsRefusedFor, closing_text, refusal_status}
 use Rattle.dav_wire.proofs.Bodies.{Standing-append}
 use Rattle.dav_wire.proofs.Streams.{ReadsCall-append, Exchanges-append, Serves-append, Serves-last, aligned, NextIs-append, HasWork-append}
@@ -55,6 +58,52 @@ served_at Aborted p h x = x
 
 pub served : (l : Line) → Holds l → IsServed l.intake.config (history_of l)
 served l = served_at l.state (place l.intake) (history_of l)
+
+-- nothing came yet
+pub fresh : (p : Place) (h : History) → Standing p [] [] → h ≡ new_history → IsRunning p h
+fresh p h x is = subst (IsRunning p) (sym is) (record {
+  base = record {
+    is_open = refl;
+    answered = [];
+    text = [];
+    rest = [];
+    serves = (refl, refl);
+    interim = [];
+    is_interim = inl refl;
+    told_is = refl;
+  };
+  calls = refl;
+  standing = x;
+})
+
+holds_over : (s : State) (p : Place) (h : History) → s ≢ Open → IsServed p.config h → HoldsAt s p h
+holds_over Open p h over x = absurd (over refl)
+holds_over (Closing why) p h over x = x
+holds_over Aborted p h over x = x
+
+-- a step after which the connection answers no more
+pub reaches_over : (new : Line) (old : ℕ) (goes_on : Bool) (config : Config) (k : History) → history_of new ≡ k
+    → new.intake.config ≡ config → k.state ≢ Open → IsFalse goes_on → IsServed config k → Reaches old goes_on new
+reaches_over new old goes_on config k is same over stops x = record {
+  holds = holds_over new.state (place new.intake) (history_of new) (λ still. over (sym (ap (λ (h : History). h.state) is) ∙ still))
+      (subst₂ IsServed (sym same) (sym is) x);
+  less = λ goes. let wrong = sym stops ∙ goes in cc;
+  rests = λ _ still room. absurd (over (sym (ap (λ (h : History). h.state) is) ∙ still));
+}
+
+-- the same exchanges, where other things have changed
+abbrev pub rebased : {old config : Config} {h : History} → Base old h → config ≡ old → (ended : Bool) (unread : List ℕ) (calls : List Call)
+    → Base config (record h { ended = ended; unread = unread; calls = calls })
+rebased {h} b same ended unread calls = record {
+  is_open = b.is_open;
+  answered = b.answered;
+  text = b.text;
+  rest = b.rest;
+  serves = subst (λ k. Serves k h.received b.answered b.text b.rest) (sym same) b.serves;
+  interim = b.interim;
+  is_interim = subst (λ (k : Config). IsInterim k.limits b.rest b.interim) (sym same) b.is_interim;
+  told_is = b.told_is;
+}
 
 -- ---- ends
 
@@ -118,7 +167,7 @@ module _ {config : Config} {h : History} (b : Base config h) where
 
 module _ (config : Config) (h : History) (came : List ℕ) (over : Bool) (going : h.ended ≡ false) where
   -- the history once these bytes came, and the input ended there or not
-  abbrev more : History
+  abbrev pub more : History
   more = record h { received = h.received ++ came; unread = h.unread ++ came; ended = over }
 
   abbrev called_more : {answered : List Call} {stream : List ℕ} → IsCalledFor config h.calls answered stream
@@ -288,4 +337,12 @@ rests p h b calls x going is_open room = (
         ∣ (b.text, b.told_is ∙ ap (λ (t : List ℕ). b.text ++ t) (x.invited (subst (ExpectsContinue p.config.limits) same waits))) ∣₁
     | inr more ↦ absurd (x.unfinished more.0 more.1 more.2)
   ],
+)
+
+-- what it says leaves nothing to choose
+pub settled : (config : Config) (h : History) → ∥ Rests config h ∥₁ → Rests config h
+settled config h x is_open room = (
+  ∥∥₁_elim x (Bool-set _ _) (λ r. (r is_open room).0),
+  λ ms rest z. ∥∥₁_elim x (search props) (λ r. (r is_open room).1 ms rest z),
+  λ ms rest z count waits. ∥∥₁_elim x ∥∥₁_prop (λ r. (r is_open room).2 ms rest z count waits),
 )

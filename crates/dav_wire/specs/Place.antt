@@ -222,10 +222,9 @@ pub record IsGiven (p : Place) (h : History) (asked : Asked) (bodiless : Bool) :
 -- and it gave this response
 pub record IsAnswered (p : Place) (h : History) (response : Response) (bodiless : Bool) : Type 0 where
   pub base : Base p.config h
-  pub call : Call
-  pub calls : h.calls ≡ base.answered ++ call ∷ []
-  pub response_is : call.1 ≡ response
-  pub whole : IsWhole p base.rest call.0 bodiless
+  pub asked : Asked
+  pub calls : h.calls ≡ base.answered ++ (asked, response) ∷ []
+  pub whole : IsWhole p base.rest asked bodiless
 
 -- no bytes came and none went
 pub record KeepsLine (old new : Line) : Type 0 where

@@ -143,9 +143,9 @@ impl Line {
         ensures keeps { KeepsLine self.old self.new }
     {
         self.response.clear();
-        if answerer.answer(asked, &mut self.response).is_err() {
+        let Ok(()) = answerer.answer(asked, &mut self.response) else {
             return self.abort();
-        }
+        };
         self.calls = self.calls.and(asked, &self.response);
         self.reply(is_head)
     }
@@ -160,17 +160,33 @@ impl Line {
         let server = &mut self.intake.server;
         match write_head(self.alloc, server, &mut self.output, &self.response) {
             Ok(()) => {}
-            Err(WriteError::OutOfMemory) => return self.abort(),
-            Err(error) => return self.end(Reason::Unsendable(error), 500),
+            Err(error) => return self.fail(error),
         }
         let server = &mut self.intake.server;
-        if write_rest(server, &mut self.output, &mut self.response.body, is_head).is_err() {
+        let Ok(()) = write_rest(server, &mut self.output, &mut self.response.body, is_head) else {
             return self.abort();
-        }
+        };
         if self.intake.server.is_closed() {
             return self.close(Reason::Asked);
         }
         true
+    }
+
+    // Ends where a response can't be sent.
+    fn fail(&mut self, error: WriteError) -> bool
+        ensures told { ((history_of self.new
+            ≡ closed_with (Reason.Unsendable error) (closing_text 500) (history_of self.old))
+            × (error ≢ WriteError.OutOfMemory))
+            ⊎ (history_of self.new ≡ aborted (history_of self.old)) }
+        ensures stops { IsFalse result }
+        ensures intake { self.new.intake ≡ self.old.intake }
+        ensures keeps { KeepsLine self.old self.new }
+        ensures calls { self.new.calls ≡ self.old.calls }
+    {
+        match error {
+            WriteError::OutOfMemory => self.abort(),
+            _ => self.end(Reason::Unsendable(error), 500),
+        }
     }
 
     // Refuses the next request.

@@ -33,7 +33,8 @@ fn list_of<'a>(
 
 // The size of a body, as far as the head tells it.
 fn size_of(response: &Response) -> BodySize
-    ensures { result ≡ size_of response.now }
+    ensures value { result ≡ size_of response.now }
+    ensures short { length response.now.body.items < 2 ^ 64 }
 {
     match response.body.len() {
         0 => BodySize::Empty,
@@ -62,6 +63,7 @@ pub(crate) fn write_head(
         (size_of response.now) (fields_of response.now)) }
     ensures next { OnOk result (server.new
         ≡ after_response server.old response.now.status (size_of response.now) (fields_of response.now)) }
+    ensures short { OnOk result (length response.now.body.items < 2 ^ 64) }
     ensures refused { IfErr result (λ e. e ≢ WriteError.OutOfMemory
         → (response_refusal server.old response.now.status (reason_of response.now.status)
         (size_of response.now) (fields_of response.now) ≡ Some e)
