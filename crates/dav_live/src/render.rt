@@ -2,9 +2,10 @@
 ghost use Rattle.std.specs.Prelude.{◌≡◌, IfOk};
 ghost use Rattle.dav_live.specs.Asked.{sent_bytes};
 
+use crate::answer::Answer;
 use bytes::Bytes;
 use dav_engine::{Reply, ReplyBody};
-use dav_wire::{Answer, Stop};
+use dav_wire::Stop;
 use dav_xml::write;
 use http_header::HeaderMap;
 use std::alloc::Global;

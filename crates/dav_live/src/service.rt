@@ -1,15 +1,15 @@
 //! What answers the requests of all connections, and keeps those that may change something.
-ghost use Rattle.std.specs.Prelude.{◌≡◌, IfOk, string_bytes};
+ghost use Rattle.std.specs.Prelude.{⊤, ◌≡◌, IfOk, string_bytes};
 ghost use Rattle.std.specs.Option.{option_copied, option_map};
 ghost use Rattle.dav_live.specs.Asked.{IsAnswered};
 ghost use Rattle.dav_live.specs.Sent.{IsSendableTextIfAny};
 
+use crate::answer::Answer;
 use crate::basic::credentials_of;
 use crate::fault::{Fault, OpenError};
 use crate::handler::Handler;
 use crate::heads::{
-    field, has_many_names, is_for, is_lock, method_of, only_reads, takes_tree, target_of,
-    with_timeout,
+    field, has_many_names, is_for, is_lock, method_of, only_reads, target_of, with_timeout,
 };
 use crate::leases::{Lease, next_ended, note_locks, unlock_head};
 use crate::page::{ASKED, asking_head, page_answer};
@@ -21,13 +21,11 @@ use bytes::Bytes;
 use dav_engine::{Reply, ReplyBody};
 use dav_journal::{Journal, JournalError};
 use dav_server::exchange::LAST_MOMENT;
-use dav_wire::{Answer, Answerer, Stop};
+use dav_wire::{Answerer, Asked, Stop};
+use http_server::Response;
 use sqlite_disk::Disk;
 use std::alloc::{AllocError, Global};
 use std::str;
-
-/// The most bytes of a body that is XML.
-const MOST_XML: u64 = 1_048_576;
 
 /// The handler, the journal, and what a request needs besides its bytes.
 #[derive(Drop)]
@@ -242,6 +240,11 @@ impl<D: Disk + Drop> Service<D> {
         Ok(())
     }
 
+    /// The most bytes of a body that isn't an element tree.
+    pub fn most_body(&self) -> u64 {
+        self.settings.most_body
+    }
+
     /// Why an answer stopped the server.
     pub fn fault(&self) -> Fault {
         self.fault
@@ -397,6 +400,16 @@ impl<D: Disk + Drop> Service<D> {
         Ok(())
     }
 
+    // Answers a request.
+    fn answer_any(&mut self, head: &[u8], body: Bytes) -> Result<Answer, Stop> {
+        if is_for(head, &self.settings.hosts) {
+            return self.answer_known(head, body);
+        }
+        let answer = bare_answer(self.alloc, 421)?;
+        self.add_line(None, head, &answer)?;
+        Ok(answer)
+    }
+
     // Answers a request that came for this host.
     fn answer_known(&mut self, head: &[u8], body: Bytes) -> Result<Answer, Stop> {
         let Ok(principal) = self.principal_of(head) else {
@@ -424,20 +437,12 @@ fn kept_prefix(prefix: &str) -> &[u8] {
 }
 
 impl<D: Disk + Drop> Answerer for Service<D> {
-    fn most_body(&self, head: &[u8]) -> u64 {
-        if takes_tree(method_of(head)) {
-            MOST_XML
-        } else {
-            self.settings.most_body
-        }
-    }
+    ghost answers = { λ old asked response new. ⊤ };
 
-    fn answer(&mut self, alloc: Global, head: &[u8], body: Bytes) -> Result<Answer, Stop> {
-        if is_for(head, &self.settings.hosts) {
-            return self.answer_known(head, body);
-        }
-        let answer = bare_answer(alloc, 421)?;
-        self.add_line(None, head, &answer)?;
-        Ok(answer)
+    fn answer(&mut self, asked: &Asked, response: &mut Response) -> Result<(), Stop> {
+        let alloc = self.alloc;
+        let head = asked.head.as_slice();
+        let answer = self.answer_any(head, asked.body.clone()?)?;
+        answer.fill(alloc, method_of(head) == b"HEAD".as_slice(), response)
     }
 }
