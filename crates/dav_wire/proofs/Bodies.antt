@@ -259,7 +259,12 @@ module _ (p : Place) (stream interim : List ℕ) (spans : List HeaderSpan) (new 
       record {
         within = within;
         message = record { head = b.head; body = with_front p.body tail };
-        reads = record { framing = b.framing; after_head = b.after; head = b.accepts; body = rw append-nil at whole };
+        reads = record {
+          framing = b.framing;
+          after_head = b.after;
+          head = b.accepts;
+          body = subst (λ (t : List ℕ). ReadsBody p.config.limits b.framing t (with_front p.body tail) _) (append-nil b.after) whole;
+        };
         head = b.text;
         body = sym (append-nil p.body);
         plain = b.plain;
@@ -415,8 +420,14 @@ module _ {p : Place} {spans : List HeaderSpan} {r : RequestSpans} {stream interi
   few_fields : length x.takes.head.fields ≤ 64
   few_fields =
       let same = ap length x.takes.covered.fields in
-      omega (arith, same, length-map (take r.headers spans) (header_bytes stream), length-map x.takes.head.fields name_and_value,
-      length-take r.headers spans, x.few)
+      omega (
+        arith,
+        same,
+        length-map (take r.headers spans) (header_bytes stream),
+        length-map x.takes.head.fields name_and_value,
+        length-take r.headers spans,
+        x.few,
+      )
 
   -- the head was taken from the bytes, and what is known of its request was noted
   pub begins : has_codings p.server ≡ false → (unread head method : List ℕ) (kind : Bool) (most : ℕ)

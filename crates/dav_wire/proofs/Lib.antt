@@ -1,4 +1,5 @@
 pub mod Bodies
+pub mod LawAnswers
 pub mod Replies
 pub mod Runs
 pub mod Steps

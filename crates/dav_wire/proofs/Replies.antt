@@ -120,9 +120,9 @@ module _ (p : Place) (h : History) (r : Response) (bodiless : Bool) (x : IsAnswe
     leaves : Leaves
     leaves = elim (starts_over p.server r valid p.config.limits x.whole.message.head x.whole.request.reads.framing x.whole.server
         bodiless kind) [
-      | inl stays ↦ inl (stays.0, new_server_is ∙ stays.1)
-      | inr ends ↦ inr (ends.0, ap writing new_server_is ∙ ends.1)
-    ]
+          | inl stays ↦ inl (stays.0, new_server_is ∙ stays.1)
+          | inr ends ↦ inr (ends.0, ap writing new_server_is ∙ ends.1)
+        ]
 
     pub closes : IsClosed new → IsServed p.config (record h { state = Closing Asked; pending = now })
     closes closed = elim leaves [

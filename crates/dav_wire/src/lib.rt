@@ -13,5 +13,6 @@ mod state;
 
 pub use answer::{Answerer, Asked, Stop};
 pub use config::Config;
+pub use laws::{calls_are_requests, connections_never_stall, heads_stand_alone};
 pub use peer::Peer;
 pub use state::{Reason, Refusal, State};

@@ -7,9 +7,9 @@ use crate::config::Config;
 use crate::intake::{Found, Intake};
 use crate::reply::{write_head, write_rest};
 use crate::state::{Reason, Refusal, State, closing_text};
-use bytes::{BufMut, Buf, BytesMut};
-use http1::WriteError;
+use bytes::{Buf, BufMut, BytesMut};
 use http_server::{Log, Response, Rope};
+use http1::WriteError;
 use httparse::spans::HeaderSpan;
 use std::alloc::{AllocError, Global};
 

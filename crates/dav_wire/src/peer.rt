@@ -110,8 +110,7 @@ impl Peer {
     /// What is true of each connection, after any calls. It does nothing.
     pub fn is_served(&self)
         ensures { ∥ IsServed (config_of self.now) (history self.now) ∥₁ }
-    {
-    }
+    {}
 }
 
 // The front of bytes, of at most so many.

@@ -8,10 +8,10 @@ ghost use Rattle.http_server.specs.Encoding.{size_of};
 ghost use Rattle.http_server.specs.Response.{fields, fields_of};
 ghost use Rattle.dav_wire.specs.Place.{rest_text, after_rest};
 
-use http::{HeaderName, HeaderValue, StatusCode};
-use http1::{BodySize, Header, Server, WriteError};
-use http_server::{Response, Rope};
 use bytes::BufMut;
+use http::{HeaderName, HeaderValue, StatusCode};
+use http_server::{Response, Rope};
+use http1::{BodySize, Header, Server, WriteError};
 use std::alloc::{AllocError, Global};
 
 // The fields as the connection writes them.

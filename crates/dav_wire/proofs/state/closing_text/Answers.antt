@@ -26,6 +26,6 @@ returns-in-501 c = rw c.in-501.is refl
 
 pub returns-in_default : goal.returns-in_default
 unfolding print_response
-returns-in_default c = 
+returns-in_default c =
     let other : known_status c.args.status ≡ 400 = grind (arith, nat_tests) in
     rw other refl
