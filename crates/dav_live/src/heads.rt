@@ -81,7 +81,7 @@ pub fn takes_tree(method: &[u8]) -> bool
 }
 
 // Whether a method changes nothing (RFC 9110, section 9.2.1).
-pub fn only_reads(method: &[u8]) -> bool {
+pub fn is_safe_method(method: &[u8]) -> bool {
     method == b"GET".as_slice()
         || method == b"HEAD".as_slice()
         || method == b"OPTIONS".as_slice()

@@ -5,6 +5,7 @@
 //! the journal and synced before any reply of its turn is handed out.
 #![tactic(auto)]
 
+mod answer;
 mod basic;
 mod fault;
 mod frames;

@@ -8,11 +8,15 @@ use crate::service::Service;
 use crate::settings::Settings;
 use crate::users::Users;
 use dav_journal::Journal;
-use dav_wire::{Peer, Stop};
+use dav_wire::{Config, Peer, Stop};
+use http1::Limits;
 use sqlite_disk::Disk;
 use std::alloc::{AllocError, Global};
 use std::io::{ErrorKind, Read, Write};
 use std::str;
+
+/// The most bytes of a body that is an element tree.
+const MOST_XML: usize = 1_048_576;
 
 /// At most so many connections are open.
 const MOST_SLOTS: usize = 512;
@@ -179,7 +183,7 @@ impl<D: Disk + Drop> Live<D> {
         match self.slots.get_mut(slot as usize) {
             Some(place) if place.is_none() => {
                 *place = Some(Connection {
-                    peer: Peer::new(self.alloc),
+                    peer: Peer::new(self.alloc, config_of(&self.service)),
                     address,
                 });
                 Ok(add_order(orders, slot, READ, &[])?)
@@ -220,6 +224,16 @@ impl<D: Disk + Drop> Live<D> {
             *place = None;
         }
         Ok(())
+    }
+}
+
+// The limits of a connection: heads of 16 KiB, and no request is read while more than 64 KiB wait to be sent.
+fn config_of<D: Disk + Drop>(service: &Service<D>) -> Config {
+    Config {
+        limits: Limits::default(),
+        max_body_len: usize::try_from(service.most_body()).unwrap_or(usize::MAX),
+        max_tree_len: MOST_XML,
+        max_pending: 65536,
     }
 }
 
@@ -283,7 +297,7 @@ fn hand_out(peer: &mut Peer, slot: u32, orders: &mut Vec<u8>) -> Result<u8, Allo
     let is_full = peer.is_full();
     let piece = peer.output();
     let count = piece.len();
-    let next = if is_full {
+    let next = if is_full || count < peer.waiting() {
         TELL
     } else if peer.is_open() {
         READ

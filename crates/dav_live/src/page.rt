@@ -1,9 +1,10 @@
 //! A page of a folder, for a person.
+use crate::answer::Answer;
 use crate::leases::child;
 use crate::render::add_field;
 use bytes::Bytes;
 use dav_core::element::Element;
-use dav_wire::{Answer, Stop};
+use dav_wire::Stop;
 use percent_encoding::percent_decode;
 use std::alloc::{AllocError, Global};
 use std::str;

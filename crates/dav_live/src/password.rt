@@ -124,7 +124,7 @@ fn digit(bits: u32) -> u8 {
 }
 
 // Whether a text is the writing of a digest.
-fn is_written(digest: &[u8; 32], text: &[u8]) -> bool {
+fn is_encoding_of(digest: &[u8; 32], text: &[u8]) -> bool {
     if text.len() != 43 {
         return false;
     }
@@ -167,7 +167,7 @@ pub fn is_secret(secret: &str) -> bool {
 }
 
 // Whether a password has this secret.
-pub fn fits(password: &[u8], secret: &str) -> bool {
+pub fn matches_secret(password: &[u8], secret: &str) -> bool {
     let Some(text) = secret.strip_prefix("$5$") else {
         return false;
     };
@@ -178,7 +178,7 @@ pub fn fits(password: &[u8], secret: &str) -> bool {
     if salt.len() > MOST_SALT || password.len() > MOST_PASSWORD {
         return false;
     }
-    is_written(
+    is_encoding_of(
         &digest_of(password, salt.as_bytes(), rounds),
         written.as_bytes(),
     )

@@ -2,9 +2,10 @@
 ghost use Rattle.std.specs.Prelude.{◌≡◌, IfOk};
 ghost use Rattle.dav_live.specs.Asked.{sent_bytes};
 
+use crate::answer::Answer;
 use bytes::Bytes;
 use dav_engine::{Reply, ReplyBody};
-use dav_wire::{Answer, Stop};
+use dav_wire::Stop;
 use dav_xml::write;
 use http_header::HeaderMap;
 use std::alloc::Global;
@@ -59,7 +60,7 @@ pub fn answer_of(alloc: Global, reply: Reply) -> Result<Answer, Stop>
 }
 
 // A reply of this status without a body.
-pub fn bare_answer(alloc: Global, status: u16) -> Result<Answer, Stop> {
+pub fn without_body(alloc: Global, status: u16) -> Result<Answer, Stop> {
     let mut answer = Answer::new(alloc, status);
     add_field(alloc, &mut answer, "content-length", b"0")?;
     Ok(answer)
@@ -67,7 +68,7 @@ pub fn bare_answer(alloc: Global, status: u16) -> Result<Answer, Stop> {
 
 // The reply to a request by nobody who is known (RFC 9110, section 11.6.1).
 pub fn unknown_user(alloc: Global) -> Result<Answer, Stop> {
-    let mut answer = bare_answer(alloc, 401)?;
+    let mut answer = without_body(alloc, 401)?;
     add_field(
         alloc,
         &mut answer,

@@ -1,21 +1,21 @@
 //! What answers the requests of all connections, and keeps those that may change something.
-ghost use Rattle.std.specs.Prelude.{◌≡◌, IfOk, string_bytes};
+ghost use Rattle.std.specs.Prelude.{⊤, ◌≡◌, IfOk, string_bytes};
 ghost use Rattle.std.specs.Option.{option_copied, option_map};
 ghost use Rattle.dav_live.specs.Asked.{IsAnswered};
 ghost use Rattle.dav_live.specs.Sent.{IsSendableTextIfAny};
 
+use crate::answer::Answer;
 use crate::basic::credentials_of;
 use crate::fault::{Fault, OpenError};
 use crate::handler::Handler;
 use crate::heads::{
-    field, has_many_names, is_for, is_lock, method_of, only_reads, takes_tree, target_of,
-    with_timeout,
+    field, has_many_names, is_for, is_lock, method_of, is_safe_method, target_of, with_timeout,
 };
 use crate::leases::{Lease, next_ended, note_locks, unlock_head};
 use crate::line::{Answered, line_of};
 use crate::page::{ASKED, asking_head, page_answer};
 use crate::record::Record;
-use crate::render::{answer_of, bare_answer, unknown_user};
+use crate::render::{answer_of, without_body, unknown_user};
 use crate::settings::Settings;
 use crate::users::{Users, UsersError};
 use crate::withheld::without_credentials;
@@ -26,13 +26,11 @@ use dav_engine::{Reply, ReplyBody};
 use dav_journal::{Journal, JournalError};
 use dav_server::exchange::LAST_MOMENT;
 use dav_server::target::path_of;
-use dav_wire::{Answer, Answerer, Stop};
+use dav_wire::{Answerer, Asked, Stop};
+use http_server::Response;
 use sqlite_disk::Disk;
 use std::alloc::{AllocError, Global};
 use std::str;
-
-/// The most bytes of a body that is XML.
-const MOST_XML: u64 = 1_048_576;
 
 /// The handler, the journal, and what a request needs besides its bytes.
 #[derive(Drop)]
@@ -165,7 +163,7 @@ impl<D: Disk + Drop> Service<D> {
             self.tokens = self.tokens.saturating_add(1);
         }
         let body = Bytes::copy_from_slice(self.alloc, record.body)?;
-        let reply = self.run(record, body)?;
+        let reply = self.step(record, body)?;
         if reply.status.as_u16() == record.status {
             Ok(())
         } else {
@@ -174,7 +172,7 @@ impl<D: Disk + Drop> Service<D> {
     }
 
     // Hands a request to the handler, and notes when the locks of which it tells end. What the client is told in XML it can read.
-    fn run(&mut self, said: &Record<'_>, body: Bytes) -> Result<Reply, Stop>
+    fn step(&mut self, said: &Record<'_>, body: Bytes) -> Result<Reply, Stop>
         ensures { IfOk result (λ reply.
             IsAnswered said.now body self.old.handler.server reply self.new.handler.server) }
     {
@@ -271,7 +269,7 @@ impl<D: Disk + Drop> Service<D> {
                 return Err(Stop);
             }
         }
-        let reply = self.run(record, body)?;
+        let reply = self.step(record, body)?;
         let answered = Record {
             moment: record.moment,
             status: reply.status.as_u16(),
@@ -297,6 +295,11 @@ impl<D: Disk + Drop> Service<D> {
             Err(JournalError::Memory) => Err(Fault::Memory),
             Err(_) => Err(Fault::Disk),
         }
+    }
+
+    /// The most bytes of a body that isn't an element tree.
+    pub fn most_body(&self) -> u64 {
+        self.settings.most_body
     }
 
     /// Why an answer stopped the server.
@@ -353,7 +356,7 @@ impl<D: Disk + Drop> Service<D> {
     }
 
     // Answers a request of somebody.
-    fn answer_for(
+    fn dispatch(
         &mut self,
         principal: Option<&str>,
         head: &[u8],
@@ -374,10 +377,10 @@ impl<D: Disk + Drop> Service<D> {
             head,
             body: kept.as_slice(),
         };
-        if !only_reads(method) {
-            return self.answer_kept(&record, body);
+        if !is_safe_method(method) {
+            return self.answer_and_record(&record, body);
         }
-        let reply = self.run(&record, body)?;
+        let reply = self.step(&record, body)?;
         let is_page = reply.status.as_u16() == 405
             && (method == b"GET".as_slice() || method == b"HEAD".as_slice());
         if is_page {
@@ -411,14 +414,14 @@ impl<D: Disk + Drop> Service<D> {
             head: head.as_slice(),
             body: kept.as_slice(),
         };
-        self.answer_kept(&record, body)
+        self.answer_and_record(&record, body)
     }
 
     // Answers a request that is kept; 507 where there is no room for it.
-    fn answer_kept(&mut self, record: &Record<'_>, body: Bytes) -> Result<Answer, Stop> {
+    fn answer_and_record(&mut self, record: &Record<'_>, body: Bytes) -> Result<Answer, Stop> {
         match self.keep(record, body)? {
             Some(reply) => answer_of(self.alloc, reply),
-            None => bare_answer(self.alloc, 507),
+            None => without_body(self.alloc, 507),
         }
     }
 
@@ -435,10 +438,10 @@ impl<D: Disk + Drop> Service<D> {
             head: &asking,
             body: ASKED,
         };
-        let reply = self.run(&record, Bytes::from_static(ASKED))?;
+        let reply = self.step(&record, Bytes::from_static(ASKED))?;
         match &reply.body {
             ReplyBody::Tree(told) if reply.status.as_u16() == 207 => page_answer(self.alloc, told),
-            _ => bare_answer(self.alloc, 405),
+            _ => without_body(self.alloc, 405),
         }
     }
 
@@ -476,7 +479,7 @@ impl<D: Disk + Drop> Service<D> {
     }
 
     // Answers a request of somebody who may ask: what is run and kept of its head doesn't show who that is.
-    fn admitted(
+    fn accept(
         &mut self,
         principal: Option<&str>,
         head: &[u8],
@@ -485,17 +488,27 @@ impl<D: Disk + Drop> Service<D> {
         requires { IsSendableTextIfAny (option_copied principal) }
     {
         if has_many_names(head) {
-            return bare_answer(self.alloc, 414);
+            return without_body(self.alloc, 414);
         }
         if self.is_outside(head)? {
-            return bare_answer(self.alloc, 404);
+            return without_body(self.alloc, 404);
         }
         let kept = without_credentials(self.alloc, head)?;
-        self.answer_for(principal, &kept, body)
+        self.dispatch(principal, &kept, body)
+    }
+
+    // Answers a request.
+    fn respond(&mut self, head: &[u8], body: Bytes) -> Result<Answer, Stop> {
+        if is_for(head, &self.settings.hosts) {
+            return self.admit(head, body);
+        }
+        let answer = without_body(self.alloc, 421)?;
+        self.add_line("", head, &answer)?;
+        Ok(answer)
     }
 
     // Answers a request that came for this host.
-    fn answer_known(&mut self, head: &[u8], body: Bytes) -> Result<Answer, Stop> {
+    fn admit(&mut self, head: &[u8], body: Bytes) -> Result<Answer, Stop> {
         let principal = match self.principal_of(head) {
             Ok(principal) => principal,
             Err(shown) => {
@@ -504,7 +517,7 @@ impl<D: Disk + Drop> Service<D> {
                 return Ok(answer);
             }
         };
-        let answer = self.admitted(principal.as_deref(), head, body)?;
+        let answer = self.accept(principal.as_deref(), head, body)?;
         self.add_line(principal.as_deref().unwrap_or(""), head, &answer)?;
         Ok(answer)
     }
@@ -520,20 +533,12 @@ fn kept_prefix(prefix: &str) -> &[u8] {
 }
 
 impl<D: Disk + Drop> Answerer for Service<D> {
-    fn most_body(&self, head: &[u8]) -> u64 {
-        if takes_tree(method_of(head)) {
-            MOST_XML
-        } else {
-            self.settings.most_body
-        }
-    }
+    ghost answers = { λ old asked response new. ⊤ };
 
-    fn answer(&mut self, alloc: Global, head: &[u8], body: Bytes) -> Result<Answer, Stop> {
-        if is_for(head, &self.settings.hosts) {
-            return self.answer_known(head, body);
-        }
-        let answer = bare_answer(alloc, 421)?;
-        self.add_line("", head, &answer)?;
-        Ok(answer)
+    fn answer(&mut self, asked: &Asked, response: &mut Response) -> Result<(), Stop> {
+        let alloc = self.alloc;
+        let head = asked.head.as_slice();
+        let answer = self.respond(head, asked.body.clone()?)?;
+        answer.fill(alloc, method_of(head) == b"HEAD".as_slice(), response)
     }
 }

@@ -2,7 +2,7 @@
 ghost use Rattle.std.specs.Prelude.{IsTrue};
 ghost use Rattle.dav_live.specs.Sent.{IsSendableText};
 
-use crate::password::{fits, is_secret};
+use crate::password::{matches_secret, is_secret};
 use crate::sendable::is_sendable;
 use sha2::{Digest, Sha256};
 use std::alloc::{AllocError, AllocFailed, Global};
@@ -93,7 +93,7 @@ impl Name {
 struct User {
     name: Name,
     secret: String,
-    known: Option<[u8; 32]>,
+    last_fitting: Option<[u8; 32]>,
 }
 
 /// The users of a server.
@@ -152,19 +152,19 @@ fn user_of(alloc: Global, line: &str) -> Result<Option<User>, AllocError> {
     Ok(Some(User {
         name,
         secret,
-        known: None,
+        last_fitting: None,
     }))
 }
 
 // Whether a password is that of a user; one that fitted last is known by its digest alone.
 fn check(user: &mut User, password: &[u8]) -> bool {
     let digest = Sha256::digest(password);
-    if user.known == Some(digest) {
+    if user.last_fitting == Some(digest) {
         return true;
     }
-    if !fits(password, user.secret.as_str()) {
+    if !matches_secret(password, user.secret.as_str()) {
         return false;
     }
-    user.known = Some(digest);
+    user.last_fitting = Some(digest);
     true
 }

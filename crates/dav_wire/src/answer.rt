@@ -1,37 +1,24 @@
 //! What answers the requests of a connection.
-ghost use Rattle.std.specs.Prelude.{◌≡◌, []};
+ghost use Rattle.std.specs.Prelude.{OnOk};
+ghost use Rattle.http_server.specs.declared.response.Response.{Response};
+ghost use Rattle.http_server.specs.Response.{IsBlank};
+ghost use Rattle.dav_wire.specs.declared.answer.Asked.{Asked};
 
 use bytes::Bytes;
-use std::alloc::{AllocError, AllocFailed, Global};
+use http_server::Response;
+use std::alloc::{AllocError, AllocFailed};
 
-/// A reply: its status, its fields and its body (RFC 9110, section 3.4). Of the fields `content-length` is told of the
-/// body; that of the reply itself is sent for HEAD alone.
+/// A request as it came: the very bytes of its head, with the empty lines before it, and its body without its chunks
+/// (RFC 9112, sections 2.2, 3, 6 and 7.1).
 #[derive(Drop)]
-pub struct Answer {
-    /// The status.
-    pub status: u16,
-    /// The names of the fields with their values.
-    pub headers: Vec<(String, Bytes)>,
-    /// The body, which isn't sent for HEAD.
+pub struct Asked {
+    /// The bytes of the head, to the empty line that ends it.
+    pub head: Bytes,
+    /// The body, decoded and whole.
     pub body: Bytes,
 }
 
-impl Answer {
-    /// A reply of this status, with nothing else.
-    pub fn new(alloc: Global, status: u16) -> Answer
-        ensures status { result.status ≡ status }
-        ensures headers { result.headers.items ≡ [] }
-        ensures body { result.body ≡ [] }
-    {
-        Answer {
-            status,
-            headers: Vec::new(alloc),
-            body: Bytes::from_static(b""),
-        }
-    }
-}
-
-/// The service can't go on: nothing more may be sent.
+/// The answerer can't go on, or memory ran out: nothing more may be sent.
 #[derive(Clone, Copy, Debug, PartialEq, Eq)]
 pub struct Stop;
 
@@ -49,10 +36,12 @@ impl<T: Drop> From<AllocFailed<T>> for Stop {
 
 /// What answers requests, each once and in order.
 pub trait Answerer {
-    /// The most bytes that the body of a request with this head may have; a longer one is refused (413) before it is
-    /// read.
-    fn most_body(&self, head: &[u8]) -> u64;
+    // From the first state, the response answers the request and leaves the second state.
+    ghost answers: { Self → Asked → Response → Self → Type 0 };
 
-    /// Answers a request: the bytes of its head as they came, and its body, decoded and whole.
-    fn answer(&mut self, alloc: Global, head: &[u8], body: Bytes) -> Result<Answer, Stop>;
+    /// Fills `response`, which comes as a 200 without fields and body. The connection adds `content-length` and
+    /// `connection` where they are needed, and sends no body to HEAD (RFC 9110, sections 8.6 and 9.3.2).
+    fn answer(&mut self, asked: &Asked, response: &mut Response) -> Result<(), Stop>
+        requires { IsBlank response.old }
+        ensures { OnOk result (answers self.old asked.now response.new self.new) };
 }

@@ -1,9 +1,18 @@
-//! The bytes of one connection: requests are cut from what comes in, a service answers each, and the replies are
+//! The bytes of one connection: requests are cut from what comes in, an answerer answers each, and the replies are
 //! written (RFC 9112).
 #![tactic(auto)]
 
 mod answer;
+mod config;
+mod intake;
+mod laws;
+mod line;
 mod peer;
+mod reply;
+mod state;
 
-pub use answer::{Answer, Answerer, Stop};
+pub use answer::{Answerer, Asked, Stop};
+pub use config::Config;
+pub use laws::{calls_are_requests, connections_never_stall, heads_stand_alone};
 pub use peer::Peer;
+pub use state::{Reason, Refusal, State};

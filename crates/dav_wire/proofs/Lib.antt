@@ -1,0 +1,6 @@
+pub mod Bodies
+pub mod LawAnswers
+pub mod Replies
+pub mod Runs
+pub mod Steps
+pub mod Streams

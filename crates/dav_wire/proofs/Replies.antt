@@ -1,0 +1,170 @@
+-- What a call that writes says of its outcome, and what a response does to the place in the stream.
+use Rattle.std.proofs.Common.{◌≡◌, ◌≢◌, ℕ, ◌^◌, ◌<◌, ◌⊎◌, Bool, true, false, not, cond, List, [], ◌∷◌, ◌++◌, length, Option, Some, None, Result, Ok, Err, OnOk, OnErr, IfErr, refl, sym, ap, ◌∙◌, subst, append_assoc, append-nil, inl, inr}
+use Rattle.http1.specs.declared.error.WriteError.{WriteError}
+use Rattle.http1.specs.declared.error.WriteError.TheVariants.{OutOfMemory}
+use Rattle.http1.specs.declared.server.Server.{Server}
+use Rattle.http1.specs.Conn.{data_text, finish_text}
+use Rattle.http1.specs.Output.{GivesOrRefuses}
+use Rattle.http1.specs.Server.{new_server, is_head, peer_method, writing, after_end, response_refusal, planned_response, IsClosed}
+use Rattle.http1_typed.specs.Parts.{reason_of}
+use Rattle.http_server.specs.declared.response.Response.{Response}
+use Rattle.http_server.specs.Encoding.{size_of, after_head, after_body, final_text}
+use Rattle.http_server.specs.Exchange.{keeps_open}
+use Rattle.http_server.specs.Response.{fields_of}
+use Rattle.http_server.proofs.AnswerLemmas.{not_refused, refused, final_answer, starts_over}
+use Rattle.dav_wire.specs.declared.state.Reason.TheVariants.{Asked, Unsendable}
+use Rattle.dav_wire.specs.declared.state.State.TheVariants.{Closing}
+use Rattle.dav_wire.specs.Exchange.{Call, Exchanges}
+use Rattle.dav_wire.specs.History.{History, IsCalledFor, IsServed}
+use Rattle.dav_wire.specs.Place.{Place, IsAnswered, IsRunning, StandsAt, aborted, closed_with, rest_text, after_rest}
+use Rattle.dav_wire.specs.Refusals.{closing_text}
+use Rattle.dav_wire.proofs.Runs.{aborts, cannot_send}
+use Rattle.dav_wire.proofs.Streams.{Serves-last}
+
+pub unrefused : (result : Result (Unit {0}) WriteError) (refusal : Option WriteError) (spare len : ℕ)
+    → GivesOrRefuses refusal spare len result → OnOk result (refusal ≡ None)
+unrefused (Ok done) refusal spare len x = not_refused refusal spare len done x
+unrefused (Err e) refusal spare len x = tt
+
+pub refused_for : (result : Result (Unit {0}) WriteError) (refusal : Option WriteError) (spare len : ℕ) (Kept : Type 0)
+    → GivesOrRefuses refusal spare len result → (OnErr result Kept)
+    → IfErr result (λ e. e ≢ OutOfMemory → (refusal ≡ Some e) × Kept)
+refused_for (Ok done) refusal spare len Kept x kept = tt
+refused_for (Err e) refusal spare len Kept x kept = λ other.
+    elim (refused refusal spare len e x) [ inl memory ↦ absurd (other memory) | inr why ↦ (why, kept) ]
+
+-- what is written after the head of a response is the rest of its text, and leaves the server that follows that
+rest_is : (s : Server) (r : Response) (bodiless : Bool)
+    → rest_text bodiless (writing (after_head s r)) r.body.items
+    ≡ cond bodiless [] (data_text (writing (after_head s r)) r.body.items) ++ finish_text (writing (after_body bodiless s r)) []
+rest_is s r true = refl
+rest_is s r false = refl
+
+next_is : (s : Server) (r : Response) (bodiless : Bool)
+    → after_rest bodiless (after_head s r) (length r.body.items) ≡ after_end (after_body bodiless s r)
+next_is s r true = refl
+next_is s r false = refl
+
+module _ (p : Place) (h : History) (r : Response) (bodiless : Bool) (x : IsAnswered p h r bodiless) where
+  abbrev called : IsCalledFor p.config h.calls x.base.answered x.base.rest
+  called = record {
+    call = (x.asked, r);
+    calls_are = x.calls;
+    rest = p.unread;
+    message = x.whole.message;
+    request = x.whole.request;
+  }
+
+  pub stops_after : IsServed p.config (aborted h)
+  stops_after =
+      let reads = x.whole.request.reads in
+      aborts x.base (inl (record { head = x.whole.message.head; framing = reads.framing; after = reads.after_head; accepts = reads.head })) (inr called)
+
+  pub fails_with : (e : WriteError) → response_refusal p.server r.status (reason_of r.status) (size_of r) (fields_of r) ≡ Some e
+      → IsServed p.config (closed_with (Unsendable e) (closing_text 500) h)
+  fails_with e why = cannot_send x.base e (record {
+    last = called;
+    refused = ap (λ s. response_refusal s r.status (reason_of r.status) (size_of r) (fields_of r)) (sym x.whole.server) ∙ why;
+  })
+
+  kind : bodiless ≡ is_head (peer_method p.server)
+  kind = x.whole.kind ∙ sym (ap (λ s. is_head (peer_method s)) x.whole.server)
+
+  module _ (valid : response_refusal p.server r.status (reason_of r.status) (size_of r) (fields_of r) ≡ None)
+      (short : length r.body.items < 2 ^ 64) (middle now : List ℕ)
+      (head_is : middle ≡ h.pending ++ planned_response p.server r.status (reason_of r.status) (size_of r) (fields_of r))
+      (now_is : now ≡ middle ++ rest_text bodiless (writing (after_head p.server r)) r.body.items)
+      (new : Server) (new_is : new ≡ after_rest bodiless (after_head p.server r) (length r.body.items)) where
+    abbrev answer : List ℕ
+    answer = final_text bodiless p.server r
+
+    abbrev told_last : List ℕ
+    told_last = x.base.interim ++ answer
+
+    pending_is : now ≡ h.pending ++ answer
+    pending_is =
+        now_is ∙ (λ i. head_is i ++ rest_is p.server r bodiless i)
+        ∙ append_assoc h.pending (planned_response p.server r.status (reason_of r.status) (size_of r) (fields_of r)) _
+
+    told_is : h.sent ++ now ≡ x.base.text ++ told_last
+    told_is =
+        ap (λ (t : List ℕ). h.sent ++ t) pending_is ∙ sym (append_assoc h.sent h.pending answer)
+        ∙ ap (λ (t : List ℕ). t ++ answer) x.base.told_is ∙ append_assoc x.base.text x.base.interim answer
+
+    new_server_is : new ≡ after_end (after_body bodiless p.server r)
+    new_server_is = new_is ∙ next_is p.server r bodiless
+
+    exchange : (stays : Bool) → keeps_open x.whole.message.head r ≡ stays
+        → Exchanges p.config stays x.base.rest (x.asked, r) told_last p.unread
+    exchange stays persists =
+        let it = final_answer p.server r valid p.config.limits x.whole.message.head x.whole.request.reads.framing x.whole.server
+        bodiless kind short in
+        record {
+          message = x.whole.message;
+          request = x.whole.request;
+          interim = x.base.interim;
+          is_interim = x.base.is_interim;
+          answer = answer;
+          is_answer = it.0;
+          joined = refl;
+          persists = persists;
+          announced = it.1 ∙ ap not persists;
+        }
+
+    -- what is left of the connection: it goes on, or both sides know that it is closed
+    abbrev Leaves : Type 0
+    Leaves =
+        ((keeps_open x.whole.message.head r ≡ true) × (new ≡ new_server p.config.limits))
+        ⊎ ((keeps_open x.whole.message.head r ≡ false) × IsClosed new)
+
+    leaves : Leaves
+    leaves = elim (starts_over p.server r valid p.config.limits x.whole.message.head x.whole.request.reads.framing x.whole.server
+        bodiless kind) [
+          | inl stays ↦ inl (stays.0, new_server_is ∙ stays.1)
+          | inr ends ↦ inr (ends.0, ap writing new_server_is ∙ ends.1)
+        ]
+
+    pub closes : IsClosed new → IsServed p.config (record h { state = Closing Asked; pending = now })
+    closes closed = elim leaves [
+      | inl stays ↦ let wrong = sym closed ∙ ap writing stays.1 in absurd (cc)
+      | inr ends ↦ record {
+        answered = x.base.answered;
+        text = x.base.text;
+        rest = x.base.rest;
+        serves = x.base.serves;
+        interim = x.base.interim;
+        is_interim = x.base.is_interim;
+        stands = record {
+          call = (x.asked, r);
+          calls_are = x.calls;
+          last = told_last;
+          after = p.unread;
+          exchange = exchange false ends.0;
+          told_is = told_is;
+        };
+      }
+    ]
+
+    pub stays_open : ¬ (IsClosed new) → IsRunning (record p { server = new }) (record h { pending = now })
+    stays_open other = elim leaves [
+      | inl stays ↦ record {
+        base = record {
+          is_open = x.base.is_open;
+          answered = x.base.answered ++ (x.asked, r) ∷ [];
+          text = x.base.text ++ told_last;
+          rest = p.unread;
+          serves = Serves-last p.config x.base.answered h.received x.base.text x.base.rest x.base.serves (exchange true stays.0);
+          interim = [];
+          is_interim = inl refl;
+          told_is = told_is ∙ sym (append-nil _);
+        };
+        calls = x.calls;
+        standing = subst (λ b. StandsAt b (record p { server = new }) p.unread []) (sym x.whole.between) (record {
+          server = stays.1;
+          unread = refl;
+          body = x.whole.body;
+          silent = refl;
+        });
+      }
+      | inr ends ↦ absurd (other ends.1)
+    ]

@@ -1,0 +1,35 @@
+use Rattle.std.proofs.Common.{◌≤◌, length, rules, refl, sym, ap, ◌∙◌, subst, arith}
+use Rattle.dav_wire.specs.Place.{place, Begun}
+use Rattle.dav_wire.proofs.Bodies.{has_coding, head_work, begins, head_less, invites, invites_not, too_long_ahead}
+use Rattle.dav_wire.proofs.intake.Intake.begin.Goals as goal
+
+pub returns-then-has_codings-clause-finds : goal.returns-then-has_codings-clause-finds
+returns-then-has_codings-clause-finds c = λ stream interim x.
+    (has_coding x (sym c.has_codings.ensures ∙ c.if-has_codings.true), head_work x c.args.self.now.ended)
+
+pub returns-clause-finds : goal.returns-clause-finds
+returns-clause-finds c = λ stream interim x.
+    let begun = begins x (sym c.has_codings.ensures ∙ c.if-has_codings.false) c.advance.new.self.items c.extend_from_slice.new.self.items
+    c.of-method.result.now c.is_head-self.result c.most_of-self.result (search rules) (search rules) (search rules) (search rules) (search rules) in
+    (too_long_ahead begun c.in-Known.len (search rules) c.if-len-self.true, head_work x c.args.self.now.ended)
+
+pub returns-then-expects_continue-clause-finds : goal.returns-then-expects_continue-clause-finds
+returns-then-expects_continue-clause-finds c = λ stream interim x.
+    let begun = begins x (sym c.has_codings.ensures ∙ c.if-has_codings.false) c.advance.new.self.items c.extend_from_slice.new.self.items
+    c.of-method.result.now c.is_head-self.result c.most_of-self.result (search rules) (search rules) (search rules) (search rules) (search rules) in
+    let asks = invites x (sym c.expects_continue.ensures ∙ c.if-expects_continue.true) in
+    let fits : length c.args.self.now.body.items ≤ c.most_of-self.result = omega (arith, ap length x.body) in (
+      x.silent,
+      (subst (Begun _ stream) asks.0 begun, fits),
+      asks.1,
+      head_less x c.advance.new.self.items (search rules) c.requires.section.len_fits,
+    )
+
+pub returns-else-expects_continue-clause-finds : goal.returns-else-expects_continue-clause-finds
+returns-else-expects_continue-clause-finds c = λ stream interim x.
+    let begun = begins x (sym c.has_codings.ensures ∙ c.if-has_codings.false) c.advance.new.self.items c.extend_from_slice.new.self.items
+    c.of-method.result.now c.is_head-self.result c.most_of-self.result (search rules) (search rules) (search rules) (search rules) (search rules) in
+    let fits : length c.args.self.now.body.items ≤ c.most_of-self.result = omega (arith, ap length x.body) in (
+      (subst (Begun _ stream) (invites_not x (sym c.expects_continue.ensures ∙ c.if-expects_continue.false)) begun, fits),
+      head_less x c.advance.new.self.items (search rules) c.requires.section.len_fits,
+    )

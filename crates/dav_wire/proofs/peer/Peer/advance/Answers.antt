@@ -1,0 +1,50 @@
+use Rattle.std.proofs.Common.{◌≢◌, sym, ap, ◌∙◌}
+use Rattle.std.proofs.Math.Logic.{∥∥₁_map, ∥∥₁_elim}
+use denote.Struct.Props.{props}
+use Rattle.dav_wire.specs.declared.line.Line.{Line}
+use Rattle.dav_wire.specs.declared.state.State.TheVariants.{Aborted}
+use Rattle.dav_wire.specs.Place.{history_of}
+use Rattle.dav_wire.proofs.Runs.{served, settled}
+use Rattle.dav_wire.proofs.Streams.{Calls-join}
+use Rattle.dav_wire.proofs.peer.Peer.advance.Goals as goal
+
+pub invariant_of-self : goal.invariant_of-self
+invariant_of-self g c = record { holds = ∥∥₁_map c.loop-spans.self.holds (λ x. (c.step.ensures.reaches x).holds) }
+
+pub loop-spans-smaller : goal.loop-spans-smaller
+loop-spans-smaller g c =
+    ∥∥₁_elim c.loop-spans.self.holds (search props) (λ x. (c.step.ensures.reaches x).less c.loop-spans-test.true)
+
+pub loop-spans-preserved : goal.loop-spans-preserved
+loop-spans-preserved g c =
+    let before = c.loop-spans.invariant in
+    let kept = c.step.ensures.keeps in
+    record {
+      keeps = record {
+        config = kept.config ∙ before.keeps.config;
+        ended = kept.ended ∙ before.keeps.ended;
+        reads = kept.reads ∙ before.keeps.reads;
+        writes = kept.writes ∙ before.keeps.writes;
+      };
+      calls = λ alive.
+          let was : c.loop-spans.self.line.state ≢ Aborted =
+          λ dead. alive (ap (λ (l : Line). l.state) (c.step.ensures.settled (λ still. let wrong = sym still ∙ dead in cc)) ∙ dead) in
+          Calls-join g.S.Answerer.answers _ _ _ _ _ _ (before.calls was) (c.step.ensures.calls alive);
+      settled = λ over. c.step.ensures.settled (λ still. over (sym (ap (λ (l : Line). l.state) (before.settled over)) ∙ still)) ∙ before.settled over;
+    }
+
+pub returns-clause-served : goal.returns-clause-served
+returns-clause-served g c = ∥∥₁_map c.loop-spans.self.holds (λ x. served c.step.new.self (c.step.ensures.reaches x).holds)
+
+pub returns-clause-calls : goal.returns-clause-calls
+returns-clause-calls g c =
+    let before = c.loop-spans.invariant in
+    let alive : c.step.new.self.state ≢ Aborted = λ dead. let wrong = c.is_aborted.ensures.1 dead in cc in
+    let was : c.loop-spans.self.line.state ≢ Aborted =
+    λ dead. alive (ap (λ (l : Line). l.state) (c.step.ensures.settled (λ still. let wrong = sym still ∙ dead in cc)) ∙ dead) in
+    Calls-join g.S.Answerer.answers _ _ _ _ _ _ (before.calls was) (c.step.ensures.calls alive)
+
+pub returns-clause-rests : goal.returns-clause-rests
+returns-clause-rests g c =
+    settled c.step.new.self.intake.config (history_of c.step.new.self)
+    (∥∥₁_map c.loop-spans.self.holds (λ x. (c.step.ensures.reaches x).rests c.loop-spans-test.false))

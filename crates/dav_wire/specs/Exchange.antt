@@ -1,0 +1,61 @@
+-- Requests of HTTP/1.1's grammar as they are handed over, and the bytes that answer them (RFC 9112).
+use Rattle.std.specs.Prelude.{◌≡◌, ℕ, ◌≤◌, ◌||◌, Bool, true, false, not, List, [], ◌∷◌, ◌++◌, length, codes, bytes_eq, if◌then◌else◌, IsFalse}
+use Rattle.http1.specs.Message as Wire
+use Rattle.http1.specs.Message.{known_of, ReadsRequestMessage}
+use Rattle.http_server.specs.declared.response.Response.{Response}
+use Rattle.http_server.specs.declared.state.TheConstants.{MAX_HEADERS}
+use Rattle.http_server.specs.Exchange.{IsInterim, IsAnswer, keeps_open}
+use Rattle.dav_wire.specs.declared.answer.Asked.{Asked}
+use Rattle.dav_wire.specs.declared.config.Config.{Config}
+
+-- a method whose body is an element tree (RFC 4918, sections 9.1, 9.2 and 9.10)
+abbrev pub takes_tree : List ℕ → Bool
+takes_tree method = bytes_eq method (codes "PROPFIND") || bytes_eq method (codes "PROPPATCH") || bytes_eq method (codes "LOCK")
+
+-- the most bytes of a body of this method
+abbrev pub most_of : Config → List ℕ → ℕ
+most_of config method = if takes_tree method then config.max_tree_len else config.max_body_len
+
+-- The stream begins with the request m, which is handed over as the very bytes of its head and its decoded body, and the
+-- rest follows it. Its body is within the limit of its method, and has no transfer coding but `chunked`.
+pub record ReadsCall (config : Config) (stream : List ℕ) (m : Wire.Request) (asked : Asked) (rest : List ℕ) : Type 0 where
+  pub reads : ReadsRequestMessage config.limits stream m rest
+  pub head : stream ≡ asked.head ++ reads.after_head
+  pub body : asked.body ≡ m.body.bytes
+  pub plain : IsFalse (known_of m.head.fields).other_coding
+  pub fits : length m.body.bytes ≤ most_of config m.head.method
+  pub few : length m.head.fields ≤ MAX_HEADERS
+
+-- what the answerer was given, and the response that it gave
+abbrev pub Call : Type 0
+Call = Asked × Response
+
+-- each call leads from the state that the one before left
+abbrev pub Chain : {S : Type 0} → (S → Asked → Response → S → Type 0) → S → List Call → S → Type 0
+Chain answers old [] new = new ≡ old
+Chain {S} answers old (c ∷ calls) new = (next : S) × answers old c.0 c.1 next × Chain answers next calls new
+
+-- the calls that were added lead from one state of the answerer to the other
+abbrev pub Calls : {S : Type 0} → (S → Asked → Response → S → Type 0) → S → S → List Call → List Call → Type 0
+Calls answers old new before after = (calls : List Call) × (after ≡ before ++ calls) × Chain answers old calls new
+
+-- The stream begins with the request of the call, and the text is all that was sent for it: `100 Continue`, where its head
+-- asks for that, or nothing, and then the answer, which its client reads whole. It says `close` where one of the two
+-- asked for that, and only there (RFC 9112, section 9.6).
+pub record Exchanges (config : Config) (stays : Bool) (stream : List ℕ) (c : Call) (text rest : List ℕ) : Type 0 where
+  pub message : Wire.Request
+  pub request : ReadsCall config stream message c.0 rest
+  pub interim : List ℕ
+  pub is_interim : IsInterim config.limits stream interim
+  pub answer : List ℕ
+  pub is_answer : IsAnswer message.head c.1 answer
+  pub joined : text ≡ interim ++ answer
+  pub persists : keeps_open message.head c.1 ≡ stays
+  pub announced : (known_of is_answer.message.head.fields).close ≡ not stays
+
+-- The stream is the requests of these calls and then the rest, and the text answers them in that order. None asked to close.
+abbrev pub Serves : Config → List ℕ → List Call → List ℕ → List ℕ → Type 0
+Serves config stream [] text rest = (stream ≡ rest) × (text ≡ [])
+Serves config stream (c ∷ calls) text rest =
+    (first : List ℕ) × (after : List ℕ) × (later : List ℕ) × (text ≡ first ++ later)
+    × Exchanges config true stream c first after × Serves config after calls later rest

@@ -1,0 +1,148 @@
+-- What a connection has done, and what is true of it.
+use Rattle.std.specs.Prelude.{◌≡◌, ◌≢◌, ℕ, ◌<◌, ◌≤◌, ◌⊎◌, Bool, true, false, List, [], ◌∷◌, ◌++◌, length, take, drop, Some, IsTrue, IsFalse, if◌then◌else◌, ◌==◌}
+use Rattle.httparse.specs.Grammar.{RequestHead}
+use Rattle.http1.specs.declared.conn.Limits.{Limits}
+use Rattle.http1.specs.declared.error.WriteError.{WriteError}
+use Rattle.http1.specs.declared.framing.Framing.{Framing}
+use Rattle.http1.specs.Message as Wire
+use Rattle.http1.specs.Message.{AcceptsRequest, ReadsRequests}
+use Rattle.http1.specs.Server.{response_refusal}
+use Rattle.http1_typed.specs.Parts.{reason_of}
+use Rattle.http_server.specs.Encoding.{answering, size_of}
+use Rattle.http_server.specs.Exchange.{ExpectsContinue, continue_text, IsInterim}
+use Rattle.http_server.specs.History.{NextIs, HasTooManyFields}
+use Rattle.http_server.specs.Response.{fields_of}
+use Rattle.dav_wire.specs.declared.config.Config.{Config}
+use Rattle.dav_wire.specs.declared.state.State.{State}
+use Rattle.dav_wire.specs.declared.state.State.TheVariants.{Open, Closing, Aborted}
+use Rattle.dav_wire.specs.declared.state.Reason.{Reason}
+use Rattle.dav_wire.specs.declared.state.Reason.TheVariants.{Asked, EndOfInput, Refused, Unsendable}
+use Rattle.dav_wire.specs.Exchange.{Call, ReadsCall, Exchanges, Serves}
+use Rattle.dav_wire.specs.Refusals.{IsRefusedFor, closing_text, refusal_status}
+
+pub record History : Type 0 where
+  pub state : State
+  -- all that came, whether it ended, and what of it wasn't read yet
+  pub received : List ℕ
+  pub ended : Bool
+  pub unread : List ℕ
+  -- each request that was handed over, with its response
+  pub calls : List Call
+  -- all that was sent, and what waits for that
+  pub sent : List ℕ
+  pub pending : List ℕ
+
+-- all that was told: what was sent, and what waits
+abbrev pub told : History → List ℕ
+told h = h.sent ++ h.pending
+
+-- the stream begins with the head of a request
+pub record BeginsRequest (limits : Limits) (stream : List ℕ) : Type 0 where
+  pub head : RequestHead
+  pub framing : Framing
+  pub after : List ℕ
+  pub accepts : AcceptsRequest limits stream head framing after
+
+-- There is something to do: a head came whole, or the input ended, or no request can come of what came.
+abbrev pub HasWork : Limits → Bool → List ℕ → Type 0
+HasWork limits ended stream = BeginsRequest limits stream ⊎ (IsTrue ended ⊎ NextIs limits stream HasTooManyFields)
+
+-- the answerer was called once more, for the request that begins the stream
+pub record IsCalledFor (config : Config) (calls answered : List Call) (stream : List ℕ) : Type 0 where
+  pub call : Call
+  pub calls_are : calls ≡ answered ++ call ∷ []
+  pub rest : List ℕ
+  pub message : Wire.Request
+  pub request : ReadsCall config stream message call.0 rest
+
+-- it was called once more, or not
+abbrev pub MayBeCalledFor : Config → List Call → List Call → List ℕ → Type 0
+MayBeCalledFor config calls answered stream = (calls ≡ answered) ⊎ IsCalledFor config calls answered stream
+
+-- the response of the last call can't be sent, for this reason
+pub record IsUnsendable (config : Config) (e : WriteError) (calls answered : List Call) (stream : List ℕ) : Type 0 where
+  pub last : IsCalledFor config calls answered stream
+  pub refused : response_refusal (answering config.limits last.message.head last.request.reads.framing)
+      last.call.1.status (reason_of last.call.1.status) (size_of last.call.1) (fields_of last.call.1) ≡ Some e
+
+-- one exchange more, in which the request or the response asked to close
+pub record IsLast (config : Config) (h : History) (answered : List Call) (text rest : List ℕ) : Type 0 where
+  pub call : Call
+  pub calls_are : h.calls ≡ answered ++ call ∷ []
+  pub last : List ℕ
+  pub after : List ℕ
+  pub exchange : Exchanges config false rest call last after
+  pub told_is : told h ≡ text ++ last
+
+-- the input ended after the last of these requests
+pub record IsAtEnd (h : History) (answered : List Call) (text rest : List ℕ) : Type 0 where
+  pub calls_are : h.calls ≡ answered
+  pub ended : IsTrue h.ended
+  pub whole : rest ≡ []
+  pub told_is : told h ≡ text
+
+-- Memory ran out or the answerer stopped, where there was something to do. What waited is lost.
+pub record IsAborted (config : Config) (h : History) (answered : List Call) (text rest : List ℕ) : Type 0 where
+  pub had_work : HasWork config.limits h.ended rest
+  pub calls : MayBeCalledFor config h.calls answered rest
+  pub dropped : h.pending ≡ []
+  pub lost : List ℕ
+  pub sent : h.sent ++ lost ≡ text
+
+-- What each state says, after the calls that were answered by the text and the interim response to the request that begins
+-- the rest of the stream.
+abbrev pub Stands : State → Config → History → List Call → List ℕ → List ℕ → List ℕ → Type 0
+Stands Open config h answered text interim rest = (h.calls ≡ answered) × (told h ≡ text ++ interim)
+Stands (Closing Asked) config h answered text interim rest = IsLast config h answered text rest
+Stands (Closing EndOfInput) config h answered text interim rest = IsAtEnd h answered text rest
+Stands (Closing (Refused why)) config h answered text interim rest =
+    (h.calls ≡ answered) × IsRefusedFor why config h.ended rest × (told h ≡ (text ++ interim) ++ closing_text (refusal_status why))
+Stands (Closing (Unsendable e)) config h answered text interim rest =
+    IsUnsendable config e h.calls answered rest × (told h ≡ (text ++ interim) ++ closing_text 500)
+Stands Aborted config h answered text interim rest = IsAborted config h answered (text ++ interim) rest
+
+-- True of every connection: what came begins with the requests of the first calls, what was told begins with their answers, in
+-- that order, and the state says what follows.
+pub record IsServed (config : Config) (h : History) : Type 0 where
+  pub answered : List Call
+  pub text : List ℕ
+  pub rest : List ℕ
+  pub serves : Serves config h.received answered text rest
+  pub interim : List ℕ
+  pub is_interim : IsInterim config.limits rest interim
+  pub stands : Stands h.state config h answered text interim rest
+
+-- each whole request that came was handed over
+abbrev pub AreAllCalled : Limits → History → Type 0
+AreAllCalled limits h =
+    (ms : List Wire.Request) (rest : List ℕ) → ReadsRequests limits h.received ms rest → length ms ≤ length h.calls
+
+-- where the request after those waits for `100 Continue`, what was told ends in that
+abbrev pub IsInvited : Limits → History → Type 0
+IsInvited limits h =
+    (ms : List Wire.Request) (rest : List ℕ) → ReadsRequests limits h.received ms rest → length ms ≡ length h.calls
+    → ExpectsContinue limits rest → ∥ ((front : List ℕ) × (told h ≡ front ++ continue_text)) ∥₁
+
+-- an open connection with room in its output waits for input, and for that alone
+abbrev pub Rests : Config → History → Type 0
+Rests config h =
+    h.state ≡ Open → length h.pending ≤ config.max_pending
+    → IsFalse h.ended × AreAllCalled config.limits h × IsInvited config.limits h
+
+-- nothing was taken and nothing was sent
+abbrev pub IsQuiet : History → History → Type 0
+IsQuiet old new = (new.received ≡ old.received) × (new.ended ≡ old.ended) × (new.sent ≡ old.sent)
+
+-- these bytes came, or the end where there are none; after the end nothing is taken
+abbrev pub after_taken : History → List ℕ → History
+after_taken h more =
+    if h.ended then h
+    else record h { received = h.received ++ more; unread = h.unread ++ more; ended = length more == 0 }
+
+-- so many bytes were sent
+abbrev pub after_sent : History → ℕ → History
+after_sent h count = record h { sent = h.sent ++ take count h.pending; pending = drop count h.pending }
+
+-- nothing came yet
+abbrev pub new_history : History
+new_history = record { state = Open; received = []; ended = false; unread = []; calls = []; sent = []; pending = [] }

@@ -1,0 +1,46 @@
+-- What the contracts of a connection mean.
+use Rattle.std.specs.Prelude.{◌≡◌, ◌≢◌, ℕ, ◌<◌, ◌≤◌, ◌⊎◌, List, [], ◌∷◌, length, map, IsFalse}
+use Rattle.httparse.specs.Grammar.{RequestHead, ReadsRequest}
+use Rattle.http1.specs.Message as Wire
+use Rattle.http_server.specs.declared.state.TheConstants.{MAX_HEADERS}
+use Rattle.dav_wire.specs.declared.config.Config.{Config}
+use Rattle.dav_wire.specs.declared.answer.Asked.{Asked}
+use Rattle.dav_wire.specs.declared.state.State.TheVariants.{Open}
+use Rattle.dav_wire.specs.Exchange.{Call, ReadsCall}
+use Rattle.dav_wire.specs.History.{History, IsServed, Rests}
+
+-- these bytes, by themselves, are this head and no other, within the limits of length and of fields
+pub record IsHeadAlone (config : Config) (bytes : List ℕ) (h : RequestHead) : Type 0 where
+  pub reads : ReadsRequest bytes h []
+  pub only : (k : RequestHead) (more : List ℕ) → ReadsRequest bytes k more → (k ≡ h) × (more ≡ [])
+  pub within : length bytes ≤ config.limits.max_head_len
+  pub few : length h.fields ≤ MAX_HEADERS
+
+-- What reads the bytes that are handed over as a head, by themselves, reads the head that was read in the stream: so nothing
+-- is smuggled past the answerer's own reading (RFC 9112, section 11.2).
+abbrev pub HeadsStandAlone : Type 0
+HeadsStandAlone =
+    (config : Config) (stream : List ℕ) (m : Wire.Request) (asked : Asked) (rest : List ℕ) → ReadsCall config stream m asked rest
+    → IsHeadAlone config asked.head m.head
+
+-- the stream begins with the requests of these calls, one after another
+abbrev pub ReadsCalls : Config → List ℕ → List Call → List ℕ → Type 0
+ReadsCalls config stream [] rest = stream ≡ rest
+ReadsCalls config stream (c ∷ calls) rest =
+    (m : Wire.Request) × (after : List ℕ) × ReadsCall config stream m c.0 after × ReadsCalls config after calls rest
+
+-- What came begins with the requests that were handed over, each once and in that order.
+abbrev pub CallsAreRequests : Type 0
+CallsAreRequests = (config : Config) (h : History) → IsServed config h → (rest : List ℕ) × ReadsCalls config h.received h.calls rest
+
+-- And these are the only ones: what is handed over follows from the bytes that came, and from how much was handed over.
+abbrev pub RequestsAreDetermined : Type 0
+RequestsAreDetermined =
+    (config : Config) (stream : List ℕ) (xs ys : List Call) (r q : List ℕ) → ReadsCalls config stream xs r → ReadsCalls config stream ys q
+    → length xs ≡ length ys → (map (λ (c : Call). c.0) xs ≡ map (λ (c : Call). c.0) ys) × (r ≡ q)
+
+-- After `advance` a connection has something to send, or waits for input that goes on, or is closed.
+abbrev pub ConnectionsNeverStall : Type 0
+ConnectionsNeverStall =
+    (config : Config) (h : History) → Rests config h
+    → (0 < length h.pending) ⊎ (((h.state ≡ Open) × IsFalse h.ended) ⊎ (h.state ≢ Open))

@@ -1,0 +1,6 @@
+pub mod Exchange
+pub mod Refusals
+pub mod History
+pub mod Laws
+pub mod Place
+pub mod Peer

@@ -1,0 +1,250 @@
+-- What holds between the steps of a connection: where its reader is in the stream.
+use Rattle.std.specs.Prelude.{◌≡◌, ◌≢◌, ℕ, ◌+◌, ◌*◌, ◌<◌, ◌≤◌, Bool, true, false, List, [], ◌∷◌, ◌++◌, length, take, drop, flat_map, if◌then◌else◌, IsTrue, IsFalse, ⊤}
+use Rattle.httparse.specs.Grammar.{RequestHead}
+use Rattle.httparse.specs.Spans.{span_bytes}
+use Rattle.httparse.specs.declared.spans.HeaderSpan.{HeaderSpan}
+use Rattle.httparse.specs.declared.spans.RequestSpans.{RequestSpans}
+use Rattle.httparse.specs.declared.spans.Span.{Span}
+use Rattle.http1.specs.declared.conn.Limits.{Limits}
+use Rattle.http1.specs.declared.decode.Decoder.{Decoder}
+use Rattle.http1.specs.declared.decode.Decoder.TheVariants.{UntilClose}
+use Rattle.http1.specs.declared.framing.Framing.{Framing}
+use Rattle.http1.specs.declared.server.Server.{Server}
+use Rattle.http1.specs.Body.{Body, ReadsBody}
+use Rattle.http1.specs.Decoder.{Completes, with_front}
+use Rattle.http1.specs.Framing.{method_kind}
+use Rattle.http1.specs.Message as Wire
+use Rattle.http1.specs.Message.{known_of, AcceptsRequest, ReadsRequestMessage}
+use Rattle.http1.specs.declared.conn.Writing.{Writing}
+use Rattle.http1.specs.Conn.{data_text, after_data, finish_text}
+use Rattle.http1.specs.Server.{new_server, request_of, is_head, TakesHead, writing, with_writing, after_end}
+use Rattle.http_server.specs.declared.response.Response.{Response}
+use Rattle.http_server.specs.declared.state.TheConstants.{MAX_HEADERS}
+use Rattle.http_server.specs.Encoding.{answering}
+use Rattle.http_server.specs.Exchange.{ExpectsContinue, continue_text, IsInterim}
+use Rattle.http_server.specs.History.{HasNoMessage}
+use Rattle.http_server.specs.Machine.{in_body}
+use Rattle.dav_wire.specs.declared.answer.Asked.{Asked}
+use Rattle.dav_wire.specs.declared.config.Config.{Config}
+use Rattle.dav_wire.specs.declared.intake.Intake.{Intake}
+use Rattle.dav_wire.specs.declared.intake.Found.{Found}
+use Rattle.dav_wire.specs.declared.intake.Found.TheVariants as found
+use Rattle.dav_wire.specs.declared.line.Line.{Line}
+use Rattle.dav_wire.specs.declared.state.Reason.{Reason}
+use Rattle.dav_wire.specs.declared.state.State.{State}
+use Rattle.dav_wire.specs.declared.state.State.TheVariants.{Open, Closing, Aborted}
+use Rattle.dav_wire.specs.Exchange.{Call, ReadsCall, Serves, most_of}
+use Rattle.dav_wire.specs.History.{History, told, HasWork, IsServed, Rests}
+use Rattle.dav_wire.specs.Refusals.{IsRefusedFor}
+
+-- what the proofs read of an intake
+pub record Place : Type 0 where
+  pub config : Config
+  pub unread : List ℕ
+  pub server : Server
+  pub within : Bool
+  pub head : List ℕ
+  pub is_head : Bool
+  pub most : ℕ
+  pub body : List ℕ
+
+abbrev pub place : Intake → Place
+place i = record {
+  config = i.config;
+  unread = i.input.items;
+  server = i.server;
+  within = i.is_within;
+  head = i.head.items;
+  is_head = i.is_head;
+  most = i.most;
+  body = i.body.items;
+}
+
+-- what goes before the answer to a request with this head
+abbrev pub invitation : RequestHead → Framing → List ℕ
+invitation h framing = if (request_of h framing).expects_continue then continue_text else []
+
+-- The decoder goes on in the unread bytes where so much of a body was given, of the body that begins after a head: whatever
+-- comes, that body is what was given and then what the decoder reads there.
+pub record IsBodyAt (limits : Limits) (framing : Framing) (after : List ℕ) (d : Decoder) (unread given : List ℕ) : Type 0 where
+  pub back : (more : List ℕ) (body : Body) (rest : List ℕ) → Completes d (unread ++ more) body rest
+      → ReadsBody limits framing (after ++ more) (with_front given body) rest
+  pub forth : (more : List ℕ) (whole : Body) (rest : List ℕ) → ReadsBody limits framing (after ++ more) whole rest
+      → (body : Body) × (whole ≡ with_front given body) × Completes d (unread ++ more) body rest
+
+-- The head of the request that begins the stream was read, and of its body the bytes that are kept.
+pub record Begun (p : Place) (stream interim : List ℕ) : Type 0 where
+  pub head : RequestHead
+  pub framing : Framing
+  pub after : List ℕ
+  pub accepts : AcceptsRequest p.config.limits stream head framing after
+  pub text : stream ≡ p.head ++ after
+  pub few : length head.fields ≤ MAX_HEADERS
+  pub plain : IsFalse (known_of head.fields).other_coding
+  pub most : p.most ≡ most_of p.config head.method
+  pub kind : p.is_head ≡ is_head (method_kind head.method)
+  pub invited : interim ≡ invitation head framing
+  pub decoder : Decoder
+  pub ends : decoder ≢ UntilClose
+  pub waits : Bool
+  pub server : p.server ≡ in_body p.config.limits head framing decoder waits
+  pub goes_on : IsBodyAt p.config.limits framing after decoder p.unread p.body
+
+-- the reader is at the start of a request
+pub record IsBetween (p : Place) (stream interim : List ℕ) : Type 0 where
+  pub server : p.server ≡ new_server p.config.limits
+  pub unread : p.unread ≡ stream
+  pub body : p.body ≡ []
+  pub silent : interim ≡ []
+
+-- the reader is within the body of the request that begins the stream, to which it told this much, or at its start
+abbrev pub StandsAt : Bool → Place → List ℕ → List ℕ → Type 0
+StandsAt true p stream interim = Begun p stream interim × (length p.body ≤ p.most)
+StandsAt false p stream interim = IsBetween p stream interim
+
+abbrev pub Standing : Place → List ℕ → List ℕ → Type 0
+Standing p stream interim = StandsAt p.within p stream interim
+
+-- the stream has no whole request, and the one that begins it was invited if it waits for that
+pub record IsStarved (p : Place) (stream interim : List ℕ) : Type 0 where
+  pub standing : Standing p stream interim
+  pub unfinished : HasNoMessage p.config.limits stream
+  pub invited : ExpectsContinue p.config.limits stream → interim ≡ continue_text
+
+-- the request that begins the stream was read whole
+pub record IsWhole (p : Place) (stream : List ℕ) (asked : Asked) (bodiless : Bool) : Type 0 where
+  pub message : Wire.Request
+  pub request : ReadsCall p.config stream message asked p.unread
+  pub kind : bodiless ≡ is_head (method_kind message.head.method)
+  pub server : p.server ≡ answering p.config.limits message.head request.reads.framing
+  pub between : p.within ≡ false
+  pub body : p.body ≡ []
+
+-- what falls at each step that goes on
+abbrev pub work : Place → ℕ
+work p = 2 * length p.unread + (if p.within then 1 else 0)
+
+-- What was found at a place with so much work, in the stream to whose first request this much was told, and the place after that.
+abbrev pub Finds : Found → Bool → ℕ → Place → List ℕ → List ℕ → Type 0
+Finds found.Nothing ended before p stream interim = IsStarved p stream interim × IsFalse ended
+Finds found.End ended before p stream interim = IsTrue ended × (stream ≡ []) × (interim ≡ [])
+Finds found.Part ended before p stream interim = Standing p stream interim × (work p < before)
+Finds found.Invitation ended before p stream interim =
+    (interim ≡ []) × Standing p stream continue_text × ExpectsContinue p.config.limits stream × (work p < before)
+Finds (found.Request asked bodiless) ended before p stream interim = IsWhole p stream asked bodiless × (work p < before)
+Finds (found.Refused why) ended before p stream interim =
+    IsRefusedFor why p.config ended stream × HasWork p.config.limits ended stream
+
+-- a head was read at the start of the stream, and is still among the bytes
+pub record HasHead (p : Place) (spans : List HeaderSpan) (r : RequestSpans) (stream interim : List ℕ) : Type 0 where
+  pub unread : p.unread ≡ stream
+  pub silent : interim ≡ []
+  pub within : p.within ≡ false
+  pub body : p.body ≡ []
+  pub takes : TakesHead (new_server p.config.limits) stream spans p.server r.len r
+  pub few : length spans ≤ MAX_HEADERS
+
+-- the next piece of a body was read, and is still among the bytes
+pub record HasPiece (p : Place) (piece : Span) (stream interim : List ℕ) : Type 0 where
+  pub within : p.within ≡ true
+  pub some : piece.start < piece.end
+  pub fits : length p.body ≤ p.most
+  pub onward : Begun (record p { unread = drop piece.end p.unread; body = p.body ++ span_bytes p.unread piece }) stream interim
+
+-- the end of the request that begins the stream was read
+pub record HasEnd (p : Place) (stream : List ℕ) : Type 0 where
+  pub within : p.within ≡ true
+  pub message : Wire.Request
+  pub reads : ReadsRequestMessage p.config.limits stream message p.unread
+  pub head : stream ≡ p.head ++ reads.after_head
+  pub body : p.body ≡ message.body.bytes
+  pub plain : IsFalse (known_of message.head.fields).other_coding
+  pub fits : length message.body.bytes ≤ most_of p.config message.head.method
+  pub few : length message.head.fields ≤ MAX_HEADERS
+  pub kind : p.is_head ≡ is_head (method_kind message.head.method)
+  pub server : p.server ≡ answering p.config.limits message.head reads.framing
+
+-- nothing came, and the limits are the same
+pub record KeepsIntake (old new : Intake) : Type 0 where
+  pub config : new.config ≡ old.config
+  pub ended : new.ended ≡ old.ended
+
+abbrev pub history_of : Line → History
+history_of l = record {
+  state = l.state;
+  received = flat_map (λ r. drop r.1 r.0.items) l.reads.items;
+  ended = l.intake.ended;
+  unread = l.intake.input.items;
+  calls = l.calls.items;
+  sent = flat_map (λ w. take w.1 w.0.items) l.writes.items;
+  pending = l.output.items;
+}
+
+-- what was answered, and what is left of the stream
+pub record Base (config : Config) (h : History) : Type 0 where
+  pub is_open : h.state ≡ Open
+  pub answered : List Call
+  pub text : List ℕ
+  pub rest : List ℕ
+  pub serves : Serves config h.received answered text rest
+  pub interim : List ℕ
+  pub is_interim : IsInterim config.limits rest interim
+  pub told_is : told h ≡ text ++ interim
+
+pub record IsRunning (p : Place) (h : History) : Type 0 where
+  pub base : Base p.config h
+  pub calls : h.calls ≡ base.answered
+  pub standing : Standing p base.rest base.interim
+
+-- what is true of a connection in each state
+abbrev pub HoldsAt : State → Place → History → Type 0
+HoldsAt Open p h = IsRunning p h
+HoldsAt (Closing why) p h = IsServed p.config h
+HoldsAt Aborted p h = IsServed p.config h
+
+abbrev pub Holds : Line → Type 0
+Holds l = HoldsAt l.state (place l.intake) (history_of l)
+
+-- memory ran out or the answerer stopped, and what waited was dropped
+abbrev pub aborted : History → History
+aborted h = record h { state = Aborted; pending = [] }
+
+-- nothing more is told but this text
+abbrev pub closed_with : Reason → List ℕ → History → History
+closed_with why text h = record h { state = Closing why; pending = h.pending ++ text }
+
+-- a request was given to the answerer
+pub record IsGiven (p : Place) (h : History) (asked : Asked) (bodiless : Bool) : Type 0 where
+  pub base : Base p.config h
+  pub calls : h.calls ≡ base.answered
+  pub whole : IsWhole p base.rest asked bodiless
+
+-- and it gave this response
+pub record IsAnswered (p : Place) (h : History) (response : Response) (bodiless : Bool) : Type 0 where
+  pub base : Base p.config h
+  pub asked : Asked
+  pub calls : h.calls ≡ base.answered ++ (asked, response) ∷ []
+  pub whole : IsWhole p base.rest asked bodiless
+
+-- no bytes came and none went
+pub record KeepsLine (old new : Line) : Type 0 where
+  pub config : new.intake.config ≡ old.intake.config
+  pub ended : new.intake.ended ≡ old.intake.ended
+  pub reads : new.reads ≡ old.reads
+  pub writes : new.writes ≡ old.writes
+
+-- a step keeps what holds, and has less to do, or else waits for input alone
+pub record Reaches (old : ℕ) (goes_on : Bool) (new : Line) : Type 0 where
+  pub holds : Holds new
+  pub less : IsTrue goes_on → work (place new.intake) < old
+  pub rests : IsFalse goes_on → Rests new.intake.config (history_of new)
+
+-- what is written after the head of a response: its body, unless the method is HEAD, and the end
+abbrev pub rest_text : Bool → Writing → List ℕ → List ℕ
+rest_text true w body = finish_text w []
+rest_text false w body = data_text w body ++ finish_text (after_data w (length body)) []
+
+-- the server after that
+abbrev pub after_rest : Bool → Server → ℕ → Server
+after_rest true s len = after_end s
+after_rest false s len = after_end (with_writing s (after_data (writing s) len))

@@ -1,0 +1,37 @@
+-- Why a request is refused, and the texts that the connection sends of its own.
+use Rattle.std.specs.Prelude.{◌≡◌, ◌≢◌, ℕ, ◌<◌, ◌⊎◌, ◌||◌, ◌==◌, Bool, List, [], ◌∷◌, length, codes, if◌then◌else◌, IsTrue}
+use Rattle.http1.specs.declared.conn.Limits.{Limits}
+use Rattle.http1.specs.ReadError.{status_of}
+use Rattle.http1.specs.Head.{response_text}
+use Rattle.http1_typed.specs.Parts.{reason_of}
+use Rattle.http_server.specs.History.{HasNoMessage, NextIs, HasTooManyFields, HasUnknownCoding, IsReadError}
+use Rattle.dav_wire.specs.declared.config.Config.{Config}
+use Rattle.dav_wire.specs.declared.state.Refusal.{Refusal}
+use Rattle.dav_wire.specs.declared.state.Refusal.TheVariants.{Truncated, Unreadable, BodyTooLong, UnknownCoding}
+use Rattle.dav_wire.specs.Exchange.{most_of}
+
+-- the status of a refusal (RFC 9110, section 15.5, RFC 6585, section 5, and RFC 9112, sections 3 and 6.1)
+abbrev pub refusal_status : Refusal → ℕ
+refusal_status Truncated = 400
+refusal_status (Unreadable e) = status_of e
+refusal_status BodyTooLong = 413
+refusal_status UnknownCoding = 501
+
+-- a status that the connection answers with itself, and 400 for any other
+abbrev pub known_status : ℕ → ℕ
+known_status status =
+    if (status == 413) || ((status == 414) || ((status == 431) || ((status == 500) || (status == 501)))) then status else 400
+
+-- a response with this status and its phrase, no body, and the word that the connection is closed (RFC 9112, section 9.6)
+abbrev pub closing_text : ℕ → List ℕ
+closing_text status =
+    response_text 1 status (reason_of status) ((codes "connection", codes "close") ∷ (codes "content-length", codes "0") ∷ [])
+
+-- Why the request that begins the stream is refused: the input ended within it; or, whatever bytes might follow, it has too
+-- many fields, or can't be read at all, or its body is longer than its method may have, or has an unknown coding.
+abbrev pub IsRefusedFor : Refusal → Config → Bool → List ℕ → Type 0
+IsRefusedFor Truncated config ended stream = IsTrue ended × (stream ≢ []) × HasNoMessage config.limits stream
+IsRefusedFor (Unreadable e) config ended stream = NextIs config.limits stream HasTooManyFields × IsReadError config.limits stream e
+IsRefusedFor BodyTooLong config ended stream =
+    NextIs config.limits stream (λ m. most_of config m.head.method < length m.body.bytes)
+IsRefusedFor UnknownCoding config ended stream = NextIs config.limits stream HasUnknownCoding

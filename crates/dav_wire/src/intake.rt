@@ -1,0 +1,199 @@
+//! The bytes that came, and the request that is being cut from them.
+ghost use Rattle.std.specs.Prelude.{◌≡◌, ◌≢◌, ◌≤◌, List, ℕ, [], false, length, IsTrue, IsFalse, IfOk, OnErr};
+ghost use Rattle.httparse.specs.Spans.{IsRequestWithin, IsWithin};
+ghost use Rattle.http1.specs.Framing.{method_kind};
+ghost use Rattle.http1.specs.Server.{is_head};
+ghost use Rattle.http_server.specs.declared.state.TheConstants.{MAX_HEADERS};
+
+use crate::answer::Asked;
+use crate::config::{Config, most_of};
+use crate::state::Refusal;
+use bytes::BytesMut;
+use http1::framing::MethodKind;
+use http1::{BodySize, Event, Server};
+use httparse::spans::{HeaderSpan, RequestSpans, Span};
+use std::alloc::{AllocError, Global};
+
+/// What the bytes hold next.
+#[derive(Drop)]
+pub(crate) enum Found {
+    /// Nothing more before more bytes come.
+    Nothing,
+    /// The end, after a whole request.
+    End,
+    /// A head, or a piece of a body.
+    Part,
+    /// A head whose sender waits for `100 Continue` (RFC 9110, section 10.1.1).
+    Invitation,
+    /// A whole request, and whether its method is HEAD.
+    Request(Asked, bool),
+    /// A request that is refused.
+    Refused(Refusal),
+}
+
+/// The bytes that came, and the request that is being read.
+#[derive(Drop)]
+pub(crate) struct Intake {
+    pub(crate) config: Config,
+    /// What came and was not read yet.
+    pub(crate) input: BytesMut,
+    /// Whether the input has ended.
+    pub(crate) ended: bool,
+    pub(crate) server: Server,
+    /// Whether a head was read, whose body isn't whole.
+    pub(crate) is_within: bool,
+    /// The bytes of that head, whether its method is HEAD, and the most bytes of its body.
+    pub(crate) head: BytesMut,
+    pub(crate) is_head: bool,
+    pub(crate) most: usize,
+    /// What was read of its body.
+    pub(crate) body: BytesMut,
+}
+
+impl Intake {
+    ghost use Rattle.dav_wire.specs.Place.{place, Standing, IsStarved, HasHead, HasPiece, HasEnd, Finds, work, KeepsIntake};
+    ghost use Rattle.dav_wire.specs.History.{HasWork};
+
+    pub(crate) fn new(alloc: Global, config: Config) -> Intake
+        ensures standing { Standing (place result) [] [] }
+        ensures fresh { (result.config ≡ config) × (result.ended ≡ false) × (result.input.items ≡ []) }
+    {
+        Intake {
+            config,
+            input: BytesMut::new(alloc),
+            ended: false,
+            server: Server::new(config.limits),
+            is_within: false,
+            head: BytesMut::new(alloc),
+            is_head: false,
+            most: 0,
+            body: BytesMut::new(alloc),
+        }
+    }
+
+    /// Reads one event from the bytes.
+    pub(crate) fn read(&mut self, spans: &mut [HeaderSpan]) -> Result<Found, AllocError>
+        requires { length spans.old ≡ MAX_HEADERS }
+        ensures finds { (stream interim : List ℕ) → Standing (place self.old) stream interim
+            → IfOk result (λ found. Finds found self.old.ended (work (place self.old)) (place self.new) stream interim) }
+        ensures fails { (stream interim : List ℕ) → Standing (place self.old) stream interim
+            → OnErr result (HasWork self.old.config.limits self.old.ended stream) }
+        ensures keeps { KeepsIntake self.old self.new }
+    {
+        let read = match self.server.read(self.input.as_slice(), spans) {
+            Ok(read) => read,
+            Err(error) => return Ok(Found::Refused(Refusal::Unreadable(error))),
+        };
+        match read.event {
+            Event::Head(head) => self.begin(&head, spans),
+            Event::Data(piece) => self.add(piece),
+            Event::End(_) => {
+                self.input.advance(read.consumed);
+                self.finish()
+            }
+            _ => {
+                self.input.advance(read.consumed);
+                Ok(self.wait())
+            }
+        }
+    }
+
+    // There is no more to read: more bytes may come, or the input ended here.
+    fn wait(&self) -> Found
+        ensures { (stream interim : List ℕ) (before : ℕ) → IsStarved (place self.now) stream interim
+            → Finds result self.now.ended before (place self.now) stream interim }
+    {
+        if !self.ended {
+            return Found::Nothing;
+        }
+        if self.is_between() {
+            return Found::End;
+        }
+        Found::Refused(Refusal::Truncated)
+    }
+
+    // Whether nothing of a request came.
+    fn is_between(&self) -> bool
+        ensures between { IsTrue result → (self.now.is_within ≡ false) × (self.now.input.items ≡ []) }
+        ensures within { IsFalse result → self.now.is_within ≡ false → self.now.input.items ≢ [] }
+    {
+        !self.is_within && self.input.is_empty()
+    }
+
+    // A head came: its request may be refused before its body is read.
+    fn begin(&mut self, head: &RequestSpans, spans: &[HeaderSpan]) -> Result<Found, AllocError>
+        requires { IsRequestWithin self.old.input.items spans.now head.now }
+        ensures finds { (stream interim : List ℕ)
+            → HasHead (place self.old) spans.now head.now stream interim
+            → IfOk result (λ found. Finds found self.old.ended (work (place self.old)) (place self.new) stream interim) }
+        ensures fails { (stream interim : List ℕ)
+            → HasHead (place self.old) spans.now head.now stream interim
+            → OnErr result (HasWork self.old.config.limits self.old.ended stream) }
+        ensures keeps { KeepsIntake self.old self.new }
+    {
+        if self.server.has_codings() {
+            return Ok(Found::Refused(Refusal::UnknownCoding));
+        }
+        let input = self.input.as_slice();
+        let method = head.method.of(input);
+        self.most = most_of(&self.config, method);
+        self.is_head = is_head(method);
+        self.head.clear();
+        self.head.extend_from_slice(&input[..head.len])?;
+        self.input.advance(head.len);
+        self.is_within = true;
+        if let BodySize::Known(len) = self.server.unread_size()
+            && len > self.most as u64
+        {
+            return Ok(Found::Refused(Refusal::BodyTooLong));
+        }
+        if self.server.expects_continue() {
+            Ok(Found::Invitation)
+        } else {
+            Ok(Found::Part)
+        }
+    }
+
+    // A piece of the body came.
+    fn add(&mut self, piece: Span) -> Result<Found, AllocError>
+        requires { IsWithin (length self.old.input.items) piece }
+        ensures finds { (stream interim : List ℕ) → HasPiece (place self.old) piece stream interim
+            → IfOk result (λ found. Finds found self.old.ended (work (place self.old)) (place self.new) stream interim) }
+        ensures fails { (stream interim : List ℕ) → HasPiece (place self.old) piece stream interim
+            → OnErr result (HasWork self.old.config.limits self.old.ended stream) }
+        ensures keeps { KeepsIntake self.old self.new }
+    {
+        let bytes = piece.of(self.input.as_slice());
+        if bytes.len() > self.most.saturating_sub(self.body.len()) {
+            return Ok(Found::Refused(Refusal::BodyTooLong));
+        }
+        self.body.extend_from_slice(bytes)?;
+        self.input.advance(piece.end);
+        Ok(Found::Part)
+    }
+
+    // The request is whole.
+    fn finish(&mut self) -> Result<Found, AllocError>
+        ensures finds { (stream interim : List ℕ) (before : ℕ) → work (place self.old) ≤ before
+            → HasEnd (place self.old) stream
+            → IfOk result (λ found. Finds found self.old.ended before (place self.new) stream interim) }
+        ensures fails { (stream : List ℕ) → HasEnd (place self.old) stream
+            → OnErr result (HasWork self.old.config.limits self.old.ended stream) }
+        ensures keeps { KeepsIntake self.old self.new }
+    {
+        if !self.is_within {
+            return Ok(Found::Nothing);
+        }
+        let head = self.head.freeze_to(self.head.len())?;
+        let body = self.body.freeze_to(self.body.len())?;
+        self.is_within = false;
+        Ok(Found::Request(Asked { head, body }, self.is_head))
+    }
+}
+
+// Whether a method is HEAD.
+fn is_head(method: &[u8]) -> bool
+    ensures { result ≡ is_head (method_kind method.now) }
+{
+    matches!(MethodKind::of(method), MethodKind::Head)
+}

@@ -1,0 +1,72 @@
+//! Where a connection stands, and why it is closed.
+ghost use Rattle.std.specs.Prelude.{◌≡◌};
+ghost use Rattle.dav_wire.specs.Refusals.{known_status, closing_text, refusal_status};
+
+use http1::{ReadError, WriteError};
+
+/// Where a connection stands.
+#[derive(Clone, Copy, Debug, PartialEq, Eq)]
+pub enum State {
+    /// It answers requests.
+    Open,
+    /// What waits is its last text; then it is closed.
+    Closing(Reason),
+    /// Memory ran out or the answerer stopped. What waited is dropped.
+    Aborted,
+}
+
+/// Why a connection is closed.
+#[derive(Clone, Copy, Debug, PartialEq, Eq)]
+pub enum Reason {
+    /// The last request, or its response, asked for it (RFC 9112, section 9.6).
+    Asked,
+    /// The input ended after a request.
+    EndOfInput,
+    /// The next request is refused.
+    Refused(Refusal),
+    /// The answerer's response can't be sent (500).
+    Unsendable(WriteError),
+}
+
+/// Why a request is refused.
+#[derive(Clone, Copy, Debug, PartialEq, Eq)]
+pub enum Refusal {
+    /// The input ended within it (400).
+    Truncated,
+    /// It can't be read (400, 414 or 431).
+    Unreadable(ReadError),
+    /// Its body is too long (413).
+    BodyTooLong,
+    /// Its body has a transfer coding other than `chunked` (501; RFC 9112, section 6.1).
+    UnknownCoding,
+}
+
+impl Refusal {
+    /// The status that tells it.
+    pub fn status(self) -> u16
+        ensures { result ≡ refusal_status self }
+    {
+        match self {
+            Refusal::Truncated => 400,
+            Refusal::Unreadable(error) => error.status(),
+            Refusal::BodyTooLong => 413,
+            Refusal::UnknownCoding => 501,
+        }
+    }
+}
+
+/// The last text of a connection that is closed with this status; one that isn't known is told as 400.
+pub(crate) fn closing_text(status: u16) -> &'static [u8]
+    ensures { result.now ≡ closing_text (known_status status) }
+{
+    match status {
+        413 => b"HTTP/1.1 413 Payload Too Large\r\nconnection: close\r\ncontent-length: 0\r\n\r\n",
+        414 => b"HTTP/1.1 414 URI Too Long\r\nconnection: close\r\ncontent-length: 0\r\n\r\n",
+        431 =>
+            b"HTTP/1.1 431 Request Header Fields Too Large\r\nconnection: close\r\ncontent-length: 0\r\n\r\n",
+        500 =>
+            b"HTTP/1.1 500 Internal Server Error\r\nconnection: close\r\ncontent-length: 0\r\n\r\n",
+        501 => b"HTTP/1.1 501 Not Implemented\r\nconnection: close\r\ncontent-length: 0\r\n\r\n",
+        _ => b"HTTP/1.1 400 Bad Request\r\nconnection: close\r\ncontent-length: 0\r\n\r\n",
+    }
+}
