@@ -1,15 +1,13 @@
 -- A journal that only reads.
-use Rattle.std.proofs.Common.{◌≡◌, ℕ, ◌<◌, ◌≤◌, List, [], ◌∷◌, ◌++◌, Vec, Option, Some, None, Result, Ok, Err, IfOk, OnOk, IsNone, IsTrue, MatchOption, length, slice_index, sym, ◌∙◌, ap, subst, arith}
+use Rattle.std.proofs.Common.{◌≡◌, ℕ, ◌<◌, ◌≤◌, List, Result, Ok, Err, length, slice_index, sym, ◌∙◌, ap, subst, arith}
 use Rattle.std.proofs.lemmas.List.{ext_get_or}
-use Rattle.std.specs.declared.alloc.Global.{Global}
 use Rattle.sqlite_disk.specs.Disk.{Follows, Holds}
 use Rattle.dav_journal.specs.Write.{KeepsBelow}
 use Rattle.sqlite_disk.specs.declared.Disk.{Ghosts}
-use Rattle.dav_journal.specs.declared.error.JournalError.{JournalError}
 use Rattle.dav_journal.specs.declared.journal.Journal.{Journal}
 use Rattle.dav_journal.specs.Block.{AreBlocks, IsNoBlock}
 use Rattle.dav_journal.specs.File.{Recovers}
-use Rattle.dav_journal.specs.Journal.{HasRead, IsKept, IsReading, Stays, blocks_end, blocks_len, disk_of}
+use Rattle.dav_journal.specs.Journal.{HasRead, IsKept, IsReading, Stays, blocks_end, blocks_len}
 use Rattle.dav_journal.specs.Mark.{NoneMarkedPast}
 use Rattle.dav_journal.proofs.BlockLemmas.{blocks_le, rests_below}
 use Rattle.dav_journal.proofs.MarkLemmas.{blank_kept, none_past}

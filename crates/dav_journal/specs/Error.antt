@@ -1,5 +1,4 @@
 -- The errors of a journal.
-use Rattle.std.specs.Prelude.{ℕ}
 use Rattle.std.specs.Bool.{⊤}
 use Rattle.dav_journal.specs.declared.error.JournalError.{JournalError}
 use Rattle.dav_journal.specs.declared.error.JournalError.TheVariants as errors

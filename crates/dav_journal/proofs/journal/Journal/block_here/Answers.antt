@@ -1,4 +1,4 @@
-use Rattle.std.proofs.Common.{◌≡◌, ℕ, ◌+◌, ◌<◌, ◌^◌, List, ◌∷◌, length, sym, ◌∙◌, ap, arith, rules}
+use Rattle.std.proofs.Common.{◌≡◌, ℕ, ◌<◌, ◌^◌, List, ◌∷◌, length, sym, ◌∙◌, ap, arith, rules}
 use Rattle.sqlite_disk.specs.Disk.{Holds}
 use Rattle.dav_journal.specs.Block.{head_of}
 use Rattle.dav_journal.proofs.BlockLemmas.{no_block_read, no_block_short, no_block_told, read_block}

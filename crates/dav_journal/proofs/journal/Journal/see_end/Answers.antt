@@ -1,4 +1,4 @@
-use Rattle.std.proofs.Common.{◌≡◌, ℕ, rules, arith}
+use Rattle.std.proofs.Common.{rules, arith}
 use Rattle.dav_journal.proofs.journal.Journal.see_end.Goals as goal
 
 pub returns-then-self-clause-damaged : goal.returns-then-self-clause-damaged
