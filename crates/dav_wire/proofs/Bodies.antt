@@ -1,6 +1,6 @@
 -- Where the reader is in a stream, and what each event does to that.
 use Rattle.std.proofs.Common.{◌≡◌, ◌≢◌, ℕ, ◌+◌, ◌*◌, ◌-◌, ◌<◌, ◌≤◌, ◌⊎◌, Bool, true, false, cond, ◌&&◌, ◌==◌, List, [], ◌∷◌, ◌++◌, length, take, drop, map, Ok, refl, sym, ap, ◌∙◌, subst, subst₂, arith, append_assoc, append-nil, length-append, length-drop, take-append-drop, inl, inr, IsTrue, IsFalse}
-use Rattle.std.proofs.lemmas.List.{length-map, take_all, drop_all}
+use Rattle.std.proofs.lemmas.List.{length-map, take_all}
 use Rattle.httparse.specs.declared.spans.Span.{Span}
 use Rattle.httparse.specs.declared.spans.HeaderSpan.{HeaderSpan}
 use Rattle.httparse.specs.declared.spans.RequestSpans.{RequestSpans}
@@ -346,18 +346,16 @@ ends_between p stream interim x between none =
 
 module _ {p : Place} {stream : List ℕ} (x : HasEnd p stream) where
   -- what was kept of the request was handed over
-  pub handed_over : (asked : Asked) (len size : ℕ) (head body : List ℕ) → len ≡ length p.head → asked.head ≡ take len p.head
-      → size ≡ length p.body → asked.body ≡ take size p.body → body ≡ drop size p.body
-      → IsWhole (record p { within = false; head = head; body = body }) stream asked p.is_head
-  handed_over asked len size head body long front wide whole left =
+  pub handed_over : (asked : Asked) (len : ℕ) (head body : List ℕ) → len ≡ length p.head → asked.head ≡ take len p.head
+      → asked.body ≡ p.body → body ≡ [] → IsWhole (record p { within = false; head = head; body = body }) stream asked p.is_head
+  handed_over asked len head body long front whole none =
       let is_head : asked.head ≡ p.head = front ∙ take_all len p.head (omega (arith, long)) in
-      let is_body : asked.body ≡ p.body = whole ∙ take_all size p.body (omega (arith, wide)) in
       record {
         message = x.message;
         request = record {
           reads = x.reads;
           head = x.head ∙ ap (λ (t : List ℕ). t ++ x.reads.after_head) (sym is_head);
-          body = is_body ∙ x.body;
+          body = whole ∙ x.body;
           plain = x.plain;
           fits = x.fits;
           few = x.few;
@@ -365,7 +363,7 @@ module _ {p : Place} {stream : List ℕ} (x : HasEnd p stream) where
         kind = x.kind;
         server = x.server;
         between = refl;
-        body = left ∙ drop_all size p.body (omega (arith, wide));
+        body = none;
       }
 
   pub end_less : 2 * length p.unread + 0 < work p

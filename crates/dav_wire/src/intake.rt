@@ -13,6 +13,7 @@ use http1::framing::MethodKind;
 use http1::{BodySize, Event, Server};
 use httparse::spans::{HeaderSpan, RequestSpans, Span};
 use std::alloc::{AllocError, Global};
+use std::mem;
 
 /// What the bytes hold next.
 #[derive(Drop)]
@@ -34,6 +35,7 @@ pub(crate) enum Found {
 /// The bytes that came, and the request that is being read.
 #[derive(Drop)]
 pub(crate) struct Intake {
+    alloc: Global,
     pub(crate) config: Config,
     /// What came and was not read yet.
     pub(crate) input: BytesMut,
@@ -59,6 +61,7 @@ impl Intake {
         ensures fresh { (result.config ≡ config) × (result.ended ≡ false) × (result.input.items ≡ []) }
     {
         Intake {
+            alloc,
             config,
             input: BytesMut::new(alloc),
             ended: false,
@@ -185,7 +188,7 @@ impl Intake {
             return Ok(Found::Nothing);
         }
         let head = self.head.freeze_to(self.head.len())?;
-        let body = self.body.freeze_to(self.body.len())?;
+        let body = mem::replace(&mut self.body, BytesMut::new(self.alloc)).freeze()?;
         self.is_within = false;
         Ok(Found::Request(Asked { head, body }, self.is_head))
     }

@@ -10,6 +10,8 @@ mod line;
 mod peer;
 mod reply;
 mod state;
+#[cfg(test)]
+mod tests;
 
 pub use answer::{Answerer, Asked, Stop};
 pub use config::Config;
