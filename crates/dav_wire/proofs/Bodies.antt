@@ -1,5 +1,5 @@
 -- Where the reader is in a stream, and what each event does to that.
-use Rattle.std.proofs.Common.{◌≡◌, ◌≢◌, ℕ, ◌+◌, ◌*◌, ◌-◌, ◌<◌, ◌≤◌, ◌⊎◌, Bool, true, false, cond, ◌&&◌, ◌==◌, List, [], ◌∷◌, ◌++◌, length, take, drop, map, Ok, refl, sym, ap, ◌∙◌, subst, subst₂, arith, append_assoc, append-nil, length-append, length-drop, take-append-drop, inl, inr, IsTrue, IsFalse}
+use Rattle.std.proofs.Common.{◌≡◌, ◌≢◌, ℕ, ◌+◌, ◌*◌, ◌<◌, ◌≤◌, Bool, true, false, cond, ◌&&◌, ◌==◌, List, [], ◌++◌, length, take, drop, refl, sym, ap, ◌∙◌, subst, subst₂, arith, append_assoc, append-nil, length-append, length-drop, take-append-drop, inl, inr}
 use Rattle.std.proofs.lemmas.List.{length-map, take_all}
 use Rattle.httparse.specs.declared.spans.Span.{Span}
 use Rattle.httparse.specs.declared.spans.HeaderSpan.{HeaderSpan}
@@ -26,16 +26,14 @@ use Rattle.http1.specs.Message as Wire
 use Rattle.http1.specs.Message.{known_of, AcceptsRequest, ReadsRequestMessage}
 use Rattle.http1.specs.Server.{new_server, request_of, is_head, reading, has_codings, expects_continue, after_piece, TakesHead, ReadsHead, ReadsInBody, ReadsAt, ServerReads, ServerRefuses}
 use Rattle.http1.proofs.OneParse.{completes_from_body, body_from_completes}
-use Rattle.http_server.specs.Encoding.{answering}
 use Rattle.http_server.specs.Exchange.{ExpectsContinue, continue_text}
 use Rattle.http_server.specs.History.{HasNoMessage, NextIs, HasTooManyFields, HasUnknownCoding, IsReadError}
 use Rattle.http_server.specs.Machine.{in_body}
 use Rattle.http_server.proofs.MachineLemmas.{head_is_some}
 use Rattle.http_server.proofs.StreamLemmas.{AcceptsRequest-append, accepts_unique, has_an_end}
 use Rattle.dav_wire.specs.declared.answer.Asked.{Asked}
-use Rattle.dav_wire.specs.declared.config.Config.{Config}
 use Rattle.dav_wire.specs.Exchange.{most_of}
-use Rattle.dav_wire.specs.History.{BeginsRequest, HasWork}
+use Rattle.dav_wire.specs.History.{HasWork}
 use Rattle.dav_wire.specs.Place.{Place, IsBodyAt, Begun, invitation, IsBetween, StandsAt, Standing, IsStarved, HasHead, HasPiece, HasEnd, IsWhole, work}
 use Rattle.dav_wire.proofs.Streams.{after_front}
 
@@ -336,7 +334,7 @@ pub starved_some : (p : Place) (stream interim : List ℕ) → IsStarved p strea
     → stream ≢ []
 starved_some p stream interim x = starved_at p.within p stream interim x.standing
 
--- at the end of the stream nothing was told for a request
+-- at the end of the stream nothing was written for a request
 pub ends_between : (p : Place) (stream interim : List ℕ) → IsStarved p stream interim → p.within ≡ false → p.unread ≡ []
     → (stream ≡ []) × (interim ≡ [])
 ends_between p stream interim x between none =

@@ -1,5 +1,5 @@
 -- Requests of HTTP/1.1's grammar as they are handed over, and the bytes that answer them (RFC 9112).
-use Rattle.std.specs.Prelude.{◌≡◌, ℕ, ◌≤◌, ◌||◌, Bool, true, false, not, List, [], ◌∷◌, ◌++◌, length, codes, bytes_eq, if◌then◌else◌, IsFalse}
+use Rattle.std.specs.Prelude.{◌≡◌, ℕ, ◌≤◌, ◌||◌, Bool, true, not, List, [], ◌∷◌, ◌++◌, length, codes, bytes_eq, if◌then◌else◌, IsFalse}
 use Rattle.http1.specs.Message as Wire
 use Rattle.http1.specs.Message.{known_of, ReadsRequestMessage}
 use Rattle.http_server.specs.declared.response.Response.{Response}

@@ -1,6 +1,5 @@
 -- Why a request is refused, and the texts that the connection sends of its own.
-use Rattle.std.specs.Prelude.{◌≡◌, ◌≢◌, ℕ, ◌<◌, ◌⊎◌, ◌||◌, ◌==◌, Bool, List, [], ◌∷◌, length, codes, if◌then◌else◌, IsTrue}
-use Rattle.http1.specs.declared.conn.Limits.{Limits}
+use Rattle.std.specs.Prelude.{◌≢◌, ℕ, ◌<◌, ◌||◌, ◌==◌, Bool, List, [], ◌∷◌, length, codes, if◌then◌else◌, IsTrue}
 use Rattle.http1.specs.ReadError.{status_of}
 use Rattle.http1.specs.Head.{response_text}
 use Rattle.http1_typed.specs.Parts.{reason_of}

@@ -58,7 +58,8 @@ impl Intake {
 
     pub(crate) fn new(alloc: Global, config: Config) -> Intake
         ensures standing { Standing (place result) [] [] }
-        ensures fresh { (result.config ≡ config) × (result.ended ≡ false) × (result.input.items ≡ []) }
+        ensures fresh { (result.config ≡ config) × (result.ended ≡ false)
+            × (result.input.items ≡ []) }
     {
         Intake {
             alloc,
@@ -78,7 +79,8 @@ impl Intake {
     pub(crate) fn read(&mut self, spans: &mut [HeaderSpan]) -> Result<Found, AllocError>
         requires { length spans.old ≡ MAX_HEADERS }
         ensures finds { (stream interim : List ℕ) → Standing (place self.old) stream interim
-            → IfOk result (λ found. Finds found self.old.ended (work (place self.old)) (place self.new) stream interim) }
+            → IfOk result (λ found. Finds found self.old.ended (work (place self.old))
+            (place self.new) stream interim) }
         ensures fails { (stream interim : List ℕ) → Standing (place self.old) stream interim
             → OnErr result (HasWork self.old.config.limits self.old.ended stream) }
         ensures keeps { KeepsIntake self.old self.new }
@@ -117,7 +119,8 @@ impl Intake {
 
     // Whether nothing of a request came.
     fn is_between(&self) -> bool
-        ensures between { IsTrue result → (self.now.is_within ≡ false) × (self.now.input.items ≡ []) }
+        ensures between { IsTrue result
+            → (self.now.is_within ≡ false) × (self.now.input.items ≡ []) }
         ensures within { IsFalse result → self.now.is_within ≡ false → self.now.input.items ≢ [] }
     {
         !self.is_within && self.input.is_empty()
@@ -128,7 +131,8 @@ impl Intake {
         requires { IsRequestWithin self.old.input.items spans.now head.now }
         ensures finds { (stream interim : List ℕ)
             → HasHead (place self.old) spans.now head.now stream interim
-            → IfOk result (λ found. Finds found self.old.ended (work (place self.old)) (place self.new) stream interim) }
+            → IfOk result (λ found. Finds found self.old.ended (work (place self.old))
+            (place self.new) stream interim) }
         ensures fails { (stream interim : List ℕ)
             → HasHead (place self.old) spans.now head.now stream interim
             → OnErr result (HasWork self.old.config.limits self.old.ended stream) }
@@ -161,7 +165,8 @@ impl Intake {
     fn add(&mut self, piece: Span) -> Result<Found, AllocError>
         requires { IsWithin (length self.old.input.items) piece }
         ensures finds { (stream interim : List ℕ) → HasPiece (place self.old) piece stream interim
-            → IfOk result (λ found. Finds found self.old.ended (work (place self.old)) (place self.new) stream interim) }
+            → IfOk result (λ found. Finds found self.old.ended (work (place self.old))
+            (place self.new) stream interim) }
         ensures fails { (stream interim : List ℕ) → HasPiece (place self.old) piece stream interim
             → OnErr result (HasWork self.old.config.limits self.old.ended stream) }
         ensures keeps { KeepsIntake self.old self.new }
@@ -179,7 +184,8 @@ impl Intake {
     fn finish(&mut self) -> Result<Found, AllocError>
         ensures finds { (stream interim : List ℕ) (before : ℕ) → work (place self.old) ≤ before
             → HasEnd (place self.old) stream
-            → IfOk result (λ found. Finds found self.old.ended before (place self.new) stream interim) }
+            → IfOk result (λ found.
+            Finds found self.old.ended before (place self.new) stream interim) }
         ensures fails { (stream : List ℕ) → HasEnd (place self.old) stream
             → OnErr result (HasWork self.old.config.limits self.old.ended stream) }
         ensures keeps { KeepsIntake self.old self.new }

@@ -54,7 +54,8 @@ impl Peer {
             (history self.old).calls (history self.new).calls) }
         ensures stops { IsErr result ↔ ((history self.new).state ≡ State.Aborted) }
         ensures rests { Rests (config_of self.new) (history self.new) }
-        ensures settled { (history self.old).state ≢ State.Open → history self.new ≡ history self.old }
+        ensures settled { (history self.old).state ≢ State.Open
+            → history self.new ≡ history self.old }
         ensures quiet { IsQuiet (history self.old) (history self.new) }
         ensures config { config_of self.new ≡ config_of self.old }
     {

@@ -42,7 +42,7 @@ pub enum Refusal {
 }
 
 impl Refusal {
-    /// The status that tells it.
+    /// The status of the refusal (RFC 9110, section 15.5).
     pub fn status(self) -> u16
         ensures { result ≡ refusal_status self }
     {
@@ -55,7 +55,7 @@ impl Refusal {
     }
 }
 
-/// The last text of a connection that is closed with this status; one that isn't known is told as 400.
+/// The last text of a connection that is closed with this status; 400 stands for one that isn't known.
 pub(crate) fn closing_text(status: u16) -> &'static [u8]
     ensures { result.now ≡ closing_text (known_status status) }
 {

@@ -1,11 +1,11 @@
-//! Connections as rows of text: what comes, and what is told, where the bytes come in pieces of each length.
+//! Connections as rows of text: what comes, and what is written, where the bytes come in pieces of each length.
 //!
 //! In a row `^` is CRLF. The answerer tells the request line and the body that it was given, under the status that the target
 //! has. Heads have at most 128 bytes, bodies at most 16, trees 32.
 use crate::{Answerer, Asked, Config, Peer, Stop};
 use http::StatusCode;
-use http1::Limits;
 use http_server::Response;
+use http1::Limits;
 use std::alloc::{AllocError, Global};
 use std::str;
 use std::test::Fail;
@@ -114,8 +114,8 @@ fn drain(peer: &mut Peer, echo: &mut Echo, out: &mut Vec<u8>) -> Result<(), Stop
     Ok(())
 }
 
-// What is told where these bytes come in pieces of a length, and then their end.
-fn told(alloc: Global, input: &[u8], step: usize) -> Result<Vec<u8>, Stop> {
+// What is written where these bytes come in pieces of a length, and then their end.
+fn written(alloc: Global, input: &[u8], step: usize) -> Result<Vec<u8>, Stop> {
     let mut peer = Peer::new(alloc, CONFIG);
     let mut echo = Echo(alloc);
     let mut out = Vec::new(alloc);
@@ -139,8 +139,11 @@ fn rows_are_told(rt: HostRuntime) -> Result<(), Fail> {
             let input = unescaped(rt.alloc(), input)?;
             let wanted = unescaped(rt.alloc(), wanted)?;
             for step in [1, 2, 7, 1000] {
-                let found = told(rt.alloc(), &input, step).map_err(|_| "stopped")?;
-                assert!(rt; found.as_slice() == wanted.as_slice(), "{row} in pieces of {step}");
+                let found = written(rt.alloc(), &input, step).map_err(|_| "stopped")?;
+                assert!(rt;
+                    found.as_slice() == wanted.as_slice(),
+                    "{row} in pieces of {step}"
+                );
             }
             count = count.saturating_add(1);
         }

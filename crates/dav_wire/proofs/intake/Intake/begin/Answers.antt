@@ -1,5 +1,5 @@
-use Rattle.std.proofs.Common.{◌≤◌, length, rules, refl, sym, ap, ◌∙◌, subst, arith}
-use Rattle.dav_wire.specs.Place.{place, Begun}
+use Rattle.std.proofs.Common.{◌≤◌, length, rules, sym, ap, ◌∙◌, subst, arith}
+use Rattle.dav_wire.specs.Place.{Begun}
 use Rattle.dav_wire.proofs.Bodies.{has_coding, head_work, begins, head_less, invites, invites_not, too_long_ahead}
 use Rattle.dav_wire.proofs.intake.Intake.begin.Goals as goal
 
