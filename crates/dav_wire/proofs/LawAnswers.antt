@@ -7,7 +7,7 @@ use Rattle.http1.specs.Message as Wire
 use Rattle.http1.proofs.OneParse.{request_message_unique}
 use Rattle.http_server.proofs.StreamLemmas.{accepts_unique}
 use Rattle.dav_wire.specs.declared.answer.Asked.{Asked}
-use Rattle.dav_wire.specs.declared.config.Config.{Config}
+use Rattle.dav_wire.specs.declared.state.Config.{Config}
 use Rattle.dav_wire.specs.declared.state.State.{State}
 use Rattle.dav_wire.specs.declared.state.State.TheVariants.{Open, Closing, Aborted}
 use Rattle.dav_wire.specs.declared.state.Reason.TheVariants as reason

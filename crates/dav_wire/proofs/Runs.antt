@@ -7,7 +7,7 @@ use Rattle.http1.specs.declared.error.WriteError.{WriteError}
 use Rattle.http_server.specs.Exchange.{ExpectsContinue, IsInterim}
 use Rattle.http_server.specs.History.{HasTooManyFields, HasUnknownCoding}
 use Rattle.http_server.proofs.StreamLemmas.{AcceptsRequest-append, IsInterim-append}
-use Rattle.dav_wire.specs.declared.config.Config.{Config}
+use Rattle.dav_wire.specs.declared.state.Config.{Config}
 use Rattle.dav_wire.specs.declared.line.Line.{Line}
 use Rattle.dav_wire.specs.declared.state.Reason.TheVariants.{Asked, EndOfInput, Refused, Unsendable}
 use Rattle.dav_wire.specs.declared.state.Refusal.{Refusal}

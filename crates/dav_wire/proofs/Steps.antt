@@ -2,7 +2,7 @@
 use Rattle.std.proofs.Common.{◌≡◌, ℕ, ◌<◌, ◌⊎◌, Bool, true, false, List, ◌++◌, refl, sym, ap, ◌∙◌, subst, subst₂, append_assoc, append-nil, inl, inr, IsFalse, MatchBool}
 use Rattle.http_server.specs.Exchange.{continue_text}
 use Rattle.dav_wire.specs.declared.answer.Asked.{Asked}
-use Rattle.dav_wire.specs.declared.config.Config.{Config}
+use Rattle.dav_wire.specs.declared.state.Config.{Config}
 use Rattle.dav_wire.specs.declared.intake.Found.TheVariants as found
 use Rattle.dav_wire.specs.declared.intake.Intake.{Intake}
 use Rattle.dav_wire.specs.declared.line.Line.{Line}

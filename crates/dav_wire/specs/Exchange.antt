@@ -6,7 +6,7 @@ use Rattle.http_server.specs.declared.response.Response.{Response}
 use Rattle.http_server.specs.declared.state.TheConstants.{MAX_HEADERS}
 use Rattle.http_server.specs.Exchange.{IsInterim, IsAnswer, keeps_open}
 use Rattle.dav_wire.specs.declared.answer.Asked.{Asked}
-use Rattle.dav_wire.specs.declared.config.Config.{Config}
+use Rattle.dav_wire.specs.declared.state.Config.{Config}
 
 -- a method whose body is an element tree (RFC 4918, sections 9.1, 9.2 and 9.10)
 abbrev pub takes_tree : List ℕ → Bool

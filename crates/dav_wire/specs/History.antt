@@ -12,7 +12,7 @@ use Rattle.http_server.specs.Encoding.{answering, size_of}
 use Rattle.http_server.specs.Exchange.{ExpectsContinue, continue_text, IsInterim}
 use Rattle.http_server.specs.History.{NextIs, HasTooManyFields}
 use Rattle.http_server.specs.Response.{fields_of}
-use Rattle.dav_wire.specs.declared.config.Config.{Config}
+use Rattle.dav_wire.specs.declared.state.Config.{Config}
 use Rattle.dav_wire.specs.declared.state.State.{State}
 use Rattle.dav_wire.specs.declared.state.State.TheVariants.{Open, Closing, Aborted}
 use Rattle.dav_wire.specs.declared.state.Reason.TheVariants.{Asked, EndOfInput, Refused, Unsendable}

@@ -3,7 +3,7 @@ use Rattle.std.specs.Prelude.{◌≡◌, ◌≢◌, ℕ, ◌<◌, ◌≤◌, ◌
 use Rattle.httparse.specs.Grammar.{RequestHead, ReadsRequest}
 use Rattle.http1.specs.Message as Wire
 use Rattle.http_server.specs.declared.state.TheConstants.{MAX_HEADERS}
-use Rattle.dav_wire.specs.declared.config.Config.{Config}
+use Rattle.dav_wire.specs.declared.state.Config.{Config}
 use Rattle.dav_wire.specs.declared.answer.Asked.{Asked}
 use Rattle.dav_wire.specs.declared.state.State.TheVariants.{Open}
 use Rattle.dav_wire.specs.Exchange.{Call, ReadsCall}

@@ -25,7 +25,7 @@ use Rattle.http_server.specs.Exchange.{ExpectsContinue, continue_text, IsInterim
 use Rattle.http_server.specs.History.{HasNoMessage}
 use Rattle.http_server.specs.Machine.{in_body}
 use Rattle.dav_wire.specs.declared.answer.Asked.{Asked}
-use Rattle.dav_wire.specs.declared.config.Config.{Config}
+use Rattle.dav_wire.specs.declared.state.Config.{Config}
 use Rattle.dav_wire.specs.declared.intake.Intake.{Intake}
 use Rattle.dav_wire.specs.declared.intake.Found.{Found}
 use Rattle.dav_wire.specs.declared.intake.Found.TheVariants as found

@@ -6,8 +6,7 @@ ghost use Rattle.http1.specs.Server.{is_head};
 ghost use Rattle.http_server.specs.declared.state.TheConstants.{MAX_HEADERS};
 
 use crate::answer::Asked;
-use crate::config::{Config, most_of};
-use crate::state::Refusal;
+use crate::state::{Config, Refusal, most_of};
 use bytes::BytesMut;
 use http1::framing::MethodKind;
 use http1::{BodySize, Event, Server};

@@ -3,7 +3,6 @@
 #![tactic(auto)]
 
 mod answer;
-mod config;
 mod intake;
 mod laws;
 mod line;
@@ -14,7 +13,6 @@ mod state;
 mod tests;
 
 pub use answer::{Answerer, Asked, Stop};
-pub use config::Config;
 pub use laws::{calls_are_requests, connections_never_stall, heads_stand_alone};
 pub use peer::Peer;
-pub use state::{Reason, Refusal, State};
+pub use state::{Config, Reason, Refusal, State};

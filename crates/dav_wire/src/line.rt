@@ -3,10 +3,9 @@ ghost use Rattle.std.specs.Prelude.{◌≡◌, ◌≢◌, ℕ, ◌<◌, ◌≤�
 ghost use Rattle.http_server.specs.declared.state.TheConstants.{MAX_HEADERS};
 
 use crate::answer::{Answerer, Asked};
-use crate::config::Config;
 use crate::intake::{Found, Intake};
 use crate::reply::{write_head, write_rest};
-use crate::state::{Reason, Refusal, State, closing_text};
+use crate::state::{Config, Reason, Refusal, State, closing_text};
 use bytes::{Buf, BufMut, BytesMut};
 use http_server::{Log, Response, Rope};
 use http1::WriteError;

@@ -5,9 +5,8 @@ ghost use Rattle.dav_wire.specs.History.{IsServed, IsQuiet, Rests, new_history, 
 ghost use Rattle.dav_wire.specs.Place.{Holds};
 
 use crate::answer::{Answerer, Stop};
-use crate::config::Config;
 use crate::line::Line;
-use crate::state::State;
+use crate::state::{Config, State};
 use bytes::Buf;
 use http_server::MAX_HEADERS;
 use httparse::spans::EMPTY_HEADER_SPAN;
