@@ -1,5 +1,6 @@
 pub mod Bodies
 pub mod LawAnswers
+pub mod RefusalAnswers
 pub mod Replies
 pub mod Runs
 pub mod Steps

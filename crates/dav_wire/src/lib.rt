@@ -13,6 +13,6 @@ mod state;
 mod tests;
 
 pub use answer::{Answerer, Asked, Stop};
-pub use laws::{calls_are_requests, connections_never_stall, heads_stand_alone};
+pub use laws::{calls_are_requests, connections_never_stall, heads_stand_alone, refusals_are_read};
 pub use peer::Peer;
 pub use state::{Config, Reason, Refusal, State};
