@@ -1,4 +1,5 @@
 pub mod Bodies
+pub mod Events
 pub mod LawAnswers
 pub mod RefusalAnswers
 pub mod Replies

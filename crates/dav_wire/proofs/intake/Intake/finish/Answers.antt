@@ -1,5 +1,5 @@
 use Rattle.std.proofs.Common.{rules, arith}
-use Rattle.dav_wire.proofs.Bodies.{handed_over, end_less}
+use Rattle.dav_wire.proofs.Events.{handed_over, end_less}
 use Rattle.dav_wire.proofs.intake.Intake.finish.Goals as goal
 
 pub returns-clause-finds : goal.returns-clause-finds
