@@ -1,19 +1,19 @@
 -- The laws.
-use Rattle.std.proofs.Common.{◌≡◌, ◌≢◌, ℕ, zero, suc, ◌<◌, ◌≤◌, ◌⊎◌, false, List, [], ◌∷◌, ◌++◌, length, map, refl, sym, ap, ◌∙◌, subst, arith, append-nil, inl, inr}
+use Rattle.std.proofs.Common.{◌≡◌, ◌≢◌, ℕ, zero, suc, ◌<◌, ◌⊎◌, false, List, [], ◌∷◌, ◌++◌, length, refl, sym, ap, ◌∙◌, subst, arith, append-nil, inl, inr}
 use Rattle.std.proofs.lemmas.List.{append_cancel_right}
-use Rattle.httparse.specs.Grammar.{RequestHead, print_request, ReadsRequest}
+use Rattle.httparse.specs.Grammar.{print_request, ReadsRequest}
 use Rattle.httparse.proofs.GrammarLemmas.{request_unique}
 use Rattle.http1.specs.Message as Wire
 use Rattle.http1.proofs.OneParse.{request_message_unique}
 use Rattle.http_server.proofs.StreamLemmas.{accepts_unique}
 use Rattle.dav_wire.specs.declared.answer.Asked.{Asked}
-use Rattle.dav_wire.specs.declared.config.Config.{Config}
+use Rattle.dav_wire.specs.declared.state.Config.{Config}
 use Rattle.dav_wire.specs.declared.state.State.{State}
 use Rattle.dav_wire.specs.declared.state.State.TheVariants.{Open, Closing, Aborted}
 use Rattle.dav_wire.specs.declared.state.Reason.TheVariants as reason
 use Rattle.dav_wire.specs.Exchange.{Call, ReadsCall, Serves}
-use Rattle.dav_wire.specs.History.{History, IsServed, Rests, Stands, MayBeCalledFor}
-use Rattle.dav_wire.specs.Laws.{IsHeadAlone, HeadsStandAlone, ReadsCalls, CallsAreRequests, RequestsAreDetermined, ConnectionsNeverStall}
+use Rattle.dav_wire.specs.History.{History, Rests, Stands}
+use Rattle.dav_wire.specs.Laws.{HeadsStandAlone, ReadsCalls, CallsAreRequests, RequestsAreDetermined, ConnectionsNeverStall}
 
 pub heads_stand_alone : HeadsStandAlone
 heads_stand_alone config stream m asked rest x =

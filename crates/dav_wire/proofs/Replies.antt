@@ -14,7 +14,7 @@ use Rattle.http_server.specs.Response.{fields_of}
 use Rattle.http_server.proofs.AnswerLemmas.{not_refused, refused, final_answer, starts_over}
 use Rattle.dav_wire.specs.declared.state.Reason.TheVariants.{Asked, Unsendable}
 use Rattle.dav_wire.specs.declared.state.State.TheVariants.{Closing}
-use Rattle.dav_wire.specs.Exchange.{Call, Exchanges}
+use Rattle.dav_wire.specs.Exchange.{Exchanges}
 use Rattle.dav_wire.specs.History.{History, IsCalledFor, IsServed}
 use Rattle.dav_wire.specs.Place.{Place, IsAnswered, IsRunning, StandsAt, aborted, closed_with, rest_text, after_rest}
 use Rattle.dav_wire.specs.Refusals.{closing_text}
@@ -78,24 +78,24 @@ module _ (p : Place) (h : History) (r : Response) (bodiless : Bool) (x : IsAnswe
     abbrev answer : List ℕ
     answer = final_text bodiless p.server r
 
-    abbrev told_last : List ℕ
-    told_last = x.base.interim ++ answer
+    abbrev last_text : List ℕ
+    last_text = x.base.interim ++ answer
 
     pending_is : now ≡ h.pending ++ answer
     pending_is =
         now_is ∙ (λ i. head_is i ++ rest_is p.server r bodiless i)
         ∙ append_assoc h.pending (planned_response p.server r.status (reason_of r.status) (size_of r) (fields_of r)) _
 
-    told_is : h.sent ++ now ≡ x.base.text ++ told_last
-    told_is =
+    written_is : h.sent ++ now ≡ x.base.text ++ last_text
+    written_is =
         ap (λ (t : List ℕ). h.sent ++ t) pending_is ∙ sym (append_assoc h.sent h.pending answer)
-        ∙ ap (λ (t : List ℕ). t ++ answer) x.base.told_is ∙ append_assoc x.base.text x.base.interim answer
+        ∙ ap (λ (t : List ℕ). t ++ answer) x.base.written_is ∙ append_assoc x.base.text x.base.interim answer
 
     new_server_is : new ≡ after_end (after_body bodiless p.server r)
     new_server_is = new_is ∙ next_is p.server r bodiless
 
     exchange : (stays : Bool) → keeps_open x.whole.message.head r ≡ stays
-        → Exchanges p.config stays x.base.rest (x.asked, r) told_last p.unread
+        → Exchanges p.config stays x.base.rest (x.asked, r) last_text p.unread
     exchange stays persists =
         let it = final_answer p.server r valid p.config.limits x.whole.message.head x.whole.request.reads.framing x.whole.server
         bodiless kind short in
@@ -137,10 +137,10 @@ module _ (p : Place) (h : History) (r : Response) (bodiless : Bool) (x : IsAnswe
         stands = record {
           call = (x.asked, r);
           calls_are = x.calls;
-          last = told_last;
+          last = last_text;
           after = p.unread;
           exchange = exchange false ends.0;
-          told_is = told_is;
+          written_is = written_is;
         };
       }
     ]
@@ -151,12 +151,12 @@ module _ (p : Place) (h : History) (r : Response) (bodiless : Bool) (x : IsAnswe
         base = record {
           is_open = x.base.is_open;
           answered = x.base.answered ++ (x.asked, r) ∷ [];
-          text = x.base.text ++ told_last;
+          text = x.base.text ++ last_text;
           rest = p.unread;
           serves = Serves-last p.config x.base.answered h.received x.base.text x.base.rest x.base.serves (exchange true stays.0);
           interim = [];
           is_interim = inl refl;
-          told_is = told_is ∙ sym (append-nil _);
+          written_is = written_is ∙ sym (append-nil _);
         };
         calls = x.calls;
         standing = subst (λ b. StandsAt b (record p { server = new }) p.unread []) (sym x.whole.between) (record {

@@ -1,29 +1,25 @@
 -- What holds of a connection, and what each step does to that.
-use Rattle.std.proofs.Common.{◌≡◌, ◌≢◌, ℕ, zero, suc, ◌<◌, ◌≤◌, ◌⊎◌, Bool, true, false, cond, ◌==◌, List, [], ◌∷◌, ◌++◌, length, take, drop, refl, sym, ap, ◌∙◌, subst, subst₂, arith, append_assoc, append-nil, take-append-drop, inl, inr, IsTrue, IsFalse}
+use Rattle.std.proofs.Common.{◌≡◌, ◌≢◌, ℕ, zero, suc, ◌<◌, Bool, false, List, [], ◌++◌, length, take, drop, refl, sym, ap, ◌∙◌, subst, subst₂, arith, append_assoc, append-nil, take-append-drop, inl, inr, IsTrue, IsFalse}
 use Rattle.std.proofs.Math.Logic.{∥∥₁_prop, ∥∥₁_elim}
 use mathlib.Core.Bool.{Bool-set}
 use denote.Struct.Props.{props}
-use Rattle.http1.specs.declared.conn.Limits.{Limits}
 use Rattle.http1.specs.declared.error.WriteError.{WriteError}
-use Rattle.http1.specs.Message as Wire
-use Rattle.http1.specs.Message.{ReadsRequests}
-use Rattle.http_server.specs.Exchange.{ExpectsContinue, continue_text, IsInterim}
-use Rattle.http_server.specs.History.{HasNoMessage, NextIs, HasTooManyFields, HasUnknownCoding}
+use Rattle.http_server.specs.Exchange.{ExpectsContinue, IsInterim}
+use Rattle.http_server.specs.History.{HasTooManyFields, HasUnknownCoding}
 use Rattle.http_server.proofs.StreamLemmas.{AcceptsRequest-append, IsInterim-append}
-use Rattle.dav_wire.specs.declared.config.Config.{Config}
+use Rattle.dav_wire.specs.declared.state.Config.{Config}
 use Rattle.dav_wire.specs.declared.line.Line.{Line}
-use Rattle.dav_wire.specs.declared.state.Reason.{Reason}
 use Rattle.dav_wire.specs.declared.state.Reason.TheVariants.{Asked, EndOfInput, Refused, Unsendable}
 use Rattle.dav_wire.specs.declared.state.Refusal.{Refusal}
 use Rattle.dav_wire.specs.declared.state.Refusal.TheVariants.{Truncated, Unreadable, BodyTooLong, UnknownCoding}
 use Rattle.dav_wire.specs.declared.state.State.{State}
 use Rattle.dav_wire.specs.declared.state.State.TheVariants.{Open, Closing, Aborted}
 use Rattle.dav_wire.specs.Exchange.{Call, Serves, most_of}
-use Rattle.dav_wire.specs.History.{History, told, HasWork, IsCalledFor, MayBeCalledFor, IsUnsendable, IsLast, IsAtEnd, IsAborted, Stands, IsServed, Rests, new_history, after_sent}
+use Rattle.dav_wire.specs.History.{History, written, HasWork, IsCalledFor, MayBeCalledFor, IsUnsendable, Stands, IsServed, Rests, new_history, after_sent}
 use Rattle.dav_wire.specs.Place.{Place, place, history_of, Base, IsRunning, HoldsAt, Holds, Standing, IsStarved, aborted, closed_with, Reaches}
 use Rattle.dav_wire.specs.Refusals.{IsRefusedFor, closing_text, refusal_status}
 use Rattle.dav_wire.proofs.Bodies.{Standing-append}
-use Rattle.dav_wire.proofs.Streams.{ReadsCall-append, Exchanges-append, Serves-append, Serves-last, aligned, NextIs-append, HasWork-append}
+use Rattle.dav_wire.proofs.Streams.{ReadsCall-append, Exchanges-append, Serves-append, aligned, NextIs-append, HasWork-append}
 
 -- ---- the states
 
@@ -48,7 +44,7 @@ served_running p h x =
       serves = b.serves;
       interim = b.interim;
       is_interim = b.is_interim;
-      stands = subst (λ s. Stands s p.config h b.answered b.text b.interim b.rest) (sym b.is_open) (x.calls, b.told_is);
+      stands = subst (λ s. Stands s p.config h b.answered b.text b.interim b.rest) (sym b.is_open) (x.calls, b.written_is);
     }
 
 served_at : (s : State) (p : Place) (h : History) → HoldsAt s p h → IsServed p.config h
@@ -70,7 +66,7 @@ fresh p h x is = subst (IsRunning p) (sym is) (record {
     serves = (refl, refl);
     interim = [];
     is_interim = inl refl;
-    told_is = refl;
+    written_is = refl;
   };
   calls = refl;
   standing = x;
@@ -102,14 +98,14 @@ rebased {h} b same ended unread calls = record {
   serves = subst (λ k. Serves k h.received b.answered b.text b.rest) (sym same) b.serves;
   interim = b.interim;
   is_interim = subst (λ (k : Config). IsInterim k.limits b.rest b.interim) (sym same) b.is_interim;
-  told_is = b.told_is;
+  written_is = b.written_is;
 }
 
 -- ---- ends
 
 module _ {config : Config} {h : History} (b : Base config h) where
   appended : (text : List ℕ) → h.sent ++ (h.pending ++ text) ≡ (b.text ++ b.interim) ++ text
-  appended text = sym (append_assoc h.sent h.pending text) ∙ ap (λ (t : List ℕ). t ++ text) b.told_is
+  appended text = sym (append_assoc h.sent h.pending text) ∙ ap (λ (t : List ℕ). t ++ text) b.written_is
 
   pub aborts : HasWork config.limits h.ended b.rest → MayBeCalledFor config h.calls b.answered b.rest → IsServed config (aborted h)
   aborts work calls = record {
@@ -119,7 +115,7 @@ module _ {config : Config} {h : History} (b : Base config h) where
     serves = b.serves;
     interim = b.interim;
     is_interim = b.is_interim;
-    stands = record { had_work = work; calls = calls; dropped = refl; lost = h.pending; sent = b.told_is };
+    stands = record { had_work = work; calls = calls; dropped = refl; lost = h.pending; sent = b.written_is };
   }
 
   pub refuses : (why : Refusal) → h.calls ≡ b.answered → IsRefusedFor why config h.ended b.rest
@@ -159,7 +155,7 @@ module _ {config : Config} {h : History} (b : Base config h) where
       calls_are = calls;
       ended = over;
       whole = whole;
-      told_is = b.told_is ∙ ap (λ (t : List ℕ). b.text ++ t) silent ∙ append-nil b.text;
+      written_is = b.written_is ∙ ap (λ (t : List ℕ). b.text ++ t) silent ∙ append-nil b.text;
     };
   }
 
@@ -209,7 +205,7 @@ module _ (config : Config) (h : History) (came : List ℕ) (over : Bool) (going 
     last = x.last;
     after = x.after ++ came;
     exchange = Exchanges-append x.exchange came;
-    told_is = x.told_is;
+    written_is = x.written_is;
   }
   stands_more (Closing EndOfInput) answered text interim rest x = let ended = x.ended in absurd (cc)
   stands_more (Closing (Refused why)) answered text interim rest x = (x.0, refused_more why rest x.1, x.2)
@@ -245,7 +241,7 @@ module _ (p : Place) (h : History) (came : List ℕ) (over : Bool) (going : h.en
       serves = Serves-append p.config x.base.answered h.received x.base.text x.base.rest came x.base.serves;
       interim = x.base.interim;
       is_interim = IsInterim-append p.config.limits x.base.rest x.base.interim came x.base.is_interim;
-      told_is = x.base.told_is;
+      written_is = x.base.written_is;
     };
     calls = x.calls;
     standing = Standing-append p x.base.rest x.base.interim came x.standing;
@@ -263,25 +259,25 @@ none_of zero = (refl, refl)
 none_of (suc count) = (refl, refl)
 
 module _ (config : Config) (h : History) (count : ℕ) where
-  told_still : told (after_sent h count) ≡ told h
-  told_still =
+  written_still : written (after_sent h count) ≡ written h
+  written_still =
       append_assoc h.sent (take count h.pending) (drop count h.pending) ∙ ap (λ (t : List ℕ). h.sent ++ t) (take-append-drop count h.pending)
 
   stands_still : (s : State) (answered : List Call) (text interim rest : List ℕ) → Stands s config h answered text interim rest
       → Stands s config (after_sent h count) answered text interim rest
-  stands_still Open answered text interim rest x = (x.0, told_still ∙ x.1)
+  stands_still Open answered text interim rest x = (x.0, written_still ∙ x.1)
   stands_still (Closing Asked) answered text interim rest x = record {
     call = x.call;
     calls_are = x.calls_are;
     last = x.last;
     after = x.after;
     exchange = x.exchange;
-    told_is = told_still ∙ x.told_is;
+    written_is = written_still ∙ x.written_is;
   }
   stands_still (Closing EndOfInput) answered text interim rest x =
-      record { calls_are = x.calls_are; ended = x.ended; whole = x.whole; told_is = told_still ∙ x.told_is }
-  stands_still (Closing (Refused why)) answered text interim rest x = (x.0, x.1, told_still ∙ x.2)
-  stands_still (Closing (Unsendable e)) answered text interim rest x = (x.0, told_still ∙ x.1)
+      record { calls_are = x.calls_are; ended = x.ended; whole = x.whole; written_is = written_still ∙ x.written_is }
+  stands_still (Closing (Refused why)) answered text interim rest x = (x.0, x.1, written_still ∙ x.2)
+  stands_still (Closing (Unsendable e)) answered text interim rest x = (x.0, written_still ∙ x.1)
   stands_still Aborted answered text interim rest x = record {
     had_work = x.had_work;
     calls = x.calls;
@@ -313,7 +309,7 @@ sends p h count Open x = record {
     serves = x.base.serves;
     interim = x.base.interim;
     is_interim = x.base.is_interim;
-    told_is = told_still p.config h count ∙ x.base.told_is;
+    written_is = written_still p.config h count ∙ x.base.written_is;
   };
   calls = x.calls;
   standing = x.standing;
@@ -334,7 +330,7 @@ rests p h b calls x going is_open room = (
   λ ms rest z count waits. elim (aligned p.config b.answered ms h.received b.text b.rest rest b.serves z) [
     | inl fits ↦
         let same = fits.1 (count ∙ ap length calls) in
-        ∣ (b.text, b.told_is ∙ ap (λ (t : List ℕ). b.text ++ t) (x.invited (subst (ExpectsContinue p.config.limits) same waits))) ∣₁
+        ∣ (b.text, b.written_is ∙ ap (λ (t : List ℕ). b.text ++ t) (x.invited (subst (ExpectsContinue p.config.limits) same waits))) ∣₁
     | inr more ↦ absurd (x.unfinished more.0 more.1 more.2)
   ],
 )

@@ -1,16 +1,16 @@
 -- What each thing that is found in the input does to a connection.
-use Rattle.std.proofs.Common.{◌≡◌, ◌≢◌, ℕ, ◌<◌, ◌⊎◌, Bool, true, false, List, [], ◌∷◌, ◌++◌, refl, sym, ap, ◌∙◌, subst, subst₂, append_assoc, append-nil, inl, inr, IsTrue, IsFalse, MatchBool}
-use Rattle.http_server.specs.Exchange.{ExpectsContinue, continue_text}
+use Rattle.std.proofs.Common.{◌≡◌, ℕ, ◌<◌, ◌⊎◌, Bool, true, false, List, ◌++◌, refl, sym, ap, ◌∙◌, subst, subst₂, append_assoc, append-nil, inl, inr, IsFalse, MatchBool}
+use Rattle.http_server.specs.Exchange.{continue_text}
 use Rattle.dav_wire.specs.declared.answer.Asked.{Asked}
-use Rattle.dav_wire.specs.declared.config.Config.{Config}
+use Rattle.dav_wire.specs.declared.state.Config.{Config}
 use Rattle.dav_wire.specs.declared.intake.Found.TheVariants as found
 use Rattle.dav_wire.specs.declared.intake.Intake.{Intake}
 use Rattle.dav_wire.specs.declared.line.Line.{Line}
 use Rattle.dav_wire.specs.declared.state.Reason.TheVariants.{EndOfInput, Refused}
 use Rattle.dav_wire.specs.declared.state.Refusal.{Refusal}
 use Rattle.dav_wire.specs.declared.state.State.TheVariants.{Closing}
-use Rattle.dav_wire.specs.History.{History, HasWork, told}
-use Rattle.dav_wire.specs.Place.{Place, place, work, history_of, Base, IsRunning, HoldsAt, Standing, Finds, IsGiven, KeepsIntake, Reaches, aborted, closed_with}
+use Rattle.dav_wire.specs.History.{HasWork, written}
+use Rattle.dav_wire.specs.Place.{place, work, history_of, Base, IsRunning, Standing, Finds, IsGiven, KeepsIntake, Reaches, invited, aborted, closed_with}
 use Rattle.dav_wire.specs.Refusals.{IsRefusedFor, closing_text, refusal_status}
 use Rattle.dav_wire.proofs.Runs.{rebased, holds_open, reaches_over, aborts, refuses, ends, rests}
 
@@ -49,14 +49,13 @@ module _ (l : Line) (i : Intake) (keeps : KeepsIntake l.intake i) (r : IsRunning
   after_stop new old goes is same stops had =
       reaches_over new old goes i.config _ is same (λ still. cc) stops (aborts base had (inl r.calls))
 
-  invited : (new : Line) (old : ℕ) → history_of new ≡ record (history_of after) { pending = l.output.items ++ continue_text }
+  goes_on_invited : (new : Line) (old : ℕ) → history_of new ≡ invited (history_of after)
       → new.intake ≡ i → Finds found.Invitation l.intake.ended old (place i) base.rest base.interim → Reaches old true new
-  invited new old is same x =
-      let told_is : l.output.items ≡ l.output.items = refl in
-      let k = record (history_of after) { pending = l.output.items ++ continue_text } in
-      let out : told k ≡ base.text ++ continue_text =
+  goes_on_invited new old is same x =
+      let k = invited (history_of after) in
+      let out : written k ≡ base.text ++ continue_text =
       sym (append_assoc k.sent l.output.items continue_text)
-      ∙ ap (λ (t : List ℕ). t ++ continue_text) (base.told_is ∙ ap (λ (t : List ℕ). base.text ++ t) x.0 ∙ append-nil base.text) in
+      ∙ ap (λ (t : List ℕ). t ++ continue_text) (base.written_is ∙ ap (λ (t : List ℕ). base.text ++ t) x.0 ∙ append-nil base.text) in
       let runs : IsRunning (place i) k = record {
         base = record {
           is_open = base.is_open;
@@ -66,7 +65,7 @@ module _ (l : Line) (i : Intake) (keeps : KeepsIntake l.intake i) (r : IsRunning
           serves = base.serves;
           interim = continue_text;
           is_interim = inr (refl, x.2);
-          told_is = out;
+          written_is = out;
         };
         calls = r.calls;
         standing = x.1;
@@ -78,10 +77,10 @@ module _ (l : Line) (i : Intake) (keeps : KeepsIntake l.intake i) (r : IsRunning
       }
 
   pub after_invitation : (new : Line) (old : ℕ) (goes : Bool)
-      → MatchBool goes (history_of new ≡ record (history_of after) { pending = l.output.items ++ continue_text })
+      → MatchBool goes (history_of new ≡ invited (history_of after))
       (history_of new ≡ aborted (history_of after)) → new.intake ≡ i
       → Finds found.Invitation l.intake.ended old (place i) base.rest base.interim → Reaches old goes new
-  after_invitation new old true is same x = invited new old is same x
+  after_invitation new old true is same x = goes_on_invited new old is same x
   after_invitation new old false is same x =
       after_stop new old false is (ap (λ (t : Intake). t.config) same) refl
       (inl (record { head = x.2.0; framing = x.2.1; after = x.2.2; accepts = x.2.3 }))
@@ -99,7 +98,7 @@ module _ (l : Line) (i : Intake) (keeps : KeepsIntake l.intake i) (r : IsRunning
       let config = ap (λ (t : Intake). t.config) same in
       let reason = subst (λ b. IsRefusedFor why i.config b base.rest) (sym keeps.ended) x.0 in
       elim is [
-        | inl told ↦ reaches_over new old goes i.config _ told config (λ still. cc) stops (refuses base why r.calls reason)
+        | inl written ↦ reaches_over new old goes i.config _ written config (λ still. cc) stops (refuses base why r.calls reason)
         | inr none ↦ after_stop new old goes none config stops
             (subst (λ b. HasWork i.config.limits b base.rest) (sym keeps.ended) x.1)
       ]

@@ -8,9 +8,9 @@ use Rattle.http_server.specs.declared.response.Response.{Response}
 use Rattle.http_server.specs.History.{NextIs, HasTooManyFields}
 use Rattle.http_server.proofs.StreamLemmas.{AcceptsRequest-append, ReadsRequestMessage-append, IsInterim-append}
 use Rattle.dav_wire.specs.declared.answer.Asked.{Asked}
-use Rattle.dav_wire.specs.declared.config.Config.{Config}
+use Rattle.dav_wire.specs.declared.state.Config.{Config}
 use Rattle.dav_wire.specs.Exchange.{Call, ReadsCall, Chain, Calls, Exchanges, Serves}
-use Rattle.dav_wire.specs.History.{BeginsRequest, HasWork}
+use Rattle.dav_wire.specs.History.{HasWork}
 
 -- bytes that come later follow the rest
 pub after_front : (stream front rest came : List ℕ) → stream ≡ front ++ rest → stream ++ came ≡ front ++ (rest ++ came)

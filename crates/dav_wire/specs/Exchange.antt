@@ -1,12 +1,12 @@
 -- Requests of HTTP/1.1's grammar as they are handed over, and the bytes that answer them (RFC 9112).
-use Rattle.std.specs.Prelude.{◌≡◌, ℕ, ◌≤◌, ◌||◌, Bool, true, false, not, List, [], ◌∷◌, ◌++◌, length, codes, bytes_eq, if◌then◌else◌, IsFalse}
+use Rattle.std.specs.Prelude.{◌≡◌, ℕ, ◌≤◌, ◌||◌, Bool, true, not, List, [], ◌∷◌, ◌++◌, length, codes, bytes_eq, if◌then◌else◌, IsFalse}
 use Rattle.http1.specs.Message as Wire
 use Rattle.http1.specs.Message.{known_of, ReadsRequestMessage}
 use Rattle.http_server.specs.declared.response.Response.{Response}
 use Rattle.http_server.specs.declared.state.TheConstants.{MAX_HEADERS}
 use Rattle.http_server.specs.Exchange.{IsInterim, IsAnswer, keeps_open}
 use Rattle.dav_wire.specs.declared.answer.Asked.{Asked}
-use Rattle.dav_wire.specs.declared.config.Config.{Config}
+use Rattle.dav_wire.specs.declared.state.Config.{Config}
 
 -- a method whose body is an element tree (RFC 4918, sections 9.1, 9.2 and 9.10)
 abbrev pub takes_tree : List ℕ → Bool

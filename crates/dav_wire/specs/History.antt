@@ -1,5 +1,5 @@
 -- What a connection has done, and what is true of it.
-use Rattle.std.specs.Prelude.{◌≡◌, ◌≢◌, ℕ, ◌<◌, ◌≤◌, ◌⊎◌, Bool, true, false, List, [], ◌∷◌, ◌++◌, length, take, drop, Some, IsTrue, IsFalse, if◌then◌else◌, ◌==◌}
+use Rattle.std.specs.Prelude.{◌≡◌, ℕ, ◌≤◌, ◌⊎◌, Bool, false, List, [], ◌∷◌, ◌++◌, length, take, drop, Some, IsTrue, IsFalse, if◌then◌else◌, ◌==◌}
 use Rattle.httparse.specs.Grammar.{RequestHead}
 use Rattle.http1.specs.declared.conn.Limits.{Limits}
 use Rattle.http1.specs.declared.error.WriteError.{WriteError}
@@ -12,10 +12,9 @@ use Rattle.http_server.specs.Encoding.{answering, size_of}
 use Rattle.http_server.specs.Exchange.{ExpectsContinue, continue_text, IsInterim}
 use Rattle.http_server.specs.History.{NextIs, HasTooManyFields}
 use Rattle.http_server.specs.Response.{fields_of}
-use Rattle.dav_wire.specs.declared.config.Config.{Config}
+use Rattle.dav_wire.specs.declared.state.Config.{Config}
 use Rattle.dav_wire.specs.declared.state.State.{State}
 use Rattle.dav_wire.specs.declared.state.State.TheVariants.{Open, Closing, Aborted}
-use Rattle.dav_wire.specs.declared.state.Reason.{Reason}
 use Rattle.dav_wire.specs.declared.state.Reason.TheVariants.{Asked, EndOfInput, Refused, Unsendable}
 use Rattle.dav_wire.specs.Exchange.{Call, ReadsCall, Exchanges, Serves}
 use Rattle.dav_wire.specs.Refusals.{IsRefusedFor, closing_text, refusal_status}
@@ -32,9 +31,9 @@ pub record History : Type 0 where
   pub sent : List ℕ
   pub pending : List ℕ
 
--- all that was told: what was sent, and what waits
-abbrev pub told : History → List ℕ
-told h = h.sent ++ h.pending
+-- all that was written: what was sent, and what waits
+abbrev pub written : History → List ℕ
+written h = h.sent ++ h.pending
 
 -- the stream begins with the head of a request
 pub record BeginsRequest (limits : Limits) (stream : List ℕ) : Type 0 where
@@ -72,14 +71,14 @@ pub record IsLast (config : Config) (h : History) (answered : List Call) (text r
   pub last : List ℕ
   pub after : List ℕ
   pub exchange : Exchanges config false rest call last after
-  pub told_is : told h ≡ text ++ last
+  pub written_is : written h ≡ text ++ last
 
 -- the input ended after the last of these requests
 pub record IsAtEnd (h : History) (answered : List Call) (text rest : List ℕ) : Type 0 where
   pub calls_are : h.calls ≡ answered
   pub ended : IsTrue h.ended
   pub whole : rest ≡ []
-  pub told_is : told h ≡ text
+  pub written_is : written h ≡ text
 
 -- Memory ran out or the answerer stopped, where there was something to do. What waited is lost.
 pub record IsAborted (config : Config) (h : History) (answered : List Call) (text rest : List ℕ) : Type 0 where
@@ -92,16 +91,16 @@ pub record IsAborted (config : Config) (h : History) (answered : List Call) (tex
 -- What each state says, after the calls that were answered by the text and the interim response to the request that begins
 -- the rest of the stream.
 abbrev pub Stands : State → Config → History → List Call → List ℕ → List ℕ → List ℕ → Type 0
-Stands Open config h answered text interim rest = (h.calls ≡ answered) × (told h ≡ text ++ interim)
+Stands Open config h answered text interim rest = (h.calls ≡ answered) × (written h ≡ text ++ interim)
 Stands (Closing Asked) config h answered text interim rest = IsLast config h answered text rest
 Stands (Closing EndOfInput) config h answered text interim rest = IsAtEnd h answered text rest
 Stands (Closing (Refused why)) config h answered text interim rest =
-    (h.calls ≡ answered) × IsRefusedFor why config h.ended rest × (told h ≡ (text ++ interim) ++ closing_text (refusal_status why))
+    (h.calls ≡ answered) × IsRefusedFor why config h.ended rest × (written h ≡ (text ++ interim) ++ closing_text (refusal_status why))
 Stands (Closing (Unsendable e)) config h answered text interim rest =
-    IsUnsendable config e h.calls answered rest × (told h ≡ (text ++ interim) ++ closing_text 500)
+    IsUnsendable config e h.calls answered rest × (written h ≡ (text ++ interim) ++ closing_text 500)
 Stands Aborted config h answered text interim rest = IsAborted config h answered (text ++ interim) rest
 
--- True of every connection: what came begins with the requests of the first calls, what was told begins with their answers, in
+-- True of every connection: what came begins with the requests of the first calls, what was written begins with their answers, in
 -- that order, and the state says what follows.
 pub record IsServed (config : Config) (h : History) : Type 0 where
   pub answered : List Call
@@ -117,11 +116,11 @@ abbrev pub AreAllCalled : Limits → History → Type 0
 AreAllCalled limits h =
     (ms : List Wire.Request) (rest : List ℕ) → ReadsRequests limits h.received ms rest → length ms ≤ length h.calls
 
--- where the request after those waits for `100 Continue`, what was told ends in that
+-- where the request after those waits for `100 Continue`, what was written ends in that
 abbrev pub IsInvited : Limits → History → Type 0
 IsInvited limits h =
     (ms : List Wire.Request) (rest : List ℕ) → ReadsRequests limits h.received ms rest → length ms ≡ length h.calls
-    → ExpectsContinue limits rest → ∥ ((front : List ℕ) × (told h ≡ front ++ continue_text)) ∥₁
+    → ExpectsContinue limits rest → ∥ ((front : List ℕ) × (written h ≡ front ++ continue_text)) ∥₁
 
 -- an open connection with room in its output waits for input, and for that alone
 abbrev pub Rests : Config → History → Type 0

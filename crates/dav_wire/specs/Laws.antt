@@ -1,13 +1,18 @@
 -- What the contracts of a connection mean.
-use Rattle.std.specs.Prelude.{◌≡◌, ◌≢◌, ℕ, ◌<◌, ◌≤◌, ◌⊎◌, List, [], ◌∷◌, length, map, IsFalse}
-use Rattle.httparse.specs.Grammar.{RequestHead, ReadsRequest}
+use Rattle.std.specs.Prelude.{◌≡◌, ◌≢◌, ℕ, ◌<◌, ◌≤◌, ◌⊎◌, List, [], ◌∷◌, length, map, IsTrue, IsFalse}
+use Rattle.httparse.specs.Grammar.{RequestHead, ReadsRequest, print_response, status_code}
+use Rattle.http1.specs.declared.conn.Limits.{Limits}
+use Rattle.http1.specs.declared.framing.MethodKind.{MethodKind}
 use Rattle.http1.specs.Message as Wire
+use Rattle.http1.specs.Message.{known_of, ReadsResponseMessage}
 use Rattle.http_server.specs.declared.state.TheConstants.{MAX_HEADERS}
-use Rattle.dav_wire.specs.declared.config.Config.{Config}
+use Rattle.dav_wire.specs.declared.state.Config.{Config}
 use Rattle.dav_wire.specs.declared.answer.Asked.{Asked}
+use Rattle.dav_wire.specs.declared.state.Refusal.{Refusal}
 use Rattle.dav_wire.specs.declared.state.State.TheVariants.{Open}
 use Rattle.dav_wire.specs.Exchange.{Call, ReadsCall}
 use Rattle.dav_wire.specs.History.{History, IsServed, Rests}
+use Rattle.dav_wire.specs.Refusals.{closing_text, refusal_status}
 
 -- these bytes, by themselves, are this head and no other, within the limits of length and of fields
 pub record IsHeadAlone (config : Config) (bytes : List ℕ) (h : RequestHead) : Type 0 where
@@ -44,3 +49,20 @@ abbrev pub ConnectionsNeverStall : Type 0
 ConnectionsNeverStall =
     (config : Config) (h : History) → Rests config h
     → (0 < length h.pending) ⊎ (((h.state ≡ Open) × IsFalse h.ended) ⊎ (h.state ≢ Open))
+
+-- A client that sent a request with this method, and has room for the head, reads the text, whole, as a response of this status
+-- that has no body and says that the connection is closed.
+pub record IsLastResponse (method : MethodKind) (status : ℕ) (text : List ℕ) : Type 0 where
+  pub message : Wire.Response
+  pub reads : (limits : Limits) → length (print_response message.head) ≤ limits.max_head_len
+      → ReadsResponseMessage limits method text message []
+  pub status_is : status_code message.head ≡ status
+  pub closes : IsTrue (known_of message.head.fields).close
+  pub body : message.body.bytes ≡ []
+
+-- Each refusal, and the 500 where a response can't be sent, is read by the client as what it is.
+abbrev pub RefusalsAreRead : Type 0
+RefusalsAreRead =
+    (method : MethodKind)
+    → ((why : Refusal) → IsLastResponse method (refusal_status why) (closing_text (refusal_status why)))
+    × IsLastResponse method 500 (closing_text 500)

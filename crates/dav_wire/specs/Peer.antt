@@ -1,5 +1,5 @@
 -- What contracts read of a connection.
-use Rattle.dav_wire.specs.declared.config.Config.{Config}
+use Rattle.dav_wire.specs.declared.state.Config.{Config}
 use Rattle.dav_wire.specs.declared.peer.Peer.{Peer}
 use Rattle.dav_wire.specs.History.{History}
 use Rattle.dav_wire.specs.Place.{history_of}

@@ -1,5 +1,5 @@
 -- What holds between the steps of a connection: where its reader is in the stream.
-use Rattle.std.specs.Prelude.{◌≡◌, ◌≢◌, ℕ, ◌+◌, ◌*◌, ◌<◌, ◌≤◌, Bool, true, false, List, [], ◌∷◌, ◌++◌, length, take, drop, flat_map, if◌then◌else◌, IsTrue, IsFalse, ⊤}
+use Rattle.std.specs.Prelude.{◌≡◌, ◌≢◌, ℕ, ◌+◌, ◌*◌, ◌<◌, ◌≤◌, Bool, true, false, List, [], ◌∷◌, ◌++◌, length, take, drop, flat_map, if◌then◌else◌, IsTrue, IsFalse}
 use Rattle.httparse.specs.Grammar.{RequestHead}
 use Rattle.httparse.specs.Spans.{span_bytes}
 use Rattle.httparse.specs.declared.spans.HeaderSpan.{HeaderSpan}
@@ -25,7 +25,7 @@ use Rattle.http_server.specs.Exchange.{ExpectsContinue, continue_text, IsInterim
 use Rattle.http_server.specs.History.{HasNoMessage}
 use Rattle.http_server.specs.Machine.{in_body}
 use Rattle.dav_wire.specs.declared.answer.Asked.{Asked}
-use Rattle.dav_wire.specs.declared.config.Config.{Config}
+use Rattle.dav_wire.specs.declared.state.Config.{Config}
 use Rattle.dav_wire.specs.declared.intake.Intake.{Intake}
 use Rattle.dav_wire.specs.declared.intake.Found.{Found}
 use Rattle.dav_wire.specs.declared.intake.Found.TheVariants as found
@@ -34,7 +34,7 @@ use Rattle.dav_wire.specs.declared.state.Reason.{Reason}
 use Rattle.dav_wire.specs.declared.state.State.{State}
 use Rattle.dav_wire.specs.declared.state.State.TheVariants.{Open, Closing, Aborted}
 use Rattle.dav_wire.specs.Exchange.{Call, ReadsCall, Serves, most_of}
-use Rattle.dav_wire.specs.History.{History, told, HasWork, IsServed, Rests}
+use Rattle.dav_wire.specs.History.{History, written, HasWork, IsServed, Rests}
 use Rattle.dav_wire.specs.Refusals.{IsRefusedFor}
 
 -- what the proofs read of an intake
@@ -97,7 +97,7 @@ pub record IsBetween (p : Place) (stream interim : List ℕ) : Type 0 where
   pub body : p.body ≡ []
   pub silent : interim ≡ []
 
--- the reader is within the body of the request that begins the stream, to which it told this much, or at its start
+-- The reader is within the body of the request that begins the stream, for which this much was written, or at its start.
 abbrev pub StandsAt : Bool → Place → List ℕ → List ℕ → Type 0
 StandsAt true p stream interim = Begun p stream interim × (length p.body ≤ p.most)
 StandsAt false p stream interim = IsBetween p stream interim
@@ -124,7 +124,7 @@ pub record IsWhole (p : Place) (stream : List ℕ) (asked : Asked) (bodiless : B
 abbrev pub work : Place → ℕ
 work p = 2 * length p.unread + (if p.within then 1 else 0)
 
--- What was found at a place with so much work, in the stream to whose first request this much was told, and the place after that.
+-- What was found at a place with so much work, in the stream for whose first request this much was written, and the place after that.
 abbrev pub Finds : Found → Bool → ℕ → Place → List ℕ → List ℕ → Type 0
 Finds found.Nothing ended before p stream interim = IsStarved p stream interim × IsFalse ended
 Finds found.End ended before p stream interim = IsTrue ended × (stream ≡ []) × (interim ≡ [])
@@ -189,7 +189,7 @@ pub record Base (config : Config) (h : History) : Type 0 where
   pub serves : Serves config h.received answered text rest
   pub interim : List ℕ
   pub is_interim : IsInterim config.limits rest interim
-  pub told_is : told h ≡ text ++ interim
+  pub written_is : written h ≡ text ++ interim
 
 pub record IsRunning (p : Place) (h : History) : Type 0 where
   pub base : Base p.config h
@@ -209,7 +209,11 @@ Holds l = HoldsAt l.state (place l.intake) (history_of l)
 abbrev pub aborted : History → History
 aborted h = record h { state = Aborted; pending = [] }
 
--- nothing more is told but this text
+-- `100 Continue` was written
+abbrev pub invited : History → History
+invited h = record h { pending = h.pending ++ continue_text }
+
+-- this text was written, and it is the last
 abbrev pub closed_with : Reason → List ℕ → History → History
 closed_with why text h = record h { state = Closing why; pending = h.pending ++ text }
 

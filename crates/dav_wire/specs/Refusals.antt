@@ -1,11 +1,10 @@
 -- Why a request is refused, and the texts that the connection sends of its own.
-use Rattle.std.specs.Prelude.{◌≡◌, ◌≢◌, ℕ, ◌<◌, ◌⊎◌, ◌||◌, ◌==◌, Bool, List, [], ◌∷◌, length, codes, if◌then◌else◌, IsTrue}
-use Rattle.http1.specs.declared.conn.Limits.{Limits}
+use Rattle.std.specs.Prelude.{◌≢◌, ℕ, ◌<◌, ◌||◌, ◌==◌, Bool, List, [], ◌∷◌, length, codes, if◌then◌else◌, IsTrue}
 use Rattle.http1.specs.ReadError.{status_of}
 use Rattle.http1.specs.Head.{response_text}
 use Rattle.http1_typed.specs.Parts.{reason_of}
 use Rattle.http_server.specs.History.{HasNoMessage, NextIs, HasTooManyFields, HasUnknownCoding, IsReadError}
-use Rattle.dav_wire.specs.declared.config.Config.{Config}
+use Rattle.dav_wire.specs.declared.state.Config.{Config}
 use Rattle.dav_wire.specs.declared.state.Refusal.{Refusal}
 use Rattle.dav_wire.specs.declared.state.Refusal.TheVariants.{Truncated, Unreadable, BodyTooLong, UnknownCoding}
 use Rattle.dav_wire.specs.Exchange.{most_of}
@@ -22,10 +21,13 @@ abbrev pub known_status : ℕ → ℕ
 known_status status =
     if (status == 413) || ((status == 414) || ((status == 431) || ((status == 500) || (status == 501)))) then status else 400
 
--- a response with this status and its phrase, no body, and the word that the connection is closed (RFC 9112, section 9.6)
+-- the fields of a response after which the connection is closed, and which has no body (RFC 9112, sections 6.2 and 9.6)
+abbrev pub closing_fields : List (List ℕ × List ℕ)
+closing_fields = (codes "connection", codes "close") ∷ (codes "content-length", codes "0") ∷ []
+
+-- a response with this status, its phrase and these fields
 abbrev pub closing_text : ℕ → List ℕ
-closing_text status =
-    response_text 1 status (reason_of status) ((codes "connection", codes "close") ∷ (codes "content-length", codes "0") ∷ [])
+closing_text status = response_text 1 status (reason_of status) closing_fields
 
 -- Why the request that begins the stream is refused: the input ended within it; or, whatever bytes might follow, it has too
 -- many fields, or can't be read at all, or its body is longer than its method may have, or has an unknown coding.

@@ -6,13 +6,13 @@ ghost use Rattle.http1.specs.Server.{is_head};
 ghost use Rattle.http_server.specs.declared.state.TheConstants.{MAX_HEADERS};
 
 use crate::answer::Asked;
-use crate::config::{Config, most_of};
-use crate::state::Refusal;
+use crate::state::{Config, Refusal, most_of};
 use bytes::BytesMut;
 use http1::framing::MethodKind;
 use http1::{BodySize, Event, Server};
 use httparse::spans::{HeaderSpan, RequestSpans, Span};
 use std::alloc::{AllocError, Global};
+use std::mem;
 
 /// What the bytes hold next.
 #[derive(Drop)]
@@ -34,6 +34,7 @@ pub(crate) enum Found {
 /// The bytes that came, and the request that is being read.
 #[derive(Drop)]
 pub(crate) struct Intake {
+    alloc: Global,
     pub(crate) config: Config,
     /// What came and was not read yet.
     pub(crate) input: BytesMut,
@@ -56,9 +57,11 @@ impl Intake {
 
     pub(crate) fn new(alloc: Global, config: Config) -> Intake
         ensures standing { Standing (place result) [] [] }
-        ensures fresh { (result.config ≡ config) × (result.ended ≡ false) × (result.input.items ≡ []) }
+        ensures fresh { (result.config ≡ config) × (result.ended ≡ false)
+            × (result.input.items ≡ []) }
     {
         Intake {
+            alloc,
             config,
             input: BytesMut::new(alloc),
             ended: false,
@@ -75,7 +78,8 @@ impl Intake {
     pub(crate) fn read(&mut self, spans: &mut [HeaderSpan]) -> Result<Found, AllocError>
         requires { length spans.old ≡ MAX_HEADERS }
         ensures finds { (stream interim : List ℕ) → Standing (place self.old) stream interim
-            → IfOk result (λ found. Finds found self.old.ended (work (place self.old)) (place self.new) stream interim) }
+            → IfOk result (λ found. Finds found self.old.ended (work (place self.old))
+            (place self.new) stream interim) }
         ensures fails { (stream interim : List ℕ) → Standing (place self.old) stream interim
             → OnErr result (HasWork self.old.config.limits self.old.ended stream) }
         ensures keeps { KeepsIntake self.old self.new }
@@ -114,7 +118,8 @@ impl Intake {
 
     // Whether nothing of a request came.
     fn is_between(&self) -> bool
-        ensures between { IsTrue result → (self.now.is_within ≡ false) × (self.now.input.items ≡ []) }
+        ensures between { IsTrue result
+            → (self.now.is_within ≡ false) × (self.now.input.items ≡ []) }
         ensures within { IsFalse result → self.now.is_within ≡ false → self.now.input.items ≢ [] }
     {
         !self.is_within && self.input.is_empty()
@@ -125,7 +130,8 @@ impl Intake {
         requires { IsRequestWithin self.old.input.items spans.now head.now }
         ensures finds { (stream interim : List ℕ)
             → HasHead (place self.old) spans.now head.now stream interim
-            → IfOk result (λ found. Finds found self.old.ended (work (place self.old)) (place self.new) stream interim) }
+            → IfOk result (λ found. Finds found self.old.ended (work (place self.old))
+            (place self.new) stream interim) }
         ensures fails { (stream interim : List ℕ)
             → HasHead (place self.old) spans.now head.now stream interim
             → OnErr result (HasWork self.old.config.limits self.old.ended stream) }
@@ -158,7 +164,8 @@ impl Intake {
     fn add(&mut self, piece: Span) -> Result<Found, AllocError>
         requires { IsWithin (length self.old.input.items) piece }
         ensures finds { (stream interim : List ℕ) → HasPiece (place self.old) piece stream interim
-            → IfOk result (λ found. Finds found self.old.ended (work (place self.old)) (place self.new) stream interim) }
+            → IfOk result (λ found. Finds found self.old.ended (work (place self.old))
+            (place self.new) stream interim) }
         ensures fails { (stream interim : List ℕ) → HasPiece (place self.old) piece stream interim
             → OnErr result (HasWork self.old.config.limits self.old.ended stream) }
         ensures keeps { KeepsIntake self.old self.new }
@@ -176,7 +183,8 @@ impl Intake {
     fn finish(&mut self) -> Result<Found, AllocError>
         ensures finds { (stream interim : List ℕ) (before : ℕ) → work (place self.old) ≤ before
             → HasEnd (place self.old) stream
-            → IfOk result (λ found. Finds found self.old.ended before (place self.new) stream interim) }
+            → IfOk result (λ found.
+            Finds found self.old.ended before (place self.new) stream interim) }
         ensures fails { (stream : List ℕ) → HasEnd (place self.old) stream
             → OnErr result (HasWork self.old.config.limits self.old.ended stream) }
         ensures keeps { KeepsIntake self.old self.new }
@@ -185,7 +193,7 @@ impl Intake {
             return Ok(Found::Nothing);
         }
         let head = self.head.freeze_to(self.head.len())?;
-        let body = self.body.freeze_to(self.body.len())?;
+        let body = mem::replace(&mut self.body, BytesMut::new(self.alloc)).freeze()?;
         self.is_within = false;
         Ok(Found::Request(Asked { head, body }, self.is_head))
     }

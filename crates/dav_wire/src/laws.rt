@@ -1,5 +1,5 @@
 //! Laws of a connection. Each function does nothing: its contract is a theorem on the definitions.
-ghost use Rattle.dav_wire.specs.Laws.{HeadsStandAlone, CallsAreRequests, RequestsAreDetermined, ConnectionsNeverStall};
+ghost use Rattle.dav_wire.specs.Laws.{HeadsStandAlone, CallsAreRequests, RequestsAreDetermined, ConnectionsNeverStall, RefusalsAreRead};
 
 /// The bytes that are handed over as a head are, by themselves, the head that was read in the stream: nothing is smuggled
 /// past the answerer's own reading.
@@ -19,4 +19,10 @@ pub fn calls_are_requests()
 #[tactic(auto, using(crate::proofs::LawAnswers::connections_never_stall))]
 pub fn connections_never_stall()
     ensures { ConnectionsNeverStall }
+{}
+
+/// Each refusal, and the 500 where a response can't be sent, is read whole by the client, as a response of that status without
+/// a body, which says that the connection is closed.
+pub fn refusals_are_read()
+    ensures { RefusalsAreRead }
 {}

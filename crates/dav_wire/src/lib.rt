@@ -3,16 +3,16 @@
 #![tactic(auto)]
 
 mod answer;
-mod config;
 mod intake;
 mod laws;
 mod line;
 mod peer;
 mod reply;
 mod state;
+#[cfg(test)]
+mod tests;
 
 pub use answer::{Answerer, Asked, Stop};
-pub use config::Config;
-pub use laws::{calls_are_requests, connections_never_stall, heads_stand_alone};
+pub use laws::{calls_are_requests, connections_never_stall, heads_stand_alone, refusals_are_read};
 pub use peer::Peer;
-pub use state::{Reason, Refusal, State};
+pub use state::{Config, Reason, Refusal, State};

@@ -3,10 +3,9 @@ ghost use Rattle.std.specs.Prelude.{◌≡◌, ◌≢◌, ℕ, ◌<◌, ◌≤�
 ghost use Rattle.http_server.specs.declared.state.TheConstants.{MAX_HEADERS};
 
 use crate::answer::{Answerer, Asked};
-use crate::config::Config;
 use crate::intake::{Found, Intake};
 use crate::reply::{write_head, write_rest};
-use crate::state::{Reason, Refusal, State, closing_text};
+use crate::state::{Config, Reason, Refusal, State, closing_text};
 use bytes::{Buf, BufMut, BytesMut};
 use http_server::{Log, Response, Rope};
 use http1::WriteError;
@@ -36,9 +35,8 @@ pub(crate) struct Line {
 impl Line {
     ghost use Rattle.dav_wire.specs.Exchange.{Calls};
     ghost use Rattle.dav_wire.specs.History.{new_history, after_taken, after_sent};
-    ghost use Rattle.dav_wire.specs.Place.{place, work, history_of, Holds, KeepsLine, Reaches, IsGiven, IsAnswered, aborted, closed_with};
+    ghost use Rattle.dav_wire.specs.Place.{place, work, history_of, Holds, KeepsLine, Reaches, IsGiven, IsAnswered, invited, aborted, closed_with};
     ghost use Rattle.dav_wire.specs.Refusals.{known_status, closing_text, refusal_status};
-    ghost use Rattle.http_server.specs.Exchange.{continue_text};
 
     pub(crate) fn new(alloc: Global, config: Config) -> Line
         ensures history { history_of result ≡ new_history }
@@ -59,7 +57,8 @@ impl Line {
 
     /// Takes what came; no bytes are the end, after which nothing is taken.
     pub(crate) fn take(&mut self, bytes: &[u8]) -> Result<(), AllocError>
-        ensures ok { OnOk result (history_of self.new ≡ after_taken (history_of self.old) bytes.now) }
+        ensures ok { OnOk result
+            (history_of self.new ≡ after_taken (history_of self.old) bytes.now) }
         ensures err { OnErr result (history_of self.new ≡ history_of self.old) }
         ensures holds { Holds self.old → Holds self.new }
         ensures config { self.new.intake.config ≡ self.old.intake.config }
@@ -122,8 +121,8 @@ impl Line {
 
     // Tells the sender of a head to go on.
     fn invite(&mut self) -> bool
-        ensures told { MatchBool result
-            (history_of self.new ≡ record (history_of self.old) { pending = (history_of self.old).pending ++ continue_text })
+        ensures written { MatchBool result
+            (history_of self.new ≡ invited (history_of self.old))
             (history_of self.new ≡ aborted (history_of self.old)) }
         ensures intake { self.new.intake ≡ self.old.intake }
         ensures keeps { KeepsLine self.old self.new }
@@ -137,7 +136,8 @@ impl Line {
     // Has a request answered.
     fn answer<S: Answerer>(&mut self, answerer: &mut S, asked: &Asked, is_head: bool) -> bool
         ensures reaches { (old : ℕ) → work (place self.old.intake) < old
-            → IsGiven (place self.old.intake) (history_of self.old) asked.now is_head → Reaches old result self.new }
+            → IsGiven (place self.old.intake) (history_of self.old) asked.now is_head
+            → Reaches old result self.new }
         ensures calls { self.new.state ≢ State.Aborted
             → Calls S.answers answerer.old answerer.new self.old.calls.items self.new.calls.items }
         ensures keeps { KeepsLine self.old self.new }
@@ -153,7 +153,8 @@ impl Line {
     // Writes the response, after which the connection goes on, or is closed.
     fn reply(&mut self, is_head: bool) -> bool
         ensures reaches { (old : ℕ) → work (place self.old.intake) < old
-            → IsAnswered (place self.old.intake) (history_of self.old) self.old.response is_head → Reaches old result self.new }
+            → IsAnswered (place self.old.intake) (history_of self.old) self.old.response is_head
+            → Reaches old result self.new }
         ensures calls { self.new.calls ≡ self.old.calls }
         ensures keeps { KeepsLine self.old self.new }
     {
@@ -174,7 +175,7 @@ impl Line {
 
     // Ends where a response can't be sent.
     fn fail(&mut self, error: WriteError) -> bool
-        ensures told { ((history_of self.new
+        ensures written { ((history_of self.new
             ≡ closed_with (Reason.Unsendable error) (closing_text 500) (history_of self.old))
             × (error ≢ WriteError.OutOfMemory))
             ⊎ (history_of self.new ≡ aborted (history_of self.old)) }
@@ -191,8 +192,9 @@ impl Line {
 
     // Refuses the next request.
     fn refuse(&mut self, why: Refusal) -> bool
-        ensures told { (history_of self.new
-            ≡ closed_with (Reason.Refused why) (closing_text (refusal_status why)) (history_of self.old))
+        ensures written { (history_of self.new
+            ≡ closed_with (Reason.Refused why) (closing_text (refusal_status why))
+            (history_of self.old))
             ⊎ (history_of self.new ≡ aborted (history_of self.old)) }
         ensures stops { IsFalse result }
         ensures intake { self.new.intake ≡ self.old.intake }
@@ -203,7 +205,7 @@ impl Line {
 
     // Ends with a text of the connection's own.
     fn end(&mut self, why: Reason, status: u16) -> bool
-        ensures told { (history_of self.new
+        ensures written { (history_of self.new
             ≡ closed_with why (closing_text (known_status status)) (history_of self.old))
             ⊎ (history_of self.new ≡ aborted (history_of self.old)) }
         ensures stops { IsFalse result }
@@ -219,7 +221,7 @@ impl Line {
 
     // Closes, once what waits is sent.
     fn close(&mut self, why: Reason) -> bool
-        ensures told { self.new ≡ record (self.old) { state = State.Closing why } }
+        ensures written { self.new ≡ record (self.old) { state = State.Closing why } }
         ensures stops { IsFalse result }
     {
         self.state = State::Closing(why);
@@ -228,7 +230,7 @@ impl Line {
 
     // Drops what waits: nothing more may be sent.
     fn abort(&mut self) -> bool
-        ensures told { history_of self.new ≡ aborted (history_of self.old) }
+        ensures written { history_of self.new ≡ aborted (history_of self.old) }
         ensures stops { IsFalse result }
         ensures intake { self.new.intake ≡ self.old.intake }
         ensures keeps { KeepsLine self.old self.new }

@@ -5,9 +5,8 @@ ghost use Rattle.dav_wire.specs.History.{IsServed, IsQuiet, Rests, new_history, 
 ghost use Rattle.dav_wire.specs.Place.{Holds};
 
 use crate::answer::{Answerer, Stop};
-use crate::config::Config;
 use crate::line::Line;
-use crate::state::State;
+use crate::state::{Config, State};
 use bytes::Buf;
 use http_server::MAX_HEADERS;
 use httparse::spans::EMPTY_HEADER_SPAN;
@@ -54,7 +53,8 @@ impl Peer {
             (history self.old).calls (history self.new).calls) }
         ensures stops { IsErr result ↔ ((history self.new).state ≡ State.Aborted) }
         ensures rests { Rests (config_of self.new) (history self.new) }
-        ensures settled { (history self.old).state ≢ State.Open → history self.new ≡ history self.old }
+        ensures settled { (history self.old).state ≢ State.Open
+            → history self.new ≡ history self.old }
         ensures quiet { IsQuiet (history self.old) (history self.new) }
         ensures config { config_of self.new ≡ config_of self.old }
     {

@@ -31,7 +31,7 @@ fn list_of<'a>(
     Ok(list)
 }
 
-// The size of a body, as far as the head tells it.
+// The size of a body, as the head states it: for HEAD an empty body states none.
 fn size_of(response: &Response) -> BodySize
     ensures value { result ≡ size_of response.now }
     ensures short { length response.now.body.items < 2 ^ 64 }
@@ -62,7 +62,8 @@ pub(crate) fn write_head(
         ++ planned_response server.old response.now.status (reason_of response.now.status)
         (size_of response.now) (fields_of response.now)) }
     ensures next { OnOk result (server.new
-        ≡ after_response server.old response.now.status (size_of response.now) (fields_of response.now)) }
+        ≡ after_response server.old response.now.status (size_of response.now)
+        (fields_of response.now)) }
     ensures short { OnOk result (length response.now.body.items < 2 ^ 64) }
     ensures refused { IfErr result (λ e. e ≢ WriteError.OutOfMemory
         → (response_refusal server.old response.now.status (reason_of response.now.status)
@@ -93,7 +94,7 @@ pub(crate) fn write_rest(
     server.write_end(output, &[])
 }
 
-// Writes the body, in the framing that the head told.
+// Writes the body, in the framing that the head states.
 fn write_body(server: &mut Server, output: &mut Rope, body: &mut Rope) -> Result<(), WriteError>
     ensures text { OnOk result (output.new.items
         ≡ output.old.items ++ data_text (writing server.old) body.old.items) }

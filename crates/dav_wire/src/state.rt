@@ -1,8 +1,22 @@
-//! Where a connection stands, and why it is closed.
+//! The limits of a connection, where it stands, and why it is closed.
 ghost use Rattle.std.specs.Prelude.{◌≡◌};
+ghost use Rattle.dav_wire.specs.Exchange.{takes_tree, most_of};
 ghost use Rattle.dav_wire.specs.Refusals.{known_status, closing_text, refusal_status};
 
-use http1::{ReadError, WriteError};
+use http1::{Limits, ReadError, WriteError};
+
+/// The limits of a connection.
+#[derive(Clone, Copy, Debug, PartialEq, Eq)]
+pub struct Config {
+    /// Those of heads, of chunks and of trailers.
+    pub limits: Limits,
+    /// The most bytes of a body; a longer one is refused (413).
+    pub max_body_len: usize,
+    /// The same of a body that is an element tree: of PROPFIND, PROPPATCH and LOCK.
+    pub max_tree_len: usize,
+    /// While more bytes than this wait to be sent, no request is read.
+    pub max_pending: usize,
+}
 
 /// Where a connection stands.
 #[derive(Clone, Copy, Debug, PartialEq, Eq)]
@@ -42,7 +56,7 @@ pub enum Refusal {
 }
 
 impl Refusal {
-    /// The status that tells it.
+    /// The status of the refusal (RFC 9110, section 15.5).
     pub fn status(self) -> u16
         ensures { result ≡ refusal_status self }
     {
@@ -55,7 +69,27 @@ impl Refusal {
     }
 }
 
-/// The last text of a connection that is closed with this status; one that isn't known is told as 400.
+// Whether a method's body is an element tree.
+fn takes_tree(method: &[u8]) -> bool
+    ensures { result ≡ takes_tree method.now }
+{
+    method == b"PROPFIND".as_slice()
+        || method == b"PROPPATCH".as_slice()
+        || method == b"LOCK".as_slice()
+}
+
+// The most bytes of a body of this method.
+pub(crate) fn most_of(config: &Config, method: &[u8]) -> usize
+    ensures { result ≡ most_of config.now method.now }
+{
+    if takes_tree(method) {
+        config.max_tree_len
+    } else {
+        config.max_body_len
+    }
+}
+
+/// The last text of a connection that is closed with this status; 400 stands for one that isn't known.
 pub(crate) fn closing_text(status: u16) -> &'static [u8]
     ensures { result.now ≡ closing_text (known_status status) }
 {

@@ -1,6 +1,7 @@
-use Rattle.std.proofs.Common.{◌≤◌, length, rules, refl, sym, ap, ◌∙◌, subst, arith}
-use Rattle.dav_wire.specs.Place.{place, Begun}
-use Rattle.dav_wire.proofs.Bodies.{has_coding, head_work, begins, head_less, invites, invites_not, too_long_ahead}
+use Rattle.std.proofs.Common.{◌≤◌, length, rules, sym, ap, ◌∙◌, subst, arith}
+use Rattle.dav_wire.specs.Place.{Begun}
+use Rattle.dav_wire.proofs.Bodies.{too_long_ahead}
+use Rattle.dav_wire.proofs.Events.{has_coding, head_work, begins, head_less, invites, invites_not}
 use Rattle.dav_wire.proofs.intake.Intake.begin.Goals as goal
 
 pub returns-then-has_codings-clause-finds : goal.returns-then-has_codings-clause-finds

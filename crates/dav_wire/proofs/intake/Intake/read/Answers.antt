@@ -1,7 +1,6 @@
-use Rattle.std.proofs.Common.{rules, ◌≡◌, ◌≤◌, ◌*◌, length, drop, sym, ap, ◌∙◌, subst, arith, length-drop, inr}
-use Rattle.http1.specs.Server.{ServerReads, ServerRefuses}
-use Rattle.dav_wire.specs.Place.{place, IsStarved, HasEnd, work}
-use Rattle.dav_wire.proofs.Bodies.{head_found, piece_found, end_found, nothing_found, unreadable}
+use Rattle.std.proofs.Common.{rules, ◌≤◌, ◌*◌, length, sym, ap, subst, arith, length-drop, inr}
+use Rattle.dav_wire.specs.Place.{place, IsStarved, HasEnd}
+use Rattle.dav_wire.proofs.Events.{head_found, piece_found, end_found, nothing_found, unreadable}
 use Rattle.dav_wire.proofs.intake.Intake.read.Goals as goal
 
 pub returns-in-Err-clause-finds : goal.returns-in-Err-clause-finds

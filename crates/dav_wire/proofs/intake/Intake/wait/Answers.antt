@@ -1,6 +1,6 @@
 use Rattle.std.proofs.Common.{inl, inr}
 use Rattle.dav_wire.specs.Place.{place}
-use Rattle.dav_wire.proofs.Bodies.{starved_some, ends_between}
+use Rattle.dav_wire.proofs.Events.{starved_some, ends_between}
 use Rattle.dav_wire.proofs.intake.Intake.wait.Goals as goal
 
 pub returns : goal.returns

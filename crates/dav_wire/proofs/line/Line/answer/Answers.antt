@@ -1,13 +1,12 @@
-use Rattle.std.proofs.Common.{[], ◌∷◌, ◌++◌, List, refl, sym, ap, ◌∙◌, inl}
+use Rattle.std.proofs.Common.{[], ◌∷◌, ◌++◌, List, refl, ap, ◌∙◌, inl}
 use Rattle.dav_wire.specs.Exchange.{Call}
-use Rattle.dav_wire.specs.Place.{place, history_of}
 use Rattle.dav_wire.proofs.Runs.{rebased, reaches_over, aborts}
 use Rattle.dav_wire.proofs.line.Line.answer.Goals as goal
 
 pub returns-in_default-clause-reaches : goal.returns-in_default-clause-reaches
 returns-in_default-clause-reaches g c = λ old less x.
     let reads = x.whole.request.reads in
-    reaches_over _ old _ _ _ c.abort.ensures.told c.abort.ensures.keeps.config (λ is. cc) c.abort.ensures.stops
+    reaches_over _ old _ _ _ c.abort.ensures.written c.abort.ensures.keeps.config (λ is. cc) c.abort.ensures.stops
     (aborts x.base (inl (record { head = x.whole.message.head; framing = reads.framing; after = reads.after_head; accepts = reads.head })) (inl x.calls))
 
 pub returns-clause-reaches : goal.returns-clause-reaches

@@ -1,5 +1,4 @@
-use Rattle.std.proofs.Common.{◌≡◌, rules}
-use Rattle.dav_wire.specs.History.{new_history}
+use Rattle.std.proofs.Common.{rules}
 use Rattle.dav_wire.specs.Place.{place}
 use Rattle.dav_wire.proofs.Runs.{fresh}
 use Rattle.dav_wire.proofs.line.Line.new.Goals as goal

@@ -1,6 +1,5 @@
-use Rattle.std.proofs.Common.{◌≡◌, List, ℕ, refl, sym, ap, ◌∙◌, subst, inl, inr}
-use Rattle.dav_wire.specs.History.{History}
-use Rattle.dav_wire.specs.Place.{place, history_of, aborted, closed_with}
+use Rattle.std.proofs.Common.{◌≡◌, List, ℕ, ap, ◌∙◌, inl, inr}
+use Rattle.dav_wire.specs.Place.{place, history_of, closed_with}
 use Rattle.dav_wire.specs.declared.state.Reason.TheVariants.{Unsendable}
 use Rattle.dav_wire.specs.Refusals.{closing_text}
 use Rattle.dav_wire.proofs.Replies.{stops_after, fails_with, closes, stays_open}
@@ -10,22 +9,22 @@ use Rattle.dav_wire.proofs.line.Line.reply.Goals as goal
 pub returns-in-Err-clause-reaches : goal.returns-in-Err-clause-reaches
 returns-in-Err-clause-reaches c = λ old less x.
     let l = c.args.self.now in
-    elim c.fail.ensures.told [
-      | inl told ↦
-          let why = c.in-Err.ensures.refused told.1 in
+    elim c.fail.ensures.written [
+      | inl written ↦
+          let why = c.in-Err.ensures.refused written.1 in
           let same : history_of c.fail.new.self ≡ closed_with (Unsendable c.in-Err.error) (closing_text 500) (history_of l) =
-          told.0 ∙ ap (λ (t : List ℕ). closed_with (Unsendable c.in-Err.error) (closing_text 500) (record (history_of l) { pending = t })) why.1 in
+          written.0 ∙ ap (λ (t : List ℕ). closed_with (Unsendable c.in-Err.error) (closing_text 500) (record (history_of l) { pending = t })) why.1 in
           reaches_over _ old _ _ _ same c.fail.ensures.keeps.config (λ is. cc) c.fail.ensures.stops
           (fails_with (place l.intake) (history_of l) l.response c.args.is_head x c.in-Err.error why.0)
-      | inr told ↦
-          reaches_over _ old _ _ _ told c.fail.ensures.keeps.config (λ is. cc) c.fail.ensures.stops
+      | inr written ↦
+          reaches_over _ old _ _ _ written c.fail.ensures.keeps.config (λ is. cc) c.fail.ensures.stops
           (stops_after (place l.intake) (history_of l) l.response c.args.is_head x)
     ]
 
 pub returns-in_default-clause-reaches : goal.returns-in_default-clause-reaches
 returns-in_default-clause-reaches c = λ old less x.
     let l = c.args.self.now in
-    reaches_over _ old _ _ _ c.abort.ensures.told c.abort.ensures.keeps.config (λ is. cc) c.abort.ensures.stops
+    reaches_over _ old _ _ _ c.abort.ensures.written c.abort.ensures.keeps.config (λ is. cc) c.abort.ensures.stops
     (stops_after (place l.intake) (history_of l) l.response c.args.is_head x)
 
 pub returns-then-is_closed-clause-reaches : goal.returns-then-is_closed-clause-reaches
@@ -35,7 +34,7 @@ returns-then-is_closed-clause-reaches c = λ old less x.
     let closed = closes (place l.intake) (history_of l) l.response c.args.is_head x c.in-Ok.ensures.sendable c.in-Ok.ensures.short
     c.write_head.new.output.items c.write_rest.new.output.items c.in-Ok.ensures.text (rw c.in-Ok.ensures.next at sent.text)
     c.write_rest.new.server (rw c.in-Ok.ensures.next at sent.next) (c.is_closed.ensures.0 c.if-is_closed.true) in
-    reaches_over _ old _ _ _ (ap history_of c.close.ensures.told) (ap (λ t. t.intake.config) c.close.ensures.told) (λ is. cc)
+    reaches_over _ old _ _ _ (ap history_of c.close.ensures.written) (ap (λ t. t.intake.config) c.close.ensures.written) (λ is. cc)
     c.close.ensures.stops closed
 
 pub returns-clause-reaches : goal.returns-clause-reaches

@@ -1,6 +1,6 @@
 use Rattle.std.proofs.Common.{◌≡◌, sym, subst, arith}
 use Rattle.std.proofs.lemmas.Grind.{common_steps}
-use Rattle.dav_wire.specs.History.{History, after_sent}
+use Rattle.dav_wire.specs.History.{after_sent}
 use Rattle.dav_wire.specs.Place.{place, history_of, HoldsAt}
 use Rattle.dav_wire.proofs.Runs.{sends}
 use Rattle.dav_wire.proofs.line.Line.sent.Goals as goal

@@ -1,5 +1,5 @@
-use Rattle.std.proofs.Common.{refl, sym, ap, ◌∙◌, subst}
-use Rattle.dav_wire.specs.Place.{place, work, history_of, Finds}
+use Rattle.std.proofs.Common.{ap}
+use Rattle.dav_wire.specs.Place.{place, history_of}
 use Rattle.dav_wire.proofs.Runs.{running}
 use Rattle.dav_wire.proofs.Steps.{after_nothing, after_end, after_part, after_invitation, is_given, after_refusal, after_stop, had_work}
 use Rattle.dav_wire.proofs.line.Line.step.Goals as goal
@@ -17,7 +17,7 @@ returns-in-Ok-End-clause-reaches g c = λ x.
     let l = c.args.self.now in
     let r = running (place l.intake) (history_of l) x (c.is_open.ensures.0 c.if-not-is_open.false) in
     let did = c.in-Ok-End.ensures in
-    after_end l c.read.new.self did.keeps r _ _ _ c.close.ensures.told c.close.ensures.stops
+    after_end l c.read.new.self did.keeps r _ _ _ c.close.ensures.written c.close.ensures.stops
     (rw c.in-Ok-End.field-0-is at (did.finds r.base.rest r.base.interim r.standing))
 
 pub returns-in-Ok-Part-clause-reaches : goal.returns-in-Ok-Part-clause-reaches
@@ -33,7 +33,7 @@ returns-in-Ok-Invitation-clause-reaches g c = λ x.
     let l = c.args.self.now in
     let r = running (place l.intake) (history_of l) x (c.is_open.ensures.0 c.if-not-is_open.false) in
     let did = c.in-Ok-Invitation.ensures in
-    after_invitation l c.read.new.self did.keeps r _ _ _ c.invite.ensures.told c.invite.ensures.intake
+    after_invitation l c.read.new.self did.keeps r _ _ _ c.invite.ensures.written c.invite.ensures.intake
     (rw c.in-Ok-Invitation.field-0-is at (did.finds r.base.rest r.base.interim r.standing))
 
 pub returns-in-Ok-Request-clause-reaches : goal.returns-in-Ok-Request-clause-reaches
@@ -49,7 +49,7 @@ returns-in-Ok-Refused-clause-reaches g c = λ x.
     let l = c.args.self.now in
     let r = running (place l.intake) (history_of l) x (c.is_open.ensures.0 c.if-not-is_open.false) in
     let did = c.in-Ok-Refused.ensures in
-    after_refusal l c.read.new.self did.keeps r _ _ _ _ c.refuse.ensures.told c.refuse.ensures.intake c.refuse.ensures.stops
+    after_refusal l c.read.new.self did.keeps r _ _ _ _ c.refuse.ensures.written c.refuse.ensures.intake c.refuse.ensures.stops
     (rw c.in-Ok-Refused.field-0-is at (did.finds r.base.rest r.base.interim r.standing))
 
 pub returns-in-Err-clause-reaches : goal.returns-in-Err-clause-reaches
@@ -57,5 +57,5 @@ returns-in-Err-clause-reaches g c = λ x.
     let l = c.args.self.now in
     let r = running (place l.intake) (history_of l) x (c.is_open.ensures.0 c.if-not-is_open.false) in
     let did = c.in-Err.ensures in
-    after_stop l c.read.new.self did.keeps r _ _ _ c.abort.ensures.told (ap (λ t. t.config) c.abort.ensures.intake) c.abort.ensures.stops
+    after_stop l c.read.new.self did.keeps r _ _ _ c.abort.ensures.written (ap (λ t. t.config) c.abort.ensures.intake) c.abort.ensures.stops
     (had_work l c.read.new.self did.keeps r (did.fails r.base.rest r.base.interim r.standing))

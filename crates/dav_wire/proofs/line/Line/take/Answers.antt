@@ -1,6 +1,6 @@
 use Rattle.std.proofs.Common.{◌≡◌, ◌++◌, sym, ap, subst₂, arith}
 use Rattle.std.proofs.lemmas.Grind.{common_steps}
-use Rattle.dav_wire.specs.Place.{Place, place, history_of, HoldsAt}
+use Rattle.dav_wire.specs.Place.{place, history_of, HoldsAt}
 use Rattle.dav_wire.proofs.Runs.{takes, more}
 use Rattle.dav_wire.proofs.line.Line.take.Goals as goal
 

@@ -1,0 +1,317 @@
+-- What each event that is read does to the place in the stream.
+use Rattle.std.proofs.Common.{◌≡◌, ◌≢◌, ℕ, ◌+◌, ◌*◌, ◌<◌, ◌≤◌, Bool, true, false, cond, ◌&&◌, ◌==◌, List, [], ◌++◌, length, take, drop, refl, sym, ap, ◌∙◌, subst, subst₂, arith, append-nil, length-append, length-drop, take-append-drop, inl, inr}
+use Rattle.std.proofs.lemmas.List.{length-map, take_all}
+use Rattle.httparse.specs.declared.spans.Span.{Span}
+use Rattle.httparse.specs.declared.spans.HeaderSpan.{HeaderSpan}
+use Rattle.httparse.specs.declared.spans.RequestSpans.{RequestSpans}
+use Rattle.httparse.specs.Spans.{span_bytes, header_bytes, name_and_value}
+use Rattle.http1.specs.declared.conn.Event.{Event}
+use Rattle.http1.specs.declared.conn.Event.TheVariants as event
+use Rattle.http1.specs.declared.conn.Progress.{Progress}
+use Rattle.http1.specs.declared.conn.Reading.TheVariants as Reads
+use Rattle.http1.specs.declared.error.ReadError.{ReadError}
+use Rattle.http1.specs.declared.server.Server.{Server}
+use Rattle.http1.specs.Body.{body_of, ReadsBody}
+use Rattle.http1.specs.Conn.{ReadsPiece}
+use Rattle.http1.specs.Decoder.{Completes, with_front, decoder_for}
+use Rattle.http1.specs.Framing.{method_kind}
+use Rattle.http1.specs.Message.{AcceptsRequest}
+use Rattle.http1.specs.Server.{new_server, request_of, is_head, reading, has_codings, expects_continue, after_piece, TakesHead, ReadsHead, ReadsInBody, ReadsAt, ServerReads, ServerRefuses}
+use Rattle.http_server.specs.Exchange.{ExpectsContinue, continue_text}
+use Rattle.http_server.specs.History.{NextIs, HasTooManyFields, HasUnknownCoding, IsReadError}
+use Rattle.http_server.specs.Machine.{in_body}
+use Rattle.http_server.proofs.MachineLemmas.{head_is_some}
+use Rattle.http_server.proofs.StreamLemmas.{AcceptsRequest-append, accepts_unique, has_an_end}
+use Rattle.dav_wire.specs.declared.answer.Asked.{Asked}
+use Rattle.dav_wire.specs.Exchange.{most_of}
+use Rattle.dav_wire.specs.History.{HasWork}
+use Rattle.dav_wire.specs.Place.{Place, IsBodyAt, Begun, invitation, IsBetween, StandsAt, Standing, IsStarved, HasHead, HasPiece, HasEnd, IsWhole, work}
+use Rattle.dav_wire.proofs.Bodies.{IsBodyAt-start, ends_first, Begun-step, begun_some, reads_on, begun_invited, is_unfinished}
+
+-- ---- events
+
+never_waits : (a b : Bool) → (a && (b && false)) ≡ false
+never_waits true true = refl
+never_waits true false = refl
+never_waits false b = refl
+
+module _ (p : Place) (stream interim : List ℕ) (spans : List HeaderSpan) (new : Server) (read : Progress RequestSpans)
+    (did : ServerReads p.server p.unread spans new read) where
+  abbrev with_server : Place
+  with_server = record p { server = new }
+
+  abbrev after_read : Place
+  after_read = record p { server = new; unread = drop read.consumed p.unread }
+
+  at_start : IsBetween p stream interim → ReadsHead (new_server p.config.limits) stream spans new read.consumed read.event
+  at_start x =
+      subst (λ (u : List ℕ). ReadsHead (new_server p.config.limits) u spans new read.consumed read.event) x.unread
+      (subst (λ s. ServerReads s p.unread spans new read) x.server did)
+
+  in_its_body : (x : Begun p stream interim) → ReadsInBody x.decoder p.server p.unread spans new read
+  in_its_body x = subst (λ r. ReadsAt r p.server p.unread spans new read) (ap reading x.server) did
+
+  head_at : (b : Bool) (r : RequestSpans) → p.within ≡ b → StandsAt b p stream interim → read.event ≡ event.Head r
+      → length spans ≤ 64 → HasHead with_server spans r stream interim
+  head_at false r within x is few =
+      let takes = subst (ReadsHead (new_server p.config.limits) stream spans new read.consumed) is (at_start x) in
+      record {
+        unread = x.unread;
+        silent = x.silent;
+        within = within;
+        body = x.body;
+        takes = subst (λ n. TakesHead (new_server p.config.limits) stream spans new n r) takes.consumed takes;
+        few = few;
+      }
+  head_at true r within x is few =
+      let found = in_its_body x.0 in
+      absurd (subst (λ e. ReadsPiece x.0.decoder p.unread spans found.0 read.consumed e) is found.1)
+
+  pub head_found : (r : RequestSpans) → Standing p stream interim → read.event ≡ event.Head r → length spans ≤ 64
+      → HasHead with_server spans r stream interim
+  head_found r x is few = head_at p.within r refl x is few
+
+  piece_at : (b : Bool) (s : Span) → p.within ≡ b → StandsAt b p stream interim → read.event ≡ event.Data s
+      → HasPiece with_server s stream interim
+  piece_at false s within x is =
+      absurd (subst (ReadsHead (new_server p.config.limits) stream spans new read.consumed) is (at_start x))
+  piece_at true s within x is =
+      let found = in_its_body x.0 in
+      let piece = subst (λ e. ReadsPiece x.0.decoder p.unread spans found.0 read.consumed e) is found.1 in
+      record {
+        within = within;
+        some = piece.3;
+        fits = x.1;
+        onward = Begun-step x.0 piece.0 s.end _ new piece.4 (rw piece.1 at found.2);
+      }
+
+  pub piece_found : (s : Span) → Standing p stream interim → read.event ≡ event.Data s → HasPiece with_server s stream interim
+  piece_found s x is = piece_at p.within s refl x is
+
+  end_at : (b : Bool) (count : ℕ) → p.within ≡ b → StandsAt b p stream interim → read.event ≡ event.End count
+      → HasEnd after_read stream
+  end_at false count within x is =
+      absurd (subst (ReadsHead (new_server p.config.limits) stream spans new read.consumed) is (at_start x))
+  end_at true count within x is =
+      let found = in_its_body x.0 in
+      let ends = subst (λ e. ReadsPiece x.0.decoder p.unread spans found.0 read.consumed e) is found.1 in
+      let b = x.0 in
+      let tail = body_of [] ends.1.trailers in
+      let whole = b.goes_on.back [] tail (drop read.consumed p.unread)
+      (subst (Completes b.decoder (p.unread ++ []) tail) (append-nil _) (ends.1.completes [])) in
+      record {
+        within = within;
+        message = record { head = b.head; body = with_front p.body tail };
+        reads = record {
+          framing = b.framing;
+          after_head = b.after;
+          head = b.accepts;
+          body = subst (λ (t : List ℕ). ReadsBody p.config.limits b.framing t (with_front p.body tail) _) (append-nil b.after) whole;
+        };
+        head = b.text;
+        body = sym (append-nil p.body);
+        plain = b.plain;
+        fits = omega (arith, x.1, b.most, ap length (append-nil p.body));
+        few = b.few;
+        kind = b.kind;
+        server =
+            found.2 ∙ (λ i. after_piece (b.server i) p.unread (ends.0 i))
+            ∙ ap (λ t. record (in_body p.config.limits b.head b.framing b.decoder t) { reading = Reads.Done })
+            (never_waits b.waits (length p.unread == 0));
+      }
+
+  pub end_found : (count : ℕ) → Standing p stream interim → read.event ≡ event.End count → HasEnd after_read stream
+  end_found count x is = end_at p.within count refl x is
+
+  waits_at : (b : Bool) → p.within ≡ b → StandsAt b p stream interim → read.event ≡ event.NeedMore
+      → IsStarved after_read stream interim
+  waits_at false within x is =
+      let none = subst (ReadsHead (new_server p.config.limits) stream spans new read.consumed) is (at_start x) in
+      record {
+        standing = subst (λ b. StandsAt b after_read stream interim) (sym within) (record {
+          server = none.1;
+          unread = ap (λ n. drop n p.unread) none.0 ∙ x.unread;
+          body = x.body;
+          silent = x.silent;
+        });
+        unfinished = λ m rest z. none.2 m.head z.after_head z.head.reads;
+        invited = λ waits. absurd (none.2 waits.0 waits.2 waits.3.reads);
+      }
+  waits_at true within x is =
+      let found = in_its_body x.0 in
+      let starves = subst (λ e. ReadsPiece x.0.decoder p.unread spans found.0 read.consumed e) is found.1 in
+      let next : Begun (record p { unread = drop read.consumed p.unread; server = new; body = p.body ++ [] }) stream interim =
+      Begun-step x.0 starves.0 read.consumed [] new starves.2.continues (rw starves.1 at found.2) in
+      record {
+        standing = subst (λ b. StandsAt b after_read stream interim) (sym within) (rw append-nil at next, x.1);
+        unfinished = is_unfinished x.0 (starves.2.unfinished x.0.ends);
+        invited = begun_invited x.0;
+      }
+
+  -- what no event of a request is
+  abbrev IsOther : Event RequestSpans → Type 0
+  IsOther e = ((r : RequestSpans) → e ≢ event.Head r) × ((s : Span) → e ≢ event.Data s) × ((count : ℕ) → e ≢ event.End count)
+
+  needs_more : (b : Bool) (e : Event RequestSpans) → StandsAt b p stream interim → read.event ≡ e → IsOther e → e ≡ event.NeedMore
+  needs_more b event.NeedMore x is other = refl
+  needs_more b (event.Head r) x is other = absurd (other.0 r refl)
+  needs_more b (event.Data s) x is other = absurd (other.1 s refl)
+  needs_more b (event.End count) x is other = absurd (other.2 count refl)
+  needs_more false (event.Informational r) x is other = absurd (subst (ReadsHead (new_server p.config.limits) stream spans new read.consumed) is (at_start x))
+  needs_more false event.Paused x is other = absurd (subst (ReadsHead (new_server p.config.limits) stream spans new read.consumed) is (at_start x))
+  needs_more false event.Upgraded x is other = absurd (subst (ReadsHead (new_server p.config.limits) stream spans new read.consumed) is (at_start x))
+  needs_more false event.Closed x is other = absurd (subst (ReadsHead (new_server p.config.limits) stream spans new read.consumed) is (at_start x))
+  needs_more true (event.Informational r) x is other = absurd (subst (λ e. ReadsPiece x.0.decoder p.unread spans (in_its_body x.0).0 read.consumed e) is (in_its_body x.0).1)
+  needs_more true event.Paused x is other = absurd (subst (λ e. ReadsPiece x.0.decoder p.unread spans (in_its_body x.0).0 read.consumed e) is (in_its_body x.0).1)
+  needs_more true event.Upgraded x is other = absurd (subst (λ e. ReadsPiece x.0.decoder p.unread spans (in_its_body x.0).0 read.consumed e) is (in_its_body x.0).1)
+  needs_more true event.Closed x is other = absurd (subst (λ e. ReadsPiece x.0.decoder p.unread spans (in_its_body x.0).0 read.consumed e) is (in_its_body x.0).1)
+
+  pub nothing_found : Standing p stream interim → IsOther read.event → IsStarved after_read stream interim
+  nothing_found x other = waits_at p.within refl x (needs_more p.within read.event x refl other)
+
+starved_at : (b : Bool) (p : Place) (stream interim : List ℕ) → StandsAt b p stream interim → (b ≡ false → p.unread ≢ [])
+    → stream ≢ []
+starved_at true p stream interim x some none = begun_some x.0 none
+starved_at false p stream interim x some none = some refl (x.unread ∙ none)
+
+-- where something of a request came, the stream isn't empty
+pub starved_some : (p : Place) (stream interim : List ℕ) → IsStarved p stream interim → (p.within ≡ false → p.unread ≢ [])
+    → stream ≢ []
+starved_some p stream interim x = starved_at p.within p stream interim x.standing
+
+-- at the end of the stream nothing was written for a request
+pub ends_between : (p : Place) (stream interim : List ℕ) → IsStarved p stream interim → p.within ≡ false → p.unread ≡ []
+    → (stream ≡ []) × (interim ≡ [])
+ends_between p stream interim x between none =
+    let at = subst (λ b. StandsAt b p stream interim) between x.standing in (sym at.unread ∙ none, at.silent)
+
+-- ---- a whole request
+
+module _ {p : Place} {stream : List ℕ} (x : HasEnd p stream) where
+  -- what was kept of the request was handed over
+  pub handed_over : (asked : Asked) (len : ℕ) (head body : List ℕ) → len ≡ length p.head → asked.head ≡ take len p.head
+      → asked.body ≡ p.body → body ≡ [] → IsWhole (record p { within = false; head = head; body = body }) stream asked p.is_head
+  handed_over asked len head body long front whole none =
+      let is_head : asked.head ≡ p.head = front ∙ take_all len p.head (omega (arith, long)) in
+      record {
+        message = x.message;
+        request = record {
+          reads = x.reads;
+          head = x.head ∙ ap (λ (t : List ℕ). t ++ x.reads.after_head) (sym is_head);
+          body = whole ∙ x.body;
+          plain = x.plain;
+          fits = x.fits;
+          few = x.few;
+        };
+        kind = x.kind;
+        server = x.server;
+        between = refl;
+        body = none;
+      }
+
+  pub end_less : 2 * length p.unread + 0 < work p
+  end_less = let within = x.within in rw within (omega arith)
+
+-- ---- refusals
+
+refused_at : (b : Bool) (p : Place) (stream interim : List ℕ) (e : ReadError) → StandsAt b p stream interim
+    → ServerRefuses p.server p.unread 64 e
+    → NextIs p.config.limits stream HasTooManyFields × IsReadError p.config.limits stream e
+refused_at false p stream interim e x refuses =
+    let why = subst (λ (u : List ℕ). ServerRefuses (new_server p.config.limits) u 64 e) x.unread
+    (subst (λ s. ServerRefuses s p.unread 64 e) x.server refuses) in (
+      λ more m rest z. inl (why.0 more m.head z.framing z.after_head z.head),
+      inl (stream, [], sym (append-nil stream), why.1),
+    )
+refused_at true p stream interim e x refuses =
+    let b = x.0 in
+    let why = subst (λ s. ServerRefuses s p.unread 64 e) b.server refuses in (
+      λ more m rest z. let found = reads_on b more m rest z in inr (rw found.2 (why.0 more found.1 rest found.3)),
+      inr (b.head, b.framing, b.after, b.accepts),
+    )
+
+pub unreadable : (p : Place) (stream interim : List ℕ) (e : ReadError) → Standing p stream interim
+    → ServerRefuses p.server p.unread 64 e
+    → NextIs p.config.limits stream HasTooManyFields × IsReadError p.config.limits stream e
+unreadable p stream interim e x = refused_at p.within p stream interim e x
+
+-- ---- a head
+
+length-take : (n : ℕ) (spans : List HeaderSpan) → length (take n spans) ≤ length spans
+length-take n spans = omega (arith, ap length (take-append-drop n spans), length-append (take n spans) (drop n spans))
+
+module _ {p : Place} {spans : List HeaderSpan} {r : RequestSpans} {stream interim : List ℕ} (x : HasHead p spans r stream interim) where
+  pub head_accepted : AcceptsRequest p.config.limits stream x.takes.head x.takes.framing (drop r.len stream)
+  head_accepted = x.takes.accepts
+
+  pub head_work : (ended : Bool) → HasWork p.config.limits ended stream
+  head_work ended = inl (record { head = x.takes.head; framing = x.takes.framing; after = drop r.len stream; accepts = head_accepted })
+
+  -- the next request is the one with this head, whatever bytes follow
+  pub has_coding : has_codings p.server ≡ true → NextIs p.config.limits stream HasUnknownCoding
+  has_coding is more m rest z =
+      rw (accepts_unique z.head (AcceptsRequest-append head_accepted more)).0 (sym (ap has_codings x.takes.next) ∙ is)
+
+  pub head_some : 0 < r.len
+  head_some = omega (arith, head_is_some x.takes.head, x.takes.covered.len)
+
+  pub head_method : span_bytes p.unread r.method ≡ x.takes.head.method
+  head_method = ap (λ (u : List ℕ). span_bytes u r.method) x.unread ∙ x.takes.covered.method
+
+  few_fields : length x.takes.head.fields ≤ 64
+  few_fields =
+      let same = ap length x.takes.covered.fields in
+      omega (
+        arith,
+        same,
+        length-map (take r.headers spans) (header_bytes stream),
+        length-map x.takes.head.fields name_and_value,
+        length-take r.headers spans,
+        x.few,
+      )
+
+  -- the head was taken from the bytes, and what is known of its request was noted
+  pub begins : has_codings p.server ≡ false → (unread head method : List ℕ) (kind : Bool) (most : ℕ)
+      → unread ≡ drop r.len p.unread → head ≡ take r.len p.unread → method ≡ span_bytes p.unread r.method
+      → kind ≡ is_head (method_kind method) → most ≡ most_of p.config method
+      → Begun (record p { unread = unread; within = true; head = head; is_head = kind; most = most }) stream
+      (invitation x.takes.head x.takes.framing)
+  begins uncoded unread head method kind most left front named kind_is most_is = record {
+    head = x.takes.head;
+    framing = x.takes.framing;
+    after = drop r.len stream;
+    accepts = head_accepted;
+    text =
+        sym (take-append-drop r.len stream) ∙ ap (λ (u : List ℕ). take r.len u ++ drop r.len stream) (sym x.unread)
+        ∙ ap (λ (u : List ℕ). u ++ drop r.len stream) (sym front);
+    few = few_fields;
+    plain = sym (ap has_codings x.takes.next) ∙ uncoded;
+    most = most_is ∙ ap (most_of p.config) (named ∙ head_method);
+    kind = kind_is ∙ ap (λ m. is_head (method_kind m)) (named ∙ head_method);
+    invited = refl;
+    decoder = decoder_for p.config.limits x.takes.framing;
+    ends = ends_first p.config.limits x.takes.framing (has_an_end head_accepted);
+    waits = (request_of x.takes.head x.takes.framing).expects_continue;
+    server = x.takes.next;
+    goes_on = subst₂ (IsBodyAt p.config.limits x.takes.framing (drop r.len stream) (decoder_for p.config.limits x.takes.framing))
+        (ap (λ (u : List ℕ). drop r.len u) (sym x.unread) ∙ sym left) (sym x.body)
+        (IsBodyAt-start p.config.limits x.takes.framing (drop r.len stream));
+  }
+
+  -- the work that is left is less
+  pub head_less : (unread : List ℕ) → unread ≡ drop r.len p.unread → r.len ≤ length p.unread
+      → 2 * length unread + 1 < work p
+  head_less unread left fits =
+      let none = x.within in
+      let len = length-drop r.len p.unread in
+      let some = head_some in
+      rw (left, none) (omega arith)
+
+  pub invites : expects_continue p.server ≡ true
+      → (invitation x.takes.head x.takes.framing ≡ continue_text) × ExpectsContinue p.config.limits stream
+  invites is =
+      let asks = sym (ap expects_continue x.takes.next) ∙ is in
+      (ap (λ b. cond b continue_text []) asks, (x.takes.head, x.takes.framing, drop r.len stream, head_accepted, asks))
+
+  pub invites_not : expects_continue p.server ≡ false → invitation x.takes.head x.takes.framing ≡ interim
+  invites_not is = ap (λ b. cond b continue_text []) (sym (ap expects_continue x.takes.next) ∙ is) ∙ sym x.silent

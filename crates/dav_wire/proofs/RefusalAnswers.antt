@@ -1,0 +1,151 @@
+-- The connection's own responses are read by the client.
+use Rattle.std.proofs.Common.{◌≡◌, ℕ, ◌⊎◌, Bool, true, false, cond, List, [], None, Ok, refl, sym, ap, ◌∙◌, subst, arith, append-nil, inl, inr}
+use Rattle.httparse.specs.Grammar.{trim_ows, is_token_byte, ReadsResponse}
+use Rattle.http1.specs.declared.conn.Limits.{Limits}
+use Rattle.http1.specs.declared.error.ReadError.{ReadError}
+use Rattle.http1.specs.declared.error.ReadError.TheVariants as read
+use Rattle.http1.specs.declared.framing.Framing.{Framing}
+use Rattle.http1.specs.declared.framing.Framing.TheVariants as Framed
+use Rattle.http1.specs.declared.framing.MethodKind.{MethodKind}
+use Rattle.http1.specs.declared.framing.MethodKind.TheVariants as Method
+use Rattle.http1.specs.Body.{ReadsBody, body_of}
+use Rattle.http1.specs.Fields.{elements, known_fields}
+use Rattle.http1.specs.Framing.{response_framing}
+use Rattle.http1.specs.Head.{are_headers, is_status_line, head_refusal, response_head}
+use Rattle.http1.specs.Message.{known_of}
+use Rattle.http1.specs.ReadError.{status_of, is_too_large}
+use Rattle.http1.specs.Text.{eq_ignore_case}
+use Rattle.http1.proofs.HeadRoundTrip.{response_reads_back}
+use Rattle.http1_typed.specs.Parts.{reason_of}
+use Rattle.dav_wire.specs.declared.state.Refusal.{Refusal}
+use Rattle.dav_wire.specs.declared.state.Refusal.TheVariants.{Truncated, Unreadable, BodyTooLong, UnknownCoding}
+use Rattle.dav_wire.specs.Laws.{IsLastResponse, RefusalsAreRead}
+use Rattle.dav_wire.specs.Refusals.{closing_fields, closing_text, refusal_status}
+
+-- how the client frames the body, which has no bytes
+abbrev IsFramed : MethodKind → ℕ → Type 0
+IsFramed method status =
+    (f : Framing) × (response_framing method status 1 (known_fields closing_fields) ≡ Ok f)
+    × ((limits : Limits) → ReadsBody limits f [] (body_of [] []) [])
+
+closing_closes : (known_fields closing_fields).close ≡ true
+unfolding known_fields elements eq_ignore_case trim_ows
+closing_closes = refl
+
+read_back : (method : MethodKind) (status : ℕ) → head_refusal (is_status_line 1 status (reason_of status)) closing_fields ≡ None
+    → IsFramed method status → IsLastResponse method status (closing_text status)
+read_back method status valid framed =
+    let back = response_reads_back 1 status (reason_of status) closing_fields [] valid in
+    let head = response_head 1 status (reason_of status) closing_fields in
+    let known : known_of head.fields ≡ known_fields closing_fields = ap known_fields back.fields in
+    record {
+      message = record { head = head; body = body_of [] [] };
+      reads = λ limits room. record {
+        framing = framed.0;
+        after_head = [];
+        head = record {
+          reads = subst (λ (t : List ℕ). ReadsResponse t head []) (append-nil (closing_text status)) back.reads;
+          strict = (room, back.strict);
+          status = omega (arith, back.in_range, back.code);
+          framed = (λ i. response_framing method (back.code i) 1 (known i)) ∙ framed.1;
+        };
+        body = framed.2 limits;
+      };
+      status_is = back.code;
+      closes = ap (λ k. k.close) known ∙ closing_closes;
+      body = refl;
+    }
+
+framed_400 : (method : MethodKind) → IsFramed method 400
+unfolding known_fields elements eq_ignore_case trim_ows
+framed_400 Method.Head = (Framed.NoBody, refl, λ _. (refl, refl, refl))
+framed_400 Method.Connect = (Framed.Length 0, refl, λ _. (refl, refl, refl))
+framed_400 Method.Other = (Framed.Length 0, refl, λ _. (refl, refl, refl))
+
+read_400 : (method : MethodKind) → IsLastResponse method 400 (closing_text 400)
+unfolding are_headers is_token_byte
+read_400 method = read_back method 400 refl (framed_400 method)
+
+framed_413 : (method : MethodKind) → IsFramed method 413
+unfolding known_fields elements eq_ignore_case trim_ows
+framed_413 Method.Head = (Framed.NoBody, refl, λ _. (refl, refl, refl))
+framed_413 Method.Connect = (Framed.Length 0, refl, λ _. (refl, refl, refl))
+framed_413 Method.Other = (Framed.Length 0, refl, λ _. (refl, refl, refl))
+
+read_413 : (method : MethodKind) → IsLastResponse method 413 (closing_text 413)
+unfolding are_headers is_token_byte
+read_413 method = read_back method 413 refl (framed_413 method)
+
+framed_414 : (method : MethodKind) → IsFramed method 414
+unfolding known_fields elements eq_ignore_case trim_ows
+framed_414 Method.Head = (Framed.NoBody, refl, λ _. (refl, refl, refl))
+framed_414 Method.Connect = (Framed.Length 0, refl, λ _. (refl, refl, refl))
+framed_414 Method.Other = (Framed.Length 0, refl, λ _. (refl, refl, refl))
+
+read_414 : (method : MethodKind) → IsLastResponse method 414 (closing_text 414)
+unfolding are_headers is_token_byte
+read_414 method = read_back method 414 refl (framed_414 method)
+
+framed_431 : (method : MethodKind) → IsFramed method 431
+unfolding known_fields elements eq_ignore_case trim_ows
+framed_431 Method.Head = (Framed.NoBody, refl, λ _. (refl, refl, refl))
+framed_431 Method.Connect = (Framed.Length 0, refl, λ _. (refl, refl, refl))
+framed_431 Method.Other = (Framed.Length 0, refl, λ _. (refl, refl, refl))
+
+read_431 : (method : MethodKind) → IsLastResponse method 431 (closing_text 431)
+unfolding are_headers is_token_byte
+read_431 method = read_back method 431 refl (framed_431 method)
+
+framed_500 : (method : MethodKind) → IsFramed method 500
+unfolding known_fields elements eq_ignore_case trim_ows
+framed_500 Method.Head = (Framed.NoBody, refl, λ _. (refl, refl, refl))
+framed_500 Method.Connect = (Framed.Length 0, refl, λ _. (refl, refl, refl))
+framed_500 Method.Other = (Framed.Length 0, refl, λ _. (refl, refl, refl))
+
+read_500 : (method : MethodKind) → IsLastResponse method 500 (closing_text 500)
+unfolding are_headers is_token_byte
+read_500 method = read_back method 500 refl (framed_500 method)
+
+framed_501 : (method : MethodKind) → IsFramed method 501
+unfolding known_fields elements eq_ignore_case trim_ows
+framed_501 Method.Head = (Framed.NoBody, refl, λ _. (refl, refl, refl))
+framed_501 Method.Connect = (Framed.Length 0, refl, λ _. (refl, refl, refl))
+framed_501 Method.Other = (Framed.Length 0, refl, λ _. (refl, refl, refl))
+
+read_501 : (method : MethodKind) → IsLastResponse method 501 (closing_text 501)
+unfolding are_headers is_token_byte
+read_501 method = read_back method 501 refl (framed_501 method)
+
+-- a status that `http1` gives an error is one of three
+abbrev IsReadStatus : ℕ → Type 0
+IsReadStatus status = (status ≡ 400) ⊎ ((status ≡ 414) ⊎ (status ≡ 431))
+
+by_size : (t : Bool) (status : ℕ) → status ≡ cond t 431 400 → IsReadStatus status
+by_size true status is = inr (inr is)
+by_size false status is = inl is
+
+read_status : (e : ReadError) → IsReadStatus (status_of e)
+read_status (read.Parse error) = by_size (is_too_large (read.Parse error)) _ refl
+read_status read.BareLineFeed = inl refl
+read_status read.TooLarge = inr (inr refl)
+read_status read.UriTooLong = inr (inl refl)
+read_status read.Host = inl refl
+read_status (read.Framing error) = inl refl
+read_status (read.Chunk error) = inl refl
+read_status read.UnexpectedEof = inl refl
+read_status read.UnexpectedResponse = inl refl
+
+refusal_is_read : (method : MethodKind) (why : Refusal) → IsLastResponse method (refusal_status why) (closing_text (refusal_status why))
+refusal_is_read method Truncated = read_400 method
+refusal_is_read method (Unreadable e) = elim (read_status e) [
+  | inl bad ↦ subst (λ (n : ℕ). IsLastResponse method n (closing_text n)) (sym bad) (read_400 method)
+  | inr other ↦ elim other [
+    | inl long ↦ subst (λ (n : ℕ). IsLastResponse method n (closing_text n)) (sym long) (read_414 method)
+    | inr large ↦ subst (λ (n : ℕ). IsLastResponse method n (closing_text n)) (sym large) (read_431 method)
+  ]
+]
+refusal_is_read method BodyTooLong = read_413 method
+refusal_is_read method UnknownCoding = read_501 method
+
+pub refusals_are_read : RefusalsAreRead
+refusals_are_read method = (refusal_is_read method, read_500 method)

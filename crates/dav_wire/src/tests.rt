@@ -1,0 +1,153 @@
+//! Connections as rows of text: what comes, and what is written, where the bytes come in pieces of each length.
+//!
+//! In a row `^` is CRLF. The answerer tells the request line and the body that it was given, under the status that the target
+//! has. Heads have at most 128 bytes, bodies at most 16, trees 32.
+use crate::{Answerer, Asked, Config, Peer, Stop};
+use http::StatusCode;
+use http_server::Response;
+use http1::Limits;
+use std::alloc::{AllocError, Global};
+use std::str;
+use std::test::Fail;
+
+const ROWS: &str = "\
+# requests (RFC 9112, sections 2.2, 3, 6 and 7.1)
+GET /a HTTP/1.1^Host: h^^ -> HTTP/1.1 200 OK^content-length: 16^^GET /a HTTP/1.1|
+^^GET /a HTTP/1.1^Host: h^^ -> HTTP/1.1 200 OK^content-length: 16^^GET /a HTTP/1.1|
+HEAD /a HTTP/1.1^Host: h^^ -> HTTP/1.1 200 OK^content-length: 17^^
+GET /404 HTTP/1.1^Host: h^^ -> HTTP/1.1 404 Not Found^content-length: 18^^GET /404 HTTP/1.1|
+PUT /a HTTP/1.1^Host: h^Content-Length: 5^^hello -> HTTP/1.1 200 OK^content-length: 21^^PUT /a HTTP/1.1|hello
+PUT /a HTTP/1.1^Host: h^Transfer-Encoding: chunked^^3;x=y^abc^2^de^0^T: v^^ -> HTTP/1.1 200 OK^content-length: 21^^PUT /a HTTP/1.1|abcde
+GET /a HTTP/1.1^Host: h^^GET /b HTTP/1.1^Host: h^^ -> HTTP/1.1 200 OK^content-length: 16^^GET /a HTTP/1.1|HTTP/1.1 200 OK^content-length: 16^^GET /b HTTP/1.1|
+PUT /a HTTP/1.1^Host: h^Content-Length: 2^^hiPUT /b HTTP/1.1^Host: h^Content-Length: 2^^ho -> HTTP/1.1 200 OK^content-length: 18^^PUT /a HTTP/1.1|hiHTTP/1.1 200 OK^content-length: 18^^PUT /b HTTP/1.1|ho
+
+# what is asked of the connection (RFC 9110, section 10.1.1, and RFC 9112, section 9)
+PUT /a HTTP/1.1^Host: h^Expect: 100-continue^Content-Length: 2^^hi -> HTTP/1.1 100 Continue^^HTTP/1.1 200 OK^content-length: 18^^PUT /a HTTP/1.1|hi
+GET /a HTTP/1.1^Host: h^Connection: close^^GET /b HTTP/1.1^Host: h^^ -> HTTP/1.1 200 OK^content-length: 16^connection: close^^GET /a HTTP/1.1|
+GET /a HTTP/1.0^^GET /b HTTP/1.1^Host: h^^ -> HTTP/1.0 200 OK^content-length: 16^connection: close^^GET /a HTTP/1.0|
+
+# refusals (RFC 9110, section 15.5, and RFC 6585, section 5)
+PUT /a HTTP/1.1^Host: h^Content-Length: 17^^ -> HTTP/1.1 413 Payload Too Large^connection: close^content-length: 0^^
+PUT /a HTTP/1.1^Host: h^Transfer-Encoding: chunked^^11^01234567890123456^0^^ -> HTTP/1.1 413 Payload Too Large^connection: close^content-length: 0^^
+LOCK /a HTTP/1.1^Host: h^Content-Length: 17^^01234567890123456 -> HTTP/1.1 200 OK^content-length: 34^^LOCK /a HTTP/1.1|01234567890123456
+LOCK /a HTTP/1.1^Host: h^Content-Length: 33^^ -> HTTP/1.1 413 Payload Too Large^connection: close^content-length: 0^^
+PUT /a HTTP/1.1^Host: h^Transfer-Encoding: gzip, chunked^^0^^ -> HTTP/1.1 501 Not Implemented^connection: close^content-length: 0^^
+GET /a HTTP/1.1^^ -> HTTP/1.1 400 Bad Request^connection: close^content-length: 0^^
+PUT /a HTTP/1.1^Host: h^Content-Length: 2^Transfer-Encoding: chunked^^0^^ -> HTTP/1.1 400 Bad Request^connection: close^content-length: 0^^
+GET /a HTTP/1.1^Host: h^^PUT /b HTTP/1.1^Host: h^Content-Length: 2^^h -> HTTP/1.1 200 OK^content-length: 16^^GET /a HTTP/1.1|HTTP/1.1 400 Bad Request^connection: close^content-length: 0^^
+GET /0123456789012345678901234567890123456789012345678901234567890123456789012345678901234567890123456789012345678901234567890123456789 HTTP/1.1^ -> HTTP/1.1 414 URI Too Long^connection: close^content-length: 0^^
+GET /a HTTP/1.1^Host: h^A: 0123456789012345678901234567890123456789012345678901234567890123456789012345678901234567890123456789012345678901234567890123456789^ -> HTTP/1.1 431 Request Header Fields Too Large^connection: close^content-length: 0^^
+GET /101 HTTP/1.1^Host: h^^ -> HTTP/1.1 500 Internal Server Error^connection: close^content-length: 0^^
+";
+
+const CONFIG: Config = Config {
+    limits: Limits {
+        max_head_len: 128,
+        max_extensions_len: 16,
+        max_trailers_len: 64,
+    },
+    max_body_len: 16,
+    max_tree_len: 32,
+    max_pending: 64,
+};
+
+// Answers with the request line and the body.
+#[derive(Drop)]
+struct Echo(Global);
+
+impl Answerer for Echo {
+    ghost answers = { λ old asked response new. Unit {0} };
+
+    fn answer(&mut self, asked: &Asked, response: &mut Response) -> Result<(), Stop> {
+        let line = line_of(asked.head.as_slice());
+        if let Some(status) = status_in(line) {
+            response.status = status;
+        }
+        let mut text = Vec::from_slice(self.0, line)?;
+        text.push(b'|')?;
+        text.extend_from_slice(asked.body.as_slice())?;
+        response.body.push(bytes::Bytes::from_vec(text)?)?;
+        Ok(())
+    }
+}
+
+// The request line of a head.
+fn line_of(head: &[u8]) -> &[u8] {
+    head.trim_ascii_start()
+        .split(|b| *b == b'\r')
+        .next()
+        .unwrap_or(&[])
+}
+
+// The status that a target has.
+fn status_in(line: &[u8]) -> Option<StatusCode> {
+    let target = line.split(|b| *b == b' ').nth(1)?;
+    let number = str::from_utf8(target.get(1..)?).ok()?;
+    StatusCode::from_u16(number.parse::<u16>().ok()?).ok()
+}
+
+// The bytes of a text in a row.
+fn unescaped(alloc: Global, text: &str) -> Result<Vec<u8>, AllocError> {
+    let mut out = Vec::new(alloc);
+    for byte in text.as_bytes() {
+        if *byte == b'^' {
+            out.extend_from_slice(b"\r\n")?;
+        } else {
+            out.push(*byte)?;
+        }
+    }
+    Ok(out)
+}
+
+// Sends all that waits, and lets the connection answer again.
+fn drain(peer: &mut Peer, echo: &mut Echo, out: &mut Vec<u8>) -> Result<(), Stop> {
+    for _ in 0..64 {
+        peer.advance(echo)?;
+        if peer.waiting() == 0 {
+            break;
+        }
+        let piece = peer.output();
+        let count = piece.len().min(10);
+        out.extend_from_slice(piece.get(..count).unwrap_or(&[]))?;
+        peer.sent(count);
+    }
+    Ok(())
+}
+
+// What is written where these bytes come in pieces of a length, and then their end.
+fn written(alloc: Global, input: &[u8], step: usize) -> Result<Vec<u8>, Stop> {
+    let mut peer = Peer::new(alloc, CONFIG);
+    let mut echo = Echo(alloc);
+    let mut out = Vec::new(alloc);
+    for piece in input.chunks(step.max(1)) {
+        peer.take(piece)?;
+        drain(&mut peer, &mut echo, &mut out)?;
+    }
+    peer.take(b"")?;
+    drain(&mut peer, &mut echo, &mut out)?;
+    if peer.is_open() {
+        out.extend_from_slice(b" and is open")?;
+    }
+    Ok(out)
+}
+
+#[test]
+fn rows_are_told(rt: HostRuntime) -> Result<(), Fail> {
+    let mut count = 0usize;
+    for row in ROWS.lines() {
+        if let Some((input, wanted)) = row.split_once(" -> ") {
+            let input = unescaped(rt.alloc(), input)?;
+            let wanted = unescaped(rt.alloc(), wanted)?;
+            for step in [1, 2, 7, 1000] {
+                let found = written(rt.alloc(), &input, step).map_err(|_| "stopped")?;
+                assert!(rt;
+                    found.as_slice() == wanted.as_slice(),
+                    "{row} in pieces of {step}"
+                );
+            }
+            count = count.saturating_add(1);
+        }
+    }
+    assert!(rt; count == 22, "{count} rows");
+    Ok(())
+}
