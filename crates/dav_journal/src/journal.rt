@@ -1,5 +1,5 @@
 //! A journal over a file.
-ghost use Rattle.std.specs.Prelude.{◌≡◌, ◌≢◌, ◌⊎◌, ◌≤◌, ◌<◌, ◌+◌, ◌^◌, ◌++◌, ◌∷◌, [], ℕ, List, Some, length, slice_index, IsTrue, IfOk, IfErr, IfNone, IfSome, OnOk, IsErrOf, IsNone, MatchOption};
+ghost use Rattle.std.specs.Prelude.{◌≡◌, ◌≢◌, ◌⊎◌, ◌≤◌, ◌<◌, ◌+◌, ◌^◌, ◌++◌, ◌∷◌, [], ℕ, List, Some, length, slice_index, IsTrue, IfOk, IfErr, IfSome, OnOk, IsErrOf, IsNone, MatchOption};
 ghost use Rattle.sqlite_disk.specs.Disk.{Follows, Holds, Only, Torn};
 ghost use Rattle.dav_journal.specs.Block.{IsBlock, IsNoBlock, front_of, head_of, twice};
 ghost use Rattle.dav_journal.specs.File.{IsBegun, Recovers};
@@ -281,25 +281,23 @@ impl<D: Disk + Drop> Journal<D> {
     /// How many bytes `cut` drops: from the end of the blocks that were read to the last byte that isn't 0.
     pub fn rest(&mut self) -> Result<usize, JournalError>
         ensures stays { Stays D.Disk self.old self.new }
+        ensures rest { IfOk result (λ n. IsTrue (D.Disk.is_clean (disk_of self.new))
+            → length (D.Disk.seen (disk_of self.old)) ≡ blocks_len self.old → (i : ℕ) → blocks_end self.old + n ≤ i
+            → slice_index (D.Disk.seen (disk_of self.old)) i ≡ 0) }
     {
         let mut piece = [0u8; PIECE];
-        let mut count = 0usize;
-        let mut at = self.end;
-        for _ in 0..u64::MAX {
-            let room = PIECE.min(self.len.saturating_sub(at));
-            let Some(window) = piece.get_mut(..room) else {
-                break;
-            };
-            if room == 0 {
-                break;
+        let mut to = self.len;
+        while to > self.end {
+            let from = to.saturating_sub(PIECE).max(self.end);
+            let window = &mut piece[..to - from];
+            self.read(from, window)?;
+            let count = used(window);
+            if count > 0 {
+                return Ok(from - self.end + count);
             }
-            self.read(at, window)?;
-            if let Some(last) = last_byte(window) {
-                count = at.saturating_sub(self.end).saturating_add(last).saturating_add(1);
-            }
-            at = at.saturating_add(room);
+            to = from;
         }
-        Ok(count)
+        Ok(0)
     }
 
     /// Reads bytes of the file from this place on.
@@ -614,19 +612,19 @@ impl<D: Disk + Drop> Journal<D> {
     }
 }
 
-// Where the last byte is that isn't 0.
-fn last_byte(bytes: &[u8]) -> Option<usize>
-    ensures some { IfSome result (λ last. (i : ℕ) → last < i → slice_index bytes.now i ≡ 0) }
-    ensures none { IfNone result ((i : ℕ) → slice_index bytes.now i ≡ 0) }
+// How many bytes there are up to the last that isn't 0.
+fn used(bytes: &[u8]) -> usize
+    ensures within { result ≤ length bytes.now }
+    ensures zeros { (i : ℕ) → result ≤ i → slice_index bytes.now i ≡ 0 }
 {
     let mut rest = bytes;
     while let [before @ .., last] = rest {
         if *last != 0 {
-            return Some(before.len());
+            return rest.len();
         }
         rest = before;
     }
-    None
+    0
 }
 
 // Writes zeros from here up to a length: how far that went.

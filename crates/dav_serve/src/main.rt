@@ -54,7 +54,7 @@ fn text_of(refusal: Refusal) -> &'static str {
         Refusal::Cut =>
             "FOLDER/state.cut-N can't be written, so what a crash left in FOLDER/state isn't dropped; nothing was changed",
         Refusal::Open(OpenError::Foreign) =>
-            "FOLDER/state isn't a state of this version, or its first bytes are damaged; nothing was changed",
+            "FOLDER/state isn't a state of this version (nor is one of the version before, vuldarg1), or its first bytes are damaged; nothing was changed",
         Refusal::Open(OpenError::Damaged(_)) => "FOLDER/state is damaged; nothing was changed",
         Refusal::Open(OpenError::Disk) => "the disk failed or is full",
         Refusal::Open(OpenError::Memory) => "out of memory",
