@@ -469,6 +469,22 @@ impl<D: Disk + Drop> Journal<D> {
         Ok(())
     }
 
+    /// Makes sure, in a quiet moment, that the mark of the last block is kept too, as the next `keep` does otherwise. After an error nothing
+    /// more may be asked.
+    pub fn keep_mark(&mut self) -> Result<(), JournalError>
+        ensures kept { OnOk result ((contents : List (List ℕ)) → IsKept D.Disk self.old contents
+            → IsKept D.Disk self.new contents) }
+        ensures synced { OnOk result (Only (D.Disk.seen (disk_of self.new)) (D.Disk.may_leave (disk_of self.new))) }
+        ensures any_moment { (contents : List (List ℕ)) → IsKept D.Disk self.old contents
+            → LeavesOnly D.Disk (disk_of self.new) contents }
+    {
+        if !self.disk.may_be_used() {
+            return Err(JournalError::Io);
+        }
+        self.disk.sync()?;
+        Ok(())
+    }
+
     /// Makes room for a block of so many bytes. `NoRoom` where the disk has none; the journal is as it was then.
     pub fn room(&mut self, count: usize) -> Result<(), JournalError>
         ensures kept { (contents : List (List ℕ)) → IsKept D.Disk self.old contents → IsKept D.Disk self.new contents }

@@ -148,7 +148,7 @@ impl<D: Disk + Drop> Live<D> {
                 self.service.hear_hello(bytes);
                 Ok(())
             }
-            TICK => Ok(()),
+            TICK => self.service.keep_mark(),
             OPENED => self.connect(report.slot, orders),
             GONE => self.end(report.slot),
             GOT => self.go_on(report.slot, Some(bytes), orders),
