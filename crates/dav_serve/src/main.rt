@@ -147,7 +147,9 @@ fn main(rt: HostRuntime) -> ExitCode {
             let text = text_of(refusal);
             // A failed write to standard error can't be reported anywhere.
             let _ = match refusal {
-                Refusal::Open(OpenError::Damaged(place)) => eprintln!(rt; "dav-serve: {text} (byte {place})"),
+                Refusal::Open(OpenError::Damaged(place)) => eprintln!(rt;
+                    "dav-serve: {text} (byte {place})"
+                ),
                 _ => eprintln!(rt; "dav-serve: {text}"),
             };
             ExitCode::from(status_of(refusal))

@@ -143,7 +143,8 @@ impl<D: Disk + Drop> Journal<D> {
             return Err(JournalError::Io);
         }
         let next = mark_after(self.mark);
-        self.disk.write_at(self.mark, &twice_bytes(self.end as u64))?;
+        self.disk
+            .write_at(self.mark, &twice_bytes(self.end as u64))?;
         self.disk.write_at(next, &[0; MARK])?;
         self.mark = next;
         Ok(())
