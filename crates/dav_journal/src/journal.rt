@@ -6,7 +6,7 @@ ghost use Rattle.dav_journal.specs.File.{IsBegun, Recovers};
 ghost use Rattle.dav_journal.specs.Mark.{IsLastMark, IsMark, IsMarkPlace, NoneMarkedPast};
 ghost use Rattle.dav_journal.specs.declared.error.JournalError.TheVariants.{Damaged};
 ghost use Rattle.dav_journal.specs.Error.{IsNoDamage};
-ghost use Rattle.dav_journal.specs.Journal.{HasRead, IsCleared, IsKept, IsReading, IsShut, IsWrittenBlock, LeavesAtMost, LeavesOnly, OnlyReads, Stays, blocks_end, blocks_len, disk_of};
+ghost use Rattle.dav_journal.specs.Journal.{HasRead, IsClean, IsCleared, IsKept, IsReading, IsShut, IsSynced, IsWrittenBlock, LeavesAtMost, LeavesOnly, OnlyReads, Stays, blocks_end, blocks_len, disk_of, file_of};
 ghost use Rattle.dav_journal.specs.Write.{HasZeros, KeepsBelow};
 
 mod cutting;
@@ -54,11 +54,11 @@ impl<D: Disk + Drop> Journal<D> {
     /// Opens the file. One that is empty, or has what a crash left of the first write, becomes a journal; no other is changed.
     /// `Foreign` where it is something else.
     pub fn open(&mut self) -> Result<(), JournalError>
-        ensures reading { OnOk result (IsTrue (D.Disk.is_clean (disk_of self.new)) → IsReading D.Disk self.new []) }
-        ensures any_moment { IsTrue (D.Disk.is_clean (disk_of self.new)) → (contents : List (List ℕ))
-            → LeavesOnly D.Disk (disk_of self.old) contents → LeavesOnly D.Disk (disk_of self.new) contents }
-        ensures begun { IsTrue (D.Disk.is_clean (disk_of self.new))
-            → IsBegun (D.Disk.seen (disk_of self.old)) ⊎ OnlyReads D.Disk (disk_of self.old) (disk_of self.new) }
+        ensures reading { OnOk result (IsClean D.Disk self.new → IsReading D.Disk self.new []) }
+        ensures any_moment { IsClean D.Disk self.new → (contents : List (List ℕ))
+            → LeavesOnly D.Disk self.old contents → LeavesOnly D.Disk self.new contents }
+        ensures begun { IsClean D.Disk self.new → IsBegun (file_of D.Disk self.old)
+            ⊎ OnlyReads D.Disk (disk_of self.old) (disk_of self.new) }
     {
         if !self.disk.may_be_used() {
             return Err(JournalError::Io);
@@ -81,11 +81,12 @@ impl<D: Disk + Drop> Journal<D> {
 
     // Makes a journal of a file that is empty, or has what a crash left of the first write.
     fn make(&mut self, len: usize) -> Result<(), JournalError>
-        ensures reading { OnOk result (IsTrue (D.Disk.is_clean (disk_of self.new))
-            → length (D.Disk.seen (disk_of self.old)) ≡ len → IsReading D.Disk self.new []) }
-        ensures clean { IsTrue (D.Disk.is_clean (disk_of self.new)) → IsTrue (D.Disk.is_clean (disk_of self.old)) }
-        ensures begun { IsTrue (D.Disk.is_clean (disk_of self.new)) → length (D.Disk.seen (disk_of self.old)) ≡ len
-            → IsBegun (D.Disk.seen (disk_of self.old)) ⊎ OnlyReads D.Disk (disk_of self.old) (disk_of self.new) }
+        ensures reading { OnOk result (IsClean D.Disk self.new
+            → length (file_of D.Disk self.old) ≡ len → IsReading D.Disk self.new []) }
+        ensures clean { IsClean D.Disk self.new → IsClean D.Disk self.old }
+        ensures begun { IsClean D.Disk self.new → length (file_of D.Disk self.old) ≡ len
+            → IsBegun (file_of D.Disk self.old)
+            ⊎ OnlyReads D.Disk (disk_of self.old) (disk_of self.new) }
     {
         if !self.disk.may_be_used() {
             return Err(JournalError::Io);
@@ -123,10 +124,11 @@ pub fn keep_and_crash<D: Crash + Drop>(
     content: &[u8],
 ) -> bool
     ensures left { (contents : List (List ℕ)) → IsKept D.Disk journal.old contents
-        → Recovers (D.Disk.seen (disk_of journal.new)) contents
-        ⊎ Recovers (D.Disk.seen (disk_of journal.new)) (contents ++ content.now ∷ []) }
-    ensures acknowledged { IsTrue result → (contents : List (List ℕ)) → IsKept D.Disk journal.old contents
-        → Recovers (D.Disk.seen (disk_of journal.new)) (contents ++ content.now ∷ []) }
+        → Recovers (file_of D.Disk journal.new) contents
+        ⊎ Recovers (file_of D.Disk journal.new) (contents ++ content.now ∷ []) }
+    ensures acknowledged { IsTrue result → (contents : List (List ℕ))
+        → IsKept D.Disk journal.old contents
+        → Recovers (file_of D.Disk journal.new) (contents ++ content.now ∷ []) }
 {
     let Ok(()) = journal.keep(alloc, content) else {
         journal.disk.crash();
@@ -138,5 +140,6 @@ pub fn keep_and_crash<D: Crash + Drop>(
 
 /// A file stands for one list of contents alone: what a start reads is all that there is to read.
 pub fn stands_for_one_list()
-    ensures { (file : List ℕ) (xs ys : List (List ℕ)) → Recovers file xs → Recovers file ys → xs ≡ ys }
+    ensures { (file : List ℕ) (xs ys : List (List ℕ)) → Recovers file xs → Recovers file ys → xs
+        ≡ ys }
 {}

@@ -6,7 +6,7 @@ ghost use Rattle.dav_journal.specs.File.{IsBegun, Recovers};
 ghost use Rattle.dav_journal.specs.Mark.{IsLastMark, IsMark, IsMarkPlace, NoneMarkedPast};
 ghost use Rattle.dav_journal.specs.declared.error.JournalError.TheVariants.{Damaged};
 ghost use Rattle.dav_journal.specs.Error.{IsNoDamage};
-ghost use Rattle.dav_journal.specs.Journal.{HasRead, IsCleared, IsKept, IsReading, IsShut, IsWrittenBlock, LeavesAtMost, LeavesOnly, OnlyReads, Stays, blocks_end, blocks_len, disk_of};
+ghost use Rattle.dav_journal.specs.Journal.{HasRead, IsClean, IsCleared, IsKept, IsReading, IsShut, IsSynced, IsWrittenBlock, LeavesAtMost, LeavesOnly, OnlyReads, Stays, blocks_end, blocks_len, disk_of, file_of};
 ghost use Rattle.dav_journal.specs.Write.{HasZeros, KeepsBelow};
 
 use crate::block::OPEN;
@@ -18,11 +18,11 @@ impl<D: Disk + Drop> Journal<D> {
     /// Makes the end of the blocks that were read the end of the file: what follows is cut off. `Foreign` where the disk isn't mixing and the
     /// file has marks.
     pub fn cut(&mut self) -> Result<(), JournalError>
-        ensures kept { OnOk result (IsTrue (D.Disk.is_clean (disk_of self.new)) → (contents : List (List ℕ))
+        ensures kept { OnOk result (IsClean D.Disk self.new → (contents : List (List ℕ))
             → HasRead D.Disk self.old contents → IsKept D.Disk self.new contents) }
-        ensures any_moment { IsTrue (D.Disk.is_clean (disk_of self.new)) → (contents : List (List ℕ))
-            → HasRead D.Disk self.old contents → LeavesOnly D.Disk (disk_of self.old) contents
-            → LeavesOnly D.Disk (disk_of self.new) contents }
+        ensures any_moment { IsClean D.Disk self.new → (contents : List (List ℕ))
+            → HasRead D.Disk self.old contents → LeavesOnly D.Disk self.old contents
+            → LeavesOnly D.Disk self.new contents }
     {
         self.clear_marks()?;
         self.shut()?;
@@ -32,11 +32,11 @@ impl<D: Disk + Drop> Journal<D> {
 
     // Shuts the gate at the end of the blocks, where it is open.
     fn shut(&mut self) -> Result<(), JournalError>
-        ensures shut { OnOk result (IsTrue (D.Disk.is_clean (disk_of self.new)) → (contents : List (List ℕ))
+        ensures shut { OnOk result (IsClean D.Disk self.new → (contents : List (List ℕ))
             → IsCleared D.Disk self.old contents → IsShut D.Disk self.new contents) }
-        ensures any_moment { IsTrue (D.Disk.is_clean (disk_of self.new)) → (contents : List (List ℕ))
-            → IsCleared D.Disk self.old contents → LeavesOnly D.Disk (disk_of self.new) contents }
-        ensures clean { IsTrue (D.Disk.is_clean (disk_of self.new)) → IsTrue (D.Disk.is_clean (disk_of self.old)) }
+        ensures any_moment { IsClean D.Disk self.new → (contents : List (List ℕ))
+            → IsCleared D.Disk self.old contents → LeavesOnly D.Disk self.new contents }
+        ensures clean { IsClean D.Disk self.new → IsClean D.Disk self.old }
     {
         if !self.disk.may_be_used() {
             return Err(JournalError::Io);
@@ -53,12 +53,12 @@ impl<D: Disk + Drop> Journal<D> {
 
     // Cuts the file after its last gate, which is shut.
     fn level(&mut self) -> Result<(), JournalError>
-        ensures clean { IsTrue (D.Disk.is_clean (disk_of self.new)) → IsTrue (D.Disk.is_clean (disk_of self.old)) }
+        ensures clean { IsClean D.Disk self.new → IsClean D.Disk self.old }
         ensures kept { OnOk result ((contents : List (List ℕ)) → IsShut D.Disk self.old contents
             → IsKept D.Disk self.new contents) }
         ensures any_moment { (contents : List (List ℕ)) → IsShut D.Disk self.old contents
-            → LeavesOnly D.Disk (disk_of self.new) contents }
-        ensures synced { OnOk result (Only (D.Disk.seen (disk_of self.new)) (D.Disk.may_leave (disk_of self.new))) }
+            → LeavesOnly D.Disk self.new contents }
+        ensures synced { OnOk result (IsSynced D.Disk self.new) }
     {
         let Some(end) = self.end.checked_add(1) else {
             return Err(JournalError::NoRoom);

@@ -6,7 +6,7 @@ ghost use Rattle.dav_journal.specs.File.{IsBegun, Recovers};
 ghost use Rattle.dav_journal.specs.Mark.{IsLastMark, IsMark, IsMarkPlace, NoneMarkedPast};
 ghost use Rattle.dav_journal.specs.declared.error.JournalError.TheVariants.{Damaged};
 ghost use Rattle.dav_journal.specs.Error.{IsNoDamage};
-ghost use Rattle.dav_journal.specs.Journal.{HasRead, IsCleared, IsKept, IsReading, IsShut, IsWrittenBlock, LeavesAtMost, LeavesOnly, OnlyReads, Stays, blocks_end, blocks_len, disk_of};
+ghost use Rattle.dav_journal.specs.Journal.{HasRead, IsClean, IsCleared, IsKept, IsReading, IsShut, IsSynced, IsWrittenBlock, LeavesAtMost, LeavesOnly, OnlyReads, Stays, blocks_end, blocks_len, disk_of, file_of};
 ghost use Rattle.dav_journal.specs.Write.{HasZeros, KeepsBelow};
 
 use crate::block::{HEAD, bytes_of};
@@ -22,7 +22,8 @@ const ROOM: usize = 1_048_576;
 impl<D: Disk + Drop> Journal<D> {
     /// Makes room for a block of so many bytes. `NoRoom` where the disk has none; the journal is as it was then.
     pub fn room(&mut self, count: usize) -> Result<(), JournalError>
-        ensures kept { (contents : List (List ℕ)) → IsKept D.Disk self.old contents → IsKept D.Disk self.new contents }
+        ensures kept { (contents : List (List ℕ)) → IsKept D.Disk self.old contents
+            → IsKept D.Disk self.new contents }
     {
         let wanted = self.end.saturating_add(HEAD + 1).saturating_add(count);
         if wanted <= self.len {
@@ -39,7 +40,8 @@ impl<D: Disk + Drop> Journal<D> {
 
     // Writes zeros up to this length. False where that fails.
     fn grow(&mut self, len: usize) -> Result<bool, JournalError>
-        ensures kept { (contents : List (List ℕ)) → IsKept D.Disk self.old contents → IsKept D.Disk self.new contents }
+        ensures kept { (contents : List (List ℕ)) → IsKept D.Disk self.old contents
+            → IsKept D.Disk self.new contents }
     {
         if self.zeros != self.len {
             return self.grow_more(len);
@@ -58,7 +60,8 @@ impl<D: Disk + Drop> Journal<D> {
 
     // The same, where what is before the zeros isn't known to be zeros.
     fn grow_more(&mut self, len: usize) -> Result<bool, JournalError>
-        ensures kept { (contents : List (List ℕ)) → IsKept D.Disk self.old contents → IsKept D.Disk self.new contents }
+        ensures kept { (contents : List (List ℕ)) → IsKept D.Disk self.old contents
+            → IsKept D.Disk self.new contents }
     {
         let reached = fill(&mut self.disk, self.len, len)?;
         self.len = reached;
@@ -68,7 +71,8 @@ impl<D: Disk + Drop> Journal<D> {
     // Makes sure that the zeros up to the end of the file are kept.
     fn settle(&mut self) -> Result<(), JournalError>
         ensures kept { (contents : List (List ℕ)) → IsKept D.Disk self.old contents
-            → HasZeros (D.Disk.seen (disk_of self.old)) self.old.zeros self.old.len → IsKept D.Disk self.new contents }
+            → HasZeros (file_of D.Disk self.old) self.old.zeros self.old.len
+            → IsKept D.Disk self.new contents }
     {
         if !self.disk.may_be_used() {
             return Err(JournalError::Io);
@@ -104,11 +108,13 @@ impl<D: Disk + Drop> Journal<D> {
         requires opens { slice_index bytes.now 0 ≡ 1 }
         requires ends { end + 1 ≡ blocks_end self.old + length bytes.now }
         requires fits { end + 1 < 2 ^ 64 }
-        ensures kept { OnOk result ((contents : List (List ℕ)) (content : List ℕ) → IsWrittenBlock self.old content bytes.now
-            → IsKept D.Disk self.old contents → IsKept D.Disk self.new (contents ++ content ∷ [])) }
-        ensures synced { OnOk result (Only (D.Disk.seen (disk_of self.new)) (D.Disk.may_leave (disk_of self.new))) }
-        ensures any_moment { (contents : List (List ℕ)) (content : List ℕ) → IsWrittenBlock self.old content bytes.now
-            → IsKept D.Disk self.old contents → LeavesAtMost D.Disk (disk_of self.new) contents content }
+        ensures kept { OnOk result ((contents : List (List ℕ)) (content : List ℕ)
+            → IsWrittenBlock self.old content bytes.now → IsKept D.Disk self.old contents
+            → IsKept D.Disk self.new (contents ++ content ∷ [])) }
+        ensures synced { OnOk result (IsSynced D.Disk self.new) }
+        ensures any_moment { (contents : List (List ℕ)) (content : List ℕ)
+            → IsWrittenBlock self.old content bytes.now → IsKept D.Disk self.old contents
+            → LeavesAtMost D.Disk (disk_of self.new) contents content }
     {
         if self.disk.mixes() && end < self.zeros {
             return self.keep_once(end, bytes);
@@ -123,11 +129,13 @@ impl<D: Disk + Drop> Journal<D> {
         requires opens { slice_index bytes.now 0 ≡ 1 }
         requires ends { end + 1 ≡ blocks_end self.old + length bytes.now }
         requires fits { end + 1 < 2 ^ 64 }
-        ensures kept { OnOk result ((contents : List (List ℕ)) (content : List ℕ) → IsWrittenBlock self.old content bytes.now
-            → IsKept D.Disk self.old contents → IsKept D.Disk self.new (contents ++ content ∷ [])) }
-        ensures synced { OnOk result (Only (D.Disk.seen (disk_of self.new)) (D.Disk.may_leave (disk_of self.new))) }
-        ensures any_moment { (contents : List (List ℕ)) (content : List ℕ) → IsWrittenBlock self.old content bytes.now
-            → IsKept D.Disk self.old contents → LeavesAtMost D.Disk (disk_of self.new) contents content }
+        ensures kept { OnOk result ((contents : List (List ℕ)) (content : List ℕ)
+            → IsWrittenBlock self.old content bytes.now → IsKept D.Disk self.old contents
+            → IsKept D.Disk self.new (contents ++ content ∷ [])) }
+        ensures synced { OnOk result (IsSynced D.Disk self.new) }
+        ensures any_moment { (contents : List (List ℕ)) (content : List ℕ)
+            → IsWrittenBlock self.old content bytes.now → IsKept D.Disk self.old contents
+            → LeavesAtMost D.Disk (disk_of self.new) contents content }
     {
         write_twice(&mut self.disk, self.end, bytes)?;
         self.end = end;
@@ -144,11 +152,13 @@ impl<D: Disk + Drop> Journal<D> {
         requires ends { end + 1 ≡ blocks_end self.old + length bytes.now }
         requires room { end + 1 ≤ self.old.zeros }
         requires fits { end + 1 < 2 ^ 64 }
-        ensures kept { OnOk result ((contents : List (List ℕ)) (content : List ℕ) → IsWrittenBlock self.old content bytes.now
-            → IsKept D.Disk self.old contents → IsKept D.Disk self.new (contents ++ content ∷ [])) }
-        ensures synced { OnOk result (Only (D.Disk.seen (disk_of self.new)) (D.Disk.may_leave (disk_of self.new))) }
-        ensures any_moment { (contents : List (List ℕ)) (content : List ℕ) → IsWrittenBlock self.old content bytes.now
-            → IsKept D.Disk self.old contents → LeavesAtMost D.Disk (disk_of self.new) contents content }
+        ensures kept { OnOk result ((contents : List (List ℕ)) (content : List ℕ)
+            → IsWrittenBlock self.old content bytes.now → IsKept D.Disk self.old contents
+            → IsKept D.Disk self.new (contents ++ content ∷ [])) }
+        ensures synced { OnOk result (IsSynced D.Disk self.new) }
+        ensures any_moment { (contents : List (List ℕ)) (content : List ℕ)
+            → IsWrittenBlock self.old content bytes.now → IsKept D.Disk self.old contents
+            → LeavesAtMost D.Disk (disk_of self.new) contents content }
     {
         write_once(&mut self.disk, self.end, bytes)?;
         self.end = end;
@@ -159,8 +169,10 @@ impl<D: Disk + Drop> Journal<D> {
 // Writes zeros from here up to a length: how far that went.
 fn fill<D: Disk>(disk: &mut D, from: usize, len: usize) -> Result<usize, JournalError>
     ensures reached { IfOk result (λ n. from ≤ n) }
-    ensures others { (n : ℕ) → n ≤ from → KeepsBelow n (D.Disk.seen disk.old) (D.Disk.seen disk.new) }
-    ensures zeros { IfOk result (λ n. from ≤ length (D.Disk.seen disk.old) → HasZeros (D.Disk.seen disk.new) from n) }
+    ensures others { (n : ℕ) → n ≤ from
+        → KeepsBelow n (D.Disk.seen disk.old) (D.Disk.seen disk.new) }
+    ensures zeros { IfOk result (λ n. from ≤ length (D.Disk.seen disk.old)
+        → HasZeros (D.Disk.seen disk.new) from n) }
     ensures crash { (n : ℕ) → n ≤ from
         → Follows (KeepsBelow n) (D.Disk.may_leave disk.old) (D.Disk.may_leave disk.new) }
 {

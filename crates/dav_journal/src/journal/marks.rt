@@ -6,7 +6,7 @@ ghost use Rattle.dav_journal.specs.File.{IsBegun, Recovers};
 ghost use Rattle.dav_journal.specs.Mark.{IsLastMark, IsMark, IsMarkPlace, NoneMarkedPast};
 ghost use Rattle.dav_journal.specs.declared.error.JournalError.TheVariants.{Damaged};
 ghost use Rattle.dav_journal.specs.Error.{IsNoDamage};
-ghost use Rattle.dav_journal.specs.Journal.{HasRead, IsCleared, IsKept, IsReading, IsShut, IsWrittenBlock, LeavesAtMost, LeavesOnly, OnlyReads, Stays, blocks_end, blocks_len, disk_of};
+ghost use Rattle.dav_journal.specs.Journal.{HasRead, IsClean, IsCleared, IsKept, IsReading, IsShut, IsSynced, IsWrittenBlock, LeavesAtMost, LeavesOnly, OnlyReads, Stays, blocks_end, blocks_len, disk_of, file_of};
 ghost use Rattle.dav_journal.specs.Write.{HasZeros, KeepsBelow};
 
 use crate::block::{FRONT, twice_bytes};
@@ -21,8 +21,8 @@ impl<D: Disk + Drop> Journal<D> {
         ensures sound { IfErr result IsNoDamage }
         ensures stays { Stays D.Disk self.old self.new }
         ensures place { IfOk result (λ last. IsMarkPlace last.0) }
-        ensures last { IfOk result (λ last. IsTrue (D.Disk.is_clean (disk_of self.new))
-            → IsLastMark (D.Disk.seen (disk_of self.old)) last.0 last.1) }
+        ensures last { IfOk result (λ last. IsClean D.Disk self.new
+            → IsLastMark (file_of D.Disk self.old) last.0 last.1) }
     {
         let first = self.mark_at(FRONT)?;
         let second = self.mark_at(FRONT + MARK)?;
@@ -40,10 +40,10 @@ impl<D: Disk + Drop> Journal<D> {
     fn mark_at(&mut self, place: usize) -> Result<u64, JournalError>
         ensures sound { IfErr result IsNoDamage }
         ensures stays { Stays D.Disk self.old self.new }
-        ensures some { IfOk result (λ n. IsTrue (D.Disk.is_clean (disk_of self.new)) → 0 < n
-            → Holds (D.Disk.seen (disk_of self.old)) place (twice n)) }
-        ensures most { IfOk result (λ n. IsTrue (D.Disk.is_clean (disk_of self.new)) → (m : ℕ) → m < 2 ^ 64
-            → Holds (D.Disk.seen (disk_of self.old)) place (twice m) → m ≤ n) }
+        ensures some { IfOk result (λ n. IsClean D.Disk self.new → 0 < n
+            → Holds (file_of D.Disk self.old) place (twice n)) }
+        ensures most { IfOk result (λ n. IsClean D.Disk self.new → (m : ℕ) → m < 2 ^ 64
+            → Holds (file_of D.Disk self.old) place (twice m) → m ≤ n) }
     {
         if !self.disk.may_be_used() {
             return Err(JournalError::Io);
@@ -55,12 +55,12 @@ impl<D: Disk + Drop> Journal<D> {
 
     // Leaves the last mark alone, with zeros at the places of the others. Where the disk isn't mixing there are none.
     pub(super) fn clear_marks(&mut self) -> Result<(), JournalError>
-        ensures clean { IsTrue (D.Disk.is_clean (disk_of self.new)) → IsTrue (D.Disk.is_clean (disk_of self.old)) }
-        ensures cleared { OnOk result (IsTrue (D.Disk.is_clean (disk_of self.new)) → (contents : List (List ℕ))
+        ensures clean { IsClean D.Disk self.new → IsClean D.Disk self.old }
+        ensures cleared { OnOk result (IsClean D.Disk self.new → (contents : List (List ℕ))
             → HasRead D.Disk self.old contents → IsCleared D.Disk self.new contents) }
-        ensures any_moment { IsTrue (D.Disk.is_clean (disk_of self.new)) → (contents : List (List ℕ))
-            → HasRead D.Disk self.old contents → LeavesOnly D.Disk (disk_of self.old) contents
-            → LeavesOnly D.Disk (disk_of self.new) contents }
+        ensures any_moment { IsClean D.Disk self.new → (contents : List (List ℕ))
+            → HasRead D.Disk self.old contents → LeavesOnly D.Disk self.old contents
+            → LeavesOnly D.Disk self.new contents }
     {
         let (place, number) = self.last_mark()?;
         if !self.disk.mixes() {
@@ -75,7 +75,7 @@ impl<D: Disk + Drop> Journal<D> {
     // `Foreign` where anything but zeros is at the places of marks.
     fn see_no_marks(&mut self) -> Result<(), JournalError>
         ensures reads { OnlyReads D.Disk (disk_of self.old) (disk_of self.new) }
-        ensures cleared { OnOk result (IsTrue (D.Disk.is_clean (disk_of self.new)) → (contents : List (List ℕ))
+        ensures cleared { OnOk result (IsClean D.Disk self.new → (contents : List (List ℕ))
             → HasRead D.Disk self.old contents → IsCleared D.Disk self.new contents) }
     {
         if !self.disk.may_be_used() {
@@ -92,11 +92,12 @@ impl<D: Disk + Drop> Journal<D> {
 
     // Writes zeros over all marks.
     fn clear_all(&mut self) -> Result<(), JournalError>
-        ensures clean { IsTrue (D.Disk.is_clean (disk_of self.new)) → IsTrue (D.Disk.is_clean (disk_of self.old)) }
+        ensures clean { IsClean D.Disk self.new → IsClean D.Disk self.old }
         ensures cleared { OnOk result ((contents : List (List ℕ)) → HasRead D.Disk self.old contents
             → IsCleared D.Disk self.new contents) }
-        ensures any_moment { IsTrue (D.Disk.is_mixing (disk_of self.old)) → (contents : List (List ℕ))
-            → LeavesOnly D.Disk (disk_of self.old) contents → LeavesOnly D.Disk (disk_of self.new) contents }
+        ensures any_moment { IsTrue (D.Disk.is_mixing (disk_of self.old))
+            → (contents : List (List ℕ)) → LeavesOnly D.Disk self.old contents
+            → LeavesOnly D.Disk self.new contents }
     {
         if !self.disk.may_be_used() {
             return Err(JournalError::Io);
@@ -110,11 +111,14 @@ impl<D: Disk + Drop> Journal<D> {
     // Writes zeros over the marks but for the one at this place.
     fn clear_others(&mut self, place: usize) -> Result<(), JournalError>
         requires { IsMarkPlace place }
-        ensures clean { IsTrue (D.Disk.is_clean (disk_of self.new)) → IsTrue (D.Disk.is_clean (disk_of self.old)) }
-        ensures cleared { OnOk result ((contents : List (List ℕ)) → HasRead D.Disk self.old contents
-            → IsMark (D.Disk.seen (disk_of self.old)) (blocks_end self.old) place → IsCleared D.Disk self.new contents) }
-        ensures any_moment { IsTrue (D.Disk.is_mixing (disk_of self.old)) → (contents : List (List ℕ))
-            → LeavesOnly D.Disk (disk_of self.old) contents → LeavesOnly D.Disk (disk_of self.new) contents }
+        ensures clean { IsClean D.Disk self.new → IsClean D.Disk self.old }
+        ensures cleared { OnOk result ((contents : List (List ℕ))
+            → HasRead D.Disk self.old contents
+            → IsMark (file_of D.Disk self.old) (blocks_end self.old) place
+            → IsCleared D.Disk self.new contents) }
+        ensures any_moment { IsTrue (D.Disk.is_mixing (disk_of self.old))
+            → (contents : List (List ℕ)) → LeavesOnly D.Disk self.old contents
+            → LeavesOnly D.Disk self.new contents }
     {
         let next = mark_after(place);
         if !self.disk.may_be_used() {
@@ -129,12 +133,12 @@ impl<D: Disk + Drop> Journal<D> {
 
     // Says in the front that the blocks reach to here, on a disk that is mixing. The next sync keeps that.
     pub(super) fn set_mark(&mut self) -> Result<(), JournalError>
-        ensures clean { IsTrue (D.Disk.is_clean (disk_of self.new)) → IsTrue (D.Disk.is_clean (disk_of self.old)) }
+        ensures clean { IsClean D.Disk self.new → IsClean D.Disk self.old }
         ensures kept { OnOk result ((contents : List (List ℕ)) → IsKept D.Disk self.old contents
-            → Only (D.Disk.seen (disk_of self.old)) (D.Disk.may_leave (disk_of self.old)) → IsKept D.Disk self.new contents) }
+            → IsSynced D.Disk self.old → IsKept D.Disk self.new contents) }
         ensures any_moment { (contents : List (List ℕ)) → IsKept D.Disk self.old contents
-            → Only (D.Disk.seen (disk_of self.old)) (D.Disk.may_leave (disk_of self.old))
-            → LeavesOnly D.Disk (disk_of self.new) contents }
+            → IsSynced D.Disk self.old
+            → LeavesOnly D.Disk self.new contents }
     {
         if !self.disk.mixes() {
             return Ok(());
@@ -155,9 +159,9 @@ impl<D: Disk + Drop> Journal<D> {
     pub fn keep_mark(&mut self) -> Result<(), JournalError>
         ensures kept { OnOk result ((contents : List (List ℕ)) → IsKept D.Disk self.old contents
             → IsKept D.Disk self.new contents) }
-        ensures synced { OnOk result (Only (D.Disk.seen (disk_of self.new)) (D.Disk.may_leave (disk_of self.new))) }
+        ensures synced { OnOk result (IsSynced D.Disk self.new) }
         ensures any_moment { (contents : List (List ℕ)) → IsKept D.Disk self.old contents
-            → LeavesOnly D.Disk (disk_of self.new) contents }
+            → LeavesOnly D.Disk self.new contents }
     {
         if !self.disk.may_be_used() {
             return Err(JournalError::Io);

@@ -6,7 +6,7 @@ ghost use Rattle.dav_journal.specs.File.{IsBegun, Recovers};
 ghost use Rattle.dav_journal.specs.Mark.{IsLastMark, IsMark, IsMarkPlace, NoneMarkedPast};
 ghost use Rattle.dav_journal.specs.declared.error.JournalError.TheVariants.{Damaged};
 ghost use Rattle.dav_journal.specs.Error.{IsNoDamage};
-ghost use Rattle.dav_journal.specs.Journal.{HasRead, IsCleared, IsKept, IsReading, IsShut, IsWrittenBlock, LeavesAtMost, LeavesOnly, OnlyReads, Stays, blocks_end, blocks_len, disk_of};
+ghost use Rattle.dav_journal.specs.Journal.{HasRead, IsClean, IsCleared, IsKept, IsReading, IsShut, IsSynced, IsWrittenBlock, LeavesAtMost, LeavesOnly, OnlyReads, Stays, blocks_end, blocks_len, disk_of, file_of};
 ghost use Rattle.dav_journal.specs.Write.{HasZeros, KeepsBelow};
 
 use crate::block::{HEAD, OPEN, is_head, len_in};
@@ -20,13 +20,14 @@ impl<D: Disk + Drop> Journal<D> {
     /// says so, or the file ends there, or the gate is open on a disk that isn't mixing.
     pub fn next(&mut self, alloc: Global) -> Result<Option<Vec<u8>>, JournalError>
         ensures reads { OnlyReads D.Disk (disk_of self.old) (disk_of self.new) }
-        ensures read { IfOk result (λ block. IsTrue (D.Disk.is_clean (disk_of self.new)) → (contents : List (List ℕ))
-            → IsReading D.Disk self.old contents → MatchOption block (HasRead D.Disk self.new contents)
+        ensures read { IfOk result (λ block. IsClean D.Disk self.new → (contents : List (List ℕ))
+            → IsReading D.Disk self.old contents
+            → MatchOption block (HasRead D.Disk self.new contents)
             (λ b. IsReading D.Disk self.new (contents ++ b.items ∷ []))) }
-        ensures damaged { (place : ℕ) → IsErrOf result (Damaged place) → IsTrue (D.Disk.is_clean (disk_of self.new))
+        ensures damaged { (place : ℕ) → IsErrOf result (Damaged place) → IsClean D.Disk self.new
             → IsTrue (D.Disk.is_mixing (disk_of self.new)) → (contents : List (List ℕ))
             → IsReading D.Disk self.old contents → (place ≡ blocks_end self.old)
-            × ((others : List (List ℕ)) → Recovers (D.Disk.seen (disk_of self.old)) others → ⊥) }
+            × ((others : List (List ℕ)) → Recovers (file_of D.Disk self.old) others → ⊥) }
     {
         let Some(content) = self.block_here(alloc)? else {
             self.see_end()?;
@@ -42,10 +43,11 @@ impl<D: Disk + Drop> Journal<D> {
         ensures stays { Stays D.Disk self.old self.new }
         ensures fits { IfOk result (λ block. IfSome block (λ b.
             blocks_end self.old + 49 + length b.items ≤ blocks_len self.old)) }
-        ensures read { IfOk result (λ block. IsTrue (D.Disk.is_clean (disk_of self.new))
-            → length (D.Disk.seen (disk_of self.old)) ≡ blocks_len self.old
-            → MatchOption block (IsNoBlock self.old.key (D.Disk.seen (disk_of self.old)) (blocks_end self.old))
-            (λ b. IsBlock self.old.key (D.Disk.seen (disk_of self.old)) (blocks_end self.old) b.items)) }
+        ensures read { IfOk result (λ block. IsClean D.Disk self.new
+            → length (file_of D.Disk self.old) ≡ blocks_len self.old
+            → MatchOption block (IsNoBlock self.old.key (file_of D.Disk self.old) (blocks_end
+            self.old)) (λ b. IsBlock self.old.key (file_of D.Disk self.old) (blocks_end self.old)
+            b.items)) }
     {
         let Some(head) = self.next_head()? else {
             return Ok(None);
@@ -64,9 +66,11 @@ impl<D: Disk + Drop> Journal<D> {
     fn next_head(&mut self) -> Result<Option<[u8; HEAD]>, JournalError>
         ensures sound { IfErr result IsNoDamage }
         ensures stays { Stays D.Disk self.old self.new }
-        ensures head { IfOk result (λ head. MatchOption head (blocks_len self.old < blocks_end self.old + 49)
-            (λ h. (length h ≡ 49) × (blocks_end self.old + 49 ≤ blocks_len self.old) × (IsTrue (D.Disk.is_clean (disk_of self.new))
-            → Holds (D.Disk.seen (disk_of self.old)) (blocks_end self.old) h))) }
+        ensures head { IfOk result
+            (λ head. MatchOption head (blocks_len self.old < blocks_end self.old + 49)
+            (λ h. (length h ≡ 49) × (blocks_end self.old + 49 ≤ blocks_len self.old)
+            × (IsClean D.Disk self.new
+            → Holds (file_of D.Disk self.old) (blocks_end self.old) h))) }
     {
         if self.len < HEAD || self.len - HEAD < self.end {
             return Ok(None);
@@ -81,9 +85,10 @@ impl<D: Disk + Drop> Journal<D> {
 
     // The length that a head has, where a content of it fits.
     fn fitting(&self, head: &[u8]) -> Option<usize>
-        ensures none { (key place : ℕ) (content : List ℕ) → length content < 2 ^ 64
-            → head.now ≡ 1 ∷ head_of key place content → blocks_end self.now + 49 + length content ≤ blocks_len self.now
-            → result ≡ Some (length content) }
+        ensures none { (key place : ℕ) (content : List ℕ) → length content < 2 ^ 64 → head.now
+            ≡ 1 ∷ head_of key place content
+            → blocks_end self.now + 49 + length content ≤ blocks_len self.now → result
+            ≡ Some (length content) }
         ensures some { IfSome result (λ n. blocks_end self.now + 49 + n ≤ blocks_len self.now) }
         ensures small { IfSome result (λ n. blocks_end self.now + 49 + n < 2 ^ 64) }
     {
@@ -98,8 +103,8 @@ impl<D: Disk + Drop> Journal<D> {
         ensures sound { IfErr result IsNoDamage }
         ensures stays { Stays D.Disk self.old self.new }
         ensures len { IfOk result (λ v. length v.items ≡ len) }
-        ensures read { IfOk result (λ v. IsTrue (D.Disk.is_clean (disk_of self.new)) → 0 < len
-            → Holds (D.Disk.seen (disk_of self.old)) (blocks_end self.old + 49) v.items) }
+        ensures read { IfOk result (λ v. IsClean D.Disk self.new → 0 < len
+            → Holds (file_of D.Disk self.old) (blocks_end self.old + 49) v.items) }
     {
         let mut content = Vec::new(alloc);
         content.resize(len, 0u8)?;
@@ -114,11 +119,11 @@ impl<D: Disk + Drop> Journal<D> {
     fn see_end(&mut self) -> Result<(), JournalError>
         ensures stays { Stays D.Disk self.old self.new }
         ensures more { OnOk result (blocks_end self.old < blocks_len self.old) }
-        ensures unmarked { OnOk result (IsTrue (D.Disk.is_clean (disk_of self.new))
-            → NoneMarkedPast (D.Disk.seen (disk_of self.old)) (blocks_end self.old)) }
-        ensures damaged { (place : ℕ) → IsErrOf result (Damaged place) → IsTrue (D.Disk.is_clean (disk_of self.new))
+        ensures unmarked { OnOk result (IsClean D.Disk self.new
+            → NoneMarkedPast (file_of D.Disk self.old) (blocks_end self.old)) }
+        ensures damaged { (place : ℕ) → IsErrOf result (Damaged place) → IsClean D.Disk self.new
             → IsTrue (D.Disk.is_mixing (disk_of self.new)) → (place ≡ blocks_end self.old)
-            × (NoneMarkedPast (D.Disk.seen (disk_of self.old)) (blocks_end self.old)
+            × (NoneMarkedPast (file_of D.Disk self.old) (blocks_end self.old)
             → blocks_end self.old < blocks_len self.old → ⊥) }
     {
         if self.len <= self.end {
@@ -138,8 +143,8 @@ impl<D: Disk + Drop> Journal<D> {
     fn gate(&mut self) -> Result<u8, JournalError>
         ensures sound { IfErr result IsNoDamage }
         ensures stays { Stays D.Disk self.old self.new }
-        ensures gate { IfOk result (λ gate. IsTrue (D.Disk.is_clean (disk_of self.new))
-            → slice_index (D.Disk.seen (disk_of self.old)) (blocks_end self.old) ≡ gate) }
+        ensures gate { IfOk result (λ gate. IsClean D.Disk self.new
+            → slice_index (file_of D.Disk self.old) (blocks_end self.old) ≡ gate) }
     {
         if !self.disk.may_be_used() {
             return Err(JournalError::Io);
@@ -152,9 +157,9 @@ impl<D: Disk + Drop> Journal<D> {
     /// How many bytes `cut` drops: from the end of the blocks that were read to the last byte that isn't 0.
     pub fn rest(&mut self) -> Result<usize, JournalError>
         ensures stays { Stays D.Disk self.old self.new }
-        ensures rest { IfOk result (λ n. IsTrue (D.Disk.is_clean (disk_of self.new))
-            → length (D.Disk.seen (disk_of self.old)) ≡ blocks_len self.old → (i : ℕ) → blocks_end self.old + n ≤ i
-            → slice_index (D.Disk.seen (disk_of self.old)) i ≡ 0) }
+        ensures rest { IfOk result (λ n. IsClean D.Disk self.new
+            → length (file_of D.Disk self.old) ≡ blocks_len self.old → (i : ℕ)
+            → blocks_end self.old + n ≤ i → slice_index (file_of D.Disk self.old) i ≡ 0) }
     {
         let mut piece = [0u8; PIECE];
         let mut to = self.len;
@@ -174,8 +179,8 @@ impl<D: Disk + Drop> Journal<D> {
     /// Reads bytes of the file from this place on.
     pub fn read(&mut self, at: usize, piece: &mut [u8]) -> Result<(), JournalError>
         ensures stays { Stays D.Disk self.old self.new }
-        ensures read { OnOk result (IsTrue (D.Disk.is_clean (disk_of self.new)) → 0 < length piece.old
-            → Holds (D.Disk.seen (disk_of self.old)) at piece.new) }
+        ensures read { OnOk result (IsClean D.Disk self.new → 0 < length piece.old
+            → Holds (file_of D.Disk self.old) at piece.new) }
     {
         if !self.disk.may_be_used() {
             return Err(JournalError::Io);
