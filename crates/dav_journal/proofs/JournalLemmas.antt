@@ -1,5 +1,6 @@
 -- A journal that only reads.
-use Rattle.std.proofs.Common.{◌≡◌, ℕ, ◌<◌, ◌≤◌, List, Result, Ok, Err, length, slice_index, sym, ◌∙◌, ap, subst, arith}
+use Rattle.std.proofs.Common.{◌+◌, ◌-◌, ◌<◌, inl, inr, ◌≡◌, ℕ, ◌≤◌, List, Result, Ok, Err, length, slice_index, sym, ◌∙◌, ap, subst, arith}
+use Rattle.std.proofs.lemmas.Bool.{cases_lt}
 use Rattle.std.proofs.lemmas.List.{ext_get_or}
 use Rattle.sqlite_disk.specs.Disk.{Follows, Holds}
 use Rattle.dav_journal.specs.Write.{KeepsBelow}
@@ -92,3 +93,11 @@ moved x (Err e) = Err e
 pub err_moved : {A B E : Type 0} (x y : E) → ◌≡◌ {A = Result A E} (Err x) (Err y) → ◌≡◌ {A = Result B E} (Err x) (Err y)
 unfolding moved
 err_moved x y e = ap (moved x) e
+
+-- after what is used of a part there are zeros, and also after the part
+pub rest_zeros : (file window : List ℕ) (from to count : ℕ) → Holds file from window → from + length window ≡ to → ((i : ℕ) → count ≤ i → slice_index window i ≡ 0) → ((i : ℕ) → to ≤ i → slice_index file i ≡ 0) → (i : ℕ) → from + count ≤ i
+    → slice_index file i ≡ 0
+rest_zeros file window from to count h long none zeros i low = elim (cases_lt i to) [
+  | inl inside ↦ let here : i ≡ from + (i - from) = omega (arith, low) in ap (slice_index file) here ∙ h.each (i - from) (omega (arith, low, inside, long)) ∙ none (i - from) (omega (arith, low))
+  | inr past ↦ zeros i past
+]

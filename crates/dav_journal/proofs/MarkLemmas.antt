@@ -180,6 +180,7 @@ mixed_fade at bytes old new from to long none m = record {
           | inl was ↦ inr (ap (slice_index new) here ∙ was ∙ ap (slice_index old) (sym here))
           | inr put ↦ inl (ap (slice_index new) here ∙ put ∙ none (i - at))
         ]
+
     after : (i : ℕ) → at + length bytes ≤ i → (slice_index new i ≡ 0) ⊎ (slice_index new i ≡ slice_index old i)
     after i out = elim (cases_lt i (length old)) [
       | inl inside ↦ inr (m.torn.above i inside out)

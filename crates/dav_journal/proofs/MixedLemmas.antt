@@ -107,18 +107,23 @@ faint_block key file at content found small faint b = same
   where
     long : length (block_bytes key at content) ≡ 49 + length content
     long = length-block key at content
+
     long' : length (block_bytes key at found) ≡ 49 + length found
     long' = length-block key at found
+
     part : (k i x y : ℕ) → k + i < 49 + length content → k + i < 49 + length found → slice_index (block_bytes key at found) (k + i) ≡ y → slice_index (block_bytes key at content) (k + i) ≡ x → (y ≡ 0) ⊎ (y ≡ x)
     part k i x y low low' is is' = elim (faint (k + i) (omega (arith, low, long))) [
       | inl lost ↦ inl (sym is ∙ sym (b.holds.each (k + i) (omega (arith, low', long'))) ∙ lost)
       | inr kept ↦ inr (sym is ∙ sym (b.holds.each (k + i) (omega (arith, low', long'))) ∙ kept ∙ is')
     ]
+
     len : length found ≡ length content
     len = twice_same (length content) (length found) small b.small (λ i low. part 1 i _ _ (omega (arith, low)) (omega (arith, low)) (block_at_len key at found i low) (block_at_len key at content i low))
+
     count : zeros_in found ≡ zeros_in content
     count = twice_same (zeros_in content) (zeros_in found) (omega (arith, small, zeros_few content)) (omega (arith, b.small, zeros_few found))
         (λ i low. part 17 i _ _ (omega (arith, low)) (omega (arith, low)) (block_at_zeros key at found i low) (block_at_zeros key at content i low))
+
     same : found ≡ content
     same = fades_same content found (fades_from content found len (λ i low. part 49 i _ _ (omega (arith, low)) (omega (arith, low, len)) (block_at_content key at found i) (block_at_content key at content i))) count
 

@@ -38,13 +38,13 @@ behind_shut at n bytes old new t inside shut =
 pub gate_decides : (at n : ℕ) (bytes old mid new : List ℕ) → 1 < length bytes → slice_index bytes 0 ≡ 1 → Torn (at + 1) n old mid → Holds mid (at + 1) (slice_range bytes 1 (length bytes))
     → Torn at 1 mid new → AllOrShut at bytes old new
 gate_decides at n bytes old mid new some opens first behind second inside shut = (
-      front_then at old mid new (front_torn at (at + 1) n old mid (omega arith) (omega arith) first) (front_torn at at 1 mid new (omega arith) (omega (arith, first.no_shorter)) second),
-      omega (arith, first.no_shorter, second.no_shorter),
-      elim (cases_eq (slice_index new at) 1) [
-        | inl is_open ↦ inr (opened at bytes mid new some behind second (is_open ∙ sym opens))
-        | inr other ↦ inl other
-      ],
-    )
+  front_then at old mid new (front_torn at (at + 1) n old mid (omega arith) (omega arith) first) (front_torn at at 1 mid new (omega arith) (omega (arith, first.no_shorter)) second),
+  omega (arith, first.no_shorter, second.no_shorter),
+  elim (cases_eq (slice_index new at) 1) [
+    | inl is_open ↦ inr (opened at bytes mid new some behind second (is_open ∙ sym opens))
+    | inr other ↦ inl other
+  ],
+)
 
 pub one_byte : (bytes : List ℕ) → 1 < length bytes → length (take 1 bytes) ≡ 1
 one_byte bytes some = search (rules, places)
@@ -68,14 +68,14 @@ below_then n p m old mid new low k t within =
 pub zeros_more : (from at : ℕ) (piece old new : List ℕ) (next : ℕ) → HasZeros old from at → Torn at (length piece) old new → Holds new at piece → ((i : ℕ) → i < length piece → slice_index piece i ≡ 0)
     → next ≤ at + length piece → HasZeros new from next
 zeros_more from at piece old new next (within, blank) t h none low = (
-      omega (arith, low, h.within),
-      λ i past below. elim (cases_lt i at) [
-        | inl early ↦ t.below i (omega (arith, early, within)) early ∙ blank i past early
-        | inr late ↦
-            let here : i ≡ at + (i - at) = omega arith in
-            ap (slice_index new) here ∙ h.each (i - at) (omega arith) ∙ none (i - at) (omega arith)
-      ],
-    )
+  omega (arith, low, h.within),
+  λ i past below. elim (cases_lt i at) [
+    | inl early ↦ t.below i (omega (arith, early, within)) early ∙ blank i past early
+    | inr late ↦
+        let here : i ≡ at + (i - at) = omega arith in
+        ap (slice_index new) here ∙ h.each (i - at) (omega arith) ∙ none (i - at) (omega arith)
+  ],
+)
 
 -- a part of zeros
 pub zero_at : (n k : ℕ) → slice_index (replicate n 0) k ≡ 0
@@ -83,8 +83,10 @@ zero_at n k = go (cases_lt k n)
   where
     zeros : List ℕ
     zeros = replicate n 0
+
     long : length zeros ≡ n
     long = length-replicate {A = ℕ} n 0
+
     go : (k < n) ⊎ (n ≤ k) → slice_index zeros k ≡ 0
     go (inl low) = get_or-replicate n k 0 0 low
     go (inr past) = let le : length zeros ≤ k = omega (arith, long, past) in get_or_past zeros k 0 le
@@ -94,8 +96,10 @@ zero_part n a b i = go (cases_lt i (length part))
   where
     zeros : List ℕ
     zeros = replicate n 0
+
     part : List ℕ
     part = slice_range zeros a b
+
     go : (i < length part) ⊎ (length part ≤ i) → slice_index part i ≡ 0
     go (inl inside) = let read : slice_index part i ≡ slice_index zeros (a + i) = search (rules, places) in read ∙ zero_at n (a + i)
     go (inr out) = get_or_past part i 0 out

@@ -11,6 +11,18 @@ use Rattle.dav_journal.specs.declared.journal.Journal.{Journal}
 abbrev pub disk_of : {D : Type 0} → Journal D → D
 disk_of j = j.disk
 
+-- the bytes of its file, as they read
+abbrev pub file_of : {D : Type 0} → Ghosts D → Journal D → List ℕ
+file_of g j = g.seen j.disk
+
+-- its disk told no lie that was taken for true
+abbrev pub IsClean : {D : Type 0} → Ghosts D → Journal D → Type 0
+IsClean g j = IsTrue (g.is_clean j.disk)
+
+-- a crash leaves its file as it reads
+abbrev pub IsSynced : {D : Type 0} → Ghosts D → Journal D → Type 0
+IsSynced g j = Only (g.seen j.disk) (g.may_leave j.disk)
+
 -- where its blocks end
 abbrev pub blocks_end : {D : Type 0} → Journal D → ℕ
 blocks_end j = j.end
@@ -77,9 +89,9 @@ pub record IsShut {D : Type 0} (g : Ghosts D) (j : Journal D) (contents : List (
 abbrev pub LeavesAtMost : {D : Type 0} → Ghosts D → D → List (List ℕ) → List ℕ → Type 0
 LeavesAtMost g disk contents content = (c : List ℕ) → g.may_leave disk c → Recovers c contents ⊎ Recovers c (contents ++ content ∷ [])
 
--- each outcome of a crash stands for these contents
-abbrev pub LeavesOnly : {D : Type 0} → Ghosts D → D → List (List ℕ) → Type 0
-LeavesOnly g disk contents = (c : List ℕ) → g.may_leave disk c → Recovers c contents
+-- each outcome of a crash of a journal stands for these contents
+abbrev pub LeavesOnly : {D : Type 0} → Ghosts D → Journal D → List (List ℕ) → Type 0
+LeavesOnly g j contents = (c : List ℕ) → g.may_leave j.disk c → Recovers c contents
 
 -- a disk was only read
 pub record OnlyReads {D : Type 0} (g : Ghosts D) (old new : D) : Type 0 where

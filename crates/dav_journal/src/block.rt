@@ -1,8 +1,9 @@
 //! The bytes of blocks, and of the front of the file.
-ghost use Rattle.std.specs.Prelude.{◌≡◌, ◌≢◌, ◌≤◌, ◌<◌, ◌^◌, ◌++◌, ◌∷◌, [], ℕ, List, Some, length, replicate, IfSome, IfNone, IfOk, OnOk, IsTrue, ◌↔◌};
+ghost use Rattle.std.specs.Prelude.{◌≡◌, ◌≢◌, ◌≤◌, ◌<◌, ◌^◌, ◌++◌, ◌∷◌, [], ℕ, List, Some, length, codes, replicate, IfSome, IfNone, IfOk, OnOk, IsTrue, ◌↔◌};
 ghost use Rattle.std.specs.Int.{w64, from_be_bytes, to_be_bytes};
 ghost use Rattle.dav_journal.specs.Block.{block_bytes, digest_at, front_of, head_of, twice, zeros_in};
 ghost use Rattle.dav_journal.specs.File.{AreZeros, IsBegun};
+ghost use Rattle.dav_journal.specs.Mark.{IsFaint};
 
 use sqlite_disk::digest_of;
 use std::alloc::{AllocError, Global};
@@ -80,12 +81,7 @@ fn add_digests(out: &mut Vec<u8>, told: u64, own: u64) -> Result<(), AllocError>
 }
 
 // Adds the head of a block with this content at this place.
-pub fn add_head(
-    out: &mut Vec<u8>,
-    key: u64,
-    place: u64,
-    content: &[u8],
-) -> Result<(), AllocError>
+pub fn add_head(out: &mut Vec<u8>, key: u64, place: u64, content: &[u8]) -> Result<(), AllocError>
     ensures { OnOk result (out.new.items ≡ out.old.items ++ head_of key place content.now) }
 {
     let len = content.len() as u64;
@@ -96,12 +92,7 @@ pub fn add_head(
 }
 
 // The bytes of a block with this content at this place, and the gate after it, which is shut.
-pub fn bytes_of(
-    alloc: Global,
-    key: u64,
-    place: u64,
-    content: &[u8],
-) -> Result<Vec<u8>, AllocError>
+pub fn bytes_of(alloc: Global, key: u64, place: u64, content: &[u8]) -> Result<Vec<u8>, AllocError>
     ensures { IfOk result (λ v. v.items ≡ block_bytes key place content.now ++ 0 ∷ []) }
 {
     let mut bytes = Vec::new(alloc);
@@ -185,6 +176,20 @@ fn are_zeros(bytes: &[u8]) -> bool
     zeros_of(bytes) == bytes.len() as u64
 }
 
+// Whether a crash may have left the first bytes of these of a write of the version over nothing.
+fn may_begin(bytes: &[u8]) -> bool
+    ensures { IsTrue result ↔ IsFaint bytes.now 0 (codes "vuldarg2") }
+{
+    let mut place = 0usize;
+    while place < VERSION.len() && place < bytes.len() {
+        if bytes[place] != 0 && bytes[place] != VERSION[place] {
+            return false;
+        }
+        place += 1;
+    }
+    true
+}
+
 // Whether a crash may have left these bytes of the first write of a file.
 pub fn is_begun(bytes: &[u8]) -> bool
     ensures { IsTrue result ↔ IsBegun bytes.now }
@@ -192,13 +197,7 @@ pub fn is_begun(bytes: &[u8]) -> bool
     if bytes.len() > START + 1 {
         return false;
     }
-    if are_zeros(bytes) {
-        return true;
-    }
-    if bytes.len() < VERSION.len() {
-        return bytes == &VERSION[..bytes.len()];
-    }
-    if &bytes[..8] != VERSION.as_slice() {
+    if !may_begin(bytes) {
         return false;
     }
     bytes.len() <= FRONT || are_zeros(&bytes[FRONT..])

@@ -167,7 +167,7 @@ impl<D: Disk + Drop> Live<D> {
                 self.service.hear_hello(bytes);
                 Ok(())
             }
-            TICK => Ok(()),
+            TICK => self.service.keep_mark(),
             USERS => Ok(self.service.hear_users(bytes)?),
             OPENED => self.connect(report.slot, bytes, orders),
             GONE => self.end(report.slot),

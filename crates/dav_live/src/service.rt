@@ -42,6 +42,8 @@ pub struct Service<D: Disk> {
     journal: Journal<D>,
     /// Whether the journal has no block.
     is_new: bool,
+    /// Whether the mark of its last block is kept.
+    is_marked: bool,
     /// The records since the last commit.
     batch: Vec<u8>,
     leases: Vec<Lease>,
@@ -83,6 +85,7 @@ impl<D: Disk + Drop> Service<D> {
             handler,
             journal,
             is_new: true,
+            is_marked: false,
             batch: Vec::new(alloc),
             leases: Vec::new(alloc),
             tokens: 0,
@@ -290,6 +293,7 @@ impl<D: Disk + Drop> Service<D> {
         match self.journal.keep(self.alloc, &self.batch) {
             Ok(()) => {
                 self.batch.clear();
+                self.is_marked = false;
                 Ok(())
             }
             Err(JournalError::Memory) => Err(Fault::Memory),
@@ -300,6 +304,18 @@ impl<D: Disk + Drop> Service<D> {
     /// The most bytes of a body that isn't an element tree.
     pub fn most_body(&self) -> u64 {
         self.settings.most_body
+    }
+
+    /// Makes sure, once a second, that what was committed can't be missing unseen.
+    pub fn keep_mark(&mut self) -> Result<(), Fault> {
+        if self.is_marked {
+            return Ok(());
+        }
+        if self.journal.keep_mark().is_err() {
+            return Err(Fault::Disk);
+        }
+        self.is_marked = true;
+        Ok(())
     }
 
     /// Why an answer stopped the server.

@@ -33,7 +33,9 @@ pub fn keep_rest(
         return Err(Refusal::Cut(String::from_str(alloc, folder)?));
     };
     // A failed write to standard error can't be reported anywhere.
-    let _ = eprintln!(rt; "serve: {count} bytes from {place} on were no whole block; they are in {path}");
+    let _ = eprintln!(rt;
+        "serve: {count} bytes from {place} on were no whole block; they are in {path}"
+    );
     Ok(())
 }
 

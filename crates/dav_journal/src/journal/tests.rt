@@ -58,7 +58,10 @@ fn a_crash_at_each_call(rt: HostRuntime) -> Result<(), Fail> {
         };
         journal.disk.crash();
         let found = read(alloc, &mut journal)?;
-        assert!(rt; found == kept || found == kept + 1, "{calls} calls: {kept} kept, {found} found");
+        assert!(rt;
+            found == kept || found == kept + 1,
+            "{calls} calls: {kept} kept, {found} found"
+        );
         assert_eq!(rt; keep(alloc, &mut journal, found), 3, "{calls} calls");
         journal.disk.crash();
         assert_eq!(rt; read(alloc, &mut journal)?, 3, "{calls} calls");
@@ -99,7 +102,10 @@ fn what_is_damaged_is_refused(rt: HostRuntime) -> Result<(), Fail> {
             let mut damaged = bytes.clone()?;
             damaged[place] ^= flip;
             let there = found(alloc, &damaged)?;
-            assert!(rt; there.is_none() || there == Some(3), "byte {place}: {there:?}");
+            assert!(rt;
+                there.is_none() || there == Some(3),
+                "byte {place}: {there:?}"
+            );
         }
         // A file that ends within its first mark can't be told from a new one.
         let wanted = if place < 32 { Some(0) } else { None };
@@ -108,7 +114,10 @@ fn what_is_damaged_is_refused(rt: HostRuntime) -> Result<(), Fail> {
             let mut damaged = bytes.clone()?;
             damaged[place..].fill(0);
             let there = found(alloc, &damaged)?;
-            assert!(rt; there.is_none() || there == Some(3), "zeros from {place} on: {there:?}");
+            assert!(rt;
+                there.is_none() || there == Some(3),
+                "zeros from {place} on: {there:?}"
+            );
         }
     }
     Ok(())

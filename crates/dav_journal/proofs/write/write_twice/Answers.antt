@@ -29,8 +29,7 @@ returns-in_err-write_at-2-clause-crash g c left may =
     let bytes = c.args.bytes.now in
     let (before, was, torn) = c.write_at-2.ensures.crash left may in
     let synced = c.in_ok-sync.ensures.durable before was in
-    let second = rw (one_byte bytes c.requires.some) at rw synced at torn in
-    (
+    let second = rw (one_byte bytes c.requires.some) at rw synced at torn in (
       g.D.Disk.seen c.args.disk.now,
       g.met.D.Disk.seen_may_stay c.args.disk.now,
       gate_decides c.args.at _ bytes _ _ left c.requires.some c.requires.opens c.write_at.ensures.others (c.in_ok-write_at.ensures.written (search (rules, places))) second,
@@ -41,8 +40,7 @@ returns-clause-crash g c left may =
     let bytes = c.args.bytes.now in
     let (before, was, torn) = c.write_at-2.ensures.crash left (c.sync-2.ensures.crash left may) in
     let synced = c.in_ok-sync.ensures.durable before was in
-    let second = rw (one_byte bytes c.requires.some) at rw synced at torn in
-    (
+    let second = rw (one_byte bytes c.requires.some) at rw synced at torn in (
       g.D.Disk.seen c.args.disk.now,
       g.met.D.Disk.seen_may_stay c.args.disk.now,
       gate_decides c.args.at _ bytes _ _ left c.requires.some c.requires.opens c.write_at.ensures.others (c.in_ok-write_at.ensures.written (search (rules, places))) second,

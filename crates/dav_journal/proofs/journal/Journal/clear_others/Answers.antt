@@ -72,11 +72,11 @@ two_cleared g old new mid contents p here r mark first zeros second blank only k
     let long2 : 72 ≤ length mid = omega (arith, long, one.same_length) in
     let two = torn_others (mark_after (mark_after p)) 16 mid (g.seen new.disk) (place_low _ last) (omega (arith, place_high _ last)) long2 second in
     let stays : IsMark (g.seen new.disk) old.end p = mark_same (g.seen old.disk) (g.seen new.disk) old.end old.end p (omega arith) mark (λ i low.
-        torn_apart (mark_after (mark_after p)) p 16 i mid (g.seen new.disk) long2 refl (place_high p here) low (apart_twice p here) second
-        ∙ torn_apart (mark_after p) p 16 i (g.seen old.disk) mid long refl (place_high p here) low (apart_after p here) first) in
+    torn_apart (mark_after (mark_after p)) p 16 i mid (g.seen new.disk) long2 refl (place_high p here) low (apart_twice p here) second
+    ∙ torn_apart (mark_after p) p 16 i (g.seen old.disk) mid long refl (place_high p here) low (apart_after p here) first) in
     let none : IsBlank (g.seen new.disk) (mark_after p) = λ i low.
-        torn_apart (mark_after (mark_after p)) (mark_after p) 16 i mid (g.seen new.disk) long2 refl (place_high _ next) low (apart_after (mark_after p) next) second
-        ∙ blank_written mid (mark_after p) 16 (omega arith) zeros i low in
+    torn_apart (mark_after (mark_after p)) (mark_after p) 16 i mid (g.seen new.disk) long2 refl (place_high _ next) low (apart_after (mark_after p) next) second
+    ∙ blank_written mid (mark_after p) 16 (omega arith) zeros i low in
     let marks = one_mark (g.seen new.disk) old.end p here stays none (blank_written (g.seen new.disk) (mark_after (mark_after p)) 16 (omega arith) blank) in
     read_cleared g old new contents r (others_then _ _ _ one two) only key_is end_is len_is (rw end_is marks) (subst IsMarkPlace (sym mark_is) next) (subst (λ q. IsBlank (g.seen new.disk) q) (sym mark_is) none)
 

@@ -6,8 +6,7 @@ returns-then-self-clause-damaged g c place is clean mixing = (search (rules, is)
 
 pub returns-then-reached-self-clause-damaged : goal.returns-then-reached-self-clause-damaged
 returns-then-reached-self-clause-damaged g c place is clean mixing =
-    let last = c.in_ok-reached.ensures.last clean in
-    (
+    let last = c.in_ok-reached.ensures.last clean in (
       search (rules, is),
       λ none more. absurd (omega (arith, none _ c.in_ok-reached.ensures.place c.in_ok-reached.reached (omega arith) (last.some (omega (arith, c.if-reached-self.true))), c.if-reached-self.true)),
     )

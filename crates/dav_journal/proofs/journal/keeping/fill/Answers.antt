@@ -1,6 +1,6 @@
 use Rattle.std.proofs.Common.{◌≡◌, ◌<◌, ◌∙◌, ℕ, List, length, slice_index, ap, arith}
 use Rattle.dav_journal.proofs.WriteLemmas.{below_then, zero_part, zeros_more}
-use Rattle.dav_journal.proofs.journal.fill.Goals as goal
+use Rattle.dav_journal.proofs.journal.keeping.fill.Goals as goal
 
 pub loop-preserved : goal.loop-preserved
 loop-preserved g c = record {

@@ -1,5 +1,5 @@
 use Rattle.std.proofs.Common.{◌≡◌, ◌<◌, ◌≤◌, ℕ, length, slice_index}
-use Rattle.dav_journal.proofs.journal.last_byte.Given as goal
+use Rattle.dav_journal.proofs.journal.reading.used.Given as goal
 
 -- what was passed is zeros, and what is left is as it was
 abbrev pub invariant-loop-rest : goal.invariant-loop-rest

@@ -1,7 +1,7 @@
 use Rattle.std.proofs.Common.{◌≤◌, ℕ, length}
 use Rattle.sqlite_disk.specs.Disk.{Follows}
 use Rattle.dav_journal.specs.Write.{HasZeros, KeepsBelow}
-use Rattle.dav_journal.proofs.journal.fill.Given as goal
+use Rattle.dav_journal.proofs.journal.keeping.fill.Given as goal
 
 abbrev pub invariant-loop : goal.invariant-loop
 invariant-loop g l = record {
