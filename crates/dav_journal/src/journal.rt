@@ -140,6 +140,6 @@ pub fn keep_and_crash<D: Crash + Drop>(
 
 /// A file stands for one list of contents alone: what a start reads is all that there is to read.
 pub fn stands_for_one_list()
-    ensures { (file : List ℕ) (xs ys : List (List ℕ)) → Recovers file xs → Recovers file ys → xs
-        ≡ ys }
+    ensures { (file : List ℕ) (xs ys : List (List ℕ))
+        → Recovers file xs → Recovers file ys → xs ≡ ys }
 {}

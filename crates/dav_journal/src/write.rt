@@ -20,8 +20,8 @@ pub fn write_twice<D: Disk>(disk: &mut D, at: usize, bytes: &[u8]) -> io::Result
     ensures usable { OnOk result (IsTrue (D.Disk.is_usable disk.new)) }
     ensures front { at ≤ length (D.Disk.seen disk.old)
         → KeepsFront at (D.Disk.seen disk.old) (D.Disk.seen disk.new) }
-    ensures crash { Follows (AllOrShut at bytes.now) (D.Disk.may_leave disk.old) (D.Disk.may_leave
-        disk.new) }
+    ensures crash { Follows (AllOrShut at bytes.now)
+        (D.Disk.may_leave disk.old) (D.Disk.may_leave disk.new) }
 {
     disk.write_at(at + 1, &bytes[1..])?;
     disk.sync()?;
@@ -39,9 +39,9 @@ pub fn write_once<D: Disk>(disk: &mut D, at: usize, bytes: &[u8]) -> io::Result<
     ensures synced { OnOk result (Only (D.Disk.seen disk.new) (D.Disk.may_leave disk.new)) }
     ensures others { Torn at (length bytes.now) (D.Disk.seen disk.old) (D.Disk.seen disk.new) }
     ensures crash { IsTrue (D.Disk.is_mixing disk.old)
-        → (key upto : ℕ) (contents : List (List ℕ)) (content : List ℕ) → key < 2 ^ 64 → bytes.now
-        ≡ block_bytes key at content ++ 0 ∷ [] → at + length bytes.now ≤ upto → ((c : List ℕ)
-        → D.Disk.may_leave disk.old c → Rests key contents at upto c)
+        → (key upto : ℕ) (contents : List (List ℕ)) (content : List ℕ) → key < 2 ^ 64
+        → bytes.now ≡ block_bytes key at content ++ 0 ∷ [] → at + length bytes.now ≤ upto
+        → ((c : List ℕ) → D.Disk.may_leave disk.old c → Rests key contents at upto c)
         → LeavesAtMost D.Disk disk.new contents content }
 {
     disk.write_at(at, bytes)?;

@@ -45,9 +45,9 @@ impl<D: Disk + Drop> Journal<D> {
             blocks_end self.old + 49 + length b.items ≤ blocks_len self.old)) }
         ensures read { IfOk result (λ block. IsClean D.Disk self.new
             → length (file_of D.Disk self.old) ≡ blocks_len self.old
-            → MatchOption block (IsNoBlock self.old.key (file_of D.Disk self.old) (blocks_end
-            self.old)) (λ b. IsBlock self.old.key (file_of D.Disk self.old) (blocks_end self.old)
-            b.items)) }
+            → MatchOption block
+            (IsNoBlock self.old.key (file_of D.Disk self.old) (blocks_end self.old))
+            (λ b. IsBlock self.old.key (file_of D.Disk self.old) (blocks_end self.old) b.items)) }
     {
         let Some(head) = self.next_head()? else {
             return Ok(None);
@@ -85,10 +85,10 @@ impl<D: Disk + Drop> Journal<D> {
 
     // The length that a head has, where a content of it fits.
     fn fitting(&self, head: &[u8]) -> Option<usize>
-        ensures none { (key place : ℕ) (content : List ℕ) → length content < 2 ^ 64 → head.now
-            ≡ 1 ∷ head_of key place content
-            → blocks_end self.now + 49 + length content ≤ blocks_len self.now → result
-            ≡ Some (length content) }
+        ensures none { (key place : ℕ) (content : List ℕ) → length content < 2 ^ 64
+            → head.now ≡ 1 ∷ head_of key place content
+            → blocks_end self.now + 49 + length content ≤ blocks_len self.now
+            → result ≡ Some (length content) }
         ensures some { IfSome result (λ n. blocks_end self.now + 49 + n ≤ blocks_len self.now) }
         ensures small { IfSome result (λ n. blocks_end self.now + 49 + n < 2 ^ 64) }
     {
