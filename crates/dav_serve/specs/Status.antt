@@ -2,6 +2,8 @@
 use Rattle.std.specs.Prelude.{ℕ}
 use Rattle.dav_live.specs.declared.fault.Fault.{Fault}
 use Rattle.dav_live.specs.declared.fault.Fault.TheVariants.{Ended, Pipe, Memory, Disk}
+use Rattle.dav_serve.specs.declared.refusal.Refusal.{Refusal}
+use Rattle.dav_serve.specs.declared.refusal.Refusal.TheVariants as refusal
 
 -- the exit status of the program after a fault: 0 where the input ended, 2 where a pipe or a report failed, 3 where memory ran out, 5
 -- where the disk failed
@@ -10,3 +12,18 @@ status_after Ended = 0
 status_after Pipe = 2
 status_after Memory = 3
 status_after Disk = 5
+
+-- the exit status of a program that can't begin: 3 where memory ran out, 4 where the state is damaged or of another version, 5 where the
+-- disk failed or what is dropped can't be kept, and 1 for arguments, users, prefixes and a state that is in use
+abbrev pub status_refused : Refusal → ℕ
+status_refused refusal.Memory = 3
+status_refused (refusal.Foreign folder) = 4
+status_refused (refusal.Damaged folder place) = 4
+status_refused (refusal.Cut folder) = 5
+status_refused (refusal.Disk folder) = 5
+status_refused (refusal.Options error) = 1
+status_refused (refusal.Prefix prefix) = 1
+status_refused (refusal.UsersFile folder) = 1
+status_refused (refusal.Users folder error) = 1
+status_refused (refusal.State folder) = 1
+status_refused (refusal.OtherPrefix folder) = 1

@@ -1,4 +1,7 @@
 //! Why the program can't begin.
+ghost use Rattle.std.specs.Prelude.{◌≡◌};
+ghost use Rattle.dav_serve.specs.Status.{status_refused};
+
 use crate::options::OptionsError;
 use dav_live::{OpenError, UsersError};
 use std::alloc::AllocError;
@@ -70,11 +73,18 @@ pub fn refused(folder: String, prefix: String, error: OpenError) -> Refusal {
 }
 
 // The exit status of a refusal.
-pub fn status_of(refusal: &Refusal) -> u8 {
+pub fn status_of(refusal: &Refusal) -> u8
+    ensures { result ≡ status_refused refusal.now }
+{
     match refusal {
         Refusal::Memory => 3,
         Refusal::Foreign(_) | Refusal::Damaged(_, _) => 4,
         Refusal::Cut(_) | Refusal::Disk(_) => 5,
-        _ => 1,
+        Refusal::Options(_)
+        | Refusal::Prefix(_)
+        | Refusal::UsersFile(_)
+        | Refusal::Users(_, _)
+        | Refusal::State(_)
+        | Refusal::OtherPrefix(_) => 1,
     }
 }
