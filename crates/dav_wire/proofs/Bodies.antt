@@ -22,6 +22,7 @@ use Rattle.http_server.proofs.MachineLemmas.{head_is_some}
 use Rattle.http_server.proofs.StreamLemmas.{AcceptsRequest-append, accepts_unique}
 use Rattle.dav_wire.specs.Exchange.{most_of}
 use Rattle.dav_wire.specs.History.{HasWork}
+use Rattle.dav_wire.specs.Refusals.{IsStatedWithin}
 use Rattle.dav_wire.specs.Place.{Place, IsBodyAt, Begun, StandsAt, Standing}
 use Rattle.dav_wire.proofs.Streams.{after_front}
 
@@ -161,9 +162,18 @@ module _ {p : Place} {stream interim : List ℕ} (x : Begun p stream interim) wh
       let size = sized x.decoder len _ found.1 rest (rw x.server at is) found.3 in
       omega (arith, most, size, ap (λ (b : Body). length b.bytes) found.2, length-append p.body found.1.bytes)
 
+-- what a head states stays when more comes
+stated_more : {p : Place} {stream interim : List ℕ} (x : Begun p stream interim) (came : List ℕ) → IsStatedWithin p.config stream
+    → IsStatedWithin p.config (stream ++ came)
+stated_more {p} {stream} x came within h len after z =
+    let same = accepts_unique z (AcceptsRequest-append x.accepts came) in
+    let accepts = subst (λ f. AcceptsRequest p.config.limits stream x.head f x.after) (sym same.1) x.accepts in
+    let fits = within x.head len x.after accepts in
+    omega (arith, fits, ap (λ (k : RequestHead). most_of p.config k.method) same.0)
+
 Standing-at : (b : Bool) (p : Place) (stream interim came : List ℕ) → StandsAt b p stream interim
     → StandsAt b (record p { unread = p.unread ++ came }) (stream ++ came) interim
-Standing-at true p stream interim came x = (Begun-append x.0 came, x.1)
+Standing-at true p stream interim came x = (Begun-append x.0 came, x.1, stated_more x.0 came x.2)
 Standing-at false p stream interim came x =
     record { server = x.server; unread = ap (λ (t : List ℕ). t ++ came) x.unread; body = x.body; silent = x.silent }
 

@@ -4,6 +4,7 @@ use Rattle.std.proofs.lemmas.List.{length-map, take_all}
 use Rattle.httparse.specs.declared.spans.Span.{Span}
 use Rattle.httparse.specs.declared.spans.HeaderSpan.{HeaderSpan}
 use Rattle.httparse.specs.declared.spans.RequestSpans.{RequestSpans}
+use Rattle.httparse.specs.Grammar.{RequestHead}
 use Rattle.httparse.specs.Spans.{span_bytes, header_bytes, name_and_value}
 use Rattle.http1.specs.declared.conn.Event.{Event}
 use Rattle.http1.specs.declared.conn.Event.TheVariants as event
@@ -12,7 +13,8 @@ use Rattle.http1.specs.declared.conn.Reading.TheVariants as Reads
 use Rattle.http1.specs.declared.error.ReadError.{ReadError}
 use Rattle.http1.specs.declared.server.Server.{Server}
 use Rattle.http1.specs.Body.{body_of, ReadsBody}
-use Rattle.http1.specs.Conn.{ReadsPiece}
+use Rattle.http1.specs.declared.conn.BodySize.TheVariants.{Known}
+use Rattle.http1.specs.Conn.{ReadsPiece, unread_size}
 use Rattle.http1.specs.Decoder.{Completes, with_front, decoder_for}
 use Rattle.http1.specs.Framing.{method_kind}
 use Rattle.http1.specs.Message.{AcceptsRequest}
@@ -25,6 +27,7 @@ use Rattle.http_server.proofs.StreamLemmas.{AcceptsRequest-append, accepts_uniqu
 use Rattle.dav_wire.specs.declared.answer.Asked.{Asked}
 use Rattle.dav_wire.specs.Exchange.{most_of}
 use Rattle.dav_wire.specs.History.{HasWork}
+use Rattle.dav_wire.specs.Refusals.{IsStatedWithin}
 use Rattle.dav_wire.specs.Place.{Place, IsBodyAt, Begun, invitation, IsBetween, StandsAt, Standing, IsStarved, HasHead, HasPiece, HasEnd, IsWhole, work}
 use Rattle.dav_wire.proofs.Bodies.{IsBodyAt-start, ends_first, Begun-step, begun_some, reads_on, begun_invited, is_unfinished}
 
@@ -82,6 +85,7 @@ module _ (p : Place) (stream interim : List ℕ) (spans : List HeaderSpan) (new 
         within = within;
         some = piece.3;
         fits = x.1;
+        stated = x.2;
         onward = Begun-step x.0 piece.0 s.end _ new piece.4 (rw piece.1 at found.2);
       }
 
@@ -136,6 +140,7 @@ module _ (p : Place) (stream interim : List ℕ) (spans : List HeaderSpan) (new 
         });
         unfinished = λ m rest z. none.2 m.head z.after_head z.head.reads;
         invited = λ waits. absurd (none.2 waits.0 waits.2 waits.3.reads);
+        within = λ h len after z. absurd (none.2 h after z.reads);
       }
   waits_at true within x is =
       let found = in_its_body x.0 in
@@ -143,9 +148,10 @@ module _ (p : Place) (stream interim : List ℕ) (spans : List HeaderSpan) (new 
       let next : Begun (record p { unread = drop read.consumed p.unread; server = new; body = p.body ++ [] }) stream interim =
       Begun-step x.0 starves.0 read.consumed [] new starves.2.continues (rw starves.1 at found.2) in
       record {
-        standing = subst (λ b. StandsAt b after_read stream interim) (sym within) (rw append-nil at next, x.1);
+        standing = subst (λ b. StandsAt b after_read stream interim) (sym within) (rw append-nil at next, x.1, x.2);
         unfinished = is_unfinished x.0 (starves.2.unfinished x.0.ends);
         invited = begun_invited x.0;
+        within = x.2;
       }
 
   -- what no event of a request is
@@ -297,6 +303,18 @@ module _ {p : Place} {spans : List HeaderSpan} {r : RequestSpans} {stream interi
         (ap (λ (u : List ℕ). drop r.len u) (sym x.unread) ∙ sym left) (sym x.body)
         (IsBodyAt-start p.config.limits x.takes.framing (drop r.len stream));
   }
+
+  -- it states no longer body than it may have
+  pub states_within : (method : List ℕ) (most : ℕ) → method ≡ span_bytes p.unread r.method → most ≡ most_of p.config method
+      → ((len : ℕ) → unread_size (reading p.server) ≡ Known len → len ≤ most) → IsStatedWithin p.config stream
+  states_within method most named most_is short h len after z =
+      let same = accepts_unique z head_accepted in
+      let size : unread_size (reading p.server) ≡ Known len =
+      ap (λ s. unread_size (reading s)) x.takes.next
+      ∙ ap (λ f. unread_size (Reads.Body (decoder_for p.config.limits f))) (sym same.1) in
+      let is : most ≡ most_of p.config h.method =
+      most_is ∙ ap (most_of p.config) (named ∙ head_method ∙ ap (λ (k : RequestHead). k.method) (sym same.0)) in
+      omega (arith, short len size, is)
 
   -- the work that is left is less
   pub head_less : (unread : List ℕ) → unread ≡ drop r.len p.unread → r.len ≤ length p.unread

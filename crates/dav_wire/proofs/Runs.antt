@@ -17,7 +17,7 @@ use Rattle.dav_wire.specs.declared.state.State.TheVariants.{Open, Closing, Abort
 use Rattle.dav_wire.specs.Exchange.{Call, Serves, most_of}
 use Rattle.dav_wire.specs.History.{History, written, HasWork, IsCalledFor, MayBeCalledFor, IsUnsendable, Stands, IsServed, Rests, new_history, after_sent}
 use Rattle.dav_wire.specs.Place.{Place, place, history_of, Base, IsRunning, HoldsAt, Holds, Standing, IsStarved, aborted, closed_with, Reaches}
-use Rattle.dav_wire.specs.Refusals.{IsRefusedFor, closing_text, refusal_status}
+use Rattle.dav_wire.specs.Refusals.{IsRefusedFor, IsStatedWithin, closing_text, refusal_status}
 use Rattle.dav_wire.proofs.Bodies.{Standing-append}
 use Rattle.dav_wire.proofs.Streams.{ReadsCall-append, Exchanges-append, Serves-append, aligned, NextIs-append, HasWork-append}
 
@@ -333,6 +333,10 @@ rests p h b calls x going is_open room = (
         ∣ (b.text, b.written_is ∙ ap (λ (t : List ℕ). b.text ++ t) (x.invited (subst (ExpectsContinue p.config.limits) same waits))) ∣₁
     | inr more ↦ absurd (x.unfinished more.0 more.1 more.2)
   ],
+  λ ms rest z count. elim (aligned p.config b.answered ms h.received b.text b.rest rest b.serves z) [
+    | inl fits ↦ subst (IsStatedWithin p.config) (sym (fits.1 (count ∙ ap length calls))) x.within
+    | inr more ↦ absurd (x.unfinished more.0 more.1 more.2)
+  ],
 )
 
 -- what it says leaves nothing to choose
@@ -341,4 +345,5 @@ settled config h x is_open room = (
   ∥∥₁_elim x (Bool-set _ _) (λ r. (r is_open room).0),
   λ ms rest z. ∥∥₁_elim x (search props) (λ r. (r is_open room).1 ms rest z),
   λ ms rest z count waits. ∥∥₁_elim x ∥∥₁_prop (λ r. (r is_open room).2 ms rest z count waits),
+  λ ms rest z count k len after w. ∥∥₁_elim x (search props) (λ r. (r is_open room).3 ms rest z count k len after w),
 )

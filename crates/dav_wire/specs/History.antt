@@ -17,7 +17,7 @@ use Rattle.dav_wire.specs.declared.state.State.{State}
 use Rattle.dav_wire.specs.declared.state.State.TheVariants.{Open, Closing, Aborted}
 use Rattle.dav_wire.specs.declared.state.Reason.TheVariants.{Asked, EndOfInput, Refused, Unsendable}
 use Rattle.dav_wire.specs.Exchange.{Call, ReadsCall, Exchanges, Serves}
-use Rattle.dav_wire.specs.Refusals.{IsRefusedFor, closing_text, refusal_status}
+use Rattle.dav_wire.specs.Refusals.{IsRefusedFor, IsStatedWithin, closing_text, refusal_status}
 
 pub record History : Type 0 where
   pub state : State
@@ -122,11 +122,17 @@ IsInvited limits h =
     (ms : List Wire.Request) (rest : List ℕ) → ReadsRequests limits h.received ms rest → length ms ≡ length h.calls
     → ExpectsContinue limits rest → ∥ ((front : List ℕ) × (written h ≡ front ++ continue_text)) ∥₁
 
+-- that request states no longer body than it may have: one that does was refused
+abbrev pub IsNextWithin : Config → History → Type 0
+IsNextWithin config h =
+    (ms : List Wire.Request) (rest : List ℕ) → ReadsRequests config.limits h.received ms rest → length ms ≡ length h.calls
+    → IsStatedWithin config rest
+
 -- an open connection with room in its output waits for input, and for that alone
 abbrev pub Rests : Config → History → Type 0
 Rests config h =
     h.state ≡ Open → length h.pending ≤ config.max_pending
-    → IsFalse h.ended × AreAllCalled config.limits h × IsInvited config.limits h
+    → IsFalse h.ended × AreAllCalled config.limits h × IsInvited config.limits h × IsNextWithin config h
 
 -- nothing was taken and nothing was sent
 abbrev pub IsQuiet : History → History → Type 0

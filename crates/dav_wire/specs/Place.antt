@@ -35,7 +35,7 @@ use Rattle.dav_wire.specs.declared.state.State.{State}
 use Rattle.dav_wire.specs.declared.state.State.TheVariants.{Open, Closing, Aborted}
 use Rattle.dav_wire.specs.Exchange.{Call, ReadsCall, Serves, most_of}
 use Rattle.dav_wire.specs.History.{History, written, HasWork, IsServed, Rests}
-use Rattle.dav_wire.specs.Refusals.{IsRefusedFor}
+use Rattle.dav_wire.specs.Refusals.{IsRefusedFor, IsStatedWithin}
 
 -- what the proofs read of an intake
 pub record Place : Type 0 where
@@ -99,7 +99,7 @@ pub record IsBetween (p : Place) (stream interim : List ℕ) : Type 0 where
 
 -- The reader is within the body of the request that begins the stream, for which this much was written, or at its start.
 abbrev pub StandsAt : Bool → Place → List ℕ → List ℕ → Type 0
-StandsAt true p stream interim = Begun p stream interim × (length p.body ≤ p.most)
+StandsAt true p stream interim = Begun p stream interim × (length p.body ≤ p.most) × IsStatedWithin p.config stream
 StandsAt false p stream interim = IsBetween p stream interim
 
 abbrev pub Standing : Place → List ℕ → List ℕ → Type 0
@@ -110,6 +110,7 @@ pub record IsStarved (p : Place) (stream interim : List ℕ) : Type 0 where
   pub standing : Standing p stream interim
   pub unfinished : HasNoMessage p.config.limits stream
   pub invited : ExpectsContinue p.config.limits stream → interim ≡ continue_text
+  pub within : IsStatedWithin p.config stream
 
 -- the request that begins the stream was read whole
 pub record IsWhole (p : Place) (stream : List ℕ) (asked : Asked) (bodiless : Bool) : Type 0 where
@@ -149,6 +150,7 @@ pub record HasPiece (p : Place) (piece : Span) (stream interim : List ℕ) : Typ
   pub within : p.within ≡ true
   pub some : piece.start < piece.end
   pub fits : length p.body ≤ p.most
+  pub stated : IsStatedWithin p.config stream
   pub onward : Begun (record p { unread = drop piece.end p.unread; body = p.body ++ span_bytes p.unread piece }) stream interim
 
 -- the end of the request that begins the stream was read

@@ -1,5 +1,8 @@
 -- Why a request is refused, and the texts that the connection sends of its own.
-use Rattle.std.specs.Prelude.{◌≢◌, ℕ, ◌<◌, ◌||◌, ◌==◌, Bool, List, [], ◌∷◌, length, codes, if◌then◌else◌, IsTrue}
+use Rattle.std.specs.Prelude.{◌≢◌, ℕ, ◌<◌, ◌||◌, ◌==◌, Bool, List, [], ◌∷◌, length, codes, if◌then◌else◌, IsTrue, ◌≤◌}
+use Rattle.httparse.specs.Grammar.{RequestHead}
+use Rattle.http1.specs.declared.framing.Framing.TheVariants.{Length}
+use Rattle.http1.specs.Message.{AcceptsRequest}
 use Rattle.http1.specs.ReadError.{status_of}
 use Rattle.http1.specs.Head.{response_text}
 use Rattle.http1_typed.specs.Parts.{reason_of}
@@ -28,6 +31,11 @@ closing_fields = (codes "connection", codes "close") ∷ (codes "content-length"
 -- a response with this status, its phrase and these fields
 abbrev pub closing_text : ℕ → List ℕ
 closing_text status = response_text 1 status (reason_of status) closing_fields
+
+-- the request that begins the stream states no longer body than its method may have (RFC 9112, section 6.2)
+abbrev pub IsStatedWithin : Config → List ℕ → Type 0
+IsStatedWithin config stream =
+    (h : RequestHead) (len : ℕ) (after : List ℕ) → AcceptsRequest config.limits stream h (Length len) after → len ≤ most_of config h.method
 
 -- Why the request that begins the stream is refused: the input ended within it; or, whatever bytes might follow, it has too
 -- many fields, or can't be read at all, or its body is longer than its method may have, or has an unknown coding.

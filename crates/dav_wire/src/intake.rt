@@ -1,8 +1,9 @@
 //! The bytes that came, and the request that is being cut from them.
-ghost use Rattle.std.specs.Prelude.{◌≡◌, ◌≢◌, ◌≤◌, List, ℕ, [], false, length, IsTrue, IsFalse, IfOk, OnErr};
+ghost use Rattle.std.specs.Prelude.{◌≡◌, ◌≢◌, ◌<◌, ◌≤◌, List, ℕ, [], false, length, IsTrue, IsFalse, IfOk, OnErr};
 ghost use Rattle.httparse.specs.Spans.{IsRequestWithin, IsWithin};
 ghost use Rattle.http1.specs.Framing.{method_kind};
-ghost use Rattle.http1.specs.Server.{is_head};
+ghost use Rattle.http1.specs.Conn.{unread_size};
+ghost use Rattle.http1.specs.Server.{is_head, reading};
 ghost use Rattle.http_server.specs.declared.state.TheConstants.{MAX_HEADERS};
 
 use crate::answer::Asked;
@@ -148,15 +149,26 @@ impl Intake {
         self.head.extend_from_slice(&input[..head.len])?;
         self.input.advance(head.len);
         self.is_within = true;
-        if let BodySize::Known(len) = self.server.unread_size()
-            && len > self.most as u64
-        {
+        if self.states_too_much() {
             return Ok(Found::Refused(Refusal::BodyTooLong));
         }
         if self.server.expects_continue() {
             Ok(Found::Invitation)
         } else {
             Ok(Found::Part)
+        }
+    }
+
+    // Whether the head states a longer body than it may have.
+    fn states_too_much(&self) -> bool
+        ensures long { IsTrue result → (len : ℕ)
+            × (unread_size (reading self.now.server) ≡ BodySize.Known len) × (self.now.most < len) }
+        ensures short { IsFalse result → (len : ℕ)
+            → unread_size (reading self.now.server) ≡ BodySize.Known len → len ≤ self.now.most }
+    {
+        match self.server.unread_size() {
+            BodySize::Known(len) => len > self.most as u64,
+            _ => false,
         }
     }
 
