@@ -57,6 +57,7 @@ pub mod DeletedWorlds
 pub mod CopiedWorlds
 pub mod OneCopy
 pub mod UnrefusedCopies
+pub mod RefusalLemmas
 pub mod UnrefusedListings
 pub mod Theorems
 pub mod GuardedFolders

@@ -1,9 +1,10 @@
 -- What a PROPFIND tells of, where the store refuses neither to list what is there nor to tell of it.
-use Rattle.std.proofs.Common.{◌≡◌, ℕ, zero, suc, ◌+◌, ◌≤◌, ◌<◌, ◌^◌, ◌-◌, ◌&&◌, ◌++◌, arith, codes, Bool, true, false, true≢false, List, [], ◌∷◌, All, length, map, Option, Some, None, Result, Ok, Err, refl, sym, ap, subst, ◌∙◌}
+use Rattle.std.proofs.Common.{◌≡◌, ℕ, zero, suc, ◌+◌, ◌≤◌, ◌<◌, ◌^◌, ◌-◌, ◌&&◌, ◌++◌, arith, codes, Bool, true, false, true≢false, not, List, [], ◌∷◌, All, length, map, Option, Some, None, Result, Ok, Err, refl, sym, ap, subst, ◌∙◌}
 use Rattle.std.proofs.lemmas.List.{append-nil}
 use Rattle.std.proofs.lemmas.List.Elements.{All-head, All-tail, All-weaker, All-contains_itself}
 use Rattle.std.specs.Prelude.{⊤, Contains, IsSomeAnd, is_none}
 use Rattle.std.specs.List.{filter}
+use Rattle.std.specs.Result.{is_ok}
 use Rattle.std.specs.FinMap.{find}
 use Rattle.http_header.specs.FieldValue.{FieldValue}
 use Rattle.http_header.specs.HeaderMap.{get_all}
@@ -31,7 +32,8 @@ use Rattle.dav_engine.specs.Method.{MethodPlan, required, refused_as}
 use Rattle.dav_engine.specs.Plan.{Ran}
 use Rattle.dav_engine.specs.Properties.{Writer, writer, QuotaKnown}
 use Rattle.dav_engine.specs.Propfind.{Responses, Below, is_infinite, is_served_depth, tells_itself, tells_members, tell_itself, propfind_if, query_in, tell_member, tell_if_found, tell_members, tell_listed, tell_below, FindHeaders, propfind_found, propfind, is_propfind}
-use Rattle.dav_engine.specs.PropfindLaws.{IsServerPrefix, AreResponsesFor, none_told, one_told, responses_in, AreWithAllBelow, no_member, one_member, AreBelow, AreListed, itself, with_members, members_alone, with_all_below, HasFewNames, ListAll, IsListing, AsksListing, path_in, member_paths, ListingsAreWhole}
+use Rattle.dav_engine.specs.PropfindLaws.{IsServerPrefix, AreResponsesFor, none_told, one_told, responses_in, AreWithAllBelow, no_member, one_member, AreBelow, AreListed, itself, with_members, members_alone, with_all_below, HasFewNames, ListAll, AsksListing, path_in, member_paths, ListingsAreWhole}
+use Rattle.dav_engine.specs.RefusedCalls.{lists_what_is_there}
 use Rattle.dav_engine.specs.Reply.{Header, Reply}
 use Rattle.dav_engine.specs.WorldLaws.{OnlyReads, MayTell}
 use Rattle.dav_engine.proofs.CallWorlds.{Did, stays, means, did}
@@ -79,11 +81,11 @@ by_false : (b : Bool) → (b ≡ true → false ≡ true) → b ≡ false
 by_false false clash = refl
 by_false true clash = absurd (true≢false (sym (clash refl)))
 
-by_true : (b : Bool) → (b ≡ false → false ≡ true) → b ≡ true
+by_true : (b : Bool) → (not b ≡ true → false ≡ true) → b ≡ true
 by_true true clash = refl
 by_true false clash = absurd (true≢false (sym (clash refl)))
 
-said : (w v : World) (c : Call) (a : Result (Answer c) FsError) → Did (meaning c w) w a v → IsListing w c a → SaidIn w c a
+said : (w v : World) (c : Call) (a : Result (Answer c) FsError) → Did (meaning c w) w a v → (lists_what_is_there w c ≡ true → is_ok a ≡ true) → SaidIn w c a
 said w v (Metadata p) (Ok m) d listing = said_metadata w v p m d
 said w v (Metadata p) (Err e) d listing = tt
 said w v (EntryMetadata p) (Ok m) d listing = said_entry w v p m d

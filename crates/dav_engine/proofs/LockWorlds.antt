@@ -28,9 +28,10 @@ use Rattle.dav_engine.specs.Headers.{Headers, Decodes}
 use Rattle.dav_engine.specs.Lock.{one_token, token_to_refresh, keep_refreshed, refresh, refreshed_reply, lock_again, lock_of, asked_lock, grant, taken_back, empty_opening, empty_error, create_or_unlock, make_empty, granted_reply, lock_new, is_absent, lock, is_lock}
 use Rattle.dav_engine.specs.LockHeaders.{LockHeaders, AreLockHeaders, refreshed_for}
 use Rattle.dav_engine.specs.LockInfo.{LockInfo, lock_info}
-use Rattle.dav_engine.specs.LockLaws.{GrantsLock, with_empty, LockGrants, RefreshesLock, LockRefreshes, IsUnused, IsRefusedFile, RefusedLockLeavesAll, AsksNoFile, EarlyRefusedLockLeavesAll}
+use Rattle.dav_engine.specs.LockLaws.{GrantsLock, with_empty, LockGrants, RefreshesLock, LockRefreshes, IsUnused, IsRefusedFile, RefusedLockLeavesAll, UnrefusedLockLeavesAll}
 use Rattle.dav_engine.specs.Method.{MethodPlan, then as followed_by, ◌>>=◌, require_free, required, unless_status, gives, fails, require_parent}
 use Rattle.dav_engine.specs.Plan.{Plan, Locks, Done, Keep, CallStep, Ran, ran_done, ran_ask, ran_look, ran_keep}
+use Rattle.dav_engine.specs.RefusedCalls.{AsksAnswered, opens_file}
 use Rattle.dav_engine.specs.Reply.{Header, Reply}
 use Rattle.dav_engine.proofs.CallWorlds.{stays, means, did, did_leave}
 use Rattle.dav_engine.proofs.ChildLemmas.{names_closed}
@@ -309,11 +310,11 @@ refused_lock_leaves_all headers p body who plan old new (Some ls) ms e (is_lock 
     (λ q before after refusal one only same reason. is_unused headers who (Some ls) e (empty_error (empty_opening h.conditions) refusal) same (is_refused_file headers h.conditions are.conditions.none_match only refusal) reason)
     p body ran
 
--- so does one that ends before a file is asked for
-pub early_refused_lock_leaves_all : EarlyRefusedLockLeavesAll
-early_refused_lock_leaves_all headers p body who plan old new None ms e (is_lock h are) (ran_look ran) = ended ran
-early_refused_lock_leaves_all headers p body who plan old new (Some ls) ms e (is_lock h are) ran =
-    let leaves = refused_leaves AsksNoFile (λ c old answer new one. one.1) h who ls e ⊤ (λ q before after refusal one only same reason. absurd one.0) p body ran in
+-- so does one to which the store refuses no file
+pub unrefused_lock_leaves_all : UnrefusedLockLeavesAll
+unrefused_lock_leaves_all headers p body who plan old new None ms e (is_lock h are) (ran_look ran) = ended ran
+unrefused_lock_leaves_all headers p body who plan old new (Some ls) ms e (is_lock h are) ran =
+    let leaves = refused_leaves (AsksAnswered opens_file) (λ c old answer new one. one.0) h who ls e ⊤ (λ q before after refusal one only same reason. absurd (true≢false (sym (one.1 refl)))) p body ran in
     (leaves.0, leaves.1 tt)
 
 -- ---- a refresh

@@ -20,7 +20,7 @@ ran_unset (ran_look rest) u = ran_unset rest u
 ran_unset (ran_keep rest) u = ran_unset rest u
 
 -- where the store never ran out of memory, an answer and the state that it leaves are determined
-asks_same : {c : Call} {old s t : StoreState} {a b : Result (Answer c) FsError} → Asks c old a s → s.short ≡ false → Asks c old b t → t.short ≡ false → (a ≡ b) × (s ≡ t)
+pub asks_same : {c : Call} {old s t : StoreState} {a b : Result (Answer c) FsError} → Asks c old a s → s.short ≡ false → Asks c old b t → t.short ≡ false → (a ≡ b) × (s ≡ t)
 asks_same (asked h) u (asked h') u' =
     let both = h.as_asked ∙ sym h'.as_asked in
     (ap (λ p. p.0) both, λ i. record { world = (both i).1; refusals = (h.refusals ∙ sym h'.refusals) i; short = (h.short ∙ sym h'.short) i })

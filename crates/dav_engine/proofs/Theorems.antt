@@ -27,7 +27,7 @@ pub use Rattle.dav_engine.proofs.ListChangeLemmas.{lists_are_changed, lists_are_
 pub use Rattle.dav_engine.proofs.LockChanges.{lock_changes_list}
 pub use Rattle.dav_engine.proofs.LockPlans.{only_asked, only_token, lock_is_proper, lock_keeps_locks}
 pub use Rattle.dav_engine.proofs.LockSparing.{lock_spares}
-pub use Rattle.dav_engine.proofs.LockWorlds.{lock_grants, lock_refreshes, refused_lock_leaves_all, early_refused_lock_leaves_all}
+pub use Rattle.dav_engine.proofs.LockWorlds.{lock_grants, lock_refreshes, refused_lock_leaves_all, unrefused_lock_leaves_all}
 pub use Rattle.dav_engine.proofs.LockTokenLemmas.{last_is, one_lock_token, token_said}
 pub use Rattle.dav_engine.proofs.ListingsTold.{listings_are_whole}
 pub use Rattle.dav_engine.proofs.ModelLemmas.{serves_from}
@@ -39,6 +39,7 @@ pub use Rattle.dav_engine.proofs.PlainLemmas.{open_names}
 pub use Rattle.dav_engine.proofs.PlanLemmas.{ran_same, ran_unset, Comes, comes}
 pub use Rattle.dav_engine.proofs.PropertyPlans.{propfind_only_reads, propfind_is_proper, proppatch_is_proper, proppatch_keeps_locks, proppatch_changes_list}
 pub use Rattle.dav_engine.proofs.PutWorld.{only_guarded, only_free, look_reads, only_put_allowed, only_mkcol_allowed, IsLook, looks, only_conditions, put_is_proper, mkcol_is_proper, create_only_leaves_all, creates_only}
+pub use Rattle.dav_engine.proofs.RefusalLemmas.{answered_or_refused, answered_is_run, refused_is_run, not_both, refused_behind}
 pub use Rattle.dav_engine.proofs.RemovalReports.{Gives, gives_done, gives_ask, gives_look, gives_keep, gives_removal}
 pub use Rattle.dav_engine.proofs.SomePlanLemmas.{some_conditions, some_put_plan, some_mkcol_plan, some_delete_plan, some_unlock_plan, some_lock_plan, some_copymove_plan, some_propfind_plan, some_proppatch_plan}
 pub use Rattle.dav_engine.proofs.SparingCopy.{copymove_spares}

@@ -9,7 +9,8 @@ use Rattle.dav_core.specs.Asking.{Call, Answer, StoreState, meaning, ask, answer
 use Rattle.dav_core.specs.Meaning.{refuse_if, at_node}
 use Rattle.dav_core.specs.World.{World, Node, node_at, is_folder_node, is_file, is_file_node, is_missing}
 use Rattle.dav_engine.specs.Plan.{Plan, Locks, Ran, ran_done, ran_ask, ran_look, ran_keep}
-use Rattle.dav_engine.specs.PropfindLaws.{IsListing, AsksListing, UnrefusedRunsList}
+use Rattle.dav_engine.specs.PropfindLaws.{AsksListing, UnrefusedRunsList}
+use Rattle.dav_engine.specs.RefusedCalls.{lists_what_is_there}
 use Rattle.dav_engine.proofs.PlanLemmas.{ran_unset}
 
 abbrev pub IsNone : Option FsError → Type 0
@@ -38,29 +39,37 @@ folder_there : (o : Option Node) → is_folder_node o ≡ true → (is_none o �
 folder_there None is = absurd (true≢false (sym is))
 folder_there (Some n) is = (refl, ap not is)
 
-lists : {c : Call} {old new : StoreState} {a : Result (Answer c) FsError} → All IsNone old.refusals → new.short ≡ false → Asks c old a new → IsListing old.world c a
+by_not : (b : Bool) → not b ≡ true → b ≡ false
+by_not false is = refl
+by_not true is = absurd (true≢false (sym is))
+
+-- a call of another kind
+other : {A : Type 0} → false ≡ true → A
+other is = absurd (true≢false (sym is))
+
+lists : {c : Call} {old new : StoreState} {a : Result (Answer c) FsError} → All IsNone old.refusals → new.short ≡ false → Asks c old a new → (lists_what_is_there old.world c ≡ true → is_ok a ≡ true)
 unfolding meaning
-lists {c = Metadata p} none unset one = tt
-lists {c = EntryMetadata p} {old} none unset one = λ there. ap is_ok (answer_is none unset one) ∙ is_at old.world (node_at old.world p) _ there
+lists {c = Metadata p} none unset one = other
+lists {c = EntryMetadata p} {old} none unset one = λ there. ap is_ok (answer_is none unset one) ∙ is_at old.world (node_at old.world p) _ (by_not (is_missing old.world p) there)
 lists {c = ReadDir p} {old} none unset one = λ folder. let (there, kind) = folder_there (node_at old.world p) folder in ap is_ok (answer_is none unset one) ∙ goes_on old.world (is_missing old.world p) (is_file old.world p) _ there kind
-lists {c = CreateDir p now} none unset one = tt
-lists {c = RemoveDir p now} none unset one = tt
-lists {c = RemoveFile p now} none unset one = tt
-lists {c = Rename from to now} none unset one = tt
-lists {c = Copy from to now} none unset one = tt
-lists {c = HaveProps p} none unset one = tt
-lists {c = PatchProps p patches} none unset one = tt
-lists {c = GetProps p content} none unset one = tt
-lists {c = GetProp p key} none unset one = tt
-lists {c = GetQuota} none unset one = tt
-lists {c = SetAccessed p now} none unset one = tt
-lists {c = SetModified p now} none unset one = tt
-lists {c = Open p how now} none unset one = tt
-lists {c = Read file count} none unset one = tt
-lists {c = Write file bytes now} none unset one = tt
-lists {c = Seek file to} none unset one = tt
-lists {c = Flush file} none unset one = tt
-lists {c = FileMetadata file} none unset one = tt
+lists {c = CreateDir p now} none unset one = other
+lists {c = RemoveDir p now} none unset one = other
+lists {c = RemoveFile p now} none unset one = other
+lists {c = Rename from to now} none unset one = other
+lists {c = Copy from to now} none unset one = other
+lists {c = HaveProps p} none unset one = other
+lists {c = PatchProps p patches} none unset one = other
+lists {c = GetProps p content} none unset one = other
+lists {c = GetProp p key} none unset one = other
+lists {c = GetQuota} none unset one = other
+lists {c = SetAccessed p now} none unset one = other
+lists {c = SetModified p now} none unset one = other
+lists {c = Open p how now} none unset one = other
+lists {c = Read file count} none unset one = other
+lists {c = Write file bytes now} none unset one = other
+lists {c = Seek file to} none unset one = other
+lists {c = Flush file} none unset one = other
+lists {c = FileMetadata file} none unset one = other
 
 rest_none : (rs : List (Option FsError)) → All IsNone rs → All IsNone (rest_of rs)
 rest_none [] none = none

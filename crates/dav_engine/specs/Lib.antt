@@ -46,6 +46,7 @@ pub mod Proppatch
 pub mod Put
 pub mod PutView
 pub mod Reach
+pub mod RefusedCalls
 pub mod Removal
 pub mod RemovalLaws
 pub mod Reply

@@ -3,7 +3,7 @@ use Rattle.std.specs.Prelude.{◌≡◌, ◌≢◌, ◌⊎◌, ⊤, ℕ, ◌++�
 use Rattle.http_header.specs.HeaderMap.{get_all}
 use Rattle.dav_core.specs.declared.errors.DavError.{DavError}
 use Rattle.dav_core.specs.declared.errors.DavError.TheVariants as dav
-use Rattle.dav_core.specs.Asking.{Call, StoreState, Asks, Open}
+use Rattle.dav_core.specs.Asking.{StoreState, Asks}
 use Rattle.dav_core.specs.Locks.{Lock, is_grantable, refreshed}
 use Rattle.dav_core.specs.Path.{Path, PathText, names, star}
 use Rattle.dav_core.specs.World.{World, File, is_folder, is_missing, with_new}
@@ -18,7 +18,8 @@ use Rattle.dav_engine.specs.Lock.{lock_of, is_absent, IsLock}
 use Rattle.dav_engine.specs.LockHeaders.{LockHeaders, AreLockHeaders, refreshed_for}
 use Rattle.dav_engine.specs.LockInfo.{LockInfo, lock_info}
 use Rattle.dav_engine.specs.Method.{MethodPlan}
-use Rattle.dav_engine.specs.Plan.{Locks, CallStep, Ran}
+use Rattle.dav_engine.specs.Plan.{Locks, Ran}
+use Rattle.dav_engine.specs.RefusedCalls.{AsksAnswered, opens_file}
 use Rattle.dav_engine.specs.Reply.{Reply}
 
 -- A list of locks before and after: at its end is one lock more, which was grantable. It has the client's token, the path, with
@@ -89,18 +90,9 @@ RefusedLockLeavesAll =
     → IsLock headers p body who plan → Ran Asks plan old ls (Err e) new ms
     → (new.world ≡ old.world) × (((token : List ℕ) → who.token ≡ Some token → IsUnused token ls) ⊎ (¬ IsRefusedFile headers e) → ms ≡ ls)
 
--- The call opens no file.
-abbrev pub OpensNoFile : Call → Type 0
-OpensNoFile (Open p how now) = ⊥
-OpensNoFile _ = ⊤
-
--- One call of a store that isn't asked to open a file.
-abbrev pub AsksNoFile : CallStep
-AsksNoFile call old answer new = OpensNoFile call × Asks call old answer new
-
--- A LOCK that ends in an error before the store is asked to open the empty file leaves the world and the list of locks,
--- whatever locks there are: also with 412, where a condition failed.
-abbrev pub EarlyRefusedLockLeavesAll : Type 0
-EarlyRefusedLockLeavesAll =
+-- A LOCK that ends in an error, and to which the store refuses no file, leaves the world and the list of locks, whatever locks there
+-- are: also with 412, where a condition failed before a file was asked for.
+abbrev pub UnrefusedLockLeavesAll : Type 0
+UnrefusedLockLeavesAll =
     (headers : Headers) (p : PathText) (body : Body) (who : Caller) (plan : MethodPlan Reply) (old new : StoreState) (ls ms : Locks) (e : DavError)
-    → IsLock headers p body who plan → Ran AsksNoFile plan old ls (Err e) new ms → (new.world ≡ old.world) × (ms ≡ ls)
+    → IsLock headers p body who plan → Ran (AsksAnswered opens_file) plan old ls (Err e) new ms → (new.world ≡ old.world) × (ms ≡ ls)

@@ -6,6 +6,7 @@ use Rattle.dav_core.specs.Asking.{StoreState, Asks}
 use Rattle.dav_core.specs.World.{World}
 use Rattle.dav_engine.specs.Plan.{Locks, Ran, Cut}
 use Rattle.dav_engine.specs.Method.{MethodPlan}
+use Rattle.dav_engine.specs.RefusedCalls.{CallKind, AsksAnswered, RanRefused}
 use Rattle.dav_engine.specs.Reply.{Reply}
 
 -- a store that holds this world, will refuse these calls, and never ran out of memory
@@ -43,3 +44,17 @@ CutsAreLikeRefusals =
     → Cut Asks first plan old ls new ms
     → (refusals : List (Option FsError)) × (a : Result Reply DavError) × (ks : Locks)
     × Ran Asks plan (ample old.world refusals) ls a (ample new.world []) ks × ((ms ≡ first) ⊎ (ms ≡ ks))
+
+-- Of the calls of a kind that a plan makes none is refused, or one is.
+abbrev pub CallsAreAnsweredOrRefused : Type 0
+CallsAreAnsweredOrRefused =
+    (kind : CallKind) (plan : MethodPlan Reply) (old new : StoreState) (ls ms : Locks) (a : Result Reply DavError)
+    → Ran Asks plan old ls a new ms → Ran (AsksAnswered kind) plan old ls a new ms ⊎ RanRefused kind plan old ls a new ms
+
+-- A run in which a call is refused is a run; and where the store never ran out of memory, the plan has no other run with the same outcome
+-- in which no call of the kind is refused.
+abbrev pub RefusedIsNotAnswered : Type 0
+RefusedIsNotAnswered =
+    (kind : CallKind) (plan : MethodPlan Reply) (old new : StoreState) (ls ms : Locks) (a : Result Reply DavError)
+    → RanRefused kind plan old ls a new ms
+    → Ran Asks plan old ls a new ms × (new.short ≡ false → ¬ Ran (AsksAnswered kind) plan old ls a new ms)

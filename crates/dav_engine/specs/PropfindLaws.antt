@@ -1,11 +1,9 @@
 -- Laws of PROPFIND: of which paths its responses are, and that their hrefs lead back there (RFC 4918, sections 9.1 and 14.7).
-use Rattle.std.specs.Prelude.{◌≡◌, ◌≢◌, ◌⊎◌, ℕ, ◌<◌, ◌^◌, ◌++◌, ⊤, Bool, true, false, codes, List, [], ◌∷◌, All, length, map, Option, Some, None, Result, Ok}
-use Rattle.std.specs.Result.{is_ok}
+use Rattle.std.specs.Prelude.{◌≡◌, ◌≢◌, ◌⊎◌, ℕ, ◌<◌, ◌^◌, ◌++◌, Bool, true, false, codes, List, [], ◌∷◌, All, length, map, Option, Some, None, Result, Ok}
 use Rattle.http_header.specs.HeaderMap.{get_all}
-use Rattle.dav_core.specs.declared.errors.FsError.{FsError}
 use Rattle.dav_core.specs.declared.errors.DavError.{DavError}
 use Rattle.dav_core.specs.declared.fs.DavMetaData.{DavMetaData}
-use Rattle.dav_core.specs.Asking.{Call, Answer, StoreState, Asks, ReadDir, EntryMetadata}
+use Rattle.dav_core.specs.Asking.{StoreState, Asks}
 use Rattle.dav_core.specs.Element.{ElementTree}
 use Rattle.dav_core.specs.Path.{Path, PathText, star, names, is_at_or_under}
 use Rattle.dav_core.specs.Target.{Reads}
@@ -26,6 +24,7 @@ use Rattle.dav_engine.specs.Multistatus.{dav_text}
 use Rattle.dav_engine.specs.Plan.{CallStep, Locks, Ran}
 use Rattle.dav_engine.specs.Properties.{Writer, QuotaKnown, WithQuota, properties_of}
 use Rattle.dav_engine.specs.Propfind.{IsPropfind}
+use Rattle.dav_engine.specs.RefusedCalls.{AsksAnswered, lists_what_is_there}
 use Rattle.dav_engine.specs.Reply.{Reply}
 
 -- ---- responses and their paths
@@ -106,15 +105,9 @@ pub data AreListed (w : World) (p : PathText) : Option Depth → List PathText �
 
 -- ---- where nothing is refused
 
--- The store neither refuses to list a folder that is there, nor the metadata of a member that is there.
-abbrev pub IsListing : World → (call : Call) → Result (Answer call) FsError → Type 0
-IsListing w (ReadDir p) answer = is_folder w p ≡ true → is_ok answer ≡ true
-IsListing w (EntryMetadata p) answer = is_missing w p ≡ false → is_ok answer ≡ true
-IsListing w _ answer = ⊤
-
 -- One call of a lawful store that neither refuses to list a folder that is there, nor the metadata of a member that is there.
 abbrev pub AsksListing : CallStep
-AsksListing call old answer new = Asks call old answer new × IsListing old.world call answer
+AsksListing = AsksAnswered lists_what_is_there
 
 -- A store to which no refusal is left, and that doesn't run out of memory, lists each folder and gives the metadata of each member.
 abbrev pub UnrefusedRunsList : Type 0

@@ -3,9 +3,9 @@ ghost use Rattle.dav_engine.specs.CopyLaws.{CopiesLeaveCopies, CopyLeavesCopies,
 ghost use Rattle.dav_engine.specs.Date.{DatesOfMoments};
 ghost use Rattle.dav_engine.specs.InternetDate.{WritesInternetDates};
 ghost use Rattle.dav_engine.specs.LanguageLaws.{AcceptedLanguagesAreRead};
-ghost use Rattle.dav_engine.specs.LockLaws.{LockGrants, LockRefreshes, RefusedLockLeavesAll, EarlyRefusedLockLeavesAll};
+ghost use Rattle.dav_engine.specs.LockLaws.{LockGrants, LockRefreshes, RefusedLockLeavesAll, UnrefusedLockLeavesAll};
 ghost use Rattle.dav_engine.specs.OnePlan.{OneReadingOfConditions, OnePutPlan, OneMkcolPlan, OneDeletePlan, OneUnlockPlan, OneLockPlan, OneCopyMovePlan, OnePropfindPlan, OneProppatchPlan};
-ghost use Rattle.dav_engine.specs.PlanLaws.{PlansAreDetermined, PlansEnd, OutOfMemoryIsARefusal, CutsAreLikeRefusals};
+ghost use Rattle.dav_engine.specs.PlanLaws.{PlansAreDetermined, PlansEnd, OutOfMemoryIsARefusal, CutsAreLikeRefusals, CallsAreAnsweredOrRefused, RefusedIsNotAnswered};
 ghost use Rattle.dav_engine.specs.StoredLaws.{SetIsKept, PatchedIsKept, KeptIsTold};
 ghost use Rattle.dav_engine.specs.PropfindLaws.{PropertiesLeadBack, ResponsesLeadBack, ListingsAreWhole, UnrefusedRunsList};
 ghost use Rattle.dav_engine.specs.ProppatchLaws.{RefusedProppatchLeavesAll, ProppatchMakesAllOrNone};
@@ -38,6 +38,13 @@ pub fn want_is_like_refusals()
 #[tactic(auto, using(crate::proofs::PlanAnswers::cuts_are_like_refusals))]
 pub fn cuts_are_like_refusals()
     ensures { CutsAreLikeRefusals }
+{}
+
+/// Of the calls of a kind that a plan makes none is refused, or one is; and not both, where the store never ran out of memory.
+#[tactic(auto, using(crate::proofs::RefusalLemmas::calls_are_answered_or_refused, crate::proofs::RefusalLemmas::refused_is_not_answered))]
+pub fn calls_are_answered_or_refused()
+    ensures either { CallsAreAnsweredOrRefused }
+    ensures both { RefusedIsNotAnswered }
 {}
 
 /// Headers say one thing as conditions, and a PUT, PATCH, MKCOL, DELETE, COPY, MOVE, LOCK, UNLOCK, PROPFIND or PROPPATCH has one
@@ -192,14 +199,14 @@ pub fn unlocks_end_one_lock()
 /// stay as they are; so does the world, but where nothing was at the path an empty file is made there. One without a body
 /// gives the lock that the only token submitted and the path, which isn't `*`, mean a new timeout, and leaves all else. An error
 /// leaves the world; it leaves the list of locks too where no lock has the client's token, where it is no error of the empty file,
-/// as 400, 405 and 423 never are, nor 412 unless If-None-Match is `*`, and where it comes before the store is asked for that file.
+/// as 400, 405 and 423 never are, nor 412 unless If-None-Match is `*`, and where the store refused no file.
 /// All of this whatever the store refuses (RFC 4918, sections 7 and 9.10).
-#[tactic(auto, using(crate::proofs::LockWorlds::lock_grants, crate::proofs::LockWorlds::lock_refreshes, crate::proofs::LockWorlds::refused_lock_leaves_all, crate::proofs::LockWorlds::early_refused_lock_leaves_all))]
+#[tactic(auto, using(crate::proofs::LockWorlds::lock_grants, crate::proofs::LockWorlds::lock_refreshes, crate::proofs::LockWorlds::refused_lock_leaves_all, crate::proofs::LockWorlds::unrefused_lock_leaves_all))]
 pub fn locks_are_granted_or_refreshed()
     ensures grants { LockGrants }
     ensures refreshes { LockRefreshes }
     ensures refused { RefusedLockLeavesAll }
-    ensures early { EarlyRefusedLockLeavesAll }
+    ensures unrefused { UnrefusedLockLeavesAll }
 {}
 
 /// Hrefs lead back: the one href of what is told of a path, as the target of a request, is to this path; and each response to a

@@ -20,7 +20,7 @@ use dav_engine::{Body, Reply};
 use dav_server::davhandler::{DavHandler, HandlerError};
 use dav_server::exchange::{Exchange, GrantToken};
 use dav_server::refusing::Refusing;
-use dav_server::run::{RunFault, Turn, run_refused};
+use dav_server::run::{RunFault, Step, run_refused};
 use dav_store::memfs::MemFs;
 use dav_store::memls::MemLs;
 use std::alloc::{AllocError, AllocFailed, Global};
@@ -217,7 +217,7 @@ fn play_alone<W: Write>(
 fn play_turns<W: Write>(
     handler: &mut DavHandler<Refusing<MemFs>, MemLs>,
     alloc: Global,
-    steps: Vec<Turn<'_>>,
+    steps: Vec<Step<'_>>,
     writer: &mut W,
 ) -> Result<(), Fault>
     ensures played { OnOk result ((replies : List said.Reply)
@@ -240,7 +240,7 @@ fn play_turns<W: Write>(
 fn play_together<W: Write>(
     handler: &mut DavHandler<Refusing<MemFs>, MemLs>,
     alloc: Global,
-    steps: Vec<Turn<'_>>,
+    steps: Vec<Step<'_>>,
     writer: &mut W,
 ) -> Result<(), Fault>
     ensures same { handler.new.server.settings ≡ handler.old.server.settings }
@@ -324,7 +324,7 @@ fn server_of(alloc: Global, script: &Script) -> Result<DavHandler<Refusing<MemFs
 }
 
 // The steps of requests.
-fn turns_of(alloc: Global, requests: &[Request]) -> Result<Vec<Turn<'_>>, NoMemory>
+fn turns_of(alloc: Global, requests: &[Request]) -> Result<Vec<Step<'_>>, NoMemory>
     ensures { IfOk result (λ steps.
         steps.items ≡ map turn_for (map script_request requests.now)) }
 {
@@ -340,7 +340,7 @@ fn own_steps<'a>(
     alloc: Global,
     grant: &Request,
     requests: &'a [Request],
-) -> Result<Vec<Turn<'a>>, NoMemory>
+) -> Result<Vec<Step<'a>>, NoMemory>
     ensures { IfOk result (λ steps.
         (h : Lock) → MayBeGranted (turn_for (script_request grant.now)) h
         → HolderTurns h (map turn_for (map script_request requests.now)) steps.items) }
@@ -360,7 +360,7 @@ fn is_own(
     alloc: Global,
     grant: &Request,
     request: &Request,
-    step: &Turn<'_>,
+    step: &Step<'_>,
 ) -> Result<bool, NoMemory>
     requires { step.now ≡ turn_for (script_request request.now) }
     ensures { IfOk result (λ own.
@@ -376,7 +376,7 @@ fn is_own(
 }
 
 // The step of a request. The exchange accepts its moment.
-fn turn_of(alloc: Global, request: &Request) -> Result<Turn<'_>, NoMemory>
+fn turn_of(alloc: Global, request: &Request) -> Result<Step<'_>, NoMemory>
     ensures { IfOk result (λ step. step ≡ turn_for (script_request request.now)) }
 {
     let body = body_of(&request.body)?;
@@ -384,7 +384,7 @@ fn turn_of(alloc: Global, request: &Request) -> Result<Turn<'_>, NoMemory>
     let principal = request.principal.as_deref();
     let token = token_of(alloc, &request.token)?;
     let exchange = Exchange::new(&request.head, body, principal, request.moment, token).unwrap();
-    Ok(Turn { exchange, refusals })
+    Ok(Step { exchange, refusals })
 }
 
 // The same token.

@@ -8,7 +8,7 @@ use Rattle.dav_engine.specs.Reply.{Reply}
 use Rattle.dav_server.specs.EachRequest.{RunStep}
 use Rattle.dav_server.specs.Leaving.{SameContent, SafeLeaves, CreateOnlyLeaves, RefusedStatusLeaves}
 use Rattle.dav_server.specs.Machine.{Exchange, Settings, Steps}
-use Rattle.dav_server.specs.Promises.{reading, created, refused, unmodified, updated, hrefs, Keeps, step_of}
+use Rattle.dav_server.specs.Promises.{reading, created, refused, unmodified, updated, hrefs, at_begin, Keeps, step_of}
 use Rattle.dav_server.specs.Run.{Turn, begun}
 use Rattle.dav_server.specs.DavHandler.{DavHandler}
 use Rattle.dav_server.specs.Setup.{IsPrefix}
@@ -31,14 +31,10 @@ create_only_leaves s x was now reply step p n is there = (
   create_only_fails s x p n was.store now.store was.locks now.locks reply is there step,
 )
 
-pub refused_status_leaves : (s : Settings) (x : Exchange) (was now : ServerState) (reply : Reply) → Steps s x was.store was.locks reply now.store now.locks → RefusedStatusLeaves x reply was now
-refused_status_leaves s x was now reply step is = refused_leaves s x was.store now.store was.locks now.locks reply is step
+pub refused_status_leaves : (s : Settings) (x : Exchange) (was now : ServerState) (reply : Reply) → Steps s x was.store was.locks reply now.store now.locks → RefusedStatusLeaves s x reply was now
+refused_status_leaves s x was now reply step = refused_leaves s x was now reply step
 
 -- ---- a request of a run
-
--- the state when the turn begins
-abbrev at_begin : Turn → ServerState → ServerState
-at_begin t was = record { store = begun t.refusals was.store; locks = was.locks }
 
 same_content : (t : Turn) (was now : ServerState) → SameContent (at_begin t was) now → SameContent was now
 same_content t was now (world, locks) = (world ∙ begun_world t.refusals was.store, locks)
@@ -53,9 +49,7 @@ only_creates {old} u p n is there =
     (same_content u.turn u.was u.now left, failed)
 
 pub refusals_leave : {old : DavHandler} {ts : List Turn} {replies : List Reply} (u : RunStep old ts replies) → Keeps refused (step_of u)
-refusals_leave {old} u is =
-    let (world, list) = refused_status_leaves old.settings u.turn.asked (at_begin u.turn u.was) u.now u.reply u.stepped is in
-    (world ∙ begun_world u.turn.refusals u.was.store, list)
+refusals_leave {old} u = refused_status_leaves old.settings u.turn.asked (at_begin u.turn u.was) u.now u.reply u.stepped
 
 module _ (old : DavHandler) (ts : List Turn) (replies : List Reply) (small : MomentsAreDates ts) (world : IsWorld old.state.store.world) (u : RunStep old ts replies) where
   all_small : MomentsAreDates (u.front ++ u.turn ∷ u.back)

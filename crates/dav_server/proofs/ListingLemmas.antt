@@ -1,5 +1,5 @@
 -- What a PROPFIND tells of, from the bytes of its head on.
-use Rattle.std.proofs.Common.{◌≡◌, ℕ, false, List, All, codes, Option, None, Result, Ok, Err, inl, refl, sym, ap, subst, ◌∙◌, arith}
+use Rattle.std.proofs.Common.{◌≡◌, ℕ, List, codes, Option, Result, Ok, Err, ◌⊎◌, inl, inr, refl, sym, ap, subst, ◌∙◌, arith}
 use Rattle.http_header.specs.HeaderMap.{get_all}
 use Rattle.dav_core.specs.declared.errors.DavError.{DavError}
 use Rattle.dav_core.specs.declared.errors.DavError.TheVariants as dav
@@ -18,13 +18,14 @@ use Rattle.dav_engine.specs.Method.{MethodPlan, fails}
 use Rattle.dav_engine.specs.Plan.{Locks, Ran, ran_done}
 use Rattle.dav_engine.specs.Propfind.{IsPropfind, is_propfind}
 use Rattle.dav_engine.specs.PropfindLaws.{IsResponseFor, AreResponsesFor, none_told, one_told, ListAll, AsksListing, HasFewNames, path_in, responses_in}
+use Rattle.dav_engine.specs.RefusedCalls.{lists_what_is_there}
 use Rattle.dav_engine.specs.Reply.{Reply, reply_to}
-use Rattle.dav_engine.proofs.Theorems.{listings_are_whole as plans_list_all, unrefused_runs_list}
+use Rattle.dav_engine.proofs.Theorems.{listings_are_whole as plans_list_all, unrefused_runs_list, answered_or_refused, not_both, refused_is_run}
 use Rattle.dav_server.specs.Head.{Request}
 use Rattle.dav_server.specs.Headers.{headers_of}
 use Rattle.dav_server.specs.Holder.{IsRequestTo}
-use Rattle.dav_server.specs.HrefLaws.{TellsOf, TellOf, none_told as none_told_of, one_told as one_told_of, TellAll, ListingsAreWhole}
-use Rattle.dav_server.specs.Machine.{Settings, Exchange, caller, taken_by, PlanOf, finds_properties, MeansOf, not_allowed, no_path, no_body, method, Means, no_head, no_method, known, Steps, steps}
+use Rattle.dav_server.specs.HrefLaws.{TellsOf, TellOf, none_told as none_told_of, one_told as one_told_of, TellAll, ListingsAreWhole, UnrefusedStepsList}
+use Rattle.dav_server.specs.Machine.{Settings, Exchange, caller, taken_by, PlanOf, finds_properties, MeansOf, not_allowed, no_path, no_body, method, Means, no_head, no_method, known, Steps, steps, StepRefused, step_refused}
 use Rattle.dav_server.specs.Method.{GivesServed}
 use Rattle.dav_server.specs.Setup.{IsPrefix}
 use Rattle.dav_server.specs.Target.{path}
@@ -113,10 +114,16 @@ pub listings_are_whole : ListingsAreWhole
 listings_are_whole s x r p depth old new ls ms reply fits world is_for read few (steps plan outcome means ran) status =
     told s x r p fits is_for old world depth read few outcome means ran status
 
+pub unrefused_steps_list : UnrefusedStepsList
+unrefused_steps_list s x old new ls ms reply none unset (step_refused plan outcome means refused) =
+    not_both lists_what_is_there refused unset (unrefused_runs_list plan old new ls ms outcome none unset (refused_is_run lists_what_is_there refused)) unset
+
 pub reply_is_whole : (s : Settings) (x : Exchange) (old new : StoreState) (ls ms : Locks) (reply : Reply) → Steps s x old ls reply new ms
     → (r : Request) (p : PathText) (depth : Option Depth) → IsPrefix s.prefix → IsWorld old.world → IsRequestTo s x r PropFind p
-    → Decodes IsDepth (get_all (headers_of r.fields) (codes "depth")) depth → HasFewNames depth old.world p
-    → All (λ e. e ≡ None) old.refusals → new.short ≡ false → reply.status ≡ 207
-    → TellAll s.prefix old.world (path_in old.world p) depth (responses_in reply.body)
-reply_is_whole s x old new ls ms reply (steps plan outcome means ran) r p depth fits world is_for read few none unset status =
-    told s x r p fits is_for old world depth read few outcome means (unrefused_runs_list plan old new ls ms outcome none unset ran) status
+    → Decodes IsDepth (get_all (headers_of r.fields) (codes "depth")) depth → HasFewNames depth old.world p → reply.status ≡ 207
+    → TellAll s.prefix old.world (path_in old.world p) depth (responses_in reply.body) ⊎ StepRefused lists_what_is_there s x old ls reply new ms
+reply_is_whole s x old new ls ms reply (steps plan outcome means ran) r p depth fits world is_for read few status =
+    elim (answered_or_refused lists_what_is_there ran) [
+      | inl listing ↦ inl (told s x r p fits is_for old world depth read few outcome means listing status)
+      | inr refused ↦ inr (step_refused plan outcome means refused)
+    ]

@@ -25,6 +25,7 @@ use Rattle.dav_server.specs.Promises.{OneStep, Promise, reading, created, refuse
 use Rattle.dav_server.specs.Run.{Turn}
 use Rattle.dav_server.specs.TagLaws.{is_safe, Shows, EqualTagsShowEqualBytes}
 use Rattle.dav_server.specs.UpdateLaws.{is_update, IsSuccess}
+use Rattle.dav_server.specs.WriteLaws.{IsRefusedStatus}
 use Rattle.dav_server.proofs.HeadLemmas.{one_head}
 use Rattle.dav_server.proofs.MeansWorld.{asks_one}
 use Rattle.dav_server.proofs.WorkedRun.{turn_with, settings, no_tags}
@@ -86,9 +87,16 @@ module _ (s : OneStep) (r : Request) (m : DavMethod) (head : IsHead s.turn.asked
       let same : q ≡ r = one_head s.turn.asked.head q r also head in
       absurd (no_tags every_tag (subst (λ (values : List FieldValue). IsTagList values every_tag) (ap (λ (z : Request). get_all (headers_of z.fields) (codes "if-none-match")) same ∙ empty) says))
 
-pub answered : (s : OneStep) → s.reply.status ≢ 412 → s.reply.status ≢ 423 → Keeps refused s
-answered s one other (inl is) = absurd (one is)
-answered s one other (inr is) = absurd (other is)
+no_refusal : (status : ℕ) → status ≢ 412 → status ≢ 423 → ¬ IsRefusedStatus status
+no_refusal status one other (inl is) = one is
+no_refusal status one other (inr is) = other is
+
+pub answered : (s : OneStep) → s.reply.status ≢ 412 → s.reply.status ≢ 423 → s.reply.status ≢ 416 → Keeps refused s
+answered s one other third = record {
+  world = λ is. absurd (no_refusal s.reply.status one other is);
+  locks = λ is reason. absurd (no_refusal s.reply.status one other is);
+  range = λ is. absurd (third is);
+}
 
 pub no_304 : (s : OneStep) → s.reply.status ≢ 304 → Keeps unmodified s
 no_304 s other end later p tag bytes is lacks shown = absurd (other is)

@@ -73,7 +73,7 @@ is_spared h stands = record {
 all_but_members : (d : Promise) → d ≢ members → Keeps d adding
 all_but_members reading other = unsafe adding add_request MkCol below_head (tt, refl) refl
 all_but_members created other = no_creation adding add_request MkCol below_head (tt, refl) (λ e. cc) (λ e. cc)
-all_but_members refused other = answered adding (λ e. omega (arith, e)) (λ e. omega (arith, e))
+all_but_members refused other = answered adding (λ e. omega (arith, e)) (λ e. omega (arith, e)) (λ e. omega (arith, e))
 all_but_members unmodified other = no_304 adding (λ e. omega (arith, e))
 all_but_members updated other = untold stranger_below (made at_below) adding.was adding.now
 all_but_members passed other = λ h alone is unnamed. is_spared h is

@@ -86,7 +86,7 @@ no_locks_shared i j d less small = absurd (omega (arith, less, small))
 all_but_kept : (d : Promise) → d ≢ kept → Keeps d dropping
 all_but_kept reading other = unsafe dropping remove_request Delete remove_head (tt, refl) refl
 all_but_kept created other = no_creation dropping remove_request Delete remove_head (tt, refl) (λ e. cc) (λ e. cc)
-all_but_kept refused other = answered dropping (λ e. omega (arith, e)) (λ e. omega (arith, e))
+all_but_kept refused other = answered dropping (λ e. omega (arith, e)) (λ e. omega (arith, e)) (λ e. omega (arith, e))
 all_but_kept unmodified other = no_304 dropping (λ e. omega (arith, e))
 all_but_kept updated other = untold remover (unlocked_reply []) dropping.was dropping.now
 all_but_kept passed other = λ h alone is unnamed. same_world h before
@@ -139,7 +139,7 @@ get_request = request_of_head (head_of (codes "GET") slash_a [])
 all_but_reading : (d : Promise) → d ≢ reading → Keeps d making
 all_but_reading reading other = absurd (other refl)
 all_but_reading created other = no_creation making get_request Get get_head (tt, refl) (λ e. cc) (λ e. cc)
-all_but_reading refused other = answered making (λ e. omega (arith, e)) (λ e. omega (arith, e))
+all_but_reading refused other = answered making (λ e. omega (arith, e)) (λ e. omega (arith, e)) (λ e. omega (arith, e))
 all_but_reading unmodified other = no_304 making (λ e. omega (arith, e))
 all_but_reading updated other = untold getter (made at_a) making.was making.now
 all_but_reading passed other = none_passed making refl
@@ -198,7 +198,7 @@ pub late_refusal_leaves_a_change : Ran Asks refuses_late (holding before) one_sh
 late_refusal_leaves_a_change = (
   ran_ask {c = CreateDir (a ∷ []) 1} {answer = Ok tt} (asked makes_a) (ran_look ran_done),
   record {
-    broken = λ leaves. other_world (leaves (inr refl)).0;
+    broken = λ leaves. other_world (leaves.world (inr refl));
     others = all_but_refused;
   },
 )
@@ -283,7 +283,7 @@ blind = first_step creator (unlocked_reply []) (state refusing_once none) (state
 all_but_created : (d : Promise) → d ≢ created → Keeps d blind
 all_but_created reading other = unsafe blind put_request Put put_head (tt, refl) refl
 all_but_created created other = absurd (other refl)
-all_but_created refused other = answered blind (λ e. omega (arith, e)) (λ e. omega (arith, e))
+all_but_created refused other = answered blind (λ e. omega (arith, e)) (λ e. omega (arith, e)) (λ e. omega (arith, e))
 all_but_created unmodified other = no_304 blind (λ e. omega (arith, e))
 all_but_created updated other = untold creator (unlocked_reply []) blind.was blind.now
 all_but_created passed other = none_passed blind refl
@@ -328,7 +328,7 @@ module _ (bytes others : List ℕ) (differ : bytes ≢ others) where
   all_but_tags : (d : Promise) → d ≢ tags → Keeps d again
   all_but_tags reading other = λ safe. (refl, refl)
   all_but_tags created other = no_creation again get_request Get get_head (tt, refl) (λ e. cc) (λ e. cc)
-  all_but_tags refused other = answered again (λ e. omega (arith, e)) (λ e. omega (arith, e))
+  all_but_tags refused other = answered again (λ e. omega (arith, e)) (λ e. omega (arith, e)) (λ e. omega (arith, e))
   all_but_tags unmodified other = no_304 again (λ e. omega (arith, e))
   all_but_tags updated other = no_update again get_request Get get_head (tt, refl) refl
   all_but_tags passed other = none_passed again refl
@@ -393,7 +393,7 @@ never_created p n (r, m, head, served, writes, named, says) there = absurd (no_h
 all_kept : KeepsAll unheard
 all_kept reading = never_safe
 all_kept created = never_created
-all_kept refused = answered unheard (λ e. omega (arith, e)) (λ e. omega (arith, e))
+all_kept refused = answered unheard (λ e. omega (arith, e)) (λ e. omega (arith, e)) (λ e. omega (arith, e))
 all_kept unmodified = no_304 unheard (λ e. omega (arith, e))
 all_kept updated = untold silent (unlocked_reply []) unheard.was unheard.now
 all_kept passed = λ h alone is unnamed. same_world h before
@@ -450,7 +450,7 @@ counting ls = first_step holder (counted ls) (state (holding before) ls) (state 
 nothing_else : (ls : Locks) → KeepsAll (counting ls)
 nothing_else ls reading = λ safe. (refl, refl)
 nothing_else ls created = no_creation (counting ls) holder_request MkCol own_head (tt, refl) (λ e. cc) (λ e. cc)
-nothing_else ls refused = answered (counting ls) (λ e. omega (arith, e)) (λ e. omega (arith, e))
+nothing_else ls refused = answered (counting ls) (λ e. omega (arith, e)) (λ e. omega (arith, e)) (λ e. omega (arith, e))
 nothing_else ls unmodified = no_304 (counting ls) (λ e. omega (arith, e))
 nothing_else ls updated = untold holder (counted ls) (counting ls).was (counting ls).now
 nothing_else ls passed = λ h alone is unnamed. same_world h before

@@ -182,7 +182,7 @@ unmodified_step = after_them rechecker (not_modified found_other) (state (holdin
 all_but_unmodified : (d : Promise) → d ≢ unmodified → Keeps d unmodified_step
 all_but_unmodified reading other = λ safe. (refl, refl)
 all_but_unmodified created other = λ p n is there. ((refl, refl), not_modified_fails)
-all_but_unmodified refused other = λ is. (refl, λ fresh. refl)
+all_but_unmodified refused other = record { world = λ is. refl; locks = λ is reason. refl; range = λ is. inl (refl, refl) }
 all_but_unmodified unmodified other = absurd (other refl)
 all_but_unmodified updated other = no_success unmodified_step not_modified_fails
 all_but_unmodified passed other = none_passed unmodified_step refl
@@ -260,7 +260,7 @@ losing = after_them updater (unlocked_reply []) (state (holding rewritten) none)
 all_but_updated : (d : Promise) → d ≢ updated → Keeps d losing
 all_but_updated reading other = unsafe losing update_request Put update_head (tt, refl) refl
 all_but_updated created other = no_star losing update_request Put update_head (tt, refl) refl
-all_but_updated refused other = answered losing (λ e. omega (arith, e)) (λ e. omega (arith, e))
+all_but_updated refused other = answered losing (λ e. omega (arith, e)) (λ e. omega (arith, e)) (λ e. omega (arith, e))
 all_but_updated unmodified other = no_304 losing (λ e. omega (arith, e))
 all_but_updated updated other = absurd (other refl)
 all_but_updated passed other = none_passed losing refl
@@ -299,7 +299,7 @@ no_folder h (listed_later out) is = elim out [ ]
 all_but_passed : (d : Promise) → d ≢ passed → Keeps d passing
 all_but_passed reading other = unsafe passing stranger_request MkCol stranger_head (tt, refl) refl
 all_but_passed created other = no_creation passing stranger_request MkCol stranger_head (tt, refl) (λ e. cc) (λ e. cc)
-all_but_passed refused other = answered passing (λ e. omega (arith, e)) (λ e. omega (arith, e))
+all_but_passed refused other = answered passing (λ e. omega (arith, e)) (λ e. omega (arith, e)) (λ e. omega (arith, e))
 all_but_passed unmodified other = no_304 passing (λ e. omega (arith, e))
 all_but_passed updated other = untold stranger (made at_a) passing.was passing.now
 all_but_passed passed other = absurd (other refl)
@@ -354,7 +354,7 @@ lock_request = request_of_head (head_of (codes "LOCK") slash_a [])
 all_but_shared : (d : Promise) → d ≢ shared → Keeps d sharing
 all_but_shared reading other = unsafe sharing lock_request LockMethod lock_head (tt, refl) refl
 all_but_shared created other = no_creation sharing lock_request LockMethod lock_head (tt, refl) (λ e. cc) (λ e. cc)
-all_but_shared refused other = answered sharing (λ e. omega (arith, e)) (λ e. omega (arith, e))
+all_but_shared refused other = answered sharing (λ e. omega (arith, e)) (λ e. omega (arith, e)) (λ e. omega (arith, e))
 all_but_shared unmodified other = no_304 sharing (λ e. omega (arith, e))
 all_but_shared updated other = untold other_locker (granted_reply false [] other_lock) sharing.was sharing.now
 all_but_shared passed other = λ h alone is unnamed. same_world h before
@@ -418,7 +418,7 @@ tells_of_none (q, about, tells) = no_href tells.text tells.hrefs
 all_but_hrefs : (d : Promise) → d ≢ hrefs → Keeps d barely
 all_but_hrefs reading other = λ safe. (refl, refl)
 all_but_hrefs created other = no_creation barely remove_request Delete remove_head (tt, refl) (λ e. cc) (λ e. cc)
-all_but_hrefs refused other = answered barely (λ e. omega (arith, e)) (λ e. omega (arith, e))
+all_but_hrefs refused other = answered barely (λ e. omega (arith, e)) (λ e. omega (arith, e)) (λ e. omega (arith, e))
 all_but_hrefs unmodified other = no_304 barely (λ e. omega (arith, e))
 all_but_hrefs updated other = untold remover barely_told barely.was barely.now
 all_but_hrefs passed other = λ h alone is unnamed. same_world h before

@@ -19,11 +19,12 @@ use Rattle.dav_engine.specs.Multistatus.{PathStatus, dav_text, multistatus_reply
 use Rattle.dav_engine.specs.Plan.{Locks}
 use Rattle.dav_engine.specs.Properties.{Group, property_response}
 use Rattle.dav_engine.specs.PropfindLaws.{AreListed, AsksListing, HasFewNames, path_in, responses_in}
+use Rattle.dav_engine.specs.RefusedCalls.{lists_what_is_there}
 use Rattle.dav_engine.specs.Reply.{Reply}
 use Rattle.dav_server.specs.Head.{Request}
 use Rattle.dav_server.specs.Headers.{headers_of}
 use Rattle.dav_server.specs.Holder.{IsRequestTo}
-use Rattle.dav_server.specs.Machine.{Exchange, Settings, StepsBy, Steps}
+use Rattle.dav_server.specs.Machine.{Exchange, Settings, StepsBy, Steps, StepRefused}
 use Rattle.dav_server.specs.DavHandler.{DavHandler}
 use Rattle.dav_server.specs.Setup.{IsPrefix}
 use Rattle.dav_server.specs.Target.{TargetNames}
@@ -122,13 +123,20 @@ ListingsAreWhole =
     → StepsBy AsksListing s x old ls reply new ms → reply.status ≡ 207
     → TellAll s.prefix old.world (path_in old.world p) depth (responses_in reply.body)
 
--- This reply to a PROPFIND, where it is a 207, has a response for everything that it lists, if the server's prefix is a prefix, its store
--- holds a world whose paths have fewer than 2^64 names, no refusal is left to come, and the store hasn't run out of memory (RFC 4918,
--- sections 9.1 and 10.2).
+-- In a step of a store to which no refusal is left, and that doesn't run out of memory, no call is refused that lists or describes what is
+-- there.
+abbrev pub UnrefusedStepsList : Type 0
+UnrefusedStepsList =
+    (s : Settings) (x : Exchange) (old new : StoreState) (ls ms : Locks) (reply : Reply)
+    → All (λ e. e ≡ None) old.refusals → new.short ≡ false → ¬ StepRefused lists_what_is_there s x old ls reply new ms
+
+-- This reply to a PROPFIND, where it is a 207, has a response for everything that it lists, if the server's prefix is a prefix and its store
+-- holds a world whose paths have fewer than 2^64 names; or else the store refused, in answering it, to list a folder that is there or to
+-- give the metadata of a member that is there (RFC 4918, sections 9.1 and 10.2).
 abbrev pub ReplyIsWhole : DavHandler → Exchange → Reply → DavHandler → Type 0
 ReplyIsWhole old x reply new =
     (r : Request) (p : PathText) (depth : Option Depth)
     → IsPrefix old.settings.prefix → IsWorld old.state.store.world → IsRequestTo old.settings x r PropFind p
-    → Decodes IsDepth (get_all (headers_of r.fields) (codes "depth")) depth → HasFewNames depth old.state.store.world p
-    → All (λ e. e ≡ None) old.state.store.refusals → new.state.store.short ≡ false → reply.status ≡ 207
+    → Decodes IsDepth (get_all (headers_of r.fields) (codes "depth")) depth → HasFewNames depth old.state.store.world p → reply.status ≡ 207
     → TellAll old.settings.prefix old.state.store.world (path_in old.state.store.world p) depth (responses_in reply.body)
+    ⊎ StepRefused lists_what_is_there old.settings x old.state.store old.state.locks reply new.state.store new.state.locks

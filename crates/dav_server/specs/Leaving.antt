@@ -13,11 +13,12 @@ use Rattle.dav_engine.specs.declared.request.Body.TheVariants as body
 use Rattle.dav_engine.specs.Method.{MethodPlan}
 use Rattle.dav_engine.specs.Plan.{Locks, Ran, ServerState}
 use Rattle.dav_engine.specs.Put.{unsatisfiable}
+use Rattle.dav_engine.specs.RefusedCalls.{CallKind, RanRefused, opens_file, seeks_place, uses_file}
 use Rattle.dav_engine.specs.Reply.{Reply}
-use Rattle.dav_server.specs.Machine.{Exchange, Settings, Means, Steps, body_for, taken_by}
+use Rattle.dav_server.specs.Machine.{Exchange, Settings, Means, Steps, StepRefused, body_for, taken_by}
 use Rattle.dav_server.specs.TagLaws.{HasMethod, is_safe}
 use Rattle.dav_server.specs.UpdateLaws.{IsSuccess}
-use Rattle.dav_server.specs.WriteLaws.{IsCreateOnly, IsRefusedStatus, IsLockRequest, HandsInUnused}
+use Rattle.dav_server.specs.WriteLaws.{IsCreateOnly, IsRefusedStatus, IsLockRequest, HandsInUnused, WantsNothingThere}
 
 -- the request has a head with one of the methods GET, HEAD, OPTIONS and PROPFIND (RFC 9110, section 9.2.1; RFC 4918, section 9.1)
 abbrev pub IsSafeRequest : Exchange → Type 0
@@ -37,20 +38,21 @@ IsWriteRequest x = HasMethod Put x ⊎ HasMethod Patch x
 abbrev pub IsStoresError : DavError → Type 0
 IsStoresError e = ((refusal : FsError) × (e ≡ dav.FsError refusal)) ⊎ (e ≡ unsatisfiable)
 
--- an error in which a LOCK can end because the store refused to create its empty file: one of the store, 409 or 412 (RFC 4918, section
--- 9.10.4)
-abbrev pub IsFileError : DavError → Type 0
-IsFileError e = ((refusal : FsError) × (e ≡ dav.FsError refusal)) ⊎ (e ≡ dav.Status 409) ⊎ (e ≡ dav.Status 412)
+-- An error in which a LOCK can end because the store refused to create its empty file: one of the store; 409; or 412, where its
+-- If-None-Match is `*` (RFC 4918, section 9.10.4).
+abbrev pub IsFileError : Exchange → DavError → Type 0
+IsFileError x e = ((refusal : FsError) × (e ≡ dav.FsError refusal)) ⊎ (e ≡ dav.Status 409) ⊎ ((e ≡ dav.Status 412) × WantsNothingThere x)
 
 -- A request whose plan ends in an error leaves the world and the list of locks as they were, whatever its method is and whatever the
--- store refuses; with two exceptions. A PUT or PATCH that ends in an error as the store refuses it after opening (`IsStoresError`) may
--- have changed them. And a LOCK that hands in a token that a lock of the list has, and ends in an error as the store refuses its file
--- (`IsFileError`), may have changed the list: it takes the lock of that token back.
+-- store refuses; with two exceptions. A PUT or PATCH that ends in an error (`IsStoresError`) as the store refuses a call on the file that it
+-- opened may have changed the world: so a 416 is none where no seek was refused. And a LOCK that hands in a token that a lock of the list
+-- has, and ends in an error (`IsFileError`) as the store refuses its file, may have changed the list: it takes the lock of that token back.
 abbrev pub ErrorsLeave : Type 0
 ErrorsLeave =
     (s : Settings) (x : Exchange) (plan : MethodPlan Reply) (old new : StoreState) (ls ms : Locks) (e : DavError)
-    → (IsWriteRequest x → ¬ IsStoresError e) → Means s x plan → Ran Asks plan old ls (Err e) new ms
-    → (new.world ≡ old.world) × ((IsLockRequest x → HandsInUnused x ls ⊎ (¬ IsFileError e)) → ms ≡ ls)
+    → (IsWriteRequest x → (¬ IsStoresError e) ⊎ (¬ RanRefused uses_file plan old ls (Err e) new ms)) → Means s x plan → Ran Asks plan old ls (Err e) new ms
+    → (new.world ≡ old.world)
+    × ((IsLockRequest x → HandsInUnused x ls ⊎ (¬ IsFileError x e) ⊎ (¬ RanRefused opens_file plan old ls (Err e) new ms)) → ms ≡ ls)
 
 -- ---- of one request
 
@@ -69,12 +71,30 @@ CreateOnlyLeaves s x reply was now =
     (p : PathText) (n : Node)
     → IsCreateOnly s x p → node_at was.store.world (names p) ≡ Some n → SameContent was now × ¬ IsSuccess reply.status
 
--- A request that is answered 412 or 423 leaves the world as it was, and the list of locks; of the list this isn't said of a LOCK that is
--- answered 412 and hands in a token that a lock of the list has (RFC 9110, section 13.2.1; RFC 4918, section 11.3).
-abbrev pub RefusedStatusLeaves : Exchange → Reply → ServerState → ServerState → Type 0
-RefusedStatusLeaves x reply was now =
-    IsRefusedStatus reply.status
-    → (now.store.world ≡ was.store.world) × ((reply.status ≡ 412 → IsLockRequest x → HandsInUnused x was.locks) → now.locks ≡ was.locks)
+-- a call of this kind was refused while the request was answered
+abbrev pub WasRefused : CallKind → Settings → Exchange → ServerState → Reply → ServerState → Type 0
+WasRefused kind s x was reply now = StepRefused kind s x was.store was.locks reply now.store now.locks
+
+-- Why a LOCK that is answered 412 leaves the list of locks: no lock of the list has the token that it hands in; or its If-None-Match isn't
+-- `*`, so that a condition failed; or the store didn't refuse its empty file (RFC 4918, section 9.10).
+abbrev pub TakesNothingBack : Settings → Exchange → ServerState → Reply → ServerState → Type 0
+TakesNothingBack s x was reply now = HandsInUnused x was.locks ⊎ (¬ WantsNothingThere x) ⊎ (¬ WasRefused opens_file s x was reply now)
+
+-- A request that is answered 412, 416 or 423 leaves the world as it was, and the list of locks. Of the list this isn't said of a LOCK with
+-- If-None-Match `*` that is answered 412 as the store refuses its empty file, and hands in a token that a lock of the list has. And it
+-- isn't said of a PUT or PATCH that is answered 416 as the store refuses to seek (RFC 9110, sections 13.2.1 and 15.5.17; RFC 4918, section
+-- 11.3).
+pub record RefusedStatusLeaves (s : Settings) (x : Exchange) (reply : Reply) (was now : ServerState) : Type 0 where
+  pub world : IsRefusedStatus reply.status → now.store.world ≡ was.store.world
+  pub locks : IsRefusedStatus reply.status → (reply.status ≡ 412 → IsLockRequest x → TakesNothingBack s x was reply now) → now.locks ≡ was.locks
+  pub range : reply.status ≡ 416 → SameContent was now ⊎ (IsWriteRequest x × WasRefused seeks_place s x was reply now)
+
+-- Each step leaves what a request leaves that is answered 412, 416 or 423, whatever its method is and whatever the store refuses (RFC 9110,
+-- sections 13.2.1 and 15.5.17; RFC 4918, section 11.3).
+abbrev pub RefusedLeaves : Type 0
+RefusedLeaves =
+    (s : Settings) (x : Exchange) (was now : ServerState) (reply : Reply)
+    → Steps s x was.store was.locks reply now.store now.locks → RefusedStatusLeaves s x reply was now
 
 -- the request has a body, where one of no bytes counts as none: a LOCK with a body asks for a new lock, one without refreshes a lock (RFC
 -- 4918, sections 9.10.1 and 9.10.2)

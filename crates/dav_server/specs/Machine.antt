@@ -22,6 +22,7 @@ use Rattle.dav_engine.specs.Options.{options}
 use Rattle.dav_engine.specs.Propfind.{IsPropfind}
 use Rattle.dav_engine.specs.Proppatch.{IsProppatch}
 use Rattle.dav_engine.specs.Put.{IsPut}
+use Rattle.dav_engine.specs.RefusedCalls.{CallKind, RanRefused}
 use Rattle.dav_engine.specs.Reply.{Reply, reply_to}
 use Rattle.dav_engine.specs.Unlock.{IsUnlock}
 use Rattle.dav_server.specs.Get.{IsGet}
@@ -126,6 +127,11 @@ pub data StepsBy (step : CallStep) (s : Settings) (x : Exchange) (old : StoreSta
 -- one step of the machine over any lawful store
 abbrev pub Steps : Settings → Exchange → StoreState → Locks → Reply → StoreState → Locks → Type 0
 Steps = StepsBy Asks
+
+-- One step of the machine over any lawful store, in which a call of this kind is refused.
+pub data StepRefused (kind : CallKind) (s : Settings) (x : Exchange) (old : StoreState) (ls : Locks) : Reply → StoreState → Locks → Type 0 where
+  step_refused : (plan : MethodPlan Reply) (outcome : Result Reply DavError) {new : StoreState} {ms : Locks}
+      → Means s x plan → RanRefused kind plan old ls outcome new ms → StepRefused kind s x old ls (reply_to outcome) new ms
 
 -- Memory ran out in a step: nothing was done, or the first calls of its plan were made, each of them whole. The list of locks is as
 -- before, or as the plan leaves it where each later call is refused.

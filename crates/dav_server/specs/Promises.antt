@@ -15,7 +15,7 @@ use Rattle.dav_server.specs.Isolation.{AreLoaded, IsIsolated, IsIsolatedFromGran
 use Rattle.dav_server.specs.Leaving.{SafeLeaves, CreateOnlyLeaves, RefusedStatusLeaves}
 use Rattle.dav_server.specs.Machine.{Settings}
 use Rattle.dav_server.specs.Naming.{NamesLock, NamesToken}
-use Rattle.dav_server.specs.Run.{Turn, Runs}
+use Rattle.dav_server.specs.Run.{Turn, begun, Runs}
 use Rattle.dav_server.specs.DavHandler.{DavHandler, AnswersAll}
 use Rattle.dav_server.specs.Setup.{IsPrefix}
 use Rattle.dav_server.specs.TagLaws.{MomentsAreDates, EqualTagsShowEqualBytes}
@@ -48,8 +48,9 @@ pub data Promise : Type 0 where
   -- A PUT or PATCH with If-None-Match `*`, where something is at its path, leaves the world and the list of locks as they were, and isn't
   -- answered with success (RFC 9110, section 13.1.2).
   created : Promise
-  -- A request that is answered 412 or 423 leaves the world as it was, and the list of locks; of the list this isn't said of a LOCK that
-  -- is answered 412 and hands in a token that a lock has (RFC 9110, section 13.2.1; RFC 4918, section 11.3).
+  -- A request that is answered 412, 416 or 423 leaves the world as it was, and the list of locks; unless a PUT or PATCH is answered 416 as
+  -- the store refuses to seek; and of the list, unless a LOCK with If-None-Match `*` is answered 412 as the store refuses its empty file, and
+  -- hands in a token that a lock has (RFC 9110, sections 13.2.1 and 15.5.17; RFC 4918, section 11.3).
   refused : Promise
   -- A 304 is true: where If-None-Match named one tag, the file has the bytes that any GET of the run, before it or after it, was answered
   -- with under that tag (RFC 9110, sections 13.1.2 and 15.4.5).
@@ -71,11 +72,15 @@ pub data Promise : Type 0 where
   -- token as its principal (RFC 4918, section 7.4).
   members : Promise
 
+-- the state with the refusals that the turn brings, where it brings any
+abbrev pub at_begin : Turn → ServerState → ServerState
+at_begin t was = record { store = begun t.refusals was.store; locks = was.locks }
+
 -- What a promise says of one request of a run.
 abbrev pub Keeps : Promise → OneStep → Type 0
 Keeps reading s = SafeLeaves s.turn.asked s.was s.now
 Keeps created s = CreateOnlyLeaves s.settings s.turn.asked s.reply s.was s.now
-Keeps refused s = RefusedStatusLeaves s.turn.asked s.reply s.was s.now
+Keeps refused s = RefusedStatusLeaves s.settings s.turn.asked s.reply (at_begin s.turn s.was) s.now
 Keeps unmodified s =
     (end : ServerState) → Runs s.settings s.back s.now.store s.now.locks s.after end.store end.locks
     → Every304IsTrue s.settings (all_turns s) (all_replies s) s.turn.asked s.reply s.was

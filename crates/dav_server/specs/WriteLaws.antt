@@ -43,11 +43,6 @@ IsLockRequest x = (r : Request) × IsHead x.head r × GivesServed r.method (Ok L
 abbrev pub HandsInUnused : Exchange → Locks → Type 0
 HandsInUnused x ls = (token : List ℕ) → x.token ≡ Some token → IsUnused token ls
 
--- A request that is answered 412 or 423 leaves the world as it was, and the list of locks, whatever its method is and whatever the store
--- refuses; of the list this isn't said of a LOCK that is answered 412 and hands in a token that a lock of the list has (RFC 9110, section
--- 13.2.1; RFC 4918, section 11.3).
-abbrev pub RefusedLeaves : Type 0
-RefusedLeaves =
-    (s : Settings) (x : Exchange) (old new : StoreState) (ls ms : Locks) (reply : Reply)
-    → IsRefusedStatus reply.status → Steps s x old ls reply new ms
-    → (new.world ≡ old.world) × ((reply.status ≡ 412 → IsLockRequest x → HandsInUnused x ls) → ms ≡ ls)
+-- the If-None-Match of the request is `*`: nothing may be at its path (RFC 9110, section 13.1.2)
+abbrev pub WantsNothingThere : Exchange → Type 0
+WantsNothingThere x = (r : Request) × IsHead x.head r × IsTagList (get_all (headers_of r.fields) (codes "if-none-match")) star

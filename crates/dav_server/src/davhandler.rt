@@ -317,10 +317,11 @@ impl<F: DavFileSystem, L: DavLockSystem> DavHandler<F, L> {
     }
 
     /// Answers a request: the reply, the store and the locks are those of one step of the machine, from the bytes of the
-    /// head on. A request that only reads changes nothing, nor does one that is answered 412 or 423 (of the list a LOCK
-    /// that is answered 412, where no lock has its token); and what is there is kept under If-None-Match `*`. The href of each
-    /// response of a multistatus leads to a path that the request is about; a PROPFIND that is answered 207 tells of all that its
-    /// depth asks for, each once, where the store refuses no call and doesn't run out of memory.
+    /// head on. A request that only reads changes nothing, nor does one that is answered 412, 416 or 423 (but a PUT or PATCH
+    /// whose 416 says that the store refused to seek; and of the list a LOCK with If-None-Match `*` whose 412 says that the
+    /// store refused its empty file, where a lock has its token); and what is there is kept under If-None-Match `*`. The href
+    /// of each response of a multistatus leads to a path that the request is about; a PROPFIND that is answered 207 tells of
+    /// all that its depth asks for, each once, where the store refuses neither to list what is there nor to tell of it.
     ///
     /// `NoMemory` where memory ran out outside the store: then each call of the store that was made is whole, and the locks
     /// are as before, or as the request leaves them where the store refuses each later call. A request that only reads has changed
@@ -333,7 +334,7 @@ impl<F: DavFileSystem, L: DavLockSystem> DavHandler<F, L> {
         ensures reading { SafeLeaves exchange.now self.old.server.state self.new.server.state }
         ensures created { IfOk result (λ reply. CreateOnlyLeaves self.old.server.settings
             exchange.now reply self.old.server.state self.new.server.state) }
-        ensures refused { IfOk result (λ reply. RefusedStatusLeaves
+        ensures refused { IfOk result (λ reply. RefusedStatusLeaves self.old.server.settings
             exchange.now reply self.old.server.state self.new.server.state) }
         ensures hrefs { IfOk result (λ reply.
             ReplyLeadsBack self.old.server exchange.now reply) }

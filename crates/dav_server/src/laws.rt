@@ -3,15 +3,15 @@ ghost use Rattle.dav_server.specs.Head.{OneHead};
 ghost use Rattle.dav_server.specs.Headers.{KeepsValues};
 ghost use Rattle.dav_server.specs.Headline.{HeadlineHolds};
 ghost use Rattle.dav_server.specs.StoredLaws.{PatchesAreMade, StoredComesBack};
-ghost use Rattle.dav_server.specs.HrefLaws.{TargetsAreServed, TextsLeadBack, StatusesLeadBack, PropertiesLeadBack, RepliesLeadBack, ListingsAreWhole};
-ghost use Rattle.dav_server.specs.Leaving.{CreateOnlyFails, ErrorsLeave};
+ghost use Rattle.dav_server.specs.HrefLaws.{TargetsAreServed, TextsLeadBack, StatusesLeadBack, PropertiesLeadBack, RepliesLeadBack, ListingsAreWhole, UnrefusedStepsList};
+ghost use Rattle.dav_server.specs.Leaving.{CreateOnlyFails, ErrorsLeave, RefusedLeaves};
 ghost use Rattle.dav_server.specs.PathLaws.{OneTextOnePath};
 ghost use Rattle.dav_server.specs.Promises.{RunsPromise};
 ghost use Rattle.dav_server.specs.Run.{RunsAreDetermined, RunsSplit, RunsJoin, RunsEnd, ShortnessIsKept, CutsAreLikeSteps, RequestsHavePlans, RequestsHaveRuns};
 ghost use Rattle.dav_server.specs.TagLaws.{TagsTellBytes, NotModifiedIsTrue, ReadingLeaves, ReadingLeavesCut, RunsKeepWorlds, RunsKeepWorldsCut};
 ghost use Rattle.dav_server.specs.Target.{OneOutcome};
 ghost use Rattle.dav_server.specs.UpdateLaws.{NoLostUpdate};
-ghost use Rattle.dav_server.specs.WriteLaws.{CreateOnlyKeeps, RefusedLeaves};
+ghost use Rattle.dav_server.specs.WriteLaws.{CreateOnlyKeeps};
 
 use dav_engine::laws::cuts_are_like_refusals;
 
@@ -115,10 +115,12 @@ pub fn not_modified_is_true()
 /// A PROPFIND that is answered 207 tells, each once and in order, of its target at Depth 0, also of each member at Depth 1, of the members
 /// alone without a depth, and at Depth infinity of the target and of all that is below it, a folder before what is in it; each by an href
 /// that leads to it. So it is where the store refuses neither to list what is there nor to tell of it, and what is listed has fewer than
-/// 2^64 names (RFC 4918, sections 9.1 and 10.2).
-#[tactic(auto, using(crate::proofs::ListingLemmas::listings_are_whole))]
+/// 2^64 names. A store to which no refusal is left to come, and that doesn't run out of memory, refuses neither (RFC 4918, sections 9.1
+/// and 10.2).
+#[tactic(auto, using(crate::proofs::ListingLemmas::listings_are_whole, crate::proofs::ListingLemmas::unrefused_steps_list))]
 pub fn listings_are_whole()
-    ensures { ListingsAreWhole }
+    ensures whole { ListingsAreWhole }
+    ensures unrefused { UnrefusedStepsList }
 {}
 
 /// A property that a client stores comes back as the same element: a PROPPATCH that is answered 207 made all changes of its body that
@@ -164,18 +166,20 @@ pub fn no_update_is_lost()
     ensures { NoLostUpdate }
 {}
 
-/// A request that is answered 412 or 423 leaves the world and the list of locks: a condition that fails, or a lock that
-/// conflicts, changes nothing, whatever the store refuses; of the list a LOCK that is answered 412, where no lock has the token that it
-/// hands in (RFC 9110, section 13.2.1; RFC 4918, section 7).
+/// A request that is answered 412, 416 or 423 leaves the world and the list of locks: a condition that fails, a range that can't be
+/// satisfied, or a lock that conflicts, changes nothing, whatever the store refuses. Apart is a PUT or PATCH that is answered 416 as the
+/// store refuses to seek; and of the list a LOCK with If-None-Match `*` that is answered 412 as the store refuses its empty file, and
+/// hands in a token that a lock has already (RFC 9110, sections 13.2.1 and 15.5.17; RFC 4918, section 7).
 pub fn refused_requests_leave_all()
     ensures { RefusedLeaves }
 {}
 
 /// A request that ends in an error leaves the world and the list of locks, whatever its method is and whatever the store refuses. (A DELETE,
 /// COPY or MOVE that was carried out in part doesn't end in an error: it reports what wasn't done, maybe by a status alone.)
-/// Apart is a PUT or PATCH whose error is the store's, or 416, since the store may refuse a call after the file was opened; and of the
-/// list a LOCK with a token that a lock has already, whose error is the store's, 409 or 412: it takes back the lock of its token where
-/// the store refuses it a file (RFC 9110, section 15; RFC 4918, section 9.10).
+/// Apart is a PUT or PATCH whose error says that the store refused a call on the file that it opened (a 416 that comes before, as the
+/// range can't be satisfied, is none); and of the list a LOCK with a token that a lock has already, whose error says that the store
+/// refused its empty file: it takes back the lock of that token. That error is the store's, 409, or 412 with If-None-Match `*` (RFC
+/// 9110, section 15; RFC 4918, section 9.10).
 pub fn errors_leave_all()
     ensures { ErrorsLeave }
 {}

@@ -34,14 +34,14 @@ use std::marker::Model;
 /// A request, and which calls of the store are refused while it is answered: one entry for each call, an error where that
 /// call is refused. Past the end of the list no call is refused.
 #[derive(Drop)]
-pub struct Turn<'a> {
+pub struct Step<'a> {
     /// The request.
     pub exchange: Exchange<'a>,
     /// The entries.
     pub refusals: Vec<Option<FsError>>,
 }
 
-impl<'a> Model for Turn<'a> {
+impl<'a> Model for Step<'a> {
     ghost use Rattle.std.specs.Prelude.{Some};
     ghost use Rattle.dav_core.specs.contracts.errors.FsError as fs_error;
     ghost use Rattle.dav_engine.specs.contracts.request.Body as request_body;
@@ -95,8 +95,9 @@ fn answer_next<F: DavFileSystem, L: DavLockSystem>(
 
 impl<F: DavFileSystem, L: DavLockSystem> DavHandler<F, L> {
     /// Answers requests, one after another: the replies, the store and the locks are those of a run of the machine, which promises
-    /// what the record `Promises` says. Requests that only read change nothing, nor do those that are answered 412 or 423 (of the
-    /// list a LOCK that is answered 412, where no lock has its token); what is there is kept under If-None-Match `*`; no request
+    /// what the record `Promises` says. Requests that only read change nothing, nor do those that are answered 412, 416 or 423 (but
+    /// a PUT or PATCH where the store refused to seek, and of the list a LOCK with If-None-Match `*` where it refused the empty
+    /// file and a lock has its token); what is there is kept under If-None-Match `*`; no request
     /// ends a lock whose token it doesn't name, one that hands in the lock's token for a lock of its own aside; locks that cover
     /// one path stay shared. From a world, as a new store holds one: a 304 is true; no update on condition of a tag is lost; equal
     /// entity tags show equal bytes (RFC 9110, sections 8.8.1 and 13.1); no request changes what an exclusive lock covers, nor which
@@ -131,7 +132,7 @@ impl<F: DavFileSystem, L: DavLockSystem> DavHandler<F, L> {
 fn answer_turn(
     handler: &mut DavHandler<Refusing<MemFs>, MemLs>,
     alloc: Global,
-    step: Turn<'_>,
+    step: Step<'_>,
     replies: &mut Vec<Reply>,
 ) -> Result<(), NoMemory>
     ensures same { handler.new.server.settings ≡ handler.old.server.settings }
@@ -143,7 +144,7 @@ fn answer_turn(
     ensures moment { step.entry.asked.moment ≤ last_moment }
     ensures loaded { is_some step.entry.refusals ≡ true }
 {
-    let Turn { exchange, refusals } = step;
+    let Step { exchange, refusals } = step;
     let backend = &mut handler.backend;
     backend.fs.load(refusals);
     answer_next(handler, alloc, &exchange, replies)
@@ -163,7 +164,7 @@ fn answer_turn(
 pub fn run_refused(
     handler: &mut DavHandler<Refusing<MemFs>, MemLs>,
     alloc: Global,
-    steps: Vec<Turn<'_>>,
+    steps: Vec<Step<'_>>,
 ) -> Result<Vec<Reply>, RunFault>
     ensures same { handler.new.server.settings ≡ handler.old.server.settings }
     ensures run { IfOk result (λ replies.

@@ -210,7 +210,7 @@ fn kind_of(word: &'static str) -> Result<(bool, bool), NoRow> {
 }
 
 // The requests that come first.
-fn building(alloc: Global, over: bool) -> Result<Vec<Turn<'static>>, Fail> {
+fn building(alloc: Global, over: bool) -> Result<Vec<Step<'static>>, Fail> {
     let mut steps = Vec::new(alloc);
     for head in BUILDING {
         steps.push(step(alloc, head)?)?;
@@ -246,7 +246,7 @@ impl Player for Copies {
         let (moves, over) = kind_of(word)?;
         let mut steps = building(alloc, over)?;
         let count = steps.len();
-        steps.push(Turn {
+        steps.push(Step {
             exchange: exchange(head_of(moves), b"")?,
             refusals: refusals_of(alloc, row)?,
         })?;

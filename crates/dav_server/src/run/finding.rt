@@ -121,13 +121,13 @@ fn step_with(
     head: &'static [u8],
     tree: Element,
     refusals: Vec<Option<FsError>>,
-) -> Result<Turn<'static>, Fail> {
+) -> Result<Step<'static>, Fail> {
     let exchange = Exchange::new(head, Body::Tree(tree), None, 1, None)?;
-    Ok(Turn { exchange, refusals })
+    Ok(Step { exchange, refusals })
 }
 
 // The folder and the file are made, get their properties, and are asked for with these refusals.
-fn steps(alloc: Global, refusals: Vec<Option<FsError>>) -> Result<Vec<Turn<'static>>, Fail> {
+fn steps(alloc: Global, refusals: Vec<Option<FsError>>) -> Result<Vec<Step<'static>>, Fail> {
     let mut steps = Vec::new(alloc);
     steps.push(step(alloc, b"MKCOL /d HTTP/1.1\r\n\r\n")?)?;
     steps.push(step(alloc, b"PUT /d/f HTTP/1.1\r\n\r\n")?)?;

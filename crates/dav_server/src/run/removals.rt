@@ -105,22 +105,22 @@ pub(crate) fn refusals_of(alloc: Global, row: &'static str) -> Result<Vec<Option
 }
 
 // A step of which no call is refused. A PUT stores one byte.
-pub(crate) fn step(alloc: Global, head: &'static [u8]) -> Result<Turn<'static>, BadMoment> {
+pub(crate) fn step(alloc: Global, head: &'static [u8]) -> Result<Step<'static>, BadMoment> {
     let body: &[u8] = if head.starts_with(b"PUT") { b"x" } else { b"" };
-    Ok(Turn {
+    Ok(Step {
         exchange: exchange(head, body)?,
         refusals: Vec::new(alloc),
     })
 }
 
 // The tree is built and removed with these refusals; then its paths are asked for.
-fn steps(alloc: Global, refusals: Vec<Option<FsError>>) -> Result<Vec<Turn<'static>>, Fail> {
+fn steps(alloc: Global, refusals: Vec<Option<FsError>>) -> Result<Vec<Step<'static>>, Fail> {
     let mut steps = Vec::new(alloc);
     for head in BUILDING {
         steps.push(step(alloc, head)?)?;
     }
     let exchange = exchange(b"DELETE /d HTTP/1.1\r\n\r\n", b"")?;
-    steps.push(Turn { exchange, refusals })?;
+    steps.push(Step { exchange, refusals })?;
     for (_, head) in ASKING {
         steps.push(step(alloc, head)?)?;
     }

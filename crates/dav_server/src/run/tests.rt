@@ -34,7 +34,7 @@ pub(super) fn refusing_server(alloc: Global) -> Result<DavHandler<Refusing<MemFs
 }
 
 /// The replies of such a server to a run.
-pub(super) fn replies_to(alloc: Global, steps: Vec<Turn<'_>>) -> Result<Vec<Reply>, Fail> {
+pub(super) fn replies_to(alloc: Global, steps: Vec<Step<'_>>) -> Result<Vec<Reply>, Fail> {
     let mut server = refusing_server(alloc)?;
     match run_refused(&mut server, alloc, steps) {
         Ok(replies) => Ok(replies),
@@ -105,18 +105,18 @@ last-modified: Thu, 01 Jan 1970 00:00:01 GMT
 ";
 
 // A PUT, the same again with these refusals, and a GET.
-fn steps(alloc: Global, refusals: Vec<Option<FsError>>) -> Result<Vec<Turn<'static>>, Fail> {
+fn steps(alloc: Global, refusals: Vec<Option<FsError>>) -> Result<Vec<Step<'static>>, Fail> {
     let put = b"PUT /a HTTP/1.1\r\n\r\n";
     let mut steps = Vec::new(alloc);
-    steps.push(Turn {
+    steps.push(Step {
         exchange: exchange(put, b"x")?,
         refusals: Vec::new(alloc),
     })?;
-    steps.push(Turn {
+    steps.push(Step {
         exchange: exchange(put, b"y")?,
         refusals,
     })?;
-    steps.push(Turn {
+    steps.push(Step {
         exchange: exchange(b"GET /a HTTP/1.1\r\n\r\n", b"")?,
         refusals: Vec::new(alloc),
     })?;
