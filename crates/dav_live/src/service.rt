@@ -9,13 +9,13 @@ use crate::basic::credentials_of;
 use crate::fault::{Fault, OpenError};
 use crate::handler::Handler;
 use crate::heads::{
-    field, has_many_names, is_for, is_lock, method_of, is_safe_method, target_of, with_timeout,
+    field, has_many_names, is_for, is_lock, is_safe_method, method_of, target_of, with_timeout,
 };
 use crate::leases::{Lease, next_ended, note_locks, unlock_head};
 use crate::line::{Answered, line_of};
 use crate::page::{ASKED, asking_head, page_answer};
 use crate::record::Record;
-use crate::render::{answer_of, without_body, unknown_user};
+use crate::render::{answer_of, unknown_user, without_body};
 use crate::settings::Settings;
 use crate::users::{Users, UsersError};
 use crate::withheld::without_credentials;
@@ -216,7 +216,9 @@ impl<D: Disk + Drop> Service<D> {
             }
             Err(UsersError::Memory) => Err(AllocError),
             Err(error) => {
-                let notice = format!(in self.alloc; "users: {error}; the users are as they were\n")?;
+                let notice = format!(in self.alloc;
+                    "users: {error}; the users are as they were\n"
+                )?;
                 self.notices.push_str(notice.as_str())
             }
         }
@@ -495,12 +497,7 @@ impl<D: Disk + Drop> Service<D> {
     }
 
     // Answers a request of somebody who may ask: what is run and kept of its head doesn't show who that is.
-    fn accept(
-        &mut self,
-        principal: Option<&str>,
-        head: &[u8],
-        body: Bytes,
-    ) -> Result<Answer, Stop>
+    fn accept(&mut self, principal: Option<&str>, head: &[u8], body: Bytes) -> Result<Answer, Stop>
         requires { IsSendableTextIfAny (option_copied principal) }
     {
         if has_many_names(head) {

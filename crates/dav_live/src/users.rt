@@ -2,7 +2,7 @@
 ghost use Rattle.std.specs.Prelude.{IsTrue};
 ghost use Rattle.dav_live.specs.Sent.{IsSendableText};
 
-use crate::password::{matches_secret, is_secret};
+use crate::password::{is_secret, matches_secret};
 use crate::sendable::is_sendable;
 use sha2::{Digest, Sha256};
 use std::alloc::{AllocError, AllocFailed, Global};

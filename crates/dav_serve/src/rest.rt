@@ -21,7 +21,11 @@ pub fn keep_rest(
 ) -> Result<(), Refusal> {
     let (place, count) = match live.rest() {
         Ok(rest) => rest,
-        Err(error) => return Err(refused(String::from_str(alloc, folder)?, String::new(alloc), error)),
+        Err(error) => return Err(refused(
+            String::from_str(alloc, folder)?,
+            String::new(alloc),
+            error,
+        )),
     };
     if count == 0 {
         return Ok(());

@@ -16,11 +16,13 @@ returns c =
     let told = c.args.told.now in
     let end : string_bytes c.in_ok-end.end ≡ decimal told.status ++ (codes " " ++ decimal told.bytes) = c.in_ok-end.ensures.ok in
     let last : string_bytes c.push_str-2.new.self ≡ string_bytes c.push_word-4.new.line ++ (decimal told.status ++ (codes " " ++ decimal told.bytes)) =
-      c.in_ok-push_str-2.ensures.bytes ∙ ap (λ (text : List ℕ). string_bytes c.push_word-4.new.line ++ text) (c.as_str.ensures.value ∙ end) in
-    (string_bytes c.in_ok-line.line, added
-      (string_bytes c.push_str.new.self) (string_bytes c.push_word.new.line) (string_bytes c.push_word-2.new.line)
-      (string_bytes c.push_word-3.new.line) (string_bytes c.push_word-4.new.line) (string_bytes c.push_str-2.new.self)
-      (string_bytes c.in_ok-line.line) (word_text told.address.now) (word_text told.user.now) (word_text told.method.now) (word_text told.target.now)
-      (decimal told.status) (decimal told.bytes)
-      c.in_ok-push_str.ensures.bytes c.in_ok-push_word.ensures c.in_ok-push_word-2.ensures c.in_ok-push_word-3.ensures
-      c.in_ok-push_word-4.ensures last)
+    c.in_ok-push_str-2.ensures.bytes ∙ ap (λ (text : List ℕ). string_bytes c.push_word-4.new.line ++ text) (c.as_str.ensures.value ∙ end) in (
+      string_bytes c.in_ok-line.line,
+      added
+          (string_bytes c.push_str.new.self) (string_bytes c.push_word.new.line) (string_bytes c.push_word-2.new.line)
+          (string_bytes c.push_word-3.new.line) (string_bytes c.push_word-4.new.line) (string_bytes c.push_str-2.new.self)
+          (string_bytes c.in_ok-line.line) (word_text told.address.now) (word_text told.user.now) (word_text told.method.now) (word_text told.target.now)
+          (decimal told.status) (decimal told.bytes)
+          c.in_ok-push_str.ensures.bytes c.in_ok-push_word.ensures c.in_ok-push_word-2.ensures c.in_ok-push_word-3.ensures
+          c.in_ok-push_word-4.ensures last,
+    )

@@ -23,14 +23,14 @@ loop-rest-preserved-in_ok-extend_from_slice c more h =
     let none : ¬ ShowsCredentials c.first_line.result.0.now = search rules in
     rw c.in_ok-extend_from_slice.ensures.items
     (line_stays c.args.head.now c.loop-rest.rest.now c.first_line.result.0.now c.first_line.result.1.now c.loop-rest.kept.items more some
-      c.first_line.ensures.line c.first_line.ensures.rest none c.loop-rest.invariant h)
+    c.first_line.ensures.line c.first_line.ensures.rest none c.loop-rest.invariant h)
 
 pub loop-rest-preserved : goal.loop-rest-preserved
 loop-rest-preserved c more h =
     let some : c.loop-rest.rest.now ≢ [] = search rules in
     let shows : ShowsCredentials c.first_line.result.0.now = search rules in
     line_goes c.args.head.now c.loop-rest.rest.now c.first_line.result.0.now c.first_line.result.1.now c.loop-rest.kept.items more some
-      c.first_line.ensures.line c.first_line.ensures.rest shows c.loop-rest.invariant h
+    c.first_line.ensures.line c.first_line.ensures.rest shows c.loop-rest.invariant h
 
 pub returns : goal.returns
 returns c =
