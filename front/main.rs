@@ -221,11 +221,8 @@ fn main() {
         .and_then(|mut file| file.read_exact(&mut random))
         .unwrap_or_else(|error| fail("/dev/urandom", error));
     let _ = front.report(0, HELLO, &random);
-    wait_for_core(&front);
-    if let (Some(text), Ok(address)) = (&settings.ready, listener.local_addr()) {
-        if std::env::var_os("FRONT_BEGUN").is_none() {
-            eprintln!("{}", text.replace("{port}", &address.port().to_string()));
-        }
+    if wait_for_core(&front) && std::env::var_os("FRONT_BEGUN").is_none() {
+        say_ready(settings.ready.as_deref(), &listener);
     }
     let ticking = front.clone();
     thread::spawn(move || {
@@ -278,14 +275,23 @@ fn bind(address: &str) -> TcpListener {
     }
 }
 
-/// Waits until the core answers, as a connection that comes and goes: then it has read its state.
-fn wait_for_core(front: &Front) {
+/// Waits until the core answers, as a connection that comes and goes: then it has read its state. False where it has ended.
+fn wait_for_core(front: &Front) -> bool {
     let (slot, orders) = front.take_slot();
-    if front.report(slot, OPENED, &[]).is_ok() && orders.recv().is_ok() {
+    let answers = front.report(slot, OPENED, &[]).is_ok() && orders.recv().is_ok();
+    if answers {
         front.writing.fetch_sub(1, Ordering::SeqCst);
         let _ = front.report(slot, GONE, &[]);
     }
     front.free(slot);
+    answers
+}
+
+/// Says on standard error that the server is ready, with the port that it has.
+fn say_ready(text: Option<&str>, listener: &TcpListener) {
+    if let (Some(text), Ok(address)) = (text, listener.local_addr()) {
+        eprintln!("{}", text.replace("{port}", &address.port().to_string()));
+    }
 }
 
 /// Takes connections, for ever.

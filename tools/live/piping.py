@@ -1,4 +1,5 @@
 """Runs a dav-serve without its front, over pipes, with a turn for each request."""
+import contextlib
 import struct
 import subprocess
 
@@ -26,7 +27,8 @@ def run(words, *requests, **more):
                     answers.append(core.stdout.read(struct.unpack("<IBI", head)[2]))
             core.stdin.close()
         except BrokenPipeError:
-            pass
+            with contextlib.suppress(BrokenPipeError):
+                core.stdin.close()
         said = core.stderr.read().decode()
         return answers[1:], core.wait(), said
 
