@@ -1,6 +1,6 @@
 -- Where the reader is in a stream, within a request or before one.
 use Rattle.std.proofs.Common.{◌≡◌, ◌≢◌, ℕ, ◌<◌, Bool, true, false, cond, List, [], ◌++◌, length, drop, refl, sym, ap, ◌∙◌, subst, subst₂, arith, append_assoc, append-nil, length-append, inl}
-use Rattle.httparse.specs.Grammar.{RequestHead, print_request}
+use Rattle.httparse.specs.Grammar.{RequestHead}
 use Rattle.http1.specs.declared.conn.BodySize.TheVariants.{Known}
 use Rattle.http1.specs.declared.conn.Limits.{Limits}
 use Rattle.http1.specs.declared.conn.Reading.TheVariants as Reads
@@ -14,7 +14,7 @@ use Rattle.http1.specs.Conn.{unread_size}
 use Rattle.http1.specs.Decoder.{Completes, Continues, Runs, with_front, decoder_for}
 use Rattle.http1.specs.Message as Wire
 use Rattle.http1.specs.Message.{known_of, AcceptsRequest, ReadsRequestMessage}
-use Rattle.http1.specs.Server.{request_of, reading, after_piece}
+use Rattle.http1.specs.Server.{reading, after_piece}
 use Rattle.http1.proofs.OneParse.{completes_from_body, body_from_completes}
 use Rattle.http_server.specs.Exchange.{ExpectsContinue, continue_text}
 use Rattle.http_server.specs.History.{HasNoMessage, NextIs}
@@ -34,29 +34,42 @@ IsBodyAt-start limits framing after = record {
   forth = λ more whole rest x. (whole, refl, completes_from_body limits framing (after ++ more) whole rest x);
 }
 
+-- what was given before a piece, and the piece, were given as one
+given_as_one : (given piece : List ℕ) (body : Body) → with_front given (with_front piece body) ≡ with_front (given ++ piece) body
+given_as_one given piece body = ap (λ (t : List ℕ). record body { bytes = t }) (sym (append_assoc given piece body.bytes))
+
 module _ {limits : Limits} {framing : Framing} {after : List ℕ} {d : Decoder} {unread given : List ℕ}
-    (x : IsBodyAt limits framing after d unread given) where
-  IsBodyAt-append : (came : List ℕ) → IsBodyAt limits framing (after ++ came) d (unread ++ came) given
-  IsBodyAt-append came = record {
-    back = λ more body rest z. rw append_assoc (x.back (came ++ more) body rest (rw append_assoc at z));
-    forth = λ more whole rest z.
-        let it = x.forth (came ++ more) whole rest (rw append_assoc at z) in (it.0, it.1, rw append_assoc it.2);
+    (at : IsBodyAt limits framing after d unread given) where
+  -- the body that a decoder reads in these bytes is what is left, of the body in those, after what was given
+  abbrev IsLeft : (those these : List ℕ) (whole : Body) → Type 0
+  IsLeft those these whole =
+      (rest : List ℕ) → ReadsBody limits framing those whole rest
+      → (body : Body) × (whole ≡ with_front given body) × Completes d these body rest
+
+  abbrev GoesBack : (those these : List ℕ) (body : Body) → Type 0
+  GoesBack those these body =
+      (rest : List ℕ) → Completes d these body rest → ReadsBody limits framing those (with_front given body) rest
+
+  body_grows : (came : List ℕ) → IsBodyAt limits framing (after ++ came) d (unread ++ came) given
+  body_grows came = record {
+    back = λ more body.
+        subst₂ (λ those these. GoesBack those these body) (sym (append_assoc after came more))
+        (sym (append_assoc unread came more)) (at.back (came ++ more) body);
+    forth = λ more whole.
+        subst₂ (λ those these. IsLeft those these whole) (sym (append_assoc after came more))
+        (sym (append_assoc unread came more)) (at.forth (came ++ more) whole);
   }
 
-  IsBodyAt-step : (e : Decoder) (len : ℕ) (piece : List ℕ) → Continues d unread e len piece
+  body_goes_on : (e : Decoder) (len : ℕ) (piece : List ℕ) → Continues d unread e len piece
       → IsBodyAt limits framing after e (drop len unread) (given ++ piece)
-  IsBodyAt-step e len piece y = record {
-    back = λ more body rest z.
-        subst (λ (t : List ℕ). ReadsBody limits framing (after ++ more) (record body { bytes = t }) rest)
-        (sym (append_assoc given piece body.bytes)) (x.back more _ rest (y.back more body rest z));
-    forth = λ more whole rest z.
-        let first = x.forth more whole rest z in
-        let then_ = y.forth more first.0 rest first.2 in (
-          then_.0,
-          first.1 ∙ ap (with_front given) then_.1
-              ∙ ap (λ (t : List ℕ). record (then_.0) { bytes = t }) (sym (append_assoc given piece then_.0.bytes)),
-          then_.2,
-        );
+  body_goes_on e len piece onward = record {
+    back = λ more body rest read.
+        let both = at.back more (with_front piece body) rest (onward.back more body rest read) in
+        rw (given_as_one given piece body) at both;
+    forth = λ more whole rest read.
+        let before = at.forth more whole rest read in
+        let now = onward.forth more before.0 rest before.2 in
+        (now.0, before.1 ∙ ap (with_front given) now.1 ∙ given_as_one given piece now.0, now.2);
   }
 
 -- a decoder of a body with an end goes on as one
@@ -71,23 +84,30 @@ ends_first limits (Framed.Length n) other is = cc
 ends_first limits Framed.Chunked other is = cc
 ends_first limits Framed.UntilClose other is = other refl
 
--- a body whose length is known is that long
-sized : (d : Decoder) (len : ℕ) (stream : List ℕ) (body : Body) (rest : List ℕ) → unread_size (Reads.Body d) ≡ Known len
-    → Completes d stream body rest → length body.bytes ≡ len
-sized (Decoding.Length left) len stream body rest is x = let same : left ≡ len = cc in x.0 ∙ same
-sized (Decoding.Chunked chunks max_len) len stream body rest is x = cc
-sized Decoding.UntilClose len stream body rest is x = cc
+-- a decoder that knows how much is left is the one for so many bytes
+counts : {len : ℕ} (d : Decoder) → unread_size (Reads.Body d) ≡ Known len → d ≡ Decoding.Length len
+counts (Decoding.Length left) known = ap Decoding.Length (cc)
+counts (Decoding.Chunked chunks max_len) known = cc
+counts Decoding.UntilClose known = cc
 
 -- ---- a request that was begun
 
 module _ {p : Place} {stream interim : List ℕ} (x : Begun p stream interim) where
-  Begun-append : (came : List ℕ) → Begun (record p { unread = p.unread ++ came }) (stream ++ came) interim
-  Begun-append came = record {
+  -- its head stays when more comes, and no other begins the stream
+  still : (came : List ℕ) → AcceptsRequest p.config.limits (stream ++ came) x.head x.framing (x.after ++ came)
+  still = AcceptsRequest-append x.accepts
+
+  alone : (came : List ℕ) {h : RequestHead} {f : Framing} {after : List ℕ} → AcceptsRequest p.config.limits (stream ++ came) h f after
+      → (h ≡ x.head) × (f ≡ x.framing) × (after ≡ x.after ++ came)
+  alone came other = accepts_unique other (still came)
+
+  begun_grows : (came : List ℕ) → Begun (record p { unread = p.unread ++ came }) (stream ++ came) interim
+  begun_grows came = record {
     head = x.head;
     framing = x.framing;
     after = x.after ++ came;
-    accepts = AcceptsRequest-append x.accepts came;
-    text = after_front stream p.head x.after came x.text;
+    accepts = still came;
+    text = after_front p.head x.after came x.text;
     few = x.few;
     plain = x.plain;
     most = x.most;
@@ -97,7 +117,7 @@ module _ {p : Place} {stream interim : List ℕ} (x : Begun p stream interim) wh
     ends = x.ends;
     waits = x.waits;
     server = x.server;
-    goes_on = IsBodyAt-append x.goes_on came;
+    goes_on = body_grows x.goes_on came;
   }
 
   pub Begun-step : (e : Decoder) (len : ℕ) (piece : List ℕ) (new : Server) → Continues x.decoder p.unread e len piece
@@ -118,7 +138,7 @@ module _ {p : Place} {stream interim : List ℕ} (x : Begun p stream interim) wh
     ends = ends_on x.decoder e p.unread piece len y.runs x.ends;
     waits = _;
     server = is ∙ ap (λ s. after_piece s p.unread (Reads.Body e)) x.server;
-    goes_on = IsBodyAt-step x.goes_on e len piece y;
+    goes_on = body_goes_on x.goes_on e len piece y;
   }
 
   pub begun_work : (ended : Bool) → HasWork p.config.limits ended stream
@@ -126,27 +146,29 @@ module _ {p : Place} {stream interim : List ℕ} (x : Begun p stream interim) wh
 
   pub begun_some : stream ≢ []
   begun_some none =
-      omega (arith, head_is_some x.head, ap length (sym none ∙ x.accepts.reads.1), length-append (print_request x.head) x.after)
+      let long = simp length-append at (ap length (sym none ∙ x.accepts.reads.1)) in
+      let some = head_is_some x.head in
+      omega (arith, long, some)
 
   -- a whole request of the stream has this head, the bytes that are kept, and then what the decoder reads
   pub reads_on : (more : List ℕ) (m : Wire.Request) (rest : List ℕ) → ReadsRequestMessage p.config.limits (stream ++ more) m rest
       → (m.head ≡ x.head) × (body : Body) × (m.body ≡ with_front p.body body) × Completes x.decoder (p.unread ++ more) body rest
   reads_on more m rest z =
-      let same = accepts_unique z.head (AcceptsRequest-append x.accepts more) in
-      let body = subst₂ (λ f (t : List ℕ). ReadsBody p.config.limits f t m.body rest) same.1 same.2 z.body in
-      let found = x.goes_on.forth more m.body rest body in
-      (same.0, found.0, found.1, found.2)
+      let same = alone more z.head in
+      let read = subst₂ (λ f (t : List ℕ). ReadsBody p.config.limits f t m.body rest) same.1 same.2 z.body in
+      let left = x.goes_on.forth more m.body rest read in
+      (same.0, left.0, left.1, left.2)
 
   pub begun_invited : ExpectsContinue p.config.limits stream → interim ≡ continue_text
   begun_invited waits =
-      let same = accepts_unique waits.3 x.accepts in
-      let asks = subst₂ (λ h f. (request_of h f).expects_continue ≡ true) same.0 same.1 waits.4 in
-      x.invited ∙ ap (λ b. cond b continue_text []) asks
+      let is = accepts_unique waits.3 x.accepts in
+      x.invited ∙ ap (λ b. cond b continue_text []) (rw (is.0, is.1) at waits.4)
 
   pub is_unfinished : ((body : Body) (rest : List ℕ) → ¬ (Completes x.decoder p.unread body rest)) → HasNoMessage p.config.limits stream
   is_unfinished none m rest z =
-      let found = reads_on [] m rest (rw append-nil z) in
-      none found.1 rest (rw append-nil at found.3)
+      let whole = subst (λ (t : List ℕ). ReadsRequestMessage p.config.limits t m rest) (sym (append-nil stream)) z in
+      let found = reads_on [] m rest whole in
+      none found.1 rest (subst (λ (t : List ℕ). Completes x.decoder t found.1 rest) (append-nil p.unread) found.3)
 
   pub too_long : p.most < length p.body → NextIs p.config.limits stream (λ m. most_of p.config m.head.method < length m.body.bytes)
   too_long over more m rest z =
@@ -159,21 +181,21 @@ module _ {p : Place} {stream interim : List ℕ} (x : Begun p stream interim) wh
   too_long_ahead len is over more m rest z =
       let found = reads_on more m rest z in
       let most : most_of p.config m.head.method ≡ p.most = ap (λ (h : RequestHead). most_of p.config h.method) found.0 ∙ sym x.most in
-      let size = sized x.decoder len _ found.1 rest (rw x.server at is) found.3 in
+      let size = (subst (λ d. Completes d (p.unread ++ more) found.1 rest) (counts x.decoder (rw x.server at is)) found.3).0 in
       omega (arith, most, size, ap (λ (b : Body). length b.bytes) found.2, length-append p.body found.1.bytes)
 
 -- what a head states stays when more comes
 stated_more : {p : Place} {stream interim : List ℕ} (x : Begun p stream interim) (came : List ℕ) → IsStatedWithin p.config stream
     → IsStatedWithin p.config (stream ++ came)
 stated_more {p} {stream} x came within h len after z =
-    let same = accepts_unique z (AcceptsRequest-append x.accepts came) in
+    let same = alone x came z in
     let accepts = subst (λ f. AcceptsRequest p.config.limits stream x.head f x.after) (sym same.1) x.accepts in
     let fits = within x.head len x.after accepts in
     omega (arith, fits, ap (λ (k : RequestHead). most_of p.config k.method) same.0)
 
 Standing-at : (b : Bool) (p : Place) (stream interim came : List ℕ) → StandsAt b p stream interim
     → StandsAt b (record p { unread = p.unread ++ came }) (stream ++ came) interim
-Standing-at true p stream interim came x = (Begun-append x.0 came, x.1, stated_more x.0 came x.2)
+Standing-at true p stream interim came x = (begun_grows x.0 came, x.1, stated_more x.0 came x.2)
 Standing-at false p stream interim came x =
     record { server = x.server; unread = ap (λ (t : List ℕ). t ++ came) x.unread; body = x.body; silent = x.silent }
 

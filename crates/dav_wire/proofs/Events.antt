@@ -1,5 +1,7 @@
 -- What each event that is read does to the place in the stream.
-use Rattle.std.proofs.Common.{◌≡◌, ◌≢◌, ℕ, ◌+◌, ◌*◌, ◌<◌, ◌≤◌, Bool, true, false, cond, ◌&&◌, ◌==◌, List, [], ◌++◌, length, take, drop, refl, sym, ap, ◌∙◌, subst, subst₂, arith, append-nil, length-append, length-drop, take-append-drop, inl, inr}
+use Rattle.std.proofs.Common.{◌≡◌, ◌≢◌, ℕ, ◌+◌, ◌*◌, ◌<◌, ◌≤◌, Bool, true, false, cond, ◌==◌, List, [], ◌++◌, length, take, drop, refl, sym, ap, ◌∙◌, subst, subst₂, arith, append-nil, length-append, length-drop, take-append-drop, inl, inr}
+use Rattle.std.proofs.Math.Bool.{and-false}
+use Rattle.std.proofs.lemmas.Bool.{and_right}
 use Rattle.std.proofs.lemmas.List.{length-map, take_all}
 use Rattle.httparse.specs.declared.spans.Span.{Span}
 use Rattle.httparse.specs.declared.spans.HeaderSpan.{HeaderSpan}
@@ -17,7 +19,7 @@ use Rattle.http1.specs.declared.conn.BodySize.TheVariants.{Known}
 use Rattle.http1.specs.Conn.{ReadsPiece, unread_size}
 use Rattle.http1.specs.Decoder.{Completes, with_front, decoder_for}
 use Rattle.http1.specs.Framing.{method_kind}
-use Rattle.http1.specs.Message.{AcceptsRequest}
+use Rattle.http1.specs.Message.{known_of, AcceptsRequest}
 use Rattle.http1.specs.Server.{new_server, request_of, is_head, reading, has_codings, expects_continue, after_piece, TakesHead, ReadsHead, ReadsInBody, ReadsAt, ServerReads, ServerRefuses}
 use Rattle.http_server.specs.Exchange.{ExpectsContinue, continue_text}
 use Rattle.http_server.specs.History.{NextIs, HasTooManyFields, HasUnknownCoding, IsReadError}
@@ -32,11 +34,6 @@ use Rattle.dav_wire.specs.Place.{Place, IsBodyAt, Begun, invitation, IsBetween, 
 use Rattle.dav_wire.proofs.Bodies.{IsBodyAt-start, ends_first, Begun-step, begun_some, reads_on, begun_invited, is_unfinished}
 
 -- ---- events
-
-never_waits : (a b : Bool) → (a && (b && false)) ≡ false
-never_waits true true = refl
-never_waits true false = refl
-never_waits false b = refl
 
 module _ (p : Place) (stream interim : List ℕ) (spans : List HeaderSpan) (new : Server) (read : Progress RequestSpans)
     (did : ServerReads p.server p.unread spans new read) where
@@ -121,7 +118,7 @@ module _ (p : Place) (stream interim : List ℕ) (spans : List HeaderSpan) (new 
         server =
             found.2 ∙ (λ i. after_piece (b.server i) p.unread (ends.0 i))
             ∙ ap (λ t. record (in_body p.config.limits b.head b.framing b.decoder t) { reading = Reads.Done })
-            (never_waits b.waits (length p.unread == 0));
+            (and_right b.waits _ (and-false (length p.unread == 0)));
       }
 
   pub end_found : (count : ℕ) → Standing p stream interim → read.event ≡ event.End count → HasEnd after_read stream
@@ -253,10 +250,14 @@ module _ {p : Place} {spans : List HeaderSpan} {r : RequestSpans} {stream interi
   pub head_work : (ended : Bool) → HasWork p.config.limits ended stream
   head_work ended = inl (record { head = x.takes.head; framing = x.takes.framing; after = drop r.len stream; accepts = head_accepted })
 
-  -- the next request is the one with this head, whatever bytes follow
+  -- each request that may begin the stream has the head that was taken
+  one_head : NextIs p.config.limits stream (λ m. m.head ≡ x.takes.head)
+  one_head more m rest read = (accepts_unique read.head (AcceptsRequest-append head_accepted more)).0
+
   pub has_coding : has_codings p.server ≡ true → NextIs p.config.limits stream HasUnknownCoding
-  has_coding is more m rest z =
-      rw (accepts_unique z.head (AcceptsRequest-append head_accepted more)).0 (sym (ap has_codings x.takes.next) ∙ is)
+  has_coding coded more m rest read =
+      ap (λ (k : RequestHead). (known_of k.fields).other_coding) (one_head more m rest read)
+      ∙ sym (ap has_codings x.takes.next) ∙ coded
 
   pub head_some : 0 < r.len
   head_some = omega (arith, head_is_some x.takes.head, x.takes.covered.len)

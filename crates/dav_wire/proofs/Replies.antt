@@ -18,8 +18,8 @@ use Rattle.dav_wire.specs.Exchange.{Exchanges}
 use Rattle.dav_wire.specs.History.{History, IsCalledFor, IsServed}
 use Rattle.dav_wire.specs.Place.{Place, IsAnswered, IsRunning, StandsAt, aborted, closed_with, rest_text, after_rest}
 use Rattle.dav_wire.specs.Refusals.{closing_text}
-use Rattle.dav_wire.proofs.Runs.{aborts, cannot_send}
-use Rattle.dav_wire.proofs.Streams.{Serves-last}
+use Rattle.dav_wire.proofs.Runs.{served_as, aborts, cannot_send}
+use Rattle.dav_wire.proofs.Streams.{serves_last}
 
 pub unrefused : (result : Result (Unit {0}) WriteError) (refusal : Option WriteError) (spare len : ℕ)
     → GivesOrRefuses refusal spare len result → OnOk result (refusal ≡ None)
@@ -127,22 +127,14 @@ module _ (p : Place) (h : History) (r : Response) (bodiless : Bool) (x : IsAnswe
     pub closes : IsClosed new → IsServed p.config (record h { state = Closing Asked; pending = now })
     closes closed = elim leaves [
       | inl stays ↦ let wrong = sym closed ∙ ap writing stays.1 in absurd (cc)
-      | inr ends ↦ record {
-        answered = x.base.answered;
-        text = x.base.text;
-        rest = x.base.rest;
-        serves = x.base.serves;
-        interim = x.base.interim;
-        is_interim = x.base.is_interim;
-        stands = record {
-          call = (x.asked, r);
-          calls_are = x.calls;
-          last = last_text;
-          after = p.unread;
-          exchange = exchange false ends.0;
-          written_is = written_is;
-        };
-      }
+      | inr ends ↦ served_as x.base (record h { state = Closing Asked; pending = now }) refl (record {
+        call = (x.asked, r);
+        calls_are = x.calls;
+        last = last_text;
+        after = p.unread;
+        exchange = exchange false ends.0;
+        written_is = written_is;
+      })
     ]
 
     pub stays_open : ¬ (IsClosed new) → IsRunning (record p { server = new }) (record h { pending = now })
@@ -153,7 +145,7 @@ module _ (p : Place) (h : History) (r : Response) (bodiless : Bool) (x : IsAnswe
           answered = x.base.answered ++ (x.asked, r) ∷ [];
           text = x.base.text ++ last_text;
           rest = p.unread;
-          serves = Serves-last p.config x.base.answered h.received x.base.text x.base.rest x.base.serves (exchange true stays.0);
+          serves = serves_last p.config x.base.answered h.received x.base.text x.base.serves (exchange true stays.0);
           interim = [];
           is_interim = inl refl;
           written_is = written_is ∙ sym (append-nil _);
