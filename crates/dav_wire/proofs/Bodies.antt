@@ -1,5 +1,5 @@
 -- Where the reader is in a stream, within a request or before one.
-use Rattle.std.proofs.Common.{◌≡◌, ◌≢◌, ℕ, ◌<◌, Bool, true, false, cond, List, [], ◌++◌, length, drop, refl, sym, ap, ◌∙◌, subst, subst₂, arith, append_assoc, append-nil, length-append, inl}
+use Rattle.std.proofs.Common.{◌≡◌, ◌≢◌, ℕ, ◌+◌, ◌<◌, Bool, true, false, cond, List, [], ◌++◌, length, drop, refl, sym, ap, ◌∙◌, subst, subst₂, arith, append_assoc, append-nil, length-append, inl}
 use Rattle.httparse.specs.Grammar.{RequestHead}
 use Rattle.http1.specs.declared.conn.BodySize.TheVariants.{Known}
 use Rattle.http1.specs.declared.conn.Limits.{Limits}
@@ -18,59 +18,29 @@ use Rattle.http1.specs.Server.{reading, after_piece}
 use Rattle.http1.proofs.OneParse.{completes_from_body, body_from_completes}
 use Rattle.http_server.specs.Exchange.{ExpectsContinue, continue_text}
 use Rattle.http_server.specs.History.{HasNoMessage, NextIs}
+use Rattle.http_server.specs.Machine.{Leads}
 use Rattle.http_server.proofs.MachineLemmas.{head_is_some}
-use Rattle.http_server.proofs.StreamLemmas.{AcceptsRequest-append, accepts_unique}
+use Rattle.http_server.proofs.StreamLemmas.{AcceptsRequest-append, accepts_unique, Leads-step}
 use Rattle.dav_wire.specs.Exchange.{most_of}
 use Rattle.dav_wire.specs.History.{HasWork}
 use Rattle.dav_wire.specs.Refusals.{IsStatedWithin}
-use Rattle.dav_wire.specs.Place.{Place, IsBodyAt, Begun, StandsAt, Standing}
+use Rattle.dav_wire.specs.Place.{Place, Begun, StandsAt, Standing}
 use Rattle.dav_wire.proofs.Streams.{after_front}
 
 -- ---- the body
 
-pub IsBodyAt-start : (limits : Limits) (framing : Framing) (after : List ℕ) → IsBodyAt limits framing after (decoder_for limits framing) after []
-IsBodyAt-start limits framing after = record {
-  back = λ more body rest x. body_from_completes limits framing (after ++ more) body rest x;
-  forth = λ more whole rest x. (whole, refl, completes_from_body limits framing (after ++ more) whole rest x);
+-- where a decoder goes on in the unread bytes, it goes on in them and those that come
+leads_on : {first d : Decoder} {stream unread given : List ℕ} → Leads first stream d unread given → (came : List ℕ)
+    → Leads first (stream ++ came) d (unread ++ came) given
+leads_on {first} {d} {stream} {unread} {given} at came = record {
+  live = at.live;
+  back = λ more body rest.
+      subst₂ (λ (u t : List ℕ). Completes d u body rest → Completes first t (with_front given body) rest)
+      (sym (append_assoc unread came more)) (sym (append_assoc stream came more)) (at.back (came ++ more) body rest);
+  forth = λ more whole rest.
+      subst₂ (λ (u t : List ℕ). Completes first t whole rest → (body : Body) × (whole ≡ with_front given body) × Completes d u body rest)
+      (sym (append_assoc unread came more)) (sym (append_assoc stream came more)) (at.forth (came ++ more) whole rest);
 }
-
--- what was given before a piece, and the piece, were given as one
-given_as_one : (given piece : List ℕ) (body : Body) → with_front given (with_front piece body) ≡ with_front (given ++ piece) body
-given_as_one given piece body = ap (λ (t : List ℕ). record body { bytes = t }) (sym (append_assoc given piece body.bytes))
-
-module _ {limits : Limits} {framing : Framing} {after : List ℕ} {d : Decoder} {unread given : List ℕ}
-    (at : IsBodyAt limits framing after d unread given) where
-  -- the body that a decoder reads in these bytes is what is left, of the body in those, after what was given
-  abbrev IsLeft : (those these : List ℕ) (whole : Body) → Type 0
-  IsLeft those these whole =
-      (rest : List ℕ) → ReadsBody limits framing those whole rest
-      → (body : Body) × (whole ≡ with_front given body) × Completes d these body rest
-
-  abbrev GoesBack : (those these : List ℕ) (body : Body) → Type 0
-  GoesBack those these body =
-      (rest : List ℕ) → Completes d these body rest → ReadsBody limits framing those (with_front given body) rest
-
-  body_grows : (came : List ℕ) → IsBodyAt limits framing (after ++ came) d (unread ++ came) given
-  body_grows came = record {
-    back = λ more body.
-        subst₂ (λ those these. GoesBack those these body) (sym (append_assoc after came more))
-        (sym (append_assoc unread came more)) (at.back (came ++ more) body);
-    forth = λ more whole.
-        subst₂ (λ those these. IsLeft those these whole) (sym (append_assoc after came more))
-        (sym (append_assoc unread came more)) (at.forth (came ++ more) whole);
-  }
-
-  body_goes_on : (e : Decoder) (len : ℕ) (piece : List ℕ) → Continues d unread e len piece
-      → IsBodyAt limits framing after e (drop len unread) (given ++ piece)
-  body_goes_on e len piece onward = record {
-    back = λ more body rest read.
-        let both = at.back more (with_front piece body) rest (onward.back more body rest read) in
-        rw (given_as_one given piece body) at both;
-    forth = λ more whole rest read.
-        let before = at.forth more whole rest read in
-        let now = onward.forth more before.0 rest before.2 in
-        (now.0, before.1 ∙ ap (with_front given) now.1 ∙ given_as_one given piece now.0, now.2);
-  }
 
 -- a decoder of a body with an end goes on as one
 ends_on : (d e : Decoder) (input piece : List ℕ) (len : ℕ) → Runs d input e len piece → d ≢ Decoding.UntilClose → e ≢ Decoding.UntilClose
@@ -91,6 +61,15 @@ counts (Decoding.Chunked chunks max_len) known = cc
 counts Decoding.UntilClose known = cc
 
 -- ---- a request that was begun
+
+-- A whole request begins the stream, once more has come: its head is the one that was read, and its body is what is kept and
+-- then what the decoder reads.
+pub record Finishes {p : Place} {stream interim : List ℕ} (x : Begun p stream interim) (more : List ℕ) (m : Wire.Request)
+    (rest : List ℕ) : Type 0 where
+  pub head : m.head ≡ x.head
+  pub left : Body
+  pub body : m.body ≡ with_front p.body left
+  pub completes : Completes x.decoder (p.unread ++ more) left rest
 
 module _ {p : Place} {stream interim : List ℕ} (x : Begun p stream interim) where
   -- its head stays when more comes, and no other begins the stream
@@ -117,7 +96,7 @@ module _ {p : Place} {stream interim : List ℕ} (x : Begun p stream interim) wh
     ends = x.ends;
     waits = x.waits;
     server = x.server;
-    goes_on = body_grows x.goes_on came;
+    goes_on = leads_on x.goes_on came;
   }
 
   pub Begun-step : (e : Decoder) (len : ℕ) (piece : List ℕ) (new : Server) → Continues x.decoder p.unread e len piece
@@ -138,7 +117,7 @@ module _ {p : Place} {stream interim : List ℕ} (x : Begun p stream interim) wh
     ends = ends_on x.decoder e p.unread piece len y.runs x.ends;
     waits = _;
     server = is ∙ ap (λ s. after_piece s p.unread (Reads.Body e)) x.server;
-    goes_on = body_goes_on x.goes_on e len piece y;
+    goes_on = Leads-step p.unread piece len x.goes_on y;
   }
 
   pub begun_work : (ended : Bool) → HasWork p.config.limits ended stream
@@ -150,39 +129,49 @@ module _ {p : Place} {stream interim : List ℕ} (x : Begun p stream interim) wh
       let some = head_is_some x.head in
       omega (arith, long, some)
 
-  -- a whole request of the stream has this head, the bytes that are kept, and then what the decoder reads
-  pub reads_on : (more : List ℕ) (m : Wire.Request) (rest : List ℕ) → ReadsRequestMessage p.config.limits (stream ++ more) m rest
-      → (m.head ≡ x.head) × (body : Body) × (m.body ≡ with_front p.body body) × Completes x.decoder (p.unread ++ more) body rest
-  reads_on more m rest z =
-      let same = alone more z.head in
-      let read = subst₂ (λ f (t : List ℕ). ReadsBody p.config.limits f t m.body rest) same.1 same.2 z.body in
-      let left = x.goes_on.forth more m.body rest read in
-      (same.0, left.0, left.1, left.2)
+  pub finishes : (more : List ℕ) (m : Wire.Request) (rest : List ℕ) → ReadsRequestMessage p.config.limits (stream ++ more) m rest
+      → Finishes x more m rest
+  finishes more m rest read =
+      let same = alone more read.head in
+      let its_body = completes_from_body p.config.limits x.framing (x.after ++ more) m.body rest (rw (same.1, same.2) at read.body) in
+      let it = x.goes_on.forth more m.body rest its_body in
+      record { head = same.0; left = it.0; body = it.1; completes = it.2 }
+
+  module _ {more : List ℕ} {m : Wire.Request} {rest : List ℕ} (f : Finishes x more m rest) where
+    its_most : most_of p.config m.head.method ≡ p.most
+    its_most = ap (λ (h : RequestHead). most_of p.config h.method) f.head ∙ sym x.most
+
+    its_len : length m.body.bytes ≡ length p.body + length f.left.bytes
+    its_len = ap (λ (b : Body). length b.bytes) f.body ∙ length-append p.body f.left.bytes
 
   pub begun_invited : ExpectsContinue p.config.limits stream → interim ≡ continue_text
   begun_invited waits =
       let is = accepts_unique waits.3 x.accepts in
       x.invited ∙ ap (λ b. cond b continue_text []) (rw (is.0, is.1) at waits.4)
 
+  -- what the decoder reads to the end of the body ends the request
+  pub ends_request : (body : Body) (rest : List ℕ) → Completes x.decoder (p.unread ++ []) body (rest ++ [])
+      → ReadsBody p.config.limits x.framing x.after (with_front p.body body) rest
+  ends_request body rest read =
+      let all = x.goes_on.back [] body (rest ++ []) read in
+      subst₂ (λ (t later : List ℕ). ReadsBody p.config.limits x.framing t (with_front p.body body) later) (append-nil x.after)
+      (append-nil rest) (body_from_completes p.config.limits x.framing (x.after ++ []) (with_front p.body body) (rest ++ []) all)
+
   pub is_unfinished : ((body : Body) (rest : List ℕ) → ¬ (Completes x.decoder p.unread body rest)) → HasNoMessage p.config.limits stream
-  is_unfinished none m rest z =
-      let whole = subst (λ (t : List ℕ). ReadsRequestMessage p.config.limits t m rest) (sym (append-nil stream)) z in
-      let found = reads_on [] m rest whole in
-      none found.1 rest (subst (λ (t : List ℕ). Completes x.decoder t found.1 rest) (append-nil p.unread) found.3)
+  is_unfinished none m rest read =
+      let f = finishes [] m rest (subst (λ (t : List ℕ). ReadsRequestMessage p.config.limits t m rest) (sym (append-nil stream)) read) in
+      none f.left rest (subst (λ (t : List ℕ). Completes x.decoder t f.left rest) (append-nil p.unread) f.completes)
 
   pub too_long : p.most < length p.body → NextIs p.config.limits stream (λ m. most_of p.config m.head.method < length m.body.bytes)
-  too_long over more m rest z =
-      let found = reads_on more m rest z in
-      let most : most_of p.config m.head.method ≡ p.most = ap (λ (h : RequestHead). most_of p.config h.method) found.0 ∙ sym x.most in
-      omega (arith, most, ap (λ (b : Body). length b.bytes) found.2, length-append p.body found.1.bytes)
+  too_long over more m rest read = let f = finishes more m rest read in omega (arith, over, its_most f, its_len f)
 
   pub too_long_ahead : (len : ℕ) → unread_size (reading p.server) ≡ Known len → p.most < len
       → NextIs p.config.limits stream (λ m. most_of p.config m.head.method < length m.body.bytes)
-  too_long_ahead len is over more m rest z =
-      let found = reads_on more m rest z in
-      let most : most_of p.config m.head.method ≡ p.most = ap (λ (h : RequestHead). most_of p.config h.method) found.0 ∙ sym x.most in
-      let size = (subst (λ d. Completes d (p.unread ++ more) found.1 rest) (counts x.decoder (rw x.server at is)) found.3).0 in
-      omega (arith, most, size, ap (λ (b : Body). length b.bytes) found.2, length-append p.body found.1.bytes)
+  too_long_ahead len known over more m rest read =
+      let f = finishes more m rest read in
+      let is = counts x.decoder (rw x.server at known) in
+      let size = (subst (λ d. Completes d (p.unread ++ more) f.left rest) is f.completes).0 in
+      omega (arith, over, size, its_most f, its_len f)
 
 -- what a head states stays when more comes
 stated_more : {p : Place} {stream interim : List ℕ} (x : Begun p stream interim) (came : List ℕ) → IsStatedWithin p.config stream

@@ -2,7 +2,6 @@
 use Rattle.std.proofs.Common.{◌≡◌, ◌≢◌, ℕ, Bool, false, List, [], ◌++◌, length, refl, sym, ap, ◌∙◌, subst, subst₂, arith, append_assoc, append-nil, take-append-drop, inl, inr, IsTrue, IsFalse}
 use Rattle.std.proofs.Math.Seq.{take-nil, drop-nil}
 use Rattle.std.proofs.Math.Logic.{∥∥₁_prop, ∥∥₁_elim}
-use mathlib.Core.Bool.{Bool-set}
 use denote.Struct.Props.{props}
 use Rattle.http1.specs.declared.error.WriteError.{WriteError}
 use Rattle.http_server.specs.Exchange.{ExpectsContinue, IsInterim}
@@ -306,7 +305,7 @@ rests p h b calls x going is_open room = (
 -- what it says leaves nothing to choose
 pub settled : (config : Config) (h : History) → ∥ Rests config h ∥₁ → Rests config h
 settled config h x is_open room = (
-  ∥∥₁_elim x (Bool-set _ _) (λ r. (r is_open room).0),
+  ∥∥₁_elim x (search props) (λ r. (r is_open room).0),
   λ ms rest z. ∥∥₁_elim x (search props) (λ r. (r is_open room).1 ms rest z),
   λ ms rest z count waits. ∥∥₁_elim x ∥∥₁_prop (λ r. (r is_open room).2 ms rest z count waits),
   λ ms rest z count k len after w. ∥∥₁_elim x (search props) (λ r. (r is_open room).3 ms rest z count k len after w),

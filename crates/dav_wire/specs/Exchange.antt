@@ -30,14 +30,15 @@ pub record ReadsCall (config : Config) (stream : List ℕ) (m : Wire.Request) (a
 abbrev pub Call : Type 0
 Call = Asked × Response
 
--- each call leads from the state that the one before left
+-- one call after the other, these take the answerer from the first state to the last
 abbrev pub Chain : {S : Type 0} → (S → Asked → Response → S → Type 0) → S → List Call → S → Type 0
-Chain answers old [] new = new ≡ old
-Chain {S} answers old (c ∷ calls) new = (next : S) × answers old c.0 c.1 next × Chain answers next calls new
+Chain answers first [] last = last ≡ first
+Chain {S} answers first (call ∷ calls) last =
+    (second : S) × answers first call.0 call.1 second × Chain answers second calls last
 
 -- the calls that were added lead from one state of the answerer to the other
 abbrev pub Calls : {S : Type 0} → (S → Asked → Response → S → Type 0) → S → S → List Call → List Call → Type 0
-Calls answers old new before after = (calls : List Call) × (after ≡ before ++ calls) × Chain answers old calls new
+Calls answers first last before after = (added : List Call) × (after ≡ before ++ added) × Chain answers first added last
 
 -- The stream begins with the request of the call, and the text is all that was sent for it: `100 Continue`, where its head
 -- asks for that, or nothing, and then the answer, which its client reads whole. It says `close` where one of the two
@@ -53,7 +54,7 @@ pub record Exchanges (config : Config) (stays : Bool) (stream : List ℕ) (c : C
   pub persists : keeps_open message.head c.1 ≡ stays
   pub announced : (known_of is_answer.message.head.fields).close ≡ not stays
 
--- The stream is the requests of these calls and then the rest, and the text answers them in that order. None asked to close.
+-- The stream is these requests, one after the other, and the rest. The text is their answers, in that order. None asked to close.
 abbrev pub Serves : Config → List ℕ → List Call → List ℕ → List ℕ → Type 0
 Serves config stream [] text rest = (stream ≡ rest) × (text ≡ [])
 Serves config stream (c ∷ calls) text rest =
