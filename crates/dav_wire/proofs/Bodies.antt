@@ -29,19 +29,6 @@ use Rattle.dav_wire.proofs.Streams.{after_front}
 
 -- ---- the body
 
--- where a decoder goes on in the unread bytes, it goes on in them and those that come
-leads_on : {first d : Decoder} {stream unread given : List ℕ} → Leads first stream d unread given → (came : List ℕ)
-    → Leads first (stream ++ came) d (unread ++ came) given
-leads_on {first} {d} {stream} {unread} {given} at came = record {
-  live = at.live;
-  back = λ more body rest.
-      subst₂ (λ (u t : List ℕ). Completes d u body rest → Completes first t (with_front given body) rest)
-      (sym (append_assoc unread came more)) (sym (append_assoc stream came more)) (at.back (came ++ more) body rest);
-  forth = λ more whole rest.
-      subst₂ (λ (u t : List ℕ). Completes first t whole rest → (body : Body) × (whole ≡ with_front given body) × Completes d u body rest)
-      (sym (append_assoc unread came more)) (sym (append_assoc stream came more)) (at.forth (came ++ more) whole rest);
-}
-
 -- a decoder of a body with an end goes on as one
 ends_on : (d e : Decoder) (input piece : List ℕ) (len : ℕ) → Runs d input e len piece → d ≢ Decoding.UntilClose → e ≢ Decoding.UntilClose
 ends_on (Decoding.Length left) e input piece len x other is = let wrong = sym x ∙ is in cc
@@ -80,6 +67,23 @@ module _ {p : Place} {stream interim : List ℕ} (x : Begun p stream interim) wh
       → (h ≡ x.head) × (f ≡ x.framing) × (after ≡ x.after ++ came)
   alone came other = accepts_unique other (still came)
 
+  -- and its decoder goes on in the unread bytes and those that come
+  onward : (came : List ℕ) → Leads (decoder_for p.config.limits x.framing) (x.after ++ came) x.decoder (p.unread ++ came) p.body
+  onward came =
+      let first = decoder_for p.config.limits x.framing in
+      let unread = λ (more : List ℕ). sym (append_assoc p.unread came more) in
+      let after = λ (more : List ℕ). sym (append_assoc x.after came more) in
+      record {
+        live = x.goes_on.live;
+        back = λ more body rest.
+            subst₂ (λ (u t : List ℕ). Completes x.decoder u body rest → Completes first t (with_front p.body body) rest)
+            (unread more) (after more) (x.goes_on.back (came ++ more) body rest);
+        forth = λ more whole rest.
+            subst₂ (λ (u t : List ℕ). Completes first t whole rest
+            → (body : Body) × (whole ≡ with_front p.body body) × Completes x.decoder u body rest)
+            (unread more) (after more) (x.goes_on.forth (came ++ more) whole rest);
+      }
+
   begun_grows : (came : List ℕ) → Begun (record p { unread = p.unread ++ came }) (stream ++ came) interim
   begun_grows came = record {
     head = x.head;
@@ -96,7 +100,7 @@ module _ {p : Place} {stream interim : List ℕ} (x : Begun p stream interim) wh
     ends = x.ends;
     waits = x.waits;
     server = x.server;
-    goes_on = leads_on x.goes_on came;
+    goes_on = onward came;
   }
 
   pub Begun-step : (e : Decoder) (len : ℕ) (piece : List ℕ) (new : Server) → Continues x.decoder p.unread e len piece

@@ -31,7 +31,8 @@ heads_stand_alone config stream m asked rest x =
 calls_of : (config : Config) (calls : List Call) (stream text rest : List ℕ) → Serves config stream calls text rest
     → ReadsCalls config stream calls rest
 calls_of config [] stream text rest x = x.0
-calls_of config (c ∷ calls) stream text rest x = (x.4.message, x.1, x.4.request, calls_of config calls x.1 x.2 rest x.5)
+calls_of config (c ∷ calls) stream text rest x =
+    (x.exchange.message, x.after, x.exchange.request, calls_of config calls x.after x.others rest x.later)
 
 calls_then : (config : Config) (calls : List Call) (stream mid rest : List ℕ) (c : Call) (m : Wire.Request) → ReadsCalls config stream calls mid
     → ReadsCall config mid m c.0 rest → ReadsCalls config stream (calls ++ c ∷ []) rest

@@ -19,7 +19,7 @@ use Rattle.dav_wire.specs.History.{History, IsCalledFor, IsServed}
 use Rattle.dav_wire.specs.Place.{Place, IsAnswered, IsRunning, StandsAt, aborted, closed_with, rest_text, after_rest}
 use Rattle.dav_wire.specs.Refusals.{closing_text}
 use Rattle.dav_wire.proofs.Runs.{served_as, aborts, cannot_send}
-use Rattle.dav_wire.proofs.Streams.{serves_last}
+use Rattle.dav_wire.proofs.Streams.{serves_one, serves_both}
 
 pub unrefused : (result : Result (Unit {0}) WriteError) (refusal : Option WriteError) (spare len : ℕ)
     → GivesOrRefuses refusal spare len result → OnOk result (refusal ≡ None)
@@ -102,13 +102,15 @@ module _ (p : Place) (h : History) (r : Response) (bodiless : Bool) (x : IsAnswe
         record {
           message = x.whole.message;
           request = x.whole.request;
-          interim = x.base.interim;
-          is_interim = x.base.is_interim;
-          answer = answer;
-          is_answer = it.0;
-          joined = refl;
-          persists = refl;
-          announced = it.1;
+          reply = record {
+            before = x.base.interim;
+            may_precede = x.base.is_interim;
+            final = answer;
+            reads_as = it.0;
+            text_is = refl;
+            asks = refl;
+            says = it.1;
+          };
         }
 
     abbrev Exchanged : Bool → Type 0
@@ -143,7 +145,8 @@ module _ (p : Place) (h : History) (r : Response) (bodiless : Bool) (x : IsAnswe
           answered = x.base.answered ++ (x.asked, r) ∷ [];
           text = x.base.text ++ last_text;
           rest = p.unread;
-          serves = serves_last p.config x.base.answered h.received x.base.text x.base.serves on.0;
+          serves = serves_both p.config x.base.answered ((x.asked, r) ∷ []) h.received x.base.text x.base.rest last_text p.unread
+              x.base.serves (serves_one p.config on.0);
           interim = [];
           is_interim = inl refl;
           written_is = written_is ∙ sym (append-nil _);

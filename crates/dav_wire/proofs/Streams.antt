@@ -33,23 +33,33 @@ module _ (came : List ℕ) where
 
   pub exchange_grows : {config : Config} {stays : Bool} {c : Call} {stream text rest : List ℕ}
       → Exchanges config stays stream c text rest → Exchanges config stays (stream ++ came) c text (rest ++ came)
-  exchange_grows {config} {stream} one = record {
-    message = one.message;
-    request = call_grows one.request;
-    interim = one.interim;
-    is_interim = IsInterim-append config.limits stream one.interim came one.is_interim;
-    answer = one.answer;
-    is_answer = one.is_answer;
-    joined = one.joined;
-    persists = one.persists;
-    announced = one.announced;
-  }
+  exchange_grows {config} {stream} one =
+      let reply = one.reply in
+      record {
+        message = one.message;
+        request = call_grows one.request;
+        reply = record {
+          before = reply.before;
+          may_precede = IsInterim-append config.limits stream reply.before came reply.may_precede;
+          final = reply.final;
+          reads_as = reply.reads_as;
+          text_is = reply.text_is;
+          asks = reply.asks;
+          says = reply.says;
+        };
+      }
 
   pub serves_grows : (config : Config) (calls : List Call) (stream text rest : List ℕ) → Serves config stream calls text rest
       → Serves config (stream ++ came) calls text (rest ++ came)
   serves_grows config [] stream text rest none = (rw none.0 refl, none.1)
-  serves_grows config (call ∷ calls) stream text rest all =
-      (all.0, all.1 ++ came, all.2, all.3, exchange_grows all.4, serves_grows config calls all.1 all.2 rest all.5)
+  serves_grows config (call ∷ calls) stream text rest all = record {
+    own = all.own;
+    after = all.after ++ came;
+    exchange = exchange_grows all.exchange;
+    others = all.others;
+    text_is = all.text_is;
+    later = serves_grows config calls all.after all.others rest all.later;
+  }
 
   -- what is so whatever bytes follow is so when these do
   pub next_grows : {limits : Limits} (stream : List ℕ) {P : Wire.Request → Type 0} → NextIs limits stream P
@@ -79,30 +89,25 @@ module _ (came : List ℕ) where
 
 module _ (config : Config) where
   -- an exchange alone
-  serves_one : {c : Call} {stream text rest : List ℕ} → Exchanges config true stream c text rest
-      → Serves config stream (c ∷ []) text rest
-  serves_one {text} {rest} one = (text, rest, [], sym (append-nil text), one, (refl, refl))
+  pub serves_one : {call : Call} {stream text rest : List ℕ} → Exchanges config true stream call text rest
+      → Serves config stream (call ∷ []) text rest
+  serves_one {text} {rest} one =
+      record { own = text; after = rest; exchange = one; others = []; text_is = sym (append-nil text); later = (refl, refl) }
 
   -- these exchanges, and at the rest of their stream those
-  serves_both : (front back : List Call) (stream first middle second rest : List ℕ)
+  pub serves_both : (front back : List Call) (stream first middle second rest : List ℕ)
       → Serves config stream front first middle → Serves config middle back second rest
       → Serves config stream (front ++ back) (first ++ second) rest
   serves_both [] back stream first middle second rest these those =
       subst₂ (λ (s t : List ℕ). Serves config s back (t ++ second) rest) (sym these.0) (sym these.1) those
-  serves_both (c ∷ front) back stream first middle second rest these those = (
-    these.0,
-    these.1,
-    these.2 ++ second,
-    after_front these.0 these.2 second these.3,
-    these.4,
-    serves_both front back these.1 these.2 middle second rest these.5 those,
-  )
-
-  -- an exchange at the rest of the stream comes last
-  pub serves_last : (calls : List Call) (stream text : List ℕ) {c : Call} {rest last after : List ℕ}
-      → Serves config stream calls text rest → Exchanges config true rest c last after
-      → Serves config stream (calls ++ c ∷ []) (text ++ last) after
-  serves_last calls stream text {c} before one = serves_both calls (c ∷ []) stream text _ _ _ before (serves_one one)
+  serves_both (call ∷ front) back stream first middle second rest these those = record {
+    own = these.own;
+    after = these.after;
+    exchange = these.exchange;
+    others = these.others ++ second;
+    text_is = after_front these.own these.others second these.text_is;
+    later = serves_both front back these.after these.others middle second rest these.later those;
+  }
 
   -- a request that is read of the stream of an exchange ends where that does
   ends_there : {stays : Bool} {c : Call} {m : Wire.Request} {stream text rest next : List ℕ}
@@ -123,8 +128,8 @@ module _ (config : Config) where
       inr (m, read.0, subst (λ (t : List ℕ). ReadsRequestMessage config.limits t m read.0) served.0 read.1)
   aligned (c ∷ calls) [] stream text served read = inl (omega arith, λ wrong. absurd (omega (arith, wrong)))
   aligned (c ∷ calls) (m ∷ ms) stream text {after} served read =
-      let later = subst (λ (t : List ℕ). ReadsRequests config.limits t ms after) (ends_there served.4 read.1) read.2 in
-      elim (aligned calls ms served.1 served.2 served.5 later) [
+      let later = subst (λ (t : List ℕ). ReadsRequests config.limits t ms after) (ends_there served.exchange read.1) read.2 in
+      elim (aligned calls ms served.after served.others served.later later) [
         | inl fits ↦ inl (omega (arith, fits.0), λ count. fits.1 (omega (arith, count)))
         | inr more ↦ inr more
       ]
