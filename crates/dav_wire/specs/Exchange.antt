@@ -45,7 +45,8 @@ Calls answers first last before after = (added : List Call) × (after ≡ before
 -- The text is all that is sent for the request with this head that begins the stream: `100 Continue`, where the head asks for
 -- that, or nothing, and then the answer, which its client reads whole. It says `close` where the request or the response asks
 -- for that, and only there (RFC 9112, section 9.6).
-pub record IsReply (limits : Limits) (stream : List ℕ) (head : RequestHead) (response : Response) (stays : Bool) (text : List ℕ) : Type 0 where
+pub record IsReply (limits : Limits) (stream : List ℕ) (head : RequestHead) (response : Response) (stays : Bool)
+    (text : List ℕ) : Type 0 where
   pub before : List ℕ
   pub may_precede : IsInterim limits stream before
   pub final : List ℕ
@@ -61,7 +62,8 @@ pub record Exchanges (config : Config) (stays : Bool) (stream : List ℕ) (call 
   pub reply : IsReply config.limits stream message.head call.1 stays text
 
 -- The stream and the text begin with the exchange of this call, which asks for no close, and what follows in the two is such.
-pub record ServesFirst (config : Config) (stream : List ℕ) (call : Call) (text : List ℕ) (Later : List ℕ → List ℕ → Type 0) : Type 0 where
+pub record ServesFirst (config : Config) (stream : List ℕ) (call : Call) (text : List ℕ)
+    (Later : List ℕ → List ℕ → Type 0) : Type 0 where
   pub own : List ℕ
   pub after : List ℕ
   pub exchange : Exchanges config true stream call own after
