@@ -1,5 +1,5 @@
 //! What a request is answered with.
-ghost use Rattle.std.specs.Prelude.{◌≡◌, []};
+ghost use Rattle.std.specs.Prelude.{◌≡◌, ◌++◌, [], OnOk};
 
 use bytes::Bytes;
 use dav_wire::Stop;
@@ -34,23 +34,42 @@ impl Answer {
         }
     }
 
-    /// Fills the response of a connection, which comes without fields and body.
-    pub fn fill(self, alloc: Global, is_head: bool, response: &mut Response) -> Result<(), Stop> {
+    /// Fills the response of a connection, which comes without fields and body: the status and the body are those of the reply.
+    pub fn fill(self, alloc: Global, is_head: bool, response: &mut Response) -> Result<(), Stop>
+        ensures status { OnOk result (response.new.status ≡ self.status) }
+        ensures body { OnOk result
+            (response.new.body.items ≡ response.old.body.items ++ self.body) }
+    {
         let Ok(status) = StatusCode::from_u16(self.status) else {
             return Err(Stop);
         };
+        add_fields(alloc, &self.headers, is_head, response)?;
         response.status = status;
-        for (name, value) in self.headers.iter() {
-            if is_head || name.as_str() != "content-length" {
-                add(alloc, response, name.as_str(), value)?;
-            }
-        }
         Ok(response.body.push(self.body)?)
     }
 }
 
+// Adds the fields of a reply, but for `content-length`, of which the connection tells; that of a reply to HEAD stays.
+fn add_fields(
+    alloc: Global,
+    fields: &[(String, Bytes)],
+    is_head: bool,
+    response: &mut Response,
+) -> Result<(), Stop>
+    ensures { response.new.body ≡ response.old.body }
+{
+    for (name, value) in fields.iter() {
+        if is_head || name.as_str() != "content-length" {
+            add(alloc, response, name.as_str(), value)?;
+        }
+    }
+    Ok(())
+}
+
 // Adds a field.
-fn add(alloc: Global, response: &mut Response, name: &str, value: &Bytes) -> Result<(), Stop> {
+fn add(alloc: Global, response: &mut Response, name: &str, value: &Bytes) -> Result<(), Stop>
+    ensures { response.new.body ≡ response.old.body }
+{
     let Ok(name) = HeaderName::from_bytes(alloc, name.as_bytes()) else {
         return Err(Stop);
     };
