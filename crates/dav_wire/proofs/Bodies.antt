@@ -1,6 +1,6 @@
 -- Where the reader is in a stream, within a request or before one.
-use Rattle.std.proofs.Common.{◌≡◌, ◌≢◌, ℕ, ◌<◌, Bool, true, false, cond, List, [], ◌++◌, length, drop, refl, sym, ap, ◌∙◌, subst, subst₂, arith, append_assoc, append-nil, length-append, inl}
-use Rattle.httparse.specs.Grammar.{RequestHead, print_request}
+use Rattle.std.proofs.Common.{◌≡◌, ◌≢◌, ℕ, ◌+◌, ◌<◌, Bool, true, false, cond, List, [], ◌++◌, length, drop, refl, sym, ap, ◌∙◌, subst, subst₂, arith, append_assoc, append-nil, length-append, inl}
+use Rattle.httparse.specs.Grammar.{RequestHead}
 use Rattle.http1.specs.declared.conn.BodySize.TheVariants.{Known}
 use Rattle.http1.specs.declared.conn.Limits.{Limits}
 use Rattle.http1.specs.declared.conn.Reading.TheVariants as Reads
@@ -14,50 +14,20 @@ use Rattle.http1.specs.Conn.{unread_size}
 use Rattle.http1.specs.Decoder.{Completes, Continues, Runs, with_front, decoder_for}
 use Rattle.http1.specs.Message as Wire
 use Rattle.http1.specs.Message.{known_of, AcceptsRequest, ReadsRequestMessage}
-use Rattle.http1.specs.Server.{request_of, reading, after_piece}
+use Rattle.http1.specs.Server.{reading, after_piece}
 use Rattle.http1.proofs.OneParse.{completes_from_body, body_from_completes}
 use Rattle.http_server.specs.Exchange.{ExpectsContinue, continue_text}
 use Rattle.http_server.specs.History.{HasNoMessage, NextIs}
+use Rattle.http_server.specs.Machine.{Leads}
 use Rattle.http_server.proofs.MachineLemmas.{head_is_some}
-use Rattle.http_server.proofs.StreamLemmas.{AcceptsRequest-append, accepts_unique}
+use Rattle.http_server.proofs.StreamLemmas.{AcceptsRequest-append, accepts_unique, Leads-step}
 use Rattle.dav_wire.specs.Exchange.{most_of}
 use Rattle.dav_wire.specs.History.{HasWork}
 use Rattle.dav_wire.specs.Refusals.{IsStatedWithin}
-use Rattle.dav_wire.specs.Place.{Place, IsBodyAt, Begun, StandsAt, Standing}
+use Rattle.dav_wire.specs.Place.{Place, Begun, StandsAt, Standing}
 use Rattle.dav_wire.proofs.Streams.{after_front}
 
 -- ---- the body
-
-pub IsBodyAt-start : (limits : Limits) (framing : Framing) (after : List ℕ) → IsBodyAt limits framing after (decoder_for limits framing) after []
-IsBodyAt-start limits framing after = record {
-  back = λ more body rest x. body_from_completes limits framing (after ++ more) body rest x;
-  forth = λ more whole rest x. (whole, refl, completes_from_body limits framing (after ++ more) whole rest x);
-}
-
-module _ {limits : Limits} {framing : Framing} {after : List ℕ} {d : Decoder} {unread given : List ℕ}
-    (x : IsBodyAt limits framing after d unread given) where
-  IsBodyAt-append : (came : List ℕ) → IsBodyAt limits framing (after ++ came) d (unread ++ came) given
-  IsBodyAt-append came = record {
-    back = λ more body rest z. rw append_assoc (x.back (came ++ more) body rest (rw append_assoc at z));
-    forth = λ more whole rest z.
-        let it = x.forth (came ++ more) whole rest (rw append_assoc at z) in (it.0, it.1, rw append_assoc it.2);
-  }
-
-  IsBodyAt-step : (e : Decoder) (len : ℕ) (piece : List ℕ) → Continues d unread e len piece
-      → IsBodyAt limits framing after e (drop len unread) (given ++ piece)
-  IsBodyAt-step e len piece y = record {
-    back = λ more body rest z.
-        subst (λ (t : List ℕ). ReadsBody limits framing (after ++ more) (record body { bytes = t }) rest)
-        (sym (append_assoc given piece body.bytes)) (x.back more _ rest (y.back more body rest z));
-    forth = λ more whole rest z.
-        let first = x.forth more whole rest z in
-        let then_ = y.forth more first.0 rest first.2 in (
-          then_.0,
-          first.1 ∙ ap (with_front given) then_.1
-              ∙ ap (λ (t : List ℕ). record (then_.0) { bytes = t }) (sym (append_assoc given piece then_.0.bytes)),
-          then_.2,
-        );
-  }
 
 -- a decoder of a body with an end goes on as one
 ends_on : (d e : Decoder) (input piece : List ℕ) (len : ℕ) → Runs d input e len piece → d ≢ Decoding.UntilClose → e ≢ Decoding.UntilClose
@@ -71,23 +41,56 @@ ends_first limits (Framed.Length n) other is = cc
 ends_first limits Framed.Chunked other is = cc
 ends_first limits Framed.UntilClose other is = other refl
 
--- a body whose length is known is that long
-sized : (d : Decoder) (len : ℕ) (stream : List ℕ) (body : Body) (rest : List ℕ) → unread_size (Reads.Body d) ≡ Known len
-    → Completes d stream body rest → length body.bytes ≡ len
-sized (Decoding.Length left) len stream body rest is x = let same : left ≡ len = cc in x.0 ∙ same
-sized (Decoding.Chunked chunks max_len) len stream body rest is x = cc
-sized Decoding.UntilClose len stream body rest is x = cc
+-- a decoder that knows how much is left is the one for so many bytes
+counts : {len : ℕ} (d : Decoder) → unread_size (Reads.Body d) ≡ Known len → d ≡ Decoding.Length len
+counts (Decoding.Length left) known = ap Decoding.Length (cc)
+counts (Decoding.Chunked chunks max_len) known = cc
+counts Decoding.UntilClose known = cc
 
 -- ---- a request that was begun
 
+-- A whole request begins the stream, once more has come: its head is the one that was read, and its body is what is kept and
+-- then what the decoder reads.
+pub record Finishes {p : Place} {stream interim : List ℕ} (x : Begun p stream interim) (more : List ℕ) (m : Wire.Request)
+    (rest : List ℕ) : Type 0 where
+  pub head : m.head ≡ x.head
+  pub left : Body
+  pub body : m.body ≡ with_front p.body left
+  pub completes : Completes x.decoder (p.unread ++ more) left rest
+
 module _ {p : Place} {stream interim : List ℕ} (x : Begun p stream interim) where
-  Begun-append : (came : List ℕ) → Begun (record p { unread = p.unread ++ came }) (stream ++ came) interim
-  Begun-append came = record {
+  -- its head stays when more comes, and no other begins the stream
+  still : (came : List ℕ) → AcceptsRequest p.config.limits (stream ++ came) x.head x.framing (x.after ++ came)
+  still = AcceptsRequest-append x.accepts
+
+  alone : (came : List ℕ) {h : RequestHead} {f : Framing} {after : List ℕ} → AcceptsRequest p.config.limits (stream ++ came) h f after
+      → (h ≡ x.head) × (f ≡ x.framing) × (after ≡ x.after ++ came)
+  alone came other = accepts_unique other (still came)
+
+  -- and its decoder goes on in the unread bytes and those that come
+  onward : (came : List ℕ) → Leads (decoder_for p.config.limits x.framing) (x.after ++ came) x.decoder (p.unread ++ came) p.body
+  onward came =
+      let first = decoder_for p.config.limits x.framing in
+      let unread = λ (more : List ℕ). sym (append_assoc p.unread came more) in
+      let after = λ (more : List ℕ). sym (append_assoc x.after came more) in
+      record {
+        live = x.goes_on.live;
+        back = λ more body rest.
+            subst₂ (λ (u t : List ℕ). Completes x.decoder u body rest → Completes first t (with_front p.body body) rest)
+            (unread more) (after more) (x.goes_on.back (came ++ more) body rest);
+        forth = λ more whole rest.
+            subst₂ (λ (u t : List ℕ). Completes first t whole rest
+            → (body : Body) × (whole ≡ with_front p.body body) × Completes x.decoder u body rest)
+            (unread more) (after more) (x.goes_on.forth (came ++ more) whole rest);
+      }
+
+  begun_grows : (came : List ℕ) → Begun (record p { unread = p.unread ++ came }) (stream ++ came) interim
+  begun_grows came = record {
     head = x.head;
     framing = x.framing;
     after = x.after ++ came;
-    accepts = AcceptsRequest-append x.accepts came;
-    text = after_front stream p.head x.after came x.text;
+    accepts = still came;
+    text = after_front p.head x.after came x.text;
     few = x.few;
     plain = x.plain;
     most = x.most;
@@ -97,7 +100,7 @@ module _ {p : Place} {stream interim : List ℕ} (x : Begun p stream interim) wh
     ends = x.ends;
     waits = x.waits;
     server = x.server;
-    goes_on = IsBodyAt-append x.goes_on came;
+    goes_on = onward came;
   }
 
   pub Begun-step : (e : Decoder) (len : ℕ) (piece : List ℕ) (new : Server) → Continues x.decoder p.unread e len piece
@@ -118,7 +121,7 @@ module _ {p : Place} {stream interim : List ℕ} (x : Begun p stream interim) wh
     ends = ends_on x.decoder e p.unread piece len y.runs x.ends;
     waits = _;
     server = is ∙ ap (λ s. after_piece s p.unread (Reads.Body e)) x.server;
-    goes_on = IsBodyAt-step x.goes_on e len piece y;
+    goes_on = Leads-step p.unread piece len x.goes_on y;
   }
 
   pub begun_work : (ended : Bool) → HasWork p.config.limits ended stream
@@ -126,54 +129,66 @@ module _ {p : Place} {stream interim : List ℕ} (x : Begun p stream interim) wh
 
   pub begun_some : stream ≢ []
   begun_some none =
-      omega (arith, head_is_some x.head, ap length (sym none ∙ x.accepts.reads.1), length-append (print_request x.head) x.after)
+      let long = simp length-append at (ap length (sym none ∙ x.accepts.reads.1)) in
+      let some = head_is_some x.head in
+      omega (arith, long, some)
 
-  -- a whole request of the stream has this head, the bytes that are kept, and then what the decoder reads
-  pub reads_on : (more : List ℕ) (m : Wire.Request) (rest : List ℕ) → ReadsRequestMessage p.config.limits (stream ++ more) m rest
-      → (m.head ≡ x.head) × (body : Body) × (m.body ≡ with_front p.body body) × Completes x.decoder (p.unread ++ more) body rest
-  reads_on more m rest z =
-      let same = accepts_unique z.head (AcceptsRequest-append x.accepts more) in
-      let body = subst₂ (λ f (t : List ℕ). ReadsBody p.config.limits f t m.body rest) same.1 same.2 z.body in
-      let found = x.goes_on.forth more m.body rest body in
-      (same.0, found.0, found.1, found.2)
+  pub finishes : (more : List ℕ) (m : Wire.Request) (rest : List ℕ) → ReadsRequestMessage p.config.limits (stream ++ more) m rest
+      → Finishes x more m rest
+  finishes more m rest read =
+      let same = alone more read.head in
+      let its_body = completes_from_body p.config.limits x.framing (x.after ++ more) m.body rest (rw (same.1, same.2) at read.body) in
+      let it = x.goes_on.forth more m.body rest its_body in
+      record { head = same.0; left = it.0; body = it.1; completes = it.2 }
+
+  module _ {more : List ℕ} {m : Wire.Request} {rest : List ℕ} (f : Finishes x more m rest) where
+    its_most : most_of p.config m.head.method ≡ p.most
+    its_most = ap (λ (h : RequestHead). most_of p.config h.method) f.head ∙ sym x.most
+
+    its_len : length m.body.bytes ≡ length p.body + length f.left.bytes
+    its_len = ap (λ (b : Body). length b.bytes) f.body ∙ length-append p.body f.left.bytes
 
   pub begun_invited : ExpectsContinue p.config.limits stream → interim ≡ continue_text
   begun_invited waits =
-      let same = accepts_unique waits.3 x.accepts in
-      let asks = subst₂ (λ h f. (request_of h f).expects_continue ≡ true) same.0 same.1 waits.4 in
-      x.invited ∙ ap (λ b. cond b continue_text []) asks
+      let is = accepts_unique waits.3 x.accepts in
+      x.invited ∙ ap (λ b. cond b continue_text []) (rw (is.0, is.1) at waits.4)
+
+  -- what the decoder reads to the end of the body ends the request
+  pub ends_request : (body : Body) (rest : List ℕ) → Completes x.decoder (p.unread ++ []) body (rest ++ [])
+      → ReadsBody p.config.limits x.framing x.after (with_front p.body body) rest
+  ends_request body rest read =
+      let all = x.goes_on.back [] body (rest ++ []) read in
+      subst₂ (λ (t later : List ℕ). ReadsBody p.config.limits x.framing t (with_front p.body body) later) (append-nil x.after)
+      (append-nil rest) (body_from_completes p.config.limits x.framing (x.after ++ []) (with_front p.body body) (rest ++ []) all)
 
   pub is_unfinished : ((body : Body) (rest : List ℕ) → ¬ (Completes x.decoder p.unread body rest)) → HasNoMessage p.config.limits stream
-  is_unfinished none m rest z =
-      let found = reads_on [] m rest (rw append-nil z) in
-      none found.1 rest (rw append-nil at found.3)
+  is_unfinished none m rest read =
+      let f = finishes [] m rest (subst (λ (t : List ℕ). ReadsRequestMessage p.config.limits t m rest) (sym (append-nil stream)) read) in
+      none f.left rest (subst (λ (t : List ℕ). Completes x.decoder t f.left rest) (append-nil p.unread) f.completes)
 
   pub too_long : p.most < length p.body → NextIs p.config.limits stream (λ m. most_of p.config m.head.method < length m.body.bytes)
-  too_long over more m rest z =
-      let found = reads_on more m rest z in
-      let most : most_of p.config m.head.method ≡ p.most = ap (λ (h : RequestHead). most_of p.config h.method) found.0 ∙ sym x.most in
-      omega (arith, most, ap (λ (b : Body). length b.bytes) found.2, length-append p.body found.1.bytes)
+  too_long over more m rest read = let f = finishes more m rest read in omega (arith, over, its_most f, its_len f)
 
   pub too_long_ahead : (len : ℕ) → unread_size (reading p.server) ≡ Known len → p.most < len
       → NextIs p.config.limits stream (λ m. most_of p.config m.head.method < length m.body.bytes)
-  too_long_ahead len is over more m rest z =
-      let found = reads_on more m rest z in
-      let most : most_of p.config m.head.method ≡ p.most = ap (λ (h : RequestHead). most_of p.config h.method) found.0 ∙ sym x.most in
-      let size = sized x.decoder len _ found.1 rest (rw x.server at is) found.3 in
-      omega (arith, most, size, ap (λ (b : Body). length b.bytes) found.2, length-append p.body found.1.bytes)
+  too_long_ahead len known over more m rest read =
+      let f = finishes more m rest read in
+      let is = counts x.decoder (rw x.server at known) in
+      let size = (subst (λ d. Completes d (p.unread ++ more) f.left rest) is f.completes).0 in
+      omega (arith, over, size, its_most f, its_len f)
 
 -- what a head states stays when more comes
 stated_more : {p : Place} {stream interim : List ℕ} (x : Begun p stream interim) (came : List ℕ) → IsStatedWithin p.config stream
     → IsStatedWithin p.config (stream ++ came)
 stated_more {p} {stream} x came within h len after z =
-    let same = accepts_unique z (AcceptsRequest-append x.accepts came) in
+    let same = alone x came z in
     let accepts = subst (λ f. AcceptsRequest p.config.limits stream x.head f x.after) (sym same.1) x.accepts in
     let fits = within x.head len x.after accepts in
     omega (arith, fits, ap (λ (k : RequestHead). most_of p.config k.method) same.0)
 
 Standing-at : (b : Bool) (p : Place) (stream interim came : List ℕ) → StandsAt b p stream interim
     → StandsAt b (record p { unread = p.unread ++ came }) (stream ++ came) interim
-Standing-at true p stream interim came x = (Begun-append x.0 came, x.1, stated_more x.0 came x.2)
+Standing-at true p stream interim came x = (begun_grows x.0 came, x.1, stated_more x.0 came x.2)
 Standing-at false p stream interim came x =
     record { server = x.server; unread = ap (λ (t : List ℕ). t ++ came) x.unread; body = x.body; silent = x.silent }
 

@@ -1,5 +1,7 @@
--- What each event that is read does to the place in the stream.
-use Rattle.std.proofs.Common.{◌≡◌, ◌≢◌, ℕ, ◌+◌, ◌*◌, ◌<◌, ◌≤◌, Bool, true, false, cond, ◌&&◌, ◌==◌, List, [], ◌++◌, length, take, drop, refl, sym, ap, ◌∙◌, subst, subst₂, arith, append-nil, length-append, length-drop, take-append-drop, inl, inr}
+-- The events of the reader: what each finds in the stream, and where it leaves the reader.
+use Rattle.std.proofs.Common.{◌≡◌, ◌≢◌, ℕ, ◌+◌, ◌*◌, ◌<◌, ◌≤◌, Bool, true, false, cond, ◌==◌, List, [], ◌++◌, length, take, drop, refl, sym, ap, ◌∙◌, subst, subst₂, arith, append-nil, length-append, length-drop, take-append-drop, inl, inr}
+use Rattle.std.proofs.Math.Bool.{and-false}
+use Rattle.std.proofs.lemmas.Bool.{and_right}
 use Rattle.std.proofs.lemmas.List.{length-map, take_all}
 use Rattle.httparse.specs.declared.spans.Span.{Span}
 use Rattle.httparse.specs.declared.spans.HeaderSpan.{HeaderSpan}
@@ -12,31 +14,27 @@ use Rattle.http1.specs.declared.conn.Progress.{Progress}
 use Rattle.http1.specs.declared.conn.Reading.TheVariants as Reads
 use Rattle.http1.specs.declared.error.ReadError.{ReadError}
 use Rattle.http1.specs.declared.server.Server.{Server}
-use Rattle.http1.specs.Body.{body_of, ReadsBody}
+use Rattle.http1.specs.Body.{body_of}
 use Rattle.http1.specs.declared.conn.BodySize.TheVariants.{Known}
 use Rattle.http1.specs.Conn.{ReadsPiece, unread_size}
-use Rattle.http1.specs.Decoder.{Completes, with_front, decoder_for}
+use Rattle.http1.specs.Decoder.{with_front, decoder_for}
 use Rattle.http1.specs.Framing.{method_kind}
-use Rattle.http1.specs.Message.{AcceptsRequest}
+use Rattle.http1.specs.Message.{known_of, AcceptsRequest}
 use Rattle.http1.specs.Server.{new_server, request_of, is_head, reading, has_codings, expects_continue, after_piece, TakesHead, ReadsHead, ReadsInBody, ReadsAt, ServerReads, ServerRefuses}
 use Rattle.http_server.specs.Exchange.{ExpectsContinue, continue_text}
 use Rattle.http_server.specs.History.{NextIs, HasTooManyFields, HasUnknownCoding, IsReadError}
-use Rattle.http_server.specs.Machine.{in_body}
+use Rattle.http_server.specs.Machine.{in_body, Leads}
+use Rattle.http1.proofs.DecoderLemmas.{decoder_for-live}
 use Rattle.http_server.proofs.MachineLemmas.{head_is_some}
-use Rattle.http_server.proofs.StreamLemmas.{AcceptsRequest-append, accepts_unique, has_an_end}
+use Rattle.http_server.proofs.StreamLemmas.{AcceptsRequest-append, accepts_unique, has_an_end, Leads-start}
 use Rattle.dav_wire.specs.declared.answer.Asked.{Asked}
 use Rattle.dav_wire.specs.Exchange.{most_of}
 use Rattle.dav_wire.specs.History.{HasWork}
 use Rattle.dav_wire.specs.Refusals.{IsStatedWithin}
-use Rattle.dav_wire.specs.Place.{Place, IsBodyAt, Begun, invitation, IsBetween, StandsAt, Standing, IsStarved, HasHead, HasPiece, HasEnd, IsWhole, work}
-use Rattle.dav_wire.proofs.Bodies.{IsBodyAt-start, ends_first, Begun-step, begun_some, reads_on, begun_invited, is_unfinished}
+use Rattle.dav_wire.specs.Place.{Place, Begun, invitation, IsBetween, StandsAt, Standing, IsStarved, HasHead, HasPiece, HasEnd, IsWhole, work}
+use Rattle.dav_wire.proofs.Bodies.{ends_first, Begun-step, begun_some, finishes, ends_request, begun_invited, is_unfinished}
 
 -- ---- events
-
-never_waits : (a b : Bool) → (a && (b && false)) ≡ false
-never_waits true true = refl
-never_waits true false = refl
-never_waits false b = refl
 
 module _ (p : Place) (stream interim : List ℕ) (spans : List HeaderSpan) (new : Server) (read : Progress RequestSpans)
     (did : ServerReads p.server p.unread spans new read) where
@@ -101,8 +99,7 @@ module _ (p : Place) (stream interim : List ℕ) (spans : List HeaderSpan) (new 
       let ends = subst (λ e. ReadsPiece x.0.decoder p.unread spans found.0 read.consumed e) is found.1 in
       let b = x.0 in
       let tail = body_of [] ends.1.trailers in
-      let whole = b.goes_on.back [] tail (drop read.consumed p.unread)
-      (subst (Completes b.decoder (p.unread ++ []) tail) (append-nil _) (ends.1.completes [])) in
+      let whole = ends_request b tail (drop read.consumed p.unread) (ends.1.completes []) in
       record {
         within = within;
         message = record { head = b.head; body = with_front p.body tail };
@@ -110,7 +107,7 @@ module _ (p : Place) (stream interim : List ℕ) (spans : List HeaderSpan) (new 
           framing = b.framing;
           after_head = b.after;
           head = b.accepts;
-          body = subst (λ (t : List ℕ). ReadsBody p.config.limits b.framing t (with_front p.body tail) _) (append-nil b.after) whole;
+          body = whole;
         };
         head = b.text;
         body = sym (append-nil p.body);
@@ -121,7 +118,7 @@ module _ (p : Place) (stream interim : List ℕ) (spans : List HeaderSpan) (new 
         server =
             found.2 ∙ (λ i. after_piece (b.server i) p.unread (ends.0 i))
             ∙ ap (λ t. record (in_body p.config.limits b.head b.framing b.decoder t) { reading = Reads.Done })
-            (never_waits b.waits (length p.unread == 0));
+            (and_right b.waits _ (and-false (length p.unread == 0)));
       }
 
   pub end_found : (count : ℕ) → Standing p stream interim → read.event ≡ event.End count → HasEnd after_read stream
@@ -232,7 +229,7 @@ refused_at false p stream interim e x refuses =
 refused_at true p stream interim e x refuses =
     let b = x.0 in
     let why = subst (λ s. ServerRefuses s p.unread 64 e) b.server refuses in (
-      λ more m rest z. let found = reads_on b more m rest z in inr (rw found.2 (why.0 more found.1 rest found.3)),
+      λ more m rest z. let f = finishes b more m rest z in inr (rw f.body (why.0 more f.left rest f.completes)),
       inr (b.head, b.framing, b.after, b.accepts),
     )
 
@@ -253,10 +250,14 @@ module _ {p : Place} {spans : List HeaderSpan} {r : RequestSpans} {stream interi
   pub head_work : (ended : Bool) → HasWork p.config.limits ended stream
   head_work ended = inl (record { head = x.takes.head; framing = x.takes.framing; after = drop r.len stream; accepts = head_accepted })
 
-  -- the next request is the one with this head, whatever bytes follow
+  -- each request that may begin the stream has the head that was taken
+  one_head : NextIs p.config.limits stream (λ m. m.head ≡ x.takes.head)
+  one_head more m rest read = (accepts_unique read.head (AcceptsRequest-append head_accepted more)).0
+
   pub has_coding : has_codings p.server ≡ true → NextIs p.config.limits stream HasUnknownCoding
-  has_coding is more m rest z =
-      rw (accepts_unique z.head (AcceptsRequest-append head_accepted more)).0 (sym (ap has_codings x.takes.next) ∙ is)
+  has_coding coded more m rest read =
+      ap (λ (k : RequestHead). (known_of k.fields).other_coding) (one_head more m rest read)
+      ∙ sym (ap has_codings x.takes.next) ∙ coded
 
   pub head_some : 0 < r.len
   head_some = omega (arith, head_is_some x.takes.head, x.takes.covered.len)
@@ -299,9 +300,10 @@ module _ {p : Place} {spans : List HeaderSpan} {r : RequestSpans} {stream interi
     ends = ends_first p.config.limits x.takes.framing (has_an_end head_accepted);
     waits = (request_of x.takes.head x.takes.framing).expects_continue;
     server = x.takes.next;
-    goes_on = subst₂ (IsBodyAt p.config.limits x.takes.framing (drop r.len stream) (decoder_for p.config.limits x.takes.framing))
-        (ap (λ (u : List ℕ). drop r.len u) (sym x.unread) ∙ sym left) (sym x.body)
-        (IsBodyAt-start p.config.limits x.takes.framing (drop r.len stream));
+    goes_on =
+        let first = decoder_for p.config.limits x.takes.framing in
+        subst₂ (Leads first (drop r.len stream) first) (ap (λ (u : List ℕ). drop r.len u) (sym x.unread) ∙ sym left) (sym x.body)
+        (Leads-start first (drop r.len stream) (decoder_for-live p.config.limits x.takes.framing));
   }
 
   -- it states no longer body than it may have

@@ -31,7 +31,8 @@ heads_stand_alone config stream m asked rest x =
 calls_of : (config : Config) (calls : List Call) (stream text rest : List ℕ) → Serves config stream calls text rest
     → ReadsCalls config stream calls rest
 calls_of config [] stream text rest x = x.0
-calls_of config (c ∷ calls) stream text rest x = (x.4.message, x.1, x.4.request, calls_of config calls x.1 x.2 rest x.5)
+calls_of config (c ∷ calls) stream text rest x =
+    (x.exchange.message, x.after, x.exchange.request, calls_of config calls x.after x.others rest x.later)
 
 calls_then : (config : Config) (calls : List Call) (stream mid rest : List ℕ) (c : Call) (m : Wire.Request) → ReadsCalls config stream calls mid
     → ReadsCall config mid m c.0 rest → ReadsCalls config stream (calls ++ c ∷ []) rest
@@ -91,12 +92,17 @@ requests_are_determined config stream (c ∷ xs) (d ∷ ys) r q x y count =
     (subst (λ (t : List ℕ). ReadsCalls config t ys q) (sym first.1) y.3) (omega (arith, count)) in
     (λ i. first.0 i ∷ later.0 i, later.1)
 
-waits_at : (n : ℕ) (s : State) (config : Config) (h : History) → length h.pending ≡ n → h.state ≡ s → Rests config h
-    → (0 < length h.pending) ⊎ (((h.state ≡ Open) × (h.ended ≡ false)) ⊎ (h.state ≢ Open))
-waits_at (suc n) s config h some is x = inl (omega (arith, some))
-waits_at zero Open config h none is x = inr (inl (is, (x is (omega (arith, none))).0))
-waits_at zero (Closing why) config h none is x = inr (inr (λ wrong. cc))
-waits_at zero Aborted config h none is x = inr (inr (λ wrong. cc))
+module _ (config : Config) (h : History) (rests : Rests config h) where
+  -- with nothing to send
+  idle : (s : State) → h.state ≡ s → length h.pending ≡ 0 → ((h.state ≡ Open) × (h.ended ≡ false)) ⊎ (h.state ≢ Open)
+  idle Open is none = inl (is, (rests is (omega (arith, none))).0)
+  idle (Closing why) is none = inr (λ wrong. cc)
+  idle Aborted is none = inr (λ wrong. cc)
+
+  sends_or_idles : (n : ℕ) → length h.pending ≡ n
+      → (0 < length h.pending) ⊎ (((h.state ≡ Open) × (h.ended ≡ false)) ⊎ (h.state ≢ Open))
+  sends_or_idles zero none = inr (idle h.state refl none)
+  sends_or_idles (suc n) some = inl (omega (arith, some))
 
 pub connections_never_stall : ConnectionsNeverStall
-connections_never_stall config h = waits_at (length h.pending) h.state config h refl refl
+connections_never_stall config h rests = sends_or_idles config h rests (length h.pending) refl

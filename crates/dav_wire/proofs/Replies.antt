@@ -1,5 +1,5 @@
 -- What a call that writes says of its outcome, and what a response does to the place in the stream.
-use Rattle.std.proofs.Common.{◌≡◌, ◌≢◌, ℕ, ◌^◌, ◌<◌, ◌⊎◌, Bool, true, false, not, cond, List, [], ◌∷◌, ◌++◌, length, Option, Some, None, Result, Ok, Err, OnOk, OnErr, IfErr, refl, sym, ap, ◌∙◌, subst, append_assoc, append-nil, inl, inr}
+use Rattle.std.proofs.Common.{◌≡◌, ◌≢◌, ℕ, ◌^◌, ◌<◌, ◌⊎◌, Bool, true, false, cond, List, [], ◌∷◌, ◌++◌, length, Option, Some, None, Result, Ok, Err, OnOk, OnErr, IfErr, refl, sym, ap, ◌∙◌, subst, append_assoc, append-nil, inl, inr}
 use Rattle.http1.specs.declared.error.WriteError.{WriteError}
 use Rattle.http1.specs.declared.error.WriteError.TheVariants.{OutOfMemory}
 use Rattle.http1.specs.declared.server.Server.{Server}
@@ -18,8 +18,8 @@ use Rattle.dav_wire.specs.Exchange.{Exchanges}
 use Rattle.dav_wire.specs.History.{History, IsCalledFor, IsServed}
 use Rattle.dav_wire.specs.Place.{Place, IsAnswered, IsRunning, StandsAt, aborted, closed_with, rest_text, after_rest}
 use Rattle.dav_wire.specs.Refusals.{closing_text}
-use Rattle.dav_wire.proofs.Runs.{aborts, cannot_send}
-use Rattle.dav_wire.proofs.Streams.{Serves-last}
+use Rattle.dav_wire.proofs.Runs.{served_as, aborts, cannot_send}
+use Rattle.dav_wire.proofs.Streams.{serves_one, serves_both}
 
 pub unrefused : (result : Result (Unit {0}) WriteError) (refusal : Option WriteError) (spare len : ℕ)
     → GivesOrRefuses refusal spare len result → OnOk result (refusal ≡ None)
@@ -68,7 +68,7 @@ module _ (p : Place) (h : History) (r : Response) (bodiless : Bool) (x : IsAnswe
   })
 
   kind : bodiless ≡ is_head (peer_method p.server)
-  kind = x.whole.kind ∙ sym (ap (λ s. is_head (peer_method s)) x.whole.server)
+  kind = rw x.whole.server x.whole.kind
 
   module _ (valid : response_refusal p.server r.status (reason_of r.status) (size_of r) (fields_of r) ≡ None)
       (short : length r.body.items < 2 ^ 64) (middle now : List ℕ)
@@ -94,77 +94,66 @@ module _ (p : Place) (h : History) (r : Response) (bodiless : Bool) (x : IsAnswe
     new_server_is : new ≡ after_end (after_body bodiless p.server r)
     new_server_is = new_is ∙ next_is p.server r bodiless
 
-    exchange : (stays : Bool) → keeps_open x.whole.message.head r ≡ stays
-        → Exchanges p.config stays x.base.rest (x.asked, r) last_text p.unread
-    exchange stays persists =
+    -- the exchange, as its request and this response ask to go on or to close
+    exchanged : Exchanges p.config (keeps_open x.whole.message.head r) x.base.rest (x.asked, r) last_text p.unread
+    exchanged =
         let it = final_answer p.server r valid p.config.limits x.whole.message.head x.whole.request.reads.framing x.whole.server
         bodiless kind short in
         record {
           message = x.whole.message;
           request = x.whole.request;
-          interim = x.base.interim;
-          is_interim = x.base.is_interim;
-          answer = answer;
-          is_answer = it.0;
-          joined = refl;
-          persists = persists;
-          announced = it.1 ∙ ap not persists;
+          reply = record {
+            before = x.base.interim;
+            may_precede = x.base.is_interim;
+            final = answer;
+            reads_as = it.0;
+            text_is = refl;
+            asks = refl;
+            says = it.1;
+          };
         }
 
-    -- what is left of the connection: it goes on, or both sides know that it is closed
-    abbrev Leaves : Type 0
-    Leaves =
-        ((keeps_open x.whole.message.head r ≡ true) × (new ≡ new_server p.config.limits))
-        ⊎ ((keeps_open x.whole.message.head r ≡ false) × IsClosed new)
+    abbrev Exchanged : Bool → Type 0
+    Exchanged stays = Exchanges p.config stays x.base.rest (x.asked, r) last_text p.unread
 
-    leaves : Leaves
+    -- the connection goes on, or both sides know that it is closed
+    leaves : (Exchanged true × (new ≡ new_server p.config.limits)) ⊎ (Exchanged false × IsClosed new)
     leaves = elim (starts_over p.server r valid p.config.limits x.whole.message.head x.whole.request.reads.framing x.whole.server
         bodiless kind) [
-          | inl stays ↦ inl (stays.0, new_server_is ∙ stays.1)
-          | inr ends ↦ inr (ends.0, ap writing new_server_is ∙ ends.1)
+          | inl on ↦ inl (subst Exchanged on.0 exchanged, new_server_is ∙ on.1)
+          | inr over ↦ inr (subst Exchanged over.0 exchanged, ap writing new_server_is ∙ over.1)
         ]
 
     pub closes : IsClosed new → IsServed p.config (record h { state = Closing Asked; pending = now })
     closes closed = elim leaves [
-      | inl stays ↦ let wrong = sym closed ∙ ap writing stays.1 in absurd (cc)
-      | inr ends ↦ record {
-        answered = x.base.answered;
-        text = x.base.text;
-        rest = x.base.rest;
-        serves = x.base.serves;
-        interim = x.base.interim;
-        is_interim = x.base.is_interim;
-        stands = record {
-          call = (x.asked, r);
-          calls_are = x.calls;
-          last = last_text;
-          after = p.unread;
-          exchange = exchange false ends.0;
-          written_is = written_is;
-        };
-      }
+      | inl on ↦ let fresh = sym closed ∙ ap writing on.1 in absurd (cc)
+      | inr over ↦ served_as x.base (record h { state = Closing Asked; pending = now }) refl (record {
+        call = (x.asked, r);
+        calls_are = x.calls;
+        last = last_text;
+        after = p.unread;
+        exchange = over.0;
+        written_is = written_is;
+      })
     ]
 
     pub stays_open : ¬ (IsClosed new) → IsRunning (record p { server = new }) (record h { pending = now })
     stays_open other = elim leaves [
-      | inl stays ↦ record {
+      | inl on ↦ record {
         base = record {
           is_open = x.base.is_open;
           answered = x.base.answered ++ (x.asked, r) ∷ [];
           text = x.base.text ++ last_text;
           rest = p.unread;
-          serves = Serves-last p.config x.base.answered h.received x.base.text x.base.rest x.base.serves (exchange true stays.0);
+          serves = serves_both p.config x.base.answered ((x.asked, r) ∷ []) h.received x.base.text x.base.rest last_text p.unread
+              x.base.serves (serves_one p.config on.0);
           interim = [];
           is_interim = inl refl;
           written_is = written_is ∙ sym (append-nil _);
         };
         calls = x.calls;
-        standing = subst (λ b. StandsAt b (record p { server = new }) p.unread []) (sym x.whole.between) (record {
-          server = stays.1;
-          unread = refl;
-          body = x.whole.body;
-          silent = refl;
-        });
+        standing = subst (λ b. StandsAt b (record p { server = new }) p.unread []) (sym x.whole.between)
+            (record { server = on.1; unread = refl; body = x.whole.body; silent = refl });
       }
-      | inr ends ↦ absurd (other ends.1)
+      | inr over ↦ absurd (other over.1)
     ]

@@ -1,68 +1,119 @@
 -- Streams that grow, and the exchanges of their requests.
-use Rattle.std.proofs.Common.{◌≡◌, ℕ, ◌≤◌, ◌⊎◌, Bool, true, List, [], ◌∷◌, ◌++◌, length, refl, sym, ap, ◌∙◌, subst, arith, append_assoc, append-nil, inl, inr}
+use Rattle.std.proofs.Common.{◌≡◌, ℕ, ◌≤◌, ◌⊎◌, Bool, true, List, [], ◌∷◌, ◌++◌, length, refl, sym, ◌∙◌, subst, subst₂, arith, append_assoc, append-nil, inl, inr, IsFalse}
 use Rattle.http1.specs.declared.conn.Limits.{Limits}
+use Rattle.http1.specs.declared.error.ReadError.{ReadError}
 use Rattle.http1.specs.Message as Wire
-use Rattle.http1.specs.Message.{AcceptsRequest, ReadsRequestMessage, ReadsRequests}
+use Rattle.http1.specs.Message.{ReadsRequestMessage, ReadsRequests}
 use Rattle.http1.proofs.OneParse.{request_message_unique}
 use Rattle.http_server.specs.declared.response.Response.{Response}
-use Rattle.http_server.specs.History.{NextIs, HasTooManyFields}
+use Rattle.http_server.specs.History.{NextIs, IsReadError}
 use Rattle.http_server.proofs.StreamLemmas.{AcceptsRequest-append, ReadsRequestMessage-append, IsInterim-append}
 use Rattle.dav_wire.specs.declared.answer.Asked.{Asked}
 use Rattle.dav_wire.specs.declared.state.Config.{Config}
 use Rattle.dav_wire.specs.Exchange.{Call, ReadsCall, Chain, Calls, Exchanges, Serves}
 use Rattle.dav_wire.specs.History.{HasWork}
 
--- bytes that come later follow the rest
-pub after_front : (stream front rest came : List ℕ) → stream ≡ front ++ rest → stream ++ came ≡ front ++ (rest ++ came)
-after_front stream front rest came is = ap (λ (t : List ℕ). t ++ came) is ∙ append_assoc front rest came
+-- what comes later follows the rest
+pub after_front : {X : Type 0} {all : List X} (front rest came : List X) → all ≡ front ++ rest → all ++ came ≡ front ++ (rest ++ came)
+after_front front rest came is = rw is (append_assoc front rest came)
 
-module _ {config : Config} {stream rest : List ℕ} where
-  abbrev pub ReadsCall-append : {m : Wire.Request} {asked : Asked} → ReadsCall config stream m asked rest → (came : List ℕ)
-      → ReadsCall config (stream ++ came) m asked (rest ++ came)
-  ReadsCall-append {asked} x came = record {
-    reads = ReadsRequestMessage-append x.reads came;
-    head = after_front stream asked.head x.reads.after_head came x.head;
-    body = x.body;
-    plain = x.plain;
-    fits = x.fits;
-    few = x.few;
+-- ---- bytes come
+
+module _ (came : List ℕ) where
+  abbrev pub call_grows : {config : Config} {stream rest : List ℕ} {m : Wire.Request} {asked : Asked}
+      → ReadsCall config stream m asked rest → ReadsCall config (stream ++ came) m asked (rest ++ came)
+  call_grows {asked} call = record {
+    reads = ReadsRequestMessage-append call.reads came;
+    head = after_front asked.head call.reads.after_head came call.head;
+    body = call.body;
+    plain = call.plain;
+    fits = call.fits;
+    few = call.few;
   }
 
-  pub Exchanges-append : {stays : Bool} {c : Call} {text : List ℕ} → Exchanges config stays stream c text rest → (came : List ℕ)
-      → Exchanges config stays (stream ++ came) c text (rest ++ came)
-  Exchanges-append x came = record {
-    message = x.message;
-    request = ReadsCall-append x.request came;
-    interim = x.interim;
-    is_interim = IsInterim-append config.limits stream x.interim came x.is_interim;
-    answer = x.answer;
-    is_answer = x.is_answer;
-    joined = x.joined;
-    persists = x.persists;
-    announced = x.announced;
+  pub exchange_grows : {config : Config} {stays : Bool} {c : Call} {stream text rest : List ℕ}
+      → Exchanges config stays stream c text rest → Exchanges config stays (stream ++ came) c text (rest ++ came)
+  exchange_grows {config} {stream} one =
+      let reply = one.reply in
+      record {
+        message = one.message;
+        request = call_grows one.request;
+        reply = record {
+          before = reply.before;
+          may_precede = IsInterim-append config.limits stream reply.before came reply.may_precede;
+          final = reply.final;
+          reads_as = reply.reads_as;
+          text_is = reply.text_is;
+          asks = reply.asks;
+          says = reply.says;
+        };
+      }
+
+  pub serves_grows : (config : Config) (calls : List Call) (stream text rest : List ℕ) → Serves config stream calls text rest
+      → Serves config (stream ++ came) calls text (rest ++ came)
+  serves_grows config [] stream text rest none = (rw none.0 refl, none.1)
+  serves_grows config (call ∷ calls) stream text rest all = record {
+    own = all.own;
+    after = all.after ++ came;
+    exchange = exchange_grows all.exchange;
+    others = all.others;
+    text_is = all.text_is;
+    later = serves_grows config calls all.after all.others rest all.later;
   }
+
+  -- what is so whatever bytes follow is so when these do
+  pub next_grows : {limits : Limits} (stream : List ℕ) {P : Wire.Request → Type 0} → NextIs limits stream P
+      → NextIs limits (stream ++ came) P
+  next_grows {limits} stream next more m rest reads =
+      next (came ++ more) m rest
+      (subst (λ (t : List ℕ). ReadsRequestMessage limits t m rest) (append_assoc stream came more) reads)
+
+  pub error_grows : {limits : Limits} {stream : List ℕ} (e : ReadError) → IsReadError limits stream e
+      → IsReadError limits (stream ++ came) e
+  error_grows e why = elim why [
+    | inl early ↦ inl (early.0, early.1 ++ came, after_front early.0 early.1 came early.2, early.3)
+    | inr late ↦ let still = AcceptsRequest-append late.3 came in inr (late.0, late.1, _, still)
+  ]
+
+  -- before the end of the input, work is a head, or that no request can come
+  pub work_grows : {limits : Limits} {ended over : Bool} (stream : List ℕ) → IsFalse ended → HasWork limits ended stream
+      → HasWork limits over (stream ++ came)
+  work_grows stream going work = elim work [
+    | inl begun ↦
+        let still = AcceptsRequest-append begun.accepts came in
+        inl (record { head = begun.head; framing = begun.framing; after = begun.after ++ came; accepts = still })
+    | inr other ↦ elim other [ inl ended ↦ absurd (cc) | inr none ↦ inr (inr (next_grows stream none)) ]
+  ]
+
+-- ---- one exchange after the other
 
 module _ (config : Config) where
-  pub Serves-append : (calls : List Call) (stream text rest came : List ℕ) → Serves config stream calls text rest
-      → Serves config (stream ++ came) calls text (rest ++ came)
-  Serves-append [] stream text rest came x = (ap (λ (t : List ℕ). t ++ came) x.0, x.1)
-  Serves-append (c ∷ calls) stream text rest came x =
-      (x.0, x.1 ++ came, x.2, x.3, Exchanges-append x.4 came, Serves-append calls x.1 x.2 rest came x.5)
+  -- an exchange alone
+  pub serves_one : {call : Call} {stream text rest : List ℕ} → Exchanges config true stream call text rest
+      → Serves config stream (call ∷ []) text rest
+  serves_one {text} {rest} one =
+      record { own = text; after = rest; exchange = one; others = []; text_is = sym (append-nil text); later = (refl, refl) }
 
-  -- an exchange at the rest of the stream comes last
-  pub Serves-last : (calls : List Call) (stream text rest : List ℕ) {last after : List ℕ} {c : Call}
-      → Serves config stream calls text rest → Exchanges config true rest c last after
-      → Serves config stream (calls ++ c ∷ []) (text ++ last) after
-  Serves-last [] stream text rest {last} {after} {c} x y = (
-    last,
-    after,
-    [],
-    ap (λ (t : List ℕ). t ++ last) x.1 ∙ sym (append-nil last),
-    subst (λ (t : List ℕ). Exchanges config true t c last after) (sym x.0) y,
-    (refl, refl),
-  )
-  Serves-last (d ∷ calls) stream text rest {last} x y =
-      (x.0, x.1, x.2 ++ last, after_front text x.0 x.2 last x.3, x.4, Serves-last calls x.1 x.2 rest x.5 y)
+  -- these exchanges, and at the rest of their stream those
+  pub serves_both : (front back : List Call) (stream first middle second rest : List ℕ)
+      → Serves config stream front first middle → Serves config middle back second rest
+      → Serves config stream (front ++ back) (first ++ second) rest
+  serves_both [] back stream first middle second rest these those =
+      subst₂ (λ (s t : List ℕ). Serves config s back (t ++ second) rest) (sym these.0) (sym these.1) those
+  serves_both (call ∷ front) back stream first middle second rest these those = record {
+    own = these.own;
+    after = these.after;
+    exchange = these.exchange;
+    others = these.others ++ second;
+    text_is = after_front these.own these.others second these.text_is;
+    later = serves_both front back these.after these.others middle second rest these.later those;
+  }
+
+  -- a request that is read of the stream of an exchange ends where that does
+  ends_there : {stays : Bool} {c : Call} {m : Wire.Request} {stream text rest next : List ℕ}
+      → Exchanges config stays stream c text rest → ReadsRequestMessage config.limits stream m next → next ≡ rest
+  ends_there {m} {stream} {rest} {next} one reads =
+      (request_message_unique config.limits stream m one.message next rest reads one.request.reads).1
 
   -- the requests that are read of a stream are no more than those that were served, or else one more follows these
   abbrev pub Aligns : List Call → List Wire.Request → List ℕ → List ℕ → Type 0
@@ -70,41 +121,29 @@ module _ (config : Config) where
       ((length ms ≤ length calls) × (length ms ≡ length calls → after ≡ rest))
       ⊎ ((m : Wire.Request) × (next : List ℕ) × ReadsRequestMessage config.limits rest m next)
 
-  pub aligned : (calls : List Call) (ms : List Wire.Request) (stream text rest after : List ℕ)
+  pub aligned : (calls : List Call) (ms : List Wire.Request) (stream text : List ℕ) {rest after : List ℕ}
       → Serves config stream calls text rest → ReadsRequests config.limits stream ms after → Aligns calls ms rest after
-  aligned [] [] stream text rest after x y = inl (omega arith, λ _. sym y ∙ x.0)
-  aligned [] (m ∷ ms) stream text rest after x y =
-      inr (m, y.0, subst (λ (t : List ℕ). ReadsRequestMessage config.limits t m y.0) x.0 y.1)
-  aligned (c ∷ calls) [] stream text rest after x y = inl (omega arith, λ wrong. absurd (omega (arith, wrong)))
-  aligned (c ∷ calls) (m ∷ ms) stream text rest after x y =
-      let same = request_message_unique config.limits stream m x.4.message y.0 x.1 y.1 x.4.request.reads in
-      elim (aligned calls ms x.1 x.2 rest after x.5 (subst (λ (t : List ℕ). ReadsRequests config.limits t ms after) same.1 y.2)) [
+  aligned [] [] stream text served read = inl (omega arith, λ _. sym read ∙ served.0)
+  aligned [] (m ∷ ms) stream text served read =
+      inr (m, read.0, subst (λ (t : List ℕ). ReadsRequestMessage config.limits t m read.0) served.0 read.1)
+  aligned (c ∷ calls) [] stream text served read = inl (omega arith, λ wrong. absurd (omega (arith, wrong)))
+  aligned (c ∷ calls) (m ∷ ms) stream text {after} served read =
+      let later = subst (λ (t : List ℕ). ReadsRequests config.limits t ms after) (ends_there served.exchange read.1) read.2 in
+      elim (aligned calls ms served.after served.others served.later later) [
         | inl fits ↦ inl (omega (arith, fits.0), λ count. fits.1 (omega (arith, count)))
         | inr more ↦ inr more
       ]
 
-pub NextIs-append : (limits : Limits) (stream came : List ℕ) (P : Wire.Request → Type 0) → NextIs limits stream P
-    → NextIs limits (stream ++ came) P
-NextIs-append limits stream came P x more m rest z = x (came ++ more) m rest (rw append_assoc at z)
-
-pub HasWork-append : (limits : Limits) (ended : Bool) (stream came : List ℕ) → HasWork limits ended stream
-    → HasWork limits ended (stream ++ came)
-HasWork-append limits ended stream came x = elim x [
-  | inl begins ↦ inl (record { head = begins.head; framing = begins.framing; after = begins.after ++ came; accepts = AcceptsRequest-append begins.accepts came })
-  | inr other ↦ elim other [ inl over ↦ inr (inl over) | inr none ↦ inr (inr (NextIs-append limits stream came HasTooManyFields none)) ]
-]
-
 -- ---- what the answerer did
 
 module _ {S : Type 0} (answers : S → Asked → Response → S → Type 0) where
-  Chain-join : (xs ys : List Call) (a b c : S) → Chain answers a xs b → Chain answers b ys c → Chain answers a (xs ++ ys) c
-  Chain-join [] ys a b c x y = subst (λ (s : S). Chain answers s ys c) x y
-  Chain-join (k ∷ xs) ys a b c x y = (x.0, x.1, Chain-join xs ys x.0 b c x.2 y)
+  module _ (later : List Call) (b c : S) (then_ : Chain answers b later c) where
+    chain_on : (calls : List Call) (a : S) → Chain answers a calls b → Chain answers a (calls ++ later) c
+    chain_on [] a same = subst (λ s. Chain answers s later c) same then_
+    chain_on (call ∷ calls) a these = (these.0, these.1, chain_on calls these.0 these.2)
 
-  pub Calls-join : (a b c : S) (old mid new : List Call) → Calls answers a b old mid → Calls answers b c mid new
+  -- more calls, from the state that these lead to
+  pub calls_on : (a b c : S) (old : List Call) {mid new : List Call} → Calls answers a b old mid → Calls answers b c mid new
       → Calls answers a c old new
-  Calls-join a b c old mid new x y =
-      (x.0 ++ y.0, y.1 ∙ ap (λ (t : List Call). t ++ y.0) x.1 ∙ append_assoc old x.0 y.0, Chain-join x.0 y.0 a b c x.2 y.2)
-
-  pub no_calls : (a b : S) (old new : List Call) → b ≡ a → new ≡ old → Calls answers a b old new
-  no_calls a b old new same kept = ([], kept ∙ sym (append-nil old), same)
+  calls_on a b c old these those =
+      (these.0 ++ those.0, those.1 ∙ after_front old these.0 those.0 these.1, chain_on those.0 b c those.2 these.0 a these.2)

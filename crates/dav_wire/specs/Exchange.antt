@@ -1,5 +1,7 @@
 -- Requests of HTTP/1.1's grammar as they are handed over, and the bytes that answer them (RFC 9112).
 use Rattle.std.specs.Prelude.{◌≡◌, ℕ, ◌≤◌, ◌||◌, Bool, true, not, List, [], ◌∷◌, ◌++◌, length, codes, bytes_eq, if◌then◌else◌, IsFalse}
+use Rattle.httparse.specs.Grammar.{RequestHead}
+use Rattle.http1.specs.declared.conn.Limits.{Limits}
 use Rattle.http1.specs.Message as Wire
 use Rattle.http1.specs.Message.{known_of, ReadsRequestMessage}
 use Rattle.http_server.specs.declared.response.Response.{Response}
@@ -30,32 +32,47 @@ pub record ReadsCall (config : Config) (stream : List ℕ) (m : Wire.Request) (a
 abbrev pub Call : Type 0
 Call = Asked × Response
 
--- each call leads from the state that the one before left
+-- one call after the other, these take the answerer from the first state to the last
 abbrev pub Chain : {S : Type 0} → (S → Asked → Response → S → Type 0) → S → List Call → S → Type 0
-Chain answers old [] new = new ≡ old
-Chain {S} answers old (c ∷ calls) new = (next : S) × answers old c.0 c.1 next × Chain answers next calls new
+Chain answers first [] last = last ≡ first
+Chain {S} answers first (call ∷ calls) last =
+    (second : S) × answers first call.0 call.1 second × Chain answers second calls last
 
 -- the calls that were added lead from one state of the answerer to the other
 abbrev pub Calls : {S : Type 0} → (S → Asked → Response → S → Type 0) → S → S → List Call → List Call → Type 0
-Calls answers old new before after = (calls : List Call) × (after ≡ before ++ calls) × Chain answers old calls new
+Calls answers first last before after = (added : List Call) × (after ≡ before ++ added) × Chain answers first added last
 
--- The stream begins with the request of the call, and the text is all that was sent for it: `100 Continue`, where its head
--- asks for that, or nothing, and then the answer, which its client reads whole. It says `close` where one of the two
--- asked for that, and only there (RFC 9112, section 9.6).
-pub record Exchanges (config : Config) (stays : Bool) (stream : List ℕ) (c : Call) (text rest : List ℕ) : Type 0 where
+-- The text is all that is sent for the request with this head that begins the stream: `100 Continue`, where the head asks for
+-- that, or nothing, and then the answer, which its client reads whole. It says `close` where the request or the response asks
+-- for that, and only there (RFC 9112, section 9.6).
+pub record IsReply (limits : Limits) (stream : List ℕ) (head : RequestHead) (response : Response) (stays : Bool)
+    (text : List ℕ) : Type 0 where
+  pub before : List ℕ
+  pub may_precede : IsInterim limits stream before
+  pub final : List ℕ
+  pub reads_as : IsAnswer head response final
+  pub text_is : text ≡ before ++ final
+  pub asks : stays ≡ keeps_open head response
+  pub says : (known_of reads_as.message.head.fields).close ≡ not stays
+
+-- The stream begins with the request of the call and then has the rest, and the text replies to it.
+pub record Exchanges (config : Config) (stays : Bool) (stream : List ℕ) (call : Call) (text rest : List ℕ) : Type 0 where
   pub message : Wire.Request
-  pub request : ReadsCall config stream message c.0 rest
-  pub interim : List ℕ
-  pub is_interim : IsInterim config.limits stream interim
-  pub answer : List ℕ
-  pub is_answer : IsAnswer message.head c.1 answer
-  pub joined : text ≡ interim ++ answer
-  pub persists : keeps_open message.head c.1 ≡ stays
-  pub announced : (known_of is_answer.message.head.fields).close ≡ not stays
+  pub request : ReadsCall config stream message call.0 rest
+  pub reply : IsReply config.limits stream message.head call.1 stays text
 
--- The stream is the requests of these calls and then the rest, and the text answers them in that order. None asked to close.
+-- The stream and the text begin with the exchange of this call, which asks for no close, and what follows in the two is such.
+pub record ServesFirst (config : Config) (stream : List ℕ) (call : Call) (text : List ℕ)
+    (Later : List ℕ → List ℕ → Type 0) : Type 0 where
+  pub own : List ℕ
+  pub after : List ℕ
+  pub exchange : Exchanges config true stream call own after
+  pub others : List ℕ
+  pub text_is : text ≡ own ++ others
+  pub later : Later after others
+
+-- The stream is these requests, one after the other, and the rest. The text is their answers, in that order. None asked to close.
 abbrev pub Serves : Config → List ℕ → List Call → List ℕ → List ℕ → Type 0
 Serves config stream [] text rest = (stream ≡ rest) × (text ≡ [])
-Serves config stream (c ∷ calls) text rest =
-    (first : List ℕ) × (after : List ℕ) × (later : List ℕ) × (text ≡ first ++ later)
-    × Exchanges config true stream c first after × Serves config after calls later rest
+Serves config stream (call ∷ calls) text rest =
+    ServesFirst config stream call text (λ after others. Serves config after calls others rest)

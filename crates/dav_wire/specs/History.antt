@@ -1,4 +1,4 @@
--- What a connection has done, and what is true of it.
+-- What came and went over a connection, and what always holds of that.
 use Rattle.std.specs.Prelude.{◌≡◌, ℕ, ◌≤◌, ◌⊎◌, Bool, false, List, [], ◌∷◌, ◌++◌, length, take, drop, Some, IsTrue, IsFalse, if◌then◌else◌, ◌==◌}
 use Rattle.httparse.specs.Grammar.{RequestHead}
 use Rattle.http1.specs.declared.conn.Limits.{Limits}
@@ -100,7 +100,7 @@ Stands (Closing (Unsendable e)) config h answered text interim rest =
     IsUnsendable config e h.calls answered rest × (written h ≡ (text ++ interim) ++ closing_text 500)
 Stands Aborted config h answered text interim rest = IsAborted config h answered (text ++ interim) rest
 
--- True of every connection: what came begins with the requests of the first calls, what was written begins with their answers, in
+-- At any time what came begins with the requests of the first calls, what was written begins with their answers, in
 -- that order, and the state says what follows.
 pub record IsServed (config : Config) (h : History) : Type 0 where
   pub answered : List Call
@@ -116,17 +116,19 @@ abbrev pub AreAllCalled : Limits → History → Type 0
 AreAllCalled limits h =
     (ms : List Wire.Request) (rest : List ℕ) → ReadsRequests limits h.received ms rest → length ms ≤ length h.calls
 
--- where the request after those waits for `100 Continue`, what was written ends in that
+-- what came after as many requests as were handed over is such
+abbrev pub RestIs : Limits → History → (List ℕ → Type 0) → Type 0
+RestIs limits h P =
+    (ms : List Wire.Request) (rest : List ℕ) → ReadsRequests limits h.received ms rest → length ms ≡ length h.calls → P rest
+
+-- where the request that begins there waits for `100 Continue`, what was written ends in that
 abbrev pub IsInvited : Limits → History → Type 0
 IsInvited limits h =
-    (ms : List Wire.Request) (rest : List ℕ) → ReadsRequests limits h.received ms rest → length ms ≡ length h.calls
-    → ExpectsContinue limits rest → ∥ ((front : List ℕ) × (written h ≡ front ++ continue_text)) ∥₁
+    RestIs limits h (λ rest. ExpectsContinue limits rest → ∥ ((front : List ℕ) × (written h ≡ front ++ continue_text)) ∥₁)
 
 -- that request states no longer body than it may have: one that does was refused
 abbrev pub IsNextWithin : Config → History → Type 0
-IsNextWithin config h =
-    (ms : List Wire.Request) (rest : List ℕ) → ReadsRequests config.limits h.received ms rest → length ms ≡ length h.calls
-    → IsStatedWithin config rest
+IsNextWithin config h = RestIs config.limits h (IsStatedWithin config)
 
 -- an open connection with room in its output waits for input, and for that alone
 abbrev pub Rests : Config → History → Type 0

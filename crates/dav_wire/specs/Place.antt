@@ -1,17 +1,15 @@
--- What holds between the steps of a connection: where its reader is in the stream.
+-- Where the reader of a connection is in the stream between two steps, and what is true there.
 use Rattle.std.specs.Prelude.{◌≡◌, ◌≢◌, ℕ, ◌+◌, ◌*◌, ◌<◌, ◌≤◌, Bool, true, false, List, [], ◌∷◌, ◌++◌, length, take, drop, flat_map, if◌then◌else◌, IsTrue, IsFalse}
 use Rattle.httparse.specs.Grammar.{RequestHead}
 use Rattle.httparse.specs.Spans.{span_bytes}
 use Rattle.httparse.specs.declared.spans.HeaderSpan.{HeaderSpan}
 use Rattle.httparse.specs.declared.spans.RequestSpans.{RequestSpans}
 use Rattle.httparse.specs.declared.spans.Span.{Span}
-use Rattle.http1.specs.declared.conn.Limits.{Limits}
 use Rattle.http1.specs.declared.decode.Decoder.{Decoder}
 use Rattle.http1.specs.declared.decode.Decoder.TheVariants.{UntilClose}
 use Rattle.http1.specs.declared.framing.Framing.{Framing}
 use Rattle.http1.specs.declared.server.Server.{Server}
-use Rattle.http1.specs.Body.{Body, ReadsBody}
-use Rattle.http1.specs.Decoder.{Completes, with_front}
+use Rattle.http1.specs.Decoder.{decoder_for}
 use Rattle.http1.specs.Framing.{method_kind}
 use Rattle.http1.specs.Message as Wire
 use Rattle.http1.specs.Message.{known_of, AcceptsRequest, ReadsRequestMessage}
@@ -23,7 +21,7 @@ use Rattle.http_server.specs.declared.state.TheConstants.{MAX_HEADERS}
 use Rattle.http_server.specs.Encoding.{answering}
 use Rattle.http_server.specs.Exchange.{ExpectsContinue, continue_text, IsInterim}
 use Rattle.http_server.specs.History.{HasNoMessage}
-use Rattle.http_server.specs.Machine.{in_body}
+use Rattle.http_server.specs.Machine.{in_body, Leads}
 use Rattle.dav_wire.specs.declared.answer.Asked.{Asked}
 use Rattle.dav_wire.specs.declared.state.Config.{Config}
 use Rattle.dav_wire.specs.declared.intake.Intake.{Intake}
@@ -37,7 +35,7 @@ use Rattle.dav_wire.specs.Exchange.{Call, ReadsCall, Serves, most_of}
 use Rattle.dav_wire.specs.History.{History, written, HasWork, IsServed, Rests}
 use Rattle.dav_wire.specs.Refusals.{IsRefusedFor, IsStatedWithin}
 
--- what the proofs read of an intake
+-- the part of an intake of which the invariant speaks
 pub record Place : Type 0 where
   pub config : Config
   pub unread : List ℕ
@@ -64,15 +62,8 @@ place i = record {
 abbrev pub invitation : RequestHead → Framing → List ℕ
 invitation h framing = if (request_of h framing).expects_continue then continue_text else []
 
--- The decoder goes on in the unread bytes where so much of a body was given, of the body that begins after a head: whatever
--- comes, that body is what was given and then what the decoder reads there.
-pub record IsBodyAt (limits : Limits) (framing : Framing) (after : List ℕ) (d : Decoder) (unread given : List ℕ) : Type 0 where
-  pub back : (more : List ℕ) (body : Body) (rest : List ℕ) → Completes d (unread ++ more) body rest
-      → ReadsBody limits framing (after ++ more) (with_front given body) rest
-  pub forth : (more : List ℕ) (whole : Body) (rest : List ℕ) → ReadsBody limits framing (after ++ more) whole rest
-      → (body : Body) × (whole ≡ with_front given body) × Completes d (unread ++ more) body rest
-
--- The head of the request that begins the stream was read, and of its body the bytes that are kept.
+-- The head of the request that begins the stream was read, and of its body the bytes that are kept: whatever comes, its body is
+-- these and then what the decoder reads in the unread bytes.
 pub record Begun (p : Place) (stream interim : List ℕ) : Type 0 where
   pub head : RequestHead
   pub framing : Framing
@@ -88,7 +79,7 @@ pub record Begun (p : Place) (stream interim : List ℕ) : Type 0 where
   pub ends : decoder ≢ UntilClose
   pub waits : Bool
   pub server : p.server ≡ in_body p.config.limits head framing decoder waits
-  pub goes_on : IsBodyAt p.config.limits framing after decoder p.unread p.body
+  pub goes_on : Leads (decoder_for p.config.limits framing) after decoder p.unread p.body
 
 -- the reader is at the start of a request
 pub record IsBetween (p : Place) (stream interim : List ℕ) : Type 0 where
@@ -121,7 +112,7 @@ pub record IsWhole (p : Place) (stream : List ℕ) (asked : Asked) (bodiless : B
   pub between : p.within ≡ false
   pub body : p.body ≡ []
 
--- what falls at each step that goes on
+-- a step that goes on leaves less of this
 abbrev pub work : Place → ℕ
 work p = 2 * length p.unread + (if p.within then 1 else 0)
 

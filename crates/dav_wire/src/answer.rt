@@ -36,7 +36,7 @@ impl<T: Drop> From<AllocFailed<T>> for Stop {
 
 /// What answers requests, each once and in order.
 pub trait Answerer {
-    // From the first state, the response answers the request and leaves the second state.
+    // In the first state this request may get this response, which leaves the second state.
     ghost answers: { Self → Asked → Response → Self → Type 0 };
 
     /// Fills `response`, which comes as a 200 without fields and body. The connection adds `content-length` and

@@ -14,7 +14,7 @@ pub struct Config {
     pub max_body_len: usize,
     /// The same of a body that is an element tree: of PROPFIND, PROPPATCH and LOCK.
     pub max_tree_len: usize,
-    /// While more bytes than this wait to be sent, no request is read.
+    /// No request is read while more bytes than this wait to be sent.
     pub max_pending: usize,
 }
 
@@ -34,7 +34,7 @@ pub enum State {
 pub enum Reason {
     /// The last request, or its response, asked for it (RFC 9112, section 9.6).
     Asked,
-    /// The input ended after a request.
+    /// The input ended, and not within a request.
     EndOfInput,
     /// The next request is refused.
     Refused(Refusal),

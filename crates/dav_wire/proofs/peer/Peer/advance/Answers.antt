@@ -5,7 +5,7 @@ use Rattle.dav_wire.specs.declared.line.Line.{Line}
 use Rattle.dav_wire.specs.declared.state.State.TheVariants.{Aborted}
 use Rattle.dav_wire.specs.Place.{history_of}
 use Rattle.dav_wire.proofs.Runs.{served, settled}
-use Rattle.dav_wire.proofs.Streams.{Calls-join}
+use Rattle.dav_wire.proofs.Streams.{calls_on}
 use Rattle.dav_wire.proofs.peer.Peer.advance.Goals as goal
 
 pub invariant_of-self : goal.invariant_of-self
@@ -29,7 +29,7 @@ loop-spans-preserved g c =
       calls = λ alive.
           let was : c.loop-spans.self.line.state ≢ Aborted =
           λ dead. alive (ap (λ (l : Line). l.state) (c.step.ensures.settled (λ still. let wrong = sym still ∙ dead in cc)) ∙ dead) in
-          Calls-join g.S.Answerer.answers _ _ _ _ _ _ (before.calls was) (c.step.ensures.calls alive);
+          calls_on g.S.Answerer.answers _ _ _ _ (before.calls was) (c.step.ensures.calls alive);
       settled = λ over. c.step.ensures.settled (λ still. over (sym (ap (λ (l : Line). l.state) (before.settled over)) ∙ still)) ∙ before.settled over;
     }
 
@@ -42,7 +42,7 @@ returns-clause-calls g c =
     let alive : c.step.new.self.state ≢ Aborted = λ dead. let wrong = c.is_aborted.ensures.1 dead in cc in
     let was : c.loop-spans.self.line.state ≢ Aborted =
     λ dead. alive (ap (λ (l : Line). l.state) (c.step.ensures.settled (λ still. let wrong = sym still ∙ dead in cc)) ∙ dead) in
-    Calls-join g.S.Answerer.answers _ _ _ _ _ _ (before.calls was) (c.step.ensures.calls alive)
+    calls_on g.S.Answerer.answers _ _ _ _ (before.calls was) (c.step.ensures.calls alive)
 
 pub returns-clause-rests : goal.returns-clause-rests
 returns-clause-rests g c =
