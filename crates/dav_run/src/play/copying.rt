@@ -1,6 +1,6 @@
 //! Whole scripts in which files and folders are copied and moved. What they write was worked out by hand from RFC 4918, sections
 //! 9.8 and 9.9.
-use super::whole_scripts::assert_rows;
+use super::whole_scripts::assert_kept_rows;
 use super::*;
 
 const COPIES: &str = r##"
@@ -188,10 +188,10 @@ const MOVES: &str = r##"
 
 #[test]
 fn copies_files_and_folders(rt: HostRuntime) -> Result<(), AllocError> {
-    assert_rows(&rt, COPIES)
+    assert_kept_rows(&rt, COPIES, 0x5217_ff0c_3c2f_ecfa)
 }
 
 #[test]
 fn moves_files_and_folders(rt: HostRuntime) -> Result<(), AllocError> {
-    assert_rows(&rt, MOVES)
+    assert_kept_rows(&rt, MOVES, 0x00fa_51e7_74ae_2e3a)
 }

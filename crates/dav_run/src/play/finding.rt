@@ -1,5 +1,5 @@
 //! Whole scripts of clients that ask for properties. What they write was worked out by hand from RFC 4918, sections 9.1, 14 and 15.
-use super::whole_scripts::assert_rows;
+use super::whole_scripts::assert_kept_rows;
 use super::*;
 
 const FOLDERS: &str = r##"
@@ -244,45 +244,45 @@ const REFUSED: &str = r##"
 
 #[test]
 fn finds_members_of_folders(rt: HostRuntime) -> Result<(), AllocError> {
-    assert_rows(&rt, FOLDERS)
+    assert_kept_rows(&rt, FOLDERS, 0xe21e_fad0_3263_272d)
 }
 
 #[test]
 fn finds_what_is_below(rt: HostRuntime) -> Result<(), AllocError> {
-    assert_rows(&rt, BELOW)
+    assert_kept_rows(&rt, BELOW, 0x81b4_a98f_e332_8e7c)
 }
 
 #[test]
 fn answers_questions(rt: HostRuntime) -> Result<(), AllocError> {
-    assert_rows(&rt, QUESTIONS)
+    assert_kept_rows(&rt, QUESTIONS, 0x7198_debf_4519_dbd3)
 }
 
 #[test]
 fn finds_live_properties(rt: HostRuntime) -> Result<(), AllocError> {
-    assert_rows(&rt, LIVE)
+    assert_kept_rows(&rt, LIVE, 0xa51f_4f4b_6e3d_1ccc)
 }
 
 #[test]
 fn finds_what_is_asked_for(rt: HostRuntime) -> Result<(), AllocError> {
-    assert_rows(&rt, ASKED)
+    assert_kept_rows(&rt, ASKED, 0xe749_9ede_3250_18a4)
 }
 
 #[test]
 fn finds_kept_properties(rt: HostRuntime) -> Result<(), AllocError> {
-    assert_rows(&rt, KEPT)
+    assert_kept_rows(&rt, KEPT, 0x476a_5aec_9f96_05b0)
 }
 
 #[test]
 fn finds_what_windows_asks_for(rt: HostRuntime) -> Result<(), AllocError> {
-    assert_rows(&rt, WINDOWS)
+    assert_kept_rows(&rt, WINDOWS, 0xb173_4663_f020_3c8d)
 }
 
 #[test]
 fn finds_beside_locks_and_prefixes(rt: HostRuntime) -> Result<(), AllocError> {
-    assert_rows(&rt, NEIGHBOURS)
+    assert_kept_rows(&rt, NEIGHBOURS, 0x4aa6_69c1_ebfe_f2c3)
 }
 
 #[test]
 fn finds_what_is_told(rt: HostRuntime) -> Result<(), AllocError> {
-    assert_rows(&rt, REFUSED)
+    assert_kept_rows(&rt, REFUSED, 0x683e_002c_5690_151e)
 }

@@ -1,6 +1,6 @@
 //! Whole scripts with a run alone: of the requests after a LOCK those that name its token as its principal. What they write was
 //! worked out by hand from RFC 4918, sections 6, 7, 9.8, 9.10 and 9.11.
-use super::whole_scripts::assert_rows;
+use super::whole_scripts::assert_kept_rows;
 use super::*;
 
 const ALONE: &str = r##"
@@ -117,5 +117,5 @@ const ALONE: &str = r##"
 
 #[test]
 fn runs_the_holder_alone(rt: HostRuntime) -> Result<(), AllocError> {
-    assert_rows(&rt, ALONE)
+    assert_kept_rows(&rt, ALONE, 0x9645_dd9a_aece_bee3)
 }

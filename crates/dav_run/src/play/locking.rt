@@ -1,7 +1,8 @@
 //! Whole scripts of clients that lock what they write. What they write was worked out by hand from RFC 4918, sections 6, 7, 9.10
 //! and 9.11.
-use super::whole_scripts::assert_rows;
+use super::whole_scripts::{NO_LINES, assert_kept_rows, assert_rows, digested};
 use super::*;
+use crate::asserting::same;
 
 const CLIENTS: &str = r##"
 # a lock keeps another client out of a folder, and not its holder
@@ -169,16 +170,6 @@ const ENDS: &str = r##"
 {"body":null,"headers":{"content-length":"0"},"status":409}
 {"body":null,"headers":{"content-length":"0"},"status":409}
 {"body":null,"headers":{"connection":"close","content-length":"0"},"status":423}
-# two Lock-Token headers say no token, the same one twice neither; an empty one says one that no lock has
-{"requests":[{"head":"MKCOL /d HTTP/1.1\r\n\r\n","moment":1},{"head":"PUT /d/a HTTP/1.1\r\nContent-Length: 3\r\n\r\n","body":{"text":"one"},"moment":1},{"head":"LOCK /d/a HTTP/1.1\r\n\r\n","body":{"element":{"name":"lockinfo","children":[{"name":"lockscope","children":[{"name":"exclusive"}]},{"name":"locktype","children":[{"name":"write"}]}]}},"principal":"anna","moment":1,"token":"urn:t:1"},{"head":"UNLOCK /d/a HTTP/1.1\r\nLock-Token: <urn:t:1>\r\nLock-Token: <urn:t:1>\r\n\r\n","moment":1},{"head":"UNLOCK /d/a HTTP/1.1\r\nLock-Token: <urn:t:1>\r\nLock-Token: <urn:t:2>\r\n\r\n","moment":1},{"head":"UNLOCK /d/a HTTP/1.1\r\nLock-Token: \r\n\r\n","moment":1},{"head":"PUT /d/a HTTP/1.1\r\nContent-Length: 1\r\n\r\n","body":{"text":"x"},"moment":1},{"head":"UNLOCK /d/a HTTP/1.1\r\nLock-Token: <urn:t:1>\r\n\r\n","moment":1}]}
-{"body":null,"headers":{},"status":201}
-{"body":null,"headers":{"accept-ranges":"bytes","content-length":"0","etag":"\"3\"","last-modified":"Thu, 01 Jan 1970 00:00:01 GMT"},"status":201}
-{"body":{"element":{"attributes":[["xmlns:D","DAV:"]],"children":[{"attributes":[],"children":[{"attributes":[],"children":[{"attributes":[],"children":[{"attributes":[],"children":[],"name":"exclusive","namespace":null,"prefix":"D"}],"name":"lockscope","namespace":null,"prefix":"D"},{"attributes":[],"children":[{"attributes":[],"children":[],"name":"write","namespace":null,"prefix":"D"}],"name":"locktype","namespace":null,"prefix":"D"},{"attributes":[],"children":["Infinity"],"name":"depth","namespace":null,"prefix":"D"},{"attributes":[],"children":["Infinite"],"name":"timeout","namespace":null,"prefix":"D"},{"attributes":[],"children":[{"attributes":[],"children":["urn:t:1"],"name":"href","namespace":null,"prefix":"D"}],"name":"locktoken","namespace":null,"prefix":"D"},{"attributes":[],"children":[{"attributes":[],"children":["/d/a"],"name":"href","namespace":null,"prefix":"D"}],"name":"lockroot","namespace":null,"prefix":"D"}],"name":"activelock","namespace":null,"prefix":"D"}],"name":"lockdiscovery","namespace":null,"prefix":"D"}],"name":"prop","namespace":null,"prefix":"D"}},"headers":{"content-type":"application/xml; charset=utf-8","lock-token":"<urn:t:1>"},"status":200}
-{"body":null,"headers":{"content-length":"0"},"status":400}
-{"body":null,"headers":{"content-length":"0"},"status":400}
-{"body":null,"headers":{"content-length":"0"},"status":409}
-{"body":null,"headers":{"connection":"close","content-length":"0"},"status":423}
-{"body":null,"headers":{},"status":204}
 # locks end with what they are on, and a new folder has none
 {"requests":[{"head":"MKCOL /d HTTP/1.1\r\n\r\n","moment":1},{"head":"PUT /d/a HTTP/1.1\r\nContent-Length: 3\r\n\r\n","body":{"text":"one"},"moment":1},{"head":"LOCK /d HTTP/1.1\r\n\r\n","body":{"element":{"name":"lockinfo","children":[{"name":"lockscope","children":[{"name":"exclusive"}]},{"name":"locktype","children":[{"name":"write"}]}]}},"principal":"anna","moment":1,"token":"urn:t:1"},{"head":"DELETE /d HTTP/1.1\r\nIf: (<urn:t:1>)\r\n\r\n","principal":"anna","moment":1},{"head":"MKCOL /d HTTP/1.1\r\n\r\n","principal":"ben","moment":1},{"head":"PUT /d/a HTTP/1.1\r\nContent-Length: 1\r\n\r\n","body":{"text":"x"},"principal":"ben","moment":1},{"head":"LOCK /d HTTP/1.1\r\nIf: (<urn:t:1>)\r\n\r\n","principal":"anna","moment":1}]}
 {"body":null,"headers":{},"status":201}
@@ -190,17 +181,46 @@ const ENDS: &str = r##"
 {"body":null,"headers":{"content-length":"0"},"status":412}
 "##;
 
+const LOCK_TOKENS: &str = r##"
+# two Lock-Token headers say no token, the same one twice neither; an empty one says one that no lock has
+{"requests":[{"head":"MKCOL /d HTTP/1.1\r\n\r\n","moment":1},{"head":"PUT /d/a HTTP/1.1\r\nContent-Length: 3\r\n\r\n","body":{"text":"one"},"moment":1},{"head":"LOCK /d/a HTTP/1.1\r\n\r\n","body":{"element":{"name":"lockinfo","children":[{"name":"lockscope","children":[{"name":"exclusive"}]},{"name":"locktype","children":[{"name":"write"}]}]}},"principal":"anna","moment":1,"token":"urn:t:1"},{"head":"UNLOCK /d/a HTTP/1.1\r\nLock-Token: <urn:t:1>\r\nLock-Token: <urn:t:1>\r\n\r\n","moment":1},{"head":"UNLOCK /d/a HTTP/1.1\r\nLock-Token: <urn:t:1>\r\nLock-Token: <urn:t:2>\r\n\r\n","moment":1},{"head":"UNLOCK /d/a HTTP/1.1\r\nLock-Token: \r\n\r\n","moment":1},{"head":"PUT /d/a HTTP/1.1\r\nContent-Length: 1\r\n\r\n","body":{"text":"x"},"moment":1},{"head":"UNLOCK /d/a HTTP/1.1\r\nLock-Token: <urn:t:1>\r\n\r\n","moment":1}]}
+{"body":null,"headers":{},"status":201}
+{"body":null,"headers":{"accept-ranges":"bytes","content-length":"0","etag":"\"3\"","last-modified":"Thu, 01 Jan 1970 00:00:01 GMT"},"status":201}
+{"body":{"element":{"attributes":[["xmlns:D","DAV:"]],"children":[{"attributes":[],"children":[{"attributes":[],"children":[{"attributes":[],"children":[{"attributes":[],"children":[],"name":"exclusive","namespace":null,"prefix":"D"}],"name":"lockscope","namespace":null,"prefix":"D"},{"attributes":[],"children":[{"attributes":[],"children":[],"name":"write","namespace":null,"prefix":"D"}],"name":"locktype","namespace":null,"prefix":"D"},{"attributes":[],"children":["Infinity"],"name":"depth","namespace":null,"prefix":"D"},{"attributes":[],"children":["Infinite"],"name":"timeout","namespace":null,"prefix":"D"},{"attributes":[],"children":[{"attributes":[],"children":["urn:t:1"],"name":"href","namespace":null,"prefix":"D"}],"name":"locktoken","namespace":null,"prefix":"D"},{"attributes":[],"children":[{"attributes":[],"children":["/d/a"],"name":"href","namespace":null,"prefix":"D"}],"name":"lockroot","namespace":null,"prefix":"D"}],"name":"activelock","namespace":null,"prefix":"D"}],"name":"lockdiscovery","namespace":null,"prefix":"D"}],"name":"prop","namespace":null,"prefix":"D"}},"headers":{"content-type":"application/xml; charset=utf-8","lock-token":"<urn:t:1>"},"status":200}
+{"body":null,"headers":{"content-length":"0"},"status":400}
+{"body":null,"headers":{"content-length":"0"},"status":400}
+{"body":null,"headers":{"content-length":"0"},"status":409}
+{"body":null,"headers":{"connection":"close","content-length":"0"},"status":423}
+{"body":null,"headers":{},"status":204}
+"##;
+
+// What PUT /d/new, without the token of the lock of Depth 0 on /d, and the PUT after it were answered at commit bcd92cd, before
+// such a lock guarded the names in its folder. The first is the one answer to any of the kept scripts that has another status
+// since; the second has its status, and an earlier change number, as the first takes none.
+const BEFORE: &str =
+    r##"{"body":null,"headers":{"accept-ranges":"bytes","content-length":"0","etag":"\"5\"","last-modified":"Thu, 01 Jan 1970 00:00:01 GMT"},"status":201}
+{"body":null,"headers":{"accept-ranges":"bytes","etag":"\"7\"","last-modified":"Thu, 01 Jan 1970 00:00:01 GMT"},"status":204}"##;
+
+// What they are answered now.
+const NOW: &str =
+    r##"{"body":null,"headers":{"connection":"close","content-length":"0"},"status":423}
+{"body":null,"headers":{"accept-ranges":"bytes","etag":"\"5\"","last-modified":"Thu, 01 Jan 1970 00:00:01 GMT"},"status":204}"##;
+
 #[test]
 fn keeps_other_clients_out(rt: HostRuntime) -> Result<(), AllocError> {
+    let (front, back) = CLIENTS.split_once(NOW).unwrap_or(("", ""));
+    let digest = digested(digested(digested(NO_LINES, front), BEFORE), back);
+    same(&rt, &digest, &0x8790_5641_9a52_4f29);
     assert_rows(&rt, CLIENTS)
 }
 
 #[test]
 fn grants_locks(rt: HostRuntime) -> Result<(), AllocError> {
-    assert_rows(&rt, GRANTS)
+    assert_kept_rows(&rt, GRANTS, 0x3264_caf2_bf70_0097)
 }
 
 #[test]
 fn refreshes_and_ends_locks(rt: HostRuntime) -> Result<(), AllocError> {
-    assert_rows(&rt, ENDS)
+    assert_kept_rows(&rt, ENDS, 0x0bc7_1da5_2222_cea7)?;
+    assert_rows(&rt, LOCK_TOKENS)
 }

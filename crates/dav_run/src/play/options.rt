@@ -1,6 +1,6 @@
 //! Whole scripts that ask what may be done. What they write was worked out by hand from RFC 9110, section 9.3.7, and RFC 4918,
 //! sections 10.1 and 18.
-use super::whole_scripts::assert_rows;
+use super::whole_scripts::assert_kept_rows;
 use super::*;
 
 const OPTIONS: &str = r##"
@@ -49,5 +49,5 @@ const OPTIONS: &str = r##"
 
 #[test]
 fn tells_what_may_be_done(rt: HostRuntime) -> Result<(), AllocError> {
-    assert_rows(&rt, OPTIONS)
+    assert_kept_rows(&rt, OPTIONS, 0xe1d1_507d_c869_824f)
 }

@@ -1,5 +1,5 @@
 //! Whole scripts of clients that change properties. What they write was worked out by hand from RFC 4918, sections 9.2, 14 and 15.
-use super::whole_scripts::assert_rows;
+use super::whole_scripts::assert_kept_rows;
 use super::*;
 
 const CHANGING: &str = r##"
@@ -63,5 +63,5 @@ const CHANGING: &str = r##"
 
 #[test]
 fn changes_properties(rt: HostRuntime) -> Result<(), AllocError> {
-    assert_rows(&rt, CHANGING)
+    assert_kept_rows(&rt, CHANGING, 0xa5a7_cd6d_2a40_6e9b)
 }

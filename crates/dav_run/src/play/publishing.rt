@@ -1,5 +1,5 @@
 //! Whole scripts of a publisher: folders, conditions and parts of files.
-use super::whole_scripts::assert_rows;
+use super::whole_scripts::assert_kept_rows;
 use super::*;
 
 const FOLDERS: &str = r##"
@@ -124,15 +124,15 @@ const PARTS: &str = r##"
 
 #[test]
 fn makes_folders(rt: HostRuntime) -> Result<(), AllocError> {
-    assert_rows(&rt, FOLDERS)
+    assert_kept_rows(&rt, FOLDERS, 0xafea_eae8_5031_b870)
 }
 
 #[test]
 fn checks_conditions(rt: HostRuntime) -> Result<(), AllocError> {
-    assert_rows(&rt, CONDITIONS)
+    assert_kept_rows(&rt, CONDITIONS, 0xd2e3_cc54_67f1_a4ba)
 }
 
 #[test]
 fn writes_parts(rt: HostRuntime) -> Result<(), AllocError> {
-    assert_rows(&rt, PARTS)
+    assert_kept_rows(&rt, PARTS, 0xac62_f5fe_05d8_01b4)
 }

@@ -1,5 +1,5 @@
 //! Whole scripts in which calls of the store are refused.
-use super::whole_scripts::assert_rows;
+use super::whole_scripts::assert_kept_rows;
 use super::*;
 
 const REFUSED_CALLS: &str = r##"
@@ -46,5 +46,5 @@ const REFUSED_CALLS: &str = r##"
 
 #[test]
 fn refuses_calls(rt: HostRuntime) -> Result<(), AllocError> {
-    assert_rows(&rt, REFUSED_CALLS)
+    assert_kept_rows(&rt, REFUSED_CALLS, 0x9482_549c_6bdc_78aa)
 }

@@ -1,5 +1,5 @@
 //! Whole scripts in which files and folders are removed. What they write was worked out by hand from RFC 4918, section 9.6.
-use super::whole_scripts::assert_rows;
+use super::whole_scripts::assert_kept_rows;
 use super::*;
 
 const REMOVALS: &str = r##"
@@ -76,5 +76,5 @@ const REMOVALS: &str = r##"
 
 #[test]
 fn removes_files_and_folders(rt: HostRuntime) -> Result<(), AllocError> {
-    assert_rows(&rt, REMOVALS)
+    assert_kept_rows(&rt, REMOVALS, 0x0793_1499_e169_1a37)
 }

@@ -1,8 +1,9 @@
+use super::whole_scripts::{NO_LINES, digested};
 use super::*;
 use crate::asserting::{rows_of, same, same_outcome};
 use std::io::ErrorKind;
 
-// Scripts, and how many lines each writes; `!` where it is refused and nothing is written.
+// Scripts, and how many lines each writes; `!` where it is refused and nothing is written. Kept as at commit bcd92cd.
 const SCRIPTS: &str = r##"# Scripts.
 {"requests":[]} -> 0
 {"requests":[{"head":"FOO / HTTP/1.1\r\n\r\n"},{"head":"FOO / HTTP/1.1\r\n\r\n"}]} -> 2
@@ -106,6 +107,7 @@ fn outcome(alloc: Global, script: &str) -> Result<String, AllocError> {
 
 #[test]
 fn takes_scripts_and_refuses_others(rt: HostRuntime) -> Result<(), AllocError> {
+    same(&rt, &digested(NO_LINES, SCRIPTS), &0x0f29_78ed_16a6_0936);
     for (script, wanted) in rows_of(&rt, SCRIPTS)? {
         let outcome = outcome(rt.alloc(), script)?;
         same_outcome(&rt, script, wanted, &outcome);
@@ -231,19 +233,22 @@ fn reports_a_read_that_fails(rt: HostRuntime) {
     }
 }
 
-// The status of a script where so many writes succeed, and how many lines were written.
+// The status of a script where so many writes succeed, how many lines were written, and whether they are the first of those that
+// are written where nothing fails.
 fn played_with_writes(
     alloc: Global,
     script: &str,
     writes_left: usize,
-) -> Result<(u8, usize), AllocError> {
+) -> Result<(u8, usize, bool), AllocError> {
     let mut input = script.as_bytes();
     let mut writer = BrokenWriter {
         writes_left,
         written: Vec::new(alloc),
     };
     let status = play(alloc, &mut input, &mut writer);
-    Ok((status, count_lines(alloc, &writer.written)?))
+    let (_, all) = played(alloc, script.as_bytes());
+    let are_first = all.starts_with(&writer.written);
+    Ok((status, count_lines(alloc, &writer.written)?, are_first))
 }
 
 #[test]
@@ -251,7 +256,7 @@ fn reports_a_write_that_fails(rt: HostRuntime) -> Result<(), AllocError> {
     for (writes, wanted) in [(0, IO_FAILED), (1, IO_FAILED), (2, PLAYED)] {
         for script in [TWO_REQUESTS, RUN_ALONE] {
             let outcome = played_with_writes(rt.alloc(), script, writes)?;
-            same(&rt, &outcome, &(wanted, writes));
+            same(&rt, &outcome, &(wanted, writes, true));
         }
     }
     Ok(())
