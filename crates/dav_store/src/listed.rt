@@ -88,6 +88,37 @@ rmdir / 31
 remove /a/h 32
 list /a
 metadata /a/h
+open /t read,write,create 253402300799
+write one 253402300799
+told
+open /t read,append 33
+buffer two 34
+told
+seek start 1
+write x 35
+bytes /t
+open /t write,truncate 36
+told
+bytes /t
+buffer four 37
+seek start 2147483647
+write x 38
+seek start 2147483646
+seek end 2
+buffer y 39
+bytes /t
+open /t truncate,append 40
+write z 41
+bytes /t
+open / write,truncate 42
+open /t new,write,truncate 43
+open /u append 44
+open /u new,append,truncate 45
+buffer u 46
+metadata /u
+open /t read 47
+write no 48
+told
 ";
 
 const LOCK_CALLS: &str = "\

@@ -75,6 +75,15 @@ PROPFIND /d | depth: infinity -> 501
 PROPFIND /n | depth: 0 -> 404 metadata
 "##;
 
+// The name of a call that lists a folder, with what else is asked for where that isn't the metadata of each member.
+fn listing_call(meta: ReadDirMeta) -> &'static str {
+    match meta {
+        ReadDirMeta::DataSymlink => "read_dir",
+        ReadDirMeta::Data => "read_dir(Data)",
+        ReadDirMeta::None => "read_dir(None)",
+    }
+}
+
 // A store that keeps the names of the calls that are made.
 #[derive(Drop)]
 struct Recording<F> {
@@ -119,7 +128,7 @@ impl<F: DavFileSystem> DavFileSystem for Recording<F> {
         path: &DavPath,
         meta: ReadDirMeta,
     ) -> FsResult<Vec<F::Entry>> {
-        self.note("read_dir");
+        self.note(listing_call(meta));
         self.inner.read_dir(alloc, path, meta)
     }
 

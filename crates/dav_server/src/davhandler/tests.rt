@@ -149,8 +149,11 @@ pub(crate) fn shown(alloc: Global, reply: &Reply) -> Result<String, Fail> {
     Ok(text)
 }
 
-// A server of a new store in memory, with locks, below a prefix, that allows every method.
-fn server_below(alloc: Global, prefix: &str) -> Result<DavHandler<MemFs, MemLs>, HandlerError> {
+/// A server of a new store in memory, with locks, below a prefix, that allows every method.
+pub(super) fn server_below(
+    alloc: Global,
+    prefix: &str,
+) -> Result<DavHandler<MemFs, MemLs>, HandlerError> {
     let fs = MemFs::new(alloc)?;
     let ls = MemLs::new(alloc)?;
     DavHandler::new(alloc, prefix, DavMethodSet::all(), fs, Some(ls))
@@ -319,8 +322,8 @@ fn has_folder<F: DavFileSystem>(fs: &mut F, path: &DavPath) -> bool {
     fs.metadata(path).is_ok_and(|found| found.is_dir())
 }
 
-// How many locks of a server cover a path.
-fn count_locks<F: DavFileSystem, L: DavLockSystem>(
+/// How many locks of a server cover a path.
+pub(crate) fn count_locks<F: DavFileSystem, L: DavLockSystem>(
     alloc: Global,
     server: &DavHandler<F, L>,
     path: &DavPath,

@@ -1,9 +1,12 @@
 //! What bodies ask for, row by row. What is expected was worked out by hand from RFC 4918, sections 9.2, 9.10, 14 and 15.
+use super::removals::error_of;
 use super::tests::refusing_server;
 use super::*;
+use crate::davhandler::tests::count_locks;
 use crate::exchange::GrantToken;
 use crate::rows::{NoRow, Player, play_rows};
 use bytes::Bytes;
+use dav_core::davpath::DavPath;
 use dav_core::element::Element;
 use dav_engine::{Body, ReplyBody};
 use std::test::Fail;
@@ -196,6 +199,15 @@ PATCH |content-type: application/x-sabredav-partialupdate|content-length: 3|x-up
 PATCH |content-type: application/x-sabredav-partialupdate|content-length: 3|x-update-range: bytes 1-3| -> 400 abcdefg
 PATCH |content-type: application/x-sabredav-partialupdate|content-length: 3|x-update-range: | -> 400 abcdefg
 PATCH |content-type: application/x-sabredav-partialupdate|content-length: 3| -> 400 abcdefg
+"##;
+
+// A LOCK for a path at which nothing is, whose empty file the store refuses with this error; and then one whose file isn't refused.
+// Behind ` -> ` are the status of each, and how many locks cover the path then.
+const REFUSED_FILES: &str = r##"# a lock whose file is refused is taken back
+refused Forbidden -> 403 0, 201 1
+refused Exists -> 409 0, 201 1
+refused NotFound -> 409 0, 201 1
+refused InsufficientStorage -> 507 0, 201 1
 "##;
 
 // An element of a namespace, with what is in it.
@@ -474,7 +486,26 @@ impl<F: DavFileSystem + Drop, L: DavLockSystem + Drop> Asked<F, L> {
     }
 }
 
+impl<F: DavFileSystem + Drop, L: DavLockSystem + Drop> Asked<F, L> {
+    // The status of a LOCK, and how many locks cover the path then.
+    fn grant(&mut self, alloc: Global) -> Result<String, Fail> {
+        let body = Body::Tree(lock_info(alloc, "exclusive")?);
+        let reply = self.ask(alloc, "LOCK", "", body)?;
+        let count = count_locks(alloc, &self.server, &DavPath::new(alloc, "/f")?)?;
+        Ok(format!(in alloc; "{} {count}", reply.status.as_u16())?)
+    }
+}
+
 impl Asked<Refusing<MemFs>, MemLs> {
+    // What a LOCK is answered whose file the store refuses with this error, and then another one.
+    fn grants(&mut self, alloc: Global, error: &'static str) -> Result<String, Fail> {
+        let refusals = vec![in alloc; None, Some(error_of(error)?)]?;
+        self.server.backend.fs.load(refusals);
+        let first = self.grant(alloc)?;
+        let second = self.grant(alloc)?;
+        Ok(format!(in alloc; "{first}, {second}")?)
+    }
+
     // The status of such a change where the store keeps properties, and where it refuses to tell.
     fn changes(&mut self, alloc: Global, action: &str, text: &'static str) -> Result<String, Fail> {
         self.ask(alloc, "PUT", "", Body::None)?;
@@ -499,6 +530,7 @@ impl Player for Asked<Refusing<MemFs>, MemLs> {
             "set" | "remove" => self.changes(alloc, name, text)?,
             "PROPPATCH" => self.update(alloc, text)?,
             "LOCK" => self.lock(alloc, text)?,
+            "refused" => self.grants(alloc, text)?,
             "PUT" | "PATCH" => self.upload(alloc, name, headers)?,
             _ => self.duration(alloc, name, headers)?,
         };
@@ -510,7 +542,14 @@ impl Player for Asked<Refusing<MemFs>, MemLs> {
 fn does_what_bodies_ask_for(rt: HostRuntime) -> Result<(), Fail> {
     let server = refusing_server(rt.alloc())?;
     let mut asked = Asked { server };
-    for rows in [CHANGES, UPDATES, LOCK_BODIES, LOCK_HEADERS, UPLOADS] {
+    for rows in [
+        CHANGES,
+        UPDATES,
+        LOCK_BODIES,
+        LOCK_HEADERS,
+        UPLOADS,
+        REFUSED_FILES,
+    ] {
         play_rows(&rt, &mut asked, rows)?;
     }
     Ok(())

@@ -1,6 +1,8 @@
 //! A store as a list of paths and nodes, in order of the paths, that each call walks.
-ghost use Rattle.std.specs.Prelude.{◌<◌};
+ghost use Rattle.std.specs.Prelude.{◌≤◌};
+ghost use Rattle.dav_core.specs.World.{last_moment};
 
+use crate::memfs::MAX_FILE_LEN;
 use crate::memfs::tests::{
     Row, answered, as_it_was, moment, named, options, path, place, property, readable, shown, tell,
     text,
@@ -30,6 +32,17 @@ struct ListedFile {
     made: u64,
     place: u64,
     writes: bool,
+    appends: bool,
+}
+
+// A file that is opened at its beginning.
+fn opened_file(made: u64, options: &OpenOptions) -> ListedFile {
+    ListedFile {
+        made,
+        place: 0,
+        writes: options.write || options.append,
+        appends: options.append,
+    }
 }
 
 // What a call that allocates answers where memory runs out.
@@ -140,7 +153,7 @@ impl ListedFs {
     }
 
     fn touch_folder(&mut self, at: &[Vec<u8>], now: u64)
-        requires { now < 1000 }
+        requires { now ≤ last_moment }
     {
         for e in &mut self.nodes {
             if e.0.as_slice() == folder(at) {
@@ -162,14 +175,14 @@ impl ListedFs {
     }
 
     fn add(&mut self, at: Names, node: Node, now: u64) -> FsResult<()>
-        requires { now < 1000 }
+        requires { now ≤ last_moment }
     {
         self.touch_folder(&at, now);
         self.put(at, node)
     }
 
     fn create_dir(&mut self, alloc: Global, at: Names, now: u64) -> FsResult<()>
-        requires { now < 1000 }
+        requires { now ≤ last_moment }
     {
         if self.node(&at).is_ok() {
             return Err(FsError::Exists);
@@ -182,7 +195,7 @@ impl ListedFs {
     }
 
     fn remove(&mut self, at: &[Vec<u8>], is_file: bool, now: u64) -> FsResult<()>
-        requires { now < 1000 }
+        requires { now ≤ last_moment }
     {
         if at.is_empty() || self.node(at)?.is_folder() == is_file {
             return Err(FsError::Forbidden);
@@ -196,7 +209,7 @@ impl ListedFs {
     }
 
     fn rename(&mut self, alloc: Global, from: &Names, to: &Names, now: u64) -> FsResult<()>
-        requires { now < 1000 }
+        requires { now ≤ last_moment }
     {
         if from.is_empty() || to.is_empty() {
             return Err(FsError::Forbidden);
@@ -238,7 +251,7 @@ impl ListedFs {
     }
 
     fn copy(&mut self, from: &Names, to: &Names, now: u64) -> FsResult<()>
-        requires { now < 1000 }
+        requires { now ≤ last_moment }
     {
         if self.node(from)?.is_folder() || from == to || self.is_folder(to) {
             return Err(FsError::Forbidden);
@@ -274,9 +287,8 @@ impl ListedFs {
         options: &OpenOptions,
         now: u64,
     ) -> FsResult<ListedFile>
-        requires { now < 1000 }
+        requires { now ≤ last_moment }
     {
-        let (writes, place) = (options.write, 0);
         if let Ok(node) = self.node(&at) {
             let made = node.creation_number();
             if node.is_folder() {
@@ -285,35 +297,47 @@ impl ListedFs {
             if options.create_new {
                 return Err(FsError::Exists);
             }
-            return Ok(ListedFile {
-                made,
-                place,
-                writes,
-            });
+            if options.truncate {
+                self.empty(&at, now)?;
+            }
+            return Ok(opened_file(made, options));
         }
         if !options.create && !options.create_new || !self.is_folder(folder(&at)) {
             return Err(FsError::NotFound);
         }
         let made = self.take_number()?;
         self.add(at, Node::new_file(alloc, made, now), now)?;
-        Ok(ListedFile {
-            made,
-            place,
-            writes,
-        })
+        Ok(opened_file(made, options))
     }
 
-    // Writes bytes to the open file.
+    // Takes the bytes of a file away.
+    fn empty(&mut self, at: &[Vec<u8>], now: u64) -> FsResult<()>
+        requires { now ≤ last_moment }
+    {
+        let number = self.take_number()?;
+        for e in &mut self.nodes {
+            if e.0.as_slice() == at {
+                e.1.empty(number, now);
+            }
+        }
+        Ok(())
+    }
+
+    // Writes bytes to the open file: at its place, or where it is opened to append at its end.
     fn write(&mut self, alloc: Global, bytes: &[u8], now: u64) -> FsResult<()>
-        requires { now < 1000 }
+        requires { now ≤ last_moment }
     {
         let (made_with, place) = self.opened()?;
-        self.file_made_with(made_with)?;
+        let len = self.file_made_with(made_with)?.bytes().len() as u64;
         if !self.writes() {
             return Err(FsError::Forbidden);
         }
-        if bytes.is_empty() || bytes.len() > 1000 || place > 1000 {
+        let place = if self.appends() { len } else { place };
+        if place > MAX_FILE_LEN || bytes.len() as u64 > MAX_FILE_LEN - place {
             return Err(FsError::TooLarge);
+        }
+        if bytes.is_empty() {
+            return Ok(());
         }
         let number = self.take_number()?;
         for e in &mut self.nodes {
@@ -336,6 +360,13 @@ impl ListedFs {
     fn writes(&self) -> bool {
         match &self.file {
             Some(file) => file.writes,
+            None => false,
+        }
+    }
+
+    fn appends(&self) -> bool {
+        match &self.file {
+            Some(file) => file.appends,
             None => false,
         }
     }
@@ -465,7 +496,7 @@ impl ListedFs {
     pub(super) fn play(&mut self, alloc: Global, row: Row<'_>) -> FsResult<String> {
         let [call, first, second, _] = row;
         match call {
-            "write" => {
+            "write" | "buffer" => {
                 self.write(alloc, first.as_bytes(), moment(second))?;
                 return text(alloc, "ok");
             }

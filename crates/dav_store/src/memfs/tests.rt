@@ -6,7 +6,8 @@
 //! listing ends in a slash. A property is written by its name, after a colon where it has no namespace, and `set` stores
 //! one without an element where its value is missing. `properties` lists them with their elements, as `name=value`, and
 //! `names` without.
-ghost use Rattle.std.specs.Prelude.{◌<◌};
+ghost use Rattle.std.specs.Prelude.{◌≤◌};
+ghost use Rattle.dav_core.specs.World.{last_moment};
 
 use super::*;
 use bytes::Bytes;
@@ -187,11 +188,15 @@ pub(crate) fn path(alloc: Global, text: &str) -> FsResult<DavPath> {
     DavPath::new(alloc, text).map_err(|_| FsError::PathTooLong)
 }
 
+// The end of the year 9999.
+const LAST_MOMENT: u64 = 253_402_300_799;
+
+// The moment of a row; 0 where it is none.
 pub(crate) fn moment(text: &str) -> u64
-    ensures { result < 1000 }
+    ensures { result ≤ last_moment }
 {
     match text.parse::<u64>() {
-        Ok(moment) if moment < 1000 => moment,
+        Ok(moment) if moment <= LAST_MOMENT => moment,
         _ => 0,
     }
 }
@@ -203,6 +208,8 @@ pub(crate) fn options(words: &str) -> OpenOptions {
             "read" => options.read = true,
             "write" => options.write = true,
             "create" => options.create = true,
+            "truncate" => options.truncate = true,
+            "append" => options.append = true,
             _ => options.create_new = true,
         }
     }
@@ -278,7 +285,7 @@ impl<F: DavFileSystem> Played<F> {
         to: &DavPath,
         now: u64,
     ) -> FsResult<()>
-        requires { now < 1000 }
+        requires { now ≤ last_moment }
     {
         match call {
             "rename" => self.fs.rename(alloc, from, to, now),
