@@ -1,4 +1,4 @@
--- What an OPTIONS does: it only reads, it is followed by its code, and it goes along with itself.
+-- What an OPTIONS does: it only reads, it is followed by its code, and it is isolated.
 use Rattle.std.proofs.Common.{◌≡◌, ◌++◌, ℕ, Bool, List, [], ◌∷◌, map, Option, Some, Result, Ok, Err, true, refl, sym, ap, ◌∙◌}
 use Rattle.std.specs.List.{flat_map, join_by}
 use Rattle.std.specs.Prelude.{IfOk}

@@ -171,7 +171,7 @@ pub record Agrees {A : Type 0} (R : A → A → Type 0) (h : Lock) (a b : Result
 abbrev pub SameAnswers : Reply → Reply → Type 0
 SameAnswers a b = answers_of a ≡ answers_of b
 
--- A plan that goes alongside itself has the same outcome from alike worlds, under the same refusals and where neither store ran
+-- An isolated plan has the same outcome from alike worlds, under the same refusals and where neither store ran
 -- out of memory. Only the first run has to find its change numbers: the second then finds them too.
 abbrev pub AlongsideAgree : Type 0
 AlongsideAgree =

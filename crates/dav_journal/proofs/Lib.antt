@@ -1,4 +1,4 @@
-mod BlockLemmas
+pub mod BlockLemmas
 mod CutLemmas
 mod FrontLemmas
 mod JournalLemmas

@@ -15,6 +15,7 @@ pub fn write_twice<D: Disk>(disk: &mut D, at: usize, bytes: &[u8]) -> io::Result
     requires some { 1 < length bytes.now }
     requires opens { slice_index bytes.now 0 ≡ 1 }
     requires fits { at + length bytes.now < 2 ^ 64 }
+    ensures clean { IsTrue (D.Disk.is_clean disk.new) → IsTrue (D.Disk.is_clean disk.old) }
     ensures written { OnOk result (Holds (D.Disk.seen disk.new) at bytes.now) }
     ensures synced { OnOk result (Only (D.Disk.seen disk.new) (D.Disk.may_leave disk.new)) }
     ensures usable { OnOk result (IsTrue (D.Disk.is_usable disk.new)) }
@@ -35,6 +36,7 @@ pub fn write_once<D: Disk>(disk: &mut D, at: usize, bytes: &[u8]) -> io::Result<
     requires usable { IsTrue (D.Disk.is_usable disk.old) }
     requires some { 0 < length bytes.now }
     requires fits { at + length bytes.now < 2 ^ 64 }
+    ensures clean { IsTrue (D.Disk.is_clean disk.new) → IsTrue (D.Disk.is_clean disk.old) }
     ensures written { OnOk result (Holds (D.Disk.seen disk.new) at bytes.now) }
     ensures synced { OnOk result (Only (D.Disk.seen disk.new) (D.Disk.may_leave disk.new)) }
     ensures others { Torn at (length bytes.now) (D.Disk.seen disk.old) (D.Disk.seen disk.new) }

@@ -1,8 +1,2 @@
-pub mod Frames
-pub mod Records
-pub mod Sent
-pub mod SentLaws
-pub mod Owners
-pub mod Asked
-pub mod Withheld
 pub mod Line
+pub mod Answers

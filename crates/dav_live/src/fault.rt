@@ -1,8 +1,10 @@
 //! Why a server ends, and why it can't begin.
 use dav_journal::JournalError;
+use dav_kept::KeptError;
+use dav_server::davhandler::HandlerError;
+use dav_turns::TurnError;
 use dav_wire::Stop;
 use std::alloc::{AllocError, AllocFailed};
-use std::io;
 use thiserror::Error;
 
 /// Why a server ended.
@@ -28,9 +30,13 @@ impl From<AllocError> for Fault {
     }
 }
 
-impl From<io::Error> for Fault {
-    fn from(_error: io::Error) -> Fault {
-        Fault::Pipe
+impl From<TurnError> for Fault {
+    fn from(error: TurnError) -> Fault {
+        match error {
+            TurnError::Pipe => Fault::Pipe,
+            TurnError::Stopped(Stop::Memory) => Fault::Memory,
+            TurnError::Stopped(Stop::Disk) => Fault::Disk,
+        }
     }
 }
 
@@ -79,14 +85,25 @@ impl<T: Drop> From<AllocFailed<T>> for OpenError {
     }
 }
 
-impl From<Stop> for OpenError {
-    ghost use Rattle.std.specs.Prelude.{◌≡◌};
-    ghost use Rattle.dav_live.specs.declared.fault.OpenError.TheVariants.{Memory};
+impl From<HandlerError> for OpenError {
+    fn from(error: HandlerError) -> OpenError {
+        match error {
+            HandlerError::BadPrefix => OpenError::Settings,
+            HandlerError::Memory => OpenError::Memory,
+        }
+    }
+}
 
-    ghost from_gives = { λ _ e. e ≡ Memory };
-
-    fn from(_stop: Stop) -> OpenError {
-        OpenError::Memory
+impl From<KeptError> for OpenError {
+    fn from(error: KeptError) -> OpenError {
+        match error {
+            KeptError::Memory => OpenError::Memory,
+            KeptError::Disk => OpenError::Disk,
+            KeptError::Foreign => OpenError::Foreign,
+            KeptError::OtherPreface => OpenError::OtherPrefix,
+            KeptError::Damaged(place) => OpenError::Damaged(place),
+            KeptError::Malformed | KeptError::Changed => OpenError::Damaged(0),
+        }
     }
 }
 

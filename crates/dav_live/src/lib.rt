@@ -1,32 +1,23 @@
 //! A live server: all connections and what is kept, behind one stream of reports and one of orders.
 //!
 //! A front moves bytes between sockets and this server. It reports what happened to each connection, and carries out one order for
-//! each report. Here the bytes are cut into requests, each is answered by the handler, and what may change something is in
+//! each report. Here the bytes are cut into requests, the head of each is judged before its body is taken, each is answered by the handler, and what may change something is in
 //! the journal and synced before any reply of its turn is handed out.
 #![tactic(auto)]
 
-mod answer;
-mod basic;
 mod fault;
-mod frames;
-mod handler;
-mod heads;
-pub mod laws;
-mod leases;
+mod hosts;
 mod line;
 mod live;
-mod owner;
+mod machine;
 mod page;
-mod password;
-mod record;
-mod render;
-mod sendable;
+mod rejection;
 mod service;
 mod settings;
-mod users;
-mod withheld;
+mod token;
+mod told;
 
+pub use dav_access::{Users, UsersError};
 pub use fault::{Fault, OpenError};
 pub use live::{Live, Watch};
 pub use settings::Settings;
-pub use users::{Users, UsersError};

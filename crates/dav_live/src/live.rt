@@ -1,25 +1,18 @@
-//! All connections.
+//! A live server, behind one stream of reports and one of orders.
 use crate::fault::{Fault, OpenError};
-use crate::frames::{
-    CLOSE, GONE, GOT, HELLO, Next, OPENED, READ, Report, SENT, TELL, TICK, USERS, add_order,
-    report_at,
-};
 use crate::service::Service;
 use crate::settings::Settings;
-use crate::users::Users;
+use dav_access::Users;
 use dav_journal::Journal;
-use dav_wire::{Config, Peer, Stop};
+use dav_turns::Turns;
+use dav_wire::Config;
 use http1::Limits;
 use sqlite_disk::Disk;
 use std::alloc::{AllocError, Global};
 use std::io::{ErrorKind, Read, Write};
-use std::str;
 
 /// The most bytes of a body that is an element tree.
 const MOST_XML: usize = 1_048_576;
-
-/// At most so many connections are open.
-const MOST_SLOTS: usize = 512;
 
 /// Hears what a server tells of the requests that it answered.
 pub trait Watch {
@@ -33,22 +26,15 @@ pub trait Watch {
     fn say(&mut self, notices: &str);
 }
 
-// A connection, and the address that it came from.
-#[derive(Drop)]
-struct Connection {
-    peer: Peer,
-    address: String,
-}
-
 /// A live server: its connections, and what answers their requests.
 #[derive(Drop)]
-pub struct Live<D: Disk> {
+pub struct Live<D: Disk + Drop> {
     alloc: Global,
-    slots: Vec<Option<Connection>>,
+    turns: Turns,
     service: Service<D>,
 }
 
-// What was read last, the reports that weren't taken yet, and the orders that weren't handed out yet.
+// What was read last, the reports that weren't taken yet, and room for orders.
 #[derive(Drop)]
 struct Pipe {
     piece: Vec<u8>,
@@ -70,7 +56,7 @@ impl<D: Disk + Drop> Live<D> {
         let service = Service::open(alloc, journal, users, settings)?;
         Ok(Live {
             alloc,
-            slots: no_connections(alloc)?,
+            turns: Turns::new(alloc, config_of(&service))?,
             service,
         })
     }
@@ -90,25 +76,6 @@ impl<D: Disk + Drop> Live<D> {
         self.service.begin()
     }
 
-    /// Answers each whole report by one order, but for those that need none, and keeps what may have changed something
-    /// before it returns. The count of bytes that were used. After an error no order may be handed out.
-    pub fn turn(&mut self, reports: &[u8], orders: &mut Vec<u8>) -> Result<usize, Fault> {
-        let mut at = 0usize;
-        for _ in 0..u64::MAX {
-            match report_at(reports, at) {
-                Next::Part => break,
-                Next::Wrong => return Err(Fault::Pipe),
-                Next::Report(report) => {
-                    let bytes = reports.get(report.start..report.end).unwrap_or(&[]);
-                    self.take(&report, bytes, orders)?;
-                    at = report.end;
-                }
-            }
-        }
-        self.service.commit()?;
-        Ok(at)
-    }
-
     /// Serves until the input ends, or something fails: why it ended.
     pub fn run<R: Read, W: Write, L: Watch>(
         &mut self,
@@ -116,13 +83,8 @@ impl<D: Disk + Drop> Live<D> {
         writer: &mut W,
         watch: &mut L,
     ) -> Fault {
-        let Ok(piece) = piece(self.alloc) else {
+        let Ok(mut pipe) = new_pipe(self.alloc) else {
             return Fault::Memory;
-        };
-        let mut pipe = Pipe {
-            piece,
-            input: Vec::new(self.alloc),
-            orders: Vec::new(self.alloc),
         };
         for _ in 0..u64::MAX {
             if let Err(fault) = self.serve_once(&mut pipe, reader, writer, watch) {
@@ -142,87 +104,18 @@ impl<D: Disk + Drop> Live<D> {
     ) -> Result<(), Fault> {
         read_more(pipe, reader)?;
         watch.begin();
-        let used = self.turn(&pipe.input, &mut pipe.orders)?;
+        let used = self
+            .turns
+            .serve(&mut self.service, &pipe.input, &mut pipe.orders, writer)?;
         drop_front(&mut pipe.input, used);
-        writer.write_all(&pipe.orders)?;
-        writer.flush()?;
-        pipe.orders.clear();
-        if !self.service.log().is_empty() {
-            watch.tell(self.service.log());
+        let told = self.service.told();
+        if !told.lines().is_empty() {
+            watch.tell(told.lines());
         }
-        if !self.service.notices().is_empty() {
-            watch.say(self.service.notices());
+        if !told.notices().is_empty() {
+            watch.say(told.notices());
         }
-        self.service.clear_log();
-        Ok(())
-    }
-
-    // Takes a report.
-    fn take(&mut self, report: &Report, bytes: &[u8], orders: &mut Vec<u8>) -> Result<(), Fault> {
-        if self.service.hear_moment(report.seconds).is_err() {
-            return Err(self.service.fault());
-        }
-        match report.kind {
-            HELLO => {
-                self.service.hear_hello(bytes);
-                Ok(())
-            }
-            TICK => self.service.keep_mark(),
-            USERS => Ok(self.service.hear_users(bytes)?),
-            OPENED => self.connect(report.slot, bytes, orders),
-            GONE => self.end(report.slot),
-            GOT => self.go_on(report.slot, Some(bytes), orders),
-            SENT => self.go_on(report.slot, None, orders),
-            _ => Err(Fault::Pipe),
-        }
-    }
-
-    // A connection came from this address.
-    fn connect(&mut self, slot: u32, address: &[u8], orders: &mut Vec<u8>) -> Result<(), Fault> {
-        let address = String::from_str(self.alloc, str::from_utf8(address).unwrap_or("?"))?;
-        match self.slots.get_mut(slot as usize) {
-            Some(place) if place.is_none() => {
-                *place = Some(Connection {
-                    peer: Peer::new(self.alloc, config_of(&self.service)),
-                    address,
-                });
-                Ok(add_order(orders, slot, READ, &[])?)
-            }
-            _ => Err(Fault::Pipe),
-        }
-    }
-
-    // A connection is gone.
-    fn end(&mut self, slot: u32) -> Result<(), Fault> {
-        match self.slots.get_mut(slot as usize) {
-            Some(place) if place.is_some() => {
-                *place = None;
-                Ok(())
-            }
-            _ => Err(Fault::Pipe),
-        }
-    }
-
-    // Bytes came on a connection, or it can go on.
-    fn go_on(
-        &mut self,
-        slot: u32,
-        bytes: Option<&[u8]>,
-        orders: &mut Vec<u8>,
-    ) -> Result<(), Fault> {
-        let Some(place) = self.slots.get_mut(slot as usize) else {
-            return Err(Fault::Pipe);
-        };
-        let Some(connection) = place else {
-            return Err(Fault::Pipe);
-        };
-        if advance(connection, &mut self.service, bytes).is_err() {
-            return Err(self.service.fault());
-        }
-        let next = hand_out(&mut connection.peer, slot, orders)?;
-        if next == CLOSE {
-            *place = None;
-        }
+        told.clear();
         Ok(())
     }
 }
@@ -238,10 +131,14 @@ fn config_of<D: Disk + Drop>(service: &Service<D>) -> Config {
 }
 
 // Room for what is read at once, 64 KiB.
-fn piece(alloc: Global) -> Result<Vec<u8>, AllocError> {
+fn new_pipe(alloc: Global) -> Result<Pipe, AllocError> {
     let mut piece = Vec::new(alloc);
     piece.resize(65536, 0)?;
-    Ok(piece)
+    Ok(Pipe {
+        piece,
+        input: Vec::new(alloc),
+        orders: Vec::new(alloc),
+    })
 }
 
 // Reads once; a read that a signal interrupts gives nothing.
@@ -268,43 +165,4 @@ fn drop_front(input: &mut Vec<u8>, used: usize) {
     }
     input.copy_within(used.., 0);
     input.truncate(len - used);
-}
-
-// No connection in each slot.
-fn no_connections(alloc: Global) -> Result<Vec<Option<Connection>>, AllocError> {
-    let mut slots = Vec::new(alloc);
-    for _ in 0..MOST_SLOTS {
-        slots.push(None)?;
-    }
-    Ok(slots)
-}
-
-// Gives a connection what came, and answers its requests.
-fn advance<D: Disk + Drop>(
-    connection: &mut Connection,
-    service: &mut Service<D>,
-    bytes: Option<&[u8]>,
-) -> Result<(), Stop> {
-    service.hear_address(connection.address.as_str())?;
-    if let Some(bytes) = bytes {
-        connection.peer.take(bytes)?;
-    }
-    connection.peer.advance(service)
-}
-
-// Orders the front to send what waits, and answers what it is to do then.
-fn hand_out(peer: &mut Peer, slot: u32, orders: &mut Vec<u8>) -> Result<u8, AllocError> {
-    let is_full = peer.is_full();
-    let piece = peer.output();
-    let count = piece.len();
-    let next = if is_full || count < peer.waiting() {
-        TELL
-    } else if peer.is_open() {
-        READ
-    } else {
-        CLOSE
-    };
-    add_order(orders, slot, next, piece)?;
-    peer.sent(count);
-    Ok(next)
 }

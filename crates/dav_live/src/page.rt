@@ -1,10 +1,12 @@
 //! A page of a folder, for a person.
-use crate::answer::Answer;
-use crate::leases::child;
-use crate::render::add_field;
+ghost use Rattle.std.specs.Prelude.{◌≡◌, OnOk};
+
 use bytes::Bytes;
 use dav_core::element::Element;
-use dav_wire::Stop;
+use dav_http::Head;
+use http::StatusCode;
+use http_header::{CONTENT_LENGTH, CONTENT_SECURITY_POLICY, CONTENT_TYPE, HeaderValue};
+use http_server::Response;
 use percent_encoding::percent_decode;
 use std::alloc::{AllocError, Global};
 use std::str;
@@ -13,11 +15,15 @@ use std::str;
 pub const ASKED: &[u8] =
     b"<D:propfind xmlns:D='DAV:'><D:prop><D:resourcetype/><D:getcontentlength/><D:getlastmodified/></D:prop></D:propfind>";
 
-// The head of the request that asks for a folder and its members.
-pub fn asking_head(alloc: Global, target: &[u8]) -> Result<Vec<u8>, AllocError> {
+/// The head of the request that asks for the folder and its members for which a request with this head asks.
+pub fn asking_head(alloc: Global, asked: &[u8]) -> Result<Vec<u8>, AllocError> {
+    let target = match Head::read(asked) {
+        Some(asked) => asked.target(),
+        None => "/",
+    };
     let mut head = Vec::new(alloc);
     head.extend_from_slice(b"PROPFIND ")?;
-    head.extend_from_slice(target)?;
+    head.extend_from_slice(target.as_bytes())?;
     head.extend_from_slice(b" HTTP/1.1\r\nDepth: 1\r\n\r\n")?;
     Ok(head)
 }
@@ -35,6 +41,16 @@ fn add_text(page: &mut String, text: &str) -> Result<(), AllocError> {
         }
     }
     Ok(())
+}
+
+// The first child element with a name.
+fn child<'e>(element: &'e Element, name: &str) -> Option<&'e Element> {
+    for it in element.child_elems() {
+        if it.name.as_str() == name {
+            return Some(it);
+        }
+    }
+    None
 }
 
 // The text of a child element with a name.
@@ -177,24 +193,51 @@ fn page_of(alloc: Global, told: &Element) -> Result<String, AllocError> {
     Ok(page)
 }
 
-// The reply to a GET of a folder, of what a PROPFIND of it told.
-pub fn page_answer(alloc: Global, told: &Element) -> Result<Answer, Stop> {
+// Adds the fields of a page; that of its length where the request is a HEAD, of which the connection tells else.
+fn add_fields(
+    alloc: Global,
+    len: usize,
+    is_head: bool,
+    response: &mut Response,
+) -> Result<(), AllocError>
+    ensures { OnOk result (response.new.status ≡ response.old.status) }
+{
+    response.add_header(
+        CONTENT_TYPE,
+        HeaderValue::from_static("text/html; charset=utf-8"),
+    )?;
+    if is_head {
+        response.add_header(CONTENT_LENGTH, number(alloc, len)?)?;
+    }
+    response.add_header(
+        CONTENT_SECURITY_POLICY,
+        HeaderValue::from_static("default-src 'none'"),
+    )
+}
+
+// A number as the value of a field.
+fn number(alloc: Global, n: usize) -> Result<HeaderValue, AllocError> {
+    let text = format!(in alloc; "{n}")?;
+    match HeaderValue::from_bytes(alloc, text.as_bytes()) {
+        Ok(value) => Ok(value),
+        Err(_) => Err(AllocError),
+    }
+}
+
+/// Fills the response to a GET or HEAD of a folder with a page, of what a PROPFIND of it told.
+pub fn show(
+    alloc: Global,
+    told: &Element,
+    is_head: bool,
+    response: &mut Response,
+) -> Result<(), AllocError>
+    ensures { OnOk result (response.new.status ≡ 200) }
+{
     let page = page_of(alloc, told)?;
-    let mut answer = Answer::new(alloc, 200);
-    let len = format!(in alloc; "{}", page.len())?;
-    add_field(
-        alloc,
-        &mut answer,
-        "content-type",
-        b"text/html; charset=utf-8",
-    )?;
-    add_field(alloc, &mut answer, "content-length", len.as_bytes())?;
-    add_field(
-        alloc,
-        &mut answer,
-        "content-security-policy",
-        b"default-src 'none'",
-    )?;
-    answer.body = Bytes::copy_from_slice(alloc, page.as_bytes())?;
-    Ok(answer)
+    response.status = StatusCode::OK;
+    add_fields(alloc, page.len(), is_head, response)?;
+    response
+        .body
+        .push(Bytes::copy_from_slice(alloc, page.as_bytes())?)?;
+    Ok(())
 }

@@ -8,7 +8,7 @@ pub struct Settings {
     /// The names of its host, besides those of the machine itself.
     pub hosts: Vec<String>,
     /// The most seconds for which a lock is granted.
-    pub lock_time: u64,
+    pub lock_time: u32,
     /// The most bytes of a body, but for XML.
     pub most_body: u64,
     /// Whether a line is written of each request.

@@ -11,7 +11,7 @@ use Rattle.dav_server.specs.Isolation.{HolderTurns, alone_none, alone_other, alo
 use Rattle.dav_server.specs.Machine.{Exchange, Settings}
 use Rattle.dav_server.specs.Naming.{NamesLock, NamesToken}
 use Rattle.dav_server.specs.Run.{Turn}
-use Rattle.dav_server.specs.DavHandler.{DavHandler, AnswersAll}
+use Rattle.dav_server.specs.Server.{Server, AnswersAll}
 use Rattle.dav_run.specs.declared.request.Request as request
 use Rattle.dav_run.specs.Script.{script_request}
 use Rattle.dav_run.specs.Play.{turn_for, MayBeGranted, AloneAfter}
@@ -96,7 +96,7 @@ alone_of_parts rs all place grant later us below at back same chosen =
     alone_after rs place grant later us below at (back ∙ ap (drop (place + 1)) same) chosen
 
 -- the run of the requests up to that place
-pub run_of_front : {one : DavHandler} {s : Settings} {from : ServerState} (rs all front : List request.Request) (n : ℕ) (ts : List Turn) (replies : List Reply) (left : DavHandler)
+pub run_of_front : {one : Server} {s : Settings} {from : ServerState} (rs all front : List request.Request) (n : ℕ) (ts : List Turn) (replies : List Reply) (left : Server)
     → one.settings ≡ s → one.state ≡ from → ts ≡ map turn_for (map script_request front) → front ≡ take n all → all ≡ rs → AnswersAll one ts replies left
     → AnswersAll (record { settings = s; state = from }) (take n (map turn_for (map script_request rs))) replies left
 run_of_front rs all front n ts replies left settings state turns first same run =

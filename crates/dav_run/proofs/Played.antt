@@ -11,7 +11,7 @@ use Rattle.dav_engine.specs.Plan.{Locks, ServerState}
 use Rattle.dav_engine.specs.Reply.{Reply}
 use Rattle.dav_server.specs.Machine.{Settings}
 use Rattle.dav_server.specs.Run.{Turn, Runs, no_more, one_more}
-use Rattle.dav_server.specs.DavHandler.{DavHandler, AnswersAll, AnswersSome}
+use Rattle.dav_server.specs.Server.{Server, AnswersAll, AnswersSome}
 use Rattle.dav_server.specs.Setup.{IsPrefix}
 use Rattle.dav_server.proofs.Theorems.{runs_join}
 use Rattle.dav_run.specs.declared.play.Fault.{Fault}
@@ -45,7 +45,7 @@ unplayable (Some text) s read bad = λ can. bad (subst IsPrefix (one_prefix text
 -- ---- runs
 
 -- the run of a server with these settings and this state
-pub run_set_up : {one : DavHandler} {s : Settings} {from : ServerState} {ts us : List Turn} (replies : List Reply) (left : DavHandler) → one.settings ≡ s → one.state ≡ from → ts ≡ us
+pub run_set_up : {one : Server} {s : Settings} {from : ServerState} {ts us : List Turn} (replies : List Reply) (left : Server) → one.settings ≡ s → one.state ≡ from → ts ≡ us
     → AnswersAll one ts replies left → AnswersAll (record { settings = s; state = from }) us replies left
 run_set_up {one} {s} {from} {ts} {us} replies left settings state turns run =
     subst (λ (l : List Turn). AnswersAll (record { settings = s; state = from }) l replies left) turns
@@ -53,18 +53,18 @@ run_set_up {one} {s} {from} {ts} {us} replies left settings state turns run =
     (subst (λ (c : Settings). AnswersAll (record { settings = c; state = one.state }) ts replies left) settings run))
 
 -- the same of a run of the first turns
-pub some_set_up : {one : DavHandler} {s : Settings} {from : ServerState} {ts us : List Turn} (replies : List Reply) → one.settings ≡ s → one.state ≡ from → ts ≡ us
+pub some_set_up : {one : Server} {s : Settings} {from : ServerState} {ts us : List Turn} (replies : List Reply) → one.settings ≡ s → one.state ≡ from → ts ≡ us
     → RunsSome one ts replies → RunsSome (record { settings = s; state = from }) us replies
 some_set_up replies settings state turns (first, rest, left, parts, run) =
     (first, rest, left, sym turns ∙ parts, run_set_up replies left settings state refl run)
 
 -- a run of all turns, and one that memory cut short
-pub some_of_all : {old : DavHandler} {ts : List Turn} {replies : List Reply} (new : DavHandler) → AnswersAll old ts replies new → RunsSome old ts replies
+pub some_of_all : {old : Server} {ts : List Turn} {replies : List Reply} (new : Server) → AnswersAll old ts replies new → RunsSome old ts replies
 some_of_all {ts = ts} new run = (ts, [], new, sym (append-nil ts), run)
 
-pub some_of_part : {old : DavHandler} {ts : List Turn} {replies : List Reply} (new : DavHandler) → AnswersSome old ts replies new → RunsSome old ts replies
+pub some_of_part : {old : Server} {ts : List Turn} {replies : List Reply} (new : Server) → AnswersSome old ts replies new → RunsSome old ts replies
 some_of_part {old} new some =
-    let left : DavHandler = record { settings = old.settings; state = some.was } in
+    let left : Server = record { settings = old.settings; state = some.was } in
     (some.front, some.turn ∷ some.back, left, some.turns_are, some.earlier)
 
 -- the run of the first turns, where there are so many, and their replies
@@ -77,11 +77,11 @@ run_first (suc k) (t ∷ ts) [] run = elim run [ ]
 run_first (suc k) (t ∷ ts) (r ∷ rs) (one_more step run) = let (mid, ks, first) = run_first k ts rs run in (mid, ks, one_more step first)
 
 -- the first replies are those of a run of the first turns too
-pub some_taken : {old : DavHandler} {ts : List Turn} {replies : List Reply} (k : ℕ) → RunsSome old ts replies → RunsSome old ts (take k replies)
+pub some_taken : {old : Server} {ts : List Turn} {replies : List Reply} (k : ℕ) → RunsSome old ts replies → RunsSome old ts (take k replies)
 some_taken {replies = replies} k (first, rest, left, parts, run) =
     let (mid, ks, part) = run_first k first replies run in
     let more : first ++ rest ≡ take k first ++ (drop k first ++ rest) = ap (λ l. l ++ rest) (sym (take-append-drop k first)) ∙ append_assoc (take k first) (drop k first) rest in
-    let mid_way : DavHandler = record { settings = left.settings; state = record { store = mid; locks = ks } } in
+    let mid_way : Server = record { settings = left.settings; state = record { store = mid; locks = ks } } in
     (take k first, drop k first ++ rest, mid_way, parts ∙ more, part)
 
 -- ---- what was written
@@ -172,14 +172,14 @@ none_played (Some text) a = ([], inl refl, appends_nothing a)
 -- ---- one step after another
 
 -- a run, and one from what it left
-pub joined : {old mid : DavHandler} {ts us : List Turn} {before after : List Reply} (new : DavHandler) → mid.settings ≡ old.settings
+pub joined : {old mid : Server} {ts us : List Turn} {before after : List Reply} (new : Server) → mid.settings ≡ old.settings
     → AnswersAll old ts before mid → AnswersAll mid us after new → AnswersAll old (ts ++ us) (before ++ after) new
 joined {old} {mid} {ts} {us} {before} {after} new same one two =
     runs_join old.settings ts us old.state.store mid.state.store new.state.store old.state.locks mid.state.locks new.state.locks before after one
     (subst (λ (s : Settings). Runs s us mid.state.store mid.state.locks after new.state.store new.state.locks) same two)
 
 -- the same, where memory ran out in the second; the rest was to come
-pub some_joined : {old mid : DavHandler} {all ts us : List Turn} {before after : List Reply} (rest : List Turn) → mid.settings ≡ old.settings → all ≡ (ts ++ us) ++ rest
+pub some_joined : {old mid : Server} {all ts us : List Turn} {before after : List Reply} (rest : List Turn) → mid.settings ≡ old.settings → all ≡ (ts ++ us) ++ rest
     → AnswersAll old ts before mid → RunsSome mid us after → RunsSome old all (before ++ after)
 some_joined {old} {mid} {all} {ts} {us} {before} {after} rest same parts one (first, more, left, split, run) =
     let end : ServerState = left.state in (

@@ -12,7 +12,7 @@ use Rattle.dav_server.specs.Headline.{empty_server, Headline}
 use Rattle.dav_server.specs.Isolation.{AreLoaded, TokensDiffer}
 use Rattle.dav_server.specs.Machine.{Settings}
 use Rattle.dav_server.specs.Run.{Turn}
-use Rattle.dav_server.specs.DavHandler.{DavHandler, AnswersAll}
+use Rattle.dav_server.specs.Server.{Server, AnswersAll}
 use Rattle.dav_server.specs.TagLaws.{MomentsAreDates}
 use Rattle.dav_server.proofs.Theorems.{all_front, headline_holds, runs_promise}
 use Rattle.dav_run.specs.Play.{AreRepliesTo, AreReplies, AreFirstReplies, AreRunReplies, AreSomeRunReplies, turn_for, turns_for, settings_for, new_server}
@@ -66,7 +66,7 @@ first_number (suc zero) small = refl
 first_number (suc (suc n)) small = absurd (omega (arith, small))
 
 -- a server with a new store and these locks
-abbrev server_with : Settings → ℕ → Bool → DavHandler
+abbrev server_with : Settings → ℕ → Bool → Server
 server_with settings next locks = record {
   settings = settings;
   state = record { store = record { world = empty_from next; refusals = []; short = false }; locks = if locks then Some [] else None };
@@ -78,13 +78,13 @@ begins_empty s locks next =
 
 -- ---- the replies
 
-promised : (s : ScriptContent) (ts : List Turn) (lines : List ℕ) (replies : List Reply) (left : DavHandler) → MomentsAreDates ts → AreLoaded ts → AnswersAll (new_server s) ts replies left → lines ≡ lines_of replies → AreRepliesTo s ts lines
+promised : (s : ScriptContent) (ts : List Turn) (lines : List ℕ) (replies : List Reply) (left : Server) → MomentsAreDates ts → AreLoaded ts → AnswersAll (new_server s) ts replies left → lines ≡ lines_of replies → AreRepliesTo s ts lines
 promised s ts lines replies left small loaded run are = record {
   replies = replies;
   left = left;
   run = run;
   promises = runs_promise (new_server s) left ts replies small run;
-  headline = λ locks next differ. headline_holds (settings_for s) ts replies left small loaded differ (subst (λ (o : DavHandler). AnswersAll o ts replies left) (begins_empty s locks next) run);
+  headline = λ locks next differ. headline_holds (settings_for s) ts replies left small loaded differ (subst (λ (o : Server). AnswersAll o ts replies left) (begins_empty s locks next) run);
   lines_are = are;
 }
 

@@ -10,7 +10,7 @@ use Rattle.dav_server.specs.Isolation.{HolderTurns, TokensDiffer}
 use Rattle.dav_server.specs.Machine.{Settings}
 use Rattle.dav_server.specs.Promises.{Promises}
 use Rattle.dav_server.specs.Run.{Turn}
-use Rattle.dav_server.specs.DavHandler.{DavHandler, AnswersAll}
+use Rattle.dav_server.specs.Server.{Server, AnswersAll}
 use Rattle.dav_server.specs.Setup.{IsPrefix}
 use Rattle.dav_run.specs.Script.{ScriptRequest, ScriptContent, IsShort, IsScript}
 use Rattle.dav_run.specs.Print.{lines_of, place_line}
@@ -45,7 +45,7 @@ abbrev pub new_state : ScriptContent → ServerState
 new_state s = record { store = new_store s; locks = new_locks s }
 
 -- the server that a script sets up
-abbrev pub new_server : ScriptContent → DavHandler
+abbrev pub new_server : ScriptContent → Server
 new_server s = record { settings = settings_for s; state = new_state s }
 
 -- bytes that can be played: a script that is short enough, whose prefix a server takes
@@ -57,13 +57,13 @@ IsPlayable text = (s : ScriptContent) × IsShort text × IsScript text s × IsPr
 -- The lines are the replies of the machine's run of all requests of the script, from the server that it sets up.
 abbrev pub AreRunReplies : ScriptContent → List ℕ → Type 0
 AreRunReplies s lines =
-    (replies : List Reply) × (left : DavHandler)
+    (replies : List Reply) × (left : Server)
     × AnswersAll (new_server s) (turns_for s) replies left × (lines ≡ lines_of replies)
 
 -- The replies are those of a run of the first of these turns, perhaps of none, from this server.
-abbrev pub RunsSome : DavHandler → List Turn → List Reply → Type 0
+abbrev pub RunsSome : Server → List Turn → List Reply → Type 0
 RunsSome old ts replies =
-    (first : List Turn) × (rest : List Turn) × (left : DavHandler) × (ts ≡ first ++ rest) × AnswersAll old first replies left
+    (first : List Turn) × (rest : List Turn) × (left : Server) × (ts ≡ first ++ rest) × AnswersAll old first replies left
 
 -- The lines are the replies to the first requests of the script, perhaps to none.
 abbrev pub AreSomeRunReplies : ScriptContent → List ℕ → Type 0
@@ -74,7 +74,7 @@ AreSomeRunReplies s lines =
 -- the headline, where the server has locks and begins empty, and no two requests hand in one token.
 pub record AreRepliesTo (s : ScriptContent) (ts : List Turn) (lines : List ℕ) : Type 0 where
   pub replies : List Reply
-  pub left : DavHandler
+  pub left : Server
   pub run : AnswersAll (new_server s) ts replies left
   pub promises : Promises (new_server s) ts replies
   pub headline : s.locks ≡ true → s.next ≤ 1 → TokensDiffer ts → Headline (settings_for s) ts replies left
@@ -101,7 +101,7 @@ AloneAfter place ts us =
     IsSomeAnd (slice_get ts place) (λ t. (h : Lock) → MayBeGranted t h → HolderTurns h (drop (place + 1) ts) us)
 
 -- the server is what a run of the requests up to and with that at this place left, from the server that the script sets up
-abbrev pub IsServerAfter : ScriptContent → ℕ → DavHandler → Type 0
+abbrev pub IsServerAfter : ScriptContent → ℕ → Server → Type 0
 IsServerAfter s place there =
     (replies : List Reply) × AnswersAll (new_server s) (take (place + 1) (turns_for s)) replies there
 
@@ -109,7 +109,7 @@ IsServerAfter s place there =
 -- alone from what the requests up to the place left.
 abbrev pub AreAloneReplies : ScriptContent → ℕ → List ℕ → Type 0
 AreAloneReplies s place lines =
-    (us : List Turn) × (there : DavHandler) × (replies : List Reply) × (left : DavHandler)
+    (us : List Turn) × (there : Server) × (replies : List Reply) × (left : Server)
     × AloneAfter place (turns_for s) us × IsServerAfter s place there
     × AnswersAll there us replies left × (lines ≡ place_line place ++ lines_of replies)
 
@@ -117,7 +117,7 @@ AreAloneReplies s place lines =
 -- perhaps to none.
 abbrev pub AreFirstAloneReplies : ScriptContent → ℕ → List ℕ → Type 0
 AreFirstAloneReplies s place lines =
-    (us : List Turn) × (there : DavHandler) × (replies : List Reply)
+    (us : List Turn) × (there : Server) × (replies : List Reply)
     × AloneAfter place (turns_for s) us × IsServerAfter s place there
     × RunsSome there us replies × (lines ≡ place_line place ++ lines_of replies)
 

@@ -7,7 +7,7 @@ ghost use Rattle.dav_run.specs.Print.{lines_of, place_line};
 ghost use Rattle.dav_run.specs.Script.{IsScript, IsShort, script_request, script_content};
 ghost use Rattle.dav_server.specs.Isolation.{HolderTurns};
 ghost use Rattle.dav_server.specs.Naming.{NamesLock};
-ghost use Rattle.dav_server.specs.DavHandler.{AnswersAll};
+ghost use Rattle.dav_server.specs.Server.{AnswersAll};
 ghost use Rattle.dav_server.specs.Setup.{IsPrefix};
 ghost use Rattle.dav_run.specs.Play.{Plays, PlaysSome, IsPlayable, AreRunReplies, AreSomeRunReplies, AreAloneReplies, AreFirstAloneReplies, MayBeGranted, RunsSome, settings_for, new_state, turn_for, fault_status};
 ghost use Rattle.dav_run.specs.declared.play.Fault.TheVariants.{NotScript, Io, Memory};

@@ -5,7 +5,7 @@ use std::env::Args;
 use thiserror::Error;
 
 /// The longest time of a lock in seconds where none is told: a day.
-const LOCK_TIME: u64 = 86_400;
+const LOCK_TIME: u32 = 86_400;
 
 /// The most seconds that a lock's time can be told in (RFC 4918, section 10.7).
 const MOST_LOCK_TIME: u64 = 4_294_967_295;
@@ -91,7 +91,10 @@ fn set(settings: &mut Settings, name: String, value: Option<String>) -> Result<(
     match name.as_str() {
         "--prefix" => settings.prefix = value,
         "--host" => settings.hosts.push(value)?,
-        "--lock-time" => settings.lock_time = number(name, value, MOST_LOCK_TIME)?,
+        "--lock-time" => {
+            let seconds = number(name, value, MOST_LOCK_TIME)?;
+            settings.lock_time = u32::try_from(seconds).unwrap_or(u32::MAX);
+        }
         _ => settings.most_body = number(name, value, u64::MAX)?,
     }
     Ok(())

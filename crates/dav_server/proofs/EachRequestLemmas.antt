@@ -10,7 +10,7 @@ use Rattle.dav_server.specs.Leaving.{SameContent, SafeLeaves, CreateOnlyLeaves, 
 use Rattle.dav_server.specs.Machine.{Exchange, Settings, Steps}
 use Rattle.dav_server.specs.Promises.{reading, created, refused, unmodified, updated, hrefs, at_begin, Keeps, step_of}
 use Rattle.dav_server.specs.Run.{Turn, begun}
-use Rattle.dav_server.specs.DavHandler.{DavHandler}
+use Rattle.dav_server.specs.Server.{Server}
 use Rattle.dav_server.specs.Setup.{IsPrefix}
 use Rattle.dav_server.specs.TagLaws.{MomentsAreDates}
 use Rattle.dav_server.proofs.HrefReplies.{step_leads_back}
@@ -39,19 +39,19 @@ refused_status_leaves s x was now reply step = refused_leaves s x was now reply 
 same_content : (t : Turn) (was now : ServerState) → SameContent (at_begin t was) now → SameContent was now
 same_content t was now (world, locks) = (world ∙ begun_world t.refusals was.store, locks)
 
-pub reads_leave : {old : DavHandler} {ts : List Turn} {replies : List Reply} (u : RunStep old ts replies) → Keeps reading (step_of u)
+pub reads_leave : {old : Server} {ts : List Turn} {replies : List Reply} (u : RunStep old ts replies) → Keeps reading (step_of u)
 reads_leave {old} u safe = same_content u.turn u.was u.now (safe_leaves old.settings u.turn.asked (at_begin u.turn u.was) u.now u.reply u.stepped safe)
 
-pub only_creates : {old : DavHandler} {ts : List Turn} {replies : List Reply} (u : RunStep old ts replies) → Keeps created (step_of u)
+pub only_creates : {old : Server} {ts : List Turn} {replies : List Reply} (u : RunStep old ts replies) → Keeps created (step_of u)
 only_creates {old} u p n is there =
     let here = ap (λ (w : World). node_at w (names p)) (begun_world u.turn.refusals u.was.store) ∙ there in
     let (left, failed) = create_only_leaves old.settings u.turn.asked (at_begin u.turn u.was) u.now u.reply u.stepped p n is here in
     (same_content u.turn u.was u.now left, failed)
 
-pub refusals_leave : {old : DavHandler} {ts : List Turn} {replies : List Reply} (u : RunStep old ts replies) → Keeps refused (step_of u)
+pub refusals_leave : {old : Server} {ts : List Turn} {replies : List Reply} (u : RunStep old ts replies) → Keeps refused (step_of u)
 refusals_leave {old} u = refused_status_leaves old.settings u.turn.asked (at_begin u.turn u.was) u.now u.reply u.stepped
 
-module _ (old : DavHandler) (ts : List Turn) (replies : List Reply) (small : MomentsAreDates ts) (world : IsWorld old.state.store.world) (u : RunStep old ts replies) where
+module _ (old : Server) (ts : List Turn) (replies : List Reply) (small : MomentsAreDates ts) (world : IsWorld old.state.store.world) (u : RunStep old ts replies) where
   all_small : MomentsAreDates (u.front ++ u.turn ∷ u.back)
   all_small = subst MomentsAreDates u.turns_are small
 

@@ -25,7 +25,7 @@ use Rattle.dav_server.specs.Machine.{Settings, Exchange, PlanOf, gets, heads, pu
 use Rattle.dav_server.specs.Naming.{NamesToken, by_lock_token}
 use Rattle.dav_server.specs.Promises.{kept, Keeps, step_of}
 use Rattle.dav_server.specs.Run.{Turn, begun}
-use Rattle.dav_server.specs.DavHandler.{DavHandler}
+use Rattle.dav_server.specs.Server.{Server}
 use Rattle.dav_server.proofs.GetWorld.{get_is_reading}
 use Rattle.dav_server.proofs.StrangerLemmas.{is_stranger}
 
@@ -70,6 +70,6 @@ pub no_lock_ends_cut : NoLockEndsCut
 no_lock_ends_cut s x old new ls ms h stands other own stops = cut_keeps s x h stands other own stops
 
 -- of a run, each request
-pub ends_no_lock : {old : DavHandler} {ts : List Turn} {replies : List Reply} (u : RunStep old ts replies) → Keeps kept (step_of u)
+pub ends_no_lock : {old : Server} {ts : List Turn} {replies : List Reply} (u : RunStep old ts replies) → Keeps kept (step_of u)
 ends_no_lock {old} u h stands other own =
     no_lock_ends old.settings u.turn.asked (begun u.turn.refusals u.was.store) u.now.store u.was.locks u.now.locks u.reply h stands other own u.stepped

@@ -11,7 +11,7 @@ use Rattle.dav_server.specs.Isolation.{TokensDiffer}
 use Rattle.dav_server.specs.LockLists.{IsHandedIn}
 use Rattle.dav_server.specs.Naming.{NamesToken}
 use Rattle.dav_server.specs.Run.{Turn, Runs}
-use Rattle.dav_server.specs.DavHandler.{DavHandler}
+use Rattle.dav_server.specs.Server.{Server}
 use Rattle.dav_server.proofs.EndingLemmas.{ends_no_lock}
 use Rattle.dav_server.proofs.GrantedRuns.{Differ, differ_before}
 use Rattle.dav_server.proofs.ListLemmas.{tokens_are_handed_in}
@@ -26,7 +26,7 @@ listed_token P h (l ∷ ls) all (listed_later rest) = listed_token P h ls (All-t
 other_than : (h : Lock) (t : Turn) (front : List Turn) → All (λ u. Differ u t) front → IsHandedIn front h.token → t.asked.token ≢ Some h.token
 other_than h t front differ (u, there, is) own = All-contains (λ u. Differ u t) front u differ there h.token is own
 
-module _ (old : DavHandler) (front back : List Turn) (t : Turn) (ts : List Turn) (before : List Reply) (mid : StoreState) (ks : List Lock) (h : Lock) (is : ts ≡ front ++ t ∷ back)
+module _ (old : Server) (front back : List Turn) (t : Turn) (ts : List Turn) (before : List Reply) (mid : StoreState) (ks : List Lock) (h : Lock) (is : ts ≡ front ++ t ∷ back)
     (differ : TokensDiffer ts) (empty : old.state.locks ≡ Some []) (ran : Runs old.settings front old.state.store old.state.locks before mid (Some ks)) (stands : IsListed h ks) where
   own_token : t.asked.token ≢ Some h.token
   own_token =
@@ -34,7 +34,7 @@ module _ (old : DavHandler) (front back : List Turn) (t : Turn) (ts : List Turn)
       let tokens : All (λ l. IsHandedIn front l.token) ks = tokens_are_handed_in old.settings front old.state.store mid ks before from_none in
       other_than h t front (differ_before front back t (subst TokensDiffer is differ)) (listed_token (IsHandedIn front) h ks tokens stands)
 
-module _ (old : DavHandler) (ts : List Turn) (replies : List Reply) (differ : TokensDiffer ts) (empty : old.state.locks ≡ Some []) (u : RunStep old ts replies) (h : Lock) where
+module _ (old : Server) (ts : List Turn) (replies : List Reply) (differ : TokensDiffer ts) (empty : old.state.locks ≡ Some []) (u : RunStep old ts replies) (h : Lock) where
   own_at : (ls : Locks) → u.was.locks ≡ ls → Stands h ls → u.turn.asked.token ≢ Some h.token
   own_at None is stands = absurd stands
   own_at (Some ks) is stands =

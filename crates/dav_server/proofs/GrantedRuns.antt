@@ -14,7 +14,7 @@ use Rattle.dav_server.specs.Isolation.{AreLoaded, TokenIsFresh, TokensDiffer, Is
 use Rattle.dav_server.specs.LockLists.{IsHandedIn}
 use Rattle.dav_server.specs.Machine.{caller}
 use Rattle.dav_server.specs.Run.{Turn, begun, Runs}
-use Rattle.dav_server.specs.DavHandler.{DavHandler}
+use Rattle.dav_server.specs.Server.{Server}
 use Rattle.dav_server.specs.TagLaws.{MomentsAreDates}
 use Rattle.dav_server.proofs.IsolationLemmas.{holders_are_alone}
 use Rattle.dav_server.proofs.ListLemmas.{run_shares, steps_change_lists, tokens_are_handed_in}
@@ -44,7 +44,7 @@ some_node : (w : World) (p : List (List ℕ)) (o : Option Node) → node_at w p 
 some_node w p None is h = cc
 some_node w p (Some n) is h = (n, is)
 
-pub is_isolated_from_grants : (old : DavHandler) (ts : List Turn) (replies : List Reply) → MomentsAreDates ts → AreLoaded ts → IsIsolatedFromGrants old ts replies
+pub is_isolated_from_grants : (old : Server) (ts : List Turn) (replies : List Reply) → MomentsAreDates ts → AreLoaded ts → IsIsolatedFromGrants old ts replies
 is_isolated_from_grants old ts replies small loaded front later back us grant h asked granted new ks js ms before given after reply is replied differ world empty ran step guard grants folder under u alone =
     let P = λ (t : Turn). t.asked.moment ≤ last_moment in
     let Q = λ (t : Turn). is_some t.refusals ≡ true in

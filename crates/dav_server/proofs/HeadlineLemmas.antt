@@ -11,7 +11,7 @@ use Rattle.dav_server.specs.Headline.{empty_server, GrantsFolder, HeadlineHolds,
 use Rattle.dav_server.specs.Isolation.{AreLoaded, RunsUnder, HolderTurns, MatchesSoloRun, TokensDiffer}
 use Rattle.dav_server.specs.Machine.{Settings, Steps}
 use Rattle.dav_server.specs.Run.{Turn, begun, Runs}
-use Rattle.dav_server.specs.DavHandler.{DavHandler, AnswersAll}
+use Rattle.dav_server.specs.Server.{Server, AnswersAll}
 use Rattle.dav_server.specs.TagLaws.{MomentsAreDates}
 use Rattle.dav_server.proofs.FromNoneLemmas.{stands_from_none}
 use Rattle.dav_server.proofs.GrantedRuns.{is_isolated_from_grants}
@@ -54,6 +54,6 @@ headline_holds s ts replies new small loaded differ ran = record {
   standing = λ u h. stands_from_none (empty_server s) ts replies differ refl u h;
 }
 
-pub from_an_empty_server : (old : DavHandler) (ts : List Turn) (replies : List Reply) (new : DavHandler) → MomentsAreDates ts → AreLoaded ts → AnswersAll old ts replies new → FromAnEmptyServer old ts replies new
+pub from_an_empty_server : (old : Server) (ts : List Turn) (replies : List Reply) (new : Server) → MomentsAreDates ts → AreLoaded ts → AnswersAll old ts replies new → FromAnEmptyServer old ts replies new
 from_an_empty_server old ts replies new small loaded ran is differ =
-    headline_holds old.settings ts replies new small loaded differ (subst (λ (o : DavHandler). AnswersAll o ts replies new) is ran)
+    headline_holds old.settings ts replies new small loaded differ (subst (λ (o : Server). AnswersAll o ts replies new) is ran)

@@ -114,7 +114,7 @@ module _ (h : Lock) (guard : IsGuard h) where
   of_goes_along s x r holder head gives (no_body p e has named bad) = side_err
   of_goes_along s x r {m} holder head gives (method p body has named good plan) = plan_goes_along x r (holds s h x r m p holder head gives named) (holds_unlock s h x r m p holder head gives named) (target_is_path named) good plan
 
-  -- a holder's plan goes along with itself
+  -- a holder's plan is isolated
   pub means_along : (s : Settings) (x : Exchange) {plan : MethodPlan Reply} → IsHolderRequest s h x → Means s x plan → IsIsolatedPlan h plan
   means_along s x holder (no_head out) = side_err
   means_along s x holder (no_method r e head gives) = side_err

@@ -13,7 +13,7 @@ use Rattle.dav_engine.proofs.Theorems.{ran_unset, comes, alongside_agree, ran_pl
 use Rattle.dav_server.specs.Machine.{Settings, Exchange, StepsBy, Steps, steps}
 use Rattle.dav_server.specs.Run.{Turn, begun, no_more, one_more}
 use Rattle.dav_server.specs.TagLaws.{MomentsAreDates}
-use Rattle.dav_server.specs.DavHandler.{DavHandler}
+use Rattle.dav_server.specs.Server.{Server}
 use Rattle.dav_server.proofs.MeansWorld.{means_proper, begun_world, begun_short, run_keeps, all_front, all_back}
 use Rattle.dav_engine.specs.Alongside.{AsksWithNumbers, SameResult, AreAlike, SameAnswers}
 use Rattle.dav_engine.specs.AnswerParts.{answers_of}
@@ -124,7 +124,7 @@ holders_are_alone s h ts us old new ls ms replies guard guarded above world smal
     (record { same = λ r. refl; next = omega arith; above = above; above_alone = above; world = world; world_alone = world; there = tt }) (under_unset under u) (λ _. (guarded, guarded))
 
 -- of a run, from any moment on
-pub is_isolated : (old : DavHandler) (ts : List Turn) (replies : List Reply) → MomentsAreDates ts → AreLoaded ts → IsIsolated old ts replies
+pub is_isolated : (old : Server) (ts : List Turn) (replies : List Reply) → MomentsAreDates ts → AreLoaded ts → IsIsolated old ts replies
 is_isolated old ts replies small loaded front later back us h mid new ks ms before given after is replied world ran guard guarded above none under u alone =
     let P = λ (t : Turn). t.asked.moment ≤ last_moment in
     let Q = λ (t : Turn). is_some t.refusals ≡ true in

@@ -24,7 +24,7 @@ use Rattle.dav_server.specs.LockLists.{StepsChangeLists, StepsChangeListsCut, Is
 use Rattle.dav_server.specs.Machine.{Settings, Exchange, caller, PlanOf, gets, heads, puts, patches, makes, deletes, copies, moves, offers, finds_properties, sets_properties, locks, releases, MeansOf, not_allowed, no_path, no_body, method, Means, no_head, no_method, known, Steps, StepCut, untouched, cut, steps}
 use Rattle.dav_server.specs.Promises.{shared, Keeps, step_of}
 use Rattle.dav_server.specs.Run.{Turn, Runs, no_more, one_more}
-use Rattle.dav_server.specs.DavHandler.{DavHandler}
+use Rattle.dav_server.specs.Server.{Server}
 use Rattle.dav_server.proofs.GetWorld.{get_is_reading}
 
 plan_changes : {allowed : ℕ} {headers : Headers} {p : PathText} {body : Body} {who : Caller} {m : DavMethod} {plan : MethodPlan Reply} → PlanOf allowed headers p body who m plan → (ls : List Lock) → ChangesList who ls plan
@@ -93,7 +93,7 @@ step_shares {s} {x} {old} {new} {reply} was now ls ms were are step covering =
     let to_list = subst (λ (l : Locks). Steps s x old (Some ls) reply new l) are from_list in
     changes_keep_shared (caller x) ls ms (steps_change_lists s x old new ls (Some ms) reply to_list) covering
 
-pub shares_locks : {old : DavHandler} {ts : List Turn} {replies : List Reply} (u : RunStep old ts replies) → Keeps shared (step_of u)
+pub shares_locks : {old : Server} {ts : List Turn} {replies : List Reply} (u : RunStep old ts replies) → Keeps shared (step_of u)
 shares_locks u ls ms were are covering = step_shares u.was.locks u.now.locks ls ms were are u.stepped covering
 
 pub tokens_are_handed_in : TokensAreHandedIn

@@ -24,7 +24,7 @@ use Rattle.dav_server.specs.Membership.{MembersAreKept, MembersAreKeptCut}
 use Rattle.dav_server.specs.Naming.{NamesLock}
 use Rattle.dav_server.specs.Promises.{members, Keeps, step_of}
 use Rattle.dav_server.specs.Run.{Turn, begun}
-use Rattle.dav_server.specs.DavHandler.{DavHandler}
+use Rattle.dav_server.specs.Server.{Server}
 use Rattle.dav_server.specs.TagLaws.{MomentsAreDates}
 use Rattle.dav_server.proofs.GetWorld.{get_is_reading}
 use Rattle.dav_server.proofs.MeansWorld.{means_proper, begun_world, run_keeps, all_front, all_back}
@@ -72,7 +72,7 @@ pub members_are_kept_cut : MembersAreKeptCut
 members_are_kept_cut s x old new ls ms h exclusive stands other small world folder stops = cut_keeps s x old ls h exclusive stands other small world folder stops
 
 -- of a run, each request
-pub keeps_members : (old : DavHandler) (ts : List Turn) (replies : List Reply) → MomentsAreDates ts → IsWorld old.state.store.world → (u : RunStep old ts replies) → Keeps members (step_of u)
+pub keeps_members : (old : Server) (ts : List Turn) (replies : List Reply) → MomentsAreDates ts → IsWorld old.state.store.world → (u : RunStep old ts replies) → Keeps members (step_of u)
 keeps_members old ts replies small world u h exclusive stands other folder =
     let P = λ (t : Turn). t.asked.moment ≤ last_moment in
     let all : MomentsAreDates (u.front ++ u.turn ∷ u.back) = subst MomentsAreDates u.turns_are small in

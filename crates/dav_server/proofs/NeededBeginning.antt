@@ -22,7 +22,7 @@ use Rattle.dav_server.specs.Isolation.{TokensDiffer}
 use Rattle.dav_server.specs.Machine.{Exchange, caller, Means, known, method, locks, steps}
 use Rattle.dav_server.specs.Naming.{NamesToken}
 use Rattle.dav_server.specs.Run.{Turn, no_more}
-use Rattle.dav_server.specs.DavHandler.{DavHandler}
+use Rattle.dav_server.specs.Server.{Server}
 use Rattle.dav_server.proofs.NeededForHeadline.{state}
 use Rattle.dav_server.proofs.NeededPremises.{shallow, shallow_alone, refusing, two_refusals, asks_first}
 use Rattle.dav_server.proofs.WorkedGrant.{info, lock_headers, no_depth, no_timeout, Others}
@@ -53,7 +53,7 @@ taker_means = known (request_of_head (head_of (codes "LOCK") slash_below [])) Lo
 -- ---- the run
 
 -- a server whose store has the folder /a, and with a lock of Depth 0 on the root
-abbrev pub begins_locked : DavHandler
+abbrev pub begins_locked : Server
 begins_locked = record { settings = settings; state = state (holding after) shallow_alone }
 
 -- the LOCK, with the token of that lock, where the store refuses to make a file

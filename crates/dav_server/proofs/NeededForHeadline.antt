@@ -22,7 +22,7 @@ use Rattle.dav_server.specs.Isolation.{AreLoaded, RunsUnder, under_none, under_m
 use Rattle.dav_server.specs.Machine.{Settings, Steps, steps}
 use Rattle.dav_server.specs.Naming.{NamesLock, NamesToken}
 use Rattle.dav_server.specs.Run.{Turn, Runs, no_more, one_more}
-use Rattle.dav_server.specs.DavHandler.{DavHandler, AnswersAll}
+use Rattle.dav_server.specs.Server.{Server, AnswersAll}
 use Rattle.dav_server.specs.TagLaws.{MomentsAreDates}
 use Rattle.dav_server.proofs.MeansLemmas.{runs_are_determined}
 use Rattle.dav_server.proofs.NeededTokens as tokens
@@ -81,7 +81,7 @@ granted = record {
 
 -- ---- one token is handed in twice
 
-abbrev left : DavHandler
+abbrev left : Server
 left = record { settings = settings; state = state (holding after) (Some []) }
 
 twice_showable : MomentsAreDates twice

@@ -4,7 +4,7 @@ use Rattle.dav_engine.specs.Reply.{Reply}
 use Rattle.dav_server.specs.EachRequest.{RunStep}
 use Rattle.dav_server.specs.Promises.{Promise, reading, created, refused, unmodified, updated, passed, kept, shared, tags, hrefs, members, Keeps, From, step_of, RunsPromise}
 use Rattle.dav_server.specs.Run.{Turn}
-use Rattle.dav_server.specs.DavHandler.{DavHandler, AnswersAll}
+use Rattle.dav_server.specs.Server.{Server, AnswersAll}
 use Rattle.dav_server.specs.TagLaws.{MomentsAreDates, EqualTagsShowEqualBytes}
 use Rattle.dav_server.proofs.EachRequestLemmas.{reads_leave, only_creates, refusals_leave, loses_no_update, not_modified_tells, hrefs_lead_back}
 use Rattle.dav_server.proofs.EndingLemmas.{ends_no_lock}
@@ -21,7 +21,7 @@ told_by : (ts us : List Turn) (rs ss : List Reply) → ts ≡ us → rs ≡ ss �
 told_by ts us rs ss turns replies tells =
     subst (λ (l : List Reply). EqualTagsShowEqualBytes us l) replies (subst (λ (l : List Turn). EqualTagsShowEqualBytes l rs) turns tells)
 
-module _ (old new : DavHandler) (ts : List Turn) (replies : List Reply) (small : MomentsAreDates ts) (ran : AnswersAll old ts replies new) where
+module _ (old new : Server) (ts : List Turn) (replies : List Reply) (small : MomentsAreDates ts) (ran : AnswersAll old ts replies new) where
   each_keeps : (p : Promise) → From p old → (u : RunStep old ts replies) → Keeps p (step_of u)
   each_keeps reading from u = reads_leave u
   each_keeps created from u = only_creates u

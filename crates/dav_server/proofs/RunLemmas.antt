@@ -7,7 +7,7 @@ use Rattle.dav_engine.specs.Reply.{Reply}
 use Rattle.dav_core.specs.declared.errors.FsError.{FsError}
 use Rattle.dav_store.specs.Store.{Store, state_of}
 use Rattle.dav_server.specs.Refusals.{RefusingStore, with_refusals}
-use Rattle.dav_server.specs.DavHandler.{DavHandler, at_turn, turn_of, AddsReply, StopsIn}
+use Rattle.dav_server.specs.Server.{Server, at_turn, turn_of, AddsReply, StopsIn}
 use Rattle.dav_server.specs.Machine.{Exchange, Settings, Steps, StepCut}
 use Rattle.dav_server.proofs.RefusalLemmas.{over_none}
 use Rattle.dav_server.specs.Run.{Turn, begun, Runs, no_more, one_more}
@@ -52,11 +52,11 @@ cut_at : {s t : Settings} {x : Exchange} {old new : StoreState} {ls ms : Locks} 
 cut_at {x = x} {old} {new} {ls} {ms} same step = subst (λ u. StepCut u x old ls new ms) same step
 
 -- memory ran out in the next turn, from the state that was left before it
-pub stops_at : (s : Settings) (t : Turn) (was new : DavHandler) → was.settings ≡ s → StopsIn (at_turn t was) t.asked new → StopsIn (at_turn t (record { settings = s; state = was.state })) t.asked new
+pub stops_at : (s : Settings) (t : Turn) (was new : Server) → was.settings ≡ s → StopsIn (at_turn t was) t.asked new → StopsIn (at_turn t (record { settings = s; state = was.state })) t.asked new
 stops_at s t was new same stops = record { cut = cut_at same stops.cut; reading = stops.reading; ungranted = stops.ungranted }
 
 -- the same for a turn without refusals of its own
-pub stops_plainly : (s : Settings) (x : Exchange) (was new : DavHandler) → was.settings ≡ s → StopsIn was x new → StopsIn (at_turn (turn_of x) (record { settings = s; state = was.state })) x new
+pub stops_plainly : (s : Settings) (x : Exchange) (was new : Server) → was.settings ≡ s → StopsIn was x new → StopsIn (at_turn (turn_of x) (record { settings = s; state = was.state })) x new
 stops_plainly s x was new same stops = record { cut = cut_at same stops.cut; reading = stops.reading; ungranted = stops.ungranted }
 
 -- a run has an equal list of replies
@@ -67,14 +67,14 @@ ran_to {s} {ts} {old} {new} {ls} {ms} before after same ran = subst (λ (l : Lis
 pub loaded_store : (was : RefusingStore Store) (list : List (Option FsError)) → with_refusals list (state_of was.inner) ≡ begun (Some list) (with_refusals was.coming (state_of was.inner))
 loaded_store was list = ap (λ l. record (state_of was.inner) { refusals = l }) (over_none list)
 
-abbrev server : Settings → StoreState → Locks → DavHandler
+abbrev server : Settings → StoreState → Locks → Server
 server settings store locks = record { settings = settings; state = record { store = store; locks = locks } }
 
 -- the server in memory when a step begins, by its fields
-pub loaded_server : (was now : RefusingStore Store) (list : List (Option FsError)) (settings : Settings) (locks : Locks) {held : ServerState} {old : DavHandler} {x : Exchange} {t : Turn}
+pub loaded_server : (was now : RefusingStore Store) (list : List (Option FsError)) (settings : Settings) (locks : Locks) {held : ServerState} {old : Server} {x : Exchange} {t : Turn}
     → now ≡ record was { coming = list } → ◌≡◌ {A = ServerState} (record { store = with_refusals was.coming (state_of was.inner); locks = locks }) held
-    → ◌≡◌ {A = DavHandler} (record { settings = settings; state = held }) old → ◌≡◌ {A = Turn} (record { asked = x; refusals = Some list }) t
-    → ◌≡◌ {A = DavHandler} (record { settings = settings; state = record { store = with_refusals now.coming (state_of now.inner); locks = locks } }) (at_turn t old)
+    → ◌≡◌ {A = Server} (record { settings = settings; state = held }) old → ◌≡◌ {A = Turn} (record { asked = x; refusals = Some list }) t
+    → ◌≡◌ {A = Server} (record { settings = settings; state = record { store = with_refusals now.coming (state_of now.inner); locks = locks } }) (at_turn t old)
 loaded_server was now list settings locks {held} {old} {x} {t} is holds serves asks =
     ap (λ (n : RefusingStore Store). server settings (with_refusals n.coming (state_of n.inner)) locks) is
     ∙ ap (λ s. server settings s locks) (loaded_store was list)
@@ -83,11 +83,11 @@ loaded_server was now list settings locks {held} {old} {x} {t} is holds serves a
     ∙ ap (λ (u : Turn). at_turn u old) asks
 
 -- a step of a server, by an equal server and an equal request
-pub added_from : {one from : DavHandler} (new : DavHandler) {x y : Exchange} (before after : List Reply) → one ≡ from → x ≡ y → AddsReply one x before after new → AddsReply from y before after new
+pub added_from : {one from : Server} (new : Server) {x y : Exchange} (before after : List Reply) → one ≡ from → x ≡ y → AddsReply one x before after new → AddsReply from y before after new
 added_from {from = from} new {x} before after same this added =
     subst (λ z. AddsReply from z before after new) this (subst (λ s. AddsReply s x before after new) same added)
 
-pub stops_from : {one from : DavHandler} (new : DavHandler) {x y : Exchange} → one ≡ from → x ≡ y → StopsIn one x new → StopsIn from y new
+pub stops_from : {one from : Server} (new : Server) {x y : Exchange} → one ≡ from → x ≡ y → StopsIn one x new → StopsIn from y new
 stops_from {from = from} new {x} same this stops = subst (λ z. StopsIn from z new) this (subst (λ s. StopsIn s x new) same stops)
 
 -- what is to come after one more

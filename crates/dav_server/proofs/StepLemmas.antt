@@ -19,7 +19,7 @@ use Rattle.dav_server.specs.Headers.{headers_of}
 use Rattle.dav_server.specs.Target.{TargetNames}
 use Rattle.dav_server.specs.Method.{GivesServed}
 use Rattle.dav_server.specs.TargetCode.{GivesPath}
-use Rattle.dav_server.specs.DavHandler.{HandlerView}
+use Rattle.dav_server.specs.Server.{HandlerView}
 use Rattle.dav_server.specs.Machine.{caller, PlanOf, MeansOf, method, body_for, taken_by, Exchange, Settings, Means, Steps, steps, StepCut, untouched, cut}
 
 -- what is served as one kind of plan is served as another that has each of its plans

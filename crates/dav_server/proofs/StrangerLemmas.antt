@@ -34,7 +34,7 @@ use Rattle.dav_server.specs.Naming.{NamesLock, by_if}
 use Rattle.dav_server.specs.Passing.{NoLockIsPassed, NoLockIsPassedCut}
 use Rattle.dav_server.specs.Promises.{passed, Keeps, step_of}
 use Rattle.dav_server.specs.Run.{Turn, begun}
-use Rattle.dav_server.specs.DavHandler.{DavHandler}
+use Rattle.dav_server.specs.Server.{Server}
 use Rattle.dav_server.specs.TagLaws.{MomentsAreDates}
 use Rattle.dav_server.proofs.GetWorld.{get_is_reading}
 use Rattle.dav_server.proofs.MeansWorld.{means_proper, begun_world, run_keeps, all_front, all_back}
@@ -123,7 +123,7 @@ pub no_lock_is_passed_cut : NoLockIsPassedCut
 no_lock_is_passed_cut s x old new ls ms h exclusive stands other small world stops = cut_spares s x old ls h exclusive stands other small world stops
 
 -- of a run, each request
-pub passes_no_lock : (old : DavHandler) (ts : List Turn) (replies : List Reply) → MomentsAreDates ts → IsWorld old.state.store.world → (u : RunStep old ts replies) → Keeps passed (step_of u)
+pub passes_no_lock : (old : Server) (ts : List Turn) (replies : List Reply) → MomentsAreDates ts → IsWorld old.state.store.world → (u : RunStep old ts replies) → Keeps passed (step_of u)
 passes_no_lock old ts replies small world u h exclusive stands other =
     let P = λ (t : Turn). t.asked.moment ≤ last_moment in
     let all : MomentsAreDates (u.front ++ u.turn ∷ u.back) = subst MomentsAreDates u.turns_are small in

@@ -7,7 +7,7 @@ use Rattle.dav_core.specs.World.{IsWorld, last_moment}
 use Rattle.dav_engine.specs.Plan.{Locks}
 use Rattle.dav_engine.specs.Reply.{Reply}
 use Rattle.dav_server.specs.Machine.{Exchange, Settings}
-use Rattle.dav_server.specs.DavHandler.{turn_of}
+use Rattle.dav_server.specs.Server.{turn_of}
 use Rattle.dav_server.proofs.RunLemmas.{front_more}
 use Rattle.dav_server.specs.Run.{Turn, Runs}
 use Rattle.dav_server.specs.TagLaws.{MomentsAreDates, EqualTagsShowEqualBytes}

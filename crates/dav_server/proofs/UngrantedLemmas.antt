@@ -15,7 +15,7 @@ use Rattle.dav_server.specs.Head.{Request, IsHead}
 use Rattle.dav_server.specs.Leaving.{SameContent, AsksForLock, GrantsNothing, IsWriteRequest}
 use Rattle.dav_server.specs.Machine.{Exchange, Settings, Means, TakesTree, body_for, taken_by}
 use Rattle.dav_server.specs.Method.{GivesServed}
-use Rattle.dav_server.specs.DavHandler.{HandlerView}
+use Rattle.dav_server.specs.Server.{HandlerView}
 use Rattle.dav_server.specs.WriteLaws.{IsLockRequest}
 use Rattle.dav_server.proofs.ErrorLemmas.{errors_leave}
 use Rattle.dav_server.proofs.MeansWorld.{asks_one}

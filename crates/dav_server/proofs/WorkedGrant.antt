@@ -33,7 +33,7 @@ use Rattle.dav_server.specs.Isolation.{AreLoaded, RunsUnder, under_none, under_m
 use Rattle.dav_server.specs.Machine.{Exchange, caller, Means, known, method, locks, steps}
 use Rattle.dav_server.specs.Naming.{NamesLock}
 use Rattle.dav_server.specs.Run.{Turn, no_more, one_more}
-use Rattle.dav_server.specs.DavHandler.{DavHandler}
+use Rattle.dav_server.specs.Server.{Server}
 use Rattle.dav_server.specs.TagLaws.{MomentsAreDates}
 use Rattle.dav_server.proofs.GrantedRuns.{is_isolated_from_grants}
 use Rattle.dav_server.proofs.WorkedRun.{a, b, token, slash_a, at_a, below, at_below, head_of, head_with_method, text_a, target_at_a, target_below, stranger, stranger_below, holder_below, turn_with, settings, no_conditions, own_conditions, own_list, stranger_says, holder_fields, below_request, own_below_head, own_says, below_unnamed, own_below_names, plan_with, plan_below, stranger_means, below_means, holder_below_means, before, after, filled, holding, missing, makes_a, missing_below, makes_below, number_below, own_turn, Showable, Loaded}
@@ -129,7 +129,7 @@ given = error_reply (dav.Status 423) ∷ made at_below ∷ []
 abbrev pub replies : List Reply
 replies = made at_a ∷ lock_reply ∷ given
 
-abbrev pub begins : DavHandler
+abbrev pub begins : Server
 begins = record { settings = settings; state = record { store = holding before; locks = none } }
 
 other_names : ¬ NamesLock granted_lock stranger_below

@@ -7,13 +7,13 @@ use Rattle.dav_engine.specs.Plan.{ServerState}
 use Rattle.dav_engine.specs.Reply.{Reply}
 use Rattle.dav_server.specs.Machine.{Exchange, Settings, Steps}
 use Rattle.dav_server.specs.Run.{Turn, begun, Runs}
-use Rattle.dav_server.specs.DavHandler.{DavHandler}
+use Rattle.dav_server.specs.Server.{Server}
 use Rattle.dav_server.specs.TagLaws.{ShownIn, LacksTag}
 use Rattle.dav_server.specs.UpdateLaws.{ToldIn, UpdatesIf, IsSuccess}
 
 -- One request of a run of these turns with these replies: its turn and its reply, those before and after it, and the store and the list
 -- of locks before its step, without the refusals that its turn brings (`was`), and after it (`now`).
-pub record RunStep (old : DavHandler) (ts : List Turn) (replies : List Reply) : Type 0 where
+pub record RunStep (old : Server) (ts : List Turn) (replies : List Reply) : Type 0 where
   pub front : List Turn
   pub turn : Turn
   pub back : List Turn

@@ -13,7 +13,7 @@ use Rattle.dav_server.specs.Isolation.{AreLoaded, RunsUnder, HolderTurns, Matche
 use Rattle.dav_server.specs.Machine.{Settings}
 use Rattle.dav_server.specs.Naming.{NamesLock, NamesToken}
 use Rattle.dav_server.specs.Run.{Turn}
-use Rattle.dav_server.specs.DavHandler.{DavHandler, AnswersAll}
+use Rattle.dav_server.specs.Server.{Server, AnswersAll}
 use Rattle.dav_server.specs.TagLaws.{MomentsAreDates, EqualTagsShowEqualBytes}
 
 -- the state of a new store in memory: the root alone, no call to be refused, and no allocation that failed
@@ -21,7 +21,7 @@ abbrev pub empty_store : StoreState
 empty_store = record { world = empty_from 1; refusals = []; short = false }
 
 -- a server of these settings with an empty store and an empty list of locks
-abbrev pub empty_server : Settings → DavHandler
+abbrev pub empty_server : Settings → Server
 empty_server s = record { settings = s; state = record { store = empty_store; locks = Some [] } }
 
 -- A request's step granted an exclusive lock of infinite depth on a folder, with the token that the request handed in (RFC 4918, sections
@@ -36,7 +36,7 @@ pub record GrantsFolder (t : Turn) (was now : ServerState) (h : Lock) : Type 0 w
   pub folder : is_folder now.store.world (folder_of h) ≡ true
 
 -- What is true of a run of these turns from an empty server, with these replies.
-pub record Headline (s : Settings) (ts : List Turn) (replies : List Reply) (new : DavHandler) : Type 0 where
+pub record Headline (s : Settings) (ts : List Turn) (replies : List Reply) (new : Server) : Type 0 where
   -- Isolation: from the grant of an exclusive lock of infinite depth on a folder, as long as the lock is in the list and every request
   -- that names its token as its principal is a holder's request, the folder and the answers to the holder are those of the holder's
   -- requests run alone; where no call found the change numbers used up, and the store hadn't run out of memory (RFC 4918, section 7).
@@ -57,9 +57,9 @@ pub record Headline (s : Settings) (ts : List Turn) (replies : List Reply) (new 
 -- refusals of their own, whatever is in it, and hand in different tokens.
 abbrev pub HeadlineHolds : Type 0
 HeadlineHolds =
-    (s : Settings) (ts : List Turn) (replies : List Reply) (new : DavHandler)
+    (s : Settings) (ts : List Turn) (replies : List Reply) (new : Server)
     → MomentsAreDates ts → AreLoaded ts → TokensDiffer ts → AnswersAll (empty_server s) ts replies new → Headline s ts replies new
 
 -- the headline holds of this run, where the server began empty and no two requests hand in one token
-abbrev pub FromAnEmptyServer : DavHandler → List Turn → List Reply → DavHandler → Type 0
+abbrev pub FromAnEmptyServer : Server → List Turn → List Reply → Server → Type 0
 FromAnEmptyServer old ts replies new = old ≡ empty_server old.settings → TokensDiffer ts → Headline old.settings ts replies new

@@ -25,7 +25,7 @@ use Rattle.dav_server.specs.Head.{Request}
 use Rattle.dav_server.specs.Headers.{headers_of}
 use Rattle.dav_server.specs.Holder.{IsRequestTo}
 use Rattle.dav_server.specs.Machine.{Exchange, Settings, StepsBy, Steps, StepRefused}
-use Rattle.dav_server.specs.DavHandler.{DavHandler}
+use Rattle.dav_server.specs.Server.{Server}
 use Rattle.dav_server.specs.Setup.{IsPrefix}
 use Rattle.dav_server.specs.Target.{TargetNames}
 
@@ -102,7 +102,7 @@ RepliesLeadBack =
 
 -- The hrefs of this reply lead back to paths that the request concerns, where the server's prefix is a prefix, its store holds a world,
 -- and the moment is one that HTTP can write (RFC 4918, sections 8.3 and 13).
-abbrev pub ReplyLeadsBack : DavHandler → Exchange → Reply → Type 0
+abbrev pub ReplyLeadsBack : Server → Exchange → Reply → Type 0
 ReplyLeadsBack old x reply =
     IsPrefix old.settings.prefix → IsWorld old.state.store.world → x.moment ≤ last_moment → All (HasConcernedHref old.settings x) (responses_in reply.body)
 
@@ -133,7 +133,7 @@ UnrefusedStepsList =
 -- This reply to a PROPFIND, where it is a 207, has a response for everything that it lists, if the server's prefix is a prefix and its store
 -- holds a world whose paths have fewer than 2^64 names; or else the store refused, in answering it, to list a folder that is there or to
 -- give the metadata of a member that is there (RFC 4918, sections 9.1 and 10.2).
-abbrev pub ReplyIsWhole : DavHandler → Exchange → Reply → DavHandler → Type 0
+abbrev pub ReplyIsWhole : Server → Exchange → Reply → Server → Type 0
 ReplyIsWhole old x reply new =
     (r : Request) (p : PathText) (depth : Option Depth)
     → IsPrefix old.settings.prefix → IsWorld old.state.store.world → IsRequestTo old.settings x r PropFind p

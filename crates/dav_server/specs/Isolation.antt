@@ -20,7 +20,7 @@ use Rattle.dav_server.specs.Holder.{IsHolderRequest}
 use Rattle.dav_server.specs.Machine.{Exchange, Settings, StepsBy, Steps}
 use Rattle.dav_server.specs.Naming.{NamesLock}
 use Rattle.dav_server.specs.Run.{Turn, begun, RunsBy, Runs}
-use Rattle.dav_server.specs.DavHandler.{DavHandler}
+use Rattle.dav_server.specs.Server.{Server}
 use Rattle.dav_server.specs.TagLaws.{MomentsAreDates}
 
 -- ---- a run while a lock is in the list
@@ -156,7 +156,7 @@ RunsFindNumbers =
 -- folders above it, as long as the lock is in the list, all who name its token as its principal are its holder, and no request hands it
 -- in, the folder and the replies to the holder are as if the holder's requests were run alone. The run begins with a world, no call found
 -- the change numbers used up, and the store didn't run out of memory (RFC 4918, section 7).
-abbrev pub IsIsolated : DavHandler → List Turn → List Reply → Type 0
+abbrev pub IsIsolated : Server → List Turn → List Reply → Type 0
 IsIsolated old ts replies =
     (front later back us : List Turn) (h : Lock) (mid new : StoreState) (ks ms : Locks) (before given after : List Reply)
     → ts ≡ front ++ (later ++ back) → replies ≡ before ++ (given ++ after) → IsWorld old.state.store.world
@@ -180,7 +180,7 @@ pub record Grants (t : Turn) (h : Lock) (ls ms : List Lock) : Type 0 where
 -- exclusive lock of infinite depth on a folder, as long as the lock is in the list and all who name its token as its principal are its
 -- holder, the folder and the replies to the holder are as if the holder's requests were run alone. No call found the change numbers used
 -- up, and the store didn't run out of memory (RFC 4918, section 7).
-abbrev pub IsIsolatedFromGrants : DavHandler → List Turn → List Reply → Type 0
+abbrev pub IsIsolatedFromGrants : Server → List Turn → List Reply → Type 0
 IsIsolatedFromGrants old ts replies =
     (front later back us : List Turn) (grant : Turn) (h : Lock) (asked granted new : StoreState) (ks js : List Lock) (ms : Locks)
     (before given after : List Reply) (reply : Reply)

@@ -16,7 +16,7 @@ pub mod TagLaws
 pub mod UpdateLaws
 pub mod WriteLaws
 pub mod Leaving
-pub mod DavHandler
+pub mod Server
 pub mod ServerCode
 pub mod ExchangeView
 pub mod GivenBody

@@ -16,7 +16,7 @@ use Rattle.dav_server.specs.Leaving.{SafeLeaves, CreateOnlyLeaves, RefusedStatus
 use Rattle.dav_server.specs.Machine.{Settings}
 use Rattle.dav_server.specs.Naming.{NamesLock, NamesToken}
 use Rattle.dav_server.specs.Run.{Turn, begun, Runs}
-use Rattle.dav_server.specs.DavHandler.{DavHandler, AnswersAll}
+use Rattle.dav_server.specs.Server.{Server, AnswersAll}
 use Rattle.dav_server.specs.Setup.{IsPrefix}
 use Rattle.dav_server.specs.TagLaws.{MomentsAreDates, EqualTagsShowEqualBytes}
 
@@ -97,7 +97,7 @@ Keeps members s =
 
 -- What a promise needs of the server with which the run begins: for `hrefs` that its prefix is a prefix and its store holds a world; for
 -- `unmodified`, `updated`, `passed`, `tags` and `members` that its store holds a world; for all others nothing.
-abbrev pub From : Promise → DavHandler → Type 0
+abbrev pub From : Promise → Server → Type 0
 From unmodified old = IsWorld old.state.store.world
 From updated old = IsWorld old.state.store.world
 From passed old = IsWorld old.state.store.world
@@ -107,7 +107,7 @@ From hrefs old = IsPrefix old.settings.prefix × IsWorld old.state.store.world
 From _ old = ⊤
 
 -- a request of a run as a `OneStep`
-abbrev pub step_of : {old : DavHandler} {ts : List Turn} {replies : List Reply} → RunStep old ts replies → OneStep
+abbrev pub step_of : {old : Server} {ts : List Turn} {replies : List Reply} → RunStep old ts replies → OneStep
 step_of {old} u = record {
   settings = old.settings;
   front = u.front;
@@ -121,7 +121,7 @@ step_of {old} u = record {
 }
 
 -- What a run of these turns with these replies promises.
-pub record Promises (old : DavHandler) (ts : List Turn) (replies : List Reply) : Type 0 where
+pub record Promises (old : Server) (ts : List Turn) (replies : List Reply) : Type 0 where
   -- each request keeps each promise
   pub each : (p : Promise) → From p old → (u : RunStep old ts replies) → Keeps p (step_of u)
   -- Where each turn brings a list of refusals: while a lock guards a folder, and no request hands in its token, the folder and the
@@ -136,4 +136,4 @@ pub record Promises (old : DavHandler) (ts : List Turn) (replies : List Reply) :
 
 -- Each run of requests that are made at moments that HTTP can write keeps the promises, whatever the store refuses.
 abbrev pub RunsPromise : Type 0
-RunsPromise = (old new : DavHandler) (ts : List Turn) (replies : List Reply) → MomentsAreDates ts → AnswersAll old ts replies new → Promises old ts replies
+RunsPromise = (old new : Server) (ts : List Turn) (replies : List Reply) → MomentsAreDates ts → AnswersAll old ts replies new → Promises old ts replies

@@ -7,7 +7,7 @@ use Rattle.dav_engine.specs.Plan.{ServerState}
 use Rattle.dav_engine.specs.StateCode.{coded_state}
 use Rattle.dav_server.specs.Machine.{Exchange, Settings}
 use Rattle.dav_server.specs.Run.{Turn}
-use Rattle.dav_server.specs.DavHandler.{DavHandler, HandlerView}
+use Rattle.dav_server.specs.Server.{Server, HandlerView}
 
 abbrev bytes_code : Coded (List ℕ)
 bytes_code = coded_list coded_ℕ
@@ -15,7 +15,7 @@ bytes_code = coded_list coded_ℕ
 abbrev settings_code : Coded Settings
 settings_code = code_by (List ℕ × ℕ) (coded× bytes_code coded_ℕ) (λ s. (s.prefix, s.allowed)) (λ p. record { prefix = p.0; allowed = p.1 }) (λ _. refl)
 
-abbrev server_code : Coded FsError → Coded DavHandler
+abbrev pub server_code : Coded FsError → Coded Server
 server_code refusal =
     code_by (Settings × ServerState) (coded× settings_code (coded_state refusal))
     (λ s. (s.settings, s.state)) (λ p. record { settings = p.0; state = p.1 }) (λ _. refl)
@@ -23,7 +23,7 @@ server_code refusal =
 -- how the logic encodes what contracts see of a handler: as the pair of its store, and of its locks and its server
 abbrev pub coded_handler : {F L : Type 0} → Coded F → Coded L → Coded FsError → Coded (HandlerView F L)
 coded_handler {F} {L} store locks refusal =
-    code_by (F × (Option L × DavHandler)) (coded× store (coded× (coded_option locks) (server_code refusal)))
+    code_by (F × (Option L × Server)) (coded× store (coded× (coded_option locks) (server_code refusal)))
     (λ h. (h.fs, (h.ls, h.server))) (λ p. record { fs = p.0; ls = p.1.0; server = p.1.1 }) (λ _. refl)
 
 -- how the logic encodes a request: as the tuple of its fields

@@ -15,7 +15,7 @@ ghost use Rattle.dav_server.specs.HrefLaws.{ReplyLeadsBack, ReplyIsWhole};
 ghost use Rattle.dav_server.specs.Leaving.{SameContent, SafeLeaves, CreateOnlyLeaves, RefusedStatusLeaves, HasLockBody, AsksForLock};
 ghost use Rattle.dav_server.specs.Machine.{caller, PlanOf, Means, MeansOf};
 ghost use Rattle.dav_server.specs.Method.{IsServed};
-ghost use Rattle.dav_server.specs.DavHandler.{Answers, StopsIn};
+ghost use Rattle.dav_server.specs.Server.{Answers, StopsIn};
 ghost use Rattle.dav_server.specs.Headers.{headers_of};
 ghost use Rattle.dav_core.specs.Target.{Reads};
 ghost use Rattle.dav_server.specs.Setup.{IsPrefix};
@@ -87,7 +87,7 @@ pub struct DavHandler<F: DavFileSystem, L: DavLockSystem> {
 impl<F: DavFileSystem, L: DavLockSystem> Model for DavHandler<F, L> {
     ghost use Rattle.std.specs.Prelude.{string_bytes};
     ghost use Rattle.dav_core.specs.contracts.errors.FsError as fs_error;
-    ghost use Rattle.dav_server.specs.DavHandler.{HandlerView};
+    ghost use Rattle.dav_server.specs.Server.{HandlerView};
     ghost use Rattle.dav_server.specs.ServerCode.{coded_handler};
 
     ghost Value = { HandlerView F L };

@@ -1,6 +1,6 @@
 //! The head of a request, as bytes (RFC 9112, sections 2 to 5; RFC 9110, section 5).
 
-ghost use Rattle.std.specs.Prelude.{◌≡◌};
+ghost use Rattle.std.specs.Prelude.{◌≡◌, ◌≤◌, ◌<◌, [], MatchOption, get_or, length};
 ghost use Rattle.std.specs.Iterator.{YieldsFirstRef, item_count};
 ghost use Rattle.dav_server.specs.Head.{is_same_name, values_of};
 
@@ -60,6 +60,17 @@ impl<'a> RequestView<'a> {
         ensures { result.now ≡ self.now.target }
     {
         self.target
+    }
+
+    /// The name and the value of the field at this place, the first of which is 0; none where there are fewer. The value has no
+    /// optional whitespace (OWS) around it (RFC 9110, section 5).
+    pub fn field(&self, place: usize) -> Option<(&'a [u8], &'a [u8])>
+        ensures { MatchOption result (length self.now.fields ≤ place)
+            (λ f. (place < length self.now.fields)
+            × (get_or self.now.fields place ([], []) ≡ (f.0.now, f.1.now))) }
+    {
+        let header = self.headers[..self.count].get(place)?;
+        Some((header.name.of(self.head), header.value.of(self.head)))
     }
 
     /// The values of the fields with this name, in order, without the optional whitespace (OWS) around them. ASCII case

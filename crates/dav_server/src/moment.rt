@@ -20,9 +20,6 @@ pub const LAST_MOMENT: u64 = 253_402_300_799;
 pub struct BadMoment;
 
 impl Moment {
-    /// The beginning of 1970.
-    pub const START: Moment = Moment { seconds: 0 };
-
     /// The moment that is this many seconds after the beginning of 1970; `BadMoment` past the year 9999.
     pub fn new(seconds: u64) -> Result<Moment, BadMoment>
         ensures ok { IsOk result ↔ (seconds ≤ 253_402_300_799) }

@@ -6,7 +6,7 @@ ghost use Rattle.dav_core.specs.World.{last_moment};
 ghost use Rattle.dav_server.specs.Headline.{FromAnEmptyServer};
 ghost use Rattle.dav_server.specs.Isolation.{AreLoaded};
 ghost use Rattle.dav_server.specs.Promises.{Promises};
-ghost use Rattle.dav_server.specs.DavHandler.{AddsReply, AnswersAll, AnswersSome, StopsIn, at_turn, turns};
+ghost use Rattle.dav_server.specs.Server.{AddsReply, AnswersAll, AnswersSome, StopsIn, at_turn, turns};
 
 #[cfg(test)]
 mod bodies;
@@ -150,9 +150,9 @@ fn answer_turn(
     answer_next(handler, alloc, &exchange, replies)
 }
 
-/// Answers requests, one after another, on a store in memory that refuses the calls which each step names: the replies, the
+/// Answers requests, one after another, on a store in memory that refuses the calls which each turn names: the replies, the
 /// store and the locks are those of a run of the machine, and where the store's `was_short` is false, no other run leaves
-/// it so. It promises what [`DavHandler::run`] does. And, since each step has its own refusals: while an exclusive lock of infinite
+/// it so. It promises what [`DavHandler::run`] does. And, since each turn has its own refusals: while an exclusive lock of infinite
 /// depth stands on a folder, only its holder names it and no request hands in its token, the folder and the answers to the holder
 /// are as if the holder's requests were alone; from no locks on, it is enough that the lock was granted and that the tokens which
 /// are handed in differ, and then no lock ends unless the request names its token. All this in one piece, from an empty server on,

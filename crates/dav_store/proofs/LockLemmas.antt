@@ -1,7 +1,10 @@
 -- Lists of locks in memory.
-use Rattle.std.proofs.Common.{◌≡◌, ℕ, ◌&&◌, ◌||◌, Bool, true, false, not, List, [], ◌∷◌, map, Contains, get_or, Some, None, refl, sym, ap, subst, ◌∙◌}
-use Rattle.std.specs.List.{list_any, list_all, position}
+use Rattle.std.proofs.Common.{◌≡◌, ℕ, ◌≤◌, ◌&&◌, ◌||◌, nat_lt, Bool, true, false, cond, not, List, [], ◌∷◌, length, map, Contains, get_or, Some, None, refl, sym, ap, subst, ◌∙◌}
+use Rattle.std.specs.List.{list_any, list_all, find, position, position_or_len, slice_get}
+use Rattle.std.proofs.lemmas.Bool.{ltb-false}
+use Rattle.std.proofs.lemmas.List.Folds.{find_at}
 use Rattle.std.proofs.lemmas.List.Quantifiers.{position-Some}
+use Rattle.std.proofs.lemmas.Option.{slice_get-get_or, slice_get_past}
 use Rattle.dav_core.specs.Path.{Path, names, is_under, is_at_or_under}
 use Rattle.dav_core.specs.Locks.{Lock, Requester, covers, is_held, is_free_for, conflicts, is_grantable}
 use Rattle.dav_core.proofs.Theorems.{some_held, free_is_no_conflict, grantable_by_tests}
@@ -59,3 +62,23 @@ pub conflict_seen : (new : Lock) (ls seen : List Lock) → seen ≡ ls
     → (list_any (λ l. covers l (names new.path) && not (l.shared && new.shared)) seen || (new.deep && list_any (λ l. is_under (names l.path) (names new.path)) seen)) ≡ true
     → is_grantable new ls ≡ false
 conflict_seen new ls seen same some = subst (λ (ms : List Lock). is_grantable new ms ≡ false) same (grantable_by_tests new seen ∙ not_grantable_if_some _ new.deep _ some)
+
+-- ---- the first that passes a test
+
+-- where none passes, none is found
+pub none_found : {X : Type 0} (p : X → Bool) (xs : List X) → position p xs ≡ None → find p xs ≡ None
+none_found p xs none = find_at p xs ∙ slice_get_past xs (position_or_len p xs) (by_test (nat_lt (position_or_len p xs) (length xs)) refl none)
+  where
+    by_test : (t : Bool) → nat_lt (position_or_len p xs) (length xs) ≡ t → cond t (Some (position_or_len p xs)) None ≡ None → length xs ≤ position_or_len p xs
+    by_test true is e = absurd cc
+    by_test false is e = ltb-false (position_or_len p xs) (length xs) is
+
+-- the first that passes is found
+pub first_found : {X : Type 0} (p : X → Bool) (xs : List X) (i : ℕ) (x : X) → position p xs ≡ Some i → x ≡ get_or xs i x → find p xs ≡ Some x
+first_found {X = X} p xs i x found is = find_at p xs ∙ by_test (nat_lt (position_or_len p xs) (length xs)) found
+  where
+    by_test : (t : Bool) → cond t (Some (position_or_len p xs)) None ≡ Some i → slice_get xs (position_or_len p xs) ≡ Some x
+    by_test true e =
+        let same : position_or_len p xs ≡ i = cc in
+        ap (slice_get xs) same ∙ slice_get-get_or xs i x (position-Some p xs i x found).0 ∙ ap (λ (y : X). Some y) (sym is)
+    by_test false e = absurd cc

@@ -5,6 +5,7 @@ pub mod KindOf
 pub mod Answered
 pub mod Listed
 pub mod LockCalls
+pub mod LockEnds
 pub mod Tree
 pub mod Numbered
 pub mod NumberedLends

@@ -7,6 +7,7 @@ ghost use Rattle.dav_core.specs.Locks.{Lock, Checks, lent, covers, requester_of,
 ghost use Rattle.dav_core.specs.LockRefusals.{IsRefusedRefresh};
 ghost use Rattle.dav_core.specs.Numbers.{max_u64};
 ghost use Rattle.dav_store.specs.LockCalls.{requester_in, IsNamedPlace};
+ghost use Rattle.dav_store.specs.LockEnds.{first_ended, has_ended};
 ghost use Rattle.dav_store.specs.LockIndex.{Key, IsIndexOf, MattersAlone, tally, times, path_keys};
 
 mod index;
@@ -391,8 +392,36 @@ fn discover_in(alloc: Global, locks: &[Kept], path: &Sought<'_>) -> Result<Vec<D
     Ok(found)
 }
 
+// Whether the time of a lock ended at this moment or before.
+fn has_ended(lock: &DavLock, now: u64) -> bool
+    ensures { result ≡ has_ended now lock.now }
+{
+    match lock.timeout_at {
+        Some(end) => end <= now,
+        None => false,
+    }
+}
+
+// The place of the first lock whose time ended.
+fn ended_place(locks: &[Kept], now: u64) -> Option<usize>
+    ensures { result ≡ position (has_ended now) locks.now }
+{
+    locks.iter().position(|l| has_ended(l.lock(), now))
+}
+
+// The first lock whose time ended.
+fn ended_in(locks: &[Kept], now: u64) -> Option<&DavLock>
+    ensures { option_copied result ≡ first_ended now locks.now }
+{
+    match ended_place(locks, now) {
+        Some(place) => Some(locks[place].lock()),
+        None => None,
+    }
+}
+
 impl MemLs {
-    ghost use Rattle.std.specs.Prelude.{◌≡◌, [], IfOk};
+    ghost use Rattle.std.specs.Prelude.{◌≡◌, [], IfOk, option_copied};
+    ghost use Rattle.dav_store.specs.LockEnds.{first_ended};
 
     /// No locks.
     pub fn new(alloc: Global) -> Result<MemLs, NoMemory>
@@ -403,6 +432,14 @@ impl MemLs {
             index: Counts::new(alloc).ok(),
             next: 0,
         })
+    }
+
+    /// The first lock whose time ended at this moment or before; `None` where none did. The moment is in seconds since 1970
+    /// (RFC 4918, section 6.6). Looks at each lock; allocates nothing.
+    pub fn first_ended(&self, now: u64) -> Option<&DavLock>
+        ensures { option_copied result ≡ first_ended now self.now }
+    {
+        ended_in(&self.locks, now)
     }
 }
 

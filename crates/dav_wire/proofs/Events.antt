@@ -1,8 +1,8 @@
 -- The events of the reader: what each finds in the stream, and where it leaves the reader.
-use Rattle.std.proofs.Common.{◌≡◌, ◌≢◌, ℕ, ◌+◌, ◌*◌, ◌<◌, ◌≤◌, Bool, true, false, cond, ◌==◌, List, [], ◌++◌, length, take, drop, refl, sym, ap, ◌∙◌, subst, subst₂, arith, append-nil, length-append, length-drop, take-append-drop, inl, inr}
+use Rattle.std.proofs.Common.{◌≡◌, ◌≢◌, ℕ, ◌+◌, ◌*◌, ◌<◌, ◌≤◌, Bool, true, false, cond, ◌==◌, List, [], ◌∷◌, ◌++◌, length, take, drop, None, refl, sym, ap, ◌∙◌, subst, subst₂, arith, append-nil, length-append, length-drop, take-append-drop, inl, inr}
 use Rattle.std.proofs.Math.Bool.{and-false}
 use Rattle.std.proofs.lemmas.Bool.{and_right}
-use Rattle.std.proofs.lemmas.List.{length-map, take_all}
+use Rattle.std.proofs.lemmas.List.{append_cancel_right, length-map, take_all}
 use Rattle.httparse.specs.declared.spans.Span.{Span}
 use Rattle.httparse.specs.declared.spans.HeaderSpan.{HeaderSpan}
 use Rattle.httparse.specs.declared.spans.RequestSpans.{RequestSpans}
@@ -29,10 +29,25 @@ use Rattle.http_server.proofs.MachineLemmas.{head_is_some}
 use Rattle.http_server.proofs.StreamLemmas.{AcceptsRequest-append, accepts_unique, has_an_end, Leads-start}
 use Rattle.dav_wire.specs.declared.answer.Asked.{Asked}
 use Rattle.dav_wire.specs.Exchange.{most_of}
-use Rattle.dav_wire.specs.History.{HasWork}
+use Rattle.dav_wire.specs.History.{BeginsWithHead, HasWork}
 use Rattle.dav_wire.specs.Refusals.{IsStatedWithin}
-use Rattle.dav_wire.specs.Place.{Place, Begun, invitation, IsBetween, StandsAt, Standing, IsStarved, HasHead, HasPiece, HasEnd, IsWhole, work}
+use Rattle.dav_wire.specs.Place.{Place, Begun, invitation, IsBetween, StandsAt, Standing, IsStarved, HasHead, HasPiece, HasEnd, IsWhole, IsHeadRead, judged_at, work}
 use Rattle.dav_wire.proofs.Bodies.{ends_first, Begun-step, begun_some, finishes, ends_request, begun_invited, is_unfinished}
+
+-- ---- the head of a request that was begun
+
+-- it is the only one that begins the stream
+its_head : {p : Place} {stream interim bytes : List ℕ} (x : Begun p stream interim) → BeginsWithHead p.config.limits stream bytes
+    → p.head ≡ bytes
+its_head {p} {stream} {interim} {bytes} x b =
+    let after = (accepts_unique b.accepts x.accepts).2 in
+    append_cancel_right p.head bytes x.after (sym x.text ∙ b.text ∙ ap (λ (t : List ℕ). bytes ++ t) after)
+
+-- and it was judged
+its_judgement : (p : Place) {stream interim : List ℕ} → p.within ≡ true → Begun p stream interim → (bytes : List ℕ)
+    → BeginsWithHead p.config.limits stream bytes → judged_at p ≡ (bytes, None) ∷ []
+its_judgement p within x bytes b =
+    ap (λ w. cond w ((p.head, None) ∷ []) []) within ∙ ap (λ (t : List ℕ). (t, None) ∷ []) (its_head x b)
 
 -- ---- events
 
@@ -138,6 +153,7 @@ module _ (p : Place) (stream interim : List ℕ) (spans : List HeaderSpan) (new 
         unfinished = λ m rest z. none.2 m.head z.after_head z.head.reads;
         invited = λ waits. absurd (none.2 waits.0 waits.2 waits.3.reads);
         within = λ h len after z. absurd (none.2 h after z.reads);
+        judged = λ bytes b. absurd (none.2 b.head b.after b.accepts.reads);
       }
   waits_at true within x is =
       let found = in_its_body x.0 in
@@ -149,6 +165,7 @@ module _ (p : Place) (stream interim : List ℕ) (spans : List HeaderSpan) (new 
         unfinished = is_unfinished x.0 (starves.2.unfinished x.0.ends);
         invited = begun_invited x.0;
         within = x.2;
+        judged = its_judgement p within x.0;
       }
 
   -- what no event of a request is
@@ -211,6 +228,12 @@ module _ {p : Place} {stream : List ℕ} (x : HasEnd p stream) where
         between = refl;
         body = none;
       }
+
+  -- and that head was judged
+  pub end_judged : (head : List ℕ) (len : ℕ) → len ≡ length p.head → head ≡ take len p.head → judged_at p ≡ (head, None) ∷ []
+  end_judged head len long front =
+      ap (λ w. cond w ((p.head, None) ∷ []) []) x.within
+      ∙ ap (λ (t : List ℕ). (t, None) ∷ []) (sym (front ∙ take_all len p.head (omega (arith, long))))
 
   pub end_less : 2 * length p.unread + 0 < work p
   end_less = let within = x.within in rw within (omega arith)
@@ -327,11 +350,22 @@ module _ {p : Place} {spans : List HeaderSpan} {r : RequestSpans} {stream interi
       let some = head_some in
       rw (left, none) (omega arith)
 
-  pub invites : expects_continue p.server ≡ true
-      → (invitation x.takes.head x.takes.framing ≡ continue_text) × ExpectsContinue p.config.limits stream
-  invites is =
-      let asks = sym (ap expects_continue x.takes.next) ∙ is in
-      (ap (λ b. cond b continue_text []) asks, (x.takes.head, x.takes.framing, drop r.len stream, head_accepted, asks))
+  -- it asks for `100 Continue`, or not
+  asks : (waits : Bool) → waits ≡ expects_continue p.server → (request_of x.takes.head x.takes.framing).expects_continue ≡ waits
+  asks waits is = sym (ap expects_continue x.takes.next) ∙ sym is
 
-  pub invites_not : expects_continue p.server ≡ false → invitation x.takes.head x.takes.framing ≡ interim
-  invites_not is = ap (λ b. cond b continue_text []) (sym (ap expects_continue x.takes.next) ∙ is) ∙ sym x.silent
+  -- it is to be judged
+  pub head_read : (q : Place) (waits : Bool) → waits ≡ expects_continue p.server → q.config ≡ p.config → q.within ≡ true
+      → Begun q stream (invitation x.takes.head x.takes.framing) → length q.body ≤ q.most → IsStatedWithin q.config stream
+      → IsHeadRead q stream interim waits
+  head_read q waits is config within begun fits stated = record {
+    silent = x.silent;
+    within = within;
+    standing = subst (λ b. StandsAt b q stream (cond waits continue_text [])) (sym within)
+        (subst (λ b. Begun q stream (cond b continue_text [])) (asks waits is) begun, fits, stated);
+    invites = λ wanted. subst (λ c. ExpectsContinue c.limits stream) (sym config)
+        (x.takes.head, x.takes.framing, drop r.len stream, head_accepted, asks waits is ∙ wanted);
+  }
+
+  pub unjudged : judged_at p ≡ []
+  unjudged = ap (λ w. cond w ((p.head, None) ∷ []) []) x.within

@@ -61,6 +61,8 @@ requests_at (Closing reason.EndOfInput) config h answered text interim rest x y 
     all_answered config _ rest answered h.calls x y.calls_are
 requests_at (Closing (reason.Refused why)) config h answered text interim rest x y =
     all_answered config _ rest answered h.calls x y.0
+requests_at (Closing (reason.Rejected why)) config h answered text interim rest x y =
+    all_answered config _ rest answered h.calls x y.calls_are
 requests_at (Closing (reason.Unsendable e)) config h answered text interim rest x y =
     let last = y.0.last in one_more config _ rest last.rest answered h.calls last.call last.message x last.calls_are last.request
 requests_at Aborted config h answered text interim rest x y = elim y.calls [

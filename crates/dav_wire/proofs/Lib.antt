@@ -1,5 +1,6 @@
 pub mod Bodies
 pub mod Events
+pub mod Heads
 pub mod LawAnswers
 pub mod RefusalAnswers
 pub mod Replies

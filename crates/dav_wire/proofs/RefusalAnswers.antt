@@ -17,27 +17,34 @@ use Rattle.http1.specs.ReadError.{status_of, is_too_large}
 use Rattle.http1.specs.Text.{eq_ignore_case}
 use Rattle.http1.proofs.HeadRoundTrip.{response_reads_back}
 use Rattle.http1_typed.specs.Parts.{reason_of}
+use Rattle.dav_wire.specs.declared.answer.Rejection.{Rejection}
+use Rattle.dav_wire.specs.declared.answer.Rejection.TheVariants.{Unauthorized, Forbidden, UnsupportedMediaType, Misdirected, NotImplemented, Unavailable}
 use Rattle.dav_wire.specs.declared.state.Refusal.{Refusal}
 use Rattle.dav_wire.specs.declared.state.Refusal.TheVariants.{Truncated, Unreadable, BodyTooLong, UnknownCoding}
 use Rattle.dav_wire.specs.Laws.{IsLastResponse, RefusalsAreRead}
-use Rattle.dav_wire.specs.Refusals.{closing_fields, closing_text, refusal_status}
+use Rattle.dav_wire.specs.Refusals.{closing_fields, last_fields, closing_text, refusal_status, rejection_status}
 
 -- how the client frames the body, which has no bytes
 abbrev IsFramed : MethodKind → ℕ → Type 0
 IsFramed method status =
-    (f : Framing) × (response_framing method status 1 (known_fields closing_fields) ≡ Ok f)
+    (f : Framing) × (response_framing method status 1 (known_fields (closing_fields status)) ≡ Ok f)
     × ((limits : Limits) → ReadsBody limits f [] (body_of [] []) [])
 
-closing_closes : (known_fields closing_fields).close ≡ true
+closing_closes : (known_fields last_fields).close ≡ true
 unfolding known_fields elements eq_ignore_case trim_ows
 closing_closes = refl
 
-read_back : (method : MethodKind) (status : ℕ) → head_refusal (is_status_line 1 status (reason_of status)) closing_fields ≡ None
+challenge_closes : (known_fields (closing_fields 401)).close ≡ true
+unfolding known_fields elements eq_ignore_case trim_ows
+challenge_closes = refl
+
+read_back : (method : MethodKind) (status : ℕ) → head_refusal (is_status_line 1 status (reason_of status)) (closing_fields status) ≡ None
+    → (known_fields (closing_fields status)).close ≡ true
     → IsFramed method status → IsLastResponse method status (closing_text status)
-read_back method status valid framed =
-    let back = response_reads_back 1 status (reason_of status) closing_fields [] valid in
-    let head = response_head 1 status (reason_of status) closing_fields in
-    let known : known_of head.fields ≡ known_fields closing_fields = ap known_fields back.fields in
+read_back method status valid closes framed =
+    let back = response_reads_back 1 status (reason_of status) (closing_fields status) [] valid in
+    let head = response_head 1 status (reason_of status) (closing_fields status) in
+    let known : known_of head.fields ≡ known_fields (closing_fields status) = ap known_fields back.fields in
     record {
       message = record { head = head; body = body_of [] [] };
       reads = λ limits room. record {
@@ -52,7 +59,7 @@ read_back method status valid framed =
         body = framed.2 limits;
       };
       status_is = back.code;
-      closes = ap (λ k. k.close) known ∙ closing_closes;
+      closes = ap (λ k. k.close) known ∙ closes;
       body = refl;
     }
 
@@ -64,7 +71,7 @@ framed_400 Method.Other = (Framed.Length 0, refl, λ _. (refl, refl, refl))
 
 read_400 : (method : MethodKind) → IsLastResponse method 400 (closing_text 400)
 unfolding are_headers is_token_byte
-read_400 method = read_back method 400 refl (framed_400 method)
+read_400 method = read_back method 400 refl closing_closes (framed_400 method)
 
 framed_413 : (method : MethodKind) → IsFramed method 413
 unfolding known_fields elements eq_ignore_case trim_ows
@@ -74,7 +81,7 @@ framed_413 Method.Other = (Framed.Length 0, refl, λ _. (refl, refl, refl))
 
 read_413 : (method : MethodKind) → IsLastResponse method 413 (closing_text 413)
 unfolding are_headers is_token_byte
-read_413 method = read_back method 413 refl (framed_413 method)
+read_413 method = read_back method 413 refl closing_closes (framed_413 method)
 
 framed_414 : (method : MethodKind) → IsFramed method 414
 unfolding known_fields elements eq_ignore_case trim_ows
@@ -84,7 +91,7 @@ framed_414 Method.Other = (Framed.Length 0, refl, λ _. (refl, refl, refl))
 
 read_414 : (method : MethodKind) → IsLastResponse method 414 (closing_text 414)
 unfolding are_headers is_token_byte
-read_414 method = read_back method 414 refl (framed_414 method)
+read_414 method = read_back method 414 refl closing_closes (framed_414 method)
 
 framed_431 : (method : MethodKind) → IsFramed method 431
 unfolding known_fields elements eq_ignore_case trim_ows
@@ -94,7 +101,7 @@ framed_431 Method.Other = (Framed.Length 0, refl, λ _. (refl, refl, refl))
 
 read_431 : (method : MethodKind) → IsLastResponse method 431 (closing_text 431)
 unfolding are_headers is_token_byte
-read_431 method = read_back method 431 refl (framed_431 method)
+read_431 method = read_back method 431 refl closing_closes (framed_431 method)
 
 framed_500 : (method : MethodKind) → IsFramed method 500
 unfolding known_fields elements eq_ignore_case trim_ows
@@ -104,7 +111,7 @@ framed_500 Method.Other = (Framed.Length 0, refl, λ _. (refl, refl, refl))
 
 read_500 : (method : MethodKind) → IsLastResponse method 500 (closing_text 500)
 unfolding are_headers is_token_byte
-read_500 method = read_back method 500 refl (framed_500 method)
+read_500 method = read_back method 500 refl closing_closes (framed_500 method)
 
 framed_501 : (method : MethodKind) → IsFramed method 501
 unfolding known_fields elements eq_ignore_case trim_ows
@@ -114,7 +121,57 @@ framed_501 Method.Other = (Framed.Length 0, refl, λ _. (refl, refl, refl))
 
 read_501 : (method : MethodKind) → IsLastResponse method 501 (closing_text 501)
 unfolding are_headers is_token_byte
-read_501 method = read_back method 501 refl (framed_501 method)
+read_501 method = read_back method 501 refl closing_closes (framed_501 method)
+
+framed_401 : (method : MethodKind) → IsFramed method 401
+unfolding known_fields elements eq_ignore_case trim_ows
+framed_401 Method.Head = (Framed.NoBody, refl, λ _. (refl, refl, refl))
+framed_401 Method.Connect = (Framed.Length 0, refl, λ _. (refl, refl, refl))
+framed_401 Method.Other = (Framed.Length 0, refl, λ _. (refl, refl, refl))
+
+read_401 : (method : MethodKind) → IsLastResponse method 401 (closing_text 401)
+unfolding are_headers is_token_byte
+read_401 method = read_back method 401 refl challenge_closes (framed_401 method)
+
+framed_403 : (method : MethodKind) → IsFramed method 403
+unfolding known_fields elements eq_ignore_case trim_ows
+framed_403 Method.Head = (Framed.NoBody, refl, λ _. (refl, refl, refl))
+framed_403 Method.Connect = (Framed.Length 0, refl, λ _. (refl, refl, refl))
+framed_403 Method.Other = (Framed.Length 0, refl, λ _. (refl, refl, refl))
+
+read_403 : (method : MethodKind) → IsLastResponse method 403 (closing_text 403)
+unfolding are_headers is_token_byte
+read_403 method = read_back method 403 refl closing_closes (framed_403 method)
+
+framed_415 : (method : MethodKind) → IsFramed method 415
+unfolding known_fields elements eq_ignore_case trim_ows
+framed_415 Method.Head = (Framed.NoBody, refl, λ _. (refl, refl, refl))
+framed_415 Method.Connect = (Framed.Length 0, refl, λ _. (refl, refl, refl))
+framed_415 Method.Other = (Framed.Length 0, refl, λ _. (refl, refl, refl))
+
+read_415 : (method : MethodKind) → IsLastResponse method 415 (closing_text 415)
+unfolding are_headers is_token_byte
+read_415 method = read_back method 415 refl closing_closes (framed_415 method)
+
+framed_421 : (method : MethodKind) → IsFramed method 421
+unfolding known_fields elements eq_ignore_case trim_ows
+framed_421 Method.Head = (Framed.NoBody, refl, λ _. (refl, refl, refl))
+framed_421 Method.Connect = (Framed.Length 0, refl, λ _. (refl, refl, refl))
+framed_421 Method.Other = (Framed.Length 0, refl, λ _. (refl, refl, refl))
+
+read_421 : (method : MethodKind) → IsLastResponse method 421 (closing_text 421)
+unfolding are_headers is_token_byte
+read_421 method = read_back method 421 refl closing_closes (framed_421 method)
+
+framed_503 : (method : MethodKind) → IsFramed method 503
+unfolding known_fields elements eq_ignore_case trim_ows
+framed_503 Method.Head = (Framed.NoBody, refl, λ _. (refl, refl, refl))
+framed_503 Method.Connect = (Framed.Length 0, refl, λ _. (refl, refl, refl))
+framed_503 Method.Other = (Framed.Length 0, refl, λ _. (refl, refl, refl))
+
+read_503 : (method : MethodKind) → IsLastResponse method 503 (closing_text 503)
+unfolding are_headers is_token_byte
+read_503 method = read_back method 503 refl closing_closes (framed_503 method)
 
 -- a status that `http1` gives an error is one of three
 abbrev IsReadStatus : ℕ → Type 0
@@ -147,5 +204,14 @@ refusal_is_read method (Unreadable e) = elim (read_status e) [
 refusal_is_read method BodyTooLong = read_413 method
 refusal_is_read method UnknownCoding = read_501 method
 
+rejection_is_read : (method : MethodKind) (why : Rejection)
+    → IsLastResponse method (rejection_status why) (closing_text (rejection_status why))
+rejection_is_read method Unauthorized = read_401 method
+rejection_is_read method Forbidden = read_403 method
+rejection_is_read method UnsupportedMediaType = read_415 method
+rejection_is_read method Misdirected = read_421 method
+rejection_is_read method NotImplemented = read_501 method
+rejection_is_read method Unavailable = read_503 method
+
 pub refusals_are_read : RefusalsAreRead
-refusals_are_read method = (refusal_is_read method, read_500 method)
+refusals_are_read method = (refusal_is_read method, rejection_is_read method, read_500 method)

@@ -14,7 +14,7 @@ use Rattle.http_server.specs.Response.{fields_of}
 use Rattle.http_server.proofs.AnswerLemmas.{not_refused, refused, final_answer, starts_over}
 use Rattle.dav_wire.specs.declared.state.Reason.TheVariants.{Asked, Unsendable}
 use Rattle.dav_wire.specs.declared.state.State.TheVariants.{Closing}
-use Rattle.dav_wire.specs.Exchange.{Exchanges}
+use Rattle.dav_wire.specs.Exchange.{Exchanges, passed}
 use Rattle.dav_wire.specs.History.{History, IsCalledFor, IsServed}
 use Rattle.dav_wire.specs.Place.{Place, IsAnswered, IsRunning, StandsAt, aborted, closed_with, rest_text, after_rest}
 use Rattle.dav_wire.specs.Refusals.{closing_text}
@@ -58,14 +58,14 @@ module _ (p : Place) (h : History) (r : Response) (bodiless : Bool) (x : IsAnswe
   pub stops_after : IsServed p.config (aborted h)
   stops_after =
       let reads = x.whole.request.reads in
-      aborts x.base (inl (record { head = x.whole.message.head; framing = reads.framing; after = reads.after_head; accepts = reads.head })) (inr called)
+      aborts x.base (inl (record { head = x.whole.message.head; framing = reads.framing; after = reads.after_head; accepts = reads.head })) (inr called) (inl x.judged)
 
   pub fails_with : (e : WriteError) → response_refusal p.server r.status (reason_of r.status) (size_of r) (fields_of r) ≡ Some e
       → IsServed p.config (closed_with (Unsendable e) (closing_text 500) h)
   fails_with e why = cannot_send x.base e (record {
     last = called;
     refused = ap (λ s. response_refusal s r.status (reason_of r.status) (size_of r) (fields_of r)) (sym x.whole.server) ∙ why;
-  })
+  }) x.judged
 
   kind : bodiless ≡ is_head (peer_method p.server)
   kind = rw x.whole.server x.whole.kind
@@ -134,6 +134,7 @@ module _ (p : Place) (h : History) (r : Response) (bodiless : Bool) (x : IsAnswe
         after = p.unread;
         exchange = over.0;
         written_is = written_is;
+        judged = x.judged;
       })
     ]
 
@@ -152,6 +153,7 @@ module _ (p : Place) (h : History) (r : Response) (bodiless : Bool) (x : IsAnswe
           written_is = written_is ∙ sym (append-nil _);
         };
         calls = x.calls;
+        judged = x.judged ∙ sym (append-nil _) ∙ ap (λ b. passed h.calls ++ cond b ((p.head, None) ∷ []) []) (sym x.whole.between);
         standing = subst (λ b. StandsAt b (record p { server = new }) p.unread []) (sym x.whole.between)
             (record { server = on.1; unread = refl; body = x.whole.body; silent = refl });
       }

@@ -1,24 +1,25 @@
 -- What holds of a connection, and what each step does to that.
-use Rattle.std.proofs.Common.{◌≡◌, ◌≢◌, ℕ, Bool, false, List, [], ◌++◌, length, refl, sym, ap, ◌∙◌, subst, subst₂, arith, append_assoc, append-nil, take-append-drop, inl, inr, IsTrue, IsFalse}
+use Rattle.std.proofs.Common.{◌≡◌, ◌≢◌, ℕ, Bool, false, List, [], ◌++◌, ◌∷◌, ◌⊎◌, length, Option, Some, None, true, cond, refl, sym, ap, ◌∙◌, subst, subst₂, arith, append_assoc, append-nil, take-append-drop, inl, inr, IsTrue, IsFalse}
 use Rattle.std.proofs.Math.Seq.{take-nil, drop-nil}
 use Rattle.std.proofs.Math.Logic.{∥∥₁_prop, ∥∥₁_elim}
 use denote.Struct.Props.{props}
 use Rattle.http1.specs.declared.error.WriteError.{WriteError}
 use Rattle.http_server.specs.Exchange.{ExpectsContinue, IsInterim}
 use Rattle.http_server.proofs.StreamLemmas.{IsInterim-append}
+use Rattle.dav_wire.specs.declared.answer.Rejection.{Rejection}
 use Rattle.dav_wire.specs.declared.state.Config.{Config}
 use Rattle.dav_wire.specs.declared.line.Line.{Line}
-use Rattle.dav_wire.specs.declared.state.Reason.TheVariants.{Asked, EndOfInput, Refused, Unsendable}
+use Rattle.dav_wire.specs.declared.state.Reason.TheVariants.{Asked, EndOfInput, Refused, Rejected, Unsendable}
 use Rattle.dav_wire.specs.declared.state.Refusal.{Refusal}
 use Rattle.dav_wire.specs.declared.state.Refusal.TheVariants.{Truncated, Unreadable, BodyTooLong, UnknownCoding}
 use Rattle.dav_wire.specs.declared.state.State.{State}
 use Rattle.dav_wire.specs.declared.state.State.TheVariants.{Open, Closing, Aborted}
-use Rattle.dav_wire.specs.Exchange.{Call, Serves}
-use Rattle.dav_wire.specs.History.{History, written, HasWork, IsCalledFor, MayBeCalledFor, IsUnsendable, Stands, IsServed, Rests, new_history, after_sent}
-use Rattle.dav_wire.specs.Place.{Place, place, history_of, Base, IsRunning, HoldsAt, Holds, Standing, IsStarved, aborted, closed_with, Reaches}
-use Rattle.dav_wire.specs.Refusals.{IsRefusedFor, IsStatedWithin, closing_text, refusal_status}
-use Rattle.dav_wire.proofs.Bodies.{Standing-append}
-use Rattle.dav_wire.proofs.Streams.{call_grows, exchange_grows, serves_grows, next_grows, error_grows, work_grows, aligned}
+use Rattle.dav_wire.specs.Exchange.{Call, Judgement, Serves, passed}
+use Rattle.dav_wire.specs.History.{History, written, BeginsWithHead, AreJudged, IsNextJudged, MayGoOn, HasWork, IsCalledFor, MayBeCalledFor, IsUnsendable, Stands, IsServed, Rests, new_history, after_sent}
+use Rattle.dav_wire.specs.Place.{Place, place, history_of, Base, IsRunning, StandsAt, judged_at, HoldsAt, Holds, Standing, IsStarved, aborted, closed_with, Reaches}
+use Rattle.dav_wire.specs.Refusals.{IsRefusedFor, IsStatedWithin, closing_text, refusal_status, rejection_status}
+use Rattle.dav_wire.proofs.Bodies.{Standing-append, begun_some}
+use Rattle.dav_wire.proofs.Streams.{begins_grows, call_grows, exchange_grows, serves_grows, next_grows, error_grows, work_grows, aligned}
 
 -- ---- the states
 
@@ -46,11 +47,37 @@ served_as {config} b k same stands = record {
   stands = stands;
 }
 
+-- ---- what was judged
+
+module _ (p : Place) (h : History) (is : h.judgements ≡ passed h.calls ++ judged_at p) (stream interim : List ℕ) where
+  at_place : (b : Bool) → p.within ≡ b → h.judgements ≡ passed h.calls ++ cond b ((p.head, None) ∷ []) []
+  at_place b within = is ∙ ap (λ w. passed h.calls ++ cond w ((p.head, None) ∷ []) []) within
+
+  may_at : (b : Bool) → p.within ≡ b → StandsAt b p stream interim → MayGoOn p.config.limits h stream
+  may_at true within x = inr (
+    p.head,
+    record { head = x.0.head; framing = x.0.framing; after = x.0.after; accepts = x.0.accepts; text = x.0.text },
+    at_place true within,
+  )
+  may_at false within x = inl (at_place false within ∙ append-nil (passed h.calls))
+
+  none_at : (b : Bool) → p.within ≡ b → StandsAt b p stream interim → stream ≡ [] → AreJudged h
+  none_at true within x none = absurd (begun_some x.0 none)
+  none_at false within x none = at_place false within ∙ append-nil (passed h.calls)
+
+-- the request that is being read may go on
+pub may_go_on : (p : Place) (h : History) (x : IsRunning p h) → MayGoOn p.config.limits h x.base.rest
+may_go_on p h x = may_at p h x.judged x.base.rest x.base.interim p.within refl x.standing
+
+-- where no request is being read no other head was judged
+pub none_judged : (p : Place) (h : History) (x : IsRunning p h) → x.base.rest ≡ [] → AreJudged h
+none_judged p h x none = none_at p h x.judged x.base.rest x.base.interim p.within refl x.standing none
+
 served_running : (p : Place) (h : History) → IsRunning p h → IsServed p.config h
 served_running p h x =
     let b = x.base in
     served_as b h refl
-    (subst (λ s. Stands s p.config h b.answered b.text b.interim b.rest) (sym b.is_open) (x.calls, b.written_is))
+    (subst (λ s. Stands s p.config h b.answered b.text b.interim b.rest) (sym b.is_open) (x.calls, b.written_is, may_go_on p h x))
 
 served_at : (s : State) (p : Place) (h : History) → HoldsAt s p h → IsServed p.config h
 served_at Open p h x = served_running p h x
@@ -59,6 +86,10 @@ served_at Aborted p h x = x
 
 pub served : (l : Line) → Holds l → IsServed l.intake.config (history_of l)
 served l = served_at l.state (place l.intake) (history_of l)
+
+fresh_at : (p : Place) (b : Bool) → StandsAt b p [] [] → ◌≡◌ {A = List Judgement} [] (cond b ((p.head, None) ∷ []) [])
+fresh_at p true x = absurd (begun_some x.0 refl)
+fresh_at p false x = refl
 
 -- nothing came yet
 pub fresh : (p : Place) (h : History) → Standing p [] [] → h ≡ new_history → IsRunning p h
@@ -74,6 +105,7 @@ fresh p h x is = subst (IsRunning p) (sym is) (record {
     written_is = refl;
   };
   calls = refl;
+  judged = fresh_at p p.within x;
   standing = x;
 })
 
@@ -94,8 +126,8 @@ reaches_over new old goes_on config k is same over stops x = record {
 
 -- the same exchanges, where other things have changed
 abbrev pub rebased : {old config : Config} {h : History} → Base old h → config ≡ old → (ended : Bool) (unread : List ℕ) (calls : List Call)
-    → Base config (record h { ended = ended; unread = unread; calls = calls })
-rebased {h} b same ended unread calls = record {
+    (judgements : List Judgement) → Base config (record h { ended = ended; unread = unread; calls = calls; judgements = judgements })
+rebased {h} b same ended unread calls judgements = record {
   is_open = b.is_open;
   answered = b.answered;
   text = b.text;
@@ -112,29 +144,44 @@ module _ {config : Config} {h : History} (b : Base config h) where
   appended : (text : List ℕ) → h.sent ++ (h.pending ++ text) ≡ (b.text ++ b.interim) ++ text
   appended text = sym (append_assoc h.sent h.pending text) ∙ ap (λ (t : List ℕ). t ++ text) b.written_is
 
-  pub aborts : HasWork config.limits h.ended b.rest → MayBeCalledFor config h.calls b.answered b.rest → IsServed config (aborted h)
-  aborts work calls =
+  pub aborts : HasWork config.limits h.ended b.rest → MayBeCalledFor config h.calls b.answered b.rest
+      → AreJudged h ⊎ ((verdict : Option Rejection) × IsNextJudged config.limits h verdict b.rest) → IsServed config (aborted h)
+  aborts work calls judged =
       served_as b (aborted h) refl
-      (record { had_work = work; calls = calls; dropped = refl; lost = h.pending; sent = b.written_is })
+      (record { had_work = work; calls = calls; dropped = refl; lost = h.pending; sent = b.written_is; judged = judged })
 
-  pub refuses : (why : Refusal) → h.calls ≡ b.answered → IsRefusedFor why config h.ended b.rest
+  pub refuses : (why : Refusal) → h.calls ≡ b.answered → IsRefusedFor why config h.ended b.rest → MayGoOn config.limits h b.rest
       → IsServed config (closed_with (Refused why) (closing_text (refusal_status why)) h)
-  refuses why calls is =
+  refuses why calls is judged =
       let text = closing_text (refusal_status why) in
-      served_as b (closed_with (Refused why) text h) refl (calls, is, appended text)
+      served_as b (closed_with (Refused why) text h) refl (calls, is, appended text, judged)
 
-  pub cannot_send : (e : WriteError) → IsUnsendable config e h.calls b.answered b.rest
+  pub cannot_send : (e : WriteError) → IsUnsendable config e h.calls b.answered b.rest → AreJudged h
       → IsServed config (closed_with (Unsendable e) (closing_text 500) h)
-  cannot_send e is = served_as b (closed_with (Unsendable e) (closing_text 500) h) refl (is, appended (closing_text 500))
+  cannot_send e is judged = served_as b (closed_with (Unsendable e) (closing_text 500) h) refl (is, appended (closing_text 500), judged)
 
-  pub ends : h.calls ≡ b.answered → IsTrue h.ended → b.rest ≡ [] → b.interim ≡ []
+  -- the answerer doesn't take the request, before anything was written for it
+  pub rejects : (why : Rejection) → h.calls ≡ b.answered → IsNextJudged config.limits h (Some why) b.rest → b.interim ≡ []
+      → IsServed config (closed_with (Rejected why) (closing_text (rejection_status why)) h)
+  rejects why calls judged silent =
+      let text = closing_text (rejection_status why) in
+      served_as b (closed_with (Rejected why) text h) refl (record {
+        calls_are = calls;
+        judged = judged;
+        silent = silent;
+        written_is =
+            appended text ∙ ap (λ (t : List ℕ). (b.text ++ t) ++ text) silent ∙ ap (λ (t : List ℕ). t ++ text) (append-nil b.text);
+      })
+
+  pub ends : h.calls ≡ b.answered → IsTrue h.ended → b.rest ≡ [] → b.interim ≡ [] → AreJudged h
       → IsServed config (record h { state = Closing EndOfInput })
-  ends calls over whole silent =
+  ends calls over whole silent judged =
       served_as b (record h { state = Closing EndOfInput }) refl (record {
         calls_are = calls;
         ended = over;
         whole = whole;
         written_is = b.written_is ∙ ap (λ (t : List ℕ). b.text ++ t) silent ∙ append-nil b.text;
+        judged = judged;
       })
 
 -- ---- more input
@@ -154,6 +201,13 @@ module _ (config : Config) (h : History) (came : List ℕ) (over : Bool) (going 
     request = call_grows came one.request;
   }
 
+  next_judged_grows : (verdict : Option Rejection) {stream : List ℕ} → IsNextJudged config.limits h verdict stream
+      → IsNextJudged config.limits more verdict (stream ++ came)
+  next_judged_grows verdict one = (one.0, begins_grows came one.1, one.2)
+
+  may_grows : {stream : List ℕ} → MayGoOn config.limits h stream → MayGoOn config.limits more (stream ++ came)
+  may_grows may = elim may [ inl none ↦ inl none | inr one ↦ inr (next_judged_grows None one) ]
+
   refusal_grows : (stream : List ℕ) (why : Refusal) → IsRefusedFor why config h.ended stream
       → IsRefusedFor why config over (stream ++ came)
   refusal_grows stream Truncated is = let ended = is.0 in absurd (cc)
@@ -164,7 +218,7 @@ module _ (config : Config) (h : History) (came : List ℕ) (over : Bool) (going 
   module _ (answered : List Call) (text interim rest : List ℕ) where
     stands_grows : (s : State) → Stands s config h answered text interim rest
         → Stands s config more answered text interim (rest ++ came)
-    stands_grows Open says = says
+    stands_grows Open says = (says.0, says.1, may_grows says.2)
     stands_grows (Closing Asked) says = record {
       call = says.call;
       calls_are = says.calls_are;
@@ -172,16 +226,24 @@ module _ (config : Config) (h : History) (came : List ℕ) (over : Bool) (going 
       after = says.after ++ came;
       exchange = exchange_grows came says.exchange;
       written_is = says.written_is;
+      judged = says.judged;
     }
     stands_grows (Closing EndOfInput) says = let ended = says.ended in absurd (cc)
-    stands_grows (Closing (Refused why)) says = (says.0, refusal_grows rest why says.1, says.2)
-    stands_grows (Closing (Unsendable e)) says = (record { last = called_grows says.0.last; refused = says.0.refused }, says.1)
+    stands_grows (Closing (Refused why)) says = (says.0, refusal_grows rest why says.1, says.2, may_grows says.3)
+    stands_grows (Closing (Rejected why)) says = record {
+      calls_are = says.calls_are;
+      judged = next_judged_grows (Some why) says.judged;
+      silent = says.silent;
+      written_is = says.written_is;
+    }
+    stands_grows (Closing (Unsendable e)) says = (record { last = called_grows says.0.last; refused = says.0.refused }, says.1, says.2)
     stands_grows Aborted says = record {
       had_work = work_grows came rest going says.had_work;
       calls = elim says.calls [ inl none ↦ inl none | inr one ↦ inr (called_grows one) ];
       dropped = says.dropped;
       lost = says.lost;
       sent = says.sent;
+      judged = elim says.judged [ inl none ↦ inl none | inr one ↦ inr (one.0, next_judged_grows one.0 one.1) ];
     }
 
   served_grows : IsServed config h → IsServed config more
@@ -211,6 +273,7 @@ module _ (p : Place) (h : History) (came : List ℕ) (over : Bool) (going : h.en
           written_is = b.written_is;
         };
         calls = run.calls;
+        judged = run.judged;
         standing = Standing-append p b.rest b.interim came run.standing;
       }
 
@@ -228,7 +291,7 @@ module _ (h : History) (count : ℕ) where
   module _ (config : Config) (answered : List Call) (text interim rest : List ℕ) where
     stands_still : (s : State) → Stands s config h answered text interim rest
         → Stands s config (after_sent h count) answered text interim rest
-    stands_still Open says = (says.0, written_still ∙ says.1)
+    stands_still Open says = (says.0, written_still ∙ says.1, says.2)
     stands_still (Closing Asked) says = record {
       call = says.call;
       calls_are = says.calls_are;
@@ -236,17 +299,30 @@ module _ (h : History) (count : ℕ) where
       after = says.after;
       exchange = says.exchange;
       written_is = written_still ∙ says.written_is;
+      judged = says.judged;
     }
-    stands_still (Closing EndOfInput) says =
-        record { calls_are = says.calls_are; ended = says.ended; whole = says.whole; written_is = written_still ∙ says.written_is }
-    stands_still (Closing (Refused why)) says = (says.0, says.1, written_still ∙ says.2)
-    stands_still (Closing (Unsendable e)) says = (says.0, written_still ∙ says.1)
+    stands_still (Closing EndOfInput) says = record {
+      calls_are = says.calls_are;
+      ended = says.ended;
+      whole = says.whole;
+      written_is = written_still ∙ says.written_is;
+      judged = says.judged;
+    }
+    stands_still (Closing (Refused why)) says = (says.0, says.1, written_still ∙ says.2, says.3)
+    stands_still (Closing (Rejected why)) says = record {
+      calls_are = says.calls_are;
+      judged = says.judged;
+      silent = says.silent;
+      written_is = written_still ∙ says.written_is;
+    }
+    stands_still (Closing (Unsendable e)) says = (says.0, written_still ∙ says.1, says.2)
     stands_still Aborted says = record {
       had_work = says.had_work;
       calls = says.calls;
       dropped = rw says.dropped (drop-nil count);
       lost = says.lost;
       sent = rw (says.dropped, take-nil, append-nil) says.sent;
+      judged = says.judged;
     }
 
   served_still : {config : Config} → IsServed config h → IsServed config (after_sent h count)
@@ -275,6 +351,7 @@ sends p h count Open run =
         written_is = written_still h count ∙ b.written_is;
       };
       calls = run.calls;
+      judged = run.judged;
       standing = run.standing;
     }
 sends p h count (Closing why) had = served_still h count had
@@ -282,9 +359,10 @@ sends p h count Aborted had = served_still h count had
 
 -- ---- nothing is left to do
 
-pub rests : (p : Place) (h : History) (b : Base p.config h) → h.calls ≡ b.answered → IsStarved p b.rest b.interim → IsFalse h.ended
+pub rests : (p : Place) (h : History) (b : Base p.config h) → h.calls ≡ b.answered
+    → h.judgements ≡ passed h.calls ++ judged_at p → IsStarved p b.rest b.interim → IsFalse h.ended
     → Rests p.config h
-rests p h b calls x going is_open room = (
+rests p h b calls judged x going is_open room = (
   going,
   λ ms rest z. elim (aligned p.config b.answered ms h.received b.text b.serves z) [
     | inl fits ↦ omega (arith, fits.0, ap length calls)
@@ -300,6 +378,13 @@ rests p h b calls x going is_open room = (
     | inl fits ↦ subst (IsStatedWithin p.config) (sym (fits.1 (count ∙ ap length calls))) x.within
     | inr more ↦ absurd (x.unfinished more.0 more.1 more.2)
   ],
+  λ ms rest z count bytes begins. elim (aligned p.config b.answered ms h.received b.text b.serves z) [
+    | inl fits ↦
+        let same = fits.1 (count ∙ ap length calls) in
+        let it = x.judged bytes (subst (λ (t : List ℕ). BeginsWithHead p.config.limits t bytes) same begins) in
+        ∣ judged ∙ ap (λ (t : List Judgement). passed h.calls ++ t) it ∣₁
+    | inr more ↦ absurd (x.unfinished more.0 more.1 more.2)
+  ],
 )
 
 -- what it says leaves nothing to choose
@@ -309,4 +394,5 @@ settled config h x is_open room = (
   λ ms rest z. ∥∥₁_elim x (search props) (λ r. (r is_open room).1 ms rest z),
   λ ms rest z count waits. ∥∥₁_elim x ∥∥₁_prop (λ r. (r is_open room).2 ms rest z count waits),
   λ ms rest z count k len after w. ∥∥₁_elim x (search props) (λ r. (r is_open room).3 ms rest z count k len after w),
+  λ ms rest z count bytes begins. ∥∥₁_elim x ∥∥₁_prop (λ r. (r is_open room).4 ms rest z count bytes begins),
 )

@@ -1,5 +1,6 @@
 -- Streams that grow, and the exchanges of their requests.
-use Rattle.std.proofs.Common.{◌≡◌, ℕ, ◌≤◌, ◌⊎◌, Bool, true, List, [], ◌∷◌, ◌++◌, length, refl, sym, ◌∙◌, subst, subst₂, arith, append_assoc, append-nil, inl, inr, IsFalse}
+use Rattle.std.proofs.Common.{◌≡◌, ℕ, ◌≤◌, ◌⊎◌, Bool, true, List, [], ◌∷◌, ◌++◌, length, Option, refl, sym, ap, ◌∙◌, subst, subst₂, arith, append_assoc, append-nil, inl, inr, IsFalse}
+use Rattle.std.proofs.lemmas.Grind.{flat_map-append}
 use Rattle.http1.specs.declared.conn.Limits.{Limits}
 use Rattle.http1.specs.declared.error.ReadError.{ReadError}
 use Rattle.http1.specs.Message as Wire
@@ -9,9 +10,10 @@ use Rattle.http_server.specs.declared.response.Response.{Response}
 use Rattle.http_server.specs.History.{NextIs, IsReadError}
 use Rattle.http_server.proofs.StreamLemmas.{AcceptsRequest-append, ReadsRequestMessage-append, IsInterim-append}
 use Rattle.dav_wire.specs.declared.answer.Asked.{Asked}
+use Rattle.dav_wire.specs.declared.answer.Rejection.{Rejection}
 use Rattle.dav_wire.specs.declared.state.Config.{Config}
-use Rattle.dav_wire.specs.Exchange.{Call, ReadsCall, Chain, Calls, Exchanges, Serves}
-use Rattle.dav_wire.specs.History.{HasWork}
+use Rattle.dav_wire.specs.Exchange.{Act, judged, answered, Call, Judgement, ReadsCall, Chain, Exchanges, Serves, call_in, calls_in, judgement_in, judgements_in}
+use Rattle.dav_wire.specs.History.{Acts, BeginsWithHead, HasWork, History}
 
 -- what comes later follows the rest
 pub after_front : {X : Type 0} {all : List X} (front rest came : List X) → all ≡ front ++ rest → all ++ came ≡ front ++ (rest ++ came)
@@ -75,6 +77,17 @@ module _ (came : List ℕ) where
     | inr late ↦ let still = AcceptsRequest-append late.3 came in inr (late.0, late.1, _, still)
   ]
 
+  -- the head that begins a stream
+  pub begins_grows : {limits : Limits} {stream bytes : List ℕ} → BeginsWithHead limits stream bytes
+      → BeginsWithHead limits (stream ++ came) bytes
+  begins_grows {bytes} b = record {
+    head = b.head;
+    framing = b.framing;
+    after = b.after ++ came;
+    accepts = AcceptsRequest-append b.accepts came;
+    text = after_front bytes b.after came b.text;
+  }
+
   -- before the end of the input, work is a head, or that no request can come
   pub work_grows : {limits : Limits} {ended over : Bool} (stream : List ℕ) → IsFalse ended → HasWork limits ended stream
       → HasWork limits over (stream ++ came)
@@ -136,14 +149,38 @@ module _ (config : Config) where
 
 -- ---- what the answerer did
 
-module _ {S : Type 0} (answers : S → Asked → Response → S → Type 0) where
-  module _ (later : List Call) (b c : S) (then_ : Chain answers b later c) where
-    chain_on : (calls : List Call) (a : S) → Chain answers a calls b → Chain answers a (calls ++ later) c
-    chain_on [] a same = subst (λ s. Chain answers s later c) same then_
-    chain_on (call ∷ calls) a these = (these.0, these.1, chain_on calls these.0 these.2)
+module _ {S : Type 0} (judges : S → List ℕ → Option Rejection → S → Type 0) (answers : S → Asked → Response → S → Type 0) where
+  module _ (later : List Act) (b c : S) (then_ : Chain judges answers b later c) where
+    chain_on : (acts : List Act) (a : S) → Chain judges answers a acts b → Chain judges answers a (acts ++ later) c
+    chain_on [] a same = subst (λ s. Chain judges answers s later c) same then_
+    chain_on (act ∷ acts) a these = (these.0, these.1, chain_on acts these.0 these.2)
 
-  -- more calls, from the state that these lead to
-  pub calls_on : (a b c : S) (old : List Call) {mid new : List Call} → Calls answers a b old mid → Calls answers b c mid new
-      → Calls answers a c old new
-  calls_on a b c old these those =
-      (these.0 ++ those.0, those.1 ∙ after_front old these.0 those.0 these.1, chain_on those.0 b c those.2 these.0 a these.2)
+  -- more acts, from the state that these lead to
+  pub acts_on : (a b c : S) (old mid new : History) → Acts judges answers a b old mid → Acts judges answers b c mid new
+      → Acts judges answers a c old new
+  acts_on a b c old mid new these those = (
+    these.0 ++ those.0,
+    those.1 ∙ after_front old.calls (calls_in these.0) (calls_in those.0) these.1
+        ∙ ap (λ (t : List Call). old.calls ++ t) (sym (flat_map-append call_in these.0 those.0)),
+    those.2 ∙ after_front old.judgements (judgements_in these.0) (judgements_in those.0) these.2
+        ∙ ap (λ (t : List Judgement). old.judgements ++ t) (sym (flat_map-append judgement_in these.0 those.0)),
+    chain_on those.0 b c those.3 these.0 a these.3,
+  )
+
+  -- no act
+  pub acts_none : (a b : S) (old new : History) → new.calls ≡ old.calls → new.judgements ≡ old.judgements → b ≡ a
+      → Acts judges answers a b old new
+  acts_none a b old new calls judgements same =
+      ([], calls ∙ sym (append-nil old.calls), judgements ∙ sym (append-nil old.judgements), same)
+
+  -- a head was judged
+  pub acts_judged : (a b : S) (old new : History) (j : Judgement) → new.calls ≡ old.calls → new.judgements ≡ old.judgements ++ j ∷ []
+      → judges a j.0 j.1 b → Acts judges answers a b old new
+  acts_judged a b old new j calls judgements did =
+      (judged j ∷ [], calls ∙ sym (append-nil old.calls), judgements, (b, did, refl))
+
+  -- a request was answered
+  pub acts_answered : (a b : S) (old new : History) (c : Call) → new.calls ≡ old.calls ++ c ∷ [] → new.judgements ≡ old.judgements
+      → answers a c.0 c.1 b → Acts judges answers a b old new
+  acts_answered a b old new c calls judgements did =
+      (answered c ∷ [], calls, judgements ∙ sym (append-nil old.judgements), (b, did, refl))

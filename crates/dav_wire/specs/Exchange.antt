@@ -1,5 +1,5 @@
 -- Requests of HTTP/1.1's grammar as they are handed over, and the bytes that answer them (RFC 9112).
-use Rattle.std.specs.Prelude.{◌≡◌, ℕ, ◌≤◌, ◌||◌, Bool, true, not, List, [], ◌∷◌, ◌++◌, length, codes, bytes_eq, if◌then◌else◌, IsFalse}
+use Rattle.std.specs.Prelude.{◌≡◌, ℕ, ◌≤◌, ◌||◌, Bool, true, not, List, [], ◌∷◌, ◌++◌, length, map, flat_map, Option, None, codes, bytes_eq, if◌then◌else◌, IsFalse}
 use Rattle.httparse.specs.Grammar.{RequestHead}
 use Rattle.http1.specs.declared.conn.Limits.{Limits}
 use Rattle.http1.specs.Message as Wire
@@ -8,6 +8,7 @@ use Rattle.http_server.specs.declared.response.Response.{Response}
 use Rattle.http_server.specs.declared.state.TheConstants.{MAX_HEADERS}
 use Rattle.http_server.specs.Exchange.{IsInterim, IsAnswer, keeps_open}
 use Rattle.dav_wire.specs.declared.answer.Asked.{Asked}
+use Rattle.dav_wire.specs.declared.answer.Rejection.{Rejection}
 use Rattle.dav_wire.specs.declared.state.Config.{Config}
 
 -- a method whose body is an element tree (RFC 4918, sections 9.1, 9.2 and 9.10)
@@ -32,15 +33,51 @@ pub record ReadsCall (config : Config) (stream : List ℕ) (m : Wire.Request) (a
 abbrev pub Call : Type 0
 Call = Asked × Response
 
--- one call after the other, these take the answerer from the first state to the last
-abbrev pub Chain : {S : Type 0} → (S → Asked → Response → S → Type 0) → S → List Call → S → Type 0
-Chain answers first [] last = last ≡ first
-Chain {S} answers first (call ∷ calls) last =
-    (second : S) × answers first call.0 call.1 second × Chain answers second calls last
+-- the bytes of a head that the answerer was given, and why it doesn't take the request, if so
+abbrev pub Judgement : Type 0
+Judgement = List ℕ × Option Rejection
 
--- the calls that were added lead from one state of the answerer to the other
-abbrev pub Calls : {S : Type 0} → (S → Asked → Response → S → Type 0) → S → S → List Call → List Call → Type 0
-Calls answers first last before after = (added : List Call) × (after ≡ before ++ added) × Chain answers first added last
+-- the judgements of these requests, each of which may go on
+abbrev pub passed : List Call → List Judgement
+passed calls = map (λ (c : Call). (c.0.head, None)) calls
+
+-- what an answerer does: it judges the head of a request, or answers a request
+pub data Act : Type 0 where
+  judged : Judgement → Act
+  answered : Call → Act
+
+abbrev pub judgement_in : Act → List Judgement
+judgement_in (judged judgement) = judgement ∷ []
+judgement_in (answered call) = []
+
+abbrev pub call_in : Act → List Call
+call_in (judged judgement) = []
+call_in (answered call) = call ∷ []
+
+-- the judgements and the calls among these acts, in their order
+abbrev pub judgements_in : List Act → List Judgement
+judgements_in acts = flat_map judgement_in acts
+
+abbrev pub calls_in : List Act → List Call
+calls_in acts = flat_map call_in acts
+
+-- how judging a head, and answering a request, lead from state to state of an answerer
+abbrev pub Judging : Type 0 → Type 1
+Judging S = S → List ℕ → Option Rejection → S → Type 0
+
+abbrev pub Answering : Type 0 → Type 1
+Answering S = S → Asked → Response → S → Type 0
+
+-- an act takes the answerer from the first state to the second
+abbrev pub Does : {S : Type 0} → Judging S → Answering S → S → Act → S → Type 0
+Does judges answers first (judged judgement) second = judges first judgement.0 judgement.1 second
+Does judges answers first (answered call) second = answers first call.0 call.1 second
+
+-- one act after the other, these take the answerer from the first state to the last
+abbrev pub Chain : {S : Type 0} → Judging S → Answering S → S → List Act → S → Type 0
+Chain judges answers first [] last = last ≡ first
+Chain {S} judges answers first (act ∷ acts) last =
+    (second : S) × Does judges answers first act second × Chain judges answers second acts last
 
 -- The text is all that is sent for the request with this head that begins the stream: `100 Continue`, where the head asks for
 -- that, or nothing, and then the answer, which its client reads whole. It says `close` where the request or the response asks

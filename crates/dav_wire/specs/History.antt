@@ -1,5 +1,5 @@
 -- What came and went over a connection, and what always holds of that.
-use Rattle.std.specs.Prelude.{◌≡◌, ℕ, ◌≤◌, ◌⊎◌, Bool, false, List, [], ◌∷◌, ◌++◌, length, take, drop, Some, IsTrue, IsFalse, if◌then◌else◌, ◌==◌}
+use Rattle.std.specs.Prelude.{◌≡◌, ℕ, ◌≤◌, ◌⊎◌, Bool, false, List, [], ◌∷◌, ◌++◌, length, take, drop, Some, IsTrue, IsFalse, Option, None, if◌then◌else◌, ◌==◌}
 use Rattle.httparse.specs.Grammar.{RequestHead}
 use Rattle.http1.specs.declared.conn.Limits.{Limits}
 use Rattle.http1.specs.declared.error.WriteError.{WriteError}
@@ -12,12 +12,13 @@ use Rattle.http_server.specs.Encoding.{answering, size_of}
 use Rattle.http_server.specs.Exchange.{ExpectsContinue, continue_text, IsInterim}
 use Rattle.http_server.specs.History.{NextIs, HasTooManyFields}
 use Rattle.http_server.specs.Response.{fields_of}
+use Rattle.dav_wire.specs.declared.answer.Rejection.{Rejection}
 use Rattle.dav_wire.specs.declared.state.Config.{Config}
 use Rattle.dav_wire.specs.declared.state.State.{State}
 use Rattle.dav_wire.specs.declared.state.State.TheVariants.{Open, Closing, Aborted}
-use Rattle.dav_wire.specs.declared.state.Reason.TheVariants.{Asked, EndOfInput, Refused, Unsendable}
-use Rattle.dav_wire.specs.Exchange.{Call, ReadsCall, Exchanges, Serves}
-use Rattle.dav_wire.specs.Refusals.{IsRefusedFor, IsStatedWithin, closing_text, refusal_status}
+use Rattle.dav_wire.specs.declared.state.Reason.TheVariants.{Asked, EndOfInput, Refused, Rejected, Unsendable}
+use Rattle.dav_wire.specs.Exchange.{Call, Judgement, Judging, Answering, Act, Chain, ReadsCall, Exchanges, Serves, calls_in, judgements_in, passed}
+use Rattle.dav_wire.specs.Refusals.{IsRefusedFor, IsStatedWithin, closing_text, refusal_status, rejection_status}
 
 pub record History : Type 0 where
   pub state : State
@@ -27,6 +28,8 @@ pub record History : Type 0 where
   pub unread : List ℕ
   -- each request that was handed over, with its response
   pub calls : List Call
+  -- each head that was judged, with its verdict
+  pub judgements : List Judgement
   -- all that was sent, and what waits for that
   pub sent : List ℕ
   pub pending : List ℕ
@@ -41,6 +44,29 @@ pub record BeginsRequest (limits : Limits) (stream : List ℕ) : Type 0 where
   pub framing : Framing
   pub after : List ℕ
   pub accepts : AcceptsRequest limits stream head framing after
+
+-- the stream begins with these bytes, which are the head of a request
+pub record BeginsWithHead (limits : Limits) (stream bytes : List ℕ) : Type 0 where
+  pub head : RequestHead
+  pub framing : Framing
+  pub after : List ℕ
+  pub accepts : AcceptsRequest limits stream head framing after
+  pub text : stream ≡ bytes ++ after
+
+-- The heads that were judged are those of the requests that were handed over, the very bytes of each
+-- once and in that order. Each of these may go on.
+abbrev pub AreJudged : History → Type 0
+AreJudged h = h.judgements ≡ passed h.calls
+
+-- after them the head that begins the stream was judged, with this verdict
+abbrev pub IsNextJudged : Limits → History → Option Rejection → List ℕ → Type 0
+IsNextJudged limits h verdict stream =
+    (bytes : List ℕ) × BeginsWithHead limits stream bytes
+    × (h.judgements ≡ passed h.calls ++ (bytes, verdict) ∷ [])
+
+-- and the request that begins the stream may go on, or wasn't judged yet
+abbrev pub MayGoOn : Limits → History → List ℕ → Type 0
+MayGoOn limits h stream = AreJudged h ⊎ IsNextJudged limits h None stream
 
 -- There is something to do: a head came whole, or the input ended, or no request can come of what came.
 abbrev pub HasWork : Limits → Bool → List ℕ → Type 0
@@ -72,6 +98,7 @@ pub record IsLast (config : Config) (h : History) (answered : List Call) (text r
   pub after : List ℕ
   pub exchange : Exchanges config false rest call last after
   pub written_is : written h ≡ text ++ last
+  pub judged : AreJudged h
 
 -- the input ended after the last of these requests
 pub record IsAtEnd (h : History) (answered : List Call) (text rest : List ℕ) : Type 0 where
@@ -79,6 +106,7 @@ pub record IsAtEnd (h : History) (answered : List Call) (text rest : List ℕ) :
   pub ended : IsTrue h.ended
   pub whole : rest ≡ []
   pub written_is : written h ≡ text
+  pub judged : AreJudged h
 
 -- Memory ran out or the answerer stopped, where there was something to do. What waited is lost.
 pub record IsAborted (config : Config) (h : History) (answered : List Call) (text rest : List ℕ) : Type 0 where
@@ -87,17 +115,33 @@ pub record IsAborted (config : Config) (h : History) (answered : List Call) (tex
   pub dropped : h.pending ≡ []
   pub lost : List ℕ
   pub sent : h.sent ++ lost ≡ text
+  pub judged :
+      AreJudged h ⊎ ((verdict : Option Rejection) × IsNextJudged config.limits h verdict rest)
+
+-- The request that begins the stream isn't taken, as the answerer judged of the very bytes of its
+-- head before anything was written for it. Nothing of it was handed over.
+pub record IsRejected (why : Rejection) (config : Config) (h : History) (answered : List Call)
+    (text interim rest : List ℕ) : Type 0 where
+  pub calls_are : h.calls ≡ answered
+  pub judged : IsNextJudged config.limits h (Some why) rest
+  pub silent : interim ≡ []
+  pub written_is : written h ≡ text ++ closing_text (rejection_status why)
 
 -- What each state says, after the calls that were answered by the text and the interim response to the request that begins
 -- the rest of the stream.
 abbrev pub Stands : State → Config → History → List Call → List ℕ → List ℕ → List ℕ → Type 0
-Stands Open config h answered text interim rest = (h.calls ≡ answered) × (written h ≡ text ++ interim)
+Stands Open config h answered text interim rest =
+    (h.calls ≡ answered) × (written h ≡ text ++ interim) × MayGoOn config.limits h rest
 Stands (Closing Asked) config h answered text interim rest = IsLast config h answered text rest
 Stands (Closing EndOfInput) config h answered text interim rest = IsAtEnd h answered text rest
 Stands (Closing (Refused why)) config h answered text interim rest =
     (h.calls ≡ answered) × IsRefusedFor why config h.ended rest × (written h ≡ (text ++ interim) ++ closing_text (refusal_status why))
+    × MayGoOn config.limits h rest
+Stands (Closing (Rejected why)) config h answered text interim rest =
+    IsRejected why config h answered text interim rest
 Stands (Closing (Unsendable e)) config h answered text interim rest =
     IsUnsendable config e h.calls answered rest × (written h ≡ (text ++ interim) ++ closing_text 500)
+    × AreJudged h
 Stands Aborted config h answered text interim rest = IsAborted config h answered (text ++ interim) rest
 
 -- At any time what came begins with the requests of the first calls, what was written begins with their answers, in
@@ -130,11 +174,18 @@ IsInvited limits h =
 abbrev pub IsNextWithin : Config → History → Type 0
 IsNextWithin config h = RestIs config.limits h (IsStatedWithin config)
 
+-- the head of that request was judged, once it came whole
+abbrev pub IsNextHeadJudged : Limits → History → Type 0
+IsNextHeadJudged limits h =
+    RestIs limits h (λ rest. (bytes : List ℕ) → BeginsWithHead limits rest bytes
+    → ∥ (h.judgements ≡ passed h.calls ++ (bytes, None) ∷ []) ∥₁)
+
 -- an open connection with room in its output waits for input, and for that alone
 abbrev pub Rests : Config → History → Type 0
 Rests config h =
     h.state ≡ Open → length h.pending ≤ config.max_pending
     → IsFalse h.ended × AreAllCalled config.limits h × IsInvited config.limits h × IsNextWithin config h
+    × IsNextHeadJudged config.limits h
 
 -- nothing was taken and nothing was sent
 abbrev pub IsQuiet : History → History → Type 0
@@ -152,4 +203,11 @@ after_sent h count = record h { sent = h.sent ++ take count h.pending; pending =
 
 -- nothing came yet
 abbrev pub new_history : History
-new_history = record { state = Open; received = []; ended = false; unread = []; calls = []; sent = []; pending = [] }
+new_history = record { state = Open; received = []; ended = false; unread = []; calls = []; judgements = []; sent = []; pending = [] }
+
+-- What the answerer did, from one state to the other, are the judgements and the calls that were
+-- added to the history.
+abbrev pub Acts : {S : Type 0} → Judging S → Answering S → S → S → History → History → Type 0
+Acts judges answers first last old new =
+    (acts : List Act) × (new.calls ≡ old.calls ++ calls_in acts)
+    × (new.judgements ≡ old.judgements ++ judgements_in acts) × Chain judges answers first acts last

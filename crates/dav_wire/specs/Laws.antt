@@ -8,11 +8,12 @@ use Rattle.http1.specs.Message.{known_of, ReadsResponseMessage}
 use Rattle.http_server.specs.declared.state.TheConstants.{MAX_HEADERS}
 use Rattle.dav_wire.specs.declared.state.Config.{Config}
 use Rattle.dav_wire.specs.declared.answer.Asked.{Asked}
+use Rattle.dav_wire.specs.declared.answer.Rejection.{Rejection}
 use Rattle.dav_wire.specs.declared.state.Refusal.{Refusal}
 use Rattle.dav_wire.specs.declared.state.State.TheVariants.{Open}
 use Rattle.dav_wire.specs.Exchange.{Call, ReadsCall}
 use Rattle.dav_wire.specs.History.{History, IsServed, Rests}
-use Rattle.dav_wire.specs.Refusals.{closing_text, refusal_status}
+use Rattle.dav_wire.specs.Refusals.{closing_text, refusal_status, rejection_status}
 
 -- these bytes, by themselves, are this head and no other, within the limits of length and of fields
 pub record IsHeadAlone (config : Config) (bytes : List ℕ) (h : RequestHead) : Type 0 where
@@ -60,9 +61,11 @@ pub record IsLastResponse (method : MethodKind) (status : ℕ) (text : List ℕ)
   pub closes : IsTrue (known_of message.head.fields).close
   pub body : message.body.bytes ≡ []
 
--- Each refusal, and the 500 where a response can't be sent, is read by the client as what it is.
+-- Each refusal and rejection, and the 500 where a response can't be sent, is read by the client as
+-- what it is.
 abbrev pub RefusalsAreRead : Type 0
 RefusalsAreRead =
     (method : MethodKind)
     → ((why : Refusal) → IsLastResponse method (refusal_status why) (closing_text (refusal_status why)))
+    × ((why : Rejection) → IsLastResponse method (rejection_status why) (closing_text (rejection_status why)))
     × IsLastResponse method 500 (closing_text 500)

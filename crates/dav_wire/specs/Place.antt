@@ -1,5 +1,5 @@
 -- Where the reader of a connection is in the stream between two steps, and what is true there.
-use Rattle.std.specs.Prelude.{◌≡◌, ◌≢◌, ℕ, ◌+◌, ◌*◌, ◌<◌, ◌≤◌, Bool, true, false, List, [], ◌∷◌, ◌++◌, length, take, drop, flat_map, if◌then◌else◌, IsTrue, IsFalse}
+use Rattle.std.specs.Prelude.{◌≡◌, ◌≢◌, ℕ, ◌+◌, ◌*◌, ◌<◌, ◌≤◌, Bool, true, false, List, [], ◌∷◌, ◌++◌, length, map, take, drop, flat_map, None, if◌then◌else◌, IsTrue, IsFalse}
 use Rattle.httparse.specs.Grammar.{RequestHead}
 use Rattle.httparse.specs.Spans.{span_bytes}
 use Rattle.httparse.specs.declared.spans.HeaderSpan.{HeaderSpan}
@@ -31,8 +31,8 @@ use Rattle.dav_wire.specs.declared.line.Line.{Line}
 use Rattle.dav_wire.specs.declared.state.Reason.{Reason}
 use Rattle.dav_wire.specs.declared.state.State.{State}
 use Rattle.dav_wire.specs.declared.state.State.TheVariants.{Open, Closing, Aborted}
-use Rattle.dav_wire.specs.Exchange.{Call, ReadsCall, Serves, most_of}
-use Rattle.dav_wire.specs.History.{History, written, HasWork, IsServed, Rests}
+use Rattle.dav_wire.specs.Exchange.{Call, Judgement, ReadsCall, Serves, most_of, passed}
+use Rattle.dav_wire.specs.History.{History, BeginsWithHead, written, HasWork, IsServed, Rests}
 use Rattle.dav_wire.specs.Refusals.{IsRefusedFor, IsStatedWithin}
 
 -- the part of an intake of which the invariant speaks
@@ -96,12 +96,27 @@ StandsAt false p stream interim = IsBetween p stream interim
 abbrev pub Standing : Place → List ℕ → List ℕ → Type 0
 Standing p stream interim = StandsAt p.within p stream interim
 
--- the stream has no whole request, and the one that begins it was invited if it waits for that
+-- what was judged of the request that is being read: its head, once that came, and it may go on
+abbrev pub judged_at : Place → List Judgement
+judged_at p = if p.within then (p.head, None) ∷ [] else []
+
+-- The stream has no whole request. Of the one that begins it the head was judged, where that came,
+-- and its sender was invited, where it waits for that.
 pub record IsStarved (p : Place) (stream interim : List ℕ) : Type 0 where
   pub standing : Standing p stream interim
   pub unfinished : HasNoMessage p.config.limits stream
   pub invited : ExpectsContinue p.config.limits stream → interim ≡ continue_text
   pub within : IsStatedWithin p.config stream
+  pub judged : (bytes : List ℕ) → BeginsWithHead p.config.limits stream bytes
+      → judged_at p ≡ (bytes, None) ∷ []
+
+-- The head of the request that begins the stream was read, and nothing was written for it. Once it
+-- is judged its sender is invited, if it waits for that.
+pub record IsHeadRead (p : Place) (stream interim : List ℕ) (waits : Bool) : Type 0 where
+  pub silent : interim ≡ []
+  pub within : p.within ≡ true
+  pub standing : Standing p stream (if waits then continue_text else [])
+  pub invites : IsTrue waits → ExpectsContinue p.config.limits stream
 
 -- the request that begins the stream was read whole
 pub record IsWhole (p : Place) (stream : List ℕ) (asked : Asked) (bodiless : Bool) : Type 0 where
@@ -116,15 +131,19 @@ pub record IsWhole (p : Place) (stream : List ℕ) (asked : Asked) (bodiless : B
 abbrev pub work : Place → ℕ
 work p = 2 * length p.unread + (if p.within then 1 else 0)
 
--- What was found at a place with so much work, in the stream for whose first request this much was written, and the place after that.
-abbrev pub Finds : Found → Bool → ℕ → Place → List ℕ → List ℕ → Type 0
-Finds found.Nothing ended before p stream interim = IsStarved p stream interim × IsFalse ended
-Finds found.End ended before p stream interim = IsTrue ended × (stream ≡ []) × (interim ≡ [])
-Finds found.Part ended before p stream interim = Standing p stream interim × (work p < before)
-Finds found.Invitation ended before p stream interim =
-    (interim ≡ []) × Standing p stream continue_text × ExpectsContinue p.config.limits stream × (work p < before)
-Finds (found.Request asked bodiless) ended before p stream interim = IsWhole p stream asked bodiless × (work p < before)
-Finds (found.Refused why) ended before p stream interim =
+-- What was found at a place with so much work, in the stream for whose first request this was judged
+-- and this much was written, and the place after that.
+abbrev pub Finds : Found → Bool → List Judgement → ℕ → Place → List ℕ → List ℕ → Type 0
+Finds found.Nothing ended judged before p stream interim =
+    IsStarved p stream interim × IsFalse ended × (judged_at p ≡ judged)
+Finds found.End ended judged before p stream interim = IsTrue ended × (stream ≡ []) × (interim ≡ [])
+Finds (found.Head waits) ended judged before p stream interim =
+    IsHeadRead p stream interim waits × (judged ≡ []) × (work p < before)
+Finds found.Part ended judged before p stream interim =
+    Standing p stream interim × (judged_at p ≡ judged) × (work p < before)
+Finds (found.Request asked bodiless) ended judged before p stream interim =
+    IsWhole p stream asked bodiless × (judged ≡ (asked.head, None) ∷ []) × (work p < before)
+Finds (found.Refused why) ended judged before p stream interim =
     IsRefusedFor why p.config ended stream × HasWork p.config.limits ended stream
 
 -- a head was read at the start of the stream, and is still among the bytes
@@ -169,6 +188,7 @@ history_of l = record {
   ended = l.intake.ended;
   unread = l.intake.input.items;
   calls = l.calls.items;
+  judgements = map (λ j. (j.0.items, j.1)) l.judgements.items;
   sent = flat_map (λ w. take w.1 w.0.items) l.writes.items;
   pending = l.output.items;
 }
@@ -187,6 +207,7 @@ pub record Base (config : Config) (h : History) : Type 0 where
 pub record IsRunning (p : Place) (h : History) : Type 0 where
   pub base : Base p.config h
   pub calls : h.calls ≡ base.answered
+  pub judged : h.judgements ≡ passed h.calls ++ judged_at p
   pub standing : Standing p base.rest base.interim
 
 -- what is true of a connection in each state
@@ -210,10 +231,18 @@ invited h = record h { pending = h.pending ++ continue_text }
 abbrev pub closed_with : Reason → List ℕ → History → History
 closed_with why text h = record h { state = Closing why; pending = h.pending ++ text }
 
+-- a head was read, and is given to the answerer
+pub record IsAtHead (p : Place) (h : History) (waits : Bool) : Type 0 where
+  pub base : Base p.config h
+  pub calls : h.calls ≡ base.answered
+  pub judged : h.judgements ≡ passed h.calls
+  pub read : IsHeadRead p base.rest base.interim waits
+
 -- a request was given to the answerer
 pub record IsGiven (p : Place) (h : History) (asked : Asked) (bodiless : Bool) : Type 0 where
   pub base : Base p.config h
   pub calls : h.calls ≡ base.answered
+  pub judged : h.judgements ≡ passed h.calls ++ (asked.head, None) ∷ []
   pub whole : IsWhole p base.rest asked bodiless
 
 -- and it gave this response
@@ -221,6 +250,7 @@ pub record IsAnswered (p : Place) (h : History) (response : Response) (bodiless 
   pub base : Base p.config h
   pub asked : Asked
   pub calls : h.calls ≡ base.answered ++ (asked, response) ∷ []
+  pub judged : h.judgements ≡ passed h.calls
   pub whole : IsWhole p base.rest asked bodiless
 
 -- no bytes came and none went

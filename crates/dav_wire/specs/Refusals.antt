@@ -1,4 +1,4 @@
--- Why a request is refused, and the texts that the connection sends of its own.
+-- Why a request is refused or rejected, and the texts that the connection sends of its own.
 use Rattle.std.specs.Prelude.{◌≢◌, ℕ, ◌<◌, ◌||◌, ◌==◌, Bool, List, [], ◌∷◌, length, codes, if◌then◌else◌, IsTrue, ◌≤◌}
 use Rattle.httparse.specs.Grammar.{RequestHead}
 use Rattle.http1.specs.declared.framing.Framing.TheVariants.{Length}
@@ -7,6 +7,8 @@ use Rattle.http1.specs.ReadError.{status_of}
 use Rattle.http1.specs.Head.{response_text}
 use Rattle.http1_typed.specs.Parts.{reason_of}
 use Rattle.http_server.specs.History.{HasNoMessage, NextIs, HasTooManyFields, HasUnknownCoding, IsReadError}
+use Rattle.dav_wire.specs.declared.answer.Rejection.{Rejection}
+use Rattle.dav_wire.specs.declared.answer.Rejection.TheVariants.{Unauthorized, Forbidden, UnsupportedMediaType, Misdirected, NotImplemented, Unavailable}
 use Rattle.dav_wire.specs.declared.state.Config.{Config}
 use Rattle.dav_wire.specs.declared.state.Refusal.{Refusal}
 use Rattle.dav_wire.specs.declared.state.Refusal.TheVariants.{Truncated, Unreadable, BodyTooLong, UnknownCoding}
@@ -19,18 +21,36 @@ refusal_status (Unreadable e) = status_of e
 refusal_status BodyTooLong = 413
 refusal_status UnknownCoding = 501
 
+-- the status of a request that the answerer doesn't take (RFC 9110, sections 15.5 and 15.6)
+abbrev pub rejection_status : Rejection → ℕ
+rejection_status Unauthorized = 401
+rejection_status Forbidden = 403
+rejection_status UnsupportedMediaType = 415
+rejection_status Misdirected = 421
+rejection_status NotImplemented = 501
+rejection_status Unavailable = 503
+
 -- a status that the connection answers with itself, and 400 for any other
 abbrev pub known_status : ℕ → ℕ
 known_status status =
-    if (status == 413) || ((status == 414) || ((status == 431) || ((status == 500) || (status == 501)))) then status else 400
+    if (status == 401) || ((status == 403) || ((status == 413) || ((status == 414) || ((status == 415) || ((status == 421) || ((status == 431)
+    || ((status == 500) || ((status == 501) || (status == 503))))))))) then status else 400
 
 -- the fields of a response after which the connection is closed, and which has no body (RFC 9112, sections 6.2 and 9.6)
-abbrev pub closing_fields : List (List ℕ × List ℕ)
-closing_fields = (codes "connection", codes "close") ∷ (codes "content-length", codes "0") ∷ []
+abbrev pub last_fields : List (List ℕ × List ℕ)
+last_fields = (codes "connection", codes "close") ∷ (codes "content-length", codes "0") ∷ []
+
+-- the challenge of a 401 (RFC 9110, section 11.6.1, and RFC 7617, section 2.1)
+abbrev pub challenge : List ℕ × List ℕ
+challenge = (codes "www-authenticate", codes "Basic realm=\"vuldarg\", charset=\"UTF-8\"")
+
+-- the fields of such a response; a 401 has a challenge too
+abbrev pub closing_fields : ℕ → List (List ℕ × List ℕ)
+closing_fields status = if status == 401 then challenge ∷ last_fields else last_fields
 
 -- a response with this status, its phrase and these fields
 abbrev pub closing_text : ℕ → List ℕ
-closing_text status = response_text 1 status (reason_of status) closing_fields
+closing_text status = response_text 1 status (reason_of status) (closing_fields status)
 
 -- the request that begins the stream states no longer body than its method may have (RFC 9112, section 6.2)
 abbrev pub IsStatedWithin : Config → List ℕ → Type 0

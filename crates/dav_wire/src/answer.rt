@@ -1,8 +1,10 @@
-//! What answers the requests of a connection.
-ghost use Rattle.std.specs.Prelude.{OnOk};
+//! What judges and answers the requests of a connection.
+ghost use Rattle.std.specs.Prelude.{◌≡◌, List, ℕ, Option, IfOk, OnOk};
 ghost use Rattle.http_server.specs.declared.response.Response.{Response};
 ghost use Rattle.http_server.specs.Response.{IsBlank};
 ghost use Rattle.dav_wire.specs.declared.answer.Asked.{Asked};
+ghost use Rattle.dav_wire.specs.declared.answer.Rejection.{Rejection};
+ghost use Rattle.dav_wire.specs.Refusals.{rejection_status};
 
 use bytes::Bytes;
 use http_server::Response;
@@ -18,26 +20,84 @@ pub struct Asked {
     pub body: Bytes,
 }
 
-/// The answerer can't go on, or memory ran out: nothing more may be sent.
+/// Why an answerer doesn't take a request, of whose head alone it knows (RFC 9110, sections 15.5 and 15.6).
 #[derive(Clone, Copy, Debug, PartialEq, Eq)]
-pub struct Stop;
+pub enum Rejection {
+    /// It doesn't show who makes it, and has to (401); the response challenges its sender (RFC 9110, section 11.6.1).
+    Unauthorized,
+    /// It is forbidden, whoever makes it (403).
+    Forbidden,
+    /// It has a body, and its method takes none (415).
+    UnsupportedMediaType,
+    /// It is for another server (421).
+    Misdirected,
+    /// Its method isn't served (501).
+    NotImplemented,
+    /// There is no room for its body (503).
+    Unavailable,
+}
+
+impl Rejection {
+    /// The status of the response (RFC 9110, sections 15.5 and 15.6).
+    pub fn status(self) -> u16
+        ensures { result ≡ rejection_status self }
+    {
+        match self {
+            Rejection::Unauthorized => 401,
+            Rejection::Forbidden => 403,
+            Rejection::UnsupportedMediaType => 415,
+            Rejection::Misdirected => 421,
+            Rejection::NotImplemented => 501,
+            Rejection::Unavailable => 503,
+        }
+    }
+}
+
+/// Why the answerer, or its connection, can't go on: nothing more may be sent.
+#[derive(Clone, Copy, Debug, PartialEq, Eq)]
+pub enum Stop {
+    /// Memory ran out.
+    Memory,
+    /// The disk failed.
+    Disk,
+}
 
 impl From<AllocError> for Stop {
+    ghost use Rattle.std.specs.Prelude.{◌≡◌};
+    ghost use Rattle.dav_wire.specs.declared.answer.Stop.TheVariants.{Memory};
+
+    ghost from_gives = { λ _ stop. stop ≡ Memory };
+
     fn from(_error: AllocError) -> Stop {
-        Stop
+        Stop::Memory
     }
 }
 
 impl<T: Drop> From<AllocFailed<T>> for Stop {
+    ghost use Rattle.std.specs.Prelude.{◌≡◌};
+    ghost use Rattle.dav_wire.specs.declared.answer.Stop.TheVariants.{Memory};
+
+    ghost from_gives = { λ _ stop. stop ≡ Memory };
+
     fn from(_error: AllocFailed<T>) -> Stop {
-        Stop
+        Stop::Memory
     }
 }
 
-/// What answers requests, each once and in order.
+/// What judges the heads of requests, and answers those requests that it takes, each once and in order.
 pub trait Answerer {
+    // In the first state the request with these bytes as its head is not taken, for this reason, or may go on, which leaves
+    // the second state.
+    ghost judges: { Self → List ℕ → Option Rejection → Self → Type 0 };
+
     // In the first state this request may get this response, which leaves the second state.
     ghost answers: { Self → Asked → Response → Self → Type 0 };
+
+    /// Judges a request by the bytes of its head, with the empty lines before it, before anything of its body is taken and
+    /// before `100 Continue` is sent (RFC 9110, section 10.1.1). With a reason, the connection answers with the status of that
+    /// and is closed; without one, it goes on to the request's body.
+    fn judge(&mut self, head: &[u8]) -> Result<Option<Rejection>, Stop>
+        ensures { IfOk result (λ verdict. judges self.old head.now verdict self.new) };
 
     /// Fills `response`, which comes as a 200 without fields and body. The connection adds `content-length` and
     /// `connection` where they are needed, and sends no body to HEAD (RFC 9110, sections 8.6 and 9.3.2).

@@ -22,10 +22,10 @@ pub(crate) enum Found {
     Nothing,
     /// The end, after a whole request.
     End,
-    /// A head, or a piece of a body.
+    /// A head, and whether its sender waits for `100 Continue` (RFC 9110, section 10.1.1).
+    Head(bool),
+    /// A piece of a body.
     Part,
-    /// A head whose sender waits for `100 Continue` (RFC 9110, section 10.1.1).
-    Invitation,
     /// A whole request, and whether its method is HEAD.
     Request(Asked, bool),
     /// A request that is refused.
@@ -53,7 +53,7 @@ pub(crate) struct Intake {
 }
 
 impl Intake {
-    ghost use Rattle.dav_wire.specs.Place.{place, Standing, IsStarved, HasHead, HasPiece, HasEnd, Finds, work, KeepsIntake};
+    ghost use Rattle.dav_wire.specs.Place.{place, Standing, IsStarved, HasHead, HasPiece, HasEnd, Finds, judged_at, work, KeepsIntake};
     ghost use Rattle.dav_wire.specs.History.{HasWork};
 
     pub(crate) fn new(alloc: Global, config: Config) -> Intake
@@ -79,8 +79,8 @@ impl Intake {
     pub(crate) fn read(&mut self, spans: &mut [HeaderSpan]) -> Result<Found, AllocError>
         requires { length spans.old ≡ MAX_HEADERS }
         ensures finds { (stream interim : List ℕ) → Standing (place self.old) stream interim
-            → IfOk result (λ found. Finds found self.old.ended (work (place self.old))
-            (place self.new) stream interim) }
+            → IfOk result (λ found. Finds found self.old.ended (judged_at (place self.old))
+            (work (place self.old)) (place self.new) stream interim) }
         ensures fails { (stream interim : List ℕ) → Standing (place self.old) stream interim
             → OnErr result (HasWork self.old.config.limits self.old.ended stream) }
         ensures keeps { KeepsIntake self.old self.new }
@@ -106,7 +106,8 @@ impl Intake {
     // There is no more to read: more bytes may come, or the input ended here.
     fn wait(&self) -> Found
         ensures { (stream interim : List ℕ) (before : ℕ) → IsStarved (place self.now) stream interim
-            → Finds result self.now.ended before (place self.now) stream interim }
+            → Finds result self.now.ended (judged_at (place self.now)) before (place self.now)
+            stream interim }
     {
         if !self.ended {
             return Found::Nothing;
@@ -131,8 +132,8 @@ impl Intake {
         requires { IsRequestWithin self.old.input.items spans.now head.now }
         ensures finds { (stream interim : List ℕ)
             → HasHead (place self.old) spans.now head.now stream interim
-            → IfOk result (λ found. Finds found self.old.ended (work (place self.old))
-            (place self.new) stream interim) }
+            → IfOk result (λ found. Finds found self.old.ended (judged_at (place self.old))
+            (work (place self.old)) (place self.new) stream interim) }
         ensures fails { (stream interim : List ℕ)
             → HasHead (place self.old) spans.now head.now stream interim
             → OnErr result (HasWork self.old.config.limits self.old.ended stream) }
@@ -152,11 +153,7 @@ impl Intake {
         if self.states_too_much() {
             return Ok(Found::Refused(Refusal::BodyTooLong));
         }
-        if self.server.expects_continue() {
-            Ok(Found::Invitation)
-        } else {
-            Ok(Found::Part)
-        }
+        Ok(Found::Head(self.server.expects_continue()))
     }
 
     // Whether the head states a longer body than it may have.
@@ -176,8 +173,8 @@ impl Intake {
     fn add(&mut self, piece: Span) -> Result<Found, AllocError>
         requires { IsWithin (length self.old.input.items) piece }
         ensures finds { (stream interim : List ℕ) → HasPiece (place self.old) piece stream interim
-            → IfOk result (λ found. Finds found self.old.ended (work (place self.old))
-            (place self.new) stream interim) }
+            → IfOk result (λ found. Finds found self.old.ended (judged_at (place self.old))
+            (work (place self.old)) (place self.new) stream interim) }
         ensures fails { (stream interim : List ℕ) → HasPiece (place self.old) piece stream interim
             → OnErr result (HasWork self.old.config.limits self.old.ended stream) }
         ensures keeps { KeepsIntake self.old self.new }
@@ -195,8 +192,8 @@ impl Intake {
     fn finish(&mut self) -> Result<Found, AllocError>
         ensures finds { (stream interim : List ℕ) (before : ℕ) → work (place self.old) ≤ before
             → HasEnd (place self.old) stream
-            → IfOk result (λ found.
-            Finds found self.old.ended before (place self.new) stream interim) }
+            → IfOk result (λ found. Finds found self.old.ended (judged_at (place self.old))
+            before (place self.new) stream interim) }
         ensures fails { (stream : List ℕ) → HasEnd (place self.old) stream
             → OnErr result (HasWork self.old.config.limits self.old.ended stream) }
         ensures keeps { KeepsIntake self.old self.new }

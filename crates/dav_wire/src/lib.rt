@@ -12,7 +12,7 @@ mod state;
 #[cfg(test)]
 mod tests;
 
-pub use answer::{Answerer, Asked, Stop};
+pub use answer::{Answerer, Asked, Rejection, Stop};
 pub use laws::{calls_are_requests, connections_never_stall, heads_stand_alone, refusals_are_read};
 pub use peer::Peer;
 pub use state::{Config, Reason, Refusal, State};

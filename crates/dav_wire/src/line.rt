@@ -2,7 +2,7 @@
 ghost use Rattle.std.specs.Prelude.{◌≡◌, ◌≢◌, ℕ, ◌<◌, ◌≤◌, ◌⊎◌, ◌↔◌, [], ◌++◌, length, MatchBool, IsTrue, IsFalse, OnOk, OnErr};
 ghost use Rattle.http_server.specs.declared.state.TheConstants.{MAX_HEADERS};
 
-use crate::answer::{Answerer, Asked};
+use crate::answer::{Answerer, Asked, Rejection, Stop};
 use crate::intake::{Found, Intake};
 use crate::reply::{write_head, write_rest};
 use crate::state::{Config, Reason, Refusal, State, closing_text};
@@ -19,6 +19,8 @@ const CONTINUE: &[u8] = b"HTTP/1.1 100 Continue\r\n\r\n";
 pub(crate) struct Line {
     pub(crate) alloc: Global,
     pub(crate) state: State,
+    /// Why it was aborted, where it was.
+    pub(crate) stop: Stop,
     pub(crate) intake: Intake,
     /// What waits to be sent.
     pub(crate) output: Rope,
@@ -30,12 +32,13 @@ pub(crate) struct Line {
     pub(crate) writes: Log<Rope, usize>,
     /// The requests that the answerer got, with its responses.
     pub(crate) calls: Log<Asked, Response>,
+    /// The heads that the answerer judged, and why it didn't take the request, if it didn't.
+    pub(crate) judgements: Log<BytesMut, Option<Rejection>>,
 }
 
 impl Line {
-    ghost use Rattle.dav_wire.specs.Exchange.{Calls};
-    ghost use Rattle.dav_wire.specs.History.{new_history, after_taken, after_sent};
-    ghost use Rattle.dav_wire.specs.Place.{place, work, history_of, Holds, KeepsLine, Reaches, IsGiven, IsAnswered, invited, aborted, closed_with};
+    ghost use Rattle.dav_wire.specs.History.{Acts, new_history, after_taken, after_sent};
+    ghost use Rattle.dav_wire.specs.Place.{place, work, history_of, Holds, KeepsLine, Reaches, IsAtHead, IsGiven, IsAnswered, invited, aborted, closed_with};
     ghost use Rattle.dav_wire.specs.Refusals.{known_status, closing_text, refusal_status};
 
     pub(crate) fn new(alloc: Global, config: Config) -> Line
@@ -46,12 +49,14 @@ impl Line {
         Line {
             alloc,
             state: State::Open,
+            stop: Stop::Memory,
             intake: Intake::new(alloc, config),
             output: Rope::new(alloc),
             response: Response::new(alloc),
             reads: Log::new(),
             writes: Log::new(),
             calls: Log::new(),
+            judgements: Log::new(),
         }
     }
 
@@ -100,8 +105,8 @@ impl Line {
     pub(crate) fn step<S: Answerer>(&mut self, answerer: &mut S, spans: &mut [HeaderSpan]) -> bool
         requires { length spans.old ≡ MAX_HEADERS }
         ensures reaches { Holds self.old → Reaches (work (place self.old.intake)) result self.new }
-        ensures calls { self.new.state ≢ State.Aborted
-            → Calls S.answers answerer.old answerer.new self.old.calls.items self.new.calls.items }
+        ensures acts { self.new.state ≢ State.Aborted → Acts S.judges S.answers
+            answerer.old answerer.new (history_of self.old) (history_of self.new) }
         ensures settled { self.old.state ≢ State.Open → self.new ≡ self.old }
         ensures keeps { KeepsLine self.old self.new }
     {
@@ -111,11 +116,33 @@ impl Line {
         match self.intake.read(spans) {
             Ok(Found::Nothing) => false,
             Ok(Found::End) => self.close(Reason::EndOfInput),
+            Ok(Found::Head(waits)) => self.judge(answerer, waits),
             Ok(Found::Part) => true,
-            Ok(Found::Invitation) => self.invite(),
             Ok(Found::Request(asked, is_head)) => self.answer(answerer, &asked, is_head),
             Ok(Found::Refused(why)) => self.refuse(why),
-            Err(_) => self.abort(),
+            Err(_) => self.abort(Stop::Memory),
+        }
+    }
+
+    // Has a head judged, before anything of its body is taken: its request is rejected, or its sender is told to go on, if it
+    // waits for that.
+    fn judge<S: Answerer>(&mut self, answerer: &mut S, waits: bool) -> bool
+        ensures reaches { (old : ℕ) → work (place self.old.intake) < old
+            → IsAtHead (place self.old.intake) (history_of self.old) waits
+            → Reaches old result self.new }
+        ensures acts { self.new.state ≢ State.Aborted → Acts S.judges S.answers
+            answerer.old answerer.new (history_of self.old) (history_of self.new) }
+        ensures keeps { KeepsLine self.old self.new }
+    {
+        let verdict = match answerer.judge(self.intake.head.as_slice()) {
+            Ok(verdict) => verdict,
+            Err(why) => return self.abort(why),
+        };
+        self.judgements = self.judgements.and(&self.intake.head, &verdict);
+        match verdict {
+            Some(why) => self.end(Reason::Rejected(why), why.status()),
+            None if waits => self.invite(),
+            None => true,
         }
     }
 
@@ -129,7 +156,7 @@ impl Line {
     {
         match self.output.put_slice(CONTINUE) {
             Ok(()) => true,
-            Err(_) => self.abort(),
+            Err(_) => self.abort(Stop::Memory),
         }
     }
 
@@ -138,14 +165,14 @@ impl Line {
         ensures reaches { (old : ℕ) → work (place self.old.intake) < old
             → IsGiven (place self.old.intake) (history_of self.old) asked.now is_head
             → Reaches old result self.new }
-        ensures calls { self.new.state ≢ State.Aborted
-            → Calls S.answers answerer.old answerer.new self.old.calls.items self.new.calls.items }
+        ensures acts { self.new.state ≢ State.Aborted → Acts S.judges S.answers
+            answerer.old answerer.new (history_of self.old) (history_of self.new) }
         ensures keeps { KeepsLine self.old self.new }
     {
         self.response.clear();
-        let Ok(()) = answerer.answer(asked, &mut self.response) else {
-            return self.abort();
-        };
+        if let Err(why) = answerer.answer(asked, &mut self.response) {
+            return self.abort(why);
+        }
         self.calls = self.calls.and(asked, &self.response);
         self.reply(is_head)
     }
@@ -155,7 +182,8 @@ impl Line {
         ensures reaches { (old : ℕ) → work (place self.old.intake) < old
             → IsAnswered (place self.old.intake) (history_of self.old) self.old.response is_head
             → Reaches old result self.new }
-        ensures calls { self.new.calls ≡ self.old.calls }
+        ensures acts { (self.new.calls ≡ self.old.calls)
+            × (self.new.judgements ≡ self.old.judgements) }
         ensures keeps { KeepsLine self.old self.new }
     {
         let server = &mut self.intake.server;
@@ -165,7 +193,7 @@ impl Line {
         }
         let server = &mut self.intake.server;
         let Ok(()) = write_rest(server, &mut self.output, &mut self.response.body, is_head) else {
-            return self.abort();
+            return self.abort(Stop::Memory);
         };
         if self.intake.server.is_closed() {
             return self.close(Reason::Asked);
@@ -182,10 +210,11 @@ impl Line {
         ensures stops { IsFalse result }
         ensures intake { self.new.intake ≡ self.old.intake }
         ensures keeps { KeepsLine self.old self.new }
-        ensures calls { self.new.calls ≡ self.old.calls }
+        ensures acts { (self.new.calls ≡ self.old.calls)
+            × (self.new.judgements ≡ self.old.judgements) }
     {
         match error {
-            WriteError::OutOfMemory => self.abort(),
+            WriteError::OutOfMemory => self.abort(Stop::Memory),
             _ => self.end(Reason::Unsendable(error), 500),
         }
     }
@@ -199,6 +228,8 @@ impl Line {
         ensures stops { IsFalse result }
         ensures intake { self.new.intake ≡ self.old.intake }
         ensures keeps { KeepsLine self.old self.new }
+        ensures acts { (self.new.calls ≡ self.old.calls)
+            × (self.new.judgements ≡ self.old.judgements) }
     {
         self.end(Reason::Refused(why), why.status())
     }
@@ -211,11 +242,12 @@ impl Line {
         ensures stops { IsFalse result }
         ensures intake { self.new.intake ≡ self.old.intake }
         ensures keeps { KeepsLine self.old self.new }
-        ensures calls { self.new.calls ≡ self.old.calls }
+        ensures acts { (self.new.calls ≡ self.old.calls)
+            × (self.new.judgements ≡ self.old.judgements) }
     {
         match self.output.put_slice(closing_text(status)) {
             Ok(()) => self.close(why),
-            Err(_) => self.abort(),
+            Err(_) => self.abort(Stop::Memory),
         }
     }
 
@@ -229,15 +261,17 @@ impl Line {
     }
 
     // Drops what waits: nothing more may be sent.
-    fn abort(&mut self) -> bool
+    fn abort(&mut self, why: Stop) -> bool
         ensures written { history_of self.new ≡ aborted (history_of self.old) }
         ensures stops { IsFalse result }
         ensures intake { self.new.intake ≡ self.old.intake }
         ensures keeps { KeepsLine self.old self.new }
-        ensures calls { self.new.calls ≡ self.old.calls }
+        ensures acts { (self.new.calls ≡ self.old.calls)
+            × (self.new.judgements ≡ self.old.judgements) }
     {
         self.output.clear();
         self.state = State::Aborted;
+        self.stop = why;
         false
     }
 }

@@ -1,7 +1,6 @@
 //! One connection: the bytes that came, and those that are to go.
 ghost use Rattle.std.specs.Prelude.{◌≡◌, ◌≢◌, ◌≤◌, ◌<◌, ◌↔◌, [], length, take, IsTrue, OnOk, OnErr, IsErr};
-ghost use Rattle.dav_wire.specs.Exchange.{Calls};
-ghost use Rattle.dav_wire.specs.History.{IsServed, IsQuiet, Rests, new_history, after_taken, after_sent};
+ghost use Rattle.dav_wire.specs.History.{Acts, IsServed, IsQuiet, Rests, new_history, after_taken, after_sent};
 ghost use Rattle.dav_wire.specs.Place.{Holds};
 
 use crate::answer::{Answerer, Stop};
@@ -45,12 +44,12 @@ impl Peer {
         self.line.take(bytes)
     }
 
-    /// Answers the requests that came whole, in order, while not too much waits to be sent. After an error, where memory
-    /// ran out or the answerer stopped, the connection is `Aborted`, and what waited is dropped.
+    /// Has heads judged and the requests answered that came whole, in order, while not too much waits to be sent. After an error, where memory
+    /// ran out or the answerer stopped (its reason is the error), the connection is `Aborted`, and what waited is dropped.
     pub fn advance<S: Answerer>(&mut self, answerer: &mut S) -> Result<(), Stop>
         ensures served { ∥ IsServed (config_of self.new) (history self.new) ∥₁ }
-        ensures calls { OnOk result (Calls S.answers answerer.old answerer.new
-            (history self.old).calls (history self.new).calls) }
+        ensures acts { OnOk result (Acts S.judges S.answers answerer.old answerer.new
+            (history self.old) (history self.new)) }
         ensures stops { IsErr result ↔ ((history self.new).state ≡ State.Aborted) }
         ensures rests { Rests (config_of self.new) (history self.new) }
         ensures settled { (history self.old).state ≢ State.Open
@@ -61,7 +60,7 @@ impl Peer {
         let mut spans = [EMPTY_HEADER_SPAN; MAX_HEADERS];
         while self.line.step(answerer, &mut spans) {}
         if self.line.is_aborted() {
-            return Err(Stop);
+            return Err(self.line.stop);
         }
         Ok(())
     }

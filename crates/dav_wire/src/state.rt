@@ -3,6 +3,7 @@ ghost use Rattle.std.specs.Prelude.{◌≡◌};
 ghost use Rattle.dav_wire.specs.Exchange.{takes_tree, most_of};
 ghost use Rattle.dav_wire.specs.Refusals.{known_status, closing_text, refusal_status};
 
+use crate::answer::Rejection;
 use http1::{Limits, ReadError, WriteError};
 
 /// The limits of a connection.
@@ -38,6 +39,8 @@ pub enum Reason {
     EndOfInput,
     /// The next request is refused.
     Refused(Refusal),
+    /// The answerer doesn't take the next request, of whose head alone it knows (401, 403, 415, 421, 501 or 503).
+    Rejected(Rejection),
     /// The answerer's response can't be sent (500).
     Unsendable(WriteError),
 }
@@ -94,13 +97,22 @@ pub(crate) fn closing_text(status: u16) -> &'static [u8]
     ensures { result.now ≡ closing_text (known_status status) }
 {
     match status {
+        401 =>
+            b"HTTP/1.1 401 Unauthorized\r\nwww-authenticate: Basic realm=\"vuldarg\", charset=\"UTF-8\"\r\nconnection: close\r\ncontent-length: 0\r\n\r\n",
+        403 => b"HTTP/1.1 403 Forbidden\r\nconnection: close\r\ncontent-length: 0\r\n\r\n",
         413 => b"HTTP/1.1 413 Payload Too Large\r\nconnection: close\r\ncontent-length: 0\r\n\r\n",
         414 => b"HTTP/1.1 414 URI Too Long\r\nconnection: close\r\ncontent-length: 0\r\n\r\n",
+        415 =>
+            b"HTTP/1.1 415 Unsupported Media Type\r\nconnection: close\r\ncontent-length: 0\r\n\r\n",
+        421 =>
+            b"HTTP/1.1 421 Misdirected Request\r\nconnection: close\r\ncontent-length: 0\r\n\r\n",
         431 =>
             b"HTTP/1.1 431 Request Header Fields Too Large\r\nconnection: close\r\ncontent-length: 0\r\n\r\n",
         500 =>
             b"HTTP/1.1 500 Internal Server Error\r\nconnection: close\r\ncontent-length: 0\r\n\r\n",
         501 => b"HTTP/1.1 501 Not Implemented\r\nconnection: close\r\ncontent-length: 0\r\n\r\n",
+        503 =>
+            b"HTTP/1.1 503 Service Unavailable\r\nconnection: close\r\ncontent-length: 0\r\n\r\n",
         _ => b"HTTP/1.1 400 Bad Request\r\nconnection: close\r\ncontent-length: 0\r\n\r\n",
     }
 }

@@ -1,8 +1,8 @@
 //! Connections as rows of text: what comes, and what is written, where the bytes come in pieces of each length.
 //!
 //! In a row `^` is CRLF. The answerer tells the request line and the body that it was given, under the status that the target
-//! has. Heads have at most 128 bytes, bodies at most 16, trees 32.
-use crate::{Answerer, Asked, Config, Peer, Stop};
+//! has. It doesn't take a request for `/no-403`, and so with the status of each reason. Heads have at most 128 bytes, bodies at most 16, trees 32.
+use crate::{Answerer, Asked, Config, Peer, Rejection, Stop};
 use http::StatusCode;
 use http_server::Response;
 use http1::Limits;
@@ -37,6 +37,19 @@ PUT /a HTTP/1.1^Host: h^Content-Length: 2^Transfer-Encoding: chunked^^0^^ -> HTT
 GET /a HTTP/1.1^Host: h^^PUT /b HTTP/1.1^Host: h^Content-Length: 2^^h -> HTTP/1.1 200 OK^content-length: 16^^GET /a HTTP/1.1|HTTP/1.1 400 Bad Request^connection: close^content-length: 0^^
 GET /0123456789012345678901234567890123456789012345678901234567890123456789012345678901234567890123456789012345678901234567890123456789 HTTP/1.1^ -> HTTP/1.1 414 URI Too Long^connection: close^content-length: 0^^
 GET /a HTTP/1.1^Host: h^A: 0123456789012345678901234567890123456789012345678901234567890123456789012345678901234567890123456789012345678901234567890123456789^ -> HTTP/1.1 431 Request Header Fields Too Large^connection: close^content-length: 0^^
+
+# rejections, of the head alone (RFC 9110, sections 10.1.1 and 15)
+PUT /no-403 HTTP/1.1^Host: h^Content-Length: 5^^hello -> HTTP/1.1 403 Forbidden^connection: close^content-length: 0^^
+PUT /no-403 HTTP/1.1^Host: h^Content-Length: 5^^ -> HTTP/1.1 403 Forbidden^connection: close^content-length: 0^^
+PUT /no-403 HTTP/1.1^Host: h^Expect: 100-continue^Content-Length: 5^^ -> HTTP/1.1 403 Forbidden^connection: close^content-length: 0^^
+PUT /no-415 HTTP/1.1^Host: h^Transfer-Encoding: chunked^^5^hello^0^^ -> HTTP/1.1 415 Unsupported Media Type^connection: close^content-length: 0^^
+PUT /no-401 HTTP/1.1^Host: h^Content-Length: 5^^ -> HTTP/1.1 401 Unauthorized^www-authenticate: Basic realm=\"vuldarg\", charset=\"UTF-8\"^connection: close^content-length: 0^^
+GET /no-421 HTTP/1.1^Host: h^^GET /a HTTP/1.1^Host: h^^ -> HTTP/1.1 421 Misdirected Request^connection: close^content-length: 0^^
+HEAD /no-501 HTTP/1.1^Host: h^^ -> HTTP/1.1 501 Not Implemented^connection: close^content-length: 0^^
+GET /a HTTP/1.1^Host: h^^PUT /no-503 HTTP/1.0^Content-Length: 5^^ -> HTTP/1.1 200 OK^content-length: 16^^GET /a HTTP/1.1|HTTP/1.1 503 Service Unavailable^connection: close^content-length: 0^^
+PUT /no-403 HTTP/1.1^Host: h^Content-Length: 17^^ -> HTTP/1.1 413 Payload Too Large^connection: close^content-length: 0^^
+
+# a response that can't be sent
 GET /101 HTTP/1.1^Host: h^^ -> HTTP/1.1 500 Internal Server Error^connection: close^content-length: 0^^
 ";
 
@@ -56,7 +69,13 @@ const CONFIG: Config = Config {
 struct Echo(Global);
 
 impl Answerer for Echo {
+    ghost judges = { λ old head verdict new. Unit {0} };
+
     ghost answers = { λ old asked response new. Unit {0} };
+
+    fn judge(&mut self, head: &[u8]) -> Result<Option<Rejection>, Stop> {
+        Ok(rejection_in(line_of(head)))
+    }
 
     fn answer(&mut self, asked: &Asked, response: &mut Response) -> Result<(), Stop> {
         let line = line_of(asked.head.as_slice());
@@ -77,6 +96,20 @@ fn line_of(head: &[u8]) -> &[u8] {
         .split(|b| *b == b'\r')
         .next()
         .unwrap_or(&[])
+}
+
+// Why a request for this target isn't taken.
+fn rejection_in(line: &[u8]) -> Option<Rejection> {
+    let target = line.split(|b| *b == b' ').nth(1)?;
+    match target.strip_prefix(b"/no-".as_slice())? {
+        b"401" => Some(Rejection::Unauthorized),
+        b"403" => Some(Rejection::Forbidden),
+        b"415" => Some(Rejection::UnsupportedMediaType),
+        b"421" => Some(Rejection::Misdirected),
+        b"501" => Some(Rejection::NotImplemented),
+        b"503" => Some(Rejection::Unavailable),
+        _ => None,
+    }
 }
 
 // The status that a target has.
@@ -148,6 +181,6 @@ fn rows_are_told(rt: HostRuntime) -> Result<(), Fail> {
             count = count.saturating_add(1);
         }
     }
-    assert!(rt; count == 22, "{count} rows");
+    assert!(rt; count == 31, "{count} rows");
     Ok(())
 }

@@ -63,7 +63,7 @@ pub fn strangers_leave_members()
     ensures proppatch { ProppatchLeavesMembers }
 {}
 
-/// A plan that goes along with itself has the same outcome in two worlds that have the same content in a guarded folder, but
+/// An isolated plan has the same outcome in two worlds that have the same content in a guarded folder, but
 /// for change numbers and times, and leaves the same content there. PUT, PATCH, MKCOL, DELETE and PROPPATCH at the folder or below
 /// it, and COPY and MOVE from there to there, with the guard's token as their only condition, have such plans; so have a LOCK,
 /// which refreshes the guard or is refused, an UNLOCK with the guard's token, and any OPTIONS or PROPFIND there.

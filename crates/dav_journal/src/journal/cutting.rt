@@ -18,6 +18,7 @@ impl<D: Disk + Drop> Journal<D> {
     /// Makes the end of the blocks that were read the end of the file: what follows is cut off. `Foreign` where the disk isn't mixing and the
     /// file has marks.
     pub fn cut(&mut self) -> Result<(), JournalError>
+        ensures clean { IsClean D.Disk self.new → IsClean D.Disk self.old }
         ensures kept { OnOk result (IsClean D.Disk self.new → (contents : List (List ℕ))
             → HasRead D.Disk self.old contents → IsKept D.Disk self.new contents) }
         ensures any_moment { IsClean D.Disk self.new → (contents : List (List ℕ))

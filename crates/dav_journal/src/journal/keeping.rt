@@ -85,6 +85,7 @@ impl<D: Disk + Drop> Journal<D> {
     /// Writes a block of this content after the others, and makes sure that it is kept. After an error, but for `Memory`,
     /// nothing more may be asked.
     pub fn keep(&mut self, alloc: Global, content: &[u8]) -> Result<(), JournalError>
+        ensures clean { IsClean D.Disk self.new → IsClean D.Disk self.old }
         ensures kept { OnOk result ((contents : List (List ℕ)) → IsKept D.Disk self.old contents
             → IsKept D.Disk self.new (contents ++ content.now ∷ [])) }
         ensures any_moment { (contents : List (List ℕ)) → IsKept D.Disk self.old contents
@@ -108,6 +109,7 @@ impl<D: Disk + Drop> Journal<D> {
         requires opens { slice_index bytes.now 0 ≡ 1 }
         requires ends { end + 1 ≡ blocks_end self.old + length bytes.now }
         requires fits { end + 1 < 2 ^ 64 }
+        ensures clean { IsClean D.Disk self.new → IsClean D.Disk self.old }
         ensures kept { OnOk result ((contents : List (List ℕ)) (content : List ℕ)
             → IsWrittenBlock self.old content bytes.now → IsKept D.Disk self.old contents
             → IsKept D.Disk self.new (contents ++ content ∷ [])) }
@@ -129,6 +131,7 @@ impl<D: Disk + Drop> Journal<D> {
         requires opens { slice_index bytes.now 0 ≡ 1 }
         requires ends { end + 1 ≡ blocks_end self.old + length bytes.now }
         requires fits { end + 1 < 2 ^ 64 }
+        ensures clean { IsClean D.Disk self.new → IsClean D.Disk self.old }
         ensures kept { OnOk result ((contents : List (List ℕ)) (content : List ℕ)
             → IsWrittenBlock self.old content bytes.now → IsKept D.Disk self.old contents
             → IsKept D.Disk self.new (contents ++ content ∷ [])) }
@@ -152,6 +155,7 @@ impl<D: Disk + Drop> Journal<D> {
         requires ends { end + 1 ≡ blocks_end self.old + length bytes.now }
         requires room { end + 1 ≤ self.old.zeros }
         requires fits { end + 1 < 2 ^ 64 }
+        ensures clean { IsClean D.Disk self.new → IsClean D.Disk self.old }
         ensures kept { OnOk result ((contents : List (List ℕ)) (content : List ℕ)
             → IsWrittenBlock self.old content bytes.now → IsKept D.Disk self.old contents
             → IsKept D.Disk self.new (contents ++ content ∷ [])) }

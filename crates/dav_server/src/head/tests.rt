@@ -7,10 +7,11 @@ use std::alloc::{AllocError, Global};
 use std::str;
 use std::test::Fail;
 
-// A head, and its method and its target, or the status that refuses it.
+// A head, and its method, its target and its fields, or the status that refuses it.
 const HEADS: &str = r##"# heads
-PUT /a HTTP/1.1\r\nContent-Length: 3\r\n\r\n -> PUT /a
+PUT /a HTTP/1.1\r\nContent-Length: 3\r\n\r\n -> PUT /a Content-Length=3
 GET /a HTTP/1.1\r\n\r\n -> GET /a
+GET /a HTTP/1.0\r\nIf:\t b \r\nX:\nif:c\r\n\r\n -> GET /a If=b X= if=c
 # no heads
  -> 400
 GET / HTTP/1.1\r\n -> 400
@@ -23,6 +24,30 @@ GET / HTTP/1.1\r\na: \x7F\r\n\r\n -> 400
 GET / HTTP/1.1\r\na: \x01\r\n\r\n -> 400
 "##;
 
+// The fields of a head in their order, each as ` name=value`.
+fn fields_in(alloc: Global, view: &RequestView<'_>) -> Result<Vec<u8>, AllocError> {
+    let mut all = Vec::new(alloc);
+    for place in 0..MOST_FIELDS {
+        let Some((name, value)) = view.field(place) else {
+            break;
+        };
+        all.push(b' ')?;
+        all.extend_from_slice(name)?;
+        all.push(b'=')?;
+        all.extend_from_slice(value)?;
+    }
+    Ok(all)
+}
+
+// What a head says.
+fn words_of(alloc: Global, view: &RequestView<'_>) -> Result<Vec<u8>, Fail> {
+    let method = str::from_utf8(view.method())?;
+    let target = view.target();
+    let mut line = format!(in alloc; "{method} {target}")?.into_bytes();
+    line.extend_from_slice(&fields_in(alloc, view)?)?;
+    Ok(line)
+}
+
 // Asks what a head says.
 #[derive(Drop)]
 struct Heads;
@@ -34,15 +59,10 @@ impl Player for Heads {
 
     fn answer(&mut self, alloc: Global, question: &'static str) -> Result<Vec<u8>, Fail> {
         let head = unescaped(alloc, question)?;
-        let line = match read_head(&head) {
-            Ok(view) => {
-                let method = str::from_utf8(view.method())?;
-                let target = view.target();
-                format!(in alloc; "{method} {target}")?
-            }
-            Err(status) => format!(in alloc; "{}", status.as_u16())?,
-        };
-        Ok(line.into_bytes())
+        match read_head(&head) {
+            Ok(view) => words_of(alloc, &view),
+            Err(status) => Ok(format!(in alloc; "{}", status.as_u16())?.into_bytes()),
+        }
     }
 }
 

@@ -30,7 +30,7 @@ pub fn no_lock_ends()
 
 /// Two states are alike where a folder has the same content in both, folders are above it, and a lock guards it; numbers and times may differ.
 /// A request that neither names the lock as its principal nor hands in its token leaves what is inside, and a state alike another as it
-/// was. A holder's request has the same answers in both states, and leaves them alike; the plan of its GET or HEAD goes along with itself,
+/// was. A holder's request has the same answers in both states, and leaves them alike; the plan of its GET or HEAD is isolated,
 /// as those of the other methods do (RFC 4918, section 7).
 pub fn steps_agree_in_alike_states()
     ensures stranger { StrangersLeaveAlike }

@@ -15,7 +15,10 @@ lock /a/b exclusive,infinite,timed t1 anna -> ends 160
 lock /a exclusive,infinite,timed t3 anna -> Conflict
 lock /a exclusive,timed t2 anna -> ends 160
 discover /a/b/c -> t1
+ended / 159 -> none
+ended / 160 -> t1
 refresh /a/b t1 30 -> ends 180 after 30
+ended / 179 -> t2
 refresh /a t1 -> NotThere
 check /a/b/c ben -> t1
 check /a/b/c anna -> free
@@ -27,6 +30,7 @@ delete /a -> ok
 discover /a ->
 # shared locks, listed with the shortest path first
 lock /a shared,infinite t2 -> never ends
+ended / 18446744073709551615 -> none
 lock /a/b shared,infinite t1 -> never ends
 lock /a/b shared,infinite t3 -> never ends
 discover /a/b/c -> t2 t1 t3
@@ -90,6 +94,7 @@ pub(crate) fn play(alloc: Global, ls: &mut MemLs, row: Row<'_>) -> Result<String
         "check" => return check(alloc, ls, &at, row),
         "discover" => return discover(alloc, ls, &at),
         "nodes" => return nodes(alloc, ls),
+        "ended" => return ended(alloc, ls, row[2]),
         "unlock" => ls.unlock(&at, row[2]).is_ok(),
         _ => ls.delete(&at).is_ok(),
     };
@@ -105,6 +110,15 @@ pub(crate) fn timeout_of(kind: &str) -> Option<u64>
     } else {
         None
     }
+}
+
+// The token of the first lock that ended by a second.
+fn ended(alloc: Global, ls: &MemLs, second: &str) -> Result<String, Fail> {
+    let token = match ls.first_ended(second.parse::<u64>()?) {
+        Some(lock) => lock.token.as_str(),
+        None => "none",
+    };
+    Ok(String::from_str(alloc, token)?)
 }
 
 // The answer to a request for a lock, as text.

@@ -1,7 +1,7 @@
 use Rattle.std.proofs.Common.{◌≡◌, ◌∙◌, ◌++◌, ◌∷◌, List, [], Err, refl, sym, ap, subst}
 use Rattle.std.proofs.lemmas.Result.{err_from_is_err_and}
 use Rattle.dav_server.specs.Run.{Turn, no_more}
-use Rattle.dav_server.specs.DavHandler.{AnswersAll}
+use Rattle.dav_server.specs.Server.{AnswersAll}
 use Rattle.dav_server.proofs.Theorems.{rest_after_one}
 use Rattle.dav_run.specs.Play.{RunsSome}
 use Rattle.dav_run.proofs.Played.{appends_nothing, joined, some_joined, more_written, same_error}

@@ -1,7 +1,7 @@
 use Rattle.std.proofs.Common.{◌≡◌, ◌++◌, List}
 use Rattle.std.specs.Io.KnownBytes.{Appends}
 use Rattle.dav_engine.specs.Reply.{Reply}
-use Rattle.dav_server.specs.DavHandler.{AnswersAll}
+use Rattle.dav_server.specs.Server.{AnswersAll}
 use Rattle.dav_run.specs.Print.{lines_of}
 use Rattle.dav_run.proofs.play.play_turns.Given as goal
 

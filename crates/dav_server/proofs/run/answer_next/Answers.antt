@@ -1,6 +1,6 @@
 use Rattle.std.proofs.Common.{refl}
 use Rattle.dav_server.specs.Machine.{untouched}
-use Rattle.dav_server.specs.DavHandler.{StopsIn}
+use Rattle.dav_server.specs.Server.{StopsIn}
 use Rattle.dav_server.proofs.StepLemmas.{any_err}
 use Rattle.dav_server.proofs.run.answer_next.Goals as goal
 

@@ -1,6 +1,6 @@
 use Rattle.std.proofs.Common.{◌≡◌, ◌++◌}
 use Rattle.dav_server.specs.Isolation.{AreLoaded}
-use Rattle.dav_server.specs.DavHandler.{AnswersAll}
+use Rattle.dav_server.specs.Server.{AnswersAll}
 use Rattle.dav_server.specs.TagLaws.{MomentsAreDates}
 use Rattle.dav_server.proofs.run.run_refused.Given as goal
 

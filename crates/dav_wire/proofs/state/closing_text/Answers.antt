@@ -24,6 +24,26 @@ pub returns-in-501 : goal.returns-in-501
 unfolding print_response
 returns-in-501 c = rw c.in-501.is refl
 
+pub returns-in-403 : goal.returns-in-403
+unfolding print_response
+returns-in-403 c = rw c.in-403.is refl
+
+pub returns-in-415 : goal.returns-in-415
+unfolding print_response
+returns-in-415 c = rw c.in-415.is refl
+
+pub returns-in-421 : goal.returns-in-421
+unfolding print_response
+returns-in-421 c = rw c.in-421.is refl
+
+pub returns-in-503 : goal.returns-in-503
+unfolding print_response
+returns-in-503 c = rw c.in-503.is refl
+
+pub returns-in-401 : goal.returns-in-401
+unfolding print_response
+returns-in-401 c = rw c.in-401.is refl
+
 pub returns-in_default : goal.returns-in_default
 unfolding print_response
 returns-in_default c =

@@ -1,6 +1,6 @@
 use Rattle.std.proofs.Common.{Err, ap}
 use Rattle.std.proofs.lemmas.Result.{IfOk-weaker}
-use Rattle.dav_server.specs.DavHandler.{StopsIn}
+use Rattle.dav_server.specs.Server.{StopsIn}
 use Rattle.dav_server.proofs.CutSteps.{safe_leaves_cut}
 use Rattle.dav_server.proofs.EachRequestLemmas.{safe_leaves, create_only_leaves, refused_status_leaves}
 use Rattle.dav_server.proofs.HrefReplies.{step_leads_back}

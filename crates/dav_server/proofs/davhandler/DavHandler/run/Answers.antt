@@ -1,6 +1,6 @@
 use Rattle.std.proofs.Common.{◌∙◌, [], ◌+◌, map, take, drop, refl}
 use Rattle.dav_server.specs.Run.{no_more}
-use Rattle.dav_server.specs.DavHandler.{turn_of}
+use Rattle.dav_server.specs.Server.{turn_of}
 use Rattle.dav_server.proofs.RunLemmas.{run_further, parts_of, steps_at, stops_plainly, ran_to}
 use Rattle.dav_server.proofs.PromiseLemmas.{runs_promise}
 use Rattle.dav_server.proofs.TurnLemmas.{ran_all, none_showable, showable_further, showable_all}

@@ -1,5 +1,5 @@
 use Rattle.std.proofs.Common.{◌≡◌, take}
-use Rattle.dav_server.specs.DavHandler.{AnswersAll, turns}
+use Rattle.dav_server.specs.Server.{AnswersAll, turns}
 use Rattle.dav_server.specs.TagLaws.{MomentsAreDates}
 use Rattle.dav_server.proofs.davhandler.DavHandler.run.Given as goal
 

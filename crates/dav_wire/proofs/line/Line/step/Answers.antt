@@ -1,7 +1,7 @@
 use Rattle.std.proofs.Common.{ap}
 use Rattle.dav_wire.specs.Place.{place, history_of}
 use Rattle.dav_wire.proofs.Runs.{running}
-use Rattle.dav_wire.proofs.Steps.{after_nothing, after_end, after_part, after_invitation, is_given, after_refusal, after_stop, had_work}
+use Rattle.dav_wire.proofs.Steps.{after_nothing, after_end, after_part, is_at_head, is_given, after_refusal, after_stop, had_work}
 use Rattle.dav_wire.proofs.line.Line.step.Goals as goal
 
 pub returns-in-Ok-Nothing-clause-reaches : goal.returns-in-Ok-Nothing-clause-reaches
@@ -28,13 +28,13 @@ returns-in-Ok-Part-clause-reaches g c = λ x.
     after_part l c.read.new.self did.keeps r _
     (rw c.in-Ok-Part.field-0-is at (did.finds r.base.rest r.base.interim r.standing))
 
-pub returns-in-Ok-Invitation-clause-reaches : goal.returns-in-Ok-Invitation-clause-reaches
-returns-in-Ok-Invitation-clause-reaches g c = λ x.
+pub returns-in-Ok-Head-clause-reaches : goal.returns-in-Ok-Head-clause-reaches
+returns-in-Ok-Head-clause-reaches g c = λ x.
     let l = c.args.self.now in
     let r = running (place l.intake) (history_of l) x (c.is_open.ensures.0 c.if-not-is_open.false) in
-    let did = c.in-Ok-Invitation.ensures in
-    after_invitation l c.read.new.self did.keeps r _ _ _ c.invite.ensures.written c.invite.ensures.intake
-    (rw c.in-Ok-Invitation.field-0-is at (did.finds r.base.rest r.base.interim r.standing))
+    let did = c.in-Ok-Head.ensures in
+    let found = rw c.in-Ok-Head.field-0-is at (did.finds r.base.rest r.base.interim r.standing) in
+    c.judge.ensures.reaches _ found.2 (is_at_head l c.read.new.self did.keeps r _ _ found)
 
 pub returns-in-Ok-Request-clause-reaches : goal.returns-in-Ok-Request-clause-reaches
 returns-in-Ok-Request-clause-reaches g c = λ x.
@@ -42,7 +42,7 @@ returns-in-Ok-Request-clause-reaches g c = λ x.
     let r = running (place l.intake) (history_of l) x (c.is_open.ensures.0 c.if-not-is_open.false) in
     let did = c.in-Ok-Request.ensures in
     let found = rw c.in-Ok-Request.field-0-is at (did.finds r.base.rest r.base.interim r.standing) in
-    c.answer.ensures.reaches _ found.1 (is_given l c.read.new.self did.keeps r _ found)
+    c.answer.ensures.reaches _ found.2 (is_given l c.read.new.self did.keeps r _ found)
 
 pub returns-in-Ok-Refused-clause-reaches : goal.returns-in-Ok-Refused-clause-reaches
 returns-in-Ok-Refused-clause-reaches g c = λ x.

@@ -5,7 +5,7 @@ use Rattle.dav_wire.specs.declared.line.Line.{Line}
 use Rattle.dav_wire.specs.declared.state.State.TheVariants.{Aborted}
 use Rattle.dav_wire.specs.Place.{history_of}
 use Rattle.dav_wire.proofs.Runs.{served, settled}
-use Rattle.dav_wire.proofs.Streams.{calls_on}
+use Rattle.dav_wire.proofs.Streams.{acts_on}
 use Rattle.dav_wire.proofs.peer.Peer.advance.Goals as goal
 
 pub invariant_of-self : goal.invariant_of-self
@@ -26,23 +26,23 @@ loop-spans-preserved g c =
         reads = kept.reads ∙ before.keeps.reads;
         writes = kept.writes ∙ before.keeps.writes;
       };
-      calls = λ alive.
+      acts = λ alive.
           let was : c.loop-spans.self.line.state ≢ Aborted =
           λ dead. alive (ap (λ (l : Line). l.state) (c.step.ensures.settled (λ still. let wrong = sym still ∙ dead in cc)) ∙ dead) in
-          calls_on g.S.Answerer.answers _ _ _ _ (before.calls was) (c.step.ensures.calls alive);
+          acts_on g.S.Answerer.judges g.S.Answerer.answers _ _ _ (history_of c.args.self.now.line) (history_of c.loop-spans.self.line) (history_of c.step.new.self) (before.acts was) (c.step.ensures.acts alive);
       settled = λ over. c.step.ensures.settled (λ still. over (sym (ap (λ (l : Line). l.state) (before.settled over)) ∙ still)) ∙ before.settled over;
     }
 
 pub returns-clause-served : goal.returns-clause-served
 returns-clause-served g c = ∥∥₁_map c.loop-spans.self.holds (λ x. served c.step.new.self (c.step.ensures.reaches x).holds)
 
-pub returns-clause-calls : goal.returns-clause-calls
-returns-clause-calls g c =
+pub returns-clause-acts : goal.returns-clause-acts
+returns-clause-acts g c =
     let before = c.loop-spans.invariant in
     let alive : c.step.new.self.state ≢ Aborted = λ dead. let wrong = c.is_aborted.ensures.1 dead in cc in
     let was : c.loop-spans.self.line.state ≢ Aborted =
     λ dead. alive (ap (λ (l : Line). l.state) (c.step.ensures.settled (λ still. let wrong = sym still ∙ dead in cc)) ∙ dead) in
-    calls_on g.S.Answerer.answers _ _ _ _ (before.calls was) (c.step.ensures.calls alive)
+    acts_on g.S.Answerer.judges g.S.Answerer.answers _ _ _ (history_of c.args.self.now.line) (history_of c.loop-spans.self.line) (history_of c.step.new.self) (before.acts was) (c.step.ensures.acts alive)
 
 pub returns-clause-rests : goal.returns-clause-rests
 returns-clause-rests g c =

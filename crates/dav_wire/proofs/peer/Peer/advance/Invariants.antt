@@ -1,13 +1,14 @@
 use Rattle.std.proofs.Common.{◌≡◌, ◌≢◌}
 use Rattle.dav_wire.specs.declared.state.State.TheVariants.{Open, Aborted}
-use Rattle.dav_wire.specs.Exchange.{Calls}
-use Rattle.dav_wire.specs.Place.{place, work, KeepsLine}
+use Rattle.dav_wire.specs.History.{Acts}
+use Rattle.dav_wire.specs.Place.{place, work, history_of, KeepsLine}
 use Rattle.dav_wire.proofs.peer.Peer.advance.Given as goal
 
 abbrev pub invariant-loop-spans : goal.invariant-loop-spans
 invariant-loop-spans g l = record {
   keeps : KeepsLine l.fn.self.line l.self.line;
-  calls : l.self.line.state ≢ Aborted → Calls g.S.Answerer.answers l.fn.answerer l.answerer l.fn.self.line.calls.items l.self.line.calls.items;
+  acts : l.self.line.state ≢ Aborted
+      → Acts g.S.Answerer.judges g.S.Answerer.answers l.fn.answerer l.answerer (history_of l.fn.self.line) (history_of l.self.line);
   settled : l.fn.self.line.state ≢ Open → l.self.line ≡ l.fn.self.line;
 }
 

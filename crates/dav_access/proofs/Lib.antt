@@ -1,0 +1,5 @@
+pub mod BasicLemmas
+mod CryptLemmas
+mod EncodingLemmas
+mod SecretLemmas
+mod UserLemmas

@@ -1,0 +1,7 @@
+pub mod Texts
+pub mod Secrets
+pub mod Crypt
+pub mod Basic
+pub mod Users
+pub mod Reading
+pub mod Principals

@@ -1,0 +1,23 @@
+//! Who makes a request: credentials of the scheme Basic (RFC 7617), passwords by SHA-256-crypt, and the
+//! list of users.
+#![tactic(auto)]
+
+mod basic;
+mod check;
+mod crypt;
+mod encoding;
+mod error;
+pub mod laws;
+mod name;
+mod principal;
+mod secret;
+#[cfg(test)]
+mod tests;
+mod text;
+mod users;
+
+pub use basic::{Credentials, credentials_of};
+pub use error::{Refusal, UsersError};
+pub use principal::principal_of;
+pub use secret::{MOST_PASSWORD, is_secret, matches_secret};
+pub use users::Users;

@@ -1,0 +1,49 @@
+-- The head that is run and kept of one that came: without what shows who asks, and what speaks of the connection alone (RFC 9110,
+-- sections 7.2, 11.6.2 and 11.7.2; RFC 9112, section 6.1; RFC 6265, section 5.4).
+use Rattle.std.specs.Prelude.{◌≡◌, ◌≢◌, ℕ, min, Bool, true, false, ◌||◌, ◌&&◌, not, List, [], ◌∷◌, ◌++◌, codes, Option, Some}
+use Rattle.std.specs.List.{filter, list_any}
+use Rattle.http_header.specs.HeaderMap.{get_all}
+use Rattle.httparse.specs.Grammar.{RequestHead, ReadsRequest}
+use Rattle.dav_headers.specs.Timeout.{IsTimeout, time_type_text}
+use Rattle.dav_headers.specs.Value.{Decodes}
+use Rattle.dav_headers.specs.declared.timeout.DavTimeout.{DavTimeout}
+use Rattle.dav_headers.specs.declared.timeout.DavTimeout.TheVariants.{Seconds}
+use Rattle.dav_engine.specs.LockHeaders.{preferred}
+use Rattle.dav_server.specs.Head.{Request, is_same_name, request_of_head}
+use Rattle.dav_server.specs.Headers.{headers_of}
+
+-- the names of the fields that aren't kept: those by which a client shows who it is, and those that speak of the connection, of which the
+-- machine reads nothing
+abbrev pub left_out : List (List ℕ)
+left_out =
+    codes "authorization" ∷ codes "proxy-authorization" ∷ codes "cookie" ∷ codes "host" ∷ codes "transfer-encoding" ∷ []
+
+-- whether the fields of a name are kept, in letters of either case; of a LOCK its Timeout isn't, in whose place another comes (RFC 9110,
+-- section 5.1)
+abbrev pub is_kept : Bool → List ℕ → Bool
+is_kept is_lock name = not (list_any (is_same_name name) left_out || (is_lock && is_same_name name (codes "timeout")))
+
+-- the fields that are kept, in order
+abbrev pub kept_fields : Bool → List (List ℕ × List ℕ) → List (List ℕ × List ℕ)
+kept_fields is_lock fields = filter (λ field. is_kept is_lock field.0) fields
+
+-- for how many seconds a lock is asked for at most: the time that is preferred, where it ends before `most` (RFC 4918, section 10.7)
+abbrev pub lowered : ℕ → Option DavTimeout → ℕ
+lowered most (Some (Seconds n)) = min n most
+lowered most time = most
+
+-- a Timeout of so many seconds, as a field (RFC 4918, section 10.7)
+abbrev pub timeout_field : ℕ → List ℕ × List ℕ
+timeout_field n = (codes "timeout", time_type_text (Seconds n))
+
+-- The request that is run and kept of one that came, where a lock is granted for at most so many seconds: its method, its target and the
+-- fields that are kept; of a LOCK the time that the machine reads in its Timeout is lowered.
+pub data IsKeptOf (most : ℕ) (came : Request) : Request → Type 0 where
+  other : came.method ≢ codes "LOCK" → IsKeptOf most came (record came { fields = kept_fields false came.fields })
+  lock : came.method ≡ codes "LOCK" → (times : Option (List DavTimeout))
+      → Decodes IsTimeout (get_all (headers_of came.fields) (codes "timeout")) times
+      → IsKeptOf most came (record came { fields = kept_fields true came.fields ++ timeout_field (lowered most (preferred times)) ∷ [] })
+
+-- These bytes are a head that says this, however many they are (RFC 9112, sections 2 to 5).
+abbrev pub Says : List ℕ → Request → Type 0
+Says bytes r = (h : RequestHead) × ReadsRequest bytes h [] × (r ≡ request_of_head h)

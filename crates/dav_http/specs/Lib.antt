@@ -1,0 +1,9 @@
+pub mod Owners
+pub mod Sent
+pub mod SentLaws
+pub mod Steps
+pub mod Leaves
+pub mod Ending
+pub mod Sending
+pub mod HeadText
+pub mod Kept

@@ -1,0 +1,74 @@
+-- What the machine is asked for each request that comes, and what it replies (RFC 9110, section 3).
+use Rattle.std.specs.Prelude.{◌≡◌, ◌≢◌, ◌⊎◌, ℕ, min, List, [], codes, Option, Some, None, Result, Ok, Err}
+use Rattle.dav_core.specs.Element.{ElementTree}
+use Rattle.dav_core.specs.World.{empty_from, last_moment}
+use Rattle.dav_engine.specs.declared.reply.ReplyBody.{ReplyBody}
+use Rattle.dav_engine.specs.declared.reply.ReplyBody.TheVariants as reply
+use Rattle.dav_engine.specs.declared.request.Body.{Body}
+use Rattle.dav_engine.specs.declared.request.Body.TheVariants as body
+use Rattle.dav_engine.specs.Caller.{Caller}
+use Rattle.dav_engine.specs.Reply.{Reply}
+use Rattle.dav_server.specs.GrantToken.{IsGrantToken}
+use Rattle.dav_server.specs.Head.{Request, IsHead}
+use Rattle.dav_server.specs.Machine.{Exchange}
+use Rattle.dav_server.specs.Server.{Server, Answers}
+use Rattle.dav_xml.specs.declared.error.Fault.{Fault}
+use Rattle.dav_xml.specs.Namespaces.{document}
+use Rattle.dav_xml.specs.Written.{document_of}
+use Rattle.dav_http.specs.Owners.{prefixed_owners}
+use Rattle.dav_http.specs.Sent.{IsReadByClient}
+
+-- a method whose body is an element tree (RFC 4918, sections 9.1, 9.2 and 9.10)
+abbrev pub TakesTree : List ℕ → Type 0
+TakesTree method = (method ≡ codes "PROPFIND") ⊎ (method ≡ codes "PROPPATCH") ⊎ (method ≡ codes "LOCK")
+
+-- the element tree that was read, its owners with the prefix `D`, or that none was
+abbrev pub read_as : Result ElementTree Fault → Body
+read_as (Ok tree) = body.Tree (prefixed_owners tree)
+read_as (Err fault) = body.Malformed
+
+-- The body of a request as the machine takes it: nothing where it has no bytes; the element tree that they encode, where its method
+-- takes one; or else the bytes (RFC 4918, section 8.2).
+pub data IsBodyOf (method bytes : List ℕ) : Body → Type 0 where
+  nothing : bytes ≡ [] → IsBodyOf method bytes body.None
+  as_tree : bytes ≢ [] → TakesTree method → IsBodyOf method bytes (read_as (document bytes))
+  as_bytes : bytes ≢ [] → ¬ TakesTree method → IsBodyOf method bytes (body.Bytes bytes)
+
+-- the token for a lock that is handed in: the text, where a lock can be granted with it (RFC 4918, section 6.5)
+pub data IsTokenOf : Option (List ℕ) → Option (List ℕ) → Type 0 where
+  missing : IsTokenOf None None
+  granted : {text : List ℕ} → IsGrantToken text → IsTokenOf (Some text) (Some text)
+  refused : {text : List ℕ} → ¬ IsGrantToken text → IsTokenOf (Some text) None
+
+-- The request that the machine gets: the bytes of its head, its body by these bytes and by the method of the head, who makes it, when,
+-- at most at the end of the year 9999, and the token for a lock that it creates.
+pub record IsExchangeOf (head bytes : List ℕ) (who : Caller) (x : Exchange) : Type 0 where
+  pub head_is : x.head ≡ head
+  pub method : List ℕ
+  pub is_method : (request : Request) → IsHead head request → method ≡ request.method
+  pub body : IsBodyOf method bytes x.body
+  pub principal : x.principal ≡ who.principal
+  pub moment : x.moment ≡ min who.moment last_moment
+  pub token : IsTokenOf who.token x.token
+
+-- A reply to a request with this head and a body of these bytes, and the server that is left: they are those of a step of the machine,
+-- and the element tree of the reply, if it has one, is read by its client (RFC 4918, section 8.2).
+pub record IsStepFor (head bytes : List ℕ) (who : Caller) (old : Server) (r : Reply) (new : Server) : Type 0 where
+  pub exchange : Exchange
+  pub is_exchange : IsExchangeOf head bytes who exchange
+  pub answers : Answers old exchange r new
+  pub same : new.settings ≡ old.settings
+  pub read : IsReadByClient r.body
+
+-- the bytes in which the body of a reply is sent: an element tree as its document (RFC 4918, section 8.2)
+abbrev pub sent_bytes : ReplyBody → List ℕ
+sent_bytes reply.Nothing = []
+sent_bytes (reply.Bytes bytes) = bytes
+sent_bytes (reply.Tree tree) = document_of tree
+
+-- A new server of this prefix: it allows each method, its store is empty, and it has no locks.
+pub record IsNew (prefix : List ℕ) (s : Server) : Type 0 where
+  pub prefix_is : s.settings.prefix ≡ prefix
+  pub allows : s.settings.allowed ≡ 65535
+  pub empty : s.state.store.world ≡ empty_from 1
+  pub unlocked : s.state.locks ≡ Some []

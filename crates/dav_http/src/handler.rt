@@ -1,0 +1,225 @@
+//! A server in memory. It is asked for what may be sent alone, so what it tells each client can read.
+ghost use Rattle.std.specs.Prelude.{◌≡◌, ◌↔◌, IfOk};
+ghost use Rattle.std.specs.Option.{option_copied};
+ghost use Rattle.std.specs.Result.{IsErrOf};
+ghost use Rattle.dav_server.specs.Head.{Request, IsHead};
+ghost use Rattle.dav_http.specs.Sent.{IsSendableTextIfAny};
+ghost use Rattle.dav_http.specs.Steps.{IsBodyOf, IsExchangeOf, IsTokenOf};
+
+use crate::head::{Head, takes_tree};
+use crate::owner::with_prefixed_owners;
+use crate::sendable::is_sendable_if_any;
+use bytes::Bytes;
+use dav_core::errors::NoMemory;
+use dav_core::fs::DavFileSystem;
+use dav_core::ls::DavLock;
+use dav_core::method::DavMethodSet;
+use dav_engine::{Body, Caller, Reply};
+use dav_server::davhandler::{DavHandler, HandlerError};
+use dav_server::exchange::{Exchange, GrantToken, LAST_MOMENT, TokenError};
+use dav_store::memfs::MemFs;
+use dav_store::memls::MemLs;
+use dav_xml::XmlError;
+use std::alloc::{AllocError, Global};
+use std::marker::Model;
+use thiserror::Error;
+
+/// Why a request isn't answered.
+#[derive(Clone, Copy, Debug, PartialEq, Eq, Error)]
+pub enum HandleError {
+    /// The name of who makes it is empty, or has a character that no document has. Nothing was done.
+    #[error("Principal")]
+    Principal,
+    /// Memory ran out. The server may have done a part of the request: nothing more may be asked of it.
+    #[error("Memory")]
+    Memory,
+}
+
+impl From<AllocError> for HandleError {
+    ghost use Rattle.std.specs.Prelude.{◌≡◌};
+    ghost use Rattle.dav_http.specs.declared.handler.HandleError.TheVariants.{Memory};
+
+    ghost from_gives = { λ _ e. e ≡ Memory };
+
+    fn from(_error: AllocError) -> HandleError {
+        HandleError::Memory
+    }
+}
+
+/// A server over a store and locks in memory. What these hold may be sent.
+#[derive(Drop)]
+pub struct Handler {
+    handler: DavHandler<MemFs, MemLs>,
+}
+
+impl Model for Handler {
+    ghost use Rattle.std.specs.Prelude.{List};
+    ghost use Rattle.std.specs.Coded.{coded_list};
+    ghost use Rattle.dav_core.specs.contracts.errors.FsError as fs_error;
+    ghost use Rattle.dav_core.specs.LockCode.{lock_code};
+    ghost use Rattle.dav_core.specs.Locks.{Lock};
+    ghost use Rattle.dav_server.specs.Server.{HandlerView};
+    ghost use Rattle.dav_server.specs.ServerCode.{coded_handler};
+    ghost use Rattle.dav_store.specs.Store.{Store};
+    ghost use Rattle.dav_store.specs.StoreCode.{coded_store};
+    ghost use Rattle.dav_http.specs.SentLaws.{IsSendableServer};
+
+    ghost Value = { HandlerView Store (List Lock) };
+
+    ghost coded = { coded_handler coded_store (coded_list lock_code) fs_error.the_row.coded };
+
+    ghost view = { λ h. h.handler };
+
+    ghost invariant = { λ h. IsSendableServer h.handler.server.state };
+}
+
+// The body of a request with this method, as the machine takes it.
+fn body_of(alloc: Global, method: &[u8], body: Bytes) -> Result<Body, AllocError>
+    ensures { IfOk result (IsBodyOf method.now body) }
+{
+    if body.is_empty() {
+        return Ok(Body::None);
+    }
+    if !takes_tree(method) {
+        return Ok(Body::Bytes(body));
+    }
+    match dav_xml::read(alloc, body.as_slice()) {
+        Ok(tree) => Ok(Body::Tree(with_prefixed_owners(alloc, tree)?)),
+        Err(XmlError::Memory) => Err(AllocError),
+        Err(XmlError::Fault(_)) => Ok(Body::Malformed),
+    }
+}
+
+// The token of a text, where a lock can be granted with it.
+fn token_of(alloc: Global, text: Option<&str>) -> Result<Option<GrantToken>, NoMemory>
+    ensures { IfOk result (IsTokenOf (option_copied text.entry)) }
+{
+    let Some(text) = text else {
+        return Ok(None);
+    };
+    match GrantToken::new(alloc, text) {
+        Ok(token) => Ok(Some(token)),
+        Err(TokenError::Refused) => Ok(None),
+        Err(TokenError::Memory) => Err(NoMemory),
+    }
+}
+
+/// The method of a head; no bytes where it is none (RFC 9112, section 3.1).
+pub fn method_of(head: &[u8]) -> &[u8]
+    ensures { (r : Request) → IsHead head.now r → result.now ≡ r.method }
+{
+    match Head::read(head) {
+        Some(head) => head.method(),
+        None => &[],
+    }
+}
+
+// A request as the machine takes it.
+fn exchange_of<'r>(
+    alloc: Global,
+    head: &'r [u8],
+    body: Bytes,
+    caller: &Caller<'r>,
+) -> Result<Exchange<'r>, HandleError>
+    ensures asked { IfOk result (IsExchangeOf head.now body caller.now) }
+    ensures sendable { IfOk result (λ x. IsSendableTextIfAny x.principal) }
+    ensures principal { IsErrOf result HandleError.Principal
+        ↔ ¬ IsSendableTextIfAny caller.now.principal }
+{
+    if !is_sendable_if_any(caller.principal) {
+        return Err(HandleError::Principal);
+    }
+    let body = body_of(alloc, method_of(head), body)?;
+    let token = token_of(alloc, caller.token)?;
+    let moment = caller.moment.min(LAST_MOMENT);
+    match Exchange::new(head, body, caller.principal, moment, token) {
+        Ok(exchange) => Ok(exchange),
+        Err(_) => Err(HandleError::Memory),
+    }
+}
+
+impl Handler {
+    ghost use Rattle.std.specs.Prelude.{◌≡◌, ◌≤◌, ◌↔◌, Err, IfOk, List, OnErr, OnOk, Some};
+    ghost use Rattle.std.specs.Option.{option_copied};
+    ghost use Rattle.std.specs.Result.{IsErrOf};
+    ghost use Rattle.dav_core.specs.Locks.{Lock};
+    ghost use Rattle.dav_core.specs.World.{last_moment};
+    ghost use Rattle.dav_server.specs.Server.{Answers};
+    ghost use Rattle.dav_server.specs.Setup.{IsPrefix};
+    ghost use Rattle.dav_store.specs.LockEnds.{first_ended};
+    ghost use Rattle.dav_http.specs.Leaves.{Leaves};
+    ghost use Rattle.dav_http.specs.Sent.{IsReadByClient, IsSendableTextIfAny};
+    ghost use Rattle.dav_http.specs.SentLaws.{IsSendableRequest};
+    ghost use Rattle.dav_http.specs.Steps.{IsNew, IsStepFor};
+
+    /// The server of an empty store, for the paths below a prefix. `BadPrefix` where the text is none; `Memory` where memory
+    /// runs out.
+    pub fn new(alloc: Global, prefix: &str) -> Result<Handler, HandlerError>
+        ensures prefix { OnOk result (IsPrefix prefix.now) }
+        ensures new { IfOk result (λ h. IsNew prefix.now h.server) }
+        ensures bad { IsErrOf result HandlerError.BadPrefix → ¬ IsPrefix prefix.now }
+    {
+        let fs = MemFs::new(alloc)?;
+        let ls = MemLs::new(alloc)?;
+        let handler = DavHandler::new(alloc, prefix, DavMethodSet::all(), fs, Some(ls))?;
+        Ok(Handler { handler })
+    }
+
+    /// The reply to a request with this head and a body of these bytes, by this caller: those of a step of the machine. What
+    /// the client is told in XML it can read (RFC 4918, section 8.2). A request that only reads, one of a method that isn't
+    /// served, and one that is refused by a condition or a lock leave the server as it was (`Leaves`).
+    ///
+    /// `Principal` exactly where a reply can't tell the caller's name; nothing is changed then. `Memory` where memory runs out.
+    pub fn handle(
+        &mut self,
+        alloc: Global,
+        head: &[u8],
+        body: Bytes,
+        caller: &Caller<'_>,
+    ) -> Result<Reply, HandleError>
+        ensures step { IfOk result (λ reply.
+            IsStepFor head.now body caller.now self.old.server reply self.new.server) }
+        ensures left { IfOk result (λ reply. Leaves head.now reply.status
+            → self.new.server ≡ self.old.server) }
+        ensures principal { IsErrOf result HandleError.Principal
+            ↔ ¬ IsSendableTextIfAny caller.now.principal }
+        ensures unchanged { IsErrOf result HandleError.Principal → self.new ≡ self.old }
+    {
+        let exchange = exchange_of(alloc, head, body, caller)?;
+        self.answer(alloc, &exchange)
+    }
+
+    /// The first lock whose time ended at this moment or before, in seconds since 1970; `None` where none did.
+    pub fn first_ended(&self, now: u64) -> Option<&DavLock>
+        ensures { (locks : List Lock) → self.now.server.state.locks ≡ Some locks
+            → option_copied result ≡ first_ended now locks }
+    {
+        self.handler.locks()?.first_ended(now)
+    }
+
+    // The reply to a request that may be sent.
+    fn answer(&mut self, alloc: Global, exchange: &Exchange<'_>) -> Result<Reply, HandleError>
+        requires moment { exchange.now.moment ≤ last_moment }
+        requires sendable { IsSendableRequest exchange.now }
+        ensures same { self.new.server.settings ≡ self.old.server.settings }
+        ensures answers { IfOk result (λ reply.
+            Answers self.old.server exchange.now reply self.new.server) }
+        ensures read { IfOk result (λ reply. IsReadByClient reply.body) }
+        ensures left { IfOk result (λ reply. Leaves exchange.now.head reply.status
+            → self.new.server ≡ self.old.server) }
+        ensures memory { OnErr result (result ≡ Err HandleError.Memory) }
+    {
+        if self.handler.fs().was_short() {
+            return Err(HandleError::Memory);
+        }
+        match self.handler.handle(alloc, exchange) {
+            Ok(reply) => {
+                if self.handler.fs().was_short() {
+                    return Err(HandleError::Memory);
+                }
+                Ok(reply)
+            }
+            Err(_) => Err(HandleError::Memory),
+        }
+    }
+}

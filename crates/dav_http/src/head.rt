@@ -1,0 +1,179 @@
+//! The head of a request that came, read once, and what of it is run and kept (RFC 9112, sections 2 to 5).
+ghost use Rattle.std.specs.Prelude.{◌≡◌, ◌↔◌, ℕ, List, Ok, Option, true, IfOk, IsTrue, codes};
+ghost use Rattle.std.specs.Option.{option_map};
+ghost use Rattle.http_header.specs.HeaderMap.{get_all};
+ghost use Rattle.dav_core.specs.declared.method.DavMethod.{DavMethod as DavMethodValue};
+ghost use Rattle.dav_headers.specs.Timeout.{IsTimeout};
+ghost use Rattle.dav_headers.specs.Value.{Decodes};
+ghost use Rattle.dav_headers.specs.declared.timeout.DavTimeout.{DavTimeout as DavTimeoutValue};
+ghost use Rattle.dav_engine.specs.LockHeaders.{preferred};
+ghost use Rattle.dav_server.specs.Head.{IsHead, Request};
+ghost use Rattle.dav_server.specs.Headers.{headers_of};
+ghost use Rattle.dav_server.specs.Method.{GivesServed};
+ghost use Rattle.dav_server.specs.TagLaws.{is_safe};
+ghost use Rattle.dav_http.specs.Kept.{lowered};
+ghost use Rattle.dav_http.specs.Leaves.{Leaves};
+ghost use Rattle.dav_http.specs.Steps.{TakesTree};
+
+mod text;
+
+use dav_core::errors::NoMemory;
+use dav_core::method::DavMethod;
+use dav_engine::headers::{absent_if_invalid, values_of};
+use dav_headers::{DavTimeout, Timeout, names};
+use dav_server::head::{RequestView, headers_of, read_head};
+use dav_server::method::method_of;
+use std::alloc::Global;
+use std::marker::Model;
+
+/// A head that was read: it says a `Request`.
+#[derive(Drop)]
+pub struct Head<'a> {
+    bytes: &'a [u8],
+    view: RequestView<'a>,
+}
+
+impl<'a> Model for Head<'a> {
+    ghost use Rattle.dav_server.specs.Head.{Request, IsHead};
+
+    ghost Value = { Request };
+
+    ghost view = { λ h. h.view };
+
+    ghost invariant = { λ h. IsHead h.bytes.now h.view };
+}
+
+impl<'a> Head<'a> {
+    ghost use Rattle.std.specs.Prelude.{◌≡◌, IfOk, MatchOption};
+    ghost use Rattle.std.specs.Option.{option_map};
+    ghost use Rattle.std.specs.List.{slice_get};
+    ghost use Rattle.dav_server.specs.Head.{Request, IsHead, values_of};
+    ghost use Rattle.dav_http.specs.Kept.{IsKeptOf, Says};
+
+    /// Reads a head that is all of the bytes; none where the machine reads none in them. Allocates nothing.
+    pub fn read(bytes: &'a [u8]) -> Option<Head<'a>>
+        ensures { MatchOption result
+            ((r : Request) → ¬ IsHead bytes.now r) (λ head. IsHead bytes.now head) }
+    {
+        let view = read_head(bytes).ok()?;
+        Some(Head { bytes, view })
+    }
+
+    /// The method, as it is in the request line (RFC 9112, section 3.1).
+    pub fn method(&self) -> &'a [u8]
+        ensures { result.now ≡ self.now.method }
+    {
+        self.view.method()
+    }
+
+    /// The target, as it is in the request line (RFC 9112, section 3.2).
+    pub fn target(&self) -> &'a str
+        ensures { result.now ≡ self.now.target }
+    {
+        self.view.target()
+    }
+
+    /// The value of the first field with this name, without the optional whitespace (OWS) around it. ASCII case makes no
+    /// difference in a name (RFC 9110, section 5.1).
+    pub fn value(&self, name: &str) -> Option<&'a [u8]>
+        ensures { option_map (λ v. v.now) result
+            ≡ slice_get (values_of name.now self.now.fields) 0 }
+    {
+        self.view.values(name).next()
+    }
+
+    /// The head that is run and kept: without the fields that show who asks, and those that speak of the connection alone; and
+    /// in place of a LOCK's Timeout one of the seconds that it asks for, at most `most` (RFC 4918, section 10.7).
+    pub fn kept(&self, alloc: Global, most: u32) -> Result<Vec<u8>, NoMemory>
+        ensures { IfOk result (λ kept. (r : Request)
+            × IsKeptOf most self.now r × Says kept.items r) }
+    {
+        if is_lock(self.method()) {
+            let seconds = wanted_seconds(alloc, &self.view, most)?;
+            text::lock_text(alloc, &self.view, seconds)
+        } else {
+            text::other_text(alloc, &self.view)
+        }
+    }
+}
+
+/// Whether a method is LOCK (RFC 4918, section 9.10).
+pub fn is_lock(method: &[u8]) -> bool
+    ensures { IsTrue result ↔ (method.now ≡ codes "LOCK") }
+{
+    method == b"LOCK".as_slice()
+}
+
+/// Whether a method's body is an element tree (RFC 4918, sections 9.1, 9.2 and 9.10).
+pub fn takes_tree(method: &[u8]) -> bool
+    ensures { IsTrue result ↔ TakesTree method.now }
+{
+    method == b"PROPFIND".as_slice() || method == b"PROPPATCH".as_slice() || is_lock(method)
+}
+
+/// Whether a method only reads: GET, HEAD, OPTIONS and PROPFIND (RFC 9110, section 9.2.1; RFC 4918, section 9.1).
+pub fn is_safe(method: &[u8]) -> bool
+    ensures { IsTrue result
+        ↔ (m : DavMethodValue) × GivesServed method.now (Ok m) × (is_safe m ≡ true) }
+{
+    matches!(
+        method_of(method),
+        Ok(DavMethod::Get | DavMethod::Head | DavMethod::Options | DavMethod::PropFind)
+    )
+}
+
+// Whether a method is served.
+fn is_served(method: &[u8]) -> bool
+    ensures { IsTrue result ↔ (m : DavMethodValue) × GivesServed method.now (Ok m) }
+{
+    method_of(method).is_ok()
+}
+
+// Whether a request with this method, and which is answered with this status, left the server as it was.
+fn method_leaves(method: &[u8], status: u16) -> bool
+    ensures { (head : List ℕ) (r : Request) → IsHead head r → method.now ≡ r.method
+        → (IsTrue result ↔ Leaves head status) }
+{
+    let (safe, served, lock) = (is_safe(method), is_served(method), is_lock(method));
+    safe | (!served | ((status == 423) | ((status == 412) & !lock)))
+}
+
+/// Whether a request with this head, and which is answered with this status, left the server as it was: the bytes are no head,
+/// its method only reads or isn't served, or it is refused by a lock or, but for LOCK, by a condition (RFC 9110, sections 9.2.1,
+/// 13.2.1 and 15.6.2; RFC 4918, section 11.3).
+pub fn leaves(head: &[u8], status: u16) -> bool
+    ensures { IsTrue result ↔ Leaves head.now status }
+{
+    match Head::read(head) {
+        Some(head) => method_leaves(head.method(), status),
+        None => true,
+    }
+}
+
+// The times that Timeout asks for, where it is one (RFC 4918, section 10.7).
+fn timeout_of(alloc: Global, view: &RequestView<'_>) -> Result<Option<Timeout>, NoMemory>
+    ensures { IfOk result (λ t. Decodes IsTimeout
+        (get_all (headers_of view.now.fields) (codes "timeout"))
+        (option_map (λ times. times.0.items) t)) }
+{
+    let headers = headers_of(alloc, view)?;
+    let values = values_of(alloc, &headers, names::TIMEOUT())?;
+    absent_if_invalid(Timeout::decode(alloc, &values))
+}
+
+// For how many seconds a LOCK asks, at most this many.
+fn wanted_seconds(alloc: Global, view: &RequestView<'_>, most: u32) -> Result<u32, NoMemory>
+    ensures { IfOk result (λ n. (times : Option (List DavTimeoutValue))
+        × Decodes IsTimeout (get_all (headers_of view.now.fields) (codes "timeout")) times
+        × (n ≡ lowered most (preferred times))) }
+{
+    let timeout = timeout_of(alloc, view)?;
+    let first = match &timeout {
+        Some(timeout) => timeout.0.first(),
+        None => None,
+    };
+    match first {
+        Some(DavTimeout::Seconds(seconds)) => Ok((*seconds).min(most)),
+        _ => Ok(most),
+    }
+}

@@ -1,0 +1,33 @@
+//! Laws of replies. Each function does nothing: its contract is a theorem on the definitions.
+ghost use Rattle.dav_http.specs.SentLaws.{CutsStaySendable, NewIsSendable, RunsAreReadAgain, StepsAreReadAgain, PrefixedOwnersMayBeSent, UsualOwnersMayBeSent};
+
+/// The element tree that a request is answered with is read again by its client as the tree that it means, whatever the store refuses,
+/// where it has at most 64 levels, each element that is written has at most 256 attributes and is within at most 256 declarations, and
+/// the whole has at most 1 MiB. What the request brought and what was kept before may be sent; so what is kept then may be, also where
+/// memory ran out (RFC 4918, section 8.2).
+#[tactic(auto, using(crate::proofs::SentSteps::steps_are_read_again, crate::proofs::SentSteps::cuts_stay_sendable))]
+pub fn replies_are_read_again()
+    ensures answered { StepsAreReadAgain }
+    ensures cut { CutsStaySendable }
+{}
+
+/// So is the tree of each reply of a run of such requests, from a new server on.
+#[tactic(auto, using(crate::proofs::SentSteps::runs_are_read_again, crate::proofs::SentSteps::new_is_sendable))]
+pub fn runs_are_read_again()
+    ensures run { RunsAreReadAgain }
+    ensures new { NewIsSendable }
+{}
+
+/// The server keeps the owner that a LOCK tells, with the prefix `D`. So kept it may be sent where it is as the standard has it: of the
+/// namespace `DAV:`, without attributes (RFC 4918, section 14.17).
+#[tactic(auto, using(crate::proofs::SentOwners::usual_owners_may_be_sent))]
+pub fn usual_owners_may_be_sent()
+    ensures { UsualOwnersMayBeSent }
+{}
+
+/// An owner with attributes, or of another namespace, gets the prefix before: so each tree that may be sent may be sent as a
+/// body (RFC 4918, section 14.17).
+#[tactic(auto, using(crate::proofs::SentOwners::prefixed_owners_may_be_sent))]
+pub fn prefixed_owners_may_be_sent()
+    ensures { PrefixedOwnersMayBeSent }
+{}

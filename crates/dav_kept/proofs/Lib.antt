@@ -1,0 +1,4 @@
+pub mod KeptLemmas
+pub mod LifeLemmas
+pub mod ReadLemmas
+pub mod RecordLemmas

@@ -1,0 +1,37 @@
+//! What answers requests.
+ghost use Rattle.std.specs.Prelude.{◌≡◌, IfOk};
+ghost use Rattle.http_server.specs.declared.response.Response.{Response};
+ghost use Rattle.http_server.specs.Response.{IsBlank};
+ghost use Rattle.dav_kept.specs.Records.{RequestView};
+ghost use Rattle.dav_kept.specs.declared.handler.Effect.TheVariants.{Left};
+
+use crate::error::HandleError;
+use crate::record::Request;
+use http_server::Response;
+
+/// What an answer did to the state.
+#[derive(Clone, Copy, Debug, PartialEq, Eq)]
+pub enum Effect {
+    /// The state is as it was.
+    Left,
+    /// It may be another.
+    Changed,
+}
+
+/// What answers requests out of a state of its own, which an answer may change.
+pub trait Handles {
+    // This response answers this request in the first state, and leaves the second.
+    ghost answers: { Self → RequestView → Response → Self → Type 0 };
+
+    /// Answers a request: fills the response, which comes blank. `Malformed` where the request is
+    /// none that this handler takes, `Memory` where memory runs out; after an error nothing may be
+    /// asked.
+    fn handle(
+        &mut self,
+        request: &Request<'_>,
+        response: &mut Response,
+    ) -> Result<Effect, HandleError>
+        requires { IsBlank response.old }
+        ensures answers { IfOk result (λ _. answers self.old request.now response.new self.new) }
+        ensures left { IfOk result (λ effect. effect ≡ Left → self.new ≡ self.old) };
+}

@@ -1,0 +1,36 @@
+-- How the machine of a live server answers (RFC 9110, section 3; RFC 4918, section 8).
+use Rattle.std.specs.Prelude.{◌≡◌, ◌⊎◌, ◌↔◌, ℕ, Bool, true, List, codes}
+use Rattle.http_server.specs.declared.response.Response.{Response}
+use Rattle.dav_engine.specs.Caller.{Caller}
+use Rattle.dav_engine.specs.Reply.{Reply}
+use Rattle.dav_server.specs.Head.{IsHead, Request}
+use Rattle.dav_server.specs.Server.{Server}
+use Rattle.dav_http.specs.Sending.{IsSentAs}
+use Rattle.dav_http.specs.Steps.{IsStepFor}
+use Rattle.dav_kept.specs.Records.{RequestView}
+
+-- who makes a request, when, and the token for a lock that it creates
+abbrev pub caller_of : RequestView → Caller
+caller_of q = record { principal = q.principal; moment = q.moment; token = q.token }
+
+-- these bytes are a head with this method
+abbrev pub HasMethod : List ℕ → List ℕ → Type 0
+HasMethod method head = (r : Request) × IsHead head r × (r.method ≡ method)
+
+-- a request with this head asks for a representation (RFC 9110, sections 9.3.1 and 9.3.2)
+abbrev pub AsksToSee : List ℕ → Type 0
+AsksToSee head = HasMethod (codes "GET") head ⊎ HasMethod (codes "HEAD") head
+
+-- this says whether a request with this head is a HEAD
+abbrev pub TellsHead : List ℕ → Bool → Type 0
+TellsHead head is_head = (r : Request) → IsHead head r → (is_head ≡ true) ↔ (r.method ≡ codes "HEAD")
+
+-- a reply to a request with this head, as it is sent
+abbrev pub IsSentFor : List ℕ → Reply → Response → Type 0
+IsSentFor head r sent = (is_head : Bool) × TellsHead head is_head × IsSentAs is_head r sent
+
+-- The response to a request, and the server that is left: the reply of a step of the machine, as it is sent; or, where that is 405 to the
+-- GET or HEAD of a folder, a page of 200 for a person, and then the server is as it was.
+pub data IsAnswer (old : Server) (q : RequestView) (sent : Response) : Server → Type 0 where
+  replied : {new : Server} (r : Reply) → IsStepFor q.head q.body (caller_of q) old r new → IsSentFor q.head r sent → IsAnswer old q sent new
+  shown : (r : Reply) → AsksToSee q.head → IsStepFor q.head q.body (caller_of q) old r old → r.status ≡ 405 → sent.status ≡ 200 → IsAnswer old q sent old

@@ -1,0 +1,252 @@
+//! What the requests of a live server are answered by: the machine, and a page where somebody asks for a folder.
+ghost use Rattle.std.specs.Prelude.{◌≡◌, ◌⊎◌, ◌↔◌, IfOk, IsFalse, IsTrue, OnOk, codes};
+ghost use Rattle.http_server.specs.Response.{IsBlank};
+ghost use Rattle.dav_http.specs.Leaves.{Leaves};
+ghost use Rattle.dav_http.specs.Steps.{IsStepFor};
+ghost use Rattle.dav_kept.specs.declared.handler.Effect.TheVariants.{Left};
+ghost use Rattle.dav_live.specs.Answers.{AsksToSee, IsAnswer, IsSentFor, caller_of};
+
+use crate::page;
+use bytes::Bytes;
+use dav_core::errors::NoMemory;
+use dav_engine::{Caller, Reply, ReplyBody};
+use dav_http::{HandleError as HttpError, Handler, Head, leaves, method_of, send, unlock_head};
+use dav_kept::{Effect, HandleError, Handles, Request};
+use http_server::Response;
+use std::alloc::Global;
+use std::marker::Model;
+
+/// A machine, as records are played on it.
+#[derive(Drop)]
+pub struct Machine {
+    alloc: Global,
+    handler: Handler,
+}
+
+impl Model for Machine {
+    ghost use Rattle.dav_core.specs.contracts.errors.FsError as fs_error;
+    ghost use Rattle.dav_server.specs.Server.{Server};
+    ghost use Rattle.dav_server.specs.ServerCode.{server_code};
+
+    ghost Value = { Server };
+
+    ghost coded = { server_code fs_error.the_row.coded };
+
+    ghost view = { λ m. m.handler.server };
+}
+
+// Whether a method is HEAD.
+fn is_head(method: &[u8]) -> bool
+    ensures { IsTrue result ↔ (method.now ≡ codes "HEAD") }
+{
+    method == b"HEAD".as_slice()
+}
+
+// Whether a method asks for a representation.
+fn is_get_or_head(method: &[u8]) -> bool
+    ensures { IsTrue result ↔ (method.now ≡ codes "GET") ⊎ (method.now ≡ codes "HEAD") }
+{
+    method == b"GET".as_slice() || is_head(method)
+}
+
+impl Machine {
+    /// The machine of a server.
+    pub fn new(alloc: Global, handler: Handler) -> Machine
+        ensures { result ≡ handler.server }
+    {
+        Machine { alloc, handler }
+    }
+
+    /// The head of the request that ends the first lock whose time has passed, if there is one.
+    pub fn next_end(&self, now: u64) -> Result<Option<String>, NoMemory> {
+        match self.handler.first_ended(now) {
+            Some(lock) => Ok(Some(unlock_head(self.alloc, lock)?)),
+            None => Ok(None),
+        }
+    }
+}
+
+// Why a handler has no answer to a request.
+fn refused(error: HttpError) -> HandleError {
+    match error {
+        HttpError::Memory => HandleError::Memory,
+        HttpError::Principal => HandleError::Malformed,
+    }
+}
+
+impl Machine {
+    // The reply of the handler to a request.
+    fn run(&mut self, request: &Request<'_>) -> Result<Reply, HttpError>
+        ensures step { IfOk result (λ reply. IsStepFor request.now.head request.now.body
+            (caller_of request.now) self.old reply self.new) }
+        ensures left { IfOk result (λ reply. Leaves request.now.head reply.status
+            → self.new ≡ self.old) }
+    {
+        let caller = caller_of(request);
+        let body = request.body.clone()?;
+        self.handler.handle(self.alloc, request.head, body, &caller)
+    }
+
+    // The reply to a request.
+    fn reply_to(&mut self, request: &Request<'_>) -> Result<Reply, HandleError>
+        ensures step { IfOk result (λ reply. IsStepFor request.now.head request.now.body
+            (caller_of request.now) self.old reply self.new) }
+        ensures left { IfOk result (λ reply. Leaves request.now.head reply.status
+            → self.new ≡ self.old) }
+    {
+        match self.run(request) {
+            Ok(reply) => Ok(reply),
+            Err(error) => Err(refused(error)),
+        }
+    }
+
+    // The reply of the handler to a request with this head and body.
+    fn ask(&mut self, head: &[u8], body: Bytes, caller: &Caller<'_>) -> Result<Reply, HttpError>
+        ensures left { IfOk result (λ reply. Leaves head.now reply.status
+            → self.new ≡ self.old) }
+    {
+        self.handler.handle(self.alloc, head, body, caller)
+    }
+
+    // The same, and `Malformed` where it isn't known that the request leaves the state.
+    fn read(&mut self, head: &[u8], body: Bytes, caller: &Caller<'_>) -> Result<Reply, HandleError>
+        ensures { OnOk result (self.new ≡ self.old) }
+    {
+        match self.ask(head, body, caller) {
+            Ok(reply) => left_only(head, reply),
+            Err(error) => Err(refused(error)),
+        }
+    }
+
+    // Fills the response with a page of the folder that a request asks for. False where it can't be listed.
+    fn show(&mut self, request: &Request<'_>, response: &mut Response) -> Result<bool, HandleError>
+        requires { IsBlank response.old }
+        ensures same { OnOk result (self.new ≡ self.old) }
+        ensures shown { IfOk result (λ is. IsTrue is → response.new.status ≡ 200) }
+        ensures blank { IfOk result (λ is. IsFalse is → response.new ≡ response.old) }
+    {
+        let head = page::asking_head(self.alloc, request.head)?;
+        let caller = caller_of(request);
+        let reply = self.read(&head, Bytes::from_static(page::ASKED), &caller)?;
+        if reply.status.as_u16() != 207 {
+            return Ok(false);
+        }
+        let is_head = is_head(method_of(request.head));
+        show_tree(self.alloc, &reply.body, is_head, response)
+    }
+}
+
+// A reply to a request with this head that is known to leave the server.
+fn left_only(head: &[u8], reply: Reply) -> Result<Reply, HandleError>
+    ensures { OnOk result (Leaves head.now reply.status) }
+{
+    if leaves(head, reply.status.as_u16()) {
+        Ok(reply)
+    } else {
+        Err(HandleError::Malformed)
+    }
+}
+
+// Fills the response with a page of what a PROPFIND told; false where that is no element tree.
+fn show_tree(
+    alloc: Global,
+    body: &ReplyBody,
+    is_head: bool,
+    response: &mut Response,
+) -> Result<bool, HandleError>
+    ensures shown { IfOk result (λ is. IsTrue is → response.new.status ≡ 200) }
+    ensures blank { IfOk result (λ is. IsFalse is → response.new ≡ response.old) }
+{
+    match body {
+        ReplyBody::Tree(tree) => {
+            page::show(alloc, tree, is_head, response)?;
+            Ok(true)
+        }
+        _ => Ok(false),
+    }
+}
+
+// Who makes a request.
+fn caller_of<'r>(request: &Request<'r>) -> Caller<'r>
+    ensures { result ≡ caller_of request.now }
+{
+    Caller {
+        principal: request.principal,
+        moment: request.moment,
+        token: request.token,
+    }
+}
+
+// Whether a request with this head asks for a folder as for a file.
+fn is_for_folder(head: &[u8], reply: &Reply) -> bool
+    ensures { IsTrue result → (reply.now.status ≡ 405) × AsksToSee head.now }
+{
+    match Head::read(head) {
+        Some(head) => reply.status.as_u16() == 405 && is_get_or_head(head.method()),
+        None => false,
+    }
+}
+
+// What an answer with this status did to the state.
+fn effect_of(head: &[u8], status: u16) -> Effect
+    ensures { result ≡ Left → Leaves head.now status }
+{
+    if leaves(head, status) {
+        Effect::Left
+    } else {
+        Effect::Changed
+    }
+}
+
+// Fills the response to a request with this head with a reply.
+fn answer_with(
+    alloc: Global,
+    head: &[u8],
+    reply: Reply,
+    response: &mut Response,
+) -> Result<Effect, HandleError>
+    requires { IsBlank response.old }
+    ensures { IfOk result (λ effect. IsSentFor head.now reply response.new
+        × (effect ≡ Left → Leaves head.now reply.status)) }
+{
+    let effect = effect_of(head, reply.status.as_u16());
+    let is_head = is_head(method_of(head));
+    send(alloc, reply, is_head, response)?;
+    Ok(effect)
+}
+
+impl Machine {
+    // Fills the response to a request for a folder with a page; where there is none with the reply.
+    fn answer_folder(
+        &mut self,
+        request: &Request<'_>,
+        reply: Reply,
+        response: &mut Response,
+    ) -> Result<Effect, HandleError>
+        requires { IsBlank response.old }
+        ensures { OnOk result ((self.new ≡ self.old) × ((response.new.status ≡ 200)
+            ⊎ IsSentFor request.now.head reply response.new)) }
+    {
+        if self.show(request, response)? {
+            return Ok(Effect::Left);
+        }
+        answer_with(self.alloc, request.head, reply, response)
+    }
+}
+
+impl Handles for Machine {
+    ghost answers = { λ old request response new. IsAnswer old request response new };
+
+    fn handle(
+        &mut self,
+        request: &Request<'_>,
+        response: &mut Response,
+    ) -> Result<Effect, HandleError> {
+        let reply = self.reply_to(request)?;
+        if is_for_folder(request.head, &reply) {
+            self.answer_folder(request, reply, response)
+        } else {
+            answer_with(self.alloc, request.head, reply, response)
+        }
+    }
+}

@@ -1,0 +1,6 @@
+pub mod FrameLemmas
+pub mod Carried
+pub mod Readings
+pub mod RestLemmas
+pub mod SlotLemmas
+pub mod TurnLemmas

@@ -1,0 +1,4 @@
+pub mod Frames
+pub mod Connections
+pub mod Turns
+pub mod Laws

@@ -1,0 +1,19 @@
+//! All connections of a live server, behind one stream of reports and one of orders.
+//!
+//! A front moves bytes between sockets and this program. It reports what happened to each
+//! connection, and carries out one order for each report. Here each report goes to the connection
+//! of its slot, and nothing is released before all that was answered is kept.
+#![tactic(auto)]
+
+mod connection;
+mod frames;
+mod keeper;
+mod laws;
+mod table;
+#[cfg(test)]
+mod tests;
+mod turns;
+
+pub use keeper::{Keeper, TurnError};
+pub use laws::{orders_answer_what_came, reads_are_at_rest, reports_have_one_reading};
+pub use turns::Turns;

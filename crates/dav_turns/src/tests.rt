@@ -1,0 +1,394 @@
+//! Reports as rows of bytes, and turns as rows of text: reports, what the keeper was told, and the
+//! orders.
+use crate::frames::{
+    CLOSE, GONE, GOT, HELLO, Next, OPENED, READ, SENT, TELL, TICK, USERS, next_in,
+};
+use crate::{Keeper, TurnError, Turns};
+use dav_wire::{Answerer, Asked, Config, Rejection, Stop};
+use http_server::Response;
+use http1::Limits;
+use std::alloc::{AllocError, Global};
+use std::test::Fail;
+
+/// Bytes as two digits each, by docs/SERVE.md: slot, kind, length, seconds, and the bytes that
+/// came.
+const FRAMES: &str = "\
+# nothing, a part, a whole report, too much
+ -> part
+02 -> part
+02000000 02 03000000 05000000000000 -> part
+02000000 02 03000000 0500000000000000 -> part
+02000000 02 03000000 0500000000000000 6162 -> part
+02000000 02 03000000 0500000000000000 616263 -> 2 2 5 abc
+02000000 02 03000000 0500000000000000 61626364 -> 2 2 5 abc
+ff010000 05 00000000 0001000000000000 -> 511 5 256 
+78563412 ff 00000000 ffffffffffffffff -> 305419896 255 18446744073709551615 
+00000000 02 00000100 0000000000000000 -> part
+00000000 02 01000100 0000000000000000 -> wrong
+00000000 02 000000ff 0000000000000000 61 -> wrong
+00000000 02 01000100 00000000000000 -> part
+";
+
+/// Reports are kind, slot, seconds and bytes. `^` is CRLF. The keeper says what it was told, and
+/// the orders are slot, what is next, and bytes; after `!` it is why the turn failed, and nothing
+/// was written.
+const TURNS: &str = "\
+# what isn't for a connection
+ -> commit -> 
+hello 0 7 abc -> at 7, hello abc, commit -> 
+tick 0 8 -> at 8, mark, commit -> 
+users 0 8 anna:x -> at 8, users anna:x, commit -> 
+tick 0 8 ; tick 0 9 -> at 8, mark, at 9, mark, commit -> 
+
+# connections in their slots
+opened 2 5 ::1 -> at 5, commit -> 2 read 
+opened 0 5 a ; opened 511 6 b -> at 5, at 6, commit -> 0 read  ; 511 read 
+opened 2 5 a ; got 2 6 GET /x HTTP/1.1^Host: h^^ -> at 5, at 6, from a, GET /x, commit -> 2 read  ; 2 read HTTP/1.1 200 OK^content-length: 7^^GET /x|
+opened 2 5 a ; opened 3 5 b ; got 3 6 GET /x HTTP/1.1^Host: h^^ ; got 2 6 GET /y HTTP/1.1^Host: h^^ -> at 5, at 5, at 6, from b, GET /x, at 6, from a, GET /y, commit -> 2 read  ; 3 read  ; 3 read HTTP/1.1 200 OK^content-length: 7^^GET /x| ; 2 read HTTP/1.1 200 OK^content-length: 7^^GET /y|
+opened 2 5 a ; opened 3 5 b ; got 2 6 PUT /x HTTP/1.1^Host: h^ ; got 3 6 GET /y HTTP/1.1^ ; got 2 7 Content-Length: 2^^hi ; got 3 7 Host: h^^ -> at 5, at 5, at 6, from a, at 6, from b, at 7, from a, PUT /x, at 7, from b, GET /y, commit -> 2 read  ; 3 read  ; 2 read  ; 3 read  ; 2 read HTTP/1.1 200 OK^content-length: 9^^PUT /x|hi ; 3 read HTTP/1.1 200 OK^content-length: 7^^GET /y|
+
+# what is sent before more is read
+opened 2 5 a ; got 2 6 PUT /x HTTP/1.1^Host: h^Content-Length: 20^^01234567890123456789GET /y HTTP/1.1^Host: h^^ -> at 5, at 6, from a, PUT /x, commit -> 2 read  ; 2 tell HTTP/1.1 200 OK^content-length: 27^^PUT /x|01234567890123456789
+opened 2 5 a ; got 2 6 PUT /x HTTP/1.1^Host: h^Content-Length: 20^^01234567890123456789GET /y HTTP/1.1^Host: h^^ ; sent 2 7 -> at 5, at 6, from a, PUT /x, at 7, from a, GET /y, commit -> 2 read  ; 2 tell HTTP/1.1 200 OK^content-length: 27^^PUT /x|01234567890123456789 ; 2 read HTTP/1.1 200 OK^content-length: 7^^GET /y|
+
+# a request that isn't taken
+opened 2 5 a ; got 2 6 PUT /no HTTP/1.1^Host: h^Content-Length: 20^^ -> at 5, at 6, from a, no PUT /no, commit -> 2 read  ; 2 close HTTP/1.1 403 Forbidden^connection: close^content-length: 0^^
+opened 2 5 a ; got 2 6 PUT /x HTTP/1.1^Host: h^Content-Length: 2^^hiPUT /no HTTP/1.1^Host: h^^GET /y HTTP/1.1^Host: h^^ -> at 5, at 6, from a, PUT /x, no PUT /no, commit -> 2 read  ; 2 tell HTTP/1.1 200 OK^content-length: 9^^PUT /x|hiHTTP/1.1 403 Forbidden^connection: close^content-length: 0^^
+
+# the end of a connection
+opened 2 5 a ; got 2 6 -> at 5, at 6, from a, commit -> 2 read  ; 2 close 
+opened 2 5 a ; got 2 6 GET /x HTTP/1.0^^ ; opened 2 7 b -> at 5, at 6, from a, GET /x, at 7, commit -> 2 read  ; 2 close HTTP/1.0 200 OK^content-length: 7^connection: close^^GET /x| ; 2 read 
+opened 2 5 a ; gone 2 6 ; opened 2 7 b ; got 2 8 GET /x HTTP/1.1^Host: h^^ -> at 5, at 6, at 7, at 8, from b, GET /x, commit -> 2 read  ; 2 read  ; 2 read HTTP/1.1 200 OK^content-length: 7^^GET /x|
+opened 2 5 a ; got 2 6 GET ; gone 2 6 ; opened 2 7 b ; got 2 8 GET /x HTTP/1.1^Host: h^^ -> at 5, at 6, from a, at 6, at 7, at 8, from b, GET /x, commit -> 2 read  ; 2 read  ; 2 read  ; 2 read HTTP/1.1 200 OK^content-length: 7^^GET /x|
+
+# what doesn't fit
+opened 512 5 a -> ! Pipe
+opened 2 5 a ; opened 2 5 b -> ! Pipe
+got 2 5 GET -> ! Pipe
+sent 2 5 -> ! Pipe
+gone 2 5 -> ! Pipe
+opened 2 5 a ; gone 2 5 ; got 2 5 GET -> ! Pipe
+opened 2 5 a ; got 2 6 ; gone 2 6 -> ! Pipe
+opened 2 5 a ; got 3 6 GET -> ! Pipe
+other 2 5 -> ! Pipe
+
+# a keeper that stops
+opened 2 5 a ; got 2 6 GET /memory HTTP/1.1^Host: h^^ -> ! Memory
+opened 2 5 a ; got 2 6 GET /disk HTTP/1.1^Host: h^^ -> ! Disk
+hello 0 5 full ; opened 2 5 a ; got 2 6 GET /x HTTP/1.1^Host: h^^ -> ! Disk
+users 0 5 none -> ! Memory
+opened 2 5 a ; got 2 6 PUT /stop HTTP/1.1^Host: h^Content-Length: 20^^ -> ! Disk
+";
+
+const CONFIG: Config = Config {
+    limits: Limits {
+        max_head_len: 128,
+        max_extensions_len: 16,
+        max_trailers_len: 64,
+    },
+    max_body_len: 32,
+    max_tree_len: 32,
+    max_pending: 64,
+};
+
+// Answers with the method, the target and the body, and says what it was told. It doesn't take
+// `PUT /no`.
+#[derive(Drop)]
+struct Noting {
+    alloc: Global,
+    notes: Vec<u8>,
+    is_full: bool,
+}
+
+impl Noting {
+    fn note(&mut self, what: &str, bytes: &[u8]) -> Result<(), Stop> {
+        if !self.notes.is_empty() {
+            self.notes.extend_from_slice(b", ")?;
+        }
+        self.notes.extend_from_slice(what.as_bytes())?;
+        Ok(self.notes.extend_from_slice(bytes)?)
+    }
+}
+
+impl Answerer for Noting {
+    ghost judges = { λ old head verdict new. Unit {0} };
+
+    ghost answers = { λ old asked response new. Unit {0} };
+
+    fn judge(&mut self, head: &[u8]) -> Result<Option<Rejection>, Stop> {
+        let line = line_of(head);
+        if line == b"PUT /stop".as_slice() {
+            return Err(Stop::Disk);
+        }
+        if line != b"PUT /no".as_slice() {
+            return Ok(None);
+        }
+        self.note("no ", line)?;
+        Ok(Some(Rejection::Forbidden))
+    }
+
+    fn answer(&mut self, asked: &Asked, response: &mut Response) -> Result<(), Stop> {
+        let line = line_of(asked.head.as_slice());
+        if line == b"GET /memory".as_slice() {
+            return Err(Stop::Memory);
+        }
+        if line == b"GET /disk".as_slice() {
+            return Err(Stop::Disk);
+        }
+        self.note("", line)?;
+        let mut text = Vec::from_slice(self.alloc, line)?;
+        text.push(b'|')?;
+        text.extend_from_slice(asked.body.as_slice())?;
+        response.body.push(bytes::Bytes::from_vec(text)?)?;
+        Ok(())
+    }
+}
+
+impl Keeper for Noting {
+    ghost greeted = { λ old bytes new. Unit {0} };
+
+    ghost listed = { λ old bytes new. Unit {0} };
+
+    ghost placed = { λ old bytes new. Unit {0} };
+
+    ghost passed = { λ old seconds new. Unit {0} };
+
+    ghost marked = { λ old new. Unit {0} };
+
+    ghost kept = { λ old new. Unit {0} };
+
+    fn hear_hello(&mut self, bytes: &[u8]) {
+        self.is_full = bytes == b"full".as_slice();
+        let _ = self.note("hello ", bytes);
+    }
+
+    fn hear_users(&mut self, bytes: &[u8]) -> Result<(), Stop> {
+        if bytes == b"none".as_slice() {
+            return Err(Stop::Memory);
+        }
+        self.note("users ", bytes)
+    }
+
+    fn hear_address(&mut self, address: &[u8]) -> Result<(), Stop> {
+        self.note("from ", address)
+    }
+
+    fn hear_moment(&mut self, seconds: u64) -> Result<(), Stop> {
+        let text = format!(in self.alloc; "at {seconds}")?;
+        self.note(text.as_str(), &[])
+    }
+
+    fn keep_mark(&mut self) -> Result<(), Stop> {
+        self.note("mark", &[])
+    }
+
+    fn commit(&mut self) -> Result<(), Stop> {
+        if self.is_full {
+            return Err(Stop::Disk);
+        }
+        self.note("commit", &[])
+    }
+}
+
+// The method and the target of a head.
+fn line_of(head: &[u8]) -> &[u8] {
+    let line = head.split(|b| *b == b'\r').next().unwrap_or(&[]);
+    let end = line.iter().rposition(|b| *b == b' ').unwrap_or(line.len());
+    line.get(..end).unwrap_or(&[])
+}
+
+// The bytes of a text in a row.
+fn unescaped(alloc: Global, text: &str) -> Result<Vec<u8>, AllocError> {
+    let mut out = Vec::new(alloc);
+    for byte in text.as_bytes() {
+        if *byte == b'^' {
+            out.extend_from_slice(b"\r\n")?;
+        } else {
+            out.push(*byte)?;
+        }
+    }
+    Ok(out)
+}
+
+// The kind of a report.
+fn kind_of(name: &str) -> u8 {
+    match name {
+        "hello" => HELLO,
+        "opened" => OPENED,
+        "got" => GOT,
+        "sent" => SENT,
+        "gone" => GONE,
+        "tick" => TICK,
+        "users" => USERS,
+        _ => 7,
+    }
+}
+
+// How many bytes these are; no row has many.
+fn len_of(bytes: &[u8]) -> u32 {
+    u32::try_from(bytes.len()).unwrap_or(u32::MAX)
+}
+
+// Adds a report, as its row has it.
+fn add_report(out: &mut Vec<u8>, alloc: Global, text: &str) -> Result<(), AllocError> {
+    let mut words = text.splitn(4, ' ');
+    let kind = kind_of(words.next().unwrap_or(""));
+    let slot = words.next().unwrap_or("").parse::<u32>().unwrap_or(0);
+    let seconds = words.next().unwrap_or("").parse::<u64>().unwrap_or(0);
+    let bytes = unescaped(alloc, words.next().unwrap_or(""))?;
+    out.extend_from_slice(&slot.to_le_bytes())?;
+    out.push(kind)?;
+    out.extend_from_slice(&len_of(&bytes).to_le_bytes())?;
+    out.extend_from_slice(&seconds.to_le_bytes())?;
+    out.extend_from_slice(&bytes)
+}
+
+// The orders of a row, as their bytes.
+fn orders_in(alloc: Global, text: &str) -> Result<Vec<u8>, AllocError> {
+    let mut out = Vec::new(alloc);
+    if text.is_empty() {
+        return Ok(out);
+    }
+    for order in text.split(" ; ") {
+        let mut words = order.splitn(3, ' ');
+        let slot = words.next().unwrap_or("").parse::<u32>().unwrap_or(0);
+        let next = match words.next().unwrap_or("") {
+            "tell" => TELL,
+            "read" => READ,
+            _ => CLOSE,
+        };
+        let bytes = unescaped(alloc, words.next().unwrap_or(""))?;
+        out.extend_from_slice(&slot.to_le_bytes())?;
+        out.push(next)?;
+        out.extend_from_slice(&len_of(&bytes).to_le_bytes())?;
+        out.extend_from_slice(&bytes)?;
+    }
+    Ok(out)
+}
+
+// What the keeper was told, and what was written.
+#[derive(Drop)]
+struct Outcome {
+    notes: Vec<u8>,
+    written: Vec<u8>,
+    failed: Option<TurnError>,
+}
+
+// Serves reports, where so many bytes more come before each turn.
+fn served(alloc: Global, reports: &[u8], step: usize) -> Result<Outcome, TurnError> {
+    let mut turns = Turns::new(alloc, CONFIG)?;
+    let mut keeper = Noting {
+        alloc,
+        notes: Vec::new(alloc),
+        is_full: false,
+    };
+    let mut orders = Vec::new(alloc);
+    let mut written = Vec::new(alloc);
+    let mut failed = None;
+    let (mut from, mut to) = (0usize, 0usize);
+    for _ in 0..reports.len().saturating_add(1) {
+        to = to.saturating_add(step).min(reports.len());
+        let came = reports.get(from..to).unwrap_or(&[]);
+        match turns.serve(&mut keeper, came, &mut orders, &mut written) {
+            Ok(used) => from = from.saturating_add(used),
+            Err(error) => failed = Some(error),
+        }
+        if to == reports.len() || failed.is_some() {
+            break;
+        }
+    }
+    Ok(Outcome {
+        notes: keeper.notes,
+        written,
+        failed,
+    })
+}
+
+// The name of an error, as rows have it.
+fn name_of(error: TurnError) -> &'static str {
+    match error {
+        TurnError::Pipe => "! Pipe",
+        TurnError::Stopped(Stop::Memory) => "! Memory",
+        TurnError::Stopped(Stop::Disk) => "! Disk",
+    }
+}
+
+#[test]
+fn turns_are_served(rt: HostRuntime) -> Result<(), Fail> {
+    let alloc = rt.alloc();
+    let mut count = 0usize;
+    for row in TURNS.lines() {
+        let Some((input, wanted)) = row.split_once(" -> ") else {
+            continue;
+        };
+        let mut reports = Vec::new(alloc);
+        for report in input.split(" ; ") {
+            if !report.is_empty() {
+                add_report(&mut reports, alloc, report)?;
+            }
+        }
+        let found = served(alloc, &reports, usize::MAX).map_err(|_| "stopped")?;
+        if let Some((notes, orders)) = wanted.split_once(" -> ") {
+            assert!(rt; found.failed.is_none(), "{row}");
+            let told = std::str::from_utf8(&found.notes).unwrap_or("?");
+            assert!(rt; told == notes, "{row}: {told}");
+            let orders = orders_in(alloc, orders)?;
+            let text = std::str::from_utf8(&found.written).unwrap_or("?");
+            assert!(rt;
+                found.written.as_slice() == orders.as_slice(),
+                "{row}: {text}"
+            );
+            for step in [1, 7, 50] {
+                let found = served(alloc, &reports, step).map_err(|_| "stopped")?;
+                let is_same = found.written.as_slice() == orders.as_slice();
+                assert!(rt; is_same, "{row} in pieces of {step}");
+            }
+        } else {
+            let name = found.failed.map_or("", name_of);
+            assert!(rt; name == wanted, "{row}: {name}");
+            assert!(rt; found.written.is_empty(), "{row}");
+        }
+        count = count.saturating_add(1);
+    }
+    assert!(rt; count == 32, "{count} rows");
+    Ok(())
+}
+
+// The bytes that digits in a row say.
+fn from_digits(alloc: Global, text: &str) -> Result<Vec<u8>, AllocError> {
+    let mut out = Vec::new(alloc);
+    let mut high = None;
+    for digit in text.bytes().filter_map(|b| (b as char).to_digit(16)) {
+        match high {
+            None => high = Some(digit as u8),
+            Some(first) => {
+                out.push(first << 4 | digit as u8)?;
+                high = None;
+            }
+        }
+    }
+    Ok(out)
+}
+
+#[test]
+fn frames_are_read(rt: HostRuntime) -> Result<(), Fail> {
+    let alloc = rt.alloc();
+    let mut count = 0usize;
+    for row in FRAMES.lines() {
+        if let Some((digits, wanted)) = row.split_once(" -> ") {
+            let bytes = from_digits(alloc, digits)?;
+            let found = match next_in(&bytes) {
+                Next::Part => String::from_str(alloc, "part")?,
+                Next::Wrong => String::from_str(alloc, "wrong")?,
+                Next::Whole(report) => {
+                    let text = std::str::from_utf8(report.bytes).unwrap_or("?");
+                    format!(in alloc; "{} {} {} {text}", report.slot, report.kind, report.seconds)?
+                }
+            };
+            assert!(rt; found.as_str() == wanted, "{row}: {found}");
+            count = count.saturating_add(1);
+        }
+    }
+    assert!(rt; count == 13, "{count} rows");
+    Ok(())
+}
