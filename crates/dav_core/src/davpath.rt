@@ -88,6 +88,18 @@ impl DavPath {
         })
     }
 
+    /// The path of a prefix and the bytes after it, as they are: nothing is decoded, and nothing is refused.
+    pub fn from_parts(alloc: Global, prefix: &str, bytes: &[u8]) -> Result<DavPath, NoMemory>
+        ensures { IfOk result (λ p. p ≡ record { prefix = prefix.now; bytes = bytes.now }) }
+    {
+        let mut full = Vec::from_slice(alloc, prefix.as_bytes())?;
+        full.extend_from_slice(bytes)?;
+        Ok(DavPath {
+            full,
+            prefix_len: prefix.len(),
+        })
+    }
+
     /// The prefix; empty where none was set.
     pub fn prefix(&self) -> &str
         ensures { result.now ≡ self.now.prefix }

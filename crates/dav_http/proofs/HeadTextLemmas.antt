@@ -1,5 +1,5 @@
 -- The text of the fields that are kept, and the head that it is.
-use Rattle.std.proofs.Common.{◌≡◌, ◌≢◌, ◌⊎◌, inl, inr, ℕ, suc, ◌+◌, ◌/◌, ◌%◌, ◌^◌, ◌<◌, ◌≤◌, Bool, true, false, ◌&&◌, nat_le, IsTrue, IsUtf8, List, [], ◌∷◌, ◌++◌, codes, length, length-append, map, All, take, take-suc, take_all, get_or, flat_map, reverse, Option, append-nil, append_assoc, refl, subst, sym, ap, ◌∙◌, arith}
+use Rattle.std.proofs.Common.{◌≡◌, ◌≢◌, ◌⊎◌, inl, inr, ℕ, suc, ◌+◌, ◌/◌, ◌%◌, ◌^◌, ◌<◌, ◌≤◌, Bool, true, false, ◌&&◌, nat_le, IsTrue, IsUtf8, List, [], ◌∷◌, ◌++◌, codes, length, length-append, map, All, take, take-suc, get_or, flat_map, reverse, Option, append-nil, append_assoc, refl, subst, sym, ap, ◌∙◌, arith}
 use Rattle.std.specs.Fmt.{decimal}
 use Rattle.std.specs.List.{list_all}
 use Rattle.std.proofs.lemmas.Bool.{and_from, and_parts, cases_lt, cond-false, cond-true}
@@ -18,7 +18,7 @@ use Rattle.dav_headers.specs.Timeout.{IsTimeout}
 use Rattle.dav_headers.specs.Value.{Decodes}
 use Rattle.dav_headers.specs.declared.timeout.DavTimeout.{DavTimeout}
 use Rattle.dav_engine.specs.LockHeaders.{preferred}
-use Rattle.dav_server.specs.Head.{IsHead, Request, request_of_head}
+use Rattle.dav_server.specs.Head.{IsHead, Request}
 use Rattle.dav_server.specs.Headers.{headers_of}
 use Rattle.dav_http.specs.HeadText.{field_line, head_text}
 use Rattle.dav_http.specs.Kept.{IsKeptOf, Says, is_kept, kept_fields, lock, lowered, other, timeout_field}

@@ -1,5 +1,5 @@
 -- Which requests leave the server as it was, by tests.
-use Rattle.std.proofs.Common.{◌≡◌, ◌≢◌, ◌↔◌, ℕ, Bool, true, false, ◌||◌, ◌&&◌, not, ◌==◌, List, codes, Ok, Err, refl, sym, ap, subst, ◌∙◌}
+use Rattle.std.proofs.Common.{◌≡◌, ◌≢◌, ℕ, Bool, true, false, ◌||◌, ◌&&◌, not, ◌==◌, List, codes, Ok, refl, sym, ap, subst, ◌∙◌}
 use Rattle.std.proofs.lemmas.Bool.{eq-eqb, eqb-true}
 use Rattle.std.proofs.Math.Bool.{or-true}
 use Rattle.dav_core.specs.declared.errors.DavError.TheVariants as dav

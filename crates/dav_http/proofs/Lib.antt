@@ -18,3 +18,4 @@ mod SentTexts
 mod HeadTextLemmas
 mod LeavesLemmas
 mod LeavesSteps
+pub mod OneAnswer

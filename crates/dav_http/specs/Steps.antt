@@ -1,5 +1,5 @@
 -- What the machine is asked for each request that comes, and what it replies (RFC 9110, section 3).
-use Rattle.std.specs.Prelude.{◌≡◌, ◌≢◌, ◌⊎◌, ℕ, min, List, [], codes, Option, Some, None, Result, Ok, Err}
+use Rattle.std.specs.Prelude.{◌≡◌, ◌≢◌, ◌⊎◌, ℕ, min, List, [], codes, Option, Some, None, Result, Ok, Err, false}
 use Rattle.dav_core.specs.Element.{ElementTree}
 use Rattle.dav_core.specs.World.{empty_from, last_moment}
 use Rattle.dav_engine.specs.declared.reply.ReplyBody.{ReplyBody}
@@ -51,14 +51,21 @@ pub record IsExchangeOf (head bytes : List ℕ) (who : Caller) (x : Exchange) : 
   pub moment : x.moment ≡ min who.moment last_moment
   pub token : IsTokenOf who.token x.token
 
--- A reply to a request with this head and a body of these bytes, and the server that is left: they are those of a step of the machine,
--- and the element tree of the reply, if it has one, is read by its client (RFC 4918, section 8.2).
+-- A reply to a request with this head and a body of these bytes, and the server that is left: they are those of a step of the machine in
+-- which memory lasts, and the element tree of the reply, if it has one, is read by its client (RFC 4918, section 8.2).
 pub record IsStepFor (head bytes : List ℕ) (who : Caller) (old : Server) (r : Reply) (new : Server) : Type 0 where
   pub exchange : Exchange
   pub is_exchange : IsExchangeOf head bytes who exchange
   pub answers : Answers old exchange r new
   pub same : new.settings ≡ old.settings
+  pub ample : new.state.store.short ≡ false
   pub read : IsReadByClient r.body
+
+-- A request has one answer: any two steps for it from one server have the same reply, and leave the same server.
+abbrev pub StepsAreOne : Type 0
+StepsAreOne =
+    (head bytes : List ℕ) (who : Caller) (old new other : Server) (one another : Reply)
+    → IsStepFor head bytes who old one new → IsStepFor head bytes who old another other → (one ≡ another) × (new ≡ other)
 
 -- the bytes in which the body of a reply is sent: an element tree as its document (RFC 4918, section 8.2)
 abbrev pub sent_bytes : ReplyBody → List ℕ
@@ -66,9 +73,9 @@ sent_bytes reply.Nothing = []
 sent_bytes (reply.Bytes bytes) = bytes
 sent_bytes (reply.Tree tree) = document_of tree
 
--- A new server of this prefix: it allows each method, its store is empty, and it has no locks.
-pub record IsNew (prefix : List ℕ) (s : Server) : Type 0 where
-  pub prefix_is : s.settings.prefix ≡ prefix
-  pub allows : s.settings.allowed ≡ 65535
-  pub empty : s.state.store.world ≡ empty_from 1
-  pub unlocked : s.state.locks ≡ Some []
+-- the new server of this prefix: it allows each method, its store is empty, and it has no locks
+abbrev pub new_server : List ℕ → Server
+new_server prefix = record {
+  settings = record { prefix = prefix; allowed = 65535 };
+  state = record { store = record { world = empty_from 1; refusals = []; short = false }; locks = Some [] };
+}

@@ -139,7 +139,7 @@ fn exchange_of<'r>(
 }
 
 impl Handler {
-    ghost use Rattle.std.specs.Prelude.{◌≡◌, ◌≤◌, ◌↔◌, Err, IfOk, List, OnErr, OnOk, Some};
+    ghost use Rattle.std.specs.Prelude.{◌≡◌, ◌≤◌, ◌↔◌, Err, IfOk, List, OnErr, OnOk, Some, false};
     ghost use Rattle.std.specs.Option.{option_copied};
     ghost use Rattle.std.specs.Result.{IsErrOf};
     ghost use Rattle.dav_core.specs.Locks.{Lock};
@@ -150,13 +150,13 @@ impl Handler {
     ghost use Rattle.dav_http.specs.Leaves.{Leaves};
     ghost use Rattle.dav_http.specs.Sent.{IsReadByClient, IsSendableTextIfAny};
     ghost use Rattle.dav_http.specs.SentLaws.{IsSendableRequest};
-    ghost use Rattle.dav_http.specs.Steps.{IsNew, IsStepFor};
+    ghost use Rattle.dav_http.specs.Steps.{IsStepFor, new_server};
 
     /// The server of an empty store, for the paths below a prefix. `BadPrefix` where the text is none; `Memory` where memory
     /// runs out.
     pub fn new(alloc: Global, prefix: &str) -> Result<Handler, HandlerError>
         ensures prefix { OnOk result (IsPrefix prefix.now) }
-        ensures new { IfOk result (λ h. IsNew prefix.now h.server) }
+        ensures new { IfOk result (λ h. h.server ≡ new_server prefix.now) }
         ensures bad { IsErrOf result HandlerError.BadPrefix → ¬ IsPrefix prefix.now }
     {
         let fs = MemFs::new(alloc)?;
@@ -204,6 +204,7 @@ impl Handler {
         ensures same { self.new.server.settings ≡ self.old.server.settings }
         ensures answers { IfOk result (λ reply.
             Answers self.old.server exchange.now reply self.new.server) }
+        ensures ample { OnOk result (self.new.server.state.store.short ≡ false) }
         ensures read { IfOk result (λ reply. IsReadByClient reply.body) }
         ensures left { IfOk result (λ reply. Leaves exchange.now.head reply.status
             → self.new.server ≡ self.old.server) }

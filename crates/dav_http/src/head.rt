@@ -44,9 +44,10 @@ impl<'a> Model for Head<'a> {
 }
 
 impl<'a> Head<'a> {
-    ghost use Rattle.std.specs.Prelude.{◌≡◌, IfOk, MatchOption};
+    ghost use Rattle.std.specs.Prelude.{◌≡◌, ◌↔◌, ℕ, IfOk, IsTrue, List, MatchOption};
     ghost use Rattle.std.specs.Option.{option_map};
     ghost use Rattle.std.specs.List.{slice_get};
+    ghost use Rattle.dav_http.specs.Leaves.{Leaves};
     ghost use Rattle.dav_server.specs.Head.{Request, IsHead, values_of};
     ghost use Rattle.dav_http.specs.Kept.{IsKeptOf, Says};
 
@@ -80,6 +81,13 @@ impl<'a> Head<'a> {
             ≡ slice_get (values_of name.now self.now.fields) 0 }
     {
         self.view.values(name).next()
+    }
+
+    /// Whether the request, where it is answered with this status, left the server as it was: see the function `leaves`.
+    pub fn leaves(&self, status: u16) -> bool
+        ensures { (bytes : List ℕ) → IsHead bytes self.now → (IsTrue result ↔ Leaves bytes status) }
+    {
+        method_leaves(self.method(), status)
     }
 
     /// The head that is run and kept: without the fields that show who asks, and those that speak of the connection alone; and

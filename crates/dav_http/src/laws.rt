@@ -1,4 +1,5 @@
 //! Laws of replies. Each function does nothing: its contract is a theorem on the definitions.
+ghost use Rattle.dav_http.specs.Steps.{StepsAreOne};
 ghost use Rattle.dav_http.specs.SentLaws.{CutsStaySendable, NewIsSendable, RunsAreReadAgain, StepsAreReadAgain, PrefixedOwnersMayBeSent, UsualOwnersMayBeSent};
 
 /// The element tree that a request is answered with is read again by its client as the tree that it means, whatever the store refuses,
@@ -30,4 +31,9 @@ pub fn usual_owners_may_be_sent()
 #[tactic(auto, using(crate::proofs::SentOwners::prefixed_owners_may_be_sent))]
 pub fn prefixed_owners_may_be_sent()
     ensures { PrefixedOwnersMayBeSent }
+{}
+
+/// A request has one answer: any two steps for it from one server have the same reply, and leave the same server.
+pub fn steps_are_one()
+    ensures { StepsAreOne }
 {}

@@ -1,5 +1,6 @@
-//! Requests as rows of text: what is kept of a head, and what a server answers. In a row `^` is CRLF.
-use crate::{HandleError, Handler, Head, leaves, send};
+//! Requests as rows of text: what is kept of a head, and what a server answers. In a row `^` is
+//! CRLF.
+use crate::{HandleError, Handler, Head, is_sendable_if_any, leaves, send, unlock_head};
 use bytes::{Buf, Bytes};
 use dav_engine::Caller;
 use http_server::Response;
@@ -27,7 +28,8 @@ GET /a HTTP/1.1^ -> none
 GET /a HTTP/1.1^Host : h^^ -> none
 ";
 
-// The requests of one session with their bodies, and of each answer the status, the content-length and the body.
+// The requests of one session with their bodies, and of each answer the status, the content-length
+// and the body.
 const SESSION: &str = "\
 # RFC 9110, sections 9.3.1, 9.3.2, 9.3.4 and 13.1.2
 GET /a HTTP/1.1^^ -> 404 |
@@ -47,6 +49,80 @@ PUT /d/n HTTP/1.1^^x -> 423 *
 GET /d/n HTTP/1.1^^ -> 200 |
 UNLOCK /d/n HTTP/1.1^Lock-Token: <urn:t>^^ -> 204 |
 PUT /d/n HTTP/1.1^^x -> 204 |
+";
+
+// A field line or two, a name, and the value of the first field with it (RFC 9110, sections 5.1 and
+// 5.5); `~` is a tab.
+const VALUES: &str = "\
+Host: h^ host -> h
+HOST: h^ host -> h
+host:h^ HOST -> h
+Host: ~ h~ ^ host -> h
+X: a b ~c^ x -> a b ~c
+If-Match: \"a:b\"^ if-match -> \"a:b\"
+X: 1^Host: h^ host -> h
+Host: a^Host: b^ host -> a
+X:^ x ->
+X: ^X: 2^ x ->
+Hosts: h^ host -> none
+Hos: h^ host -> none
+X-Host: h^ host -> none
+Host: h^ hos -> none
+";
+
+// Code points, and whether a name with them may be told: XML 1.0, section 2.2, has the characters.
+const NAMES: &str = "\
+absent yes
+ no
+61.6E.6E.61 yes
+9 yes
+A yes
+D yes
+20 yes
+0 no
+1 no
+8 no
+B no
+1F no
+7F yes
+85 yes
+D7FF yes
+E000 yes
+FFFD yes
+FFFE no
+FFFF no
+10000 yes
+10FFFF yes
+61.0.62 no
+";
+
+// Requests of anna at a second of 2001, each with its status; and `ends`, with the head of the
+// request that ends the first lock whose time has passed then (RFC 4918, sections 6.6, 9.11 and
+// 10.7). Without a Timeout it never does.
+const ENDS: &str = "\
+0 ends -> none
+0 LOCK /dav/a%20b HTTP/1.1^Timeout: Second-2^^LOCKINFO -> 201
+0 ends -> none
+1 ends -> none
+1 PUT /dav/a%20b HTTP/1.1^^x -> 423
+2 ends -> UNLOCK /dav/a%20b HTTP/1.1^Lock-Token: <urn:t>^^
+9 ends -> UNLOCK /dav/a%20b HTTP/1.1^Lock-Token: <urn:t>^^
+9 PUT /dav/a%20b HTTP/1.1^^x -> 423
+9 UNLOCK /dav/a%20b HTTP/1.1^Lock-Token: <urn:t>^^ -> 204
+9 ends -> none
+9 PUT /dav/a%20b HTTP/1.1^^x -> 204
+10 LOCK /dav/late HTTP/1.1^Timeout: Second-20^^LOCKINFO -> 201
+10 LOCK /dav/soon HTTP/1.1^Timeout: Second-5^^LOCKINFO -> 201
+15 ends -> UNLOCK /dav/soon HTTP/1.1^Lock-Token: <urn:t>^^
+30 ends -> UNLOCK /dav/late HTTP/1.1^Lock-Token: <urn:t>^^
+30 LOCK /dav/late HTTP/1.1^If: (<urn:t>)^Timeout: Second-20^^ -> 200
+30 ends -> UNLOCK /dav/soon HTTP/1.1^Lock-Token: <urn:t>^^
+30 UNLOCK /dav/soon HTTP/1.1^Lock-Token: <urn:t>^^ -> 204
+49 ends -> none
+50 ends -> UNLOCK /dav/late HTTP/1.1^Lock-Token: <urn:t>^^
+50 UNLOCK /dav/late HTTP/1.1^Lock-Token: <urn:t>^^ -> 204
+60 LOCK /dav/n HTTP/1.1^^LOCKINFO -> 201
+4000000000 ends -> none
 ";
 
 // The bytes of a text in a row.
@@ -161,7 +237,8 @@ fn sessions_are_answered(rt: HostRuntime) -> Result<(), Fail> {
     Ok(())
 }
 
-// Methods with a status, and whether a request of it that is answered so is known to leave the server as it was.
+// Methods with a status, and whether a request of it that is answered so is known to leave the
+// server as it was.
 const LEFT: &str = "\
 GET 200 yes
 HEAD 404 yes
@@ -203,6 +280,114 @@ fn nameless_callers_are_refused(rt: HostRuntime) -> Result<(), Fail> {
         let body = Bytes::from_static(b"");
         let found = server.handle(rt.alloc(), b"GET / HTTP/1.1\r\n\r\n", body, &caller);
         assert!(rt; matches!(found, Err(HandleError::Principal)), "{name}");
+    }
+    Ok(())
+}
+
+// A text in a row, whose tabs are written `~`.
+fn with_tabs(alloc: Global, text: &str) -> Result<Vec<u8>, AllocError> {
+    let mut bytes = unescaped(alloc, text)?;
+    for byte in bytes.iter_mut() {
+        if *byte == b'~' {
+            *byte = b'\t';
+        }
+    }
+    Ok(bytes)
+}
+
+#[test]
+fn values_are_found(rt: HostRuntime) -> Result<(), Fail> {
+    for row in VALUES.lines() {
+        let (input, wanted) = row.rsplit_once(" ->").ok_or(row)?;
+        let (fields, name) = input.rsplit_once("^ ").ok_or(row)?;
+        let text = format!(in rt.alloc(); "GET / HTTP/1.1^{fields}^^")?;
+        let bytes = with_tabs(rt.alloc(), text.as_str())?;
+        let head = Head::read(&bytes).ok_or(row)?;
+        let found = head.value(name).unwrap_or(b"none");
+        let wanted = with_tabs(rt.alloc(), wanted.strip_prefix(' ').unwrap_or(wanted))?;
+        assert!(rt; found == wanted.as_slice(), "{row}");
+    }
+    Ok(())
+}
+
+// The text of code points, each with base 16.
+fn text_of(alloc: Global, points: &str) -> Result<String, AllocError> {
+    let mut text = String::new(alloc);
+    for point in points.split('.') {
+        if let Ok(point) = u32::from_str_radix(point, 16)
+            && let Some(c) = char::from_u32(point)
+        {
+            text.push(c)?;
+        }
+    }
+    Ok(text)
+}
+
+#[test]
+fn names_are_judged(rt: HostRuntime) -> Result<(), Fail> {
+    for row in NAMES.lines() {
+        let (points, wanted) = row.split_once(' ').ok_or(row)?;
+        let text = text_of(rt.alloc(), points)?;
+        let name = if points == "absent" {
+            None
+        } else {
+            Some(text.as_str())
+        };
+        assert!(rt; is_sendable_if_any(name) == (wanted == "yes"), "{row}");
+    }
+    Ok(())
+}
+
+// What asks for an exclusive lock (RFC 4918, section 9.10.7).
+const LOCKINFO: &[u8] =
+    b"<lockinfo xmlns='DAV:'><lockscope><exclusive/></lockscope><locktype><write/></locktype></lockinfo>";
+
+// The status of a request at a moment.
+fn status_at(
+    alloc: Global,
+    server: &mut Handler,
+    moment: u64,
+    text: &str,
+) -> Result<u16, HandleError> {
+    let bytes = unescaped(alloc, text)?;
+    let place = body_at(&bytes);
+    let body = match bytes.get(place..).unwrap_or(&[]) {
+        b"LOCKINFO" => Bytes::from_static(LOCKINFO),
+        other => Bytes::copy_from_slice(alloc, other)?,
+    };
+    let caller = Caller {
+        principal: Some("anna"),
+        moment,
+        token: Some("urn:t"),
+    };
+    let reply = server.handle(alloc, bytes.get(..place).unwrap_or(&[]), body, &caller)?;
+    Ok(reply.status.as_u16())
+}
+
+// The head of the request that ends the first lock whose time has passed at a moment, if there is
+// one.
+fn end_at(alloc: Global, server: &Handler, moment: u64) -> Result<String, HandleError> {
+    match server.first_ended(moment) {
+        Some(lock) => Ok(unlock_head(alloc, lock)?),
+        None => Ok(String::from_str(alloc, "none")?),
+    }
+}
+
+#[test]
+fn locks_end(rt: HostRuntime) -> Result<(), Fail> {
+    let alloc = rt.alloc();
+    let mut server = Handler::new(alloc, "/dav")?;
+    for row in ENDS.lines() {
+        let (input, wanted) = row.split_once(" -> ").ok_or(row)?;
+        let (second, text) = input.split_once(' ').ok_or(row)?;
+        let moment = second.parse::<u64>()?.saturating_add(1_000_000_000);
+        let found = if text == "ends" {
+            end_at(alloc, &server, moment)?
+        } else {
+            format!(in alloc; "{}", status_at(alloc, &mut server, moment, text)?)?
+        };
+        let wanted = unescaped(alloc, wanted)?;
+        assert!(rt; found.as_bytes() == wanted.as_slice(), "{row}: {found}");
     }
     Ok(())
 }

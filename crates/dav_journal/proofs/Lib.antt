@@ -1,10 +1,12 @@
 pub mod BlockLemmas
+mod ClearLemmas
 mod CutLemmas
 mod FrontLemmas
 mod JournalLemmas
 mod MarkLemmas
 mod MixedLemmas
 mod OneLemmas
+pub mod PairLemmas
 mod PartLemmas
 mod TwiceLemmas
 mod WriteLemmas

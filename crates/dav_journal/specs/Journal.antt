@@ -93,6 +93,29 @@ LeavesAtMost g disk contents content = (c : List ℕ) → g.may_leave disk c →
 abbrev pub LeavesOnly : {D : Type 0} → Ghosts D → Journal D → List (List ℕ) → Type 0
 LeavesOnly g j contents = (c : List ℕ) → g.may_leave j.disk c → Recovers c contents
 
+-- each outcome of a crash stands for the first contents, or for the other ones
+abbrev pub LeavesEither : {D : Type 0} → Ghosts D → D → List (List ℕ) → List (List ℕ) → Type 0
+LeavesEither g disk one other =
+    (c : List ℕ) → g.may_leave disk c → Recovers c one ⊎ Recovers c other
+
+-- a file has the front with this key, and at least a byte where the blocks begin
+pub record HasFront (key : ℕ) (file : List ℕ) : Type 0 where
+  pub front : Holds file 0 (front_of key)
+  pub more : 72 < length file
+
+-- Whatever a crash now leaves is the file of a journal, of whatever blocks.
+pub record IsOpened {D : Type 0} (g : Ghosts D) (j : Journal D) : Type 0 where
+  pub small : j.key < 2 ^ 64
+  pub outcomes : (c : List ℕ) → g.may_leave j.disk c → HasFront j.key c
+
+-- the same, where a crash leaves the file as it reads, and it has no marks
+pub record IsBare {D : Type 0} (g : Ghosts D) (j : Journal D) : Type 0 where
+  pub small : j.key < 2 ^ 64
+  pub has : HasFront j.key (g.seen j.disk)
+  pub only : Only (g.seen j.disk) (g.may_leave j.disk)
+  pub place : IsMarkPlace j.mark
+  pub blank : (at : ℕ) → IsMarkPlace at → IsBlank (g.seen j.disk) at
+
 -- a disk was only read
 pub record OnlyReads {D : Type 0} (g : Ghosts D) (old new : D) : Type 0 where
   pub seen : g.seen new ≡ g.seen old

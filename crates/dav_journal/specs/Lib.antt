@@ -3,4 +3,5 @@ pub mod Error
 pub mod File
 pub mod Journal
 pub mod Mark
+pub mod Pair
 pub mod Write

@@ -6,9 +6,10 @@ ghost use Rattle.dav_journal.specs.File.{IsBegun, Recovers};
 ghost use Rattle.dav_journal.specs.Mark.{IsLastMark, IsMark, IsMarkPlace, NoneMarkedPast};
 ghost use Rattle.dav_journal.specs.declared.error.JournalError.TheVariants.{Damaged};
 ghost use Rattle.dav_journal.specs.Error.{IsNoDamage};
-ghost use Rattle.dav_journal.specs.Journal.{HasRead, IsClean, IsCleared, IsKept, IsReading, IsShut, IsSynced, IsWrittenBlock, LeavesAtMost, LeavesOnly, OnlyReads, Stays, blocks_end, blocks_len, disk_of, file_of};
+ghost use Rattle.dav_journal.specs.Journal.{HasRead, IsBare, IsClean, IsCleared, IsKept, IsOpened, IsReading, IsShut, IsSynced, IsWrittenBlock, LeavesAtMost, LeavesEither, LeavesOnly, OnlyReads, Stays, blocks_end, blocks_len, disk_of, file_of};
 ghost use Rattle.dav_journal.specs.Write.{HasZeros, KeepsBelow};
 
+mod clearing;
 mod cutting;
 mod keeping;
 mod marks;
@@ -54,11 +55,16 @@ impl<D: Disk + Drop> Journal<D> {
     /// Opens the file. One that is empty, or has what a crash left of the first write, becomes a journal; no other is changed.
     /// `Foreign` where it is something else.
     pub fn open(&mut self) -> Result<(), JournalError>
+        ensures sound { IfErr result IsNoDamage }
         ensures reading { OnOk result (IsClean D.Disk self.new → IsReading D.Disk self.new []) }
         ensures any_moment { IsClean D.Disk self.new → (contents : List (List ℕ))
             → LeavesOnly D.Disk self.old contents → LeavesOnly D.Disk self.new contents }
         ensures begun { IsClean D.Disk self.new → IsBegun (file_of D.Disk self.old)
             ⊎ OnlyReads D.Disk (disk_of self.old) (disk_of self.new) }
+        ensures stands { IsClean D.Disk self.new → (contents : List (List ℕ))
+            → Recovers (file_of D.Disk self.old) contents
+            → OnlyReads D.Disk (disk_of self.old) (disk_of self.new) }
+        ensures clean { IsClean D.Disk self.new → IsClean D.Disk self.old }
     {
         if !self.disk.may_be_used() {
             return Err(JournalError::Io);
@@ -81,6 +87,7 @@ impl<D: Disk + Drop> Journal<D> {
 
     // Makes a journal of a file that is empty, or has what a crash left of the first write.
     fn make(&mut self, len: usize) -> Result<(), JournalError>
+        ensures sound { IfErr result IsNoDamage }
         ensures reading { OnOk result (IsClean D.Disk self.new
             → length (file_of D.Disk self.old) ≡ len → IsReading D.Disk self.new []) }
         ensures clean { IsClean D.Disk self.new → IsClean D.Disk self.old }
@@ -108,12 +115,30 @@ impl<D: Disk + Drop> Journal<D> {
         Ok(())
     }
 
+    // Begins to read from the first block on again.
+    pub fn again(&mut self)
+        ensures disk { disk_of self.new ≡ disk_of self.old }
+        ensures reading { (contents : List (List ℕ)) → IsReading D.Disk self.old contents
+            → IsReading D.Disk self.new [] }
+        ensures stays { self.new ≡ record self.old { end = 72 } }
+    {
+        self.end = START;
+    }
+
     /// How many bytes the blocks take.
     pub fn len(&self) -> usize
         ensures { result ≡ blocks_end self.now }
     {
         self.end
     }
+}
+
+// The machine stops and comes back.
+pub fn crash<D: Crash + Drop>(journal: &mut Journal<D>)
+    ensures left { D.Disk.may_leave (disk_of journal.old) (file_of D.Disk journal.new) }
+    ensures clean { IsClean D.Disk journal.new → IsClean D.Disk journal.old }
+{
+    journal.disk.crash();
 }
 
 /// Keeps a content, and then the machine stops and comes back: whether it was acknowledged. Over a `Fuse` of any count of
@@ -131,10 +156,10 @@ pub fn keep_and_crash<D: Crash + Drop>(
         → Recovers (file_of D.Disk journal.new) (contents ++ content.now ∷ []) }
 {
     let Ok(()) = journal.keep(alloc, content) else {
-        journal.disk.crash();
+        crash(journal);
         return false;
     };
-    journal.disk.crash();
+    crash(journal);
     true
 }
 

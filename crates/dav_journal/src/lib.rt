@@ -5,7 +5,9 @@ mod block;
 mod error;
 mod journal;
 mod mark;
+mod pair;
 mod write;
 
 pub use error::JournalError;
-pub use journal::{Journal, keep_and_crash};
+pub use journal::{Journal, keep_and_crash, stands_for_one_list};
+pub use pair::{Pair, pair_stands_for_one_list, reads_what_it_stands_for, renew_and_crash};

@@ -52,6 +52,7 @@ impl<H: Handles + Drop, J: Keeps + Drop> Kept<H, J> {
             × (J.is_clean (journal_of k) → J.has_so_far journal []
             → J.has_read (journal_of k) (with_preface (is_new k) preface.now blocks))
             × (is_new k ≡ true → blocks ≡ [])) }
+        ensures clean { IfOk result (λ k. J.is_clean (journal_of k) → J.is_clean journal) }
         ensures empty { IfOk result (λ k. (held_by k).batch ≡ []) }
         ensures preface { IfOk result (λ k. preface_of k ≡ preface.now) }
     {
@@ -82,6 +83,7 @@ impl<H: Handles + Drop, J: Keeps + Drop> Kept<H, J> {
             × (is_new self.new ≡ true → blocks ≡ [])) }
         ensures batch { (held_by self.new).batch ≡ (held_by self.old).batch }
         ensures preface { preface_of self.new ≡ preface_of self.old }
+        ensures clean { J.is_clean (journal_of self.new) → J.is_clean (journal_of self.old) }
     {
         if self.find_preface()? {
             self.is_new = false;
@@ -94,6 +96,7 @@ impl<H: Handles + Drop, J: Keeps + Drop> Kept<H, J> {
     fn find_preface(&mut self) -> Result<bool, KeptError>
         ensures held { held_by self.new ≡ held_by self.old }
         ensures stays { StaysAsKept self.old self.new }
+        ensures clean { J.is_clean (journal_of self.new) → J.is_clean (journal_of self.old) }
         ensures found { IfOk result (λ found. J.is_clean (journal_of self.new)
             → J.has_so_far (journal_of self.old) []
             → (found ≡ true → J.has_so_far (journal_of self.new) (preface_of self.old ∷ []))
@@ -242,6 +245,7 @@ impl<H: Handles + Drop, J: Keeps + Drop> Kept<H, J> {
     pub fn begin(&mut self) -> Result<(), KeptError>
         ensures held { held_by self.new ≡ held_by self.old }
         ensures preface { preface_of self.new ≡ preface_of self.old }
+        ensures clean { J.is_clean (journal_of self.new) → J.is_clean (journal_of self.old) }
         ensures begun { OnOk result (is_new self.new ≡ false) }
         ensures first { is_new self.old ≡ true → OnOk result (J.is_clean (journal_of self.new)
             → J.has_read (journal_of self.old) []

@@ -1,1 +1,5 @@
 mod MachineLemmas
+mod TokenLemmas
+mod HostLemmas
+mod OneAnswer
+mod MachineRuns

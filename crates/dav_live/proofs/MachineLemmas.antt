@@ -1,13 +1,15 @@
 -- What the answer of a machine is, by its parts.
-use Rattle.std.proofs.Common.{◌≡◌, ◌⊎◌, inl, inr, ℕ, List, codes, Ok, refl, subst, sym, ◌∙◌}
+use Rattle.std.proofs.Common.{◌≡◌, ◌⊎◌, ◌↔◌, inl, inr, ℕ, Bool, true, List, codes, refl, ap, subst, sym, ◌∙◌}
 use Rattle.http_server.specs.declared.response.Response.{Response}
 use Rattle.dav_core.specs.declared.method.DavMethod.TheVariants.{Get, Head}
 use Rattle.dav_engine.specs.Reply.{Reply}
+use Rattle.dav_server.specs.Head.{IsHead, Request}
 use Rattle.dav_server.specs.Server.{Server}
+use Rattle.dav_server.proofs.HeadLemmas.{one_head}
 use Rattle.dav_http.specs.Leaves.{Leaves, reading}
 use Rattle.dav_http.specs.Steps.{IsStepFor}
 use Rattle.dav_kept.specs.Records.{RequestView}
-use Rattle.dav_live.specs.Answers.{AsksToSee, IsAnswer, IsSentFor, caller_of, replied, shown}
+use Rattle.dav_live.specs.Answers.{AsksToSee, IsAnswer, IsSentFor, TellsHead, caller_of, replied, shown}
 
 -- a GET or HEAD leaves the server
 seeing_leaves : (head : List ℕ) (status : ℕ) → AsksToSee head → Leaves head status
@@ -31,3 +33,11 @@ module _ (old mid : Server) (q : RequestView) (head : List ℕ) (same : head ≡
 
   pub reply_leaves : Leaves head reply.status → mid ≡ old
   reply_leaves leaves = left (subst (λ (h : List ℕ). Leaves h reply.status) same leaves)
+
+-- whether a request with a head that was read is a HEAD
+pub tells_head : (head : List ℕ) (r : Request) (method : List ℕ) (is_head : Bool) → IsHead head r → method ≡ r.method → ((is_head ≡ true) ↔ (method ≡ codes "HEAD")) → TellsHead head is_head
+tells_head head r method is_head is named tells q also =
+    let same : method ≡ q.method = named ∙ ap (λ (x : Request). x.method) (one_head head r q is also) in (
+      λ yes. sym same ∙ tells.0 yes,
+      λ is_so. tells.1 (same ∙ is_so),
+    )

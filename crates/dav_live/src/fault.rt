@@ -25,12 +25,22 @@ pub enum Fault {
 }
 
 impl From<AllocError> for Fault {
+    ghost use Rattle.std.specs.Prelude.{◌≡◌};
+    ghost use Rattle.dav_live.specs.declared.fault.Fault.TheVariants.{Memory};
+
+    ghost from_gives = { λ _ fault. fault ≡ Memory };
+
     fn from(_error: AllocError) -> Fault {
         Fault::Memory
     }
 }
 
 impl From<TurnError> for Fault {
+    ghost use Rattle.std.specs.Prelude.{◌≢◌};
+    ghost use Rattle.dav_live.specs.declared.fault.Fault.TheVariants.{Ended};
+
+    ghost from_gives = { λ _ fault. fault ≢ Ended };
+
     fn from(error: TurnError) -> Fault {
         match error {
             TurnError::Pipe => Fault::Pipe,

@@ -7,6 +7,7 @@
 
 mod fault;
 mod hosts;
+pub mod laws;
 mod line;
 mod live;
 mod machine;

@@ -51,14 +51,9 @@ impl<D: Disk + Drop> Live<D> {
         users: Option<Users>,
         settings: Settings,
     ) -> Result<Live<D>, OpenError> {
-        let mut journal = Journal::new(disk);
-        journal.open()?;
+        let journal = opened(disk)?;
         let service = Service::open(alloc, journal, users, settings)?;
-        Ok(Live {
-            alloc,
-            turns: Turns::new(alloc, config_of(&service))?,
-            service,
-        })
+        live_of(alloc, service)
     }
 
     /// Where the state's last whole block ends, and how many bytes follow that `begin` drops.
@@ -76,7 +71,8 @@ impl<D: Disk + Drop> Live<D> {
         self.service.begin()
     }
 
-    /// Serves until the input ends, or something fails: why it ended.
+    /// Serves until the input ends, or something fails: why it ended. Where the input ended, the run of the server's records goes
+    /// on.
     pub fn run<R: Read, W: Write, L: Watch>(
         &mut self,
         reader: &mut R,
@@ -94,6 +90,20 @@ impl<D: Disk + Drop> Live<D> {
         Fault::Ended
     }
 
+    /// Takes the reports that came, and writes the orders for them: nothing before all that was answered is kept. The run of the
+    /// server's records goes on. `orders` holds the orders for that time. The count of bytes that were used.
+    pub fn turn<W: Write>(
+        &mut self,
+        reports: &[u8],
+        orders: &mut Vec<u8>,
+        writer: &mut W,
+    ) -> Result<usize, Fault> {
+        match self.turns.serve(&mut self.service, reports, orders, writer) {
+            Ok(used) => Ok(used),
+            Err(error) => Err(error.into()),
+        }
+    }
+
     // Reads once, takes what came, and hands out the orders.
     fn serve_once<R: Read, W: Write, L: Watch>(
         &mut self,
@@ -104,20 +114,27 @@ impl<D: Disk + Drop> Live<D> {
     ) -> Result<(), Fault> {
         read_more(pipe, reader)?;
         watch.begin();
-        let used = self
-            .turns
-            .serve(&mut self.service, &pipe.input, &mut pipe.orders, writer)?;
+        let used = self.turn(&pipe.input, &mut pipe.orders, writer)?;
         drop_front(&mut pipe.input, used);
-        let told = self.service.told();
-        if !told.lines().is_empty() {
-            watch.tell(told.lines());
-        }
-        if !told.notices().is_empty() {
-            watch.say(told.notices());
-        }
-        told.clear();
+        self.service.tell(watch);
         Ok(())
     }
+}
+
+// A journal over a disk, which is open.
+fn opened<D: Disk + Drop>(disk: D) -> Result<Journal<D>, OpenError> {
+    let mut journal = Journal::new(disk);
+    journal.open()?;
+    Ok(journal)
+}
+
+// A live server without connections.
+fn live_of<D: Disk + Drop>(alloc: Global, service: Service<D>) -> Result<Live<D>, OpenError> {
+    Ok(Live {
+        alloc,
+        turns: Turns::new(alloc, config_of(&service))?,
+        service,
+    })
 }
 
 // The limits of a connection: heads of 16 KiB, and no request is read while more than 64 KiB wait to be sent.

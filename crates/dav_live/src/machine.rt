@@ -4,7 +4,7 @@ ghost use Rattle.http_server.specs.Response.{IsBlank};
 ghost use Rattle.dav_http.specs.Leaves.{Leaves};
 ghost use Rattle.dav_http.specs.Steps.{IsStepFor};
 ghost use Rattle.dav_kept.specs.declared.handler.Effect.TheVariants.{Left};
-ghost use Rattle.dav_live.specs.Answers.{AsksToSee, IsAnswer, IsSentFor, caller_of};
+ghost use Rattle.dav_live.specs.Answers.{AsksToSee, IsAnswer, IsSentFor, TellsHead, caller_of};
 
 use crate::page;
 use bytes::Bytes;
@@ -181,20 +181,28 @@ fn caller_of<'r>(request: &Request<'r>) -> Caller<'r>
 fn is_for_folder(head: &[u8], reply: &Reply) -> bool
     ensures { IsTrue result → (reply.now.status ≡ 405) × AsksToSee head.now }
 {
+    if reply.status.as_u16() != 405 {
+        return false;
+    }
     match Head::read(head) {
-        Some(head) => reply.status.as_u16() == 405 && is_get_or_head(head.method()),
+        Some(head) => is_get_or_head(head.method()),
         None => false,
     }
 }
 
-// What an answer with this status did to the state.
-fn effect_of(head: &[u8], status: u16) -> Effect
-    ensures { result ≡ Left → Leaves head.now status }
+// What an answer with this status to a request with this head did to the state, and whether the request is a HEAD.
+fn reading_of(head: &[u8], status: u16) -> (Effect, bool)
+    ensures left { result.0 ≡ Left → Leaves head.now status }
+    ensures head { TellsHead head.now result.1 }
 {
-    if leaves(head, status) {
-        Effect::Left
+    let Some(read) = Head::read(head) else {
+        return (Effect::Left, false);
+    };
+    let is_head = is_head(read.method());
+    if read.leaves(status) {
+        (Effect::Left, is_head)
     } else {
-        Effect::Changed
+        (Effect::Changed, is_head)
     }
 }
 
@@ -209,8 +217,7 @@ fn answer_with(
     ensures { IfOk result (λ effect. IsSentFor head.now reply response.new
         × (effect ≡ Left → Leaves head.now reply.status)) }
 {
-    let effect = effect_of(head, reply.status.as_u16());
-    let is_head = is_head(method_of(head));
+    let (effect, is_head) = reading_of(head, reply.status.as_u16());
     send(alloc, reply, is_head, response)?;
     Ok(effect)
 }

@@ -1,20 +1,20 @@
 //! The tokens that locks are granted with (RFC 4918, section 6.5; RFC 9562, section 5.8).
-use std::alloc::{AllocError, Global};
+ghost use Rattle.std.specs.Prelude.{◌≡◌, IfOk, string_bytes};
+ghost use Rattle.dav_live.specs.Tokens.{token_text};
 
-// Eight bytes as a number.
-fn number(bytes: &[u8]) -> u64 {
-    match bytes {
-        [a, b, c, d, e, f, g, h] => u64::from_be_bytes([*a, *b, *c, *d, *e, *f, *g, *h]),
-        _ => 0,
-    }
-}
+use std::alloc::{AllocError, Global};
+use uuid::Uuid;
 
 /// The token of a number: a UUID of version 8 with 58 random bits and the 64 bits of the number.
-pub fn token_text(alloc: Global, random: &[u8; 16], count: u64) -> Result<String, AllocError> {
-    let first = number(random.get(..8).unwrap_or(&[]));
-    let (a, b) = (first >> 32, first >> 16 & 0xffff);
-    let c = (first & 0x3ff) << 2 | count >> 62;
-    let d = 0x8000 | count >> 48 & 0x3fff;
-    let e = count & 0xffff_ffff_ffff;
-    format!(in alloc; "urn:uuid:{a:08x}-{b:04x}-8{c:03x}-{d:04x}-{e:012x}")
+pub fn token_text(alloc: Global, random: &[u8; 16], number: u64) -> Result<String, AllocError>
+    ensures { IfOk result (λ text. string_bytes text ≡ token_text random.now number) }
+{
+    let r = random;
+    let n = number.to_be_bytes();
+    let uuid = Uuid::new_v8([
+        r[0], r[1], r[2], r[3], r[4], r[5], r[6], n[0], r[7], n[1], n[2], n[3], n[4], n[5], n[6],
+        n[7],
+    ]);
+    let mut buffer = Uuid::encode_buffer();
+    String::from_str(alloc, uuid.urn().encode_lower(&mut buffer))
 }

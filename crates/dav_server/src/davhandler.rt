@@ -35,6 +35,8 @@ mod property_calls;
 #[cfg(test)]
 mod recorded_calls;
 #[cfg(test)]
+mod shortage;
+#[cfg(test)]
 pub(crate) mod tests;
 
 use crate::body::body_for;

@@ -1,5 +1,5 @@
 -- Counts of keys, as locks come and go.
-use Rattle.std.proofs.Common.{◌≡◌, ℕ, ◌+◌, Bool, true, false, cond, List, [], ◌∷◌, ◌++◌, ap, sym, ◌∙◌, arith, append_assoc}
+use Rattle.std.proofs.Common.{◌≡◌, ℕ, ◌+◌, Bool, true, false, List, [], ◌∷◌, ◌++◌, ap, sym, ◌∙◌, arith, append_assoc}
 use Rattle.std.proofs.lemmas.List.Sums.{sum_by-cons}
 use Rattle.dav_core.specs.Path.{Path}
 use Rattle.dav_store.specs.LockIndex.{Key, below_key, at_key, deep_key, keys_from, times, one_at, weight_from}

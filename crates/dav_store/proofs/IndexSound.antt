@@ -1,5 +1,5 @@
 -- Where the counts say that no lock matters to a path, none does; and where they say that at most one does, no two do.
-use Rattle.std.proofs.Common.{◌≡◌, ℕ, ◌+◌, zero, suc, ◌≤◌, ◌<◌, ◌&&◌, ◌||◌, Bool, true, false, cond, List, [], ◌∷◌, ◌++◌, length, get_or, Option, Some, None, inl, inr, refl, sym, ap, subst, ◌∙◌, arith, eq-eqb}
+use Rattle.std.proofs.Common.{◌≡◌, ℕ, ◌+◌, zero, suc, ◌≤◌, ◌<◌, ◌&&◌, ◌||◌, Bool, true, false, cond, List, [], ◌∷◌, ◌++◌, length, get_or, Option, Some, None, inl, inr, refl, sym, ap, subst, ◌∙◌, arith}
 use Rattle.std.specs.List.{list_any}
 use Rattle.std.specs.Option.{is_some}
 use Rattle.std.proofs.lemmas.List.Sums.{sum_by-cons}
@@ -7,10 +7,8 @@ use Rattle.dav_core.specs.Path.{Path, names, rest_after, is_same_path, is_at_or_
 use Rattle.dav_core.specs.Locks.{Lock, covers}
 use Rattle.dav_core.proofs.Theorems.{from_rest, CoveringWay, covering_way, path-itself}
 use Rattle.dav_store.specs.LockIndex.{Key, same_kind, below_key, at_key, deep_key, end_key, keys_from, path_keys, times, one_at, tally, matters, weight_from, weight, MattersAlone}
-use Rattle.dav_store.specs.Tree.{Tree}
 use Rattle.dav_store.specs.declared.memls.index.Kind.{Kind}
 use Rattle.dav_store.specs.declared.memls.index.Kind.TheVariants.{Below, At, Deep}
-use Rattle.dav_store.specs.declared.memls.index.Seat.{Seat}
 use Rattle.dav_store.proofs.IndexLemmas.{times_more}
 
 kind-itself : (k : Kind) → same_kind k k ≡ true

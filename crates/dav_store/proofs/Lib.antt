@@ -45,3 +45,6 @@ pub mod IndexLemmas
 pub mod IndexSound
 pub mod IndexCalls
 pub mod SeatLemmas
+pub mod SavedCalls
+pub mod SubtreeLemmas
+pub mod SubtreesKept

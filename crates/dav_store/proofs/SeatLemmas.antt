@@ -1,30 +1,26 @@
 -- What the calls of a tree of counts do to the counts.
-use Rattle.std.proofs.Common.{◌≡◌, ℕ, ◌+◌, ◌-◌, ◌&&◌, Bool, true, false, cond, List, [], ◌∷◌, ◌++◌, Option, Some, None, Result, Ok, Err, refl, sym, ap, subst, ◌∙◌, arith, ⊎_elim, reverse, if◌then◌else◌, IfOk, OnOk}
-use Rattle.std.specs.Prelude.{Vec, ◌==◌, nat_eq, is_none, ◌||◌, not}
-use Rattle.std.specs.Option.{option_and_then, option_map, option_map_or, option_or, is_some, IsSome}
+use Rattle.std.proofs.Common.{◌≡◌, ℕ, ◌+◌, ◌-◌, ◌&&◌, Bool, true, false, cond, List, [], ◌∷◌, ◌++◌, Option, Some, None, Result, Ok, Err, refl, sym, ap, subst, ◌∙◌, arith, ⊎_elim, reverse, if◌then◌else◌}
+use Rattle.std.specs.Prelude.{Vec, ◌==◌, nat_eq, is_none}
+use Rattle.std.specs.Option.{option_and_then, option_map, option_map_or, is_some, IsSome}
 use Rattle.std.specs.Ordering.{nat_cmp}
 use Rattle.std.specs.BTreeMap.{is_at}
-use Rattle.std.specs.Map.{lookup, keys_of}
-use Rattle.std.specs.List.{IsDistinct}
+use Rattle.std.specs.Map.{lookup}
 use Rattle.std.specs.Cmp.Lexicographic.{pointwise}
-use Rattle.std.proofs.lemmas.Bool.{cases_Bool, cases_eq, eqb-true, eq-eqb}
-use Rattle.std.proofs.lemmas.List.{reverse-reverse, reverse-append}
-use Rattle.dav_core.specs.Numbers.{max_u64}
-use Rattle.dav_core.specs.Path.{Path, is_same_path, is_at_or_under, rest_after}
+use Rattle.std.proofs.lemmas.Bool.{cases_Bool}
+use Rattle.dav_core.specs.Path.{Path, is_same_path, rest_after}
 use Rattle.dav_core.proofs.Theorems.{same_path, path-itself, from_rest}
 use Rattle.dav_core.specs.declared.errors.FsError.{FsError}
-use Rattle.dav_core.specs.declared.errors.FsError.TheVariants.{NotFound, Exists, Forbidden, GeneralFailure}
-use Rattle.dav_store.specs.Tree.{Tree, Node, node, value_of, with_value, single, leaf, added, deleted, has_children, has_some, root_id, add_refusal, delete_refusal, Does, DoesOrLacks, key_refusal}
+use Rattle.dav_core.specs.declared.errors.FsError.TheVariants.{NotFound, Exists, Forbidden}
+use Rattle.dav_store.specs.Tree.{Tree, Node, node, value_of, with_value, single, leaf, added, deleted, has_children, has_some, root_id, add_refusal, delete_refusal, Does, DoesOrLacks}
 use Rattle.dav_store.specs.Placed.{is_same_name, named, found, stands, bare}
-use Rattle.dav_store.specs.Walks.{walk, reach}
+use Rattle.dav_store.specs.Walks.{reach}
 use Rattle.dav_store.specs.LockIndex.{Seats, IsSeatTree, Key, key_of, same_kind, seat_count, one_at, count_of, weight_from}
 use Rattle.dav_store.specs.declared.memls.index.Kind.{Kind}
 use Rattle.dav_store.specs.declared.memls.index.Kind.TheVariants.{Below, At, Deep}
 use Rattle.dav_store.specs.declared.memls.index.Seat.{Seat}
-use Rattle.dav_store.proofs.BareTrees.{same_bytes, value_bare, valued_bare, named_bare, added_bare, deleted_bare}
+use Rattle.dav_store.proofs.BareTrees.{same_bytes, value_bare, named_bare, added_bare, deleted_bare}
 use Rattle.dav_store.proofs.Placing.{one_at as one_path_to}
 use Rattle.dav_store.proofs.TreeCalls.{node_of_value, none_of_value, is_added, is_deleted}
-use Rattle.dav_store.proofs.TreeLooks as looks
 use Rattle.dav_store.proofs.Walks.{inner, walk-reverse, reach-reverse, before}
 use Rattle.dav_store.proofs.TreePaths.{then_same, some_is, found_there, found-push, none-below}
 use Rattle.dav_store.proofs.TreeSingle.{named_single}

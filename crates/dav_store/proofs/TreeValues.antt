@@ -1,6 +1,6 @@
 -- What holds of a tree of names whose node has another value.
-use Rattle.std.proofs.Common.{◌≡◌, ℕ, Bool, List, Option, Some, refl, sym, ap, ◌∙◌, ⊎_elim}
-use Rattle.std.specs.Option.{option_and_then, IsSome, is_some}
+use Rattle.std.proofs.Common.{◌≡◌, ℕ, Bool, List, Option, Some, sym, ap, ◌∙◌, ⊎_elim}
+use Rattle.std.specs.Option.{is_some}
 use Rattle.std.proofs.lemmas.Bool.{cases_eq}
 use Rattle.dav_core.specs.Path.{Path}
 use Rattle.dav_store.specs.Tree.{Tree, Node, node, value_of, with_value, root_id}

@@ -17,3 +17,6 @@ pub mod Placed
 pub mod ChildOrder
 pub mod Makings
 pub mod LockIndex
+pub mod Loaded
+pub mod Subtrees
+pub mod PartsOf

@@ -8,6 +8,7 @@ ghost use Rattle.dav_core.specs.World.{is_folder_kind, is_folder_node, is_file_n
 pub mod changes;
 mod finding;
 pub mod listing;
+pub mod walk;
 
 use crate::names::{Name, Names};
 use crate::node::Node;

@@ -12,6 +12,7 @@ ghost use Rattle.dav_store.specs.LockIndex.{Key, IsIndexOf, MattersAlone, tally,
 
 mod index;
 mod kept;
+mod saved;
 #[cfg(test)]
 pub(crate) mod tests;
 

@@ -1,5 +1,5 @@
 //! The names of a path, as owned bytes (RFC 3986, section 3.3).
-ghost use Rattle.std.specs.Prelude.{◌≡◌, IfOk};
+ghost use Rattle.std.specs.Prelude.{◌≡◌, ◌++◌, ◌∷◌, [], IfOk};
 ghost use Rattle.dav_core.specs.Path.{names, IsSegment};
 
 use dav_core::davpath::DavPath;
@@ -75,6 +75,35 @@ impl Names {
             names.push(Name::from_slice(alloc, segment)?)?;
         }
         Ok(Names { names })
+    }
+
+    /// No names: the root.
+    pub fn root(alloc: Global) -> Names
+        ensures { result ≡ [] }
+    {
+        Names {
+            names: Vec::new(alloc),
+        }
+    }
+
+    /// The same names.
+    pub fn copy(&self, alloc: Global) -> Result<Names, NoMemory>
+        ensures { IfOk result (λ ns. ns ≡ self.now) }
+    {
+        let mut names = Vec::new(alloc);
+        for name in &self.names {
+            names.push(Name::from_slice(alloc, name.as_slice())?)?;
+        }
+        Ok(Names { names })
+    }
+
+    /// These names, and one more.
+    pub fn with(&self, alloc: Global, name: &Name) -> Result<Names, NoMemory>
+        ensures { IfOk result (λ ns. ns ≡ self.now ++ name.now ∷ []) }
+    {
+        let mut path = self.copy(alloc)?;
+        path.names.push(Name::from_slice(alloc, name.as_slice())?)?;
+        Ok(path)
     }
 
     /// The names, from the root down.

@@ -4,6 +4,8 @@ ghost use Rattle.dav_core.specs.World.{splice, bytes_of, is_folder_kind, fresh, 
 ghost use Rattle.dav_core.specs.Calls.{metadata_of, emptied, written, repatched, copied_over};
 ghost use Rattle.dav_store.specs.KindOf.{kind_of};
 
+mod saved;
+
 use crate::properties::Properties;
 use bytes::Bytes;
 use dav_core::errors::NoMemory;

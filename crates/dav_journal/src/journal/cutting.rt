@@ -6,7 +6,7 @@ ghost use Rattle.dav_journal.specs.File.{IsBegun, Recovers};
 ghost use Rattle.dav_journal.specs.Mark.{IsLastMark, IsMark, IsMarkPlace, NoneMarkedPast};
 ghost use Rattle.dav_journal.specs.declared.error.JournalError.TheVariants.{Damaged};
 ghost use Rattle.dav_journal.specs.Error.{IsNoDamage};
-ghost use Rattle.dav_journal.specs.Journal.{HasRead, IsClean, IsCleared, IsKept, IsReading, IsShut, IsSynced, IsWrittenBlock, LeavesAtMost, LeavesOnly, OnlyReads, Stays, blocks_end, blocks_len, disk_of, file_of};
+ghost use Rattle.dav_journal.specs.Journal.{HasRead, IsBare, IsClean, IsCleared, IsKept, IsOpened, IsReading, IsShut, IsSynced, IsWrittenBlock, LeavesAtMost, LeavesEither, LeavesOnly, OnlyReads, Stays, blocks_end, blocks_len, disk_of, file_of};
 ghost use Rattle.dav_journal.specs.Write.{HasZeros, KeepsBelow};
 
 use crate::block::OPEN;
@@ -53,7 +53,7 @@ impl<D: Disk + Drop> Journal<D> {
     }
 
     // Cuts the file after its last gate, which is shut.
-    fn level(&mut self) -> Result<(), JournalError>
+    pub(super) fn level(&mut self) -> Result<(), JournalError>
         ensures clean { IsClean D.Disk self.new → IsClean D.Disk self.old }
         ensures kept { OnOk result ((contents : List (List ℕ)) → IsShut D.Disk self.old contents
             → IsKept D.Disk self.new contents) }

@@ -6,7 +6,7 @@ ghost use Rattle.dav_journal.specs.File.{IsBegun, Recovers};
 ghost use Rattle.dav_journal.specs.Mark.{IsLastMark, IsMark, IsMarkPlace, NoneMarkedPast};
 ghost use Rattle.dav_journal.specs.declared.error.JournalError.TheVariants.{Damaged};
 ghost use Rattle.dav_journal.specs.Error.{IsNoDamage};
-ghost use Rattle.dav_journal.specs.Journal.{HasRead, IsClean, IsCleared, IsKept, IsReading, IsShut, IsSynced, IsWrittenBlock, LeavesAtMost, LeavesOnly, OnlyReads, Stays, blocks_end, blocks_len, disk_of, file_of};
+ghost use Rattle.dav_journal.specs.Journal.{HasRead, IsBare, IsClean, IsCleared, IsKept, IsOpened, IsReading, IsShut, IsSynced, IsWrittenBlock, LeavesAtMost, LeavesEither, LeavesOnly, OnlyReads, Stays, blocks_end, blocks_len, disk_of, file_of};
 ghost use Rattle.dav_journal.specs.Write.{HasZeros, KeepsBelow};
 
 use crate::block::{FRONT, twice_bytes};
@@ -73,10 +73,12 @@ impl<D: Disk + Drop> Journal<D> {
     }
 
     // `Foreign` where anything but zeros is at the places of marks.
-    fn see_no_marks(&mut self) -> Result<(), JournalError>
+    pub(super) fn see_no_marks(&mut self) -> Result<(), JournalError>
         ensures reads { OnlyReads D.Disk (disk_of self.old) (disk_of self.new) }
         ensures cleared { OnOk result (IsClean D.Disk self.new → (contents : List (List ℕ))
             → HasRead D.Disk self.old contents → IsCleared D.Disk self.new contents) }
+        ensures bare { OnOk result (IsClean D.Disk self.new → IsSynced D.Disk self.old
+            → IsOpened D.Disk self.old → IsBare D.Disk self.new) }
     {
         if !self.disk.may_be_used() {
             return Err(JournalError::Io);
@@ -91,10 +93,11 @@ impl<D: Disk + Drop> Journal<D> {
     }
 
     // Writes zeros over all marks.
-    fn clear_all(&mut self) -> Result<(), JournalError>
+    pub(super) fn clear_all(&mut self) -> Result<(), JournalError>
         ensures clean { IsClean D.Disk self.new → IsClean D.Disk self.old }
         ensures cleared { OnOk result ((contents : List (List ℕ)) → HasRead D.Disk self.old contents
             → IsCleared D.Disk self.new contents) }
+        ensures bare { OnOk result (IsOpened D.Disk self.old → IsBare D.Disk self.new) }
         ensures any_moment { IsTrue (D.Disk.is_mixing (disk_of self.old))
             → (contents : List (List ℕ)) → LeavesOnly D.Disk self.old contents
             → LeavesOnly D.Disk self.new contents }
@@ -157,6 +160,7 @@ impl<D: Disk + Drop> Journal<D> {
     /// Makes sure, in a quiet moment, that the mark of the last block is kept too, as the next `keep` does otherwise. After an error nothing
     /// more may be asked.
     pub fn keep_mark(&mut self) -> Result<(), JournalError>
+        ensures clean { IsClean D.Disk self.new → IsClean D.Disk self.old }
         ensures kept { OnOk result ((contents : List (List ℕ)) → IsKept D.Disk self.old contents
             → IsKept D.Disk self.new contents) }
         ensures synced { OnOk result (IsSynced D.Disk self.new) }

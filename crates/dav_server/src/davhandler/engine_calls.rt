@@ -94,8 +94,8 @@ fn update(alloc: Global, name: &str) -> Result<Element, NoMemory> {
     Ok(update)
 }
 
-// The body that a part of a row stands for, if it does.
-fn body_in(alloc: Global, part: &'static str) -> Result<Option<Body>, NoMemory> {
+/// The body that a part of a row stands for, if it does.
+pub(super) fn body_in(alloc: Global, part: &'static str) -> Result<Option<Body>, NoMemory> {
     if let Some(bytes) = part.strip_prefix("bytes ") {
         return Ok(Some(Body::Bytes(Bytes::from_static(bytes.as_bytes()))));
     }

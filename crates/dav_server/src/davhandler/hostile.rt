@@ -1,11 +1,9 @@
-//! Heads that are cut short, odd paths, and a server on which memory ran out.
-use super::tests::{new_server, server_below};
+//! Heads that are cut short, and odd paths.
+use super::tests::new_server;
 use super::*;
 use crate::asserting::same;
 use crate::exchange::BadMoment;
 use crate::rows::{Player, play_rows, unescaped};
-use bytes::Bytes;
-use dav_engine::ReplyBody;
 use std::alloc::{AllocError, AllocGlobal};
 use std::process::Abort;
 use std::test::Fail;
@@ -198,44 +196,5 @@ fn names_one_path_in_both_places(rt: HostRuntime) -> Result<(), Fail> {
         path: 78,
     };
     same(&rt, &counts, &wanted);
-    Ok(())
-}
-
-// The reply to a request; where memory ran out in it, or in the store, to the next one, which is the same.
-fn insist<F: DavFileSystem, L: DavLockSystem>(
-    server: &mut DavHandler<F, L>,
-    alloc: Global,
-    head: &'static [u8],
-    bytes: &'static [u8],
-) -> Result<Reply, Fail> {
-    let asked = Exchange::new(head, Body::Bytes(Bytes::from_static(bytes)), None, 1, None)?;
-    match server.handle(alloc, &asked) {
-        Ok(reply) if reply.status != StatusCode::INSUFFICIENT_STORAGE => Ok(reply),
-        _ => Ok(server.handle(alloc, &asked)?),
-    }
-}
-
-// A server answers on where memory ran out, if it does. What was done before memory ran
-// out is there when the same is asked again, so a status may be another one then.
-#[test]
-fn handler_goes_on_after_a_refusal(rt: HostRuntime) -> Result<(), Fail> {
-    let alloc = rt.alloc();
-    let mut server = match server_below(alloc, "") {
-        Ok(server) => server,
-        Err(_) => server_below(alloc, "")?,
-    };
-    let made = insist(&mut server, alloc, b"MKCOL /d HTTP/1.1\r\n\r\n", b"")?;
-    assert!(rt; matches!(made.status.as_u16(), 201 | 405));
-    let stored = insist(&mut server, alloc, b"PUT /d/a HTTP/1.1\r\n\r\n", b"one")?;
-    assert!(rt; matches!(stored.status.as_u16(), 201 | 204));
-    let read = insist(&mut server, alloc, b"GET /d/a HTTP/1.1\r\n\r\n", b"")?;
-    assert!(rt; matches!(&read.body, ReplyBody::Bytes(bytes) if is_same(bytes, b"one")));
-    let listed = insist(
-        &mut server,
-        alloc,
-        b"PROPFIND /d HTTP/1.1\r\nDepth: 1\r\n\r\n",
-        b"",
-    )?;
-    assert!(rt; listed.status == StatusCode::MULTI_STATUS);
     Ok(())
 }

@@ -19,7 +19,7 @@ pub struct Found {
 
 // The number of the child under a name; none of no node.
 #[tactic(auto, using(crate::proofs::BareTrees::named_bare))]
-fn child(tree: &Tree<Vec<u8>, Node>, parent: Option<u64>, name: &[u8]) -> Option<u64>
+pub(super) fn child(tree: &Tree<Vec<u8>, Node>, parent: Option<u64>, name: &[u8]) -> Option<u64>
     ensures { result ≡ option_and_then (λ n. named (bare tree.now) n name.now) parent }
 {
     tree.get_child_bytes(parent?, name).ok()

@@ -25,7 +25,7 @@ fn is_folder(tree: &Tree<Vec<u8>, Node>, id: u64) -> bool
 }
 
 // The children of a node in order: clones of their keys, and their numbers.
-fn sorted_children(
+pub(super) fn sorted_children(
     alloc: Global,
     tree: &Tree<Vec<u8>, Node>,
     id: u64,
@@ -45,7 +45,7 @@ fn sorted_children(
 }
 
 // The names of these children, and whether each is a folder.
-fn members_among(
+pub(super) fn members_among(
     alloc: Global,
     tree: &Tree<Vec<u8>, Node>,
     children: Vec<(Vec<u8>, u64)>,

@@ -5,7 +5,8 @@
 //! error, or what the call returns. `open` opens the one file that `write`, `buffer` and the like use; a folder in a
 //! listing ends in a slash. A property is written by its name, after a colon where it has no namespace, and `set` stores
 //! one without an element where its value is missing. `properties` lists them with their elements, as `name=value`, and
-//! `names` without.
+//! `names` without. `saved` asks whether the store is saved as these bytes: `#n` is the number n in eight bytes, `'t'` the
+//! text t, any other word a byte.
 ghost use Rattle.std.specs.Prelude.{◌≤◌};
 ghost use Rattle.dav_core.specs.World.{last_moment};
 
@@ -159,6 +160,13 @@ quota -> NotImplemented
 set_accessed / 1 -> NotImplemented
 set_modified / 1 -> NotImplemented
 link / -> folder, number 0, created 0, modified 0
+# what is saved of a store
+saved #1 #1 #0 #0 #0 0 #0 #0 #0 -> yes
+mkdir /d 1 -> ok
+open /d/f read,create,write 2 -> ok
+write ab 3 -> ok
+set /d :x -> 200 x without xml
+saved #4 #3 #0 #0 #0 0 #0 #0 #1 #1 #1 'd' #1 #1 0 #1 #0 #1 'x' 0 #1 #2 #2 #1 'd' #1 'f' #2 #3 1 #2 'ab' #0 #2 #3 -> yes
 "##;
 
 // The store that rows are played on, with one open file and the entries that were listed last.
@@ -506,6 +514,30 @@ fn check(rt: &impl Abort, alloc: Global, line: &str, answer: FsResult<String>) -
     Ok(())
 }
 
+// Adds the bytes that a word means.
+fn push_word(bytes: &mut Vec<u8>, word: &str) -> Result<(), Fail> {
+    if let Some(number) = word.strip_prefix('#') {
+        bytes.extend_from_slice(&number.parse::<u64>()?.to_be_bytes())?;
+    } else if let Some(name) = word.strip_prefix('\'') {
+        bytes.extend_from_slice(name.trim_end_matches('\'').as_bytes())?;
+    } else {
+        bytes.push(word.parse::<u8>()?)?;
+    }
+    Ok(())
+}
+
+// Whether a store is saved as the bytes of a row.
+fn is_saved_as(alloc: Global, fs: &MemFs, row: Row<'_>) -> Result<bool, Fail> {
+    let (mut saved, mut bytes) = (Vec::new(alloc), Vec::new(alloc));
+    fs.save(&mut saved)?;
+    for words in &row[1..] {
+        for word in words.split(' ') {
+            push_word(&mut bytes, word)?;
+        }
+    }
+    Ok(saved == bytes)
+}
+
 // Makes the call of a row: here, where it is about whole stores, and else on the store.
 fn play(
     alloc: Global,
@@ -514,6 +546,10 @@ fn play(
     row: Row<'_>,
 ) -> Result<FsResult<String>, Fail> {
     match row[0] {
+        "saved" => {
+            let is_so = is_saved_as(alloc, &played.fs, row)?;
+            return Ok(text(alloc, if is_so { "yes" } else { "no" }));
+        }
         "next" => *played = begun(alloc, row[1].parse::<u64>()?)?,
         "clone" => *other = played.fs.clone()?,
         "other" => mem::swap(&mut played.fs, other),

@@ -3,7 +3,7 @@
 //!
 //! A line `# title` begins a new list. Each other line is a call and, after ` -> `, its answer: `ok`, a refusal, or
 //! what the call returns. Locks are requested at second 100, for 60 seconds where they are timed. `nodes` is no call: it
-//! tells whether the index has nodes below its root.
+//! tells whether the index has nodes below its root. `reload` goes on with the list that is read from what is saved of it.
 ghost use Rattle.std.specs.Prelude.{◌<◌, IfSome};
 
 use super::*;
@@ -14,6 +14,7 @@ const ROWS: &str = r##"
 lock /a/b exclusive,infinite,timed t1 anna -> ends 160
 lock /a exclusive,infinite,timed t3 anna -> Conflict
 lock /a exclusive,timed t2 anna -> ends 160
+reload / -> all
 discover /a/b/c -> t1
 ended / 159 -> none
 ended / 160 -> t1
@@ -33,6 +34,7 @@ lock /a shared,infinite t2 -> never ends
 ended / 18446744073709551615 -> none
 lock /a/b shared,infinite t1 -> never ends
 lock /a/b shared,infinite t3 -> never ends
+reload / -> all
 discover /a/b/c -> t2 t1 t3
 # a path below a lock of infinite depth; the lock ends, and is granted again
 lock /a exclusive,infinite t1 anna -> never ends
@@ -48,6 +50,12 @@ unlock /a t1 -> ok
 nodes / -> none
 lock /a/b/c exclusive t2 ben -> never ends
 nodes / -> some
+reload / -> all
+nodes / -> some
+unlock /a/b/c t2 -> ok
+nodes / -> none
+reload / -> all
+check /a/b/c ben -> free
 # a folder with several locks below, which end with it; a lock of infinite depth asked above others
 lock /a/b/c exclusive t2 anna -> never ends
 lock /a/b/d exclusive,infinite t3 anna -> never ends
@@ -94,6 +102,7 @@ pub(crate) fn play(alloc: Global, ls: &mut MemLs, row: Row<'_>) -> Result<String
         "check" => return check(alloc, ls, &at, row),
         "discover" => return discover(alloc, ls, &at),
         "nodes" => return nodes(alloc, ls),
+        "reload" => return reload(alloc, ls),
         "ended" => return ended(alloc, ls, row[2]),
         "unlock" => ls.unlock(&at, row[2]).is_ok(),
         _ => ls.delete(&at).is_ok(),
@@ -171,6 +180,16 @@ pub(crate) fn refreshed(
 fn refresh(alloc: Global, ls: &mut MemLs, at: &DavPath, row: Row<'_>) -> Result<String, Fail> {
     let answer = ls.refresh(alloc, at, row[2], timeout_after(row[3]), 150);
     refreshed(alloc, answer)
+}
+
+// Saves the list, and goes on with what is read of that; whether all of it was read.
+fn reload(alloc: Global, ls: &mut MemLs) -> Result<String, Fail> {
+    let mut saved = Vec::new(alloc);
+    ls.save(&mut saved)?;
+    let (again, rest) = MemLs::load(alloc, 1, &saved)?;
+    let is_all = rest.is_empty();
+    *ls = again;
+    Ok(String::from_str(alloc, if is_all { "all" } else { "not all" })?)
 }
 
 // Whether the index has nodes below its root.

@@ -1,6 +1,5 @@
 use Rattle.std.proofs.Common.{ap, min, refl, subst, sym, ◌∙◌}
 use Rattle.dav_core.specs.World.{last_moment}
-use Rattle.dav_server.specs.Head.{IsHead}
 use Rattle.dav_server.specs.Machine.{Exchange}
 use Rattle.dav_http.specs.Steps.{IsBodyOf, IsTokenOf}
 use Rattle.dav_engine.specs.Caller.{Caller}

@@ -1,5 +1,6 @@
-use Rattle.std.proofs.Common.{List, ap, subst, sym, ◌≡◌, ◌∙◌}
-use Rattle.std.specs.Prelude.{IfOk}
+use Rattle.std.proofs.Common.{List, ap, subst, sym, ◌≡◌, ◌∙◌, false}
+use Rattle.std.specs.Prelude.{IfOk, OnOk}
+use Rattle.dav_core.specs.Asking.{StoreState}
 use Rattle.dav_core.specs.Locks.{Lock}
 use Rattle.dav_server.specs.Server.{HandlerView}
 use Rattle.dav_store.specs.Store.{Store}
@@ -35,4 +36,12 @@ returns-clause-left c = elim c.match-handle.branch [
       w.in-Ok.ensures.reading w.in-Ok.ensures.refused c.fs.ensures.state w.fs-in-Ok.ensures.state (sym c.if-was_short.ensures) (sym w.if-was_short-2.ensures) left
       ∙ ap (λ (h : HandlerView Store (List Lock)). h.server) c.self.view_is)
   | in-Err w ↦ subst (λ r. IfOk r (λ reply. Leaves c.args.exchange.now.head reply.status → c.handle.new.self.server ≡ c.args.self.now.server)) (sym w.result-is) tt
+]
+
+pub returns-clause-ample : goal.returns-clause-ample
+returns-clause-ample c = elim c.match-handle.branch [
+  | in-Ok+else-was_short-2 w ↦
+      subst (λ r. OnOk r (c.handle.new.self.server.state.store.short ≡ false)) (sym w.result-is)
+      (ap (λ (u : StoreState). u.short) (sym w.fs-in-Ok.ensures.state) ∙ sym w.if-was_short-2.ensures)
+  | in-Err w ↦ subst (λ r. OnOk r (c.handle.new.self.server.state.store.short ≡ false)) (sym w.result-is) tt
 ]

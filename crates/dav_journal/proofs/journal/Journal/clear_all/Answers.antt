@@ -3,6 +3,8 @@ use Rattle.sqlite_disk.specs.Disk.{Holds, Only}
 use Rattle.dav_journal.proofs.BlockLemmas.{blocks_le}
 use Rattle.dav_journal.proofs.FrontLemmas.{all_blank, cleared_left, read_cleared}
 use Rattle.dav_journal.proofs.MarkLemmas.{KeepsOthers, blank_mark, torn_others}
+use Rattle.dav_journal.specs.Journal.{HasFront}
+use Rattle.dav_journal.proofs.ClearLemmas.{others_has}
 use Rattle.dav_journal.proofs.journal.Journal.clear_all.Goals as goal
 
 pub returns-in_err-write_at-clause-any_moment : goal.returns-in_err-write_at-clause-any_moment
@@ -29,3 +31,18 @@ returns-clause-cleared g c contents r =
     let zeros : Holds (g.D.Disk.seen c.sync.new.self) 24 (replicate 48 0) = subst (λ (f : List ℕ). Holds f 24 (replicate 48 0)) (sym c.sync.ensures.seen) (c.in_ok-write_at.ensures.written (omega arith)) in
     let only : Only (g.D.Disk.seen c.sync.new.self) (g.D.Disk.may_leave c.sync.new.self) = subst (λ (f : List ℕ). Only f (g.D.Disk.may_leave c.sync.new.self)) (sym c.sync.ensures.seen) c.in_ok-sync.ensures.durable in
     read_cleared g.D.Disk j _ contents r kept only refl refl refl (λ at is. blank_mark _ _ at (all_blank _ at zeros is)) (inl refl) (all_blank _ 24 zeros (inl refl))
+
+pub returns-clause-bare : goal.returns-clause-bare
+returns-clause-bare g c opened =
+    let j = c.args.self.now in
+    let was = opened.outcomes _ (g.met.D.Disk.seen_may_stay j.disk) in
+    let others = torn_others 24 48 (g.D.Disk.seen j.disk) (g.D.Disk.seen c.write_at.new.self) (omega arith) (omega arith) (omega (arith, was.more)) c.write_at.ensures.others in
+    let zeros : Holds (g.D.Disk.seen c.sync.new.self) 24 (replicate 48 0) = subst (λ (f : List ℕ). Holds f 24 (replicate 48 0)) (sym c.sync.ensures.seen) (c.in_ok-write_at.ensures.written (omega arith)) in
+    let only : Only (g.D.Disk.seen c.sync.new.self) (g.D.Disk.may_leave c.sync.new.self) = subst (λ (f : List ℕ). Only f (g.D.Disk.may_leave c.sync.new.self)) (sym c.sync.ensures.seen) c.in_ok-sync.ensures.durable in
+    record {
+      small = opened.small;
+      has = subst (λ (f : List ℕ). HasFront j.key f) (sym c.sync.ensures.seen) (others_has j.key _ _ others was);
+      only = only;
+      place = inl refl;
+      blank = λ at is. all_blank _ at zeros is;
+    }

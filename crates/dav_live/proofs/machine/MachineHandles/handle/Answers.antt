@@ -1,4 +1,4 @@
-use Rattle.std.proofs.Common.{ap, refl, sym, ◌∙◌}
+use Rattle.std.proofs.Common.{ap, refl, ◌∙◌}
 use Rattle.std.proofs.lemmas.Result.{IfOk-weaker}
 use Rattle.dav_kept.specs.Records.{RequestView}
 use Rattle.dav_live.proofs.MachineLemmas.{folder_answered, folder_leaves, reply_answered, reply_leaves}

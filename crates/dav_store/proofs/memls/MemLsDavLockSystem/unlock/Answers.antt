@@ -1,4 +1,4 @@
-use Rattle.std.proofs.Common.{◌≡◌, ◌+◌, ℕ, List, sym, subst}
+use Rattle.std.proofs.Common.{◌≡◌, ◌+◌, List, sym, subst}
 use Rattle.dav_core.specs.Path.{names}
 use Rattle.dav_core.specs.Locks.{Lock}
 use Rattle.dav_store.specs.LockIndex.{Key, IsIndexOf, tally, times, path_keys}

@@ -1,4 +1,4 @@
-use Rattle.std.proofs.Common.{◌≡◌, ◌++◌, Some, ◌-◌}
+use Rattle.std.proofs.Common.{◌≡◌, ◌++◌, ◌-◌}
 use Rattle.dav_core.specs.Path.{Path, names}
 use Rattle.dav_core.specs.PathRef.{names_left}
 use Rattle.dav_store.specs.Placed.{found}

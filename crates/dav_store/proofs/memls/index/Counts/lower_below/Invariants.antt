@@ -1,4 +1,4 @@
-use Rattle.std.proofs.Common.{◌≡◌, ℕ, ◌-◌, take}
+use Rattle.std.proofs.Common.{◌≡◌, ◌-◌, take}
 use Rattle.std.specs.List.{filter}
 use Rattle.dav_core.specs.Path.{names, is_at_or_under}
 use Rattle.dav_store.specs.LockIndex.{Key, count_of, tally}

@@ -1,4 +1,4 @@
-use Rattle.std.proofs.Common.{[], ◌∷◌, ◌++◌, sym, ◌∙◌, arith}
+use Rattle.std.proofs.Common.{[], ◌∷◌, ◌++◌, ◌∙◌, arith}
 use Rattle.dav_core.specs.Path.{names}
 use Rattle.dav_core.specs.PathRef.{names_left}
 use Rattle.dav_store.proofs.IndexLemmas.{path_on, keys_more}

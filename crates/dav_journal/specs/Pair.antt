@@ -1,0 +1,155 @@
+-- Two files, of which one counts: what they stand for, and what contracts see of a pair of
+-- journals.
+use Rattle.std.specs.Prelude.{◌≡◌, ◌⊎◌, ℕ, ◌<◌, ◌^◌, List, Option, MatchOption, length, [], ◌∷◌, ◌++◌, IsTrue}
+use Rattle.std.specs.Bool.{⊤}
+use Rattle.std.specs.Int.{w64, to_be_bytes}
+use Rattle.sqlite_disk.specs.Disk.{Only}
+use Rattle.sqlite_disk.specs.declared.Disk.{Ghosts}
+use Rattle.dav_journal.specs.Block.{IsBlock, IsNoBlock}
+use Rattle.dav_journal.specs.File.{IsBegun, Recovers}
+use Rattle.dav_journal.specs.Journal.{HasFront, HasRead, IsClean, IsKept, IsReading, OnlyReads, Stays, disk_of, file_of}
+use Rattle.dav_journal.specs.declared.journal.Journal.{Journal}
+use Rattle.dav_journal.specs.declared.pair.Pair.{Pair}
+
+-- contents as the blocks of a file have them: the first one begins with the generation of the file,
+-- in 8 bytes
+abbrev pub with_generation : ℕ → List (List ℕ) → List (List ℕ)
+with_generation generation [] = []
+with_generation generation (content ∷ contents) = (to_be_bytes w64 generation ++ content) ∷ contents
+
+-- a first block begins with a generation that is lower
+pub record BeginsBelow (generation : ℕ) (block : List ℕ) : Type 0 where
+  pub own : ℕ
+  pub lower : own < generation
+  pub content : List ℕ
+  pub begins : block ≡ to_be_bytes w64 own ++ content
+
+-- blocks of a file are none, or of a lower generation
+abbrev pub AreOlder : ℕ → List (List ℕ) → Type 0
+AreOlder generation [] = ⊤
+AreOlder generation (block ∷ blocks) = BeginsBelow generation block
+
+-- A file has blocks of these contents and of a generation; the other one has blocks of an older
+-- one, or none. Where there are no contents, neither has a block.
+pub record Counts (file other : List ℕ) (contents : List (List ℕ)) : Type 0 where
+  pub generation : ℕ
+  pub small : generation < 2 ^ 64
+  pub counts : Recovers file (with_generation generation contents)
+  pub blocks : List (List ℕ)
+  pub stands : Recovers other blocks
+  pub older : AreOlder generation blocks
+  pub none : contents ≡ [] → blocks ≡ []
+
+-- A pair of files stands for these contents: one of them counts, whichever.
+abbrev pub PairRecovers : List ℕ → List ℕ → List (List ℕ) → Type 0
+PairRecovers one other contents = Counts one other contents ⊎ Counts other one contents
+
+-- the journal that counts
+abbrev pub counting : {D : Type 0} → Pair D → Journal D
+counting p = p.counts
+
+-- the other one
+abbrev pub spare_of : {D : Type 0} → Pair D → Journal D
+spare_of p = p.spare
+
+-- the generation of the one that counts
+abbrev pub generation_of : {D : Type 0} → Pair D → ℕ
+generation_of p = p.generation
+
+-- neither disk told a lie that was taken for true
+abbrev pub IsCleanPair : {D : Type 0} → Ghosts D → Pair D → Type 0
+IsCleanPair g p = IsClean g p.counts × IsClean g p.spare
+
+-- where a crash is mixing, of both disks
+abbrev pub IsMixingPair : {D : Type 0} → Ghosts D → Pair D → Type 0
+IsMixingPair g p = IsTrue (g.is_mixing (disk_of p.counts)) × IsTrue (g.is_mixing (disk_of p.spare))
+
+-- both disks were only read
+abbrev pub OnlyReadsPair : {D : Type 0} → Ghosts D → Pair D → Pair D → Type 0
+OnlyReadsPair g old new =
+    OnlyReads g (disk_of old.counts) (disk_of new.counts)
+    × OnlyReads g (disk_of old.spare) (disk_of new.spare)
+
+-- a file was opened: it was empty, or had what a crash left of the first write, or it was only read
+abbrev pub WasOpened : {D : Type 0} → Ghosts D → Journal D → Journal D → Type 0
+WasOpened g old new = IsBegun (file_of g old) ⊎ OnlyReads g (disk_of old) (disk_of new)
+
+-- both files of a pair were opened, whichever counts now
+abbrev pub WereOpened : {D : Type 0} → Ghosts D → Pair D → Pair D → Type 0
+WereOpened g old new =
+    (WasOpened g old.counts new.counts × WasOpened g old.spare new.spare)
+    ⊎ (WasOpened g old.counts new.spare × WasOpened g old.spare new.counts)
+
+-- whatever a crash leaves of the one file and of the other, they stand for the first contents, or
+-- for the second ones
+abbrev pub PairLeaves : {D : Type 0} → Ghosts D → Pair D → List (List ℕ) → List (List ℕ) → Type 0
+PairLeaves g p one other =
+    (c d : List ℕ) → g.may_leave (disk_of p.counts) c → g.may_leave (disk_of p.spare) d
+    → PairRecovers c d one ⊎ PairRecovers c d other
+
+-- they stand for these
+abbrev pub PairLeavesOnly : {D : Type 0} → Ghosts D → Pair D → List (List ℕ) → Type 0
+PairLeavesOnly g p contents =
+    (c d : List ℕ) → g.may_leave (disk_of p.counts) c → g.may_leave (disk_of p.spare) d
+    → PairRecovers c d contents
+
+-- the files as they read stand for these
+abbrev pub PairStandsFor : {D : Type 0} → Ghosts D → Pair D → List (List ℕ) → Type 0
+PairStandsFor g p contents = PairRecovers (file_of g p.counts) (file_of g p.spare) contents
+
+-- A journal that doesn't count: its file has the front, and no first block but one of a lower
+-- generation.
+pub record IsSpare {D : Type 0} (g : Ghosts D) (j : Journal D) (generation : ℕ) : Type 0 where
+  pub small : j.key < 2 ^ 64
+  pub has : HasFront j.key (g.seen j.disk)
+  pub only : Only (g.seen j.disk) (g.may_leave j.disk)
+  pub older : (block : List ℕ) → IsBlock j.key (g.seen j.disk) 72 block
+      → BeginsBelow generation block
+
+-- Blocks of these contents were read in the file that counts.
+pub record IsReadingPair {D : Type 0} (g : Ghosts D) (p : Pair D) (contents : List (List ℕ))
+    : Type 0 where
+  pub small : p.generation < 2 ^ 64
+  pub reading : IsReading g p.counts (with_generation p.generation contents)
+  pub spare : IsSpare g p.spare p.generation
+
+-- They are all that it has. Where there are none, neither file has a block.
+pub record HasReadPair {D : Type 0} (g : Ghosts D) (p : Pair D) (contents : List (List ℕ))
+    : Type 0 where
+  pub small : p.generation < 2 ^ 64
+  pub read : HasRead g p.counts (with_generation p.generation contents)
+  pub spare : IsSpare g p.spare p.generation
+  pub none : contents ≡ [] → p.generation ≡ 0
+
+-- The pair keeps these contents: whatever a crash now leaves has them, and no others. The other
+-- file has no block.
+pub record IsKeptPair {D : Type 0} (g : Ghosts D) (p : Pair D) (contents : List (List ℕ))
+    : Type 0 where
+  pub small : p.generation < 2 ^ 64
+  pub kept : IsKept g p.counts (with_generation p.generation contents)
+  pub spare : IsKept g p.spare []
+
+-- A pair only read, and stays at its place.
+pub record StaysPair {D : Type 0} (g : Ghosts D) (old new : Pair D) : Type 0 where
+  pub counts : Stays g (counting old) (counting new)
+  pub spare : spare_of new ≡ spare_of old
+  pub generation : generation_of new ≡ generation_of old
+
+-- a first block begins with this generation
+pub record BeginsWith (generation : ℕ) (block : List ℕ) : Type 0 where
+  pub content : List ℕ
+  pub begins : block ≡ to_be_bytes w64 generation ++ content
+
+-- a file has a first block, and of this generation
+pub record HasGeneration (key : ℕ) (file : List ℕ) (generation : ℕ) : Type 0 where
+  pub small : generation < 2 ^ 64
+  pub block : List ℕ
+  pub is : IsBlock key file 72 block
+  pub begins : BeginsWith generation block
+
+-- the generation of a file, where it has a first block
+pub record HasFirst {D : Type 0} (g : Ghosts D) (j : Journal D) (generation : Option ℕ)
+    : Type 0 where
+  pub more : 72 < length (file_of g j)
+  pub first : MatchOption generation (IsNoBlock j.key (file_of g j) 72)
+      (HasGeneration j.key (file_of g j))

@@ -1,0 +1,93 @@
+//! A pair of journals over two files, of which one counts, so that what is kept can begin anew.
+ghost use Rattle.std.specs.Prelude.{◌≡◌, ◌≢◌, ◌⊎◌, ◌≤◌, ◌<◌, ◌+◌, ◌^◌, ◌++◌, ◌∷◌, [], ℕ, List, Option, length, slice_index, IsTrue, IfOk, IfSome, OnOk, IsErrOf, MatchOption};
+ghost use Rattle.std.specs.Int.{w64, to_be_bytes};
+ghost use Rattle.sqlite_disk.specs.Disk.{Holds};
+ghost use Rattle.dav_journal.specs.File.{Recovers};
+ghost use Rattle.dav_journal.specs.declared.error.JournalError.TheVariants.{Damaged};
+ghost use Rattle.dav_journal.specs.Journal.{HasRead, IsClean, IsReading, OnlyReads, blocks_end, blocks_len, disk_of, file_of};
+ghost use Rattle.dav_journal.specs.Pair.{HasFirst, HasReadPair, IsCleanPair, IsKeptPair, IsMixingPair, IsReadingPair, OnlyReadsPair, PairLeaves, PairLeavesOnly, PairRecovers, PairStandsFor, StaysPair, WereOpened, counting, generation_of, spare_of};
+
+mod keeping;
+mod opening;
+mod reading;
+#[cfg(test)]
+mod tests;
+
+use crate::journal::{Journal, crash};
+use sqlite_disk::{Crash, Disk};
+use std::alloc::Global;
+use std::mem;
+
+/// Two journals: the one that counts, the other one, and the generation of the first.
+#[derive(Drop)]
+pub struct Pair<D: Disk> {
+    counts: Journal<D>,
+    spare: Journal<D>,
+    generation: u64,
+}
+
+impl<D: Disk + Drop> Pair<D> {
+    /// A pair over two disks, which isn't open yet.
+    pub fn new(one: D, other: D) -> Pair<D>
+        ensures one { disk_of (counting result) ≡ one }
+        ensures other { disk_of (spare_of result) ≡ other }
+    {
+        Pair {
+            counts: Journal::new(one),
+            spare: Journal::new(other),
+            generation: 0,
+        }
+    }
+
+    // The other journal counts from now on, which is of this generation.
+    fn turn(&mut self, generation: u64)
+        ensures counts { counting self.new ≡ spare_of self.old }
+        ensures spare { spare_of self.new ≡ counting self.old }
+        ensures generation { generation_of self.new ≡ generation }
+    {
+        mem::swap(&mut self.counts, &mut self.spare);
+        self.generation = generation;
+    }
+
+    /// How many bytes the blocks take in the file that counts.
+    pub fn len(&self) -> usize
+        ensures { result ≡ blocks_end (counting self.now) }
+    {
+        self.counts.len()
+    }
+}
+
+/// Begins anew with a content, and then the machine stops and comes back: whether it was
+/// acknowledged. Over two `Fuse`s of any counts of calls this is a crash at any call of `renew`.
+pub fn renew_and_crash<D: Crash + Drop>(pair: &mut Pair<D>, alloc: Global, content: &[u8]) -> bool
+    ensures left { IsCleanPair D.Disk pair.new → (contents : List (List ℕ))
+        → IsKeptPair D.Disk pair.old contents
+        → PairStandsFor D.Disk pair.new contents
+        ⊎ PairStandsFor D.Disk pair.new (content.now ∷ []) }
+    ensures acknowledged { IsTrue result → IsCleanPair D.Disk pair.new
+        → (contents : List (List ℕ)) → IsKeptPair D.Disk pair.old contents
+        → PairStandsFor D.Disk pair.new (content.now ∷ []) }
+{
+    let Ok(()) = pair.renew(alloc, content) else {
+        crash(&mut pair.counts);
+        crash(&mut pair.spare);
+        return false;
+    };
+    crash(&mut pair.counts);
+    crash(&mut pair.spare);
+    true
+}
+
+/// A pair of files stands for one list of contents alone, whichever of them is told first.
+pub fn pair_stands_for_one_list()
+    ensures one { (file other : List ℕ) (xs ys : List (List ℕ))
+        → PairRecovers file other xs → PairRecovers file other ys → xs ≡ ys }
+    ensures either { (file other : List ℕ) (xs : List (List ℕ))
+        → PairRecovers file other xs → PairRecovers other file xs }
+{}
+
+/// What was read of a pair is what its files stand for, if they stand for anything.
+pub fn reads_what_it_stands_for<D: Disk + Drop>(pair: &Pair<D>)
+    ensures { (contents others : List (List ℕ)) → HasReadPair D.Disk pair.now contents
+        → PairStandsFor D.Disk pair.now others → others ≡ contents }
+{}

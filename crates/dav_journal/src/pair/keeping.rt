@@ -1,0 +1,112 @@
+//! Blocks are kept in the file that counts, and what is kept begins anew in the other one.
+ghost use Rattle.std.specs.Prelude.{◌≡◌, ◌≢◌, ◌⊎◌, ◌≤◌, ◌<◌, ◌+◌, ◌^◌, ◌++◌, ◌∷◌, [], ℕ, List, Option, length, slice_index, IsTrue, IfOk, IfSome, OnOk, IsErrOf, MatchOption};
+ghost use Rattle.std.specs.Int.{w64, to_be_bytes};
+ghost use Rattle.sqlite_disk.specs.Disk.{Holds};
+ghost use Rattle.dav_journal.specs.File.{Recovers};
+ghost use Rattle.dav_journal.specs.declared.error.JournalError.TheVariants.{Damaged};
+ghost use Rattle.dav_journal.specs.Journal.{HasRead, IsClean, IsReading, OnlyReads, blocks_end, blocks_len, disk_of, file_of};
+ghost use Rattle.dav_journal.specs.Pair.{HasFirst, HasReadPair, IsCleanPair, IsKeptPair, IsMixingPair, IsReadingPair, OnlyReadsPair, PairLeaves, PairLeavesOnly, PairRecovers, PairStandsFor, StaysPair, WereOpened, counting, generation_of, spare_of};
+
+use crate::block::START;
+use crate::error::JournalError;
+use crate::pair::Pair;
+use sqlite_disk::Disk;
+use std::alloc::{AllocError, Global};
+
+/// The bytes of a generation, before the first content.
+const GENERATION: usize = 8;
+
+impl<D: Disk + Drop> Pair<D> {
+    /// Makes the end of the blocks that were read the end of the file that counts, and drops all
+    /// blocks of the other one.
+    pub fn cut(&mut self) -> Result<(), JournalError>
+        ensures clean { IsCleanPair D.Disk self.new → IsCleanPair D.Disk self.old }
+        ensures kept { OnOk result (IsCleanPair D.Disk self.new → (contents : List (List ℕ))
+            → HasReadPair D.Disk self.old contents → IsKeptPair D.Disk self.new contents) }
+        ensures any_moment { IsCleanPair D.Disk self.new → (contents : List (List ℕ))
+            → HasReadPair D.Disk self.old contents → PairLeavesOnly D.Disk self.old contents
+            → PairLeavesOnly D.Disk self.new contents }
+    {
+        self.counts.cut()?;
+        self.counts.keep_mark()?;
+        self.spare.clear()
+    }
+
+    /// Makes room for a block of so many bytes. `NoRoom` where the disk has none; the pair is as it
+    /// was then.
+    pub fn room(&mut self, count: usize) -> Result<(), JournalError>
+        ensures kept { (contents : List (List ℕ)) → IsKeptPair D.Disk self.old contents
+            → IsKeptPair D.Disk self.new contents }
+    {
+        self.counts.room(count.saturating_add(GENERATION))
+    }
+
+    /// Makes room to begin anew with a content of so many bytes. `NoRoom` where the disk has none;
+    /// the pair is as it was then.
+    pub fn room_to_renew(&mut self, count: usize) -> Result<(), JournalError>
+        ensures kept { (contents : List (List ℕ)) → IsKeptPair D.Disk self.old contents
+            → IsKeptPair D.Disk self.new contents }
+    {
+        self.spare.room(count.saturating_add(GENERATION))
+    }
+
+    /// Writes a block of this content after the others, and makes sure that it is kept. After an
+    /// error, but for `Memory`, nothing more may be asked.
+    pub fn keep(&mut self, alloc: Global, content: &[u8]) -> Result<(), JournalError>
+        ensures clean { IsCleanPair D.Disk self.new → IsCleanPair D.Disk self.old }
+        ensures kept { OnOk result ((contents : List (List ℕ))
+            → IsKeptPair D.Disk self.old contents
+            → IsKeptPair D.Disk self.new (contents ++ content.now ∷ [])) }
+        ensures any_moment { (contents : List (List ℕ)) → IsKeptPair D.Disk self.old contents
+            → PairLeaves D.Disk self.new contents (contents ++ content.now ∷ []) }
+    {
+        if self.counts.len() == START {
+            let block = first_block(alloc, self.generation, content)?;
+            return self.counts.keep(alloc, &block);
+        }
+        self.counts.keep(alloc, content)
+    }
+
+    /// Makes sure, in a quiet moment, that the mark of the last block is kept too, as the next
+    /// `keep` does otherwise. After an error nothing more may be asked.
+    pub fn keep_mark(&mut self) -> Result<(), JournalError>
+        ensures kept { OnOk result ((contents : List (List ℕ))
+            → IsKeptPair D.Disk self.old contents → IsKeptPair D.Disk self.new contents) }
+        ensures any_moment { (contents : List (List ℕ)) → IsKeptPair D.Disk self.old contents
+            → PairLeavesOnly D.Disk self.new contents }
+    {
+        self.counts.keep_mark()
+    }
+
+    /// Begins anew: this content takes the place of all that is kept. It becomes the first block of
+    /// the other file, which counts from then on; the blocks of the first one are dropped. After an
+    /// error, but for `Memory`, nothing more may be asked.
+    pub fn renew(&mut self, alloc: Global, content: &[u8]) -> Result<(), JournalError>
+        ensures clean { IsCleanPair D.Disk self.new → IsCleanPair D.Disk self.old }
+        ensures kept { OnOk result (IsCleanPair D.Disk self.new → (contents : List (List ℕ))
+            → IsKeptPair D.Disk self.old contents
+            → IsKeptPair D.Disk self.new (content.now ∷ [])) }
+        ensures any_moment { IsCleanPair D.Disk self.new → (contents : List (List ℕ))
+            → IsKeptPair D.Disk self.old contents
+            → PairLeaves D.Disk self.new contents (content.now ∷ []) }
+    {
+        let Some(generation) = self.generation.checked_add(1) else {
+            return Err(JournalError::NoRoom);
+        };
+        let block = first_block(alloc, generation, content)?;
+        self.spare.keep(alloc, &block)?;
+        self.spare.keep_mark()?;
+        self.turn(generation);
+        self.spare.clear()
+    }
+}
+
+// The first block of a file of this generation, with this content.
+fn first_block(alloc: Global, generation: u64, content: &[u8]) -> Result<Vec<u8>, AllocError>
+    ensures { IfOk result (λ v. v.items ≡ to_be_bytes w64 generation ++ content.now) }
+{
+    let mut block = Vec::new(alloc);
+    block.extend_from_slice(&generation.to_be_bytes())?;
+    block.extend_from_slice(content)?;
+    Ok(block)
+}

@@ -1,0 +1,31 @@
+-- The names by which a server may be asked for (RFC 9110, section 7.2).
+use Rattle.std.specs.Prelude.{◌≡◌, ℕ, ◌≤◌, List, [], ◌∷◌, ◌++◌, All, Bool, true, codes, Option, Some, None}
+use Rattle.std.specs.List.{list_any, slice_get}
+use Rattle.dav_server.specs.Head.{Request, is_same_name, values_of}
+
+-- the value of the first field with this name, if a request has one (RFC 9110, section 5.1)
+abbrev pub value_of : List ℕ → Request → Option (List ℕ)
+value_of name r = slice_get (values_of name r.fields) 0
+
+-- these are digits (RFC 5234, appendix B.1)
+abbrev pub AreDigits : List ℕ → Type 0
+AreDigits text = All (λ b. (48 ≤ b) × (b ≤ 57)) text
+
+-- The host of an authority: what comes before the colon of a port, which is of digits; all of it where there is none (RFC 3986, section 3.2).
+pub data IsHostOf (authority : List ℕ) : List ℕ → Type 0 where
+  before_port : (host port : List ℕ) → authority ≡ host ++ 58 ∷ port → AreDigits port → IsHostOf authority host
+  alone : ((host port : List ℕ) → authority ≡ host ++ 58 ∷ port → ¬ AreDigits port) → IsHostOf authority authority
+
+-- a machine's own names
+abbrev pub own_names : List (List ℕ)
+own_names = codes "localhost" ∷ codes "127.0.0.1" ∷ codes "[::1]" ∷ []
+
+-- this says whether an authority names this machine or one of these hosts, in letters of either case (RFC 3986, section 3.2.2)
+abbrev pub TellsNamed : List (List ℕ) → List ℕ → Bool → Type 0
+TellsNamed hosts authority is = (host : List ℕ) × IsHostOf authority host × (is ≡ list_any (is_same_name host) (own_names ++ hosts))
+
+-- This says whether a request whose Host has this value is for this machine, or for one of these hosts; one without a Host is (RFC 9110,
+-- section 7.2; RFC 9112, section 3.2).
+abbrev pub TellsFor : List (List ℕ) → Option (List ℕ) → Bool → Type 0
+TellsFor hosts None is = is ≡ true
+TellsFor hosts (Some authority) is = TellsNamed hosts authority is

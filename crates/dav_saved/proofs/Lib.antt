@@ -1,0 +1,10 @@
+pub mod Fields
+pub mod Loop
+pub mod Lists
+pub mod TreeLaws
+pub mod Texts
+pub mod Puts
+pub mod ReadSteps
+pub mod PartLaws
+pub mod WorldLaws
+pub mod LockLaws

@@ -1,0 +1,4 @@
+pub mod Error
+pub mod Kept
+pub mod Life
+pub mod Records

@@ -1,0 +1,55 @@
+//! What answers requests.
+ghost use Rattle.std.specs.Prelude.{◌≡◌, ◌++◌, ℕ, List, IfOk, OnOk};
+ghost use Rattle.http_server.specs.declared.response.Response.{Response};
+ghost use Rattle.http_server.specs.Response.{IsBlank};
+ghost use Rattle.dav_snapshots.specs.Kept.{LoadsWhatWasSaved};
+ghost use Rattle.dav_snapshots.specs.Records.{RequestView};
+ghost use Rattle.dav_snapshots.specs.declared.handler.Effect.TheVariants.{Left};
+
+use crate::error::HandleError;
+use crate::record::Request;
+use http_server::Response;
+
+/// What an answer did to the state.
+#[derive(Clone, Copy, Debug, PartialEq, Eq)]
+pub enum Effect {
+    /// The state is as it was.
+    Left,
+    /// It may be another.
+    Changed,
+}
+
+/// What answers requests out of a state of its own, which an answer may change.
+pub trait Handles {
+    // This response answers this request in the first state, and leaves the second.
+    ghost answers: { Self → RequestView → Response → Self → Type 0 };
+
+    /// Answers a request: fills the response, which comes blank. `Malformed` where the request is
+    /// none that this handler takes, `Memory` where memory runs out; after an error nothing may be
+    /// asked.
+    fn handle(
+        &mut self,
+        request: &Request<'_>,
+        response: &mut Response,
+    ) -> Result<Effect, HandleError>
+        requires { IsBlank response.old }
+        ensures answers { IfOk result (λ _. answers self.old request.now response.new self.new) }
+        ensures left { IfOk result (λ effect. effect ≡ Left → self.new ≡ self.old) };
+
+    // What is saved of a state.
+    ghost saved: { Self → List ℕ };
+
+    // The second state is loaded from these bytes, by a server in the first one.
+    ghost loads: { Self → List ℕ → Self → Type 0 };
+
+    /// Adds what is saved of the state.
+    fn save(&self, out: &mut Vec<u8>) -> Result<(), HandleError>
+        ensures { OnOk result (out.new.items ≡ out.old.items ++ saved self.now) };
+
+    /// Loads the state that these bytes were saved of, in the place of the first one. `Malformed`
+    /// where they are those of none; after an error nothing may be asked.
+    fn load(&mut self, bytes: &[u8]) -> Result<(), HandleError>
+        ensures { OnOk result (loads self.old bytes.now self.new) };
+
+    ghost loads_what_was_saved: { LoadsWhatWasSaved answers saved loads };
+}

@@ -1,0 +1,491 @@
+//! A handler and the journal of what it answered.
+ghost use Rattle.std.specs.Prelude.{◌≡◌, ◌≢◌, ◌⊎◌, ◌+◌, ◌<◌, ◌^◌, ◌++◌, ◌∷◌, ◌↔◌, ℕ, Option, Some, None, List, length, [], true, false, IsTrue, MatchOption, IfOk, OnOk};
+ghost use Rattle.std.specs.List.{concat};
+ghost use Rattle.http_server.specs.declared.response.Response.{Response};
+ghost use Rattle.http_server.specs.Response.{IsBlank};
+ghost use Rattle.dav_snapshots.specs.Records.{IsRecord, record_bytes, token_count};
+ghost use Rattle.dav_snapshots.specs.Kept.{Begins, IsAnswerOf, RecordsFollow, IsRunOf, PlaysRecords, Snapshot, StaysAsKept, StaysInJournal, after, committed, first_block, first_day, held_by, is_new, journal_of, preface_of, snapshot_bytes, snapshot_of, answer_step, with_batch, with_count, with_first, with_snapshot};
+ghost use Rattle.dav_snapshots.specs.declared.handler.Effect.TheVariants.{Changed};
+
+use crate::error::{KeptError, refusal};
+use crate::handler::{Effect, Handles};
+use crate::journal::Keeps;
+use crate::record::{Record, Request, number_in, put, taken};
+use bytes::Bytes;
+use http_server::Response;
+use std::alloc::Global;
+
+/// A handler and its journal: the handler's state is that of the run of the records in the
+/// journal's blocks and in the batch, from the state that the journal begins with.
+#[derive(Drop)]
+pub struct Kept<H, J> {
+    alloc: Global,
+    handler: H,
+    journal: J,
+    /// What the first block of the journal begins with.
+    preface: Vec<u8>,
+    /// Whether the journal has no block.
+    is_new: bool,
+    /// Whether the loss of its last block would be seen.
+    is_marked: bool,
+    /// The records since the last commit.
+    batch: Vec<u8>,
+    /// How many of all records have a token.
+    tokens: u64,
+    /// The latest moment of all records.
+    latest: u64,
+}
+
+impl<H: Handles + Drop, J: Keeps + Drop> Kept<H, J> {
+    /// A server whose state is that of the run of the records in the blocks of a journal, from that
+    /// of this handler, or from the snapshot in the first block. The first block begins with the
+    /// preface: `OtherPreface` where it is another. `Damaged` where the first block or a snapshot
+    /// is none, where a block has no records, where the handler takes a request of them for none,
+    /// or where a reply has another status than its record.
+    pub fn open(
+        alloc: Global,
+        handler: H,
+        journal: J,
+        preface: &[u8],
+    ) -> Result<Kept<H, J>, KeptError>
+        ensures run { IfOk result (λ k. (start : Option Snapshot) × (blocks : List (List ℕ))
+            × IsRunOf (answer_step H.answers) H.loads handler start blocks (held_by k)
+            × (J.is_clean (journal_of k) → J.has_so_far journal []
+            → J.has_read (journal_of k)
+            (with_first (is_new k) (first_block preface.now start) blocks))
+            × (is_new k ≡ true → (blocks ≡ []) × (start ≡ None))) }
+        ensures empty { IfOk result (λ k. (held_by k).batch ≡ []) }
+        ensures clean { IfOk result (λ k. J.is_clean (journal_of k) → J.is_clean journal) }
+        ensures preface { IfOk result (λ k. preface_of k ≡ preface.now) }
+    {
+        let mut kept = Kept {
+            alloc,
+            handler,
+            journal,
+            preface: Vec::from_slice(alloc, preface)?,
+            is_new: true,
+            is_marked: false,
+            batch: Vec::new(alloc),
+            tokens: 0,
+            latest: 0,
+        };
+        kept.replay()?;
+        Ok(kept)
+    }
+
+    // Plays what the journal has: the first block has to begin with the preface, and the others
+    // have records.
+    fn replay(&mut self) -> Result<(), KeptError>
+        requires is_new { is_new self.old ≡ true }
+        requires first { held_by self.old ≡ first_day (held_by self.old).state }
+        ensures run { OnOk result ((start : Option Snapshot) × (blocks : List (List ℕ))
+            × IsRunOf (answer_step H.answers) H.loads (held_by self.old).state start blocks
+            (held_by self.new)
+            × (J.is_clean (journal_of self.new) → J.has_so_far (journal_of self.old) []
+            → J.has_read (journal_of self.new)
+            (with_first (is_new self.new) (first_block (preface_of self.old) start) blocks))
+            × (is_new self.new ≡ true → (blocks ≡ []) × (start ≡ None))) }
+        ensures batch { OnOk result ((held_by self.new).batch ≡ []) }
+        ensures clean { J.is_clean (journal_of self.new) → J.is_clean (journal_of self.old) }
+        ensures preface { preface_of self.new ≡ preface_of self.old }
+    {
+        let place = self.journal.place();
+        let Some(block) = self.next_block()? else {
+            return Ok(());
+        };
+        self.start(&block, place)?;
+        self.is_new = false;
+        self.play_blocks()
+    }
+
+    // Begins with the first block, at this place: the preface, and a snapshot if it has one.
+    fn start(&mut self, block: &[u8], place: usize) -> Result<(), KeptError>
+        requires { held_by self.old ≡ first_day (held_by self.old).state }
+        ensures begins { OnOk result ((start : Option Snapshot)
+            × (block.now ≡ first_block (preface_of self.old) start)
+            × Begins H.loads (held_by self.old).state start (held_by self.new)) }
+        ensures batch { OnOk result ((held_by self.new).batch ≡ []) }
+        ensures stays { StaysInJournal self.old self.new }
+        ensures journal { journal_of self.new ≡ journal_of self.old }
+    {
+        let Some((preface, rest)) = taken(block) else {
+            return Err(KeptError::Damaged(place));
+        };
+        if preface != self.preface.as_slice() {
+            return Err(KeptError::OtherPreface);
+        }
+        if rest.is_empty() {
+            return Ok(());
+        }
+        self.load(rest, place)
+    }
+
+    // Loads the snapshot of the first block, at this place.
+    fn load(&mut self, bytes: &[u8], place: usize) -> Result<(), KeptError>
+        requires { held_by self.old ≡ first_day (held_by self.old).state }
+        ensures loaded { OnOk result ((start : Snapshot) × (bytes.now ≡ snapshot_bytes (Some start))
+            × Begins H.loads (held_by self.old).state (Some start) (held_by self.new)) }
+        ensures stays { StaysAsKept self.old self.new }
+        ensures journal { journal_of self.new ≡ journal_of self.old }
+    {
+        let Some((tokens, rest)) = number_in(bytes) else {
+            return Err(KeptError::Damaged(place));
+        };
+        let Some((latest, saved)) = number_in(rest) else {
+            return Err(KeptError::Damaged(place));
+        };
+        match self.handler.load(saved) {
+            Ok(()) => {}
+            Err(error) => return Err(refusal(error, place)),
+        }
+        self.tokens = tokens;
+        self.latest = latest;
+        Ok(())
+    }
+
+    // The next block of the journal; `None` where none follows.
+    fn next_block(&mut self) -> Result<Option<Vec<u8>>, KeptError>
+        ensures held { held_by self.new ≡ held_by self.old }
+        ensures stays { StaysAsKept self.old self.new }
+        ensures clean { J.is_clean (journal_of self.new) → J.is_clean (journal_of self.old) }
+        ensures read { IfOk result (λ block. J.is_clean (journal_of self.new)
+            → (blocks : List (List ℕ)) → J.has_so_far (journal_of self.old) blocks
+            → MatchOption block (J.has_read (journal_of self.new) blocks)
+            (λ b. J.has_so_far (journal_of self.new) (blocks ++ b.items ∷ []))) }
+    {
+        self.journal.next(self.alloc)
+    }
+
+    // Plays the blocks of the journal that weren't read yet.
+    fn play_blocks(&mut self) -> Result<(), KeptError>
+        ensures played { OnOk result ((blocks : List (List ℕ))
+            × PlaysRecords (answer_step H.answers) (concat blocks) (held_by self.old) (held_by self.new)
+            × (J.is_clean (journal_of self.new) → (before : List (List ℕ))
+            → J.has_so_far (journal_of self.old) before
+            → J.has_read (journal_of self.new) (before ++ blocks))) }
+        ensures stays { StaysAsKept self.old self.new }
+        ensures clean { J.is_clean (journal_of self.new) → J.is_clean (journal_of self.old) }
+    {
+        for _ in 0..u64::MAX {
+            let place = self.journal.place();
+            let Some(block) = self.next_block()? else {
+                return Ok(());
+            };
+            self.play_block(&block, place)?;
+        }
+        Err(KeptError::Disk)
+    }
+
+    // Plays the records of the block at this place.
+    fn play_block(&mut self, block: &[u8], place: usize) -> Result<(), KeptError>
+        ensures played { OnOk result
+            (PlaysRecords (answer_step H.answers) block.now (held_by self.old) (held_by self.new)) }
+        ensures stays { StaysAsKept self.old self.new }
+        ensures journal { journal_of self.new ≡ journal_of self.old }
+    {
+        let mut rest = block;
+        while !rest.is_empty() {
+            let Some((record, after)) = Record::read(rest) else {
+                return Err(KeptError::Damaged(place));
+            };
+            self.play(&record, place)?;
+            rest = after;
+        }
+        Ok(())
+    }
+
+    // Plays a record of the block at this place: the reply has to have the status that it had.
+    fn play(&mut self, record: &Record<'_>, place: usize) -> Result<(), KeptError>
+        requires { IsRecord record.now }
+        ensures played { OnOk result (PlaysRecords (answer_step H.answers) (record_bytes record.now)
+            (held_by self.old) (held_by self.new)) }
+        ensures stays { StaysAsKept self.old self.new }
+        ensures journal { journal_of self.new ≡ journal_of self.old }
+    {
+        let body = Bytes::copy_from_slice(self.alloc, record.body)?;
+        let request = record.request(&body);
+        let mut response = Response::new(self.alloc);
+        match self.handler.handle(&request, &mut response) {
+            Ok(_) => {}
+            Err(error) => return Err(refusal(error, place)),
+        }
+        if response.status.as_u16() != record.status {
+            return Err(KeptError::Damaged(place));
+        }
+        if !self.can_count(&request) {
+            return Err(KeptError::Damaged(place));
+        }
+        self.count(&request);
+        Ok(())
+    }
+
+    // Whether the token of a request can be counted.
+    fn can_count(&self, request: &Request<'_>) -> bool
+        ensures { IsTrue result
+            ↔ ((held_by self.now).tokens + token_count request.now.token < 2 ^ 64) }
+    {
+        let tokens = self.tokens;
+        match request.token {
+            Some(_) => tokens < u64::MAX,
+            None => true,
+        }
+    }
+
+    // Counts the token of a request, and notes its moment.
+    fn count(&mut self, request: &Request<'_>)
+        requires { (held_by self.old).tokens + token_count request.now.token < 2 ^ 64 }
+        ensures held { held_by self.new ≡ with_count (held_by self.old) request.now }
+        ensures stays { StaysAsKept self.old self.new }
+        ensures journal { journal_of self.new ≡ journal_of self.old }
+    {
+        self.latest = self.latest.max(request.moment);
+        if request.token.is_some() {
+            self.tokens += 1;
+        }
+    }
+
+    /// How many bytes of the journal's file `begin` drops, and after which place: what a crash left
+    /// of a block that was never kept. 0 where none follow but zeros.
+    pub fn rest(&mut self) -> Result<(usize, usize), KeptError>
+        ensures place { IfOk result (λ p. p.0 ≡ J.ends_at (journal_of self.new)) }
+        ensures held { held_by self.new ≡ held_by self.old }
+        ensures stays { StaysAsKept self.old self.new }
+        ensures clean { J.is_clean (journal_of self.new) → J.is_clean (journal_of self.old) }
+        ensures read { (blocks : List (List ℕ)) → J.has_read (journal_of self.old) blocks
+            → J.has_read (journal_of self.new) blocks }
+    {
+        let count = self.journal.rest()?;
+        Ok((self.journal.place(), count))
+    }
+
+    /// Reads bytes of the journal's file from this place on.
+    pub fn read(&mut self, at: usize, piece: &mut [u8]) -> Result<(), KeptError>
+        ensures bytes { OnOk result (J.is_clean (journal_of self.new) → 0 < length piece.old
+            → J.has_bytes (journal_of self.old) at piece.new) }
+        ensures held { held_by self.new ≡ held_by self.old }
+        ensures stays { StaysAsKept self.old self.new }
+        ensures clean { J.is_clean (journal_of self.new) → J.is_clean (journal_of self.old) }
+        ensures read { (blocks : List (List ℕ)) → J.has_read (journal_of self.old) blocks
+            → J.has_read (journal_of self.new) blocks }
+    {
+        self.journal.read(at, piece)
+    }
+
+    /// Makes the journal ready for requests: drops what isn't whole. The first block of a new one
+    /// has the preface alone.
+    pub fn begin(&mut self) -> Result<(), KeptError>
+        ensures held { held_by self.new ≡ held_by self.old }
+        ensures clean { J.is_clean (journal_of self.new) → J.is_clean (journal_of self.old) }
+        ensures preface { preface_of self.new ≡ preface_of self.old }
+        ensures begun { OnOk result (is_new self.new ≡ false) }
+        ensures first { is_new self.old ≡ true → OnOk result (J.is_clean (journal_of self.new)
+            → J.has_read (journal_of self.old) []
+            → J.kept (journal_of self.new) (first_block (preface_of self.old) None ∷ [])) }
+        ensures again { is_new self.old ≡ false → OnOk result (J.is_clean (journal_of self.new)
+            → (blocks : List (List ℕ)) → J.has_read (journal_of self.old) blocks
+            → J.kept (journal_of self.new) blocks) }
+    {
+        let mut first = Vec::new(self.alloc);
+        put(&mut first, &self.preface)?;
+        self.journal.begin()?;
+        if self.is_new {
+            self.journal.keep(self.alloc, &first)?;
+            self.is_new = false;
+        }
+        Ok(())
+    }
+
+    /// Answers a request. The record of one that changed the state is in the batch. `None` where
+    /// there is no room for its record, on the disk or among the tokens that can be counted:
+    /// nothing is done then, and the client is told so (507: RFC 4918, section 11.5).
+    pub fn answer(
+        &mut self,
+        request: &Request<'_>,
+        response: &mut Response,
+    ) -> Result<Option<Effect>, KeptError>
+        requires { IsBlank response.old }
+        ensures answered { IfOk result (λ effect. MatchOption effect
+            ((held_by self.new ≡ held_by self.old) × (response.new ≡ response.old))
+            (λ e. IsAnswerOf H.answers (held_by self.old) request.now response.new e
+            (held_by self.new))) }
+        ensures follows { OnOk result
+            (RecordsFollow (answer_step H.answers) (held_by self.old) (held_by self.new)) }
+        ensures stays { StaysInJournal self.old self.new }
+        ensures kept { (blocks : List (List ℕ)) → J.kept (journal_of self.old) blocks
+            → J.kept (journal_of self.new) blocks }
+    {
+        if !self.has_room(request)? {
+            return Ok(None);
+        }
+        let effect = self.handler.handle(request, response)?;
+        if effect == Effect::Changed {
+            self.add(request, response.status.as_u16())?;
+        }
+        Ok(Some(effect))
+    }
+
+    // Whether the record of a request can be kept, and its token be counted.
+    fn has_room(&mut self, request: &Request<'_>) -> Result<bool, KeptError>
+        ensures held { held_by self.new ≡ held_by self.old }
+        ensures stays { StaysInJournal self.old self.new }
+        ensures counts { IfOk result (λ b. IsTrue b
+            → (held_by self.old).tokens + token_count request.now.token < 2 ^ 64) }
+        ensures kept { (blocks : List (List ℕ)) → J.kept (journal_of self.old) blocks
+            → J.kept (journal_of self.new) blocks }
+    {
+        if !self.can_count(request) {
+            return Ok(false);
+        }
+        self.journal
+            .room(self.batch.len().saturating_add(request.size()))
+    }
+
+    // Adds the record of a request to the batch: its reply had this status.
+    fn add(&mut self, request: &Request<'_>, status: u16) -> Result<(), KeptError>
+        requires { (held_by self.old).tokens + token_count request.now.token < 2 ^ 64 }
+        ensures held { OnOk result (held_by self.new ≡ after (held_by self.old)
+            (record { request = request.now; status = status }) Changed (held_by self.old).state) }
+        ensures is { IsRecord (record { request = request.now; status = status }) }
+        ensures stays { StaysInJournal self.old self.new }
+        ensures journal { journal_of self.new ≡ journal_of self.old }
+    {
+        request.record(status).write(&mut self.batch)?;
+        self.count(request);
+        Ok(())
+    }
+
+    /// Answers a request that only reads (RFC 9110, section 9.2.1): it is never recorded. `Changed`
+    /// where it changed the state.
+    pub fn answer_safe(
+        &mut self,
+        request: &Request<'_>,
+        response: &mut Response,
+    ) -> Result<(), KeptError>
+        requires { IsBlank response.old }
+        ensures answered { OnOk result (H.answers (held_by self.old).state request.now response.new
+            (held_by self.new).state) }
+        ensures held { OnOk result (held_by self.new ≡ held_by self.old) }
+        ensures stays { StaysInJournal self.old self.new }
+        ensures journal { journal_of self.new ≡ journal_of self.old }
+    {
+        match self.handler.handle(request, response)? {
+            Effect::Left => Ok(()),
+            Effect::Changed => Err(KeptError::Changed),
+        }
+    }
+
+    /// Keeps the batch as one block; where it is empty there is nothing to keep. At `Ok` each
+    /// request that was answered is kept.
+    pub fn commit(&mut self) -> Result<(), KeptError>
+        ensures held { OnOk result (held_by self.new ≡ committed (held_by self.old)) }
+        ensures stays { StaysInJournal self.old self.new }
+        ensures kept { OnOk result ((blocks : List (List ℕ)) → J.kept (journal_of self.old) blocks
+            → J.kept (journal_of self.new) (with_batch blocks (held_by self.old).batch)) }
+        ensures nothing { (held_by self.old).batch ≡ []
+            → journal_of self.new ≡ journal_of self.old }
+        ensures any_moment { (held_by self.old).batch ≢ [] → (blocks : List (List ℕ))
+            → J.kept (journal_of self.old) blocks → J.leaves (journal_of self.new) blocks
+            (with_batch blocks (held_by self.old).batch) }
+    {
+        if self.batch.is_empty() {
+            return Ok(());
+        }
+        self.journal.keep(self.alloc, &self.batch)?;
+        self.batch.clear();
+        self.is_marked = false;
+        Ok(())
+    }
+
+    /// Keeps the batch, and then makes the journal begin anew with a snapshot: what is saved of the
+    /// state takes the place of the records that led to it. False where the disk has no room for
+    /// it: then only the batch is kept.
+    pub fn snapshot(&mut self) -> Result<bool, KeptError>
+        ensures held { IfOk result (λ _. held_by self.new ≡ committed (held_by self.old)) }
+        ensures stays { StaysInJournal self.old self.new }
+        ensures kept { IfOk result (λ b. J.is_clean (journal_of self.new)
+            → (blocks : List (List ℕ)) → J.kept (journal_of self.old) blocks
+            → J.kept (journal_of self.new) (with_snapshot b
+            (first_block (preface_of self.old) (Some (snapshot_of H.saved (held_by self.old))))
+            (with_batch blocks (held_by self.old).batch))) }
+        ensures any_moment { J.is_clean (journal_of self.new)
+            → (blocks : List (List ℕ)) → J.kept (journal_of self.old) blocks
+            → J.leaves (journal_of self.new) blocks (with_batch blocks (held_by self.old).batch)
+            ⊎ J.leaves (journal_of self.new) (with_batch blocks (held_by self.old).batch)
+            (first_block (preface_of self.old)
+            (Some (snapshot_of H.saved (held_by self.old))) ∷ []) }
+    {
+        self.commit()?;
+        let block = self.beginning()?;
+        if !self.journal.room_to_renew(block.len())? {
+            return Ok(false);
+        }
+        self.journal.renew(self.alloc, &block)?;
+        self.is_marked = true;
+        Ok(true)
+    }
+
+    // The first block of a journal that begins anew now.
+    fn beginning(&self) -> Result<Vec<u8>, KeptError>
+        ensures { IfOk result (λ v. v.items ≡ first_block (preface_of self.now)
+            (Some (snapshot_of H.saved (held_by self.now)))) }
+    {
+        let mut block = Vec::new(self.alloc);
+        put(&mut block, &self.preface)?;
+        block.extend_from_slice(&self.tokens.to_be_bytes())?;
+        block.extend_from_slice(&self.latest.to_be_bytes())?;
+        self.handler.save(&mut block)?;
+        Ok(block)
+    }
+
+    /// Makes sure, in a quiet moment, that the loss of what was committed would be seen.
+    pub fn keep_mark(&mut self) -> Result<(), KeptError>
+        ensures held { held_by self.new ≡ held_by self.old }
+        ensures stays { StaysInJournal self.old self.new }
+        ensures kept { OnOk result ((blocks : List (List ℕ)) → J.kept (journal_of self.old) blocks
+            → J.kept (journal_of self.new) blocks) }
+    {
+        if self.is_marked {
+            return Ok(());
+        }
+        self.journal.keep_mark()?;
+        self.is_marked = true;
+        Ok(())
+    }
+
+    /// Ends the server: its journal, which has what was committed.
+    pub fn end(self) -> J
+        ensures { result ≡ journal_of self }
+    {
+        let Kept { journal, .. } = self;
+        journal
+    }
+
+    /// How many bytes the journal's blocks take: after a snapshot that is little more than the
+    /// snapshot, and each commit adds to it.
+    pub fn size(&self) -> usize
+        ensures { result ≡ J.ends_at (journal_of self.now) }
+    {
+        self.journal.place()
+    }
+
+    /// How many of all records have a token.
+    pub fn tokens(&self) -> u64
+        ensures { result ≡ (held_by self.now).tokens }
+    {
+        self.tokens
+    }
+
+    /// The latest moment of all records, 0 where there are none.
+    pub fn latest(&self) -> u64
+        ensures { result ≡ (held_by self.now).latest }
+    {
+        self.latest
+    }
+
+    /// The handler.
+    pub fn handler(&self) -> &H
+        ensures { result.now ≡ (held_by self.now).state }
+    {
+        &self.handler
+    }
+}

@@ -1,0 +1,17 @@
+//! What a server answered is kept: its state is that of the run of the requests in its journal,
+//! over each restart.
+#![tactic(auto)]
+
+mod error;
+mod handler;
+mod journal;
+mod kept;
+pub mod laws;
+mod over_journal;
+mod record;
+
+pub use error::{HandleError, KeptError};
+pub use handler::{Effect, Handles};
+pub use journal::Keeps;
+pub use kept::Kept;
+pub use record::{Record, Request};
