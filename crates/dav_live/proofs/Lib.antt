@@ -3,3 +3,7 @@ mod TokenLemmas
 mod HostLemmas
 mod OneAnswer
 mod MachineRuns
+pub mod ServingLemmas
+pub mod TurnRuns
+pub mod LifePromises
+pub mod Restarts

@@ -11,7 +11,7 @@ use Rattle.dav_live.specs.Answers.{IsAnswer, caller_of, replied, shown}
 use Rattle.dav_live.specs.Life.{IsMachineRun, RunsAreTheMachines}
 
 -- the step of an answer
-step_of : (old new : Server) (q : RequestView) (sent : Response) → IsAnswer old q sent new → (reply : Reply) × IsStepFor q.head q.body (caller_of q) old reply new
+pub step_of : (old new : Server) (q : RequestView) (sent : Response) → IsAnswer old q sent new → (reply : Reply) × IsStepFor q.head q.body (caller_of q) old reply new
 step_of old new q sent (replied r step is_sent) = (r, step)
 step_of old _ q sent (shown r sees step status page) = (r, step)
 

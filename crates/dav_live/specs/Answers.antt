@@ -1,13 +1,17 @@
 -- How the machine of a live server answers (RFC 9110, section 3; RFC 4918, section 8).
-use Rattle.std.specs.Prelude.{◌≡◌, ◌⊎◌, ◌↔◌, ℕ, Bool, true, List, codes}
+use Rattle.std.specs.Prelude.{◌≡◌, ◌⊎◌, ◌↔◌, ℕ, Bool, true, List, Option, Some, None, codes}
 use Rattle.http_server.specs.declared.response.Response.{Response}
+use Rattle.dav_core.specs.Locks.{Lock}
 use Rattle.dav_engine.specs.Caller.{Caller}
+use Rattle.dav_engine.specs.Plan.{Locks}
 use Rattle.dav_engine.specs.Reply.{Reply}
 use Rattle.dav_server.specs.Head.{IsHead, Request}
 use Rattle.dav_server.specs.Server.{Server}
+use Rattle.dav_http.specs.Ending.{IsUnlockHead}
 use Rattle.dav_http.specs.Sending.{IsSentAs}
 use Rattle.dav_http.specs.Steps.{IsStepFor}
 use Rattle.dav_kept.specs.Records.{RequestView}
+use Rattle.dav_store.specs.LockEnds.{first_ended}
 
 -- who makes a request, when, and the token for a lock that it creates
 abbrev pub caller_of : RequestView → Caller
@@ -34,3 +38,10 @@ IsSentFor head r sent = (is_head : Bool) × TellsHead head is_head × IsSentAs i
 pub data IsAnswer (old : Server) (q : RequestView) (sent : Response) : Server → Type 0 where
   replied : {new : Server} (r : Reply) → IsStepFor q.head q.body (caller_of q) old r new → IsSentFor q.head r sent → IsAnswer old q sent new
   shown : (r : Reply) → AsksToSee q.head → IsStepFor q.head q.body (caller_of q) old r old → r.status ≡ 405 → sent.status ≡ 200 → IsAnswer old q sent old
+
+-- The request with this head is the UNLOCK of the first lock of a list whose time ended at this moment or before; none where there is no
+-- such lock (RFC 4918, sections 6.6 and 9.11).
+abbrev pub IsNextEnd : Locks → ℕ → Option (List ℕ) → Type 0
+IsNextEnd locks now None = (ls : List Lock) → locks ≡ Some ls → first_ended now ls ≡ None
+IsNextEnd locks now (Some head) =
+    (l : Lock) × IsUnlockHead l head × ((ls : List Lock) → locks ≡ Some ls → first_ended now ls ≡ Some l)

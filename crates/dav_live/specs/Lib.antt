@@ -1,5 +1,10 @@
 pub mod Line
 pub mod Hosts
+pub mod Admission
+pub mod Serving
 pub mod Answers
 pub mod Tokens
 pub mod Life
+pub mod LiveRun
+pub mod Numbered
+pub mod LifePromises

@@ -1,6 +1,9 @@
 //! Laws of a live server.
-ghost use Rattle.dav_live.specs.Life.{RestartsChangeNothing, RunsAreTheMachines};
+ghost use Rattle.dav_live.specs.Life.{RestartsChangeNothing, RestartsGoOn, RunsAreTheMachines};
+ghost use Rattle.dav_live.specs.LifePromises.{LivesKeepPromises};
 ghost use Rattle.dav_live.specs.Tokens.{TokensDiffer};
+
+use dav_kept::Keeps;
 
 /// Tokens of two numbers differ, whatever random bytes they are made of (RFC 4918, section 6.5).
 pub fn tokens_differ()
@@ -16,4 +19,16 @@ pub fn restarts_change_nothing()
 /// machine's runs holds of the server, over each restart.
 pub fn runs_are_the_machines()
     ensures { RunsAreTheMachines }
+{}
+
+/// A live server keeps the promises of the machine and the headline over its whole life: each run of records whose tokens are those of
+/// the numbers from 0 on has them, with no premise left (RFC 4918, sections 6 and 7).
+pub fn lives_keep_promises()
+    ensures { LivesKeepPromises }
+{}
+
+/// A start goes on with the run that was: a server that is opened over the blocks of one, after a commit, holds the same, and the tokens
+/// of its records are those of the numbers from 0 on.
+pub fn restarts_go_on<J: Keeps>()
+    ensures { RestartsGoOn J.kept J.has_read }
 {}

@@ -5,6 +5,8 @@
 //! the journal and synced before any reply of its turn is handed out.
 #![tactic(auto)]
 
+mod admission;
+mod ends;
 mod fault;
 mod hosts;
 pub mod laws;

@@ -1,8 +1,10 @@
 //! A live server, behind one stream of reports and one of orders.
 use crate::fault::{Fault, OpenError};
+use crate::machine::Machine;
 use crate::service::Service;
 use crate::settings::Settings;
 use dav_access::Users;
+use dav_http::Handler;
 use dav_journal::Journal;
 use dav_turns::Turns;
 use dav_wire::Config;
@@ -31,7 +33,7 @@ pub trait Watch {
 pub struct Live<D: Disk + Drop> {
     alloc: Global,
     turns: Turns,
-    service: Service<D>,
+    service: Service<Machine, Journal<D>>,
 }
 
 // What was read last, the reports that weren't taken yet, and room for orders.
@@ -43,6 +45,21 @@ struct Pipe {
 }
 
 impl<D: Disk + Drop> Live<D> {
+    ghost use Rattle.std.specs.Prelude.{◌≡◌, ◌≢◌, ◌⊎◌, ◌<◌, ℕ, List, Err, IfOk, OnOk, length, string_bytes};
+    ghost use Rattle.std.specs.List.{flat_map};
+    ghost use Rattle.std.specs.Io.KnownBytes.{Appends};
+    ghost use Rattle.dav_journal.specs.Journal.{HasRead, IsClean, IsKept, blocks_end, file_of};
+    ghost use Rattle.sqlite_disk.specs.Disk.{Holds};
+    ghost use Rattle.dav_http.specs.Steps.{new_server};
+    ghost use Rattle.dav_kept.specs.Kept.{journal_of};
+    ghost use Rattle.dav_server.specs.Server.{Server as ServerValue};
+    ghost use Rattle.dav_turns.specs.Frames.{Order, order_bytes};
+    ghost use Rattle.dav_turns.specs.Turns.{Turn};
+    ghost use Rattle.dav_live.specs.Answers.{IsAnswer};
+    ghost use Rattle.dav_live.specs.Life.{IsOneRun, IsOpened, RunGoesOn};
+    ghost use Rattle.dav_live.specs.Numbered.{AreNumbered};
+    ghost use Rattle.dav_live.specs.LiveRun.{doing, kept_in, service_of, turns_of};
+
     /// A server over the file of its journal: what it answers is as after the requests that the journal has. The file is as it was,
     /// unless it was empty; `begin` comes next.
     pub fn open(
@@ -50,24 +67,54 @@ impl<D: Disk + Drop> Live<D> {
         disk: D,
         users: Option<Users>,
         settings: Settings,
-    ) -> Result<Live<D>, OpenError> {
+    ) -> Result<Live<D>, OpenError>
+        ensures run { IfOk result (λ l. (blocks : List (List ℕ))
+            × (IsClean D.Disk (journal_of (kept_in l)) → IsOpened IsAnswer
+            (λ j bs. HasRead D.Disk j bs) (new_server (string_bytes settings.prefix)) blocks
+            (kept_in l))) }
+    {
         let journal = opened(disk)?;
-        let service = Service::open(alloc, journal, users, settings)?;
+        let handler = Handler::new(alloc, settings.prefix.as_str())?;
+        let machine = Machine::new(alloc, handler);
+        let service = Service::open(alloc, machine, journal, users, settings)?;
         live_of(alloc, service)
     }
 
     /// Where the state's last whole block ends, and how many bytes follow that `begin` drops.
-    pub fn rest(&mut self) -> Result<(usize, usize), OpenError> {
+    pub fn rest(&mut self) -> Result<(usize, usize), OpenError>
+        ensures opened { (first : ServerValue) (blocks : List (List ℕ))
+            → IsOpened IsAnswer (λ j bs. HasRead D.Disk j bs) first blocks (kept_in self.old)
+            → IsOpened IsAnswer (λ j bs. HasRead D.Disk j bs) first blocks (kept_in self.new) }
+        ensures place { IfOk result (λ p. p.0 ≡ blocks_end (journal_of (kept_in self.new))) }
+        ensures clean { IsClean D.Disk (journal_of (kept_in self.new))
+            → IsClean D.Disk (journal_of (kept_in self.old)) }
+    {
         self.service.rest()
     }
 
     /// Reads bytes of the state's file.
-    pub fn read(&mut self, at: usize, piece: &mut [u8]) -> Result<(), OpenError> {
+    pub fn read(&mut self, at: usize, piece: &mut [u8]) -> Result<(), OpenError>
+        ensures opened { (first : ServerValue) (blocks : List (List ℕ))
+            → IsOpened IsAnswer (λ j bs. HasRead D.Disk j bs) first blocks (kept_in self.old)
+            → IsOpened IsAnswer (λ j bs. HasRead D.Disk j bs) first blocks (kept_in self.new) }
+        ensures bytes { OnOk result (IsClean D.Disk (journal_of (kept_in self.new))
+            → 0 < length piece.old
+            → Holds (file_of D.Disk (journal_of (kept_in self.old))) at piece.new) }
+        ensures clean { IsClean D.Disk (journal_of (kept_in self.new))
+            → IsClean D.Disk (journal_of (kept_in self.old)) }
+    {
         self.service.read(at, piece)
     }
 
     /// Makes the state ready for requests.
-    pub fn begin(&mut self) -> Result<(), OpenError> {
+    pub fn begin(&mut self) -> Result<(), OpenError>
+        ensures run { (first : ServerValue) (blocks : List (List ℕ)) (opened : IsOpened IsAnswer
+            (λ j bs. HasRead D.Disk j bs) first blocks (kept_in self.old))
+            → AreNumbered 0 opened.run.records → OnOk result (IsClean D.Disk (journal_of (kept_in self.new))
+            → IsOneRun IsAnswer (λ j bs. IsKept D.Disk j bs) first blocks (kept_in self.new)) }
+        ensures clean { IsClean D.Disk (journal_of (kept_in self.new))
+            → IsClean D.Disk (journal_of (kept_in self.old)) }
+    {
         self.service.begin()
     }
 
@@ -78,7 +125,10 @@ impl<D: Disk + Drop> Live<D> {
         reader: &mut R,
         writer: &mut W,
         watch: &mut L,
-    ) -> Fault {
+    ) -> Fault
+        ensures { result ≡ Fault.Ended → RunGoesOn IsAnswer (λ j bs. IsKept D.Disk j bs)
+            (kept_in self.old) (kept_in self.new) }
+    {
         let Ok(mut pipe) = new_pipe(self.alloc) else {
             return Fault::Memory;
         };
@@ -97,7 +147,18 @@ impl<D: Disk + Drop> Live<D> {
         reports: &[u8],
         orders: &mut Vec<u8>,
         writer: &mut W,
-    ) -> Result<usize, Fault> {
+    ) -> Result<usize, Fault>
+        ensures turn { IfOk result (λ used. (ordered : List Order) × Turn (doing D.Disk) reports.now
+            used (turns_of self.old) (service_of self.old) (turns_of self.new)
+            (service_of self.new) ordered
+            × Appends (W.contents writer.old) (W.contents writer.new)
+            (flat_map order_bytes ordered)) }
+        ensures run { OnOk result (RunGoesOn IsAnswer (λ j bs. IsKept D.Disk j bs)
+            (kept_in self.old) (kept_in self.new)) }
+        ensures held { (writer.new ≡ writer.old) ⊎ RunGoesOn IsAnswer
+            (λ j bs. IsKept D.Disk j bs) (kept_in self.old) (kept_in self.new) }
+        ensures fault { result ≢ Err Fault.Ended }
+    {
         match self.turns.serve(&mut self.service, reports, orders, writer) {
             Ok(used) => Ok(used),
             Err(error) => Err(error.into()),
@@ -111,7 +172,11 @@ impl<D: Disk + Drop> Live<D> {
         reader: &mut R,
         writer: &mut W,
         watch: &mut L,
-    ) -> Result<(), Fault> {
+    ) -> Result<(), Fault>
+        ensures run { OnOk result (RunGoesOn IsAnswer (λ j bs. IsKept D.Disk j bs)
+            (kept_in self.old) (kept_in self.new)) }
+        ensures ended { result ≡ Err Fault.Ended → kept_in self.new ≡ kept_in self.old }
+    {
         read_more(pipe, reader)?;
         watch.begin();
         let used = self.turn(&pipe.input, &mut pipe.orders, writer)?;
@@ -129,7 +194,10 @@ fn opened<D: Disk + Drop>(disk: D) -> Result<Journal<D>, OpenError> {
 }
 
 // A live server without connections.
-fn live_of<D: Disk + Drop>(alloc: Global, service: Service<D>) -> Result<Live<D>, OpenError> {
+fn live_of<D: Disk + Drop>(
+    alloc: Global,
+    service: Service<Machine, Journal<D>>,
+) -> Result<Live<D>, OpenError> {
     Ok(Live {
         alloc,
         turns: Turns::new(alloc, config_of(&service))?,
@@ -138,7 +206,7 @@ fn live_of<D: Disk + Drop>(alloc: Global, service: Service<D>) -> Result<Live<D>
 }
 
 // The limits of a connection: heads of 16 KiB, and no request is read while more than 64 KiB wait to be sent.
-fn config_of<D: Disk + Drop>(service: &Service<D>) -> Config {
+fn config_of<D: Disk + Drop>(service: &Service<Machine, Journal<D>>) -> Config {
     Config {
         limits: Limits::default(),
         max_body_len: usize::try_from(service.most_body()).unwrap_or(usize::MAX),

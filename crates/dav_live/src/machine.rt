@@ -6,6 +6,7 @@ ghost use Rattle.dav_http.specs.Steps.{IsStepFor};
 ghost use Rattle.dav_kept.specs.declared.handler.Effect.TheVariants.{Left};
 ghost use Rattle.dav_live.specs.Answers.{AsksToSee, IsAnswer, IsSentFor, TellsHead, caller_of};
 
+use crate::ends::Ends;
 use crate::page;
 use bytes::Bytes;
 use dav_core::errors::NoMemory;
@@ -55,14 +56,6 @@ impl Machine {
         ensures { result ≡ handler.server }
     {
         Machine { alloc, handler }
-    }
-
-    /// The head of the request that ends the first lock whose time has passed, if there is one.
-    pub fn next_end(&self, now: u64) -> Result<Option<String>, NoMemory> {
-        match self.handler.first_ended(now) {
-            Some(lock) => Ok(Some(unlock_head(self.alloc, lock)?)),
-            None => Ok(None),
-        }
     }
 }
 
@@ -254,6 +247,19 @@ impl Handles for Machine {
             self.answer_folder(request, reply, response)
         } else {
             answer_with(self.alloc, request.head, reply, response)
+        }
+    }
+}
+
+impl Ends for Machine {
+    ghost use Rattle.dav_live.specs.Answers.{IsNextEnd};
+
+    ghost ends = { λ server now head. IsNextEnd server.state.locks now head };
+
+    fn next_end(&self, now: u64) -> Result<Option<String>, NoMemory> {
+        match self.handler.first_ended(now) {
+            Some(lock) => Ok(Some(unlock_head(self.alloc, lock)?)),
+            None => Ok(None),
         }
     }
 }

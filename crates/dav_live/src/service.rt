@@ -1,80 +1,121 @@
 //! What answers the requests of all connections: it asks the rooms in their order.
-ghost use Rattle.std.specs.Prelude.{⊤};
-
 mod answering;
 mod hearing;
 
+use crate::admission::Admission;
+use crate::ends::Ends;
 use crate::fault::OpenError;
 use crate::live::Watch;
-use crate::machine::Machine;
-use crate::rejection::{is_plain_read, may_be_long, rejection_of};
 use crate::settings::Settings;
-use crate::told::{Replied, Told};
-use dav_access::{Refusal, Users, principal_of};
-use dav_http::{Handler, Head};
-use dav_journal::Journal;
-use dav_kept::{Kept, KeptError};
-use dav_server::exchange::LAST_MOMENT;
-use dav_wire::{Answerer, Asked, Rejection, Stop};
-use http::StatusCode;
-use http_server::Response;
-use sqlite_disk::Disk;
+use crate::told::Told;
+use dav_access::Users;
+use dav_kept::{Keeps, Kept, KeptError};
+use dav_wire::Stop;
 use std::alloc::Global;
 
-/// The machine with its journal, who may ask it, and what a request needs besides its bytes.
+/// A server with its journal, who may ask it, and what there is to tell of that.
 #[derive(Drop)]
-pub struct Service<D: Disk + Drop> {
+pub struct Service<H, J> {
     alloc: Global,
-    settings: Settings,
-    users: Option<Users>,
-    kept: Kept<Machine, Journal<D>>,
-    moment: u64,
-    random: [u8; 16],
+    admission: Admission,
+    kept: Kept<H, J>,
     told: Told,
+    most_body: u64,
 }
 
-impl<D: Disk + Drop> Service<D> {
-    /// A service whose machine is what the journal's requests make of an empty one.
+impl<H: Ends + Drop, J: Keeps + Drop> Service<H, J> {
+    ghost use Rattle.std.specs.Prelude.{◌≡◌, ◌<◌, ℕ, List, [], IfOk, OnOk, length, map, min, replicate, string_bytes};
+    ghost use Rattle.dav_core.specs.World.{last_moment};
+    ghost use Rattle.dav_kept.specs.Kept.{journal_of};
+    ghost use Rattle.dav_live.specs.Life.{IsOneRun, IsOpened};
+    ghost use Rattle.dav_live.specs.Numbered.{AreNumbered};
+    ghost use Rattle.dav_live.specs.Serving.{admission_of, held_of, kept_of};
+
+    /// A service of this handler, as the requests of the journal leave it.
     pub fn open(
         alloc: Global,
-        journal: Journal<D>,
+        handler: H,
+        journal: J,
         users: Option<Users>,
         settings: Settings,
-    ) -> Result<Service<D>, OpenError> {
-        let handler = Handler::new(alloc, settings.prefix.as_str())?;
-        let machine = Machine::new(alloc, handler);
-        let kept = Kept::open(alloc, machine, journal, preface(settings.prefix.as_str()))?;
+    ) -> Result<Service<H, J>, OpenError>
+        ensures run { IfOk result (λ s. (blocks : List (List ℕ))
+            × (J.is_clean (journal_of (kept_of s)) → J.has_so_far journal []
+            → IsOpened H.answers J.has_read handler blocks (kept_of s))) }
+        ensures clean { IfOk result (λ s. J.is_clean (journal_of (kept_of s)) → J.is_clean journal) }
+        ensures empty { IfOk result (λ s. (held_of s).batch ≡ []) }
+        ensures admission { IfOk result (λ s. admission_of s ≡ record {
+          prefix = string_bytes settings.prefix;
+          hosts = map string_bytes settings.hosts.items;
+          lock_time = settings.lock_time;
+          users = users;
+          moment = min (held_of s).latest last_moment;
+          random = replicate 16 0;
+        }) }
+    {
+        let kept = Kept::open(alloc, handler, journal, preface(settings.prefix.as_str()))?;
         let told = Told::new(alloc, settings.logs);
+        let most_body = settings.most_body;
         Ok(Service {
             alloc,
-            moment: kept.latest().min(LAST_MOMENT),
-            settings,
-            users,
+            admission: Admission::new(alloc, settings, users, kept.latest()),
             kept,
-            random: [0; 16],
             told,
+            most_body,
         })
     }
 
     /// After which place of the state's file how many bytes follow that `begin` drops: what a crash left of a block that was
     /// never answered. 0 where none follow but zeros.
-    pub fn rest(&mut self) -> Result<(usize, usize), OpenError> {
-        Ok(self.kept.rest()?)
+    pub fn rest(&mut self) -> Result<(usize, usize), OpenError>
+        ensures opened { (first : H) (blocks : List (List ℕ))
+            → IsOpened H.answers J.has_read first blocks (kept_of self.old)
+            → IsOpened H.answers J.has_read first blocks (kept_of self.new) }
+        ensures place { IfOk result (λ p. p.0 ≡ J.ends_at (journal_of (kept_of self.new))) }
+        ensures clean { J.is_clean (journal_of (kept_of self.new))
+            → J.is_clean (journal_of (kept_of self.old)) }
+    {
+        match self.kept.rest() {
+            Ok(rest) => Ok(rest),
+            Err(error) => Err(error.into()),
+        }
     }
 
     /// Reads bytes of the state's file.
-    pub fn read(&mut self, at: usize, piece: &mut [u8]) -> Result<(), OpenError> {
-        Ok(self.kept.read(at, piece)?)
+    pub fn read(&mut self, at: usize, piece: &mut [u8]) -> Result<(), OpenError>
+        ensures opened { (first : H) (blocks : List (List ℕ))
+            → IsOpened H.answers J.has_read first blocks (kept_of self.old)
+            → IsOpened H.answers J.has_read first blocks (kept_of self.new) }
+        ensures bytes { OnOk result (J.is_clean (journal_of (kept_of self.new))
+            → 0 < length piece.old
+            → J.has_bytes (journal_of (kept_of self.old)) at piece.new) }
+        ensures clean { J.is_clean (journal_of (kept_of self.new))
+            → J.is_clean (journal_of (kept_of self.old)) }
+    {
+        match self.kept.read(at, piece) {
+            Ok(()) => Ok(()),
+            Err(error) => Err(error.into()),
+        }
     }
 
     /// Makes the state ready for requests: drops what isn't whole.
-    pub fn begin(&mut self) -> Result<(), OpenError> {
-        Ok(self.kept.begin()?)
+    pub fn begin(&mut self) -> Result<(), OpenError>
+        ensures run { (first : H) (blocks : List (List ℕ))
+            (opened : IsOpened H.answers J.has_read first blocks (kept_of self.old))
+            → AreNumbered 0 opened.run.records → OnOk result (J.is_clean (journal_of (kept_of self.new))
+            → IsOneRun H.answers J.kept first blocks (kept_of self.new)) }
+        ensures clean { J.is_clean (journal_of (kept_of self.new))
+            → J.is_clean (journal_of (kept_of self.old)) }
+    {
+        match self.kept.begin() {
+            Ok(()) => Ok(()),
+            Err(error) => Err(error.into()),
+        }
     }
 
     /// The most bytes of a body that isn't an element tree.
     pub fn most_body(&self) -> u64 {
-        self.settings.most_body
+        self.most_body
     }
 
     /// Tells what there is to be told.
@@ -86,32 +127,6 @@ impl<D: Disk + Drop> Service<D> {
             watch.say(self.told.notices());
         }
         self.told.clear();
-    }
-
-    // Judges who makes a request: nobody who is known may not (RFC 9110, section 15.5.2).
-    fn judge_sender(&mut self, head: &Head<'_>) -> Result<Option<Rejection>, Stop> {
-        match principal_of(self.alloc, &mut self.users, head.value("authorization")) {
-            Ok(_) => Ok(None),
-            Err(Refusal::Unknown(shown)) => {
-                self.reject(Rejection::Unauthorized, shown.as_str(), head)
-            }
-            Err(Refusal::Memory) => Err(Stop::Memory),
-        }
-    }
-
-    // Notes that a request isn't taken.
-    fn reject(
-        &mut self,
-        why: Rejection,
-        user: &str,
-        head: &Head<'_>,
-    ) -> Result<Option<Rejection>, Stop> {
-        let reply = Replied {
-            status: why.status(),
-            bytes: 0,
-        };
-        self.told.note(self.moment, user, head, reply)?;
-        Ok(Some(why))
     }
 }
 
@@ -129,30 +144,5 @@ fn stop_of(error: KeptError) -> Stop {
     match error {
         KeptError::Memory => Stop::Memory,
         _ => Stop::Disk,
-    }
-}
-
-impl<D: Disk + Drop> Answerer for Service<D> {
-    ghost judges = { λ old head verdict new. ⊤ };
-
-    ghost answers = { λ old asked response new. ⊤ };
-
-    fn judge(&mut self, head: &[u8]) -> Result<Option<Rejection>, Stop> {
-        if is_plain_read(head) {
-            return Ok(None);
-        }
-        let Some(head) = Head::read(head) else {
-            return Ok(None);
-        };
-        match rejection_of(&head, &self.settings.hosts) {
-            Some(why) => self.reject(why, "", &head),
-            None if may_be_long(&head) => self.judge_sender(&head),
-            None => Ok(None),
-        }
-    }
-
-    fn answer(&mut self, asked: &Asked, response: &mut Response) -> Result<(), Stop> {
-        self.respond(asked.head.as_slice(), &asked.body, response)?;
-        answering::add_date(self.alloc, self.moment, response)
     }
 }

@@ -1,40 +1,43 @@
 //! A request is answered: it is let in, and run.
-ghost use Rattle.http_server.specs.Response.{IsBlank};
+ghost use Rattle.std.specs.Prelude.{◌≡◌, ◌≤◌, OnOk};
+ghost use Rattle.std.specs.Option.{option_copied};
+ghost use Rattle.dav_core.specs.World.{last_moment};
+ghost use Rattle.dav_live.specs.Serving.{IsDated};
 
-use crate::hosts::is_for;
+use crate::admission::{Admitted, Decision, refuse};
+use crate::ends::Ends;
+use crate::rejection::is_plain_read;
 use crate::service::{Service, stop_of};
-use crate::token::token_text;
 use crate::told::Replied;
 use bytes::Bytes;
-use dav_access::{Refusal, principal_of};
-use dav_core::errors::DavError;
-use dav_core::method::DavMethod;
-use dav_http::{Head, is_lock, is_safe};
-use dav_kept::Request;
-use dav_server::target::path_of;
-use dav_wire::Stop;
+use dav_http::Head;
+use dav_kept::{Keeps, Request};
+use dav_wire::{Answerer, Asked, Rejection, Stop};
 use http::StatusCode;
-use http_header::{DATE, HeaderValue, WWW_AUTHENTICATE};
+use http_header::{DATE, HeaderValue};
 use http_server::Response;
 use httpdate::HttpDate;
-use sqlite_disk::Disk;
-use std::alloc::{AllocError, Global};
+use std::alloc::Global;
 
-/// The most slashes in a target or a Destination.
-const MOST_SLASHES: usize = 1024;
+impl<H: Ends + Drop, J: Keeps + Drop> Service<H, J> {
+    ghost use Rattle.std.specs.Prelude.{◌≡◌, OnOk, option_map, string_bytes};
+    ghost use Rattle.http_server.specs.Response.{IsBlank};
+    ghost use Rattle.dav_server.specs.Head.{IsHead};
+    ghost use Rattle.dav_live.specs.Numbered.{HasNumber};
+    ghost use Rattle.dav_live.specs.Admission.{request_in};
+    ghost use Rattle.dav_live.specs.Serving.{GoesOn, IsResponseTo, IsRun, StaysAll, admission_of, held_of, kept_of};
 
-impl<D: Disk + Drop> Service<D> {
-    /// Answers a request with this head and body. 400 where the bytes are no head (RFC 9110, section 15.5.1).
-    pub(crate) fn respond(
-        &mut self,
-        head: &[u8],
-        body: &Bytes,
-        response: &mut Response,
-    ) -> Result<(), Stop>
+    // Answers a request. 400 where the bytes of its head are none (RFC 9110, section 15.5.1).
+    fn respond(&mut self, asked: &Asked, response: &mut Response) -> Result<(), Stop>
         requires { IsBlank response.old }
+        ensures responds { OnOk result (IsResponseTo H.answers (admission_of self.old)
+            (held_of self.old) asked.now response.new (held_of self.new)) }
+        ensures same { OnOk result (admission_of self.new ≡ admission_of self.old) }
+        ensures goes_on { OnOk result
+            (GoesOn H.answers J.kept (kept_of self.old) (kept_of self.new)) }
     {
-        match Head::read(head) {
-            Some(head) => self.respond_to(&head, body, response),
+        match Head::read(asked.head.as_slice()) {
+            Some(head) => self.respond_to(&head, asked, response),
             None => {
                 response.status = StatusCode::BAD_REQUEST;
                 Ok(())
@@ -42,129 +45,85 @@ impl<D: Disk + Drop> Service<D> {
         }
     }
 
-    // Answers a request, and notes that it was answered.
+    // Answers a request with this head, and notes that it was answered.
     fn respond_to(
         &mut self,
         head: &Head<'_>,
-        body: &Bytes,
+        asked: &Asked,
         response: &mut Response,
     ) -> Result<(), Stop>
-        requires { IsBlank response.old }
+        requires head { IsHead asked.now.head head.now }
+        requires blank { IsBlank response.old }
+        ensures responds { OnOk result (IsResponseTo H.answers (admission_of self.old)
+            (held_of self.old) asked.now response.new (held_of self.new)) }
+        ensures same { OnOk result (admission_of self.new ≡ admission_of self.old) }
+        ensures goes_on { OnOk result
+            (GoesOn H.answers J.kept (kept_of self.old) (kept_of self.new)) }
     {
-        let user = self.serve(head, body, response)?;
+        let tokens = self.kept.tokens();
+        match self.admission.decide(head, &asked.body, tokens)? {
+            Decision::Refused(refused) => {
+                refuse(refused.reason, response)?;
+                self.note(refused.user.as_str(), head, response)
+            }
+            Decision::Run(admitted) => {
+                self.run(&admitted, &asked.body, response)?;
+                self.note(admitted.user(), head, response)
+            }
+        }
+    }
+
+    // Notes that a request of this user was answered.
+    fn note(&mut self, user: &str, head: &Head<'_>, response: &Response) -> Result<(), Stop>
+        ensures { StaysAll self.old self.new }
+    {
         let reply = Replied {
             status: response.status.as_u16(),
             bytes: response.body.len(),
         };
-        Ok(self.told.note(self.moment, user.as_str(), head, reply)?)
+        Ok(self.told.note(self.admission.moment(), user, head, reply)?)
     }
 
-    // Answers a request: the name that its client shows. 421 where it is for another host (RFC 9110, section 7.4).
-    fn serve(
-        &mut self,
-        head: &Head<'_>,
-        body: &Bytes,
-        response: &mut Response,
-    ) -> Result<String, Stop>
-        requires { IsBlank response.old }
-    {
-        if is_for(head, &self.settings.hosts) {
-            return self.admit(head, body, response);
-        }
-        response.status = StatusCode::MISDIRECTED_REQUEST;
-        Ok(String::new(self.alloc))
-    }
-
-    // Answers a request that is for this host: the name that its client shows. One of nobody who is known is 401 (RFC 9110,
-    // section 15.5.2).
-    fn admit(
-        &mut self,
-        head: &Head<'_>,
-        body: &Bytes,
-        response: &mut Response,
-    ) -> Result<String, Stop>
-        requires { IsBlank response.old }
-    {
-        match principal_of(self.alloc, &mut self.users, head.value("authorization")) {
-            Ok(principal) => {
-                self.accept(principal.as_deref(), head, body, response)?;
-                Ok(principal.unwrap_or(String::new(self.alloc)))
-            }
-            Err(Refusal::Unknown(shown)) => {
-                add_challenge(response)?;
-                Ok(shown)
-            }
-            Err(Refusal::Memory) => Err(Stop::Memory),
-        }
-    }
-
-    // Answers a request of somebody who may ask: 414 for paths of too many slashes, 404 for one outside of the prefix.
-    fn accept(
-        &mut self,
-        principal: Option<&str>,
-        head: &Head<'_>,
-        body: &Bytes,
-        response: &mut Response,
-    ) -> Result<(), Stop>
-        requires { IsBlank response.old }
-    {
-        if has_many_slashes(head) {
-            response.status = StatusCode::URI_TOO_LONG;
-            return Ok(());
-        }
-        if self.is_outside(head)? {
-            response.status = StatusCode::NOT_FOUND;
-            return Ok(());
-        }
-        self.dispatch(principal, head, body, response)
-    }
-
-    // Has a request run that somebody may make.
-    fn dispatch(
-        &mut self,
-        principal: Option<&str>,
-        head: &Head<'_>,
-        body: &Bytes,
-        response: &mut Response,
-    ) -> Result<(), Stop>
-        requires { IsBlank response.old }
-    {
-        let kept = head.kept(self.alloc, self.settings.lock_time)?;
-        let token = self.token_for(head, body)?;
-        let request = request_of(self.moment, principal, token.as_deref(), &kept, body);
-        self.run(&request, is_safe(head.method()), response)
-    }
-
-    // The token for a lock that a request may create.
-    fn token_for(&self, head: &Head<'_>, body: &Bytes) -> Result<Option<String>, AllocError> {
-        if body.is_empty() {
-            return Ok(None);
-        }
-        if is_lock(head.method()) {
-            Ok(Some(token_text(self.alloc, &self.random, self.kept.tokens())?))
-        } else {
-            Ok(None)
-        }
-    }
-
-    // Runs a request; one that only reads is never kept, and needs no room.
+    // Runs a request that was admitted.
     fn run(
         &mut self,
-        request: &Request<'_>,
-        only_reads: bool,
+        admitted: &Admitted,
+        body: &Bytes,
         response: &mut Response,
     ) -> Result<(), Stop>
-        requires { IsBlank response.old }
+        requires blank { IsBlank response.old }
+        requires number { HasNumber (held_of self.old).tokens
+            (option_map string_bytes admitted.now.token) }
+        ensures run { OnOk result (IsRun H.answers (held_of self.old)
+            (request_in (admission_of self.old) admitted.now body.now) response.new
+            (held_of self.new)) }
+        ensures same { OnOk result (admission_of self.new ≡ admission_of self.old) }
+        ensures goes_on { OnOk result
+            (GoesOn H.answers J.kept (kept_of self.old) (kept_of self.new)) }
     {
-        if only_reads {
-            return self.look(request, response);
+        let request = request_of(
+            self.admission.moment(),
+            admitted.principal.as_deref(),
+            admitted.token.as_deref(),
+            &admitted.head,
+            body,
+        );
+        if admitted.only_reads {
+            self.look(&request, response)
+        } else {
+            self.change(&request, response)
         }
-        self.change(request, response)
     }
 
-    // Runs a request that only reads.
+    // Runs a request that only reads: it is never recorded, and needs no room.
     fn look(&mut self, request: &Request<'_>, response: &mut Response) -> Result<(), Stop>
-        requires { IsBlank response.old }
+        requires blank { IsBlank response.old }
+        requires number { HasNumber (held_of self.old).tokens request.now.token }
+        ensures run { OnOk result (IsRun H.answers (held_of self.old) request.now response.new
+            (held_of self.new)) }
+        ensures same { OnOk result (admission_of self.new ≡ admission_of self.old) }
+        ensures goes_on { OnOk result
+            (GoesOn H.answers J.kept (kept_of self.old) (kept_of self.new)) }
     {
         match self.kept.answer_safe(request, response) {
             Ok(()) => Ok(()),
@@ -173,9 +132,21 @@ impl<D: Disk + Drop> Service<D> {
     }
 
     // Runs a request that may change something; 507 where there is no room for its record (RFC 4918, section 11.5).
-    fn change(&mut self, request: &Request<'_>, response: &mut Response) -> Result<(), Stop>
-        requires { IsBlank response.old }
+    pub(super) fn change(
+        &mut self,
+        request: &Request<'_>,
+        response: &mut Response,
+    ) -> Result<(), Stop>
+        requires blank { IsBlank response.old }
+        requires number { HasNumber (held_of self.old).tokens request.now.token }
+        ensures run { OnOk result (IsRun H.answers (held_of self.old) request.now response.new
+            (held_of self.new)) }
+        ensures same { OnOk result (admission_of self.new ≡ admission_of self.old) }
+        ensures goes_on { OnOk result
+            (GoesOn H.answers J.kept (kept_of self.old) (kept_of self.new)) }
     {
+        // (what a request can be, for its record)
+        let _ = request.moment;
         match self.kept.answer(request, response) {
             Ok(Some(_)) => Ok(()),
             Ok(None) => {
@@ -186,19 +157,29 @@ impl<D: Disk + Drop> Service<D> {
         }
     }
 
-    // Whether a head's target names a path that isn't at or below the prefix.
-    fn is_outside(&self, head: &Head<'_>) -> Result<bool, Stop> {
-        let prefix = self.settings.prefix.as_str();
-        match path_of(self.alloc, DavMethod::Get, head.target(), prefix) {
-            Err(DavError::IllegalPath) => Ok(true),
-            Err(DavError::Memory) => Err(Stop::Memory),
-            _ => Ok(false),
+    // Judges a head that was read.
+    fn judge_head(&mut self, head: &Head<'_>) -> Result<Option<Rejection>, Stop>
+        ensures { StaysAll self.old self.new }
+    {
+        match self.admission.judge(head)? {
+            Some((why, user)) => {
+                let reply = Replied {
+                    status: why.status(),
+                    bytes: 0,
+                };
+                self.told
+                    .note(self.admission.moment(), user.as_str(), head, reply)?;
+                Ok(Some(why))
+            }
+            None => Ok(None),
         }
     }
 }
 
 // A text, if there is one. A text that a function gives is known to be UTF-8, as a request wants it.
-fn text_if_any(text: Option<&str>) -> Option<&str> {
+fn text_if_any(text: Option<&str>) -> Option<&str>
+    ensures { option_copied result ≡ option_copied text.entry }
+{
     text
 }
 
@@ -209,7 +190,15 @@ pub(crate) fn request_of<'r>(
     token: Option<&'r str>,
     head: &'r [u8],
     body: &'r Bytes,
-) -> Request<'r> {
+) -> Request<'r>
+    ensures { result ≡ record {
+      moment = moment;
+      principal = option_copied principal.entry;
+      token = option_copied token.entry;
+      head = head.now;
+      body = body.now;
+    } }
+{
     let _ = (head.len(), body.len());
     let principal = text_if_any(principal);
     let token = text_if_any(token);
@@ -222,31 +211,41 @@ pub(crate) fn request_of<'r>(
     }
 }
 
-// How many slashes a text has.
-fn slashes_in(text: &[u8]) -> usize {
-    text.iter().filter(|b| **b == b'/').count()
-}
-
-// Whether a target or a Destination has too many slashes.
-fn has_many_slashes(head: &Head<'_>) -> bool {
-    let destination = head.value("destination").unwrap_or(&[]);
-    slashes_in(head.target().as_bytes()) > MOST_SLASHES || slashes_in(destination) > MOST_SLASHES
-}
-
-// Fills the response to a request by nobody who is known (RFC 9110, section 11.6.1; RFC 7617, section 2.1).
-fn add_challenge(response: &mut Response) -> Result<(), AllocError> {
-    response.status = StatusCode::UNAUTHORIZED;
-    let value = HeaderValue::from_static("Basic realm=\"vuldarg\", charset=\"UTF-8\"");
-    response.add_header(WWW_AUTHENTICATE, value)
-}
-
 /// Adds the date of a moment to a response (RFC 9110, section 6.6.1).
-pub(crate) fn add_date(alloc: Global, moment: u64, response: &mut Response) -> Result<(), Stop> {
+fn add_date(alloc: Global, moment: u64, response: &mut Response) -> Result<(), Stop>
+    requires { moment ≤ last_moment }
+    ensures { OnOk result (IsDated moment response.old response.new) }
+{
     let Ok(date) = HttpDate::from_unix_secs(moment) else {
-        return Ok(());
+        unreachable!();
     };
     match HeaderValue::from_bytes(alloc, &date.to_bytes()) {
         Ok(value) => Ok(response.add_header(DATE, value)?),
         Err(_) => Err(Stop::Memory),
+    }
+}
+
+impl<H: Ends + Drop, J: Keeps + Drop> Answerer for Service<H, J> {
+    ghost use Rattle.std.specs.Prelude.{◌≡◌};
+    ghost use Rattle.dav_live.specs.Serving.{Serves, StaysAll};
+
+    ghost judges = { λ old head verdict new. StaysAll old new };
+
+    ghost answers = { λ old asked response new. Serves H.answers J.kept old asked response new };
+
+    fn judge(&mut self, head: &[u8]) -> Result<Option<Rejection>, Stop> {
+        if is_plain_read(head) {
+            return Ok(None);
+        }
+        match Head::read(head) {
+            Some(head) => self.judge_head(&head),
+            None => Ok(None),
+        }
+    }
+
+    fn answer(&mut self, asked: &Asked, response: &mut Response) -> Result<(), Stop> {
+        let moment = self.admission.moment();
+        self.respond(asked, response)?;
+        add_date(self.alloc, moment, response)
     }
 }

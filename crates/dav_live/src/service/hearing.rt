@@ -1,43 +1,66 @@
 //! What the front reports besides requests: users, addresses, moments.
-ghost use Rattle.std.specs.Prelude.{⊤};
-
+use crate::ends::Ends;
 use crate::service::answering::request_of;
 use crate::service::{Service, stop_of};
 use bytes::Bytes;
-use dav_access::{Users, UsersError};
-use dav_server::exchange::LAST_MOMENT;
+use dav_kept::Keeps;
 use dav_turns::Keeper;
 use dav_wire::Stop;
 use http::StatusCode;
 use http_server::Response;
-use sqlite_disk::Disk;
-use std::str;
 
-impl<D: Disk + Drop> Service<D> {
+impl<H: Ends + Drop, J: Keeps + Drop> Service<H, J> {
+    ghost use Rattle.std.specs.Prelude.{◌≡◌, ◌↔◌, List, ℕ, Some, IfOk, IsFalse, IsTrue, OnOk};
+    ghost use Rattle.http_server.specs.declared.response.Response.{Response as Sent};
+    ghost use Rattle.dav_kept.specs.Kept.{Holding};
+    ghost use Rattle.dav_live.specs.Serving.{EndsLocks, GoesOn, IsEnded, IsListed, IsRun, admission_of, held_of, kept_of, own_request};
+
     // Ends the first lock whose time has passed, by a request of the server's own. False where there is none, where there is no
     // room on the disk, and where the request isn't answered 204 (RFC 4918, section 9.11).
-    fn end_lock(&mut self) -> Result<bool, Stop> {
-        let Some(head) = self.kept.handler().next_end(self.moment)? else {
-            return Ok(false);
-        };
-        self.unlock(head.as_bytes())
-    }
-
-    // Has a request of the server's own with this head run. False where there is no room on the disk, and where it isn't answered
-    // 204 (RFC 4918, section 9.11).
-    fn unlock(&mut self, head: &[u8]) -> Result<bool, Stop> {
-        let body = Bytes::from_static(b"");
-        let request = request_of(self.moment, None, None, head, &body);
-        let mut response = Response::new(self.alloc);
-        match self.kept.answer(&request, &mut response) {
-            Ok(Some(_)) => Ok(response.status == StatusCode::NO_CONTENT),
-            Ok(None) => Ok(false),
-            Err(error) => Err(stop_of(error)),
+    fn end_lock(&mut self) -> Result<bool, Stop>
+        ensures ended { IfOk result (λ is. IsTrue is → (head : List ℕ) × (sent : Sent)
+            × H.ends (held_of self.old).state (admission_of self.old).moment (Some head)
+            × IsRun H.answers (held_of self.old)
+            (own_request (admission_of self.old).moment head) sent (held_of self.new)
+            × (sent.status ≡ 204)) }
+        ensures last { IfOk result (λ is. IsFalse is → IsEnded H.answers H.ends
+            (admission_of self.old).moment (held_of self.old) (held_of self.new)) }
+        ensures same { OnOk result (admission_of self.new ≡ admission_of self.old) }
+        ensures goes_on { OnOk result
+            (GoesOn H.answers J.kept (kept_of self.old) (kept_of self.new)) }
+    {
+        let now = self.admission.moment();
+        match self.kept.handler().next_end(now)? {
+            Some(head) => self.unlock(now, head.as_bytes()),
+            None => Ok(false),
         }
     }
 
+    // Has a request of the server's own with this head run. Whether it was answered 204 (RFC 4918, section 9.11).
+    fn unlock(&mut self, now: u64, head: &[u8]) -> Result<bool, Stop>
+        ensures run { IfOk result (λ is. (sent : Sent)
+            × IsRun H.answers (held_of self.old) (own_request now head.now) sent
+            (held_of self.new) × (IsTrue is ↔ (sent.status ≡ 204))) }
+        ensures same { OnOk result (admission_of self.new ≡ admission_of self.old) }
+        ensures goes_on { OnOk result
+            (GoesOn H.answers J.kept (kept_of self.old) (kept_of self.new)) }
+    {
+        let body = Bytes::from_static(b"");
+        let request = request_of(now, None, None, head, &body);
+        let mut response = Response::new(self.alloc);
+        self.change(&request, &mut response)?;
+        Ok(response.status == StatusCode::NO_CONTENT)
+    }
+
     // Ends each lock whose time has passed.
-    fn end_locks(&mut self) -> Result<(), Stop> {
+    fn end_locks(&mut self) -> Result<(), Stop>
+        ensures ended { OnOk result ((mid : Holding H) × EndsLocks H.answers H.ends
+            (admission_of self.old).moment (held_of self.old) mid
+            × IsEnded H.answers H.ends (admission_of self.old).moment mid (held_of self.new)) }
+        ensures same { OnOk result (admission_of self.new ≡ admission_of self.old) }
+        ensures goes_on { OnOk result
+            (GoesOn H.answers J.kept (kept_of self.old) (kept_of self.new)) }
+    {
         for _ in 0..u64::MAX {
             if !self.end_lock()? {
                 return Ok(());
@@ -45,43 +68,42 @@ impl<D: Disk + Drop> Service<D> {
         }
         Err(Stop::Disk)
     }
-}
 
-impl<D: Disk + Drop> Keeper for Service<D> {
-    ghost greeted = { λ old bytes new. ⊤ };
-
-    ghost listed = { λ old bytes new. ⊤ };
-
-    ghost placed = { λ old address new. ⊤ };
-
-    ghost passed = { λ old seconds new. ⊤ };
-
-    ghost marked = { λ old new. ⊤ };
-
-    ghost kept = { λ old new. ⊤ };
-
-    fn hear_hello(&mut self, bytes: &[u8]) {
-        for (place, byte) in self.random.iter_mut().zip(bytes.iter()) {
-            *place = *byte;
-        }
-    }
-
-    fn hear_users(&mut self, bytes: &[u8]) -> Result<(), Stop> {
-        let read = match str::from_utf8(bytes) {
-            Ok(text) => Users::read(self.alloc, text),
-            Err(_) => Err(UsersError::Nobody),
-        };
-        match read {
-            Ok(users) => {
-                self.users = Some(users);
-                Ok(self.told.notice("users: read again")?)
-            }
-            Err(UsersError::Memory) => Err(Stop::Memory),
-            Err(error) => {
-                let notice = format!(in self.alloc; "users: {error}; the users are as they were")?;
+    // Takes the list of users anew, and tells who runs the server.
+    fn take_users(&mut self, bytes: &[u8]) -> Result<(), Stop>
+        ensures { OnOk result (IsListed self.old bytes.now self.new) }
+    {
+        match self.admission.hear_users(bytes)? {
+            None => Ok(self.told.notice("users: read again")?),
+            Some(fault) => {
+                let notice = format!(in self.alloc; "users: {fault}; the users are as they were")?;
                 Ok(self.told.notice(notice.as_str())?)
             }
         }
+    }
+}
+
+impl<H: Ends + Drop, J: Keeps + Drop> Keeper for Service<H, J> {
+    ghost use Rattle.dav_live.specs.Serving.{IsCommitted, IsGreeted, IsListed, IsMarked, IsPassed, StaysAll};
+
+    ghost greeted = { λ old bytes new. IsGreeted old bytes new };
+
+    ghost listed = { λ old bytes new. IsListed old bytes new };
+
+    ghost placed = { λ old address new. StaysAll old new };
+
+    ghost passed = { λ old seconds new. IsPassed H.answers J.kept H.ends old seconds new };
+
+    ghost marked = { λ old new. IsMarked J.kept old new };
+
+    ghost kept = { λ old new. IsCommitted J.kept old new };
+
+    fn hear_hello(&mut self, bytes: &[u8]) {
+        self.admission.hear_hello(bytes);
+    }
+
+    fn hear_users(&mut self, bytes: &[u8]) -> Result<(), Stop> {
+        self.take_users(bytes)
     }
 
     fn hear_address(&mut self, address: &[u8]) -> Result<(), Stop> {
@@ -90,12 +112,11 @@ impl<D: Disk + Drop> Keeper for Service<D> {
 
     // Ends the locks whose time has passed. A clock that goes back stands still.
     fn hear_moment(&mut self, seconds: u64) -> Result<(), Stop> {
-        let moment = seconds.min(LAST_MOMENT);
-        if moment <= self.moment {
-            return Ok(());
+        if self.admission.hear_moment(seconds) {
+            self.end_locks()
+        } else {
+            Ok(())
         }
-        self.moment = moment;
-        self.end_locks()
     }
 
     fn keep_mark(&mut self) -> Result<(), Stop> {

@@ -1,0 +1,120 @@
+-- Which requests a live server runs, and what it runs of them.
+use Rattle.std.specs.Prelude.{◌≡◌, ◌≢◌, ◌<◌, ◌⊎◌, ◌↔◌, ◌==◌, ℕ, Bool, true, false, List, [], ◌∷◌, ◌++◌, Option, Some, None, Ok, Err, IsTrue, codes, count_by, drop, length, min, option_map, string_bytes, take, unwrap_or}
+use Rattle.std.specs.Str.{IsUtf8}
+use Rattle.dav_access.specs.Reading.{IsReadFault}
+use Rattle.dav_access.specs.declared.error.UsersError.{UsersError}
+use Rattle.dav_core.specs.declared.errors.DavError.TheVariants.{IllegalPath}
+use Rattle.dav_core.specs.declared.method.DavMethod.{DavMethod}
+use Rattle.dav_core.specs.declared.method.DavMethod.TheVariants.{Get}
+use Rattle.dav_access.specs.Principals.{IsPrincipal, ShowsNoUser}
+use Rattle.dav_http.specs.Kept.{IsKeptOf, Says}
+use Rattle.dav_kept.specs.Records.{RequestView}
+use Rattle.dav_server.specs.Head.{Request}
+use Rattle.dav_server.specs.Method.{GivesServed}
+use Rattle.dav_server.specs.TagLaws.{is_safe}
+use Rattle.dav_server.specs.Target.{TargetNames}
+use Rattle.dav_live.specs.Hosts.{TellsFor, value_of}
+use Rattle.dav_live.specs.Numbered.{HasNumber}
+use Rattle.dav_live.specs.Tokens.{token_text}
+use Rattle.dav_live.specs.declared.admission.Admitted.{Admitted}
+use Rattle.dav_live.specs.declared.admission.Decision.{Decision}
+use Rattle.dav_live.specs.declared.admission.Decision.TheVariants.{Refused, Run}
+use Rattle.dav_live.specs.declared.admission.Reason.{Reason}
+use Rattle.dav_live.specs.declared.admission.Reason.TheVariants.{Misdirected, Unauthorized, TooLong, Outside}
+
+-- What a server goes by: the prefix of its paths, the names of its host, the most seconds for which a lock is granted, its users, if it
+-- has a list of them, the moment, in seconds since 1970, and the random bytes of its tokens.
+pub record AdmissionView : Type 0 where
+  pub prefix : List ℕ
+  pub hosts : List (List ℕ)
+  pub lock_time : ℕ
+  pub users : Option (List (List ℕ × List ℕ))
+  pub moment : ℕ
+  pub random : List ℕ
+
+-- how many slashes a text has
+abbrev pub slashes_in : List ℕ → ℕ
+slashes_in text = count_by (λ b. b == 47) text
+
+-- the target or the Destination of a request has more than 1,024 slashes
+abbrev pub HasManySlashes : Request → Type 0
+HasManySlashes r =
+    (1024 < slashes_in r.target) ⊎ (1024 < slashes_in (unwrap_or (value_of (codes "destination") r) []))
+
+-- the target of a request names a path that isn't at or below the prefix
+abbrev pub IsOutside : List ℕ → Request → Type 0
+IsOutside prefix r = TargetNames prefix Get r.target (Err IllegalPath)
+
+-- a request is for this server (RFC 9110, section 7.2), and shows that it is of this user, or of nobody where there are no users
+pub record IsLetIn (a : AdmissionView) (r : Request) (user : Option (List ℕ)) : Type 0 where
+  pub host : TellsFor a.hosts (value_of (codes "host") r) true
+  pub principal : IsPrincipal a.users (value_of (codes "authorization") r) user
+
+-- A request isn't run, for this reason: it is for another host (RFC 9110, section 7.4); no user is shown, but this name (RFC 9110,
+-- section 15.5.2); its paths have too many slashes; or its target isn't below the prefix. With it the user.
+pub data IsTurnedAway (a : AdmissionView) (r : Request) : Reason → List ℕ → Type 0 where
+  misdirected : TellsFor a.hosts (value_of (codes "host") r) false → IsTurnedAway a r Misdirected []
+  unknown : (shown : List ℕ) → TellsFor a.hosts (value_of (codes "host") r) true
+      → ShowsNoUser a.users (value_of (codes "authorization") r) shown → IsTurnedAway a r Unauthorized shown
+  too_long : (user : Option (List ℕ)) → IsLetIn a r user → HasManySlashes r → IsTurnedAway a r TooLong (unwrap_or user [])
+  outside : (user : Option (List ℕ)) → IsLetIn a r user → ¬ HasManySlashes r → IsOutside a.prefix r
+      → IsTurnedAway a r Outside (unwrap_or user [])
+
+-- The token for a lock that a request may create: a LOCK with a body gets that of the next number, and no other request gets one (RFC
+-- 4918, sections 6.5 and 9.10.2).
+pub data IsTokenFor (random : List ℕ) (number : ℕ) (method body : List ℕ) : Option (List ℕ) → Type 0 where
+  next : method ≡ codes "LOCK" → body ≢ [] → HasNumber number (Some (token_text random number)) → IsTokenFor random number method body (Some (token_text random number))
+  none : (method ≢ codes "LOCK") ⊎ (body ≡ []) → IsTokenFor random number method body None
+
+-- The request that is run of one that came with this body, where tokens of so many numbers were given: the head that is kept of it, the
+-- body, the moment, the user whose password it shows, and the token for a lock.
+pub record IsRequestOf (a : AdmissionView) (tokens : ℕ) (came : Request) (body : List ℕ) (q : RequestView) : Type 0 where
+  pub let_in : IsLetIn a came q.principal
+  pub few : ¬ HasManySlashes came
+  pub inside : ¬ IsOutside a.prefix came
+  pub kept : Request
+  pub is_kept : IsKeptOf a.lock_time came kept
+  pub says : Says q.head kept
+  pub body_is : q.body ≡ body
+  pub moment : q.moment ≡ a.moment
+  pub token : IsTokenFor a.random tokens came.method body q.token
+
+-- a request that was admitted, with its body, as it is run
+abbrev pub request_in : AdmissionView → Admitted → List ℕ → RequestView
+request_in a admitted body = record {
+  moment = a.moment;
+  principal = option_map string_bytes admitted.principal;
+  token = option_map string_bytes admitted.token;
+  head = admitted.head.items;
+  body = body;
+}
+
+-- this says whether a request only reads (RFC 9110, section 9.2.1)
+abbrev pub TellsSafe : Request → Bool → Type 0
+TellsSafe r is = IsTrue is ↔ ((m : DavMethod) × GivesServed r.method (Ok m) × (is_safe m ≡ true))
+
+-- what becomes of a request with this body, where tokens of so many numbers were given
+abbrev pub IsDecision : AdmissionView → ℕ → Request → List ℕ → Decision → Type 0
+IsDecision a tokens came body (Refused refused) = IsTurnedAway a came refused.reason (string_bytes refused.user)
+IsDecision a tokens came body (Run admitted) =
+    IsRequestOf a tokens came body (request_in a admitted body) × TellsSafe came admitted.only_reads
+
+-- the status of a reason (RFC 9110, sections 15.5.2, 15.5.5, 15.5.15 and 15.5.20)
+abbrev pub status_of : Reason → ℕ
+status_of Misdirected = 421
+status_of Unauthorized = 401
+status_of TooLong = 414
+status_of Outside = 404
+
+-- the fields of the response: 401 has the challenge (RFC 9110, section 11.6.1; RFC 7617, section 2.1)
+abbrev pub refusal_fields : Reason → List (List ℕ × List ℕ)
+refusal_fields Unauthorized = (codes "www-authenticate", codes "Basic realm=\"vuldarg\", charset=\"UTF-8\"") ∷ []
+refusal_fields _ = []
+
+-- the random bytes after the front told these: the first sixteen of them, in the place of as many
+abbrev pub with_random : List ℕ → List ℕ → List ℕ
+with_random bytes random = take 16 bytes ++ drop (min 16 (length bytes)) random
+
+-- The bytes list no users, for this reason: they aren't UTF-8; a line is wrong; or no user is there.
+abbrev pub IsUnlisted : List ℕ → UsersError → Type 0
+IsUnlisted bytes fault = IsUtf8 bytes → IsReadFault bytes fault

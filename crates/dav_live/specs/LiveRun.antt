@@ -1,0 +1,40 @@
+-- A live server: its connections, and the service that answers them.
+use Rattle.std.specs.Prelude.{ℕ, List, Option}
+use Rattle.http_server.specs.declared.response.Response.{Response}
+use Rattle.sqlite_disk.specs.declared.Disk.{Ghosts}
+use Rattle.dav_journal.specs.Journal.{IsKept}
+use Rattle.dav_journal.specs.declared.journal.Journal.{Journal}
+use Rattle.dav_kept.specs.declared.kept.Kept.{Kept}
+use Rattle.dav_server.specs.Server.{Server}
+use Rattle.dav_turns.specs.Connections.{TurnsView}
+use Rattle.dav_turns.specs.Turns.{Keeping, keeping}
+use Rattle.dav_wire.specs.declared.answer.Asked.{Asked}
+use Rattle.dav_wire.specs.declared.answer.Rejection.{Rejection}
+use Rattle.dav_live.specs.Answers.{IsAnswer, IsNextEnd}
+use Rattle.dav_live.specs.Serving.{IsCommitted, IsGreeted, IsListed, IsMarked, IsPassed, Serves, StaysAll, kept_of}
+use Rattle.dav_live.specs.declared.live.Live.{Live}
+use Rattle.dav_live.specs.declared.service.Service.{Service}
+
+-- its connections, by their slots
+abbrev pub turns_of : {D : Type 0} → Live D → TurnsView
+turns_of l = l.turns
+
+-- what answers their requests: the machine, with its journal
+abbrev pub service_of : {D : Type 0} → Live D → Service Server (Journal D)
+service_of l = l.service
+
+-- its server, with the journal
+abbrev pub kept_in : {D : Type 0} → Live D → Kept Server (Journal D)
+kept_in l = kept_of (service_of l)
+
+-- what it does as a keeper: it answers as the machine does, and keeps that in its journal
+abbrev pub doing : {D : Type 0} → Ghosts D → Keeping (Service Server (Journal D))
+doing {D} g =
+    keeping (λ (old : Service Server (Journal D)) (head : List ℕ) (verdict : Option Rejection) (new : Service Server (Journal D)). StaysAll old new)
+    (λ (old : Service Server (Journal D)) (asked : Asked) (sent : Response) (new : Service Server (Journal D)). Serves IsAnswer (λ j blocks. IsKept g j blocks) old asked sent new)
+    (λ (old : Service Server (Journal D)) (bytes : List ℕ) (new : Service Server (Journal D)). IsGreeted old bytes new)
+    (λ (old : Service Server (Journal D)) (bytes : List ℕ) (new : Service Server (Journal D)). IsListed old bytes new)
+    (λ (old : Service Server (Journal D)) (address : List ℕ) (new : Service Server (Journal D)). StaysAll old new)
+    (λ (old : Service Server (Journal D)) (seconds : ℕ) (new : Service Server (Journal D)). IsPassed IsAnswer (λ j blocks. IsKept g j blocks) (λ (s : Server) (now : ℕ) (head : Option (List ℕ)). IsNextEnd s.state.locks now head) old seconds new)
+    (λ (old new : Service Server (Journal D)). IsMarked (λ j blocks. IsKept g j blocks) old new)
+    (λ (old new : Service Server (Journal D)). IsCommitted (λ j blocks. IsKept g j blocks) old new)

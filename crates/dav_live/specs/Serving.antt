@@ -1,0 +1,150 @@
+-- How a live server answers requests and hears its front, and what of that is kept.
+use Rattle.std.specs.Prelude.{◌≡◌, ◌≢◌, ◌≤◌, ◌⊎◌, ℕ, List, [], ◌∷◌, ◌++◌, Option, Some, None, codes, max, min}
+use Rattle.http_server.specs.declared.response.Response.{Response}
+use Rattle.http_server.specs.Response.{IsResponse, fields_of}
+use Rattle.httpdate.specs.Date.{date_text, unix_secs}
+use Rattle.httpdate.specs.declared.date.HttpDate.{HttpDate}
+use Rattle.dav_access.specs.Users.{ListsUsers}
+use Rattle.dav_access.specs.declared.error.UsersError.{UsersError}
+use Rattle.dav_core.specs.World.{last_moment}
+use Rattle.dav_kept.specs.Kept.{Holding, IsAnswerOf, RecordsFollow, StaysInJournal, answer_step, committed, held_by, journal_of, with_batch}
+use Rattle.dav_kept.specs.Records.{RequestView}
+use Rattle.dav_kept.specs.declared.handler.Effect.{Effect}
+use Rattle.dav_kept.specs.declared.kept.Kept.{Kept}
+use Rattle.dav_server.specs.Head.{IsHead, Request}
+use Rattle.dav_wire.specs.declared.answer.Asked.{Asked}
+use Rattle.dav_live.specs.Admission.{AdmissionView, IsRequestOf, IsTurnedAway, IsUnlisted, refusal_fields, status_of, with_random}
+use Rattle.dav_live.specs.Numbered.{AreNumbered}
+use Rattle.dav_live.specs.declared.admission.Reason.{Reason}
+use Rattle.dav_live.specs.declared.service.Service.{Service}
+
+-- what a service goes by
+abbrev pub admission_of : {H J : Type 0} → Service H J → AdmissionView
+admission_of s = s.admission
+
+-- its server, with the journal
+abbrev pub kept_of : {H J : Type 0} → Service H J → Kept H J
+kept_of s = s.kept
+
+-- what its server holds
+abbrev pub held_of : {H J : Type 0} → Service H J → Holding H
+held_of s = held_by s.kept
+
+-- ---- what is kept
+
+-- The run of the records goes on: more may follow in the batch, with tokens of the next numbers, and the journal keeps the blocks that it
+-- kept.
+pub record GoesOn {H J : Type 0} (answers : H → RequestView → Response → H → Type 0) (kept : J → List (List ℕ) → Type 0)
+    (old new : Kept H J) : Type 0 where
+  pub follows : RecordsFollow (answer_step answers) (held_by old) (held_by new)
+  pub numbered : AreNumbered (held_by old).tokens follows.plays.leads.records
+  pub stays : StaysInJournal old new
+  pub keeps : (blocks : List (List ℕ)) → kept (journal_of old) blocks → kept (journal_of new) blocks
+
+-- All that was answered is kept: the batch is one more block of the journal.
+pub record Commits {H J : Type 0} (kept : J → List (List ℕ) → Type 0) (old new : Kept H J) : Type 0 where
+  pub held : held_by new ≡ committed (held_by old)
+  pub stays : StaysInJournal old new
+  pub keeps : (blocks : List (List ℕ)) → kept (journal_of old) blocks
+      → kept (journal_of new) (with_batch blocks (held_by old).batch)
+
+-- ---- a request
+
+-- A request is run, with this response: the server answers it; or there is no room for its record, and nothing is done (RFC 4918, section
+-- 11.5).
+pub data IsRun {S : Type 0} (answers : S → RequestView → Response → S → Type 0) (old : Holding S) (q : RequestView) (own : Response)
+    (new : Holding S) : Type 0 where
+  answered : (does : Effect) → IsAnswerOf answers old q own does new → IsRun answers old q own new
+  full : IsResponse 507 [] [] own → new ≡ old → IsRun answers old q own new
+
+-- The response to a request, but for its date, and what is held then: 400 where its head is none (RFC 9110, section 15.5.1); the refusal
+-- of one that isn't run; and else that of the request that is run of it.
+pub data IsResponseTo {S : Type 0} (answers : S → RequestView → Response → S → Type 0) (a : AdmissionView) (old : Holding S)
+    (asked : Asked) (own : Response) (new : Holding S) : Type 0 where
+  no_head : ((r : Request) → ¬ IsHead asked.head r) → IsResponse 400 [] [] own → new ≡ old → IsResponseTo answers a old asked own new
+  turned_away : (r : Request) (reason : Reason) (user : List ℕ) → IsHead asked.head r → IsTurnedAway a r reason user
+      → IsResponse (status_of reason) (refusal_fields reason) [] own → new ≡ old → IsResponseTo answers a old asked own new
+  run : (r : Request) (q : RequestView) → IsHead asked.head r → IsRequestOf a old.tokens r asked.body q → IsRun answers old q own new
+      → IsResponseTo answers a old asked own new
+
+-- the response as it is sent: with the date of a moment (RFC 9110, section 6.6.1)
+pub record IsDated (moment : ℕ) (own sent : Response) : Type 0 where
+  pub date : HttpDate
+  pub is_date : unix_secs date ≡ moment
+  pub fields : fields_of sent ≡ fields_of own ++ (codes "date", date_text date) ∷ []
+  pub status : sent.status ≡ own.status
+  pub body : sent.body ≡ own.body
+
+-- A service answers a request: what it goes by stays as it was, and the run of its records goes on.
+pub record Serves {H J : Type 0} (answers : H → RequestView → Response → H → Type 0) (kept : J → List (List ℕ) → Type 0)
+    (old : Service H J) (asked : Asked) (sent : Response) (new : Service H J) : Type 0 where
+  pub own : Response
+  pub responds : IsResponseTo answers (admission_of old) (held_of old) asked own (held_of new)
+  pub dated : IsDated (admission_of old).moment own sent
+  pub same : admission_of new ≡ admission_of old
+  pub goes_on : GoesOn answers kept (kept_of old) (kept_of new)
+
+-- ---- what the front tells besides
+
+-- nothing changes but what is to be told to who runs the server
+abbrev pub StaysAll : {H J : Type 0} → Service H J → Service H J → Type 0
+StaysAll old new = (admission_of new ≡ admission_of old) × (kept_of new ≡ kept_of old)
+
+-- the front began, with these random bytes
+abbrev pub IsGreeted : {H J : Type 0} → Service H J → List ℕ → Service H J → Type 0
+IsGreeted old bytes new =
+    (admission_of new ≡ record (admission_of old) { random = with_random bytes (admission_of old).random })
+    × (kept_of new ≡ kept_of old)
+
+-- The list of users was written anew. They are those that it lists; or, where it lists none, they are as they were.
+pub data IsListed {H J : Type 0} (old : Service H J) (bytes : List ℕ) (new : Service H J) : Type 0 where
+  anew : (users : List (List ℕ × List ℕ)) → ListsUsers bytes users → users ≢ []
+      → admission_of new ≡ record (admission_of old) { users = Some users } → kept_of new ≡ kept_of old → IsListed old bytes new
+  refused : (fault : UsersError) → IsUnlisted bytes fault → StaysAll old new → IsListed old bytes new
+
+-- ---- locks end
+
+-- the request of the server's own that has this head: nobody's, without a body
+abbrev pub own_request : ℕ → List ℕ → RequestView
+own_request moment head = record { moment = moment; principal = None; token = None; head = head; body = [] }
+
+-- Locks were ended whose time has passed: each time the first of them, by a request of the server's own, which was answered 204 (RFC
+-- 4918, sections 6.6 and 9.11).
+pub data EndsLocks {S : Type 0} (answers : S → RequestView → Response → S → Type 0) (ends : S → ℕ → Option (List ℕ) → Type 0)
+    (moment : ℕ) (old : Holding S) : Holding S → Type 0 where
+  none : EndsLocks answers ends moment old old
+  one : {mid new : Holding S} (head : List ℕ) (sent : Response) → EndsLocks answers ends moment old mid
+      → ends mid.state moment (Some head) → IsRun answers mid (own_request moment head) sent new → sent.status ≡ 204
+      → EndsLocks answers ends moment old new
+
+-- No lock is left whose time has passed; or the next one couldn't be ended, since there is no room for that on the disk, or since the
+-- request for it wasn't answered 204.
+pub data IsEnded {S : Type 0} (answers : S → RequestView → Response → S → Type 0) (ends : S → ℕ → Option (List ℕ) → Type 0)
+    (moment : ℕ) (old new : Holding S) : Type 0 where
+  all : ends old.state moment None → new ≡ old → IsEnded answers ends moment old new
+  stuck : (head : List ℕ) (sent : Response) → ends old.state moment (Some head) → IsRun answers old (own_request moment head) sent new
+      → sent.status ≢ 204 → IsEnded answers ends moment old new
+
+-- A moment passes; one before the last one doesn't, since a clock that goes back stands still. Where it is later, locks end whose time has
+-- passed by then.
+pub record IsPassed {H J : Type 0} (answers : H → RequestView → Response → H → Type 0) (kept : J → List (List ℕ) → Type 0)
+    (ends : H → ℕ → Option (List ℕ) → Type 0) (old : Service H J) (seconds : ℕ) (new : Service H J) : Type 0 where
+  pub moment : admission_of new ≡ record (admission_of old) { moment = max (admission_of old).moment (min seconds last_moment) }
+  pub ended : ((admission_of new ≡ admission_of old) × (kept_of new ≡ kept_of old))
+      ⊎ ((mid : Holding H) × EndsLocks answers ends (admission_of new).moment (held_of old) mid
+      × IsEnded answers ends (admission_of new).moment mid (held_of new))
+  pub goes_on : GoesOn answers kept (kept_of old) (kept_of new)
+
+-- ---- all is kept
+
+-- a second passed: what is held is as it was, and so are the blocks that are kept
+pub record IsMarked {H J : Type 0} (kept : J → List (List ℕ) → Type 0) (old new : Service H J) : Type 0 where
+  pub same : admission_of new ≡ admission_of old
+  pub held : held_of new ≡ held_of old
+  pub stays : StaysInJournal (kept_of old) (kept_of new)
+  pub keeps : (blocks : List (List ℕ)) → kept (journal_of (kept_of old)) blocks → kept (journal_of (kept_of new)) blocks
+
+-- all that was answered is kept
+pub record IsCommitted {H J : Type 0} (kept : J → List (List ℕ) → Type 0) (old new : Service H J) : Type 0 where
+  pub same : admission_of new ≡ admission_of old
+  pub commits : Commits kept (kept_of old) (kept_of new)

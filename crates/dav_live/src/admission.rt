@@ -1,0 +1,352 @@
+//! Which requests are run, and what is run of them.
+ghost use Rattle.std.specs.Prelude.{◌≡◌, ◌↔◌, [], IfOk, IsTrue, OnOk, option_map, unwrap_or, string_bytes};
+ghost use Rattle.http_server.specs.Response.{IsBlank, IsResponse};
+ghost use Rattle.dav_live.specs.Admission.{HasManySlashes, IsOutside, IsTokenFor, refusal_fields, slashes_in, status_of};
+ghost use Rattle.dav_live.specs.declared.admission.Decision.{Decision as DecisionValue};
+ghost use Rattle.dav_live.specs.declared.admission.RefusedRequest.{RefusedRequest as RefusedValue};
+
+use crate::hosts::is_for;
+use crate::rejection::{may_be_long, rejection_of};
+use crate::settings::Settings;
+use crate::token::token_text;
+use bytes::Bytes;
+use dav_access::{Refusal, Users, UsersError, principal_of};
+use dav_core::errors::DavError;
+use dav_core::method::DavMethod;
+use dav_http::{Head, is_lock, is_safe};
+use dav_server::exchange::LAST_MOMENT;
+use dav_server::target::path_of;
+use dav_wire::{Rejection, Stop};
+use http::StatusCode;
+use http_header::{HeaderValue, WWW_AUTHENTICATE};
+use http_server::Response;
+use std::alloc::{AllocError, Global};
+use std::marker::Model;
+use std::str;
+
+/// The most slashes in a target or a Destination.
+const MOST_SLASHES: usize = 1024;
+
+/// Why a request isn't run.
+#[derive(Clone, Copy, Debug, PartialEq, Eq)]
+pub enum Reason {
+    /// It is for another host (421).
+    Misdirected,
+    /// It doesn't show a user (401).
+    Unauthorized,
+    /// Its target or its Destination has too many slashes (414).
+    TooLong,
+    /// Its target isn't at or below the prefix (404).
+    Outside,
+}
+
+impl Reason {
+    /// The status of the response (RFC 9110, sections 15.5.2, 15.5.5, 15.5.15 and 15.5.20).
+    pub fn status(self) -> StatusCode
+        ensures { result ≡ status_of self }
+    {
+        match self {
+            Reason::Misdirected => StatusCode::MISDIRECTED_REQUEST,
+            Reason::Unauthorized => StatusCode::UNAUTHORIZED,
+            Reason::TooLong => StatusCode::URI_TOO_LONG,
+            Reason::Outside => StatusCode::NOT_FOUND,
+        }
+    }
+}
+
+/// A request that isn't run: why, and the user that it says to be of.
+#[derive(Drop)]
+pub struct RefusedRequest {
+    pub reason: Reason,
+    pub user: String,
+}
+
+/// What is run of a request: the head that is kept of it, who makes it, the token for a lock, and whether it only reads.
+#[derive(Drop)]
+pub struct Admitted {
+    pub head: Vec<u8>,
+    pub principal: Option<String>,
+    pub token: Option<String>,
+    pub only_reads: bool,
+}
+
+impl Admitted {
+    /// The name of the user, empty where there is none.
+    pub fn user(&self) -> &str {
+        self.principal.as_deref().unwrap_or("")
+    }
+}
+
+/// What becomes of a request.
+#[derive(Drop)]
+pub enum Decision {
+    Refused(RefusedRequest),
+    Run(Admitted),
+}
+
+/// What a server goes by before it runs a request.
+#[derive(Drop)]
+pub struct Admission {
+    alloc: Global,
+    settings: Settings,
+    users: Option<Users>,
+    moment: u64,
+    random: [u8; 16],
+}
+
+impl Model for Admission {
+    ghost use Rattle.std.specs.Prelude.{◌≤◌, map, string_bytes};
+    ghost use Rattle.dav_core.specs.World.{last_moment};
+    ghost use Rattle.dav_live.specs.Admission.{AdmissionView};
+
+    ghost Value = { AdmissionView };
+
+    ghost view = { λ a. record {
+      prefix = string_bytes a.settings.prefix;
+      hosts = map string_bytes a.settings.hosts.items;
+      lock_time = a.settings.lock_time;
+      users = a.users;
+      moment = a.moment;
+      random = a.random;
+    } };
+
+    ghost invariant = { λ a. a.moment ≤ last_moment };
+}
+
+// How many slashes a text has.
+fn slashes_in(text: &[u8]) -> usize
+    ensures { result ≡ slashes_in text.now }
+{
+    text.iter().filter(|b| **b == b'/').count()
+}
+
+// Whether a target or a Destination has too many slashes.
+fn has_many_slashes(head: &Head<'_>) -> bool
+    ensures { IsTrue result ↔ HasManySlashes head.now }
+{
+    let destination = head.value("destination").unwrap_or(&[]);
+    slashes_in(head.target().as_bytes()) > MOST_SLASHES || slashes_in(destination) > MOST_SLASHES
+}
+
+// Whether a head's target names a path that isn't at or below the prefix.
+fn is_outside(alloc: Global, head: &Head<'_>, prefix: &str) -> Result<bool, Stop>
+    ensures { IfOk result (λ is. IsTrue is ↔ IsOutside prefix.now head.now) }
+{
+    match path_of(alloc, DavMethod::Get, head.target(), prefix) {
+        Err(DavError::IllegalPath) => Ok(true),
+        Err(DavError::Memory) => Err(Stop::Memory),
+        _ => Ok(false),
+    }
+}
+
+// The token for a lock that a request may create, where tokens of so many numbers were given.
+fn token_for(
+    alloc: Global,
+    random: &[u8; 16],
+    tokens: u64,
+    head: &Head<'_>,
+    body: &Bytes,
+) -> Result<Option<String>, AllocError>
+    ensures { IfOk result (λ token. IsTokenFor random.now tokens head.now.method body.now
+        (option_map string_bytes token)) }
+{
+    if body.is_empty() || !is_lock(head.method()) {
+        return Ok(None);
+    }
+    Ok(Some(token_text(alloc, random, tokens)?))
+}
+
+// A request that isn't run.
+fn refused(reason: Reason, user: String) -> Decision
+    ensures { result ≡ Decision.Refused (record { reason = reason; user = user }) }
+{
+    Decision::Refused(RefusedRequest { reason, user })
+}
+
+impl Admission {
+    ghost use Rattle.std.specs.Prelude.{◌≡◌, ◌≢◌, ◌≤◌, ◌<◌, ◌↔◌, ℕ, List, [], Some, IfOk, IfSome, IsTrue, MatchOption, map, min, max, option_map, replicate, string_bytes};
+    ghost use Rattle.dav_access.specs.Users.{IsName, ListsUsers};
+    ghost use Rattle.dav_core.specs.World.{last_moment};
+    ghost use Rattle.dav_live.specs.Admission.{HasManySlashes, IsDecision, IsLetIn, IsOutside, IsRequestOf, IsUnlisted, TellsSafe, request_in, with_random};
+
+    /// What a server with these settings and users goes by at a moment, at most the end of the year 9999.
+    pub fn new(alloc: Global, settings: Settings, users: Option<Users>, moment: u64) -> Admission
+        ensures { result ≡ record {
+          prefix = string_bytes settings.prefix;
+          hosts = map string_bytes settings.hosts.items;
+          lock_time = settings.lock_time;
+          users = users;
+          moment = min moment last_moment;
+          random = replicate 16 0;
+        } }
+    {
+        Admission {
+            alloc,
+            settings,
+            users,
+            moment: moment.min(LAST_MOMENT),
+            random: [0; 16],
+        }
+    }
+
+    /// The moment, in seconds since 1970, at most the end of the year 9999.
+    pub fn moment(&self) -> u64
+        ensures is { result ≡ self.now.moment }
+        ensures date { result ≤ last_moment }
+    {
+        self.moment
+    }
+
+    /// What becomes of a request with this head and body, where tokens of so many numbers were given. Nothing changes.
+    pub fn decide(&mut self, head: &Head<'_>, body: &Bytes, tokens: u64) -> Result<Decision, Stop>
+        ensures same { self.new ≡ self.old }
+        ensures decision { IfOk result (IsDecision self.old tokens head.now body.now) }
+    {
+        if !is_for(head, &self.settings.hosts) {
+            return Ok(refused(Reason::Misdirected, String::new(self.alloc)));
+        }
+        match principal_of(self.alloc, &mut self.users, head.value("authorization")) {
+            Ok(principal) => self.admit(principal, head, body, tokens),
+            Err(Refusal::Unknown(shown)) => Ok(refused(Reason::Unauthorized, shown)),
+            Err(Refusal::Memory) => Err(Stop::Memory),
+        }
+    }
+
+    // What becomes of a request that is let in, of this user.
+    fn admit(
+        &self,
+        principal: Option<String>,
+        head: &Head<'_>,
+        body: &Bytes,
+        tokens: u64,
+    ) -> Result<Decision, Stop>
+        requires let_in { IsLetIn self.now head.now (option_map string_bytes principal) }
+        requires named { IfSome principal (λ n. IsName (string_bytes n)) }
+        ensures { IfOk result (IsDecision self.now tokens head.now body.now) }
+    {
+        if has_many_slashes(head) {
+            return Ok(refused_of(self.alloc, Reason::TooLong, principal));
+        }
+        if is_outside(self.alloc, head, self.settings.prefix.as_str())? {
+            return Ok(refused_of(self.alloc, Reason::Outside, principal));
+        }
+        Ok(Decision::Run(self.admitted(principal, head, body, tokens)?))
+    }
+
+    // What is run of a request that is let in.
+    fn admitted(
+        &self,
+        principal: Option<String>,
+        head: &Head<'_>,
+        body: &Bytes,
+        tokens: u64,
+    ) -> Result<Admitted, Stop>
+        requires let_in { IsLetIn self.now head.now (option_map string_bytes principal) }
+        requires few { ¬ HasManySlashes head.now }
+        requires inside { ¬ IsOutside self.now.prefix head.now }
+        ensures request { IfOk result (λ admitted. IsRequestOf self.now tokens head.now body.now
+            (request_in self.now admitted body.now)) }
+        ensures safe { IfOk result (λ admitted. TellsSafe head.now admitted.only_reads) }
+    {
+        let kept = head.kept(self.alloc, self.settings.lock_time)?;
+        let token = token_for(self.alloc, &self.random, tokens, head, body)?;
+        Ok(Admitted {
+            head: kept,
+            principal,
+            token,
+            only_reads: is_safe(head.method()),
+        })
+    }
+
+    /// Why a request isn't taken, by its head alone, and the user that it says to be of. Nothing changes.
+    pub fn judge(&mut self, head: &Head<'_>) -> Result<Option<(Rejection, String)>, Stop>
+        ensures { self.new ≡ self.old }
+    {
+        match rejection_of(head, &self.settings.hosts) {
+            Some(why) => Ok(Some((why, String::new(self.alloc)))),
+            None if may_be_long(head) => self.judge_sender(head),
+            None => Ok(None),
+        }
+    }
+
+    // Judges who makes a request: nobody who is known may not (RFC 9110, section 15.5.2).
+    fn judge_sender(&mut self, head: &Head<'_>) -> Result<Option<(Rejection, String)>, Stop>
+        ensures { self.new ≡ self.old }
+    {
+        match principal_of(self.alloc, &mut self.users, head.value("authorization")) {
+            Ok(_) => Ok(None),
+            Err(Refusal::Unknown(shown)) => Ok(Some((Rejection::Unauthorized, shown))),
+            Err(Refusal::Memory) => Err(Stop::Memory),
+        }
+    }
+
+    /// Takes the random bytes of the front, the first sixteen.
+    pub fn hear_hello(&mut self, bytes: &[u8])
+        ensures { self.new ≡ record self.old { random = with_random bytes.now self.old.random } }
+    {
+        for (place, byte) in self.random.iter_mut().zip(bytes.iter()) {
+            *place = *byte;
+        }
+    }
+
+    /// Takes the list of the users anew. The fault of one that isn't taken: then the users are as they were.
+    pub fn hear_users(&mut self, bytes: &[u8]) -> Result<Option<UsersError>, Stop>
+        ensures { IfOk result (λ fault. MatchOption fault
+            ((users : List (List ℕ × List ℕ)) × ListsUsers bytes.now users × (users ≢ [])
+            × (self.new ≡ record self.old { users = Some users }))
+            (λ f. IsUnlisted bytes.now f × (self.new ≡ self.old))) }
+    {
+        let read = match str::from_utf8(bytes) {
+            Ok(text) => Users::read(self.alloc, text),
+            Err(_) => Err(UsersError::Nobody),
+        };
+        match read {
+            Ok(users) => {
+                self.users = Some(users);
+                Ok(None)
+            }
+            Err(UsersError::Memory) => Err(Stop::Memory),
+            Err(error) => Ok(Some(error)),
+        }
+    }
+
+    /// Takes a moment, in seconds since 1970. A clock that goes back stands still. Whether it went on.
+    pub fn hear_moment(&mut self, seconds: u64) -> bool
+        ensures moment { self.new ≡ record self.old {
+          moment = max self.old.moment (min seconds last_moment);
+        } }
+        ensures later { IsTrue result ↔ (self.old.moment < self.new.moment) }
+    {
+        let moment = seconds.min(LAST_MOMENT);
+        if moment <= self.moment {
+            return false;
+        }
+        self.moment = moment;
+        true
+    }
+}
+
+// A request that isn't run, of this user.
+fn refused_of(alloc: Global, reason: Reason, user: Option<String>) -> Decision
+    ensures { (refusal : RefusedRequest) × (result ≡ Decision.Refused refusal)
+        × (refusal.reason ≡ reason)
+        × (string_bytes refusal.user ≡ unwrap_or (option_map string_bytes user) []) }
+{
+    refused(reason, user.unwrap_or(String::new(alloc)))
+}
+
+/// Fills the response to a request that isn't run: its status, and the challenge of 401 (RFC 9110, section 11.6.1; RFC 7617, section
+/// 2.1).
+pub fn refuse(reason: Reason, response: &mut Response) -> Result<(), AllocError>
+    requires { IsBlank response.old }
+    ensures { OnOk result (IsResponse (status_of reason) (refusal_fields reason) [] response.new) }
+{
+    response.status = reason.status();
+    match reason {
+        Reason::Unauthorized => {
+            let value = HeaderValue::from_static("Basic realm=\"vuldarg\", charset=\"UTF-8\"");
+            response.add_header(WWW_AUTHENTICATE, value)
+        }
+        _ => Ok(()),
+    }
+}
