@@ -209,9 +209,10 @@ ends_between p stream interim x between none =
 
 module _ {p : Place} {stream : List ℕ} (x : HasEnd p stream) where
   -- what was kept of the request was handed over
-  pub handed_over : (asked : Asked) (len : ℕ) (head body : List ℕ) → len ≡ length p.head → asked.head ≡ take len p.head
-      → asked.body ≡ p.body → body ≡ [] → IsWhole (record p { within = false; head = head; body = body }) stream asked p.is_head
-  handed_over asked len head body long front whole none =
+  pub handed_over : (asked : Asked) (len : ℕ) (head body : List ℕ) (stated : ℕ) → len ≡ length p.head → asked.head ≡ take len p.head
+      → asked.body ≡ p.body → body ≡ []
+      → IsWhole (record p { within = false; head = head; body = body; stated = stated }) stream asked p.is_head
+  handed_over asked len head body stated long front whole none =
       let is_head : asked.head ≡ p.head = front ∙ take_all len p.head (omega (arith, long)) in
       record {
         message = x.message;
@@ -301,12 +302,12 @@ module _ {p : Place} {spans : List HeaderSpan} {r : RequestSpans} {stream interi
       )
 
   -- the head was taken from the bytes, and what is known of its request was noted
-  pub begins : has_codings p.server ≡ false → (unread head method : List ℕ) (kind : Bool) (most : ℕ)
+  pub begins : has_codings p.server ≡ false → (unread head method : List ℕ) (kind : Bool) (most stated : ℕ)
       → unread ≡ drop r.len p.unread → head ≡ take r.len p.unread → method ≡ span_bytes p.unread r.method
       → kind ≡ is_head (method_kind method) → most ≡ most_of p.config method
-      → Begun (record p { unread = unread; within = true; head = head; is_head = kind; most = most }) stream
+      → Begun (record p { unread = unread; within = true; head = head; is_head = kind; most = most; stated = stated }) stream
       (invitation x.takes.head x.takes.framing)
-  begins uncoded unread head method kind most left front named kind_is most_is = record {
+  begins uncoded unread head method kind most stated left front named kind_is most_is = record {
     head = x.takes.head;
     framing = x.takes.framing;
     after = drop r.len stream;
@@ -330,16 +331,17 @@ module _ {p : Place} {spans : List HeaderSpan} {r : RequestSpans} {stream interi
   }
 
   -- it states no longer body than it may have
-  pub states_within : (method : List ℕ) (most : ℕ) → method ≡ span_bytes p.unread r.method → most ≡ most_of p.config method
-      → ((len : ℕ) → unread_size (reading p.server) ≡ Known len → len ≤ most) → IsStatedWithin p.config stream
-  states_within method most named most_is short h len after z =
+  pub states_within : (method : List ℕ) (most stated : ℕ) → method ≡ span_bytes p.unread r.method → most ≡ most_of p.config method
+      → ((len : ℕ) → unread_size (reading p.server) ≡ Known len → len ≤ most)
+      → ((len : ℕ) → unread_size (reading p.server) ≡ Known len → stated ≡ len) → IsStatedWithin p.config stated stream
+  states_within method most stated named most_is short known h len after z =
       let same = accepts_unique z head_accepted in
       let size : unread_size (reading p.server) ≡ Known len =
       ap (λ s. unread_size (reading s)) x.takes.next
       ∙ ap (λ f. unread_size (Reads.Body (decoder_for p.config.limits f))) (sym same.1) in
       let is : most ≡ most_of p.config h.method =
       most_is ∙ ap (most_of p.config) (named ∙ head_method ∙ ap (λ (k : RequestHead). k.method) (sym same.0)) in
-      omega (arith, short len size, is)
+      (sym (known len size), omega (arith, short len size, is))
 
   -- the work that is left is less
   pub head_less : (unread : List ℕ) → unread ≡ drop r.len p.unread → r.len ≤ length p.unread
@@ -356,7 +358,7 @@ module _ {p : Place} {spans : List HeaderSpan} {r : RequestSpans} {stream interi
 
   -- it is to be judged
   pub head_read : (q : Place) (waits : Bool) → waits ≡ expects_continue p.server → q.config ≡ p.config → q.within ≡ true
-      → Begun q stream (invitation x.takes.head x.takes.framing) → length q.body ≤ q.most → IsStatedWithin q.config stream
+      → Begun q stream (invitation x.takes.head x.takes.framing) → length q.body ≤ q.most → IsStatedWithin q.config q.stated stream
       → IsHeadRead q stream interim waits
   head_read q waits is config within begun fits stated = record {
     silent = x.silent;

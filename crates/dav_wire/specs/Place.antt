@@ -29,6 +29,9 @@ use Rattle.dav_wire.specs.declared.intake.Found.{Found}
 use Rattle.dav_wire.specs.declared.intake.Found.TheVariants as found
 use Rattle.dav_wire.specs.declared.line.Line.{Line}
 use Rattle.dav_wire.specs.declared.state.Reason.{Reason}
+use Rattle.dav_wire.specs.declared.state.Reason.TheVariants.{Refused}
+use Rattle.dav_wire.specs.declared.state.Refusal.{Refusal}
+use Rattle.dav_wire.specs.declared.state.Refusal.TheVariants.{NoRoom}
 use Rattle.dav_wire.specs.declared.state.State.{State}
 use Rattle.dav_wire.specs.declared.state.State.TheVariants.{Open, Closing, Aborted}
 use Rattle.dav_wire.specs.Exchange.{Call, Judgement, ReadsCall, Serves, most_of, passed}
@@ -44,6 +47,7 @@ pub record Place : Type 0 where
   pub head : List ℕ
   pub is_head : Bool
   pub most : ℕ
+  pub stated : ℕ
   pub body : List ℕ
 
 abbrev pub place : Intake → Place
@@ -55,6 +59,7 @@ place i = record {
   head = i.head.items;
   is_head = i.is_head;
   most = i.most;
+  stated = i.stated;
   body = i.body.items;
 }
 
@@ -90,7 +95,7 @@ pub record IsBetween (p : Place) (stream interim : List ℕ) : Type 0 where
 
 -- The reader is within the body of the request that begins the stream, for which this much was written, or at its start.
 abbrev pub StandsAt : Bool → Place → List ℕ → List ℕ → Type 0
-StandsAt true p stream interim = Begun p stream interim × (length p.body ≤ p.most) × IsStatedWithin p.config stream
+StandsAt true p stream interim = Begun p stream interim × (length p.body ≤ p.most) × IsStatedWithin p.config p.stated stream
 StandsAt false p stream interim = IsBetween p stream interim
 
 abbrev pub Standing : Place → List ℕ → List ℕ → Type 0
@@ -106,7 +111,7 @@ pub record IsStarved (p : Place) (stream interim : List ℕ) : Type 0 where
   pub standing : Standing p stream interim
   pub unfinished : HasNoMessage p.config.limits stream
   pub invited : ExpectsContinue p.config.limits stream → interim ≡ continue_text
-  pub within : IsStatedWithin p.config stream
+  pub within : IsStatedWithin p.config p.stated stream
   pub judged : (bytes : List ℕ) → BeginsWithHead p.config.limits stream bytes
       → judged_at p ≡ (bytes, None) ∷ []
 
@@ -160,7 +165,7 @@ pub record HasPiece (p : Place) (piece : Span) (stream interim : List ℕ) : Typ
   pub within : p.within ≡ true
   pub some : piece.start < piece.end
   pub fits : length p.body ≤ p.most
-  pub stated : IsStatedWithin p.config stream
+  pub stated : IsStatedWithin p.config p.stated stream
   pub onward : Begun (record p { unread = drop piece.end p.unread; body = p.body ++ span_bytes p.unread piece }) stream interim
 
 -- the end of the request that begins the stream was read
@@ -181,6 +186,25 @@ pub record KeepsIntake (old new : Intake) : Type 0 where
   pub config : new.config ≡ old.config
   pub ended : new.ended ≡ old.ended
 
+-- there is room for what is stated and for what was taken of the body
+pub record FitsIn (room : ℕ) (i : Intake) : Type 0 where
+  pub stated : i.stated ≤ room
+  pub body : length i.body.items ≤ room
+
+-- and nothing of that changed
+pub record KeepsBody (old new : Intake) : Type 0 where
+  pub stated : new.stated ≡ old.stated
+  pub body : new.body ≡ old.body
+
+-- a refusal for want of room tells this room
+abbrev pub TellsRoom : ℕ → Found → Type 0
+TellsRoom room f = (told : ℕ) → f ≡ found.Refused (NoRoom told) → told ≡ room
+
+-- the connection wasn't refused
+abbrev pub IsUnrefused : Line → Line → Type 0
+IsUnrefused old new =
+    (why : Refusal) → new.state ≡ Closing (Refused why) → old.state ≡ Closing (Refused why)
+
 abbrev pub history_of : Line → History
 history_of l = record {
   state = l.state;
@@ -191,6 +215,8 @@ history_of l = record {
   judgements = map (λ j. (j.0.items, j.1)) l.judgements.items;
   sent = flat_map (λ w. take w.1 w.0.items) l.writes.items;
   pending = l.output.items;
+  stated = l.intake.stated;
+  body = l.intake.body.items;
 }
 
 -- what was answered, and what is left of the stream
