@@ -1,11 +1,12 @@
 -- How much room the bodies that are being read take.
-use Rattle.std.proofs.Common.{◌≡◌, ◌≢◌, ℕ, zero, suc, ◌+◌, ◌-◌, ◌<◌, ◌≤◌, ◌==◌, Bool, true, false, cond, List, [], ◌∷◌, length, set, get_or, replicate, Option, Some, None, refl, sym, ap, ◌∙◌, subst, arith, inl, inr}
+use Rattle.std.proofs.Common.{◌≡◌, ℕ, zero, suc, ◌+◌, ◌-◌, ◌<◌, ◌≤◌, ◌==◌, true, false, cond, List, [], ◌∷◌, length, set, replicate, Option, Some, None, refl, sym, ap, ◌∙◌, subst, arith}
+use Rattle.std.proofs.lemmas.List.{set-set}
 use Rattle.std.proofs.lemmas.List.Sums.{sum_by-set}
-use Rattle.dav_wire.specs.History.{History, held, after_taken, new_history}
+use Rattle.dav_wire.specs.History.{History, held, after_taken}
 use Rattle.dav_turns.specs.declared.config.TurnsConfig.{TurnsConfig}
 use Rattle.dav_turns.specs.Connections.{ConnectionView, Slots}
 use Rattle.dav_turns.specs.Frames.{Order, ReportView}
-use Rattle.dav_turns.specs.Turns.{Keeping, Server, server, Counts, Does, hello, opened, got, sent, gone, ticked, listed, GoesOn, IsIn, IsFree, after_hearing, held_in, held_by, room_for, slot_after, new_turns}
+use Rattle.dav_turns.specs.Turns.{Keeping, Server, server, Advances, Counts, Does, hello, opened, got, sent, gone, ticked, listed, GoesOn, IsIn, IsFree, after_hearing, held_in, held_by, room_for, new_connection, slot_after}
 use Rattle.dav_turns.specs.Laws.{Event, report, commit, Happens, BodiesFit}
 
 -- ---- one slot
@@ -34,6 +35,31 @@ pub counts_with : (config : TurnsConfig) (n : ℕ) (xs : Slots) (i : ℕ) (c : C
     → held c.history ≤ config.max_waiting - n → Counts config (n + held c.history) (set xs i (Some c))
 counts_with config n xs i c x free fits =
     record { counted = omega (arith, x.counted, into_free xs i (Some c) free); fits = omega (arith, x.fits, fits) }
+
+-- the room that the count leaves is that for the slot
+pub room_is : (config : TurnsConfig) (n taken : ℕ) (xs : Slots) (i : ℕ) (c : ConnectionView) → taken ≡ held c.history
+    → Counts config n xs → IsIn xs i c → config.max_waiting - (n - taken) ≡ room_for config i xs
+room_is config n taken xs i c is x in_it = omega (arith, is, x.counted, without xs i c in_it)
+
+pub in_room : {S : Type 0} {k : Keeping S} {bytes : Option (List ℕ)} {old new : ConnectionView} {was now : S} {room other : ℕ}
+    → room ≡ other → Advances k room bytes old was new now → Advances k other bytes old was new now
+in_room {k = k} {bytes = bytes} {old = old} {new = new} {was = was} {now = now} is x = subst (λ r. Advances k r bytes old was new now) is x
+
+-- a connection that went on, and that comes back to its place, holds no more than the room for it
+pub counts_back : (config : TurnsConfig) (n taken given : ℕ) (xs : Slots) (i : ℕ) (was mid after : ConnectionView) (v : Option ConnectionView)
+    → Counts config n xs → IsIn xs i was → taken ≡ held was.history → given ≡ held after.history
+    → (held was.history ≤ room_for config i xs → held mid.history ≤ room_for config i xs)
+    → held after.history ≡ held mid.history
+    → Counts config ((n - taken) + given) (set (set xs i v) i (Some after))
+counts_back config n taken given xs i was mid after v x is taken_is given_is fits same =
+    let left = without xs i was is in
+    let room : held mid.history ≤ room_for config i xs = fits (omega (arith, left, x.counted, x.fits)) in
+    let now : held_by (set (set xs i v) i (Some after)) ≡ held_by (set xs i None) + held after.history =
+    ap held_by (set-set xs i v (Some after)) ∙ replaced xs i (Some after) is.within in
+    record {
+      counted = omega (arith, x.counted, left, taken_is, given_is, now);
+      fits = omega (arith, x.counted, x.fits, left, taken_is, given_is, room, same);
+    }
 
 -- ---- new turns
 
@@ -75,7 +101,7 @@ module _ {S : Type 0} (k : Keeping S) (config : TurnsConfig) where
   does_fit t old new os (ticked kind how still) few = omega (arith, ap held_by still.0, few)
   does_fit t old new os (listed kind how still) few = omega (arith, ap held_by still.0, few)
   does_fit t old new os (opened kind opening same is) few =
-      omega (arith, ap held_by opening.slots, into_free old.slots t.slot _ opening.free, few)
+      omega (arith, ap held_by opening.slots, into_free old.slots t.slot (Some (new_connection config.connection t.bytes)) opening.free, few)
   does_fit t old new os (gone kind ends same is) few =
       omega (arith, ap held_by ends.slots, without old.slots t.slot ends.gone ends.is_in, few)
   does_fit t old new os (got kind order goes is) few = goes_fit t.slot (Some t.bytes) old new order goes few

@@ -17,7 +17,5 @@ mod turns;
 
 pub use config::TurnsConfig;
 pub use keeper::{Keeper, TurnError};
-pub use laws::{
-    bodies_fit, orders_answer_what_came, reads_are_at_rest, reports_have_one_reading,
-};
+pub use laws::{bodies_fit, orders_answer_what_came, reads_are_at_rest, reports_have_one_reading};
 pub use turns::Turns;

@@ -128,7 +128,7 @@ impl Table {
         if at >= self.slots.len() || is_taken(&self.slots[at]) {
             return Err(TurnError::Pipe);
         }
-        let connection = Connection::new(self.alloc, self.config, address)?;
+        let connection = Connection::new(self.alloc, self.config.connection, address)?;
         self.slots[at] = Some(connection);
         Ok(add_order(orders, slot, READ, &[])?)
     }

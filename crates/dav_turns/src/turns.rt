@@ -4,7 +4,7 @@ ghost use Rattle.std.specs.List.{flat_map};
 ghost use Rattle.std.specs.Io.KnownBytes.{Appends};
 ghost use Rattle.dav_turns.specs.declared.keeper.TurnError.TheVariants.{Pipe};
 ghost use Rattle.dav_turns.specs.Frames.{Order, order_bytes};
-ghost use Rattle.dav_turns.specs.Turns.{keeping, server, Counts, Turn, IsBroken, held_by, orders_after, new_turns};
+ghost use Rattle.dav_turns.specs.Turns.{keeping, server, Turn, IsBroken, held_by, orders_after, new_turns};
 
 use crate::config::TurnsConfig;
 use crate::keeper::{Keeper, TurnError};
@@ -17,7 +17,6 @@ use std::marker::Model;
 #[derive(Drop)]
 pub struct Turns {
     table: Table,
-    ghost counts: { Counts table.config table.waiting table.slots.items },
 }
 
 impl Model for Turns {
@@ -26,6 +25,10 @@ impl Model for Turns {
     ghost Value = { TurnsView };
 
     ghost view = { λ t. record { config = t.table.config; slots = t.table.slots.items } };
+
+    ghost use Rattle.dav_turns.specs.Turns.{Counts};
+
+    ghost invariant = { λ t. Counts t.table.config t.table.waiting t.table.slots.items };
 }
 
 impl Turns {
@@ -42,7 +45,9 @@ impl Turns {
     /// bytes as they may. It does nothing.
     pub fn bodies_fit(&self)
         ensures { held_by self.now.slots ≤ self.now.config.max_waiting }
-    {}
+    {
+        let _ = &self.table;
+    }
 
     /// Hears each whole report, and then has all that was answered kept. Each report that a
     /// connection came, that bytes came, or that some were sent adds one order. The count of bytes
