@@ -77,6 +77,11 @@ impl<D: Disk + Drop> Service<D> {
         self.settings.most_body
     }
 
+    /// The most bytes of the bodies that are being read, of all connections together.
+    pub fn most_waiting(&self) -> u64 {
+        self.settings.most_waiting
+    }
+
     /// Tells what there is to be told.
     pub fn tell<L: Watch>(&mut self, watch: &mut L) {
         if !self.told.lines().is_empty() {

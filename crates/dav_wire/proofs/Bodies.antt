@@ -191,17 +191,17 @@ module _ {p : Place} {stream interim : List ℕ} (x : Begun p stream interim) wh
 -- what a head states stays when more comes
 stated_more : {p : Place} {stream interim : List ℕ} (x : Begun p stream interim) (came : List ℕ) → IsStatedWithin p.config p.stated stream
     → IsStatedWithin p.config p.stated (stream ++ came)
-stated_more {p} {stream} x came within h len after z =
+stated_more {p} {stream} x came within h framing after z =
     let same = alone x came z in
     let accepts = subst (λ f. AcceptsRequest p.config.limits stream x.head f x.after) (sym same.1) x.accepts in
-    let fits = within x.head len x.after accepts in
+    let fits = within x.head framing x.after accepts in
     (fits.0, omega (arith, fits.1, ap (λ (k : RequestHead). most_of p.config k.method) same.0))
 
 Standing-at : (b : Bool) (p : Place) (stream interim came : List ℕ) → StandsAt b p stream interim
     → StandsAt b (record p { unread = p.unread ++ came }) (stream ++ came) interim
 Standing-at true p stream interim came x = (begun_grows x.0 came, x.1, stated_more x.0 came x.2)
 Standing-at false p stream interim came x =
-    record { server = x.server; unread = ap (λ (t : List ℕ). t ++ came) x.unread; body = x.body; silent = x.silent }
+    record { server = x.server; unread = ap (λ (t : List ℕ). t ++ came) x.unread; body = x.body; stated = x.stated; silent = x.silent }
 
 pub Standing-append : (p : Place) (stream interim came : List ℕ) → Standing p stream interim
     → Standing (record p { unread = p.unread ++ came }) (stream ++ came) interim

@@ -1,5 +1,5 @@
 -- What holds of a connection, and what each step does to that.
-use Rattle.std.proofs.Common.{◌≡◌, ◌≢◌, ℕ, Bool, false, List, [], ◌++◌, ◌∷◌, ◌⊎◌, length, Option, Some, None, true, cond, refl, sym, ap, ◌∙◌, subst, subst₂, arith, append_assoc, append-nil, take-append-drop, inl, inr, IsTrue, IsFalse}
+use Rattle.std.proofs.Common.{◌≡◌, ◌≢◌, ℕ, Bool, false, List, [], ◌++◌, ◌∷◌, ◌⊎◌, length, max, Option, Some, None, true, cond, refl, sym, ap, ◌∙◌, subst, subst₂, arith, append_assoc, append-nil, take-append-drop, inl, inr, IsTrue, IsFalse}
 use Rattle.std.proofs.Math.Seq.{take-nil, drop-nil}
 use Rattle.std.proofs.Math.Logic.{∥∥₁_prop, ∥∥₁_elim}
 use denote.Struct.Props.{props}
@@ -15,7 +15,7 @@ use Rattle.dav_wire.specs.declared.state.Refusal.TheVariants.{Truncated, Unreada
 use Rattle.dav_wire.specs.declared.state.State.{State}
 use Rattle.dav_wire.specs.declared.state.State.TheVariants.{Open, Closing, Aborted}
 use Rattle.dav_wire.specs.Exchange.{Call, Judgement, Serves, passed}
-use Rattle.dav_wire.specs.History.{History, written, BeginsWithHead, AreJudged, IsNextJudged, MayGoOn, HasWork, IsCalledFor, MayBeCalledFor, IsUnsendable, Stands, IsServed, Rests, new_history, after_sent}
+use Rattle.dav_wire.specs.History.{History, written, BeginsRequest, BeginsWithHead, AreJudged, IsNextJudged, MayGoOn, HasWork, IsCalledFor, MayBeCalledFor, IsUnsendable, Stands, IsServed, Rests, new_history, after_sent}
 use Rattle.dav_wire.specs.Place.{Place, place, history_of, Base, IsRunning, StandsAt, judged_at, HoldsAt, Holds, Standing, IsStarved, aborted, closed_with, Reaches}
 use Rattle.dav_wire.specs.Refusals.{IsRefusedFor, IsStatedWithin, closing_text, refusal_status, rejection_status}
 use Rattle.dav_wire.proofs.Bodies.{Standing-append, begun_some}
@@ -363,8 +363,8 @@ sends p h count Aborted had = served_still h count had
 
 pub rests : (p : Place) (h : History) (b : Base p.config h) → h.calls ≡ b.answered
     → h.judgements ≡ passed h.calls ++ judged_at p → IsStarved p b.rest b.interim → IsFalse h.ended
-    → p.stated ≡ h.stated → Rests p.config h
-rests p h b calls judged x going held is_open room = (
+    → p.stated ≡ h.stated → p.body ≡ h.body → Rests p.config h
+rests p h b calls judged x going held body is_open room = (
   going,
   λ ms rest z. elim (aligned p.config b.answered ms h.received b.text b.serves z) [
     | inl fits ↦ omega (arith, fits.0, ap length calls)
@@ -387,6 +387,13 @@ rests p h b calls judged x going held is_open room = (
         ∣ judged ∙ ap (λ (t : List Judgement). passed h.calls ++ t) it ∣₁
     | inr more ↦ absurd (x.unfinished more.0 more.1 more.2)
   ],
+  λ ms rest z count none. elim (aligned p.config b.answered ms h.received b.text b.serves z) [
+    | inl fits ↦
+        let same = fits.1 (count ∙ ap length calls) in
+        let free = x.free (subst (λ (t : List ℕ). BeginsRequest p.config.limits t → ⊥) same none) in
+        λ i. max ((sym held ∙ free.0) i) (length ((sym body ∙ free.1) i))
+    | inr more ↦ absurd (x.unfinished more.0 more.1 more.2)
+  ],
 )
 
 -- what it says leaves nothing to choose
@@ -395,11 +402,12 @@ settled config h x is_open room = (
   ∥∥₁_elim x (search props) (λ r. (r is_open room).0),
   λ ms rest z. ∥∥₁_elim x (search props) (λ r. (r is_open room).1 ms rest z),
   λ ms rest z count waits. ∥∥₁_elim x ∥∥₁_prop (λ r. (r is_open room).2 ms rest z count waits),
-  λ ms rest z count k len after w. (
-    ∥∥₁_elim x (search props) (λ r. ((r is_open room).3 ms rest z count k len after w).0),
-    ∥∥₁_elim x (search props) (λ r. ((r is_open room).3 ms rest z count k len after w).1),
+  λ ms rest z count k framing after w. (
+    ∥∥₁_elim x (search props) (λ r. ((r is_open room).3 ms rest z count k framing after w).0),
+    ∥∥₁_elim x (search props) (λ r. ((r is_open room).3 ms rest z count k framing after w).1),
   ),
   λ ms rest z count bytes begins. ∥∥₁_elim x ∥∥₁_prop (λ r. (r is_open room).4 ms rest z count bytes begins),
+  λ ms rest z count none. ∥∥₁_elim x (search props) (λ r. (r is_open room).5 ms rest z count none),
 )
 
 -- ---- a refusal for want of room

@@ -41,7 +41,7 @@ module _ (l : Line) (i : Intake) (keeps : KeepsIntake l.intake i) (r : IsRunning
   after_nothing old x = record {
     holds = holds_open (place i) (history_of after) (record { base = base; calls = r.calls; judged = judged_then _ (sym x.2); standing = x.0.standing });
     less = λ wrong. cc;
-    rests = λ _. rests (place i) (history_of after) base r.calls (judged_then _ (sym x.2)) x.0 (keeps.ended ∙ x.1) refl;
+    rests = λ _. rests (place i) (history_of after) base r.calls (judged_then _ (sym x.2)) x.0 (keeps.ended ∙ x.1) refl refl;
   }
 
   pub after_end : (new : Line) (old : ℕ) (goes : Bool) → new ≡ record after { state = Closing EndOfInput } → IsFalse goes

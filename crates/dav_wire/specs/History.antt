@@ -179,9 +179,14 @@ abbrev pub IsInvited : Limits → History → Type 0
 IsInvited limits h =
     RestIs limits h (λ rest. ExpectsContinue limits rest → ∥ ((front : List ℕ) × (written h ≡ front ++ continue_text)) ∥₁)
 
--- that request states no longer body than it may have (one that does was refused), and so much of it is held
+-- that request states no longer body than it may have (one that does was refused), and what it states
+-- is what is held for it
 abbrev pub IsNextWithin : Config → History → Type 0
 IsNextWithin config h = RestIs config.limits h (IsStatedWithin config h.stated)
+
+-- nothing is held where no head of a request came whole
+abbrev pub IsNothingHeld : Limits → History → Type 0
+IsNothingHeld limits h = RestIs limits h (λ rest. (BeginsRequest limits rest → ⊥) → held h ≡ 0)
 
 -- the head of that request was judged, once it came whole
 abbrev pub IsNextHeadJudged : Limits → History → Type 0
@@ -194,7 +199,7 @@ abbrev pub Rests : Config → History → Type 0
 Rests config h =
     h.state ≡ Open → length h.pending ≤ config.max_pending
     → IsFalse h.ended × AreAllCalled config.limits h × IsInvited config.limits h × IsNextWithin config h
-    × IsNextHeadJudged config.limits h
+    × IsNextHeadJudged config.limits h × IsNothingHeld config.limits h
 
 -- nothing was taken and nothing was sent
 abbrev pub IsQuiet : History → History → Type 0

@@ -14,6 +14,8 @@ use Rattle.http1.specs.Framing.{method_kind}
 use Rattle.http1.specs.Message as Wire
 use Rattle.http1.specs.Message.{known_of, AcceptsRequest, ReadsRequestMessage}
 use Rattle.http1.specs.declared.conn.Writing.{Writing}
+use Rattle.http1.specs.declared.conn.BodySize.{BodySize}
+use Rattle.http1.specs.declared.conn.BodySize.TheVariants.{Empty, Known, Unknown}
 use Rattle.http1.specs.Conn.{data_text, after_data, finish_text}
 use Rattle.http1.specs.Server.{new_server, request_of, is_head, TakesHead, writing, with_writing, after_end}
 use Rattle.http_server.specs.declared.response.Response.{Response}
@@ -35,7 +37,7 @@ use Rattle.dav_wire.specs.declared.state.Refusal.TheVariants.{NoRoom}
 use Rattle.dav_wire.specs.declared.state.State.{State}
 use Rattle.dav_wire.specs.declared.state.State.TheVariants.{Open, Closing, Aborted}
 use Rattle.dav_wire.specs.Exchange.{Call, Judgement, ReadsCall, Serves, most_of, passed}
-use Rattle.dav_wire.specs.History.{History, BeginsWithHead, written, HasWork, IsServed, Rests}
+use Rattle.dav_wire.specs.History.{History, BeginsRequest, BeginsWithHead, written, HasWork, IsServed, Rests}
 use Rattle.dav_wire.specs.Refusals.{IsRefusedFor, IsStatedWithin}
 
 -- the part of an intake of which the invariant speaks
@@ -91,6 +93,7 @@ pub record IsBetween (p : Place) (stream interim : List ℕ) : Type 0 where
   pub server : p.server ≡ new_server p.config.limits
   pub unread : p.unread ≡ stream
   pub body : p.body ≡ []
+  pub stated : p.stated ≡ 0
   pub silent : interim ≡ []
 
 -- The reader is within the body of the request that begins the stream, for which this much was written, or at its start.
@@ -114,6 +117,7 @@ pub record IsStarved (p : Place) (stream interim : List ℕ) : Type 0 where
   pub within : IsStatedWithin p.config p.stated stream
   pub judged : (bytes : List ℕ) → BeginsWithHead p.config.limits stream bytes
       → judged_at p ≡ (bytes, None) ∷ []
+  pub free : (BeginsRequest p.config.limits stream → ⊥) → (p.stated ≡ 0) × (p.body ≡ [])
 
 -- The head of the request that begins the stream was read, and nothing was written for it. Once it
 -- is judged its sender is invited, if it waits for that.
@@ -131,6 +135,7 @@ pub record IsWhole (p : Place) (stream : List ℕ) (asked : Asked) (bodiless : B
   pub server : p.server ≡ answering p.config.limits message.head request.reads.framing
   pub between : p.within ≡ false
   pub body : p.body ≡ []
+  pub stated : p.stated ≡ 0
 
 -- a step that goes on leaves less of this
 abbrev pub work : Place → ℕ
@@ -185,6 +190,12 @@ pub record HasEnd (p : Place) (stream : List ℕ) : Type 0 where
 pub record KeepsIntake (old new : Intake) : Type 0 where
   pub config : new.config ≡ old.config
   pub ended : new.ended ≡ old.ended
+
+-- how many bytes of a body are known to come
+abbrev pub known_len : BodySize → ℕ
+known_len Empty = 0
+known_len (Known len) = len
+known_len Unknown = 0
 
 -- there is room for what is stated and for what was taken of the body
 pub record FitsIn (room : ℕ) (i : Intake) : Type 0 where

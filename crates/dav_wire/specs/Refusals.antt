@@ -1,7 +1,8 @@
 -- Why a request is refused or rejected, and the texts that the connection sends of its own.
 use Rattle.std.specs.Prelude.{◌≡◌, ◌≢◌, ℕ, ◌<◌, ◌||◌, ◌==◌, Bool, List, [], ◌∷◌, length, codes, if◌then◌else◌, IsTrue, ◌≤◌}
 use Rattle.httparse.specs.Grammar.{RequestHead}
-use Rattle.http1.specs.declared.framing.Framing.TheVariants.{Length}
+use Rattle.http1.specs.declared.framing.Framing.{Framing}
+use Rattle.http1.specs.declared.framing.Framing.TheVariants.{NoBody, Length, Chunked, UntilClose}
 use Rattle.http1.specs.Message.{AcceptsRequest}
 use Rattle.http1.specs.ReadError.{status_of}
 use Rattle.http1.specs.Head.{response_text}
@@ -58,12 +59,19 @@ closing_fields status =
 abbrev pub closing_text : ℕ → List ℕ
 closing_text status = response_text 1 status (reason_of status) (closing_fields status)
 
--- where the request that begins the stream states how long its body is, it is so many bytes, and no
--- more than its method may have (RFC 9112, section 6.2)
+-- how long a body is stated to be by what frames it (RFC 9112, section 6.3)
+abbrev pub len_stated : Framing → ℕ
+len_stated NoBody = 0
+len_stated (Length len) = len
+len_stated Chunked = 0
+len_stated UntilClose = 0
+
+-- So many bytes are stated by the head of the request that begins the stream, and no more than its
+-- method may have (RFC 9112, section 6.2).
 abbrev pub IsStatedWithin : Config → ℕ → List ℕ → Type 0
 IsStatedWithin config stated stream =
-    (h : RequestHead) (len : ℕ) (after : List ℕ) → AcceptsRequest config.limits stream h (Length len) after
-    → (len ≡ stated) × (len ≤ most_of config h.method)
+    (h : RequestHead) (framing : Framing) (after : List ℕ) → AcceptsRequest config.limits stream h framing after
+    → (stated ≡ len_stated framing) × (stated ≤ most_of config h.method)
 
 -- Why the request that begins the stream is refused: the input ended within it; or, whatever bytes might follow, it has too
 -- many fields, or can't be read at all, or its body is longer than its method may have, or has an unknown coding,

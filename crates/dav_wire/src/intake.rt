@@ -55,7 +55,7 @@ pub(crate) struct Intake {
 }
 
 impl Intake {
-    ghost use Rattle.dav_wire.specs.Place.{place, Standing, IsStarved, HasHead, HasPiece, HasEnd, Finds, FitsIn, TellsRoom, judged_at, work, KeepsIntake};
+    ghost use Rattle.dav_wire.specs.Place.{place, Standing, IsStarved, HasHead, HasPiece, HasEnd, Finds, FitsIn, TellsRoom, judged_at, known_len, work, KeepsIntake};
     ghost use Rattle.dav_wire.specs.History.{HasWork};
 
     pub(crate) fn new(alloc: Global, config: Config) -> Intake
@@ -192,8 +192,7 @@ impl Intake {
 
     // How long a body the head states; 0 where it states none.
     fn len_stated(&self) -> usize
-        ensures known { (len : ℕ) → unread_size (reading self.now.server) ≡ BodySize.Known len
-            → result ≡ len }
+        ensures known { result ≡ known_len (unread_size (reading self.now.server)) }
         ensures within { (most : ℕ) → ((len : ℕ)
             → unread_size (reading self.now.server) ≡ BodySize.Known len → len ≤ most)
             → result ≤ most }

@@ -33,7 +33,8 @@ returns-clause-finds c = λ stream interim x.
     c.of-method.result.now c.is_head-self.result c.most_of-self.result c.len_stated-self.result (search rules) (search rules) (search rules) (search rules) (search rules) in
     let fits : length c.args.self.now.body.items ≤ c.most_of-self.result = omega (arith, ap length x.body) in
     let stated = states_within x c.of-method.result.now c.most_of-self.result c.len_stated-self.result (search rules) (search rules)
-    (c.states_more.ensures.short c.if-states_more.false) c.len_stated-self.ensures.known in (
+    c.len_stated-self.ensures.known
+    (c.len_stated-self.ensures.within c.most_of-self.result (c.states_more.ensures.short c.if-states_more.false)) in (
       head_read x _ c.expects_continue.result c.expects_continue.ensures refl refl begun fits stated,
       unjudged x,
       head_less x c.advance.new.self.items (search rules) c.requires.section.len_fits,
