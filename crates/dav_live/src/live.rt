@@ -6,7 +6,7 @@ use crate::settings::Settings;
 use dav_access::Users;
 use dav_http::Handler;
 use dav_journal::Journal;
-use dav_turns::Turns;
+use dav_turns::{Turns, TurnsConfig};
 use dav_wire::Config;
 use http1::Limits;
 use sqlite_disk::Disk;
@@ -205,13 +205,17 @@ fn live_of<D: Disk + Drop>(
     })
 }
 
-// The limits of a connection: heads of 16 KiB, and no request is read while more than 64 KiB wait to be sent.
-fn config_of<D: Disk + Drop>(service: &Service<Machine, Journal<D>>) -> Config {
-    Config {
+// The limits of the connections: of each, heads of 16 KiB, and no request is read while more than 64 KiB wait to be sent.
+fn config_of<D: Disk + Drop>(service: &Service<Machine, Journal<D>>) -> TurnsConfig {
+    let connection = Config {
         limits: Limits::default(),
         max_body_len: usize::try_from(service.most_body()).unwrap_or(usize::MAX),
         max_tree_len: MOST_XML,
         max_pending: 65536,
+    };
+    TurnsConfig {
+        connection,
+        max_waiting: usize::try_from(service.most_waiting()).unwrap_or(usize::MAX),
     }
 }
 

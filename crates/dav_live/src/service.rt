@@ -21,6 +21,7 @@ pub struct Service<H, J> {
     kept: Kept<H, J>,
     told: Told,
     most_body: u64,
+    most_waiting: u64,
 }
 
 impl<H: Ends + Drop, J: Keeps + Drop> Service<H, J> {
@@ -55,13 +56,14 @@ impl<H: Ends + Drop, J: Keeps + Drop> Service<H, J> {
     {
         let kept = Kept::open(alloc, handler, journal, preface(settings.prefix.as_str()))?;
         let told = Told::new(alloc, settings.logs);
-        let most_body = settings.most_body;
+        let (most_body, most_waiting) = (settings.most_body, settings.most_waiting);
         Ok(Service {
             alloc,
             admission: Admission::new(alloc, settings, users, kept.latest()),
             kept,
             told,
             most_body,
+            most_waiting,
         })
     }
 
@@ -116,6 +118,11 @@ impl<H: Ends + Drop, J: Keeps + Drop> Service<H, J> {
     /// The most bytes of a body that isn't an element tree.
     pub fn most_body(&self) -> u64 {
         self.most_body
+    }
+
+    /// The most bytes of the bodies that are being read, of all connections together.
+    pub fn most_waiting(&self) -> u64 {
+        self.most_waiting
     }
 
     /// Tells what there is to be told.

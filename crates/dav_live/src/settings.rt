@@ -11,6 +11,8 @@ pub struct Settings {
     pub lock_time: u32,
     /// The most bytes of a body, but for XML.
     pub most_body: u64,
+    /// The most bytes of the bodies that are being read, of all connections together.
+    pub most_waiting: u64,
     /// Whether a line is written of each request.
     pub logs: bool,
 }

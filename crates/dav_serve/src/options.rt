@@ -13,6 +13,9 @@ const MOST_LOCK_TIME: u64 = 4_294_967_295;
 /// The most bytes of a body where none is told: 256 MiB.
 const BODY: u64 = 268_435_456;
 
+/// The least of what the bodies that are being read may have together where that isn't told: 1 GiB.
+const WAITING: u64 = 1_073_741_824;
+
 /// The folder of the state, and the settings.
 #[derive(Drop)]
 pub struct Options {
@@ -24,7 +27,7 @@ pub struct Options {
 #[derive(Debug, Drop, Error)]
 pub enum OptionsError {
     /// There is no folder among them.
-    #[error("usage: dav-serve FOLDER [--prefix /PATH] [--host NAME].. [--lock-time SECONDS] [--body BYTES] [--log]")]
+    #[error("usage: dav-serve FOLDER [--prefix /PATH] [--host NAME].. [--lock-time SECONDS] [--body BYTES] [--waiting BYTES] [--log]")]
     NoFolder,
     /// No option has this name.
     #[error("'{0}' isn't an option")]
@@ -35,6 +38,9 @@ pub enum OptionsError {
     /// The option with this name has a value that isn't a number within its bounds.
     #[error("{0}: '{1}' isn't a number that it can be")]
     NoNumber(String, String),
+    /// All bodies that are being read may have fewer bytes together than one: so many.
+    #[error("--waiting: {0} is less than --body")]
+    FewWaiting(u64),
     /// Memory ran out.
     #[error("out of memory")]
     Memory,
@@ -64,6 +70,7 @@ impl Options {
             hosts: Vec::new(alloc),
             lock_time: LOCK_TIME,
             most_body: BODY,
+            most_waiting: 0,
             logs: false,
         };
         for _ in 0..u64::MAX {
@@ -76,8 +83,21 @@ impl Options {
                 set(&mut settings, name, arguments.next())?;
             }
         }
+        settings.most_waiting = waiting_of(settings.most_waiting, settings.most_body)?;
         Ok(Options { folder, settings })
     }
+}
+
+// The most bytes of all bodies that are being read: what is told, which has room for one at least; where it isn't told (0), for
+// four, and 1 GiB at least.
+fn waiting_of(told: u64, most_body: u64) -> Result<u64, OptionsError> {
+    if told == 0 {
+        return Ok(most_body.saturating_mul(4).max(WAITING));
+    }
+    if told < most_body {
+        return Err(OptionsError::FewWaiting(told));
+    }
+    Ok(told)
 }
 
 // Sets what an option names.
@@ -95,6 +115,7 @@ fn set(settings: &mut Settings, name: String, value: Option<String>) -> Result<(
             let seconds = number(name, value, MOST_LOCK_TIME)?;
             settings.lock_time = u32::try_from(seconds).unwrap_or(u32::MAX);
         }
+        "--waiting" => settings.most_waiting = number(name, value, u64::MAX)?,
         _ => settings.most_body = number(name, value, u64::MAX)?,
     }
     Ok(())
@@ -102,7 +123,10 @@ fn set(settings: &mut Settings, name: String, value: Option<String>) -> Result<(
 
 // Whether there is an option with this name that has a value.
 fn takes_value(name: &str) -> bool {
-    matches!(name, "--prefix" | "--host" | "--lock-time" | "--body")
+    matches!(
+        name,
+        "--prefix" | "--host" | "--lock-time" | "--body" | "--waiting"
+    )
 }
 
 // A value as a number from 1 to the most that it can be.

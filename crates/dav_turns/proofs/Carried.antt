@@ -7,7 +7,7 @@ use Rattle.dav_wire.specs.Exchange.{Act, judged, answered, Chain}
 use Rattle.dav_turns.specs.Connections.{TurnsView}
 use Rattle.dav_turns.specs.Frames.{Order, ReportView}
 use Rattle.dav_turns.specs.Turns.{Does, GoesOn, Heard, HeardAll, Keeping, Server, Turn, got, gone, hello, listed, opened, sent, server, ticked}
-use Rattle.dav_wire.specs.declared.state.Config.{Config}
+use Rattle.dav_turns.specs.declared.config.TurnsConfig.{TurnsConfig}
 
 -- a relation between states holds of each thing that a keeper does, of doing nothing, and of two things after each other
 pub record Carries {S : Type 0} (k : Keeping S) (R : S → S → Type 0) : Type 0 where
@@ -28,25 +28,25 @@ module _ {S : Type 0} (k : Keeping S) (R : S → S → Type 0) (c : Carries k R)
   chain_carries first last (judged x ∷ xs) (second, did, later) = c.joined first second last (c.judges first x.0 x.1 second did) (chain_carries second last xs later)
   chain_carries first last (answered x ∷ xs) (second, did, later) = c.joined first second last (c.answers first x.0 x.1 second did) (chain_carries second last xs later)
 
-  slot_carries : (slot : ℕ) (bytes : _) (old new : Server S) (order : Order) → GoesOn k slot bytes old new order → R old.keeper new.keeper
-  slot_carries slot bytes old new order g =
+  slot_carries : (room slot : ℕ) (bytes : _) (old new : Server S) (order : Order) → GoesOn k room slot bytes old new order → R old.keeper new.keeper
+  slot_carries room slot bytes old new order g =
       let a = g.advances in
       c.joined old.keeper a.ready new.keeper (c.placed old.keeper g.was.address a.ready a.placed) (chain_carries a.ready new.keeper a.acts.0 a.acts.3)
 
-  does_carries : (config : Config) (t : ReportView) (old new : Server S) (orders : List Order) → Does k config t old new orders → R old.keeper new.keeper
+  does_carries : (config : TurnsConfig) (t : ReportView) (old new : Server S) (orders : List Order) → Does k config t old new orders → R old.keeper new.keeper
   does_carries config t old new orders (hello is greets still) = c.greeted old.keeper t.bytes new.keeper greets
   does_carries config t old new orders (opened is opens same ordered) = subst (R old.keeper) (sym same) (c.same old.keeper)
-  does_carries config t old new orders (got is order goes ordered) = slot_carries t.slot _ old new order goes
-  does_carries config t old new orders (sent is order goes ordered) = slot_carries t.slot _ old new order goes
+  does_carries config t old new orders (got is order goes ordered) = slot_carries _ t.slot _ old new order goes
+  does_carries config t old new orders (sent is order goes ordered) = slot_carries _ t.slot _ old new order goes
   does_carries config t old new orders (gone is ends same ordered) = subst (R old.keeper) (sym same) (c.same old.keeper)
   does_carries config t old new orders (ticked is marks still) = c.marked old.keeper new.keeper marks
   does_carries config t old new orders (listed is lists still) = c.listed old.keeper t.bytes new.keeper lists
 
-  heard_carries : (config : Config) (t : ReportView) (old new : Server S) (orders : List Order) → Heard k config t old new orders → R old.keeper new.keeper
+  heard_carries : (config : TurnsConfig) (t : ReportView) (old new : Server S) (orders : List Order) → Heard k config t old new orders → R old.keeper new.keeper
   heard_carries config t old new orders h =
       c.joined old.keeper h.ready new.keeper (c.passed old.keeper t.seconds h.ready h.passes) (does_carries config t (server old.slots h.ready) new orders h.does)
 
-  all_carries : (config : Config) (ts : List ReportView) (old new : Server S) (orders : List Order) → HeardAll k config ts old new orders → R old.keeper new.keeper
+  all_carries : (config : TurnsConfig) (ts : List ReportView) (old new : Server S) (orders : List Order) → HeardAll k config ts old new orders → R old.keeper new.keeper
   all_carries config [] old new orders (same, none) = subst (λ (s : Server S). R old.keeper s.keeper) (sym same) (c.same old.keeper)
   all_carries config (t ∷ ts) old new orders (mid, first, later, heard, more, joined) =
       c.joined old.keeper mid.keeper new.keeper (heard_carries config t old mid first heard) (all_carries config ts mid new later more)

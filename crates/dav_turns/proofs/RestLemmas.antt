@@ -25,7 +25,7 @@ opens (Closing why) e = absurd (let wrong : 2 ≡ 1 = e in cc)
 opens Aborted e = absurd (let wrong : 2 ≡ 1 = e in cc)
 
 pub reads_at_rest : {S : Type 0} (k : Keeping S) → ReadsOnlyAtRest k
-reads_at_rest k slot bytes old new order g reads =
+reads_at_rest k room slot bytes old new order g reads =
     let mid = g.mid in
     let after = g.after in
     let now = neither (nat_lt mid.config.max_pending (length mid.history.pending)) (nat_lt 0 (length after.history.pending)) (next_in after.history.state)

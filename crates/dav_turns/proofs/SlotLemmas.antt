@@ -7,16 +7,17 @@ use Rattle.std.proofs.lemmas.List.Elements.{All-append, All-cons, All-head, All-
 use Rattle.std.proofs.lemmas.List.Folds.{list_any-append}
 use Rattle.std.specs.List.{All, filter, filter_map, flat_map, list_any, prefix_len}
 use Rattle.dav_wire.specs.declared.state.Config.{Config}
+use Rattle.dav_turns.specs.declared.config.TurnsConfig.{TurnsConfig}
 use Rattle.dav_wire.specs.Exchange.{Act, judged, answered, Call, Judgement, Chain, calls_in, judgements_in}
 use Rattle.dav_wire.specs.History.{Acts, History, IsServed, new_history, after_taken}
 use Rattle.dav_turns.specs.Connections.{ConnectionView, Slots}
 use Rattle.dav_turns.specs.Frames.{Order, ReportView}
-use Rattle.dav_turns.specs.Turns.{Keeping, Server, server, HeardAll, Does, hello, opened, got, sent, gone, ticked, listed, GoesOn, after_hearing, slot_after, new_connection}
+use Rattle.dav_turns.specs.Turns.{Keeping, Server, server, HeardAll, Does, hello, opened, got, sent, gone, ticked, listed, GoesOn, after_hearing, room_for, slot_after, new_connection}
 use Rattle.dav_turns.specs.Laws.{Event, report, commit, report_in, Happens, turn_events, TurnsHappen, came_on, opens, pieces, stream_of, bytes_for, IsGiven, AreGiven, IsVerdict, AreVerdicts, AreAnswersTo, OrdersAnswerWhatCame}
 
 -- ---- events
 
-module _ {S : Type 0} (k : Keeping S) (config : Config) where
+module _ {S : Type 0} (k : Keeping S) (config : TurnsConfig) where
   pub join : (xs ys : List Event) (old mid new : Server S) (first later : List Order)
       → Happens k config xs old mid first → Happens k config ys mid new later → Happens k config (xs ++ ys) old new (first ++ later)
   join [] ys old mid new first later was h =
@@ -244,13 +245,16 @@ own_order slot o e =
 
 -- ---- a connection goes on
 
-module _ {S : Type 0} (k : Keeping S) (config : Config) where
+module _ {S : Type 0} (k : Keeping S) (limits : TurnsConfig) where
+  abbrev config : Config
+  config = limits.connection
+
   -- in its own slot
-  goes_on : (slot : ℕ) (bytes : Option (List ℕ)) (old new : Server S) (order : Order) (ps : List (List ℕ)) (out : List ℕ)
-      → GoesOn k slot bytes old new order → Tracks k config old.slots slot ps out
+  goes_on : (room slot : ℕ) (bytes : Option (List ℕ)) (old new : Server S) (order : Order) (ps : List (List ℕ)) (out : List ℕ)
+      → GoesOn k room slot bytes old new order → Tracks k config old.slots slot ps out
       → Tracks k config new.slots slot (ps ++ piece bytes) (out ++ order.bytes)
-  goes_on slot bytes old new order ps out g (inr x) = absurd (let wrong = sym x.is ∙ g.is_in.is in cc)
-  goes_on slot bytes old new order ps out g (inl x) =
+  goes_on room slot bytes old new order ps out g (inr x) = absurd (let wrong = sym x.is ∙ g.is_in.is in cc)
+  goes_on room slot bytes old new order ps out g (inl x) =
       let same : x.connection ≡ g.was = (let both = sym x.is ∙ g.is_in.is in cc) in
       let heard_so = hears bytes g.was.history ps out (subst (λ (c : ConnectionView). Hears c.history ps out) same x.hears) in
       let quiet = g.advances.quiet in
@@ -293,7 +297,7 @@ module _ {S : Type 0} (k : Keeping S) (config : Config) where
   decide a b = elim (bool (a == b)) [ inl e ↦ inl (eqb-true a b e) | inr e ↦ inr (eqb-false a b e) ]
 
   does : (slot : ℕ) (t : ReportView) (old new : Server S) (os : List Order) (ps : List (List ℕ)) (out : List ℕ)
-      → IsFalse (opens slot t) → Does k config t old new os → Tracks k config old.slots slot ps out
+      → IsFalse (opens slot t) → Does k limits t old new os → Tracks k config old.slots slot ps out
       → Tracks k config new.slots slot (ps ++ pieces slot (report t ∷ [])) (out ++ bytes_for slot os)
   does slot t old new os ps out once (hello kind how still) x =
       stays k config old.slots new.slots slot ps _ out _ (ap (λ (s : Slots). get_or s slot None) still.0)
@@ -329,7 +333,7 @@ module _ {S : Type 0} (k : Keeping S) (config : Config) where
   does slot t old new os ps out once (got kind order goes is) x =
       elim (decide t.slot slot) [
         | inl e ↦
-            let here = goes_on slot (Some t.bytes) old new order ps out (subst (λ s. GoesOn k s (Some t.bytes) old new order) e goes) x in
+            let here = goes_on _ slot (Some t.bytes) old new order ps out (subst (λ s. GoesOn k (room_for limits t.slot old.slots) s (Some t.bytes) old new order) e goes) x in
             subst (λ qs. Tracks k config new.slots slot (ps ++ qs) (out ++ bytes_for slot os)) (sym (own_piece slot t kind e))
             (subst (λ qs. Tracks k config new.slots slot (ps ++ t.bytes ∷ []) (out ++ qs))
             (sym (ap (bytes_for slot) is ∙ own_order slot order (goes.slot_is ∙ e))) here)
@@ -340,7 +344,7 @@ module _ {S : Type 0} (k : Keeping S) (config : Config) where
   does slot t old new os ps out once (sent kind order goes is) x =
       elim (decide t.slot slot) [
         | inl e ↦
-            let here = goes_on slot None old new order ps out (subst (λ s. GoesOn k s None old new order) e goes) x in
+            let here = goes_on _ slot None old new order ps out (subst (λ s. GoesOn k (room_for limits t.slot old.slots) s None old new order) e goes) x in
             subst (λ qs. Tracks k config new.slots slot (ps ++ qs) (out ++ bytes_for slot os))
             (sym (other_kind slot t (λ e. let wrong = sym kind ∙ e in cc)))
             (subst (λ qs. Tracks k config new.slots slot (ps ++ []) (out ++ qs))
@@ -364,7 +368,7 @@ module _ {S : Type 0} (k : Keeping S) (config : Config) where
       ∙ flat_map-append (λ (o : Order). o.bytes) (filter (λ o. o.slot == slot) xs) (filter (λ o. o.slot == slot) ys)
 
   tracks : (slot : ℕ) (es : List Event) (old new : Server S) (os : List Order) (ps : List (List ℕ)) (out : List ℕ)
-      → All (λ t. IsFalse (opens slot t)) (filter_map report_in es) → Happens k config es old new os
+      → All (λ t. IsFalse (opens slot t)) (filter_map report_in es) → Happens k limits es old new os
       → Tracks k config old.slots slot ps out → Tracks k config new.slots slot (ps ++ pieces slot es) (out ++ bytes_for slot os)
   tracks slot [] old new os ps out once h x =
       stays k config old.slots new.slots slot ps _ out _ (ap (λ (s : Server S). get_or s.slots slot None) h.0) refl (ap (bytes_for slot) h.1) x
@@ -383,7 +387,7 @@ module _ {S : Type 0} (k : Keeping S) (config : Config) where
   pub fresh : IsServed config new_history
   fresh = record { answered = []; text = []; rest = []; serves = (refl, refl); interim = []; is_interim = inl refl; stands = (refl, refl, inl refl) }
 
-  comes : (t : ReportView) (old new : Server S) (os : List Order) → t.kind ≡ 1 → Does k config t old new os
+  comes : (t : ReportView) (old new : Server S) (os : List Order) → t.kind ≡ 1 → Does k limits t old new os
       → Tracks k config new.slots t.slot [] (bytes_for t.slot os)
   comes t old new os is (opened kind opening same o) =
       let none : [] ≡ bytes_for t.slot os = sym (ap (bytes_for t.slot) o ∙ own_order t.slot _ refl) in
@@ -403,8 +407,8 @@ module _ {S : Type 0} (k : Keeping S) (config : Config) where
   comes t old new os is (sent kind order goes o) = absurd (let wrong = sym kind ∙ is in cc)
 
 pub orders_answer : {S : Type 0} (k : Keeping S) → OrdersAnswerWhatCame k
-orders_answer k config t es old new os is once h =
-    let came = comes k config t (server old.slots h.3.ready) h.0 h.1 is h.3.does in
-    let x = tracks k config t.slot es h.0 new h.2 [] (bytes_for t.slot h.1) once h.4 came in
-    subst (AreAnswersTo k config (stream_of (pieces t.slot es))) (sym (ap (bytes_for t.slot) h.5 ∙ bytes_for_all k config t.slot h.1 h.2))
-    (answers_of k config new.slots t.slot (pieces t.slot es) (bytes_for t.slot h.1 ++ bytes_for t.slot h.2) x)
+orders_answer k limits t es old new os is once h =
+    let came = comes k limits t (server old.slots h.3.ready) h.0 h.1 is h.3.does in
+    let x = tracks k limits t.slot es h.0 new h.2 [] (bytes_for t.slot h.1) once h.4 came in
+    subst (AreAnswersTo k limits.connection (stream_of (pieces t.slot es))) (sym (ap (bytes_for t.slot) h.5 ∙ bytes_for_all k limits t.slot h.1 h.2))
+    (answers_of k limits.connection new.slots t.slot (pieces t.slot es) (bytes_for t.slot h.1 ++ bytes_for t.slot h.2) x)

@@ -6,7 +6,7 @@ use Rattle.std.proofs.lemmas.List.Concat.{flat_map-append}
 use Rattle.std.proofs.lemmas.List.Elements.{All-append, All-cons, All-nil}
 use Rattle.std.proofs.Math.Seq.{drop-append_seam}
 use Rattle.std.specs.List.{flat_map}
-use Rattle.dav_wire.specs.declared.state.Config.{Config}
+use Rattle.dav_turns.specs.declared.config.TurnsConfig.{TurnsConfig}
 use Rattle.dav_turns.specs.Connections.{ConnectionView, Slots}
 use Rattle.dav_turns.specs.Frames.{Order, ReportView, IsReport, BeginsWith, ReadsReports, order_bytes, report_bytes}
 use Rattle.dav_turns.specs.Turns.{Keeping, Server, Heard, HeardAll, IsIn, slot_after, orders_after}
@@ -68,7 +68,7 @@ reads_on bytes rest after ts t reads begins is =
           ∙ ap (λ b. b ++ after) (ap (λ b. flat_map report_bytes ts ++ b) (sym (append-nil (report_bytes t))) ∙ sym (flat_map-append report_bytes ts (t ∷ [])));
     }
 
-module _ {S : Type 0} (k : Keeping S) (config : Config) where
+module _ {S : Type 0} (k : Keeping S) (config : TurnsConfig) where
   pub hears_on : (ts : List ReportView) (t : ReportView) (old mid new : Server S) (xs ys : List Order)
       → HeardAll k config ts old mid xs → Heard k config t mid new ys → HeardAll k config (ts ++ t ∷ []) old new (xs ++ ys)
   hears_on [] t old mid new xs ys was h = (

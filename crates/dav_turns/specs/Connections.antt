@@ -2,6 +2,7 @@
 use Rattle.std.specs.Prelude.{ℕ, List, Option}
 use Rattle.dav_wire.specs.declared.state.Config.{Config}
 use Rattle.dav_wire.specs.History.{History}
+use Rattle.dav_turns.specs.declared.config.TurnsConfig.{TurnsConfig}
 
 -- a connection: its limits, the address that it came from, and what it has done
 pub record ConnectionView : Type 0 where
@@ -13,7 +14,7 @@ pub record ConnectionView : Type 0 where
 abbrev pub Slots : Type 0
 Slots = List (Option ConnectionView)
 
--- the limits of new connections, and the connections
+-- the limits of the connections, and the connections
 pub record TurnsView : Type 0 where
-  pub config : Config
+  pub config : TurnsConfig
   pub slots : Slots

@@ -1,14 +1,15 @@
 -- What the contracts of turns mean for the client of a slot, over any number of turns.
-use Rattle.std.specs.Prelude.{◌≡◌, ℕ, ◌&&◌, ◌==◌, Bool, List, [], ◌∷◌, ◌++◌, map, length, Option, Some, None, IsFalse}
+use Rattle.std.specs.Prelude.{◌≡◌, ℕ, ◌≤◌, ◌&&◌, ◌==◌, Bool, List, [], ◌∷◌, ◌++◌, map, length, Option, Some, None, IsFalse}
 use Rattle.std.specs.List.{All, before_first, filter, filter_map, flat_map}
 use Rattle.dav_wire.specs.declared.state.Config.{Config}
 use Rattle.dav_wire.specs.Exchange.{Call, Judgement}
 use Rattle.dav_wire.specs.declared.state.State.TheVariants.{Open}
 use Rattle.dav_wire.specs.History.{History, IsServed, AreAllCalled}
+use Rattle.dav_turns.specs.declared.config.TurnsConfig.{TurnsConfig}
 use Rattle.dav_turns.specs.declared.frames.TheConstants.{OPENED, GOT, READ}
 use Rattle.dav_turns.specs.Connections.{ConnectionView, TurnsView}
 use Rattle.dav_turns.specs.Frames.{Order, ReportView, BeginsWith, IsPart, IsTooLong, ReadsReports}
-use Rattle.dav_turns.specs.Turns.{Keeping, Server, server, Heard, GoesOn, IsIn, Turn}
+use Rattle.dav_turns.specs.Turns.{Keeping, Server, server, Heard, GoesOn, IsIn, Turn, held_by, new_turns}
 
 -- what happens to a server: a report is heard, or a turn ends, and what was answered is kept
 pub data Event : Type 0 where
@@ -21,7 +22,7 @@ report_in (report t) = Some t
 report_in commit = None
 
 -- events, one after another, and the orders for them in the same order
-abbrev pub Happens : {S : Type 0} → Keeping S → Config → List Event → Server S → Server S
+abbrev pub Happens : {S : Type 0} → Keeping S → TurnsConfig → List Event → Server S → Server S
     → List Order → Type 0
 Happens k config [] old new orders = (new ≡ old) × (orders ≡ [])
 Happens {S} k config (report t ∷ events) old new orders =
@@ -41,7 +42,7 @@ pub record TurnsHappen {S : Type 0} (k : Keeping S) : Type 0 where
       → (reports : List ReportView) × (rest : List ℕ) × ReadsReports input reports rest
       × IsPart rest × Happens k old.config (turn_events reports) (server old.slots was)
       (server new.slots now) orders
-  pub join : (config : Config) (xs ys : List Event) (old mid new : Server S)
+  pub join : (config : TurnsConfig) (xs ys : List Event) (old mid new : Server S)
       (first later : List Order) → Happens k config xs old mid first
       → Happens k config ys mid new later → Happens k config (xs ++ ys) old new (first ++ later)
 
@@ -103,11 +104,11 @@ pub record AreAnswersTo {S : Type 0} (k : Keeping S) (config : Config) (came out
 -- whatever turns.
 abbrev pub OrdersAnswerWhatCame : {S : Type 0} → Keeping S → Type 0
 OrdersAnswerWhatCame {S} k =
-    (config : Config) (opening : ReportView) (events : List Event) (old new : Server S)
+    (config : TurnsConfig) (opening : ReportView) (events : List Event) (old new : Server S)
     (orders : List Order) → opening.kind ≡ OPENED
     → All (λ t. IsFalse (opens opening.slot t)) (filter_map report_in events)
     → Happens k config (report opening ∷ events) old new orders
-    → AreAnswersTo k config (stream_of (pieces opening.slot events)) (bytes_for opening.slot orders)
+    → AreAnswersTo k config.connection (stream_of (pieces opening.slot events)) (bytes_for opening.slot orders)
 
 -- an open connection that has nothing to send, has handed over each whole request that came, and
 -- waits for input that goes on
@@ -121,9 +122,19 @@ pub record IsAtRest (connection : ConnectionView) : Type 0 where
 -- an answer that no report will bring.
 abbrev pub ReadsOnlyAtRest : {S : Type 0} → Keeping S → Type 0
 ReadsOnlyAtRest {S} k =
-    (slot : ℕ) (bytes : Option (List ℕ)) (old new : Server S) (order : Order)
-    → GoesOn k slot bytes old new order → order.next ≡ READ
+    (room slot : ℕ) (bytes : Option (List ℕ)) (old new : Server S) (order : Order)
+    → GoesOn k room slot bytes old new order → order.next ≡ READ
     → (connection : ConnectionView) × IsIn new.slots slot connection × IsAtRest connection
+
+-- ---- bodies
+
+-- Of new turns nothing takes room. And whatever happens, in whatever turns, to connections whose bodies
+-- take no more room together than the most: what they take after that is no more either.
+pub record BodiesFit {S : Type 0} (k : Keeping S) : Type 0 where
+  pub first : (config : TurnsConfig) → held_by (new_turns config).slots ≡ 0
+  pub always : (config : TurnsConfig) (events : List Event) (old new : Server S) (orders : List Order)
+      → held_by old.slots ≤ config.max_waiting → Happens k config events old new orders
+      → held_by new.slots ≤ config.max_waiting
 
 -- ---- reports
 

@@ -1,13 +1,16 @@
 -- What a report does to the connections and to what answers their requests, and what a turn does.
-use Rattle.std.specs.Prelude.{◌≡◌, ◌≢◌, ℕ, ◌+◌, ◌<◌, ◌⊎◌, ◌||◌, nat_lt, List, [], ◌∷◌, ◌++◌, length, take, set, get_or, replicate, Option, Some, None, if◌then◌else◌, ◌==◌}
-use Rattle.std.specs.List.{flat_map}
+use Rattle.std.specs.Prelude.{◌≡◌, ◌≢◌, ℕ, ◌+◌, ◌-◌, ◌<◌, ◌≤◌, ◌⊎◌, ◌||◌, nat_lt, List, [], ◌∷◌, ◌++◌, length, take, set, get_or, replicate, Option, Some, None, if◌then◌else◌, ◌==◌}
+use Rattle.std.specs.List.{flat_map, sum_by}
 use Rattle.http_server.specs.declared.response.Response.{Response}
 use Rattle.dav_wire.specs.declared.answer.Asked.{Asked}
 use Rattle.dav_wire.specs.declared.answer.Rejection.{Rejection}
 use Rattle.dav_wire.specs.declared.state.Config.{Config}
 use Rattle.dav_wire.specs.declared.state.State.{State}
 use Rattle.dav_wire.specs.declared.state.State.TheVariants.{Open, Closing, Aborted}
-use Rattle.dav_wire.specs.History.{Acts, History, IsServed, IsQuiet, Rests, new_history, after_taken, after_sent}
+use Rattle.dav_wire.specs.declared.state.Reason.TheVariants.{Refused}
+use Rattle.dav_wire.specs.declared.state.Refusal.TheVariants.{NoRoom}
+use Rattle.dav_wire.specs.History.{Acts, History, IsServed, IsQuiet, Rests, held, new_history, after_taken, after_sent}
+use Rattle.dav_turns.specs.declared.config.TurnsConfig.{TurnsConfig}
 use Rattle.dav_turns.specs.declared.frames.TheConstants.{HELLO, OPENED, GOT, SENT, GONE, TICK, USERS, TELL, READ, CLOSE}
 use Rattle.dav_turns.specs.Connections.{ConnectionView, Slots, TurnsView}
 use Rattle.dav_turns.specs.Frames.{Order, ReportView, BeginsWith, IsPart, IsTooLong, ReadsReports, order_bytes}
@@ -48,8 +51,9 @@ after_hearing (Some bytes) h = after_taken h bytes
 
 -- The keeper takes the address of the connection, and then judges the heads and answers the requests
 -- that came whole, each once and in order. The connection takes what was heard and no more, sends nothing, and
--- leaves no work.
-pub record Advances {S : Type 0} (k : Keeping S) (bytes : Option (List ℕ)) (old : ConnectionView)
+-- leaves no work. There is room for so many bytes of a body: it holds no more than that, and a request
+-- that is refused for want of room is refused for that room.
+pub record Advances {S : Type 0} (k : Keeping S) (room : ℕ) (bytes : Option (List ℕ)) (old : ConnectionView)
     (was : S) (new : ConnectionView) (now : S) : Type 0 where
   pub ready : S
   pub placed : k.placed was old.address ready
@@ -60,6 +64,9 @@ pub record Advances {S : Type 0} (k : Keeping S) (bytes : Option (List ℕ)) (ol
   pub settled : (after_hearing bytes old.history).state ≢ Open
       → new.history ≡ after_hearing bytes old.history
   pub alive : new.history.state ≢ Aborted
+  pub fits : held old.history ≤ room → held new.history ≤ room
+  pub told : (told : ℕ) → (after_hearing bytes old.history).state ≡ Open
+      → new.history.state ≡ Closing (Refused (NoRoom told)) → told ≡ room
 
 -- whether to read on, or to close
 abbrev pub next_in : State → ℕ
@@ -98,6 +105,24 @@ pub record IsFree (slots : Slots) (slot : ℕ) : Type 0 where
   pub within : slot < length slots
   pub is : get_or slots slot None ≡ None
 
+-- how much room the connection in a slot takes for the body that is being read there
+abbrev pub held_in : Option ConnectionView → ℕ
+held_in None = 0
+held_in (Some connection) = held connection.history
+
+-- how much room all take together
+abbrev pub held_by : Slots → ℕ
+held_by slots = sum_by held_in slots
+
+-- the room for a body on the connection in this slot: what the others leave of the most
+abbrev pub room_for : TurnsConfig → ℕ → Slots → ℕ
+room_for config slot slots = config.max_waiting - held_by (set slots slot None)
+
+-- the count is how much room all take together, and that is no more than the most
+pub record Counts (config : TurnsConfig) (count : ℕ) (slots : Slots) : Type 0 where
+  pub counted : count ≡ held_by slots
+  pub fits : count ≤ config.max_waiting
+
 -- a connection on which nothing came yet
 abbrev pub new_connection : Config → List ℕ → ConnectionView
 new_connection config address = record { config = config; address = address; history = new_history }
@@ -116,9 +141,9 @@ abbrev pub server : {S : Type 0} → Slots → S → Server S
 server slots keeper = record { slots = slots; keeper = keeper }
 
 -- A connection came to a free slot, from this address. The order is to read from it.
-pub record Opens (config : Config) (slot : ℕ) (address : List ℕ) (old new : Slots) : Type 0 where
+pub record Opens (config : TurnsConfig) (slot : ℕ) (address : List ℕ) (old new : Slots) : Type 0 where
   pub free : IsFree old slot
-  pub slots : new ≡ set old slot (Some (new_connection config address))
+  pub slots : new ≡ set old slot (Some (new_connection config.connection address))
 
 -- the connection in the slot is gone
 pub record Ends (slot : ℕ) (old new : Slots) : Type 0 where
@@ -128,12 +153,12 @@ pub record Ends (slot : ℕ) (old new : Slots) : Type 0 where
 
 -- The connection in the slot goes on, and what is ordered for that slot is the front of its own
 -- answers.
-pub record GoesOn {S : Type 0} (k : Keeping S) (slot : ℕ) (bytes : Option (List ℕ))
+pub record GoesOn {S : Type 0} (k : Keeping S) (room slot : ℕ) (bytes : Option (List ℕ))
     (old new : Server S) (order : Order) : Type 0 where
   pub was : ConnectionView
   pub is_in : IsIn old.slots slot was
   pub mid : ConnectionView
-  pub advances : Advances k bytes was old.keeper mid new.keeper
+  pub advances : Advances k room bytes was old.keeper mid new.keeper
   pub after : ConnectionView
   pub hands : HandsOut mid after order.next order.bytes
   pub slot_is : order.slot ≡ slot
@@ -146,16 +171,16 @@ abbrev pub IsStill : {S : Type 0} → Server S → Server S → List Order → T
 IsStill old new orders = (new.slots ≡ old.slots) × (orders ≡ [])
 
 -- what a report does, after its moment has passed
-pub data Does {S : Type 0} (k : Keeping S) (config : Config) (t : ReportView) (old new : Server S)
+pub data Does {S : Type 0} (k : Keeping S) (config : TurnsConfig) (t : ReportView) (old new : Server S)
     (orders : List Order) : Type 0 where
   hello : t.kind ≡ HELLO → k.greeted old.keeper t.bytes new.keeper → IsStill old new orders
       → Does k config t old new orders
   opened : t.kind ≡ OPENED → Opens config t.slot t.bytes old.slots new.slots
       → new.keeper ≡ old.keeper → orders ≡ record { slot = t.slot; next = READ; bytes = [] } ∷ []
       → Does k config t old new orders
-  got : t.kind ≡ GOT → (order : Order) → GoesOn k t.slot (Some t.bytes) old new order
+  got : t.kind ≡ GOT → (order : Order) → GoesOn k (room_for config t.slot old.slots) t.slot (Some t.bytes) old new order
       → orders ≡ order ∷ [] → Does k config t old new orders
-  sent : t.kind ≡ SENT → (order : Order) → GoesOn k t.slot None old new order → orders ≡ order ∷ []
+  sent : t.kind ≡ SENT → (order : Order) → GoesOn k (room_for config t.slot old.slots) t.slot None old new order → orders ≡ order ∷ []
       → Does k config t old new orders
   gone : t.kind ≡ GONE → Ends t.slot old.slots new.slots → new.keeper ≡ old.keeper → orders ≡ []
       → Does k config t old new orders
@@ -165,14 +190,14 @@ pub data Does {S : Type 0} (k : Keeping S) (config : Config) (t : ReportView) (o
       → Does k config t old new orders
 
 -- a report: its moment passes, and then it does what its kind says
-pub record Heard {S : Type 0} (k : Keeping S) (config : Config) (t : ReportView)
+pub record Heard {S : Type 0} (k : Keeping S) (config : TurnsConfig) (t : ReportView)
     (old new : Server S) (orders : List Order) : Type 0 where
   pub ready : S
   pub passes : k.passed old.keeper t.seconds ready
   pub does : Does k config t (server old.slots ready) new orders
 
 -- reports, one after another, each once, and the orders for them in the same order
-abbrev pub HeardAll : {S : Type 0} → Keeping S → Config → List ReportView → Server S → Server S
+abbrev pub HeardAll : {S : Type 0} → Keeping S → TurnsConfig → List ReportView → Server S → Server S
     → List Order → Type 0
 HeardAll k config [] old new orders = (new ≡ old) × (orders ≡ [])
 HeardAll {S} k config (t ∷ ts) old new orders =
@@ -190,7 +215,7 @@ pub data IsMisplaced (slots : Slots) (t : ReportView) : Type 0 where
 
 -- The first bytes, so many, are reports that were heard one after another; at most a part of
 -- another one follows.
-pub record HearsAll {S : Type 0} (k : Keeping S) (config : Config) (input : List ℕ) (used : ℕ)
+pub record HearsAll {S : Type 0} (k : Keeping S) (config : TurnsConfig) (input : List ℕ) (used : ℕ)
     (old new : Server S) (orders : List Order) : Type 0 where
   pub reports : List ReportView
   pub rest : List ℕ
@@ -201,7 +226,7 @@ pub record HearsAll {S : Type 0} (k : Keeping S) (config : Config) (input : List
 
 -- The first bytes are reports that were heard one after another; after them there is no report, or
 -- one that doesn't fit.
-pub record IsBroken {S : Type 0} (k : Keeping S) (config : Config) (input : List ℕ)
+pub record IsBroken {S : Type 0} (k : Keeping S) (config : TurnsConfig) (input : List ℕ)
     (old : Server S) : Type 0 where
   pub reports : List ReportView
   pub rest : List ℕ
@@ -225,5 +250,5 @@ abbrev pub orders_after : List ℕ → List Order → List ℕ
 orders_after before orders = before ++ flat_map order_bytes orders
 
 -- 512 free slots
-abbrev pub new_turns : Config → TurnsView
+abbrev pub new_turns : TurnsConfig → TurnsView
 new_turns config = record { config = config; slots = replicate 512 None }

@@ -1,7 +1,7 @@
 //! A connection in its slot.
 ghost use Rattle.std.specs.Prelude.{◌≡◌, ◌++◌, ◌≤◌, List, ℕ, IfOk, OnOk, length, take};
 ghost use Rattle.std.specs.Option.{option_copied};
-ghost use Rattle.dav_wire.specs.History.{after_sent};
+ghost use Rattle.dav_wire.specs.History.{after_sent, held};
 ghost use Rattle.dav_wire.specs.Peer.{config_of, history};
 ghost use Rattle.dav_turns.specs.Frames.{order_bytes};
 ghost use Rattle.dav_turns.specs.Turns.{keeping, Advances, HandsOut, next_after, new_connection};
@@ -44,17 +44,30 @@ impl Connection {
         })
     }
 
-    /// Takes what came, where something did, and has the requests answered that came whole.
-    pub fn advance<K: Keeper>(&mut self, keeper: &mut K, bytes: Option<&[u8]>) -> Result<(), Stop>
+    /// Takes what came, where something did, and has the requests answered that came whole; there
+    /// is room for so many bytes of a body.
+    pub fn advance<K: Keeper>(
+        &mut self,
+        keeper: &mut K,
+        bytes: Option<&[u8]>,
+        room: usize,
+    ) -> Result<(), Stop>
         ensures { OnOk result (Advances
             (keeping K.judges K.answers K.greeted K.listed K.placed K.passed K.marked K.kept)
-            (option_copied bytes.entry) self.old keeper.old self.new keeper.new) }
+            room (option_copied bytes.entry) self.old keeper.old self.new keeper.new) }
     {
         keeper.hear_address(&self.address)?;
         if let Some(bytes) = bytes {
             self.peer.take(bytes)?;
         }
-        self.peer.advance(keeper)
+        self.peer.advance(keeper, room)
+    }
+
+    /// For how many bytes of the body that is being read there has to be room.
+    pub fn held(&self) -> usize
+        ensures { result ≡ held self.now.history }
+    {
+        self.peer.held()
     }
 
     /// Orders the front to send what waits, and answers what it is to do then.

@@ -1,5 +1,5 @@
 //! Laws of turns. Each function does nothing: its contract is a theorem on the definitions.
-ghost use Rattle.dav_turns.specs.Laws.{OrdersAnswerWhatCame, ReadsOnlyAtRest, ReportsHaveOneReading, TurnsHappen};
+ghost use Rattle.dav_turns.specs.Laws.{BodiesFit, OrdersAnswerWhatCame, ReadsOnlyAtRest, ReportsHaveOneReading, TurnsHappen};
 ghost use Rattle.dav_turns.specs.Turns.{keeping};
 
 use crate::keeper::Keeper;
@@ -17,6 +17,12 @@ pub fn orders_answer_what_came<K: Keeper>()
 /// sent.
 pub fn reads_are_at_rest<K: Keeper>()
     ensures { ReadsOnlyAtRest
+        (keeping K.judges K.answers K.greeted K.listed K.placed K.passed K.marked K.kept) }
+{}
+
+/// The bodies that are being read never have, all together, more bytes than they may.
+pub fn bodies_fit<K: Keeper>()
+    ensures { BodiesFit
         (keeping K.judges K.answers K.greeted K.listed K.placed K.passed K.marked K.kept) }
 {}
 

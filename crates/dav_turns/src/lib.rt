@@ -5,6 +5,7 @@
 //! of its slot, and nothing is released before all that was answered is kept.
 #![tactic(auto)]
 
+mod config;
 mod connection;
 mod frames;
 mod keeper;
@@ -14,6 +15,7 @@ mod table;
 mod tests;
 mod turns;
 
+pub use config::TurnsConfig;
 pub use keeper::{Keeper, TurnError};
-pub use laws::{orders_answer_what_came, reads_are_at_rest, reports_have_one_reading};
+pub use laws::{bodies_fit, orders_answer_what_came, reads_are_at_rest, reports_have_one_reading};
 pub use turns::Turns;

@@ -3,15 +3,15 @@ ghost use Rattle.std.specs.Prelude.{◌≡◌, ◌++◌, ◌<◌, ◌≢◌, Lis
 ghost use Rattle.std.specs.Option.{option_copied};
 ghost use Rattle.dav_turns.specs.declared.keeper.TurnError.TheVariants.{Pipe};
 ghost use Rattle.dav_turns.specs.Frames.{Order, report_view, order_bytes};
-ghost use Rattle.dav_turns.specs.Turns.{keeping, server, Opens, Ends, GoesOn, Heard, HearsAll, IsEmpty, IsFree, IsMisplaced, IsBroken, orders_after, new_turns};
+ghost use Rattle.dav_turns.specs.Turns.{keeping, server, Counts, Opens, Ends, GoesOn, Heard, HearsAll, IsEmpty, IsFree, IsMisplaced, IsBroken, orders_after, new_turns, room_for};
 
+use crate::config::TurnsConfig;
 use crate::connection::Connection;
 use crate::frames::{
     CLOSE, GONE, GOT, HEAD, HELLO, Next, OPENED, READ, Report, SENT, TICK, USERS, add_order,
     next_in,
 };
 use crate::keeper::{Keeper, TurnError};
-use dav_wire::Config;
 use std::alloc::{AllocError, Global};
 
 /// At most so many connections are open.
@@ -21,15 +21,18 @@ const MOST_SLOTS: usize = 512;
 #[derive(Drop)]
 pub struct Table {
     alloc: Global,
-    pub config: Config,
+    pub config: TurnsConfig,
     pub slots: Vec<Option<Connection>>,
+    /// For how many bytes of the bodies that are being read there has to be room.
+    pub waiting: usize,
 }
 
 impl Table {
     /// No connection in each slot.
-    pub fn new(alloc: Global, config: Config) -> Result<Table, AllocError>
+    pub fn new(alloc: Global, config: TurnsConfig) -> Result<Table, AllocError>
         ensures config { IfOk result (λ t. t.config ≡ config) }
         ensures slots { IfOk result (λ t. t.slots.items ≡ (new_turns config).slots) }
+        ensures counts { IfOk result (λ t. Counts t.config t.waiting t.slots.items) }
     {
         let mut slots = Vec::new(alloc);
         for _ in 0..MOST_SLOTS {
@@ -39,6 +42,7 @@ impl Table {
             alloc,
             config,
             slots,
+            waiting: 0,
         })
     }
 
@@ -49,6 +53,7 @@ impl Table {
         reports: &[u8],
         orders: &mut Vec<u8>,
     ) -> Result<usize, TurnError>
+        requires { Counts self.old.config self.old.waiting self.old.slots.items }
         ensures hears { IfOk result (λ used. (ordered : List Order) × HearsAll
             (keeping K.judges K.answers K.greeted K.listed K.placed K.passed K.marked K.kept)
             self.old.config reports.now used (server self.old.slots.items keeper.old)
@@ -58,6 +63,7 @@ impl Table {
             (keeping K.judges K.answers K.greeted K.listed K.placed K.passed K.marked K.kept)
             self.old.config reports.now (server self.old.slots.items keeper.old) }
         ensures config { self.new.config ≡ self.old.config }
+        ensures counts { Counts self.new.config self.new.waiting self.new.slots.items }
     {
         let mut rest = reports;
         loop {
@@ -79,6 +85,7 @@ impl Table {
         report: &Report<'_>,
         orders: &mut Vec<u8>,
     ) -> Result<(), TurnError>
+        requires { Counts self.old.config self.old.waiting self.old.slots.items }
         ensures heard { OnOk result ((ordered : List Order) × Heard
             (keeping K.judges K.answers K.greeted K.listed K.placed K.passed K.marked K.kept)
             self.old.config (report_view report.now) (server self.old.slots.items keeper.old)
@@ -87,6 +94,7 @@ impl Table {
         ensures pipe { result ≡ Err Pipe
             → IsMisplaced self.old.slots.items (report_view report.now) }
         ensures config { self.new.config ≡ self.old.config }
+        ensures counts { Counts self.new.config self.new.waiting self.new.slots.items }
     {
         keeper.hear_moment(report.seconds)?;
         let bytes = report.bytes;
@@ -107,35 +115,40 @@ impl Table {
 
     // A connection came from this address.
     fn open(&mut self, slot: u32, address: &[u8], orders: &mut Vec<u8>) -> Result<(), TurnError>
+        requires { Counts self.old.config self.old.waiting self.old.slots.items }
         ensures opens { OnOk result
             (Opens self.old.config slot address.now self.old.slots.items self.new.slots.items) }
         ensures orders { OnOk result (orders.new.items ≡ orders.old.items
             ++ order_bytes (record { slot = slot; next = READ; bytes = [] })) }
         ensures pipe { result ≡ Err Pipe → IsFree self.old.slots.items slot → ⊥ }
         ensures config { self.new.config ≡ self.old.config }
+        ensures counts { Counts self.new.config self.new.waiting self.new.slots.items }
     {
         let at = slot as usize;
         if at >= self.slots.len() || is_taken(&self.slots[at]) {
             return Err(TurnError::Pipe);
         }
-        let connection = Connection::new(self.alloc, self.config, address)?;
+        let connection = Connection::new(self.alloc, self.config.connection, address)?;
         self.slots[at] = Some(connection);
         Ok(add_order(orders, slot, READ, &[])?)
     }
 
     // A connection is gone.
     fn end(&mut self, slot: u32) -> Result<(), TurnError>
+        requires { Counts self.old.config self.old.waiting self.old.slots.items }
         ensures ends { OnOk result (Ends slot self.old.slots.items self.new.slots.items) }
         ensures pipe { result ≡ Err Pipe → IsEmpty self.old.slots.items slot }
         ensures config { self.new.config ≡ self.old.config }
+        ensures counts { Counts self.new.config self.new.waiting self.new.slots.items }
     {
         let at = slot as usize;
         if at >= self.slots.len() {
             return Err(TurnError::Pipe);
         }
-        let Some(_gone) = self.slots[at].take() else {
+        let Some(gone) = self.slots[at].take() else {
             return Err(TurnError::Pipe);
         };
+        self.waiting -= gone.held();
         Ok(())
     }
 
@@ -147,13 +160,16 @@ impl Table {
         bytes: Option<&[u8]>,
         orders: &mut Vec<u8>,
     ) -> Result<(), TurnError>
+        requires { Counts self.old.config self.old.waiting self.old.slots.items }
         ensures goes { OnOk result ((order : Order) × GoesOn
             (keeping K.judges K.answers K.greeted K.listed K.placed K.passed K.marked K.kept)
-            slot (option_copied bytes.entry) (server self.old.slots.items keeper.old)
+            (room_for self.old.config slot self.old.slots.items) slot
+            (option_copied bytes.entry) (server self.old.slots.items keeper.old)
             (server self.new.slots.items keeper.new) order
             × (orders.new.items ≡ orders.old.items ++ order_bytes order)) }
         ensures pipe { result ≡ Err Pipe → IsEmpty self.old.slots.items slot }
         ensures config { self.new.config ≡ self.old.config }
+        ensures counts { Counts self.new.config self.new.waiting self.new.slots.items }
     {
         let at = slot as usize;
         if at >= self.slots.len() {
@@ -162,9 +178,12 @@ impl Table {
         let Some(mut connection) = self.slots[at].take() else {
             return Err(TurnError::Pipe);
         };
-        connection.advance(keeper, bytes)?;
+        self.waiting -= connection.held();
+        let room = self.config.max_waiting - self.waiting;
+        connection.advance(keeper, bytes, room)?;
         let next = connection.hand_out(slot, orders)?;
         if next != CLOSE {
+            self.waiting += connection.held();
             self.slots[at] = Some(connection);
         }
         Ok(())

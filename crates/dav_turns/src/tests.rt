@@ -3,7 +3,7 @@
 use crate::frames::{
     CLOSE, GONE, GOT, HELLO, Next, OPENED, READ, SENT, TELL, TICK, USERS, next_in,
 };
-use crate::{Keeper, TurnError, Turns};
+use crate::{Keeper, TurnError, Turns, TurnsConfig};
 use dav_wire::{Answerer, Asked, Config, Rejection, Stop};
 use http_server::Response;
 use http1::Limits;
@@ -55,6 +55,18 @@ opened 2 5 a ; got 2 6 PUT /x HTTP/1.1^Host: h^Content-Length: 20^^0123456789012
 opened 2 5 a ; got 2 6 PUT /no HTTP/1.1^Host: h^Content-Length: 20^^ -> at 5, at 6, from a, no PUT /no, commit -> 2 read  ; 2 close HTTP/1.1 403 Forbidden^connection: close^content-length: 0^^
 opened 2 5 a ; got 2 6 PUT /x HTTP/1.1^Host: h^Content-Length: 2^^hiPUT /no HTTP/1.1^Host: h^^GET /y HTTP/1.1^Host: h^^ -> at 5, at 6, from a, PUT /x, no PUT /no, commit -> 2 read  ; 2 tell HTTP/1.1 200 OK^content-length: 9^^PUT /x|hiHTTP/1.1 403 Forbidden^connection: close^content-length: 0^^
 
+# bodies that wait: at most 48 bytes of all (RFC 9110, sections 10.2.3 and 15.6.4)
+opened 2 5 a ; opened 3 5 b ; got 2 6 PUT /x HTTP/1.1^Host: h^Content-Length: 30^^ ; got 3 6 PUT /y HTTP/1.1^Host: h^Content-Length: 18^^ ; got 2 7 012345678901234567890123456789 ; got 3 7 012345678901234567 -> at 5, at 5, at 6, from a, at 6, from b, at 7, from a, PUT /x, at 7, from b, PUT /y, commit -> 2 read  ; 3 read  ; 2 read  ; 3 read  ; 2 tell HTTP/1.1 200 OK^content-length: 37^^PUT /x|012345678901234567890123456789 ; 3 read HTTP/1.1 200 OK^content-length: 25^^PUT /y|012345678901234567
+opened 2 5 a ; opened 3 5 b ; got 2 6 PUT /x HTTP/1.1^Host: h^Content-Length: 30^^ ; got 3 6 PUT /y HTTP/1.1^Host: h^Content-Length: 19^^ -> at 5, at 5, at 6, from a, at 6, from b, commit -> 2 read  ; 3 read  ; 2 read  ; 3 tell HTTP/1.1 503 Service Unavailable^retry-after: 1^connection: close^content-length: 0^^
+opened 2 5 a ; opened 3 5 b ; got 2 6 PUT /x HTTP/1.1^Host: h^Content-Length: 30^^ ; got 3 6 PUT /y HTTP/1.1^Host: h^Expect: 100-continue^Content-Length: 19^^ -> at 5, at 5, at 6, from a, at 6, from b, commit -> 2 read  ; 3 read  ; 2 read  ; 3 tell HTTP/1.1 503 Service Unavailable^retry-after: 1^connection: close^content-length: 0^^
+opened 2 5 a ; opened 3 5 b ; got 2 6 PUT /x HTTP/1.1^Host: h^Content-Length: 30^^ ; got 3 6 PUT /y HTTP/1.1^Host: h^Content-Length: 18^^ ; opened 4 6 c ; got 4 6 GET /z HTTP/1.1^Host: h^^ -> at 5, at 5, at 6, from a, at 6, from b, at 6, at 6, from c, GET /z, commit -> 2 read  ; 3 read  ; 2 read  ; 3 read  ; 4 read  ; 4 read HTTP/1.1 200 OK^content-length: 7^^GET /z|
+opened 2 5 a ; opened 3 5 b ; got 2 6 PUT /x HTTP/1.1^Host: h^Content-Length: 20^^01234567890123456789 ; got 3 6 PUT /y HTTP/1.1^Host: h^Content-Length: 32^^ -> at 5, at 5, at 6, from a, PUT /x, at 6, from b, commit -> 2 read  ; 3 read  ; 2 tell HTTP/1.1 200 OK^content-length: 27^^PUT /x|01234567890123456789 ; 3 read 
+opened 2 5 a ; got 2 6 PUT /x HTTP/1.1^Host: h^Content-Length: 30^^ ; gone 2 6 ; opened 3 5 b ; got 3 6 PUT /y HTTP/1.1^Host: h^Content-Length: 32^^ -> at 5, at 6, from a, at 6, at 5, at 6, from b, commit -> 2 read  ; 2 read  ; 3 read  ; 3 read 
+opened 2 5 a ; got 2 6 PUT /no HTTP/1.1^Host: h^Content-Length: 30^^ ; opened 3 5 b ; got 3 6 PUT /y HTTP/1.1^Host: h^Content-Length: 32^^ -> at 5, at 6, from a, no PUT /no, at 5, at 6, from b, commit -> 2 read  ; 2 close HTTP/1.1 403 Forbidden^connection: close^content-length: 0^^ ; 3 read  ; 3 read 
+opened 2 5 a ; opened 3 5 b ; got 2 6 PUT /x HTTP/1.1^Host: h^Content-Length: 30^^ ; got 3 6 PUT /y HTTP/1.1^Host: h^Transfer-Encoding: chunked^^a^0123456789^ ; got 3 7 8^01234567^0^^ -> at 5, at 5, at 6, from a, at 6, from b, at 7, from b, PUT /y, commit -> 2 read  ; 3 read  ; 2 read  ; 3 read  ; 3 read HTTP/1.1 200 OK^content-length: 25^^PUT /y|012345678901234567
+opened 2 5 a ; opened 3 5 b ; got 2 6 PUT /x HTTP/1.1^Host: h^Content-Length: 30^^ ; got 3 6 PUT /y HTTP/1.1^Host: h^Transfer-Encoding: chunked^^a^0123456789^ ; got 3 7 9^012345678^0^^ -> at 5, at 5, at 6, from a, at 6, from b, at 7, from b, commit -> 2 read  ; 3 read  ; 2 read  ; 3 read  ; 3 tell HTTP/1.1 503 Service Unavailable^retry-after: 1^connection: close^content-length: 0^^
+opened 2 5 a ; opened 3 5 b ; got 3 6 PUT /y HTTP/1.1^Host: h^Transfer-Encoding: chunked^^14^01234567890123456789^ ; got 2 6 PUT /x HTTP/1.1^Host: h^Content-Length: 29^^ -> at 5, at 5, at 6, from b, at 6, from a, commit -> 2 read  ; 3 read  ; 3 read  ; 2 tell HTTP/1.1 503 Service Unavailable^retry-after: 1^connection: close^content-length: 0^^
+
 # the end of a connection
 opened 2 5 a ; got 2 6 -> at 5, at 6, from a, commit -> 2 read  ; 2 close 
 opened 2 5 a ; got 2 6 GET /x HTTP/1.0^^ ; opened 2 7 b -> at 5, at 6, from a, GET /x, at 7, commit -> 2 read  ; 2 close HTTP/1.0 200 OK^content-length: 7^connection: close^^GET /x| ; 2 read 
@@ -80,7 +92,12 @@ users 0 5 none -> ! Memory
 opened 2 5 a ; got 2 6 PUT /stop HTTP/1.1^Host: h^Content-Length: 20^^ -> ! Disk
 ";
 
-const CONFIG: Config = Config {
+const CONFIG: TurnsConfig = TurnsConfig {
+    connection: CONNECTION,
+    max_waiting: 48,
+};
+
+const CONNECTION: Config = Config {
     limits: Limits {
         max_head_len: 128,
         max_extensions_len: 16,
@@ -350,7 +367,7 @@ fn turns_are_served(rt: HostRuntime) -> Result<(), Fail> {
         }
         count = count.saturating_add(1);
     }
-    assert!(rt; count == 32, "{count} rows");
+    assert!(rt; count == 42, "{count} rows");
     Ok(())
 }
 

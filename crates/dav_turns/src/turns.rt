@@ -1,14 +1,14 @@
 //! Turns: reports in, orders out.
-ghost use Rattle.std.specs.Prelude.{◌≡◌, ◌⊎◌, ℕ, List, IfOk};
+ghost use Rattle.std.specs.Prelude.{◌≡◌, ◌≤◌, ◌⊎◌, ℕ, List, IfOk};
 ghost use Rattle.std.specs.List.{flat_map};
 ghost use Rattle.std.specs.Io.KnownBytes.{Appends};
 ghost use Rattle.dav_turns.specs.declared.keeper.TurnError.TheVariants.{Pipe};
 ghost use Rattle.dav_turns.specs.Frames.{Order, order_bytes};
-ghost use Rattle.dav_turns.specs.Turns.{keeping, server, Turn, IsBroken, orders_after, new_turns};
+ghost use Rattle.dav_turns.specs.Turns.{keeping, server, Turn, IsBroken, held_by, orders_after, new_turns};
 
+use crate::config::TurnsConfig;
 use crate::keeper::{Keeper, TurnError};
 use crate::table::Table;
-use dav_wire::Config;
 use std::alloc::{AllocError, Global};
 use std::io::Write;
 use std::marker::Model;
@@ -25,16 +25,28 @@ impl Model for Turns {
     ghost Value = { TurnsView };
 
     ghost view = { λ t. record { config = t.table.config; slots = t.table.slots.items } };
+
+    ghost use Rattle.dav_turns.specs.Turns.{Counts};
+
+    ghost invariant = { λ t. Counts t.table.config t.table.waiting t.table.slots.items };
 }
 
 impl Turns {
     /// No connections, in 512 slots, with these limits for each that comes.
-    pub fn new(alloc: Global, config: Config) -> Result<Turns, AllocError>
+    pub fn new(alloc: Global, config: TurnsConfig) -> Result<Turns, AllocError>
         ensures { IfOk result (λ t. t ≡ new_turns config) }
     {
         Ok(Turns {
             table: Table::new(alloc, config)?,
         })
+    }
+
+    /// What is true of all turns: the bodies that are being read have, all together, at most so many
+    /// bytes as they may. It does nothing.
+    pub fn bodies_fit(&self)
+        ensures { held_by self.now.slots ≤ self.now.config.max_waiting }
+    {
+        let _ = &self.table;
     }
 
     /// Hears each whole report, and then has all that was answered kept. Each report that a

@@ -169,6 +169,17 @@ module _ {p : Place} {stream interim : List ℕ} (x : Begun p stream interim) wh
   pub too_long : p.most < length p.body → NextIs p.config.limits stream (λ m. most_of p.config m.head.method < length m.body.bytes)
   too_long over more m rest read = let f = finishes more m rest read in omega (arith, over, its_most f, its_len f)
 
+  pub no_room : (room : ℕ) → room < length p.body → NextIs p.config.limits stream (λ m. room < length m.body.bytes)
+  no_room room over more m rest read = let f = finishes more m rest read in omega (arith, over, its_len f)
+
+  pub no_room_ahead : (room len : ℕ) → unread_size (reading p.server) ≡ Known len → room < len
+      → NextIs p.config.limits stream (λ m. room < length m.body.bytes)
+  no_room_ahead room len known over more m rest read =
+      let f = finishes more m rest read in
+      let is = counts x.decoder (rw x.server at known) in
+      let size = (subst (λ d. Completes d (p.unread ++ more) f.left rest) is f.completes).0 in
+      omega (arith, over, size, its_len f)
+
   pub too_long_ahead : (len : ℕ) → unread_size (reading p.server) ≡ Known len → p.most < len
       → NextIs p.config.limits stream (λ m. most_of p.config m.head.method < length m.body.bytes)
   too_long_ahead len known over more m rest read =
@@ -178,19 +189,19 @@ module _ {p : Place} {stream interim : List ℕ} (x : Begun p stream interim) wh
       omega (arith, over, size, its_most f, its_len f)
 
 -- what a head states stays when more comes
-stated_more : {p : Place} {stream interim : List ℕ} (x : Begun p stream interim) (came : List ℕ) → IsStatedWithin p.config stream
-    → IsStatedWithin p.config (stream ++ came)
-stated_more {p} {stream} x came within h len after z =
+stated_more : {p : Place} {stream interim : List ℕ} (x : Begun p stream interim) (came : List ℕ) → IsStatedWithin p.config p.stated stream
+    → IsStatedWithin p.config p.stated (stream ++ came)
+stated_more {p} {stream} x came within h framing after z =
     let same = alone x came z in
     let accepts = subst (λ f. AcceptsRequest p.config.limits stream x.head f x.after) (sym same.1) x.accepts in
-    let fits = within x.head len x.after accepts in
-    omega (arith, fits, ap (λ (k : RequestHead). most_of p.config k.method) same.0)
+    let fits = within x.head framing x.after accepts in
+    (fits.0, omega (arith, fits.1, ap (λ (k : RequestHead). most_of p.config k.method) same.0))
 
 Standing-at : (b : Bool) (p : Place) (stream interim came : List ℕ) → StandsAt b p stream interim
     → StandsAt b (record p { unread = p.unread ++ came }) (stream ++ came) interim
 Standing-at true p stream interim came x = (begun_grows x.0 came, x.1, stated_more x.0 came x.2)
 Standing-at false p stream interim came x =
-    record { server = x.server; unread = ap (λ (t : List ℕ). t ++ came) x.unread; body = x.body; silent = x.silent }
+    record { server = x.server; unread = ap (λ (t : List ℕ). t ++ came) x.unread; body = x.body; stated = x.stated; silent = x.silent }
 
 pub Standing-append : (p : Place) (stream interim came : List ℕ) → Standing p stream interim
     → Standing (record p { unread = p.unread ++ came }) (stream ++ came) interim

@@ -15,7 +15,9 @@ use Rattle.http1.specs.declared.conn.Reading.TheVariants as Reads
 use Rattle.http1.specs.declared.error.ReadError.{ReadError}
 use Rattle.http1.specs.declared.server.Server.{Server}
 use Rattle.http1.specs.Body.{body_of}
-use Rattle.http1.specs.declared.conn.BodySize.TheVariants.{Known}
+use Rattle.http1.specs.declared.conn.Limits.{Limits}
+use Rattle.http1.specs.declared.framing.Framing.{Framing}
+use Rattle.http1.specs.declared.framing.Framing.TheVariants as Framed
 use Rattle.http1.specs.Conn.{ReadsPiece, unread_size}
 use Rattle.http1.specs.Decoder.{with_front, decoder_for}
 use Rattle.http1.specs.Framing.{method_kind}
@@ -30,8 +32,8 @@ use Rattle.http_server.proofs.StreamLemmas.{AcceptsRequest-append, accepts_uniqu
 use Rattle.dav_wire.specs.declared.answer.Asked.{Asked}
 use Rattle.dav_wire.specs.Exchange.{most_of}
 use Rattle.dav_wire.specs.History.{BeginsWithHead, HasWork}
-use Rattle.dav_wire.specs.Refusals.{IsStatedWithin}
-use Rattle.dav_wire.specs.Place.{Place, Begun, invitation, IsBetween, StandsAt, Standing, IsStarved, HasHead, HasPiece, HasEnd, IsWhole, IsHeadRead, judged_at, work}
+use Rattle.dav_wire.specs.Refusals.{IsStatedWithin, len_stated}
+use Rattle.dav_wire.specs.Place.{Place, Begun, invitation, IsBetween, StandsAt, Standing, IsStarved, HasHead, HasPiece, HasEnd, IsWhole, IsHeadRead, judged_at, known_len, work}
 use Rattle.dav_wire.proofs.Bodies.{ends_first, Begun-step, begun_some, finishes, ends_request, begun_invited, is_unfinished}
 
 -- ---- the head of a request that was begun
@@ -148,11 +150,13 @@ module _ (p : Place) (stream interim : List ℕ) (spans : List HeaderSpan) (new 
           server = none.1;
           unread = ap (λ n. drop n p.unread) none.0 ∙ x.unread;
           body = x.body;
+          stated = x.stated;
           silent = x.silent;
         });
         unfinished = λ m rest z. none.2 m.head z.after_head z.head.reads;
         invited = λ waits. absurd (none.2 waits.0 waits.2 waits.3.reads);
-        within = λ h len after z. absurd (none.2 h after z.reads);
+        within = λ h framing after z. absurd (none.2 h after z.reads);
+        free = λ _. (x.stated, x.body);
         judged = λ bytes b. absurd (none.2 b.head b.after b.accepts.reads);
       }
   waits_at true within x is =
@@ -166,6 +170,7 @@ module _ (p : Place) (stream interim : List ℕ) (spans : List HeaderSpan) (new 
         invited = begun_invited x.0;
         within = x.2;
         judged = its_judgement p within x.0;
+        free = λ other. absurd (other (record { head = x.0.head; framing = x.0.framing; after = x.0.after; accepts = x.0.accepts }));
       }
 
   -- what no event of a request is
@@ -209,9 +214,10 @@ ends_between p stream interim x between none =
 
 module _ {p : Place} {stream : List ℕ} (x : HasEnd p stream) where
   -- what was kept of the request was handed over
-  pub handed_over : (asked : Asked) (len : ℕ) (head body : List ℕ) → len ≡ length p.head → asked.head ≡ take len p.head
-      → asked.body ≡ p.body → body ≡ [] → IsWhole (record p { within = false; head = head; body = body }) stream asked p.is_head
-  handed_over asked len head body long front whole none =
+  pub handed_over : (asked : Asked) (len : ℕ) (head body : List ℕ) (stated : ℕ) → len ≡ length p.head → asked.head ≡ take len p.head
+      → asked.body ≡ p.body → body ≡ [] → stated ≡ 0
+      → IsWhole (record p { within = false; head = head; body = body; stated = stated }) stream asked p.is_head
+  handed_over asked len head body stated long front whole none freed =
       let is_head : asked.head ≡ p.head = front ∙ take_all len p.head (omega (arith, long)) in
       record {
         message = x.message;
@@ -227,6 +233,7 @@ module _ {p : Place} {stream : List ℕ} (x : HasEnd p stream) where
         server = x.server;
         between = refl;
         body = none;
+        stated = freed;
       }
 
   -- and that head was judged
@@ -262,6 +269,13 @@ pub unreadable : (p : Place) (stream interim : List ℕ) (e : ReadError) → Sta
 unreadable p stream interim e x = refused_at p.within p stream interim e x
 
 -- ---- a head
+
+-- the size of a body that is to be read is the one that its framing states
+known_stated : (limits : Limits) (f : Framing) → known_len (unread_size (Reads.Body (decoder_for limits f))) ≡ len_stated f
+known_stated limits Framed.NoBody = refl
+known_stated limits (Framed.Length len) = refl
+known_stated limits Framed.Chunked = refl
+known_stated limits Framed.UntilClose = refl
 
 length-take : (n : ℕ) (spans : List HeaderSpan) → length (take n spans) ≤ length spans
 length-take n spans = omega (arith, ap length (take-append-drop n spans), length-append (take n spans) (drop n spans))
@@ -301,12 +315,12 @@ module _ {p : Place} {spans : List HeaderSpan} {r : RequestSpans} {stream interi
       )
 
   -- the head was taken from the bytes, and what is known of its request was noted
-  pub begins : has_codings p.server ≡ false → (unread head method : List ℕ) (kind : Bool) (most : ℕ)
+  pub begins : has_codings p.server ≡ false → (unread head method : List ℕ) (kind : Bool) (most stated : ℕ)
       → unread ≡ drop r.len p.unread → head ≡ take r.len p.unread → method ≡ span_bytes p.unread r.method
       → kind ≡ is_head (method_kind method) → most ≡ most_of p.config method
-      → Begun (record p { unread = unread; within = true; head = head; is_head = kind; most = most }) stream
+      → Begun (record p { unread = unread; within = true; head = head; is_head = kind; most = most; stated = stated }) stream
       (invitation x.takes.head x.takes.framing)
-  begins uncoded unread head method kind most left front named kind_is most_is = record {
+  begins uncoded unread head method kind most stated left front named kind_is most_is = record {
     head = x.takes.head;
     framing = x.takes.framing;
     after = drop r.len stream;
@@ -330,16 +344,16 @@ module _ {p : Place} {spans : List HeaderSpan} {r : RequestSpans} {stream interi
   }
 
   -- it states no longer body than it may have
-  pub states_within : (method : List ℕ) (most : ℕ) → method ≡ span_bytes p.unread r.method → most ≡ most_of p.config method
-      → ((len : ℕ) → unread_size (reading p.server) ≡ Known len → len ≤ most) → IsStatedWithin p.config stream
-  states_within method most named most_is short h len after z =
+  pub states_within : (method : List ℕ) (most stated : ℕ) → method ≡ span_bytes p.unread r.method → most ≡ most_of p.config method
+      → stated ≡ known_len (unread_size (reading p.server)) → stated ≤ most → IsStatedWithin p.config stated stream
+  states_within method most stated named most_is known fits h framing after z =
       let same = accepts_unique z head_accepted in
-      let size : unread_size (reading p.server) ≡ Known len =
-      ap (λ s. unread_size (reading s)) x.takes.next
-      ∙ ap (λ f. unread_size (Reads.Body (decoder_for p.config.limits f))) (sym same.1) in
+      let size : stated ≡ len_stated framing =
+      known ∙ ap (λ s. known_len (unread_size (reading s))) x.takes.next
+      ∙ known_stated p.config.limits x.takes.framing ∙ ap len_stated (sym same.1) in
       let is : most ≡ most_of p.config h.method =
       most_is ∙ ap (most_of p.config) (named ∙ head_method ∙ ap (λ (k : RequestHead). k.method) (sym same.0)) in
-      omega (arith, short len size, is)
+      (size, omega (arith, fits, is))
 
   -- the work that is left is less
   pub head_less : (unread : List ℕ) → unread ≡ drop r.len p.unread → r.len ≤ length p.unread
@@ -356,7 +370,7 @@ module _ {p : Place} {spans : List HeaderSpan} {r : RequestSpans} {stream interi
 
   -- it is to be judged
   pub head_read : (q : Place) (waits : Bool) → waits ≡ expects_continue p.server → q.config ≡ p.config → q.within ≡ true
-      → Begun q stream (invitation x.takes.head x.takes.framing) → length q.body ≤ q.most → IsStatedWithin q.config stream
+      → Begun q stream (invitation x.takes.head x.takes.framing) → length q.body ≤ q.most → IsStatedWithin q.config q.stated stream
       → IsHeadRead q stream interim waits
   head_read q waits is config within begun fits stated = record {
     silent = x.silent;

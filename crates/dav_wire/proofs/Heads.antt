@@ -49,7 +49,7 @@ module _ (p : Place) (h : History) (waits : Bool) (x : IsAtHead p h waits) where
     now = record h { judgements = js }
 
     abbrev base : Base p.config now
-    base = rebased x.base refl h.ended h.unread h.calls js
+    base = rebased x.base refl h.ended h.unread h.calls js h.stated h.body
 
     next : IsNextJudged p.config.limits now verdict x.base.rest
     next = (p.head, begins, is ∙ ap (λ (t : List Judgement). t ++ (p.head, verdict) ∷ []) x.judged)

@@ -20,7 +20,7 @@ use Rattle.http1_typed.specs.Parts.{reason_of}
 use Rattle.dav_wire.specs.declared.answer.Rejection.{Rejection}
 use Rattle.dav_wire.specs.declared.answer.Rejection.TheVariants.{Unauthorized, Forbidden, UnsupportedMediaType, Misdirected, NotImplemented, Unavailable}
 use Rattle.dav_wire.specs.declared.state.Refusal.{Refusal}
-use Rattle.dav_wire.specs.declared.state.Refusal.TheVariants.{Truncated, Unreadable, BodyTooLong, UnknownCoding}
+use Rattle.dav_wire.specs.declared.state.Refusal.TheVariants.{Truncated, Unreadable, BodyTooLong, UnknownCoding, NoRoom}
 use Rattle.dav_wire.specs.Laws.{IsLastResponse, RefusalsAreRead}
 use Rattle.dav_wire.specs.Refusals.{closing_fields, last_fields, closing_text, refusal_status, rejection_status}
 
@@ -37,6 +37,10 @@ closing_closes = refl
 challenge_closes : (known_fields (closing_fields 401)).close ≡ true
 unfolding known_fields elements eq_ignore_case trim_ows
 challenge_closes = refl
+
+retry_closes : (known_fields (closing_fields 503)).close ≡ true
+unfolding known_fields elements eq_ignore_case trim_ows
+retry_closes = refl
 
 read_back : (method : MethodKind) (status : ℕ) → head_refusal (is_status_line 1 status (reason_of status)) (closing_fields status) ≡ None
     → (known_fields (closing_fields status)).close ≡ true
@@ -171,7 +175,7 @@ framed_503 Method.Other = (Framed.Length 0, refl, λ _. (refl, refl, refl))
 
 read_503 : (method : MethodKind) → IsLastResponse method 503 (closing_text 503)
 unfolding are_headers is_token_byte
-read_503 method = read_back method 503 refl closing_closes (framed_503 method)
+read_503 method = read_back method 503 refl retry_closes (framed_503 method)
 
 -- a status that `http1` gives an error is one of three
 abbrev IsReadStatus : ℕ → Type 0
@@ -203,6 +207,7 @@ refusal_is_read method (Unreadable e) = elim (read_status e) [
 ]
 refusal_is_read method BodyTooLong = read_413 method
 refusal_is_read method UnknownCoding = read_501 method
+refusal_is_read method (NoRoom room) = read_503 method
 
 rejection_is_read : (method : MethodKind) (why : Rejection)
     → IsLastResponse method (rejection_status why) (closing_text (rejection_status why))

@@ -155,7 +155,7 @@ module _ (p : Place) (h : History) (r : Response) (bodiless : Bool) (x : IsAnswe
         calls = x.calls;
         judged = x.judged ∙ sym (append-nil _) ∙ ap (λ b. passed h.calls ++ cond b ((p.head, None) ∷ []) []) (sym x.whole.between);
         standing = subst (λ b. StandsAt b (record p { server = new }) p.unread []) (sym x.whole.between)
-            (record { server = on.1; unread = refl; body = x.whole.body; silent = refl });
+            (record { server = on.1; unread = refl; body = x.whole.body; stated = x.whole.stated; silent = refl });
       }
       | inr over ↦ absurd (other over.1)
     ]

@@ -1,5 +1,5 @@
 -- What holds of a connection, and what each step does to that.
-use Rattle.std.proofs.Common.{◌≡◌, ◌≢◌, ℕ, Bool, false, List, [], ◌++◌, ◌∷◌, ◌⊎◌, length, Option, Some, None, true, cond, refl, sym, ap, ◌∙◌, subst, subst₂, arith, append_assoc, append-nil, take-append-drop, inl, inr, IsTrue, IsFalse}
+use Rattle.std.proofs.Common.{◌≡◌, ◌≢◌, ℕ, Bool, false, List, [], ◌++◌, ◌∷◌, ◌⊎◌, length, max, Option, Some, None, true, cond, refl, sym, ap, ◌∙◌, subst, subst₂, arith, append_assoc, append-nil, take-append-drop, inl, inr, IsTrue, IsFalse}
 use Rattle.std.proofs.Math.Seq.{take-nil, drop-nil}
 use Rattle.std.proofs.Math.Logic.{∥∥₁_prop, ∥∥₁_elim}
 use denote.Struct.Props.{props}
@@ -11,11 +11,11 @@ use Rattle.dav_wire.specs.declared.state.Config.{Config}
 use Rattle.dav_wire.specs.declared.line.Line.{Line}
 use Rattle.dav_wire.specs.declared.state.Reason.TheVariants.{Asked, EndOfInput, Refused, Rejected, Unsendable}
 use Rattle.dav_wire.specs.declared.state.Refusal.{Refusal}
-use Rattle.dav_wire.specs.declared.state.Refusal.TheVariants.{Truncated, Unreadable, BodyTooLong, UnknownCoding}
+use Rattle.dav_wire.specs.declared.state.Refusal.TheVariants.{Truncated, Unreadable, BodyTooLong, UnknownCoding, NoRoom}
 use Rattle.dav_wire.specs.declared.state.State.{State}
 use Rattle.dav_wire.specs.declared.state.State.TheVariants.{Open, Closing, Aborted}
 use Rattle.dav_wire.specs.Exchange.{Call, Judgement, Serves, passed}
-use Rattle.dav_wire.specs.History.{History, written, BeginsWithHead, AreJudged, IsNextJudged, MayGoOn, HasWork, IsCalledFor, MayBeCalledFor, IsUnsendable, Stands, IsServed, Rests, new_history, after_sent}
+use Rattle.dav_wire.specs.History.{History, written, BeginsRequest, BeginsWithHead, AreJudged, IsNextJudged, MayGoOn, HasWork, IsCalledFor, MayBeCalledFor, IsUnsendable, Stands, IsServed, Rests, new_history, after_sent}
 use Rattle.dav_wire.specs.Place.{Place, place, history_of, Base, IsRunning, StandsAt, judged_at, HoldsAt, Holds, Standing, IsStarved, aborted, closed_with, Reaches}
 use Rattle.dav_wire.specs.Refusals.{IsRefusedFor, IsStatedWithin, closing_text, refusal_status, rejection_status}
 use Rattle.dav_wire.proofs.Bodies.{Standing-append, begun_some}
@@ -126,8 +126,9 @@ reaches_over new old goes_on config k is same over stops x = record {
 
 -- the same exchanges, where other things have changed
 abbrev pub rebased : {old config : Config} {h : History} → Base old h → config ≡ old → (ended : Bool) (unread : List ℕ) (calls : List Call)
-    (judgements : List Judgement) → Base config (record h { ended = ended; unread = unread; calls = calls; judgements = judgements })
-rebased {h} b same ended unread calls judgements = record {
+    (judgements : List Judgement) (stated : ℕ) (body : List ℕ)
+    → Base config (record h { ended = ended; unread = unread; calls = calls; judgements = judgements; stated = stated; body = body })
+rebased {h} b same ended unread calls judgements stated body = record {
   is_open = b.is_open;
   answered = b.answered;
   text = b.text;
@@ -214,6 +215,7 @@ module _ (config : Config) (h : History) (came : List ℕ) (over : Bool) (going 
   refusal_grows stream (Unreadable e) is = (next_grows came stream is.0, error_grows came e is.1)
   refusal_grows stream BodyTooLong is = next_grows came stream is
   refusal_grows stream UnknownCoding is = next_grows came stream is
+  refusal_grows stream (NoRoom room) is = next_grows came stream is
 
   module _ (answered : List Call) (text interim rest : List ℕ) where
     stands_grows : (s : State) → Stands s config h answered text interim rest
@@ -361,8 +363,8 @@ sends p h count Aborted had = served_still h count had
 
 pub rests : (p : Place) (h : History) (b : Base p.config h) → h.calls ≡ b.answered
     → h.judgements ≡ passed h.calls ++ judged_at p → IsStarved p b.rest b.interim → IsFalse h.ended
-    → Rests p.config h
-rests p h b calls judged x going is_open room = (
+    → p.stated ≡ h.stated → p.body ≡ h.body → Rests p.config h
+rests p h b calls judged x going held body is_open room = (
   going,
   λ ms rest z. elim (aligned p.config b.answered ms h.received b.text b.serves z) [
     | inl fits ↦ omega (arith, fits.0, ap length calls)
@@ -375,7 +377,7 @@ rests p h b calls judged x going is_open room = (
     | inr more ↦ absurd (x.unfinished more.0 more.1 more.2)
   ],
   λ ms rest z count. elim (aligned p.config b.answered ms h.received b.text b.serves z) [
-    | inl fits ↦ subst (IsStatedWithin p.config) (sym (fits.1 (count ∙ ap length calls))) x.within
+    | inl fits ↦ subst₂ (IsStatedWithin p.config) held (sym (fits.1 (count ∙ ap length calls))) x.within
     | inr more ↦ absurd (x.unfinished more.0 more.1 more.2)
   ],
   λ ms rest z count bytes begins. elim (aligned p.config b.answered ms h.received b.text b.serves z) [
@@ -383,6 +385,13 @@ rests p h b calls judged x going is_open room = (
         let same = fits.1 (count ∙ ap length calls) in
         let it = x.judged bytes (subst (λ (t : List ℕ). BeginsWithHead p.config.limits t bytes) same begins) in
         ∣ judged ∙ ap (λ (t : List Judgement). passed h.calls ++ t) it ∣₁
+    | inr more ↦ absurd (x.unfinished more.0 more.1 more.2)
+  ],
+  λ ms rest z count none. elim (aligned p.config b.answered ms h.received b.text b.serves z) [
+    | inl fits ↦
+        let same = fits.1 (count ∙ ap length calls) in
+        let free = x.free (subst (λ (t : List ℕ). BeginsRequest p.config.limits t → ⊥) same none) in
+        λ i. max ((sym held ∙ free.0) i) (length ((sym body ∙ free.1) i))
     | inr more ↦ absurd (x.unfinished more.0 more.1 more.2)
   ],
 )
@@ -393,6 +402,27 @@ settled config h x is_open room = (
   ∥∥₁_elim x (search props) (λ r. (r is_open room).0),
   λ ms rest z. ∥∥₁_elim x (search props) (λ r. (r is_open room).1 ms rest z),
   λ ms rest z count waits. ∥∥₁_elim x ∥∥₁_prop (λ r. (r is_open room).2 ms rest z count waits),
-  λ ms rest z count k len after w. ∥∥₁_elim x (search props) (λ r. (r is_open room).3 ms rest z count k len after w),
+  λ ms rest z count k framing after w. (
+    ∥∥₁_elim x (search props) (λ r. ((r is_open room).3 ms rest z count k framing after w).0),
+    ∥∥₁_elim x (search props) (λ r. ((r is_open room).3 ms rest z count k framing after w).1),
+  ),
   λ ms rest z count bytes begins. ∥∥₁_elim x ∥∥₁_prop (λ r. (r is_open room).4 ms rest z count bytes begins),
+  λ ms rest z count none. ∥∥₁_elim x (search props) (λ r. (r is_open room).5 ms rest z count none),
 )
+
+-- ---- a refusal for want of room
+
+open_or : (s : State) → (s ≡ Open) ⊎ (s ≢ Open)
+open_or Open = inl refl
+open_or (Closing why) = inr (λ is. cc)
+open_or Aborted = inr (λ is. cc)
+
+-- a step that refuses a request for want of room was told that room; the refusal of a step before stays
+pub tells : (old new : Line) (room : ℕ) → (old.state ≢ Open → new ≡ old)
+    → ((told : ℕ) → old.state ≡ Open → new.state ≡ Closing (Refused (NoRoom told)) → told ≡ room)
+    → (told : ℕ) → (old.state ≡ Closing (Refused (NoRoom told)) → told ≡ room) → new.state ≡ Closing (Refused (NoRoom told))
+    → told ≡ room
+tells old new room settled tells_now told before is = elim (open_or old.state) [
+  | inl still ↦ tells_now told still is
+  | inr over ↦ before (sym (ap (λ (l : Line). l.state) (settled over)) ∙ is)
+]

@@ -1,5 +1,5 @@
 -- What each thing that is found in the input does to a connection.
-use Rattle.std.proofs.Common.{◌≡◌, ℕ, ◌<◌, ◌⊎◌, Bool, true, false, List, [], ◌++◌, None, sym, ap, ◌∙◌, subst, subst₂, append-nil, inl, inr, IsFalse}
+use Rattle.std.proofs.Common.{◌≡◌, ℕ, ◌<◌, ◌⊎◌, Bool, true, false, List, [], ◌++◌, None, refl, sym, ap, ◌∙◌, subst, subst₂, append-nil, inl, inr, IsFalse}
 use Rattle.dav_wire.specs.declared.answer.Asked.{Asked}
 use Rattle.dav_wire.specs.declared.state.Config.{Config}
 use Rattle.dav_wire.specs.declared.intake.Found.TheVariants as found
@@ -19,7 +19,7 @@ module _ (l : Line) (i : Intake) (keeps : KeepsIntake l.intake i) (r : IsRunning
   after = record l { intake = i }
 
   abbrev pub base : Base i.config (history_of after)
-  base = rebased r.base keeps.config i.ended i.input.items l.calls.items (history_of l).judgements
+  base = rebased r.base keeps.config i.ended i.input.items l.calls.items (history_of l).judgements i.stated i.body.items
 
   -- what was judged, if this was
   judged_then : (js : List Judgement) → judged_at (place l.intake) ≡ js
@@ -41,7 +41,7 @@ module _ (l : Line) (i : Intake) (keeps : KeepsIntake l.intake i) (r : IsRunning
   after_nothing old x = record {
     holds = holds_open (place i) (history_of after) (record { base = base; calls = r.calls; judged = judged_then _ (sym x.2); standing = x.0.standing });
     less = λ wrong. cc;
-    rests = λ _. rests (place i) (history_of after) base r.calls (judged_then _ (sym x.2)) x.0 (keeps.ended ∙ x.1);
+    rests = λ _. rests (place i) (history_of after) base r.calls (judged_then _ (sym x.2)) x.0 (keeps.ended ∙ x.1) refl refl;
   }
 
   pub after_end : (new : Line) (old : ℕ) (goes : Bool) → new ≡ record after { state = Closing EndOfInput } → IsFalse goes

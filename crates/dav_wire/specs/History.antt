@@ -1,5 +1,5 @@
 -- What came and went over a connection, and what always holds of that.
-use Rattle.std.specs.Prelude.{◌≡◌, ℕ, ◌≤◌, ◌⊎◌, Bool, false, List, [], ◌∷◌, ◌++◌, length, take, drop, Some, IsTrue, IsFalse, Option, None, if◌then◌else◌, ◌==◌}
+use Rattle.std.specs.Prelude.{◌≡◌, ℕ, ◌≤◌, ◌⊎◌, Bool, false, List, [], ◌∷◌, ◌++◌, length, max, take, drop, Some, IsTrue, IsFalse, Option, None, if◌then◌else◌, ◌==◌}
 use Rattle.httparse.specs.Grammar.{RequestHead}
 use Rattle.http1.specs.declared.conn.Limits.{Limits}
 use Rattle.http1.specs.declared.error.WriteError.{WriteError}
@@ -33,6 +33,15 @@ pub record History : Type 0 where
   -- all that was sent, and what waits for that
   pub sent : List ℕ
   pub pending : List ℕ
+  -- of the request that is being read: how long its head states its body to be, if it does, and what of
+  -- that body was taken
+  pub stated : ℕ
+  pub body : List ℕ
+
+-- For so many bytes of the body that is being read there has to be room: for as many as its head
+-- states, and for those that came where it states none.
+abbrev pub held : History → ℕ
+held h = max h.stated (length h.body)
 
 -- all that was written: what was sent, and what waits
 abbrev pub written : History → List ℕ
@@ -170,9 +179,14 @@ abbrev pub IsInvited : Limits → History → Type 0
 IsInvited limits h =
     RestIs limits h (λ rest. ExpectsContinue limits rest → ∥ ((front : List ℕ) × (written h ≡ front ++ continue_text)) ∥₁)
 
--- that request states no longer body than it may have: one that does was refused
+-- that request states no longer body than it may have (one that does was refused), and what it states
+-- is what is held for it
 abbrev pub IsNextWithin : Config → History → Type 0
-IsNextWithin config h = RestIs config.limits h (IsStatedWithin config)
+IsNextWithin config h = RestIs config.limits h (IsStatedWithin config h.stated)
+
+-- nothing is held where no head of a request came whole
+abbrev pub IsNothingHeld : Limits → History → Type 0
+IsNothingHeld limits h = RestIs limits h (λ rest. (BeginsRequest limits rest → ⊥) → held h ≡ 0)
 
 -- the head of that request was judged, once it came whole
 abbrev pub IsNextHeadJudged : Limits → History → Type 0
@@ -185,7 +199,7 @@ abbrev pub Rests : Config → History → Type 0
 Rests config h =
     h.state ≡ Open → length h.pending ≤ config.max_pending
     → IsFalse h.ended × AreAllCalled config.limits h × IsInvited config.limits h × IsNextWithin config h
-    × IsNextHeadJudged config.limits h
+    × IsNextHeadJudged config.limits h × IsNothingHeld config.limits h
 
 -- nothing was taken and nothing was sent
 abbrev pub IsQuiet : History → History → Type 0
@@ -203,7 +217,7 @@ after_sent h count = record h { sent = h.sent ++ take count h.pending; pending =
 
 -- nothing came yet
 abbrev pub new_history : History
-new_history = record { state = Open; received = []; ended = false; unread = []; calls = []; judgements = []; sent = []; pending = [] }
+new_history = record { state = Open; received = []; ended = false; unread = []; calls = []; judgements = []; sent = []; pending = []; stated = 0; body = [] }
 
 -- What the answerer did, from one state to the other, are the judgements and the calls that were
 -- added to the history.

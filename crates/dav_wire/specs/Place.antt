@@ -14,6 +14,8 @@ use Rattle.http1.specs.Framing.{method_kind}
 use Rattle.http1.specs.Message as Wire
 use Rattle.http1.specs.Message.{known_of, AcceptsRequest, ReadsRequestMessage}
 use Rattle.http1.specs.declared.conn.Writing.{Writing}
+use Rattle.http1.specs.declared.conn.BodySize.{BodySize}
+use Rattle.http1.specs.declared.conn.BodySize.TheVariants.{Empty, Known, Unknown}
 use Rattle.http1.specs.Conn.{data_text, after_data, finish_text}
 use Rattle.http1.specs.Server.{new_server, request_of, is_head, TakesHead, writing, with_writing, after_end}
 use Rattle.http_server.specs.declared.response.Response.{Response}
@@ -29,10 +31,13 @@ use Rattle.dav_wire.specs.declared.intake.Found.{Found}
 use Rattle.dav_wire.specs.declared.intake.Found.TheVariants as found
 use Rattle.dav_wire.specs.declared.line.Line.{Line}
 use Rattle.dav_wire.specs.declared.state.Reason.{Reason}
+use Rattle.dav_wire.specs.declared.state.Reason.TheVariants.{Refused}
+use Rattle.dav_wire.specs.declared.state.Refusal.{Refusal}
+use Rattle.dav_wire.specs.declared.state.Refusal.TheVariants.{NoRoom}
 use Rattle.dav_wire.specs.declared.state.State.{State}
 use Rattle.dav_wire.specs.declared.state.State.TheVariants.{Open, Closing, Aborted}
 use Rattle.dav_wire.specs.Exchange.{Call, Judgement, ReadsCall, Serves, most_of, passed}
-use Rattle.dav_wire.specs.History.{History, BeginsWithHead, written, HasWork, IsServed, Rests}
+use Rattle.dav_wire.specs.History.{History, BeginsRequest, BeginsWithHead, written, HasWork, IsServed, Rests}
 use Rattle.dav_wire.specs.Refusals.{IsRefusedFor, IsStatedWithin}
 
 -- the part of an intake of which the invariant speaks
@@ -44,6 +49,7 @@ pub record Place : Type 0 where
   pub head : List ℕ
   pub is_head : Bool
   pub most : ℕ
+  pub stated : ℕ
   pub body : List ℕ
 
 abbrev pub place : Intake → Place
@@ -55,6 +61,7 @@ place i = record {
   head = i.head.items;
   is_head = i.is_head;
   most = i.most;
+  stated = i.stated;
   body = i.body.items;
 }
 
@@ -86,11 +93,12 @@ pub record IsBetween (p : Place) (stream interim : List ℕ) : Type 0 where
   pub server : p.server ≡ new_server p.config.limits
   pub unread : p.unread ≡ stream
   pub body : p.body ≡ []
+  pub stated : p.stated ≡ 0
   pub silent : interim ≡ []
 
 -- The reader is within the body of the request that begins the stream, for which this much was written, or at its start.
 abbrev pub StandsAt : Bool → Place → List ℕ → List ℕ → Type 0
-StandsAt true p stream interim = Begun p stream interim × (length p.body ≤ p.most) × IsStatedWithin p.config stream
+StandsAt true p stream interim = Begun p stream interim × (length p.body ≤ p.most) × IsStatedWithin p.config p.stated stream
 StandsAt false p stream interim = IsBetween p stream interim
 
 abbrev pub Standing : Place → List ℕ → List ℕ → Type 0
@@ -106,9 +114,10 @@ pub record IsStarved (p : Place) (stream interim : List ℕ) : Type 0 where
   pub standing : Standing p stream interim
   pub unfinished : HasNoMessage p.config.limits stream
   pub invited : ExpectsContinue p.config.limits stream → interim ≡ continue_text
-  pub within : IsStatedWithin p.config stream
+  pub within : IsStatedWithin p.config p.stated stream
   pub judged : (bytes : List ℕ) → BeginsWithHead p.config.limits stream bytes
       → judged_at p ≡ (bytes, None) ∷ []
+  pub free : (BeginsRequest p.config.limits stream → ⊥) → (p.stated ≡ 0) × (p.body ≡ [])
 
 -- The head of the request that begins the stream was read, and nothing was written for it. Once it
 -- is judged its sender is invited, if it waits for that.
@@ -126,6 +135,7 @@ pub record IsWhole (p : Place) (stream : List ℕ) (asked : Asked) (bodiless : B
   pub server : p.server ≡ answering p.config.limits message.head request.reads.framing
   pub between : p.within ≡ false
   pub body : p.body ≡ []
+  pub stated : p.stated ≡ 0
 
 -- a step that goes on leaves less of this
 abbrev pub work : Place → ℕ
@@ -160,7 +170,7 @@ pub record HasPiece (p : Place) (piece : Span) (stream interim : List ℕ) : Typ
   pub within : p.within ≡ true
   pub some : piece.start < piece.end
   pub fits : length p.body ≤ p.most
-  pub stated : IsStatedWithin p.config stream
+  pub stated : IsStatedWithin p.config p.stated stream
   pub onward : Begun (record p { unread = drop piece.end p.unread; body = p.body ++ span_bytes p.unread piece }) stream interim
 
 -- the end of the request that begins the stream was read
@@ -181,6 +191,31 @@ pub record KeepsIntake (old new : Intake) : Type 0 where
   pub config : new.config ≡ old.config
   pub ended : new.ended ≡ old.ended
 
+-- how many bytes of a body are known to come
+abbrev pub known_len : BodySize → ℕ
+known_len Empty = 0
+known_len (Known len) = len
+known_len Unknown = 0
+
+-- there is room for what is stated and for what was taken of the body
+pub record FitsIn (room : ℕ) (i : Intake) : Type 0 where
+  pub stated : i.stated ≤ room
+  pub body : length i.body.items ≤ room
+
+-- and nothing of that changed
+pub record KeepsBody (old new : Intake) : Type 0 where
+  pub stated : new.stated ≡ old.stated
+  pub body : new.body ≡ old.body
+
+-- a refusal for want of room tells this room
+abbrev pub TellsRoom : ℕ → Found → Type 0
+TellsRoom room f = (told : ℕ) → f ≡ found.Refused (NoRoom told) → told ≡ room
+
+-- the connection wasn't refused
+abbrev pub IsUnrefused : Line → Line → Type 0
+IsUnrefused old new =
+    (why : Refusal) → new.state ≡ Closing (Refused why) → old.state ≡ Closing (Refused why)
+
 abbrev pub history_of : Line → History
 history_of l = record {
   state = l.state;
@@ -191,6 +226,8 @@ history_of l = record {
   judgements = map (λ j. (j.0.items, j.1)) l.judgements.items;
   sent = flat_map (λ w. take w.1 w.0.items) l.writes.items;
   pending = l.output.items;
+  stated = l.intake.stated;
+  body = l.intake.body.items;
 }
 
 -- what was answered, and what is left of the stream

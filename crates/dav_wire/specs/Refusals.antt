@@ -1,7 +1,8 @@
 -- Why a request is refused or rejected, and the texts that the connection sends of its own.
-use Rattle.std.specs.Prelude.{◌≢◌, ℕ, ◌<◌, ◌||◌, ◌==◌, Bool, List, [], ◌∷◌, length, codes, if◌then◌else◌, IsTrue, ◌≤◌}
+use Rattle.std.specs.Prelude.{◌≡◌, ◌≢◌, ℕ, ◌<◌, ◌||◌, ◌==◌, Bool, List, [], ◌∷◌, length, codes, if◌then◌else◌, IsTrue, ◌≤◌}
 use Rattle.httparse.specs.Grammar.{RequestHead}
-use Rattle.http1.specs.declared.framing.Framing.TheVariants.{Length}
+use Rattle.http1.specs.declared.framing.Framing.{Framing}
+use Rattle.http1.specs.declared.framing.Framing.TheVariants.{NoBody, Length, Chunked, UntilClose}
 use Rattle.http1.specs.Message.{AcceptsRequest}
 use Rattle.http1.specs.ReadError.{status_of}
 use Rattle.http1.specs.Head.{response_text}
@@ -11,15 +12,16 @@ use Rattle.dav_wire.specs.declared.answer.Rejection.{Rejection}
 use Rattle.dav_wire.specs.declared.answer.Rejection.TheVariants.{Unauthorized, Forbidden, UnsupportedMediaType, Misdirected, NotImplemented, Unavailable}
 use Rattle.dav_wire.specs.declared.state.Config.{Config}
 use Rattle.dav_wire.specs.declared.state.Refusal.{Refusal}
-use Rattle.dav_wire.specs.declared.state.Refusal.TheVariants.{Truncated, Unreadable, BodyTooLong, UnknownCoding}
+use Rattle.dav_wire.specs.declared.state.Refusal.TheVariants.{Truncated, Unreadable, BodyTooLong, UnknownCoding, NoRoom}
 use Rattle.dav_wire.specs.Exchange.{most_of}
 
--- the status of a refusal (RFC 9110, section 15.5, RFC 6585, section 5, and RFC 9112, sections 3 and 6.1)
+-- the status of a refusal (RFC 9110, sections 15.5 and 15.6.4, RFC 6585, section 5, and RFC 9112, sections 3 and 6.1)
 abbrev pub refusal_status : Refusal → ℕ
 refusal_status Truncated = 400
 refusal_status (Unreadable e) = status_of e
 refusal_status BodyTooLong = 413
 refusal_status UnknownCoding = 501
+refusal_status (NoRoom room) = 503
 
 -- the status of a request that the answerer doesn't take (RFC 9110, sections 15.5 and 15.6)
 abbrev pub rejection_status : Rejection → ℕ
@@ -44,24 +46,40 @@ last_fields = (codes "connection", codes "close") ∷ (codes "content-length", c
 abbrev pub challenge : List ℕ × List ℕ
 challenge = (codes "www-authenticate", codes "Basic realm=\"vuldarg\", charset=\"UTF-8\"")
 
--- the fields of such a response; a 401 has a challenge too
+-- when to try again what is refused with 503: after a second (RFC 9110, section 10.2.3)
+abbrev pub retry_after : List ℕ × List ℕ
+retry_after = (codes "retry-after", codes "1")
+
+-- the fields of such a response; a 401 has a challenge too, and a 503 says when to try again
 abbrev pub closing_fields : ℕ → List (List ℕ × List ℕ)
-closing_fields status = if status == 401 then challenge ∷ last_fields else last_fields
+closing_fields status =
+    if status == 401 then challenge ∷ last_fields else if status == 503 then retry_after ∷ last_fields else last_fields
 
 -- a response with this status, its phrase and these fields
 abbrev pub closing_text : ℕ → List ℕ
 closing_text status = response_text 1 status (reason_of status) (closing_fields status)
 
--- the request that begins the stream states no longer body than its method may have (RFC 9112, section 6.2)
-abbrev pub IsStatedWithin : Config → List ℕ → Type 0
-IsStatedWithin config stream =
-    (h : RequestHead) (len : ℕ) (after : List ℕ) → AcceptsRequest config.limits stream h (Length len) after → len ≤ most_of config h.method
+-- how long a body is stated to be by what frames it (RFC 9112, section 6.3)
+abbrev pub len_stated : Framing → ℕ
+len_stated NoBody = 0
+len_stated (Length len) = len
+len_stated Chunked = 0
+len_stated UntilClose = 0
+
+-- So many bytes are stated by the head of the request that begins the stream, and no more than its
+-- method may have (RFC 9112, section 6.2).
+abbrev pub IsStatedWithin : Config → ℕ → List ℕ → Type 0
+IsStatedWithin config stated stream =
+    (h : RequestHead) (framing : Framing) (after : List ℕ) → AcceptsRequest config.limits stream h framing after
+    → (stated ≡ len_stated framing) × (stated ≤ most_of config h.method)
 
 -- Why the request that begins the stream is refused: the input ended within it; or, whatever bytes might follow, it has too
--- many fields, or can't be read at all, or its body is longer than its method may have, or has an unknown coding.
+-- many fields, or can't be read at all, or its body is longer than its method may have, or has an unknown coding,
+-- or there is room for less of its body.
 abbrev pub IsRefusedFor : Refusal → Config → Bool → List ℕ → Type 0
 IsRefusedFor Truncated config ended stream = IsTrue ended × (stream ≢ []) × HasNoMessage config.limits stream
 IsRefusedFor (Unreadable e) config ended stream = NextIs config.limits stream HasTooManyFields × IsReadError config.limits stream e
 IsRefusedFor BodyTooLong config ended stream =
     NextIs config.limits stream (λ m. most_of config m.head.method < length m.body.bytes)
 IsRefusedFor UnknownCoding config ended stream = NextIs config.limits stream HasUnknownCoding
+IsRefusedFor (NoRoom room) config ended stream = NextIs config.limits stream (λ m. room < length m.body.bytes)

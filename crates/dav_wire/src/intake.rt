@@ -48,18 +48,20 @@ pub(crate) struct Intake {
     pub(crate) head: BytesMut,
     pub(crate) is_head: bool,
     pub(crate) most: usize,
+    /// How many bytes that head states its body to have; 0 where it states none.
+    pub(crate) stated: usize,
     /// What was read of its body.
     pub(crate) body: BytesMut,
 }
 
 impl Intake {
-    ghost use Rattle.dav_wire.specs.Place.{place, Standing, IsStarved, HasHead, HasPiece, HasEnd, Finds, judged_at, work, KeepsIntake};
+    ghost use Rattle.dav_wire.specs.Place.{place, Standing, IsStarved, HasHead, HasPiece, HasEnd, Finds, FitsIn, TellsRoom, judged_at, known_len, work, KeepsIntake};
     ghost use Rattle.dav_wire.specs.History.{HasWork};
 
     pub(crate) fn new(alloc: Global, config: Config) -> Intake
         ensures standing { Standing (place result) [] [] }
         ensures fresh { (result.config ≡ config) × (result.ended ≡ false)
-            × (result.input.items ≡ []) }
+            × (result.input.items ≡ []) × (result.stated ≡ 0) × (result.body.items ≡ []) }
     {
         Intake {
             alloc,
@@ -71,12 +73,17 @@ impl Intake {
             head: BytesMut::new(alloc),
             is_head: false,
             most: 0,
+            stated: 0,
             body: BytesMut::new(alloc),
         }
     }
 
-    /// Reads one event from the bytes.
-    pub(crate) fn read(&mut self, spans: &mut [HeaderSpan]) -> Result<Found, AllocError>
+    /// Reads one event from the bytes, where there is room for so many bytes of a body.
+    pub(crate) fn read(
+        &mut self,
+        spans: &mut [HeaderSpan],
+        room: usize,
+    ) -> Result<Found, AllocError>
         requires { length spans.old ≡ MAX_HEADERS }
         ensures finds { (stream interim : List ℕ) → Standing (place self.old) stream interim
             → IfOk result (λ found. Finds found self.old.ended (judged_at (place self.old))
@@ -84,14 +91,16 @@ impl Intake {
         ensures fails { (stream interim : List ℕ) → Standing (place self.old) stream interim
             → OnErr result (HasWork self.old.config.limits self.old.ended stream) }
         ensures keeps { KeepsIntake self.old self.new }
+        ensures fits { FitsIn room self.old → FitsIn room self.new }
+        ensures told { IfOk result (TellsRoom room) }
     {
         let read = match self.server.read(self.input.as_slice(), spans) {
             Ok(read) => read,
             Err(error) => return Ok(Found::Refused(Refusal::Unreadable(error))),
         };
         match read.event {
-            Event::Head(head) => self.begin(&head, spans),
-            Event::Data(piece) => self.add(piece),
+            Event::Head(head) => self.begin(&head, spans, room),
+            Event::Data(piece) => self.add(piece, room),
             Event::End(_) => {
                 self.input.advance(read.consumed);
                 self.finish()
@@ -105,7 +114,8 @@ impl Intake {
 
     // There is no more to read: more bytes may come, or the input ended here.
     fn wait(&self) -> Found
-        ensures { (stream interim : List ℕ) (before : ℕ) → IsStarved (place self.now) stream interim
+        ensures told { (room : ℕ) → TellsRoom room result }
+        ensures finds { (stream interim : List ℕ) (before : ℕ) → IsStarved (place self.now) stream interim
             → Finds result self.now.ended (judged_at (place self.now)) before (place self.now)
             stream interim }
     {
@@ -128,7 +138,12 @@ impl Intake {
     }
 
     // A head came: its request may be refused before its body is read.
-    fn begin(&mut self, head: &RequestSpans, spans: &[HeaderSpan]) -> Result<Found, AllocError>
+    fn begin(
+        &mut self,
+        head: &RequestSpans,
+        spans: &[HeaderSpan],
+        room: usize,
+    ) -> Result<Found, AllocError>
         requires { IsRequestWithin self.old.input.items spans.now head.now }
         ensures finds { (stream interim : List ℕ)
             → HasHead (place self.old) spans.now head.now stream interim
@@ -138,6 +153,8 @@ impl Intake {
             → HasHead (place self.old) spans.now head.now stream interim
             → OnErr result (HasWork self.old.config.limits self.old.ended stream) }
         ensures keeps { KeepsIntake self.old self.new }
+        ensures fits { FitsIn room self.old → FitsIn room self.new }
+        ensures told { IfOk result (TellsRoom room) }
     {
         if self.server.has_codings() {
             return Ok(Found::Refused(Refusal::UnknownCoding));
@@ -150,27 +167,44 @@ impl Intake {
         self.head.extend_from_slice(&input[..head.len])?;
         self.input.advance(head.len);
         self.is_within = true;
-        if self.states_too_much() {
+        if self.states_more(self.most) {
             return Ok(Found::Refused(Refusal::BodyTooLong));
         }
+        if self.states_more(room) {
+            return Ok(Found::Refused(Refusal::NoRoom(room)));
+        }
+        self.stated = self.len_stated();
         Ok(Found::Head(self.server.expects_continue()))
     }
 
-    // Whether the head states a longer body than it may have.
-    fn states_too_much(&self) -> bool
+    // Whether the head states a longer body than this.
+    fn states_more(&self, most: usize) -> bool
         ensures long { IsTrue result → (len : ℕ)
-            × (unread_size (reading self.now.server) ≡ BodySize.Known len) × (self.now.most < len) }
+            × (unread_size (reading self.now.server) ≡ BodySize.Known len) × (most < len) }
         ensures short { IsFalse result → (len : ℕ)
-            → unread_size (reading self.now.server) ≡ BodySize.Known len → len ≤ self.now.most }
+            → unread_size (reading self.now.server) ≡ BodySize.Known len → len ≤ most }
     {
         match self.server.unread_size() {
-            BodySize::Known(len) => len > self.most as u64,
+            BodySize::Known(len) => len > most as u64,
             _ => false,
         }
     }
 
+    // How long a body the head states; 0 where it states none.
+    fn len_stated(&self) -> usize
+        ensures known { result ≡ known_len (unread_size (reading self.now.server)) }
+        ensures within { (most : ℕ) → ((len : ℕ)
+            → unread_size (reading self.now.server) ≡ BodySize.Known len → len ≤ most)
+            → result ≤ most }
+    {
+        match self.server.unread_size() {
+            BodySize::Known(len) => len as usize,
+            _ => 0,
+        }
+    }
+
     // A piece of the body came.
-    fn add(&mut self, piece: Span) -> Result<Found, AllocError>
+    fn add(&mut self, piece: Span, room: usize) -> Result<Found, AllocError>
         requires { IsWithin (length self.old.input.items) piece }
         ensures finds { (stream interim : List ℕ) → HasPiece (place self.old) piece stream interim
             → IfOk result (λ found. Finds found self.old.ended (judged_at (place self.old))
@@ -178,10 +212,16 @@ impl Intake {
         ensures fails { (stream interim : List ℕ) → HasPiece (place self.old) piece stream interim
             → OnErr result (HasWork self.old.config.limits self.old.ended stream) }
         ensures keeps { KeepsIntake self.old self.new }
+        ensures fits { FitsIn room self.old → FitsIn room self.new }
+        ensures told { IfOk result (TellsRoom room) }
     {
         let bytes = piece.of(self.input.as_slice());
-        if bytes.len() > self.most.saturating_sub(self.body.len()) {
+        let len = self.body.len() + bytes.len();
+        if len > self.most {
             return Ok(Found::Refused(Refusal::BodyTooLong));
+        }
+        if len > room {
+            return Ok(Found::Refused(Refusal::NoRoom(room)));
         }
         self.body.extend_from_slice(bytes)?;
         self.input.advance(piece.end);
@@ -197,6 +237,8 @@ impl Intake {
         ensures fails { (stream : List ℕ) → HasEnd (place self.old) stream
             → OnErr result (HasWork self.old.config.limits self.old.ended stream) }
         ensures keeps { KeepsIntake self.old self.new }
+        ensures fits { (room : ℕ) → FitsIn room self.old → FitsIn room self.new }
+        ensures told { (room : ℕ) → IfOk result (TellsRoom room) }
     {
         if !self.is_within {
             return Ok(Found::Nothing);
@@ -204,6 +246,7 @@ impl Intake {
         let head = self.head.freeze_to(self.head.len())?;
         let body = mem::replace(&mut self.body, BytesMut::new(self.alloc)).freeze()?;
         self.is_within = false;
+        self.stated = 0;
         Ok(Found::Request(Asked { head, body }, self.is_head))
     }
 }

@@ -38,7 +38,7 @@ pub(crate) struct Line {
 
 impl Line {
     ghost use Rattle.dav_wire.specs.History.{Acts, new_history, after_taken, after_sent};
-    ghost use Rattle.dav_wire.specs.Place.{place, work, history_of, Holds, KeepsLine, Reaches, IsAtHead, IsGiven, IsAnswered, invited, aborted, closed_with};
+    ghost use Rattle.dav_wire.specs.Place.{place, work, history_of, Holds, KeepsLine, Reaches, IsAtHead, IsGiven, IsAnswered, FitsIn, KeepsBody, IsUnrefused, invited, aborted, closed_with};
     ghost use Rattle.dav_wire.specs.Refusals.{known_status, closing_text, refusal_status};
 
     pub(crate) fn new(alloc: Global, config: Config) -> Line
@@ -101,19 +101,28 @@ impl Line {
         matches!(self.state, State::Aborted)
     }
 
-    /// Takes one event from the input. Whether there may be more to do.
-    pub(crate) fn step<S: Answerer>(&mut self, answerer: &mut S, spans: &mut [HeaderSpan]) -> bool
+    /// Takes one event from the input, where there is room for so many bytes of a body. Whether there may be more to do.
+    pub(crate) fn step<S: Answerer>(
+        &mut self,
+        answerer: &mut S,
+        spans: &mut [HeaderSpan],
+        room: usize,
+    ) -> bool
         requires { length spans.old ≡ MAX_HEADERS }
         ensures reaches { Holds self.old → Reaches (work (place self.old.intake)) result self.new }
         ensures acts { self.new.state ≢ State.Aborted → Acts S.judges S.answers
             answerer.old answerer.new (history_of self.old) (history_of self.new) }
         ensures settled { self.old.state ≢ State.Open → self.new ≡ self.old }
         ensures keeps { KeepsLine self.old self.new }
+        ensures fits { FitsIn room self.old.intake → FitsIn room self.new.intake }
+        ensures told { (told : ℕ) → self.old.state ≡ State.Open
+            → self.new.state ≡ State.Closing (Reason.Refused (Refusal.NoRoom told))
+            → told ≡ room }
     {
         if !self.is_open() || self.output.len() > self.intake.config.max_pending {
             return false;
         }
-        match self.intake.read(spans) {
+        match self.intake.read(spans, room) {
             Ok(Found::Nothing) => false,
             Ok(Found::End) => self.close(Reason::EndOfInput),
             Ok(Found::Head(waits)) => self.judge(answerer, waits),
@@ -133,6 +142,8 @@ impl Line {
         ensures acts { self.new.state ≢ State.Aborted → Acts S.judges S.answers
             answerer.old answerer.new (history_of self.old) (history_of self.new) }
         ensures keeps { KeepsLine self.old self.new }
+        ensures body { KeepsBody self.old.intake self.new.intake }
+        ensures unrefused { IsUnrefused self.old self.new }
     {
         let verdict = match answerer.judge(self.intake.head.as_slice()) {
             Ok(verdict) => verdict,
@@ -168,6 +179,8 @@ impl Line {
         ensures acts { self.new.state ≢ State.Aborted → Acts S.judges S.answers
             answerer.old answerer.new (history_of self.old) (history_of self.new) }
         ensures keeps { KeepsLine self.old self.new }
+        ensures body { KeepsBody self.old.intake self.new.intake }
+        ensures unrefused { IsUnrefused self.old self.new }
     {
         self.response.clear();
         if let Err(why) = answerer.answer(asked, &mut self.response) {
@@ -185,6 +198,8 @@ impl Line {
         ensures acts { (self.new.calls ≡ self.old.calls)
             × (self.new.judgements ≡ self.old.judgements) }
         ensures keeps { KeepsLine self.old self.new }
+        ensures body { KeepsBody self.old.intake self.new.intake }
+        ensures unrefused { IsUnrefused self.old self.new }
     {
         let server = &mut self.intake.server;
         match write_head(self.alloc, server, &mut self.output, &self.response) {

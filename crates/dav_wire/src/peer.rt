@@ -1,11 +1,11 @@
 //! One connection: the bytes that came, and those that are to go.
-ghost use Rattle.std.specs.Prelude.{◌≡◌, ◌≢◌, ◌≤◌, ◌<◌, ◌↔◌, [], length, take, IsTrue, OnOk, OnErr, IsErr};
-ghost use Rattle.dav_wire.specs.History.{Acts, IsServed, IsQuiet, Rests, new_history, after_taken, after_sent};
+ghost use Rattle.std.specs.Prelude.{◌≡◌, ◌≢◌, ℕ, ◌≤◌, ◌<◌, ◌↔◌, [], length, take, IsTrue, OnOk, OnErr, IsErr};
+ghost use Rattle.dav_wire.specs.History.{Acts, IsServed, IsQuiet, Rests, held, new_history, after_taken, after_sent};
 ghost use Rattle.dav_wire.specs.Place.{Holds};
 
 use crate::answer::{Answerer, Stop};
 use crate::line::Line;
-use crate::state::{Config, State};
+use crate::state::{Config, Reason, Refusal, State};
 use bytes::Buf;
 use http_server::MAX_HEADERS;
 use httparse::spans::EMPTY_HEADER_SPAN;
@@ -44,9 +44,10 @@ impl Peer {
         self.line.take(bytes)
     }
 
-    /// Has heads judged and the requests answered that came whole, in order, while not too much waits to be sent. After an error, where memory
+    /// Has heads judged and the requests answered that came whole, in order, while not too much waits to be sent. A request is refused
+    /// where its body has more bytes than there is room for: at its head where that states so, else once so many came. After an error, where memory
     /// ran out or the answerer stopped (its reason is the error), the connection is `Aborted`, and what waited is dropped.
-    pub fn advance<S: Answerer>(&mut self, answerer: &mut S) -> Result<(), Stop>
+    pub fn advance<S: Answerer>(&mut self, answerer: &mut S, room: usize) -> Result<(), Stop>
         ensures served { ∥ IsServed (config_of self.new) (history self.new) ∥₁ }
         ensures acts { OnOk result (Acts S.judges S.answers answerer.old answerer.new
             (history self.old) (history self.new)) }
@@ -55,10 +56,14 @@ impl Peer {
         ensures settled { (history self.old).state ≢ State.Open
             → history self.new ≡ history self.old }
         ensures quiet { IsQuiet (history self.old) (history self.new) }
+        ensures fits { held (history self.old) ≤ room → held (history self.new) ≤ room }
+        ensures told { (told : ℕ) → (history self.old).state ≡ State.Open
+            → (history self.new).state ≡ State.Closing (Reason.Refused (Refusal.NoRoom told))
+            → told ≡ room }
         ensures config { config_of self.new ≡ config_of self.old }
     {
         let mut spans = [EMPTY_HEADER_SPAN; MAX_HEADERS];
-        while self.line.step(answerer, &mut spans) {}
+        while self.line.step(answerer, &mut spans, room) {}
         if self.line.is_aborted() {
             return Err(self.line.stop);
         }
@@ -89,6 +94,13 @@ impl Peer {
         ensures { result ≡ length (history self.now).pending }
     {
         self.line.output.len()
+    }
+
+    /// For how many bytes of the body that is being read there has to be room: as many as its head states, or as came.
+    pub fn held(&self) -> usize
+        ensures { result ≡ held (history self.now) }
+    {
+        self.line.intake.stated.max(self.line.intake.body.len())
     }
 
     /// Whether so much waits to be sent that no further request is read before that.

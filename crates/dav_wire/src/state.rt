@@ -56,6 +56,8 @@ pub enum Refusal {
     BodyTooLong,
     /// Its body has a transfer coding other than `chunked` (501; RFC 9112, section 6.1).
     UnknownCoding,
+    /// There is room for so many bytes of its body, and it has more (503; RFC 9110, section 15.6.4).
+    NoRoom(usize),
 }
 
 impl Refusal {
@@ -68,6 +70,7 @@ impl Refusal {
             Refusal::Unreadable(error) => error.status(),
             Refusal::BodyTooLong => 413,
             Refusal::UnknownCoding => 501,
+            Refusal::NoRoom(_) => 503,
         }
     }
 }
@@ -112,7 +115,7 @@ pub(crate) fn closing_text(status: u16) -> &'static [u8]
             b"HTTP/1.1 500 Internal Server Error\r\nconnection: close\r\ncontent-length: 0\r\n\r\n",
         501 => b"HTTP/1.1 501 Not Implemented\r\nconnection: close\r\ncontent-length: 0\r\n\r\n",
         503 =>
-            b"HTTP/1.1 503 Service Unavailable\r\nconnection: close\r\ncontent-length: 0\r\n\r\n",
+            b"HTTP/1.1 503 Service Unavailable\r\nretry-after: 1\r\nconnection: close\r\ncontent-length: 0\r\n\r\n",
         _ => b"HTTP/1.1 400 Bad Request\r\nconnection: close\r\ncontent-length: 0\r\n\r\n",
     }
 }

@@ -1,5 +1,5 @@
 use Rattle.std.proofs.Common.{[], ◌∷◌, ◌++◌, refl, ◌∙◌, subst, inl, inr}
-use Rattle.dav_wire.specs.declared.state.Config.{Config}
+use Rattle.dav_turns.specs.declared.config.TurnsConfig.{TurnsConfig}
 use Rattle.dav_turns.specs.Frames.{report_view}
 use Rattle.dav_turns.specs.Turns.{keeping, server, Heard}
 use Rattle.std.proofs.lemmas.Result.{err_from_is_err_and}
@@ -47,7 +47,8 @@ loop-report-preserved g c =
       reads = reads_on c.args.reports.now c.loop-report.rest.now _ before.reports t before.reads c.in-Whole.ensures refl;
       heard =
           hears_on k c.args.self.now.config before.reports t (server c.args.self.now.slots.items c.args.keeper.now) was now before.ordered did.0 before.heard
-          (subst (λ (config : Config). Heard k config t was now did.0) before.config did.1);
+          (subst (λ (config : TurnsConfig). Heard k config t was now did.0) before.config did.1);
       orders = orders_on c.args.orders.now.items c.loop-report.orders.items c.hear.new.orders.items before.ordered did.0 before.orders did.2;
       config = c.in_ok-hear-in-Whole.ensures.config ∙ before.config;
+      counts = c.in_ok-hear-in-Whole.ensures.counts;
     }

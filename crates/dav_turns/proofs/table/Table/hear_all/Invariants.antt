@@ -1,6 +1,6 @@
 use Rattle.std.proofs.Common.{◌≡◌, List, length}
 use Rattle.dav_turns.specs.Frames.{Order, ReportView, ReadsReports}
-use Rattle.dav_turns.specs.Turns.{keeping, server, HeardAll, orders_after}
+use Rattle.dav_turns.specs.Turns.{keeping, server, Counts, HeardAll, orders_after}
 use Rattle.dav_turns.proofs.table.Table.hear_all.Given as goal
 
 abbrev pub invariant-loop-report : goal.invariant-loop-report
@@ -12,6 +12,7 @@ invariant-loop-report g l = record {
       l.fn.self.config reports (server l.fn.self.slots.items l.fn.keeper) (server l.self.slots.items l.keeper) ordered;
   orders : l.orders.items ≡ orders_after l.fn.orders.items ordered;
   config : l.self.config ≡ l.fn.self.config;
+  counts : Counts l.self.config l.self.waiting l.self.slots.items;
 }
 
 abbrev pub decreases-loop-report : goal.decreases-loop-report

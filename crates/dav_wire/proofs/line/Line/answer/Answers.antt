@@ -18,7 +18,7 @@ pub returns-clause-reaches : goal.returns-clause-reaches
 returns-clause-reaches g c = λ old less x.
     let call : Call = (c.args.asked.now, c.answer.new.response) in
     c.reply.ensures.reaches old less (record {
-      base = rebased x.base refl _ _ _ _;
+      base = rebased x.base refl _ _ _ _ _ _;
       asked = c.args.asked.now;
       calls = c.and-self.ensures ∙ ap (λ (t : List Call). t ++ call ∷ []) x.calls;
       judged = x.judged ∙ sym (map_push (λ (d : Call). (d.0.head, None)) _ call) ∙ ap passed (sym c.and-self.ensures);
