@@ -7,3 +7,4 @@ pub mod ServingLemmas
 pub mod TurnRuns
 pub mod LifePromises
 pub mod Restarts
+pub mod AdmissionLemmas

@@ -2,11 +2,10 @@
 use Rattle.std.proofs.Common.{◌≡◌, ◌+◌, max, ℕ, List, [], ◌∷◌, ◌++◌, Option, Some, None, refl, sym, ap, subst, ◌∙◌, append_assoc, append-nil, arith}
 use Rattle.std.specs.List.{concat}
 use Rattle.http_server.specs.declared.response.Response.{Response}
-use Rattle.dav_kept.specs.Kept.{Holding, IsRunOf, Leads, RecordsFollow, RecordsRun, answer_step, committed, held_by, journal_of, preface_of, with_batch}
+use Rattle.dav_kept.specs.Kept.{Holding, IsRunOf, RecordsFollow, RecordsRun, answer_step, committed, held_by, journal_of, preface_of, with_batch}
 use Rattle.dav_kept.specs.Records.{RequestView}
 use Rattle.dav_kept.specs.declared.kept.Kept.{Kept}
 use Rattle.dav_kept.proofs.LifeLemmas.{batch_joins}
-use Rattle.dav_kept.proofs.KeptLemmas.{leads_append}
 use Rattle.dav_turns.specs.Turns.{Keeping, keeping}
 use Rattle.dav_turns.proofs.Carried.{Carries}
 use Rattle.dav_wire.specs.declared.answer.Asked.{Asked}
@@ -14,7 +13,7 @@ use Rattle.dav_wire.specs.declared.answer.Rejection.{Rejection}
 use Rattle.dav_live.specs.Life.{IsLaterRun, IsOneRun, RunGoesOn, records_text}
 use Rattle.dav_live.specs.Serving.{Commits, GoesOn, IsCommitted, IsGreeted, IsListed, IsMarked, IsPassed, Serves, StaysAll, anew, held_of, kept_of, refused}
 use Rattle.dav_live.specs.declared.service.Service.{Service}
-use Rattle.dav_live.proofs.ServingLemmas.{goes_on_held, goes_on_same, numbered_then}
+use Rattle.dav_live.proofs.ServingLemmas.{goes_on_held, goes_on_same, leads_then, numbered_then}
 
 -- a block more, after the preface and the others
 preface_first : (preface : List ℕ) (blocks : List (List ℕ)) (batch : List ℕ) → with_batch (preface ∷ blocks) batch ≡ preface ∷ with_batch blocks batch
@@ -23,16 +22,10 @@ preface_first preface blocks (b ∷ batch) = refl
 
 module _ {H J : Type 0} (answers : H → RequestView → Response → H → Type 0) (kept : J → List (List ℕ) → Type 0) where
   -- records that follow, after those of a run
-  joined : (first : H) (blocks : List (List ℕ)) (old new : Holding H) → (x : IsRunOf (answer_step answers) first blocks old)
-      → (f : RecordsFollow (answer_step answers) old new) → Leads (answer_step answers) ((concat blocks ++ old.batch) ++ f.more) first new.state
-      (old.tokens + f.plays.tokens) (max old.latest f.plays.latest)
-  joined first blocks old new x f =
-      leads_append (answer_step answers) (concat blocks ++ old.batch) f.more first old.state new.state old.tokens f.plays.tokens old.latest f.plays.latest x f.plays.leads
-
-  longer_run : (first : H) (blocks : List (List ℕ)) (old new : Holding H) → IsRunOf (answer_step answers) first blocks old
+  abbrev longer_run : (first : H) (blocks : List (List ℕ)) (old new : Holding H) → IsRunOf (answer_step answers) first blocks old
       → RecordsFollow (answer_step answers) old new → IsRunOf (answer_step answers) first blocks new
   longer_run first blocks old new x f =
-      let j = joined first blocks old new x f in
+      let j = leads_then (answer_step answers) (concat blocks ++ old.batch) f.more first old.state new.state old.tokens f.plays.tokens old.latest f.plays.latest x f.plays.leads in
       record {
         records = x.records ++ f.plays.leads.records;
         are = j.are;
@@ -54,7 +47,7 @@ module _ {H J : Type 0} (answers : H → RequestView → Response → H → Type
     longer = ap (λ (t : List ℕ). concat blocks ++ t) goes.follows.longer ∙ sym (append_assoc (concat blocks) (held_by old).batch goes.follows.more);
   }
 
-  committed_run : (first : H) (blocks : List (List ℕ)) (old new : Holding H) → new ≡ committed old → IsRunOf (answer_step answers) first blocks old
+  abbrev committed_run : (first : H) (blocks : List (List ℕ)) (old new : Holding H) → new ≡ committed old → IsRunOf (answer_step answers) first blocks old
       → IsRunOf (answer_step answers) first (with_batch blocks old.batch) new
   committed_run first blocks old new held x = record {
     records = x.records;

@@ -1,8 +1,8 @@
 //! Which requests are run, and what is run of them.
-ghost use Rattle.std.specs.Prelude.{◌≡◌, ◌↔◌, [], IfOk, IsTrue, OnOk, option_map, unwrap_or, string_bytes};
+ghost use Rattle.std.specs.Prelude.{◌≡◌, ◌≢◌, ◌↔◌, [], IfOk, IsTrue, OnOk, option_map, unwrap_or, string_bytes};
 ghost use Rattle.http_server.specs.Response.{IsBlank, IsResponse};
+ghost use Rattle.dav_core.specs.declared.errors.DavError.TheVariants.{IllegalPath, Memory};
 ghost use Rattle.dav_live.specs.Admission.{HasManySlashes, IsOutside, IsTokenFor, refusal_fields, slashes_in, status_of};
-ghost use Rattle.dav_live.specs.declared.admission.Decision.{Decision as DecisionValue};
 ghost use Rattle.dav_live.specs.declared.admission.RefusedRequest.{RefusedRequest as RefusedValue};
 
 use crate::hosts::is_for;
@@ -128,14 +128,25 @@ fn has_many_slashes(head: &Head<'_>) -> bool
     slashes_in(head.target().as_bytes()) > MOST_SLASHES || slashes_in(destination) > MOST_SLASHES
 }
 
+// Whether an error says that a path isn't at or below the prefix.
+fn is_illegal(error: &DavError) -> Result<bool, Stop>
+    ensures is { IfOk result (λ is. IsTrue is ↔ (error.now ≡ IllegalPath)) }
+    ensures ample { OnOk result (error.now ≢ Memory) }
+{
+    match error {
+        DavError::IllegalPath => Ok(true),
+        DavError::Memory => Err(Stop::Memory),
+        _ => Ok(false),
+    }
+}
+
 // Whether a head's target names a path that isn't at or below the prefix.
 fn is_outside(alloc: Global, head: &Head<'_>, prefix: &str) -> Result<bool, Stop>
     ensures { IfOk result (λ is. IsTrue is ↔ IsOutside prefix.now head.now) }
 {
-    match path_of(alloc, DavMethod::Get, head.target(), prefix) {
-        Err(DavError::IllegalPath) => Ok(true),
-        Err(DavError::Memory) => Err(Stop::Memory),
-        _ => Ok(false),
+    match &path_of(alloc, DavMethod::Get, head.target(), prefix) {
+        Ok(_) => Ok(false),
+        Err(error) => is_illegal(error),
     }
 }
 
@@ -150,7 +161,10 @@ fn token_for(
     ensures { IfOk result (λ token. IsTokenFor random.now tokens head.now.method body.now
         (option_map string_bytes token)) }
 {
-    if body.is_empty() || !is_lock(head.method()) {
+    if body.is_empty() {
+        return Ok(None);
+    }
+    if !is_lock(head.method()) {
         return Ok(None);
     }
     Ok(Some(token_text(alloc, random, tokens)?))
@@ -164,7 +178,7 @@ fn refused(reason: Reason, user: String) -> Decision
 }
 
 impl Admission {
-    ghost use Rattle.std.specs.Prelude.{◌≡◌, ◌≢◌, ◌≤◌, ◌<◌, ◌↔◌, ℕ, List, [], Some, IfOk, IfSome, IsTrue, MatchOption, map, min, max, option_map, replicate, string_bytes};
+    ghost use Rattle.std.specs.Prelude.{◌≡◌, ◌≢◌, ◌≤◌, ◌<◌, ◌↔◌, ℕ, List, [], Some, IfOk, IfSome, IsFalse, IsTrue, MatchOption, map, min, max, option_map, replicate, string_bytes};
     ghost use Rattle.dav_access.specs.Users.{IsName, ListsUsers};
     ghost use Rattle.dav_core.specs.World.{last_moment};
     ghost use Rattle.dav_live.specs.Admission.{HasManySlashes, IsDecision, IsLetIn, IsOutside, IsRequestOf, IsUnlisted, TellsSafe, request_in, with_random};
@@ -284,9 +298,8 @@ impl Admission {
     pub fn hear_hello(&mut self, bytes: &[u8])
         ensures { self.new ≡ record self.old { random = with_random bytes.now self.old.random } }
     {
-        for (place, byte) in self.random.iter_mut().zip(bytes.iter()) {
-            *place = *byte;
-        }
+        let len = bytes.len().min(16);
+        self.random[..len].copy_from_slice(&bytes[..len]);
     }
 
     /// Takes the list of the users anew. The fault of one that isn't taken: then the users are as they were.
@@ -316,6 +329,7 @@ impl Admission {
           moment = max self.old.moment (min seconds last_moment);
         } }
         ensures later { IsTrue result ↔ (self.old.moment < self.new.moment) }
+        ensures still { IsFalse result → self.new ≡ self.old }
     {
         let moment = seconds.min(LAST_MOMENT);
         if moment <= self.moment {
@@ -328,7 +342,7 @@ impl Admission {
 
 // A request that isn't run, of this user.
 fn refused_of(alloc: Global, reason: Reason, user: Option<String>) -> Decision
-    ensures { (refusal : RefusedRequest) × (result ≡ Decision.Refused refusal)
+    ensures { (refusal : RefusedValue) × (result ≡ Decision.Refused refusal)
         × (refusal.reason ≡ reason)
         × (string_bytes refusal.user ≡ unwrap_or (option_map string_bytes user) []) }
 {

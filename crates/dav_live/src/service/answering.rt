@@ -2,6 +2,7 @@
 ghost use Rattle.std.specs.Prelude.{◌≡◌, ◌≤◌, OnOk};
 ghost use Rattle.std.specs.Option.{option_copied};
 ghost use Rattle.dav_core.specs.World.{last_moment};
+ghost use Rattle.dav_kept.specs.Records.{IsRecord};
 ghost use Rattle.dav_live.specs.Serving.{IsDated};
 
 use crate::admission::{Admitted, Decision, refuse};
@@ -117,8 +118,7 @@ impl<H: Ends + Drop, J: Keeps + Drop> Service<H, J> {
 
     // Runs a request that only reads: it is never recorded, and needs no room.
     fn look(&mut self, request: &Request<'_>, response: &mut Response) -> Result<(), Stop>
-        requires blank { IsBlank response.old }
-        requires number { HasNumber (held_of self.old).tokens request.now.token }
+        requires { IsBlank response.old }
         ensures run { OnOk result (IsRun H.answers (held_of self.old) request.now response.new
             (held_of self.new)) }
         ensures same { OnOk result (admission_of self.new ≡ admission_of self.old) }
@@ -145,10 +145,11 @@ impl<H: Ends + Drop, J: Keeps + Drop> Service<H, J> {
         ensures goes_on { OnOk result
             (GoesOn H.answers J.kept (kept_of self.old) (kept_of self.new)) }
     {
-        // (what a request can be, for its record)
-        let _ = request.moment;
         match self.kept.answer(request, response) {
-            Ok(Some(_)) => Ok(()),
+            Ok(Some(_)) => {
+                see_record(request, response.status);
+                Ok(())
+            }
             Ok(None) => {
                 response.status = StatusCode::INSUFFICIENT_STORAGE;
                 Ok(())
@@ -209,6 +210,13 @@ pub(crate) fn request_of<'r>(
         head,
         body,
     }
+}
+
+// Shows what a record of a request can be that was answered with this status.
+fn see_record(request: &Request<'_>, status: StatusCode)
+    ensures { IsRecord (record { request = request.now; status = status }) }
+{
+    let _ = (request.moment, status.as_u16());
 }
 
 /// Adds the date of a moment to a response (RFC 9110, section 6.6.1).

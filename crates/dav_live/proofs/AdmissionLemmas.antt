@@ -1,0 +1,85 @@
+-- What becomes of a request.
+use Rattle.std.proofs.Common.{◌≡◌, ◌≢◌, ◌<◌, ◌^◌, ◌↔◌, ◌==◌, ◌∷◌, ℕ, Bool, false, true, IsTrue, arith, IfOk, OnOk, List, [], length, get_or, Option, None, Some, Result, Ok, Err, String, option_map, unwrap_or, codes, inl, inr, refl, sym, subst, string_bytes}
+use Rattle.std.proofs.lemmas.List.Elements.{All-from_get_or}
+use Rattle.std.proofs.lemmas.Bool.Decides.{nat_tests}
+use Rattle.std.specs.Global.{Global}
+use Rattle.dav_core.specs.Path.{PathText}
+use Rattle.dav_core.specs.declared.errors.DavError.{DavError}
+use Rattle.dav_core.specs.declared.errors.DavError.TheVariants.{IllegalPath, Memory}
+use Rattle.dav_core.specs.declared.method.DavMethod.TheVariants.{Get}
+use Rattle.dav_server.specs.Head.{Request}
+use Rattle.dav_server.specs.Target.{TargetNames}
+use Rattle.dav_server.specs.TargetCode.{GivesPath}
+use Rattle.dav_server.proofs.TargetLemmas.{one_outcome}
+use Rattle.dav_live.specs.Admission.{AdmissionView, IsDecision, IsTokenFor, IsTurnedAway, misdirected, next, unknown}
+use Rattle.dav_live.specs.Hosts.{TellsFor, value_of}
+use Rattle.dav_live.specs.Tokens.{token_text}
+use Rattle.dav_access.specs.Principals.{ShowsNoUser}
+use Rattle.dav_live.specs.declared.admission.Decision.{Decision}
+use Rattle.dav_live.specs.declared.admission.Decision.TheVariants.{Refused}
+use Rattle.dav_live.specs.declared.admission.Reason.{Reason}
+use Rattle.dav_live.specs.declared.admission.Reason.TheVariants.{Misdirected, Unauthorized}
+use Rattle.dav_live.specs.declared.admission.RefusedRequest.{RefusedRequest}
+
+module _ (a : AdmissionView) (tokens : ℕ) (came : Request) (body : List ℕ) (d : Decision) where
+  pub turned_away : (x : RefusedRequest) (reason : Reason) (user : List ℕ) → d ≡ Refused x → x.reason ≡ reason → string_bytes x.user ≡ user
+      → IsTurnedAway a came reason user → IsDecision a tokens came body d
+  turned_away x reason user e reason_is user_is away =
+      subst (IsDecision a tokens came body) (sym e)
+      (subst (λ (r : Reason). IsTurnedAway a came r (string_bytes x.user)) (sym reason_is) (subst (IsTurnedAway a came reason) (sym user_is) away))
+
+  pub for_another : (x : RefusedRequest) (hosts : List (List ℕ)) → a.hosts ≡ hosts → d ≡ Refused x → x.reason ≡ Misdirected → string_bytes x.user ≡ []
+      → TellsFor hosts (value_of (codes "host") came) false → IsDecision a tokens came body d
+  for_another x hosts same e reason_is user_is tells =
+      turned_away x Misdirected [] e reason_is user_is
+      (misdirected (subst (λ (hs : List (List ℕ)). TellsFor hs (value_of (codes "host") came) false) (sym same) tells))
+
+  pub of_nobody : (x : RefusedRequest) (hosts : List (List ℕ)) (shown : List ℕ) → a.hosts ≡ hosts → d ≡ Refused x → x.reason ≡ Unauthorized
+      → string_bytes x.user ≡ shown → TellsFor hosts (value_of (codes "host") came) true
+      → ShowsNoUser a.users (value_of (codes "authorization") came) shown → IsDecision a tokens came body d
+  of_nobody x hosts shown same e reason_is user_is tells shows =
+      turned_away x Unauthorized shown e reason_is user_is
+      (unknown shown (subst (λ (hs : List (List ℕ)). TellsFor hs (value_of (codes "host") came) true) (sym same) tells) shows)
+
+-- ---- paths outside of the prefix
+
+pub inside_is : (prefix target : List ℕ) (p : PathText) → GivesPath prefix Get target (Ok p) → ¬ TargetNames prefix Get target (Err IllegalPath)
+inside_is prefix target p gives names =
+    let same : Ok p ≡ Err IllegalPath = one_outcome prefix Get target (Ok p) (Err IllegalPath) gives names in
+    cc
+
+tells_illegal : (prefix target : List ℕ) (e : DavError) (b : Bool) → GivesPath prefix Get target (Err e) → (IsTrue b ↔ (e ≡ IllegalPath)) → e ≢ Memory
+    → (IsTrue b ↔ TargetNames prefix Get target (Err IllegalPath))
+tells_illegal prefix target e b (inl memory) tells ample = absurd (ample memory)
+tells_illegal prefix target e b (inr gives) tells ample = (
+  λ yes. subst (λ (x : DavError). TargetNames prefix Get target (Err x)) (tells.0 yes) gives,
+  λ names. let same : Err e ≡ Err IllegalPath = one_outcome prefix Get target (Err e) (Err IllegalPath) gives names in tells.1 (cc),
+)
+
+pub outside_is : {E : Type 0} (prefix target : List ℕ) (e : DavError) (r : Result Bool E) → GivesPath prefix Get target (Err e)
+    → IfOk r (λ b. IsTrue b ↔ (e ≡ IllegalPath)) → OnOk r (e ≢ Memory) → IfOk r (λ b. IsTrue b ↔ TargetNames prefix Get target (Err IllegalPath))
+outside_is prefix target e (Ok b) gives tells ample = tells_illegal prefix target e b gives tells ample
+outside_is prefix target e (Err f) gives tells ample = tt
+
+-- ---- tokens
+
+pub next_token : (random : List ℕ) (number : ℕ) (method body text : List ℕ) → ((i : ℕ) → get_or random i 0 < 256) → length random ≡ 16 → number < 2 ^ 64
+    → method ≡ codes "LOCK" → body ≢ [] → text ≡ token_text random number → IsTokenFor random number method body (Some text)
+next_token random number method body text bytes sixteen small lock some is =
+    subst (λ (t : List ℕ). IsTokenFor random number method body (Some t)) (sym is)
+    (next lock some (random, (sixteen, All-from_get_or (λ b. b < 256) random 0 (λ i within. bytes i)), small, refl))
+
+-- ---- the user that is told
+
+pub user_text : (o : Option (String Global)) (d : String Global) → string_bytes d ≡ [] → string_bytes (unwrap_or o d) ≡ unwrap_or (option_map string_bytes o) []
+user_text None d e = e
+user_text (Some s) d e = refl
+
+-- ---- whether there are bytes
+
+pub empty_is : (xs : List ℕ) → true ≡ (length xs == 0) → xs ≡ []
+empty_is [] e = refl
+empty_is (x ∷ xs) e = absurd (grind (arith, nat_tests))
+
+pub some_is : (xs : List ℕ) → false ≡ (length xs == 0) → xs ≢ []
+some_is xs e none = let f : false ≡ true = subst (λ (t : List ℕ). false ≡ (length t == 0)) none e in cc

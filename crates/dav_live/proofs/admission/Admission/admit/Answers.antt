@@ -1,0 +1,21 @@
+use Rattle.std.proofs.Common.{◌≡◌, ◌∙◌, sym, ap, subst, rules, string_bytes, option_map}
+use Rattle.dav_live.specs.Admission.{AdmissionView, HasManySlashes, IsOutside, outside, too_long}
+use Rattle.dav_live.specs.declared.admission.Reason.TheVariants.{Outside, TooLong}
+use Rattle.dav_live.proofs.AdmissionLemmas.{turned_away}
+use Rattle.dav_live.proofs.admission.Admission.admit.Goals as goal
+
+pub returns-then-has_many_slashes : goal.returns-then-has_many_slashes
+returns-then-has_many_slashes c =
+    let r = c.refused_of.ensures in
+    let many : HasManySlashes c.args.head.now = search rules in
+    turned_away c.args.self.now c.args.tokens c.args.head.now c.args.body.now c.refused_of.result r.0 TooLong _ r.1 r.2 r.3
+    (too_long (option_map string_bytes c.args.principal) c.requires.let_in many)
+
+pub returns-then-branch : goal.returns-then-branch
+returns-then-branch c =
+    let r = c.refused_of-then-branch.ensures in
+    let few : ¬ HasManySlashes c.args.head.now = search rules in
+    let prefix : c.as_str.result.now ≡ c.args.self.now.prefix = c.as_str.ensures.value ∙ ap (λ (a : AdmissionView). a.prefix) c.self.view_is in
+    let is : IsOutside c.as_str.result.now c.args.head.now = search rules in
+    turned_away c.args.self.now c.args.tokens c.args.head.now c.args.body.now c.refused_of-then-branch.result r.0 Outside _ r.1 r.2 r.3
+    (outside (option_map string_bytes c.args.principal) c.requires.let_in few (subst (λ p. IsOutside p c.args.head.now) prefix is))

@@ -1,0 +1,16 @@
+use Rattle.std.proofs.Common.{ℕ, subst}
+use Rattle.dav_live.specs.Serving.{IsDated}
+use Rattle.dav_live.proofs.ServingLemmas.{on_ok}
+use Rattle.dav_live.proofs.service.answering.ServiceAnswerer.answer.Goals as goal
+
+pub returns : goal.returns
+returns g c =
+    on_ok c.add_date.result
+    (λ dated. record {
+      own = c.respond.new.response;
+      responds = c.in_ok-respond.ensures.responds;
+      dated = subst (λ (n : ℕ). IsDated n c.respond.new.response c.add_date.new.response) c.moment-moment.ensures.is dated;
+      same = c.in_ok-respond.ensures.same;
+      goes_on = c.in_ok-respond.ensures.goes_on;
+    })
+    c.add_date.ensures
