@@ -84,7 +84,7 @@ module _ {H J : Type 0} (answers : H → RequestView → Response → H → Type
         longer = end.longer ∙ ap (λ (t : List ℕ). t ++ end.added) mid.longer ∙ append_assoc (records_text blocks a) mid.added end.added;
       }
 
-  same_runs : (old new : Kept H J) → new ≡ old → RunGoesOn answers kept old new
+  pub same_runs : (old new : Kept H J) → new ≡ old → RunGoesOn answers kept old new
   same_runs old new e = goes_on_runs old new (goes_on_same answers kept old new e)
 
   listed_runs : (old new : Service H J) (bytes : List ℕ) → IsListed old bytes new → RunGoesOn answers kept (kept_of old) (kept_of new)

@@ -1,4 +1,8 @@
 //! A live server, behind one stream of reports and one of orders.
+ghost use Rattle.std.specs.Prelude.{◌≡◌, [], IfOk};
+ghost use Rattle.dav_journal.specs.Journal.{IsClean, IsReading};
+ghost use Rattle.dav_live.specs.LiveRun.{service_of};
+
 use crate::fault::{Fault, OpenError};
 use crate::machine::Machine;
 use crate::service::Service;
@@ -133,8 +137,9 @@ impl<D: Disk + Drop> Live<D> {
             return Fault::Memory;
         };
         for _ in 0..u64::MAX {
-            if let Err(fault) = self.serve_once(&mut pipe, reader, writer, watch) {
-                return fault;
+            match self.serve_once(&mut pipe, reader, writer, watch) {
+                Ok(()) => {}
+                Err(fault) => return fault,
             }
         }
         Fault::Ended
@@ -187,7 +192,9 @@ impl<D: Disk + Drop> Live<D> {
 }
 
 // A journal over a disk, which is open.
-fn opened<D: Disk + Drop>(disk: D) -> Result<Journal<D>, OpenError> {
+fn opened<D: Disk + Drop>(disk: D) -> Result<Journal<D>, OpenError>
+    ensures { IfOk result (λ j. IsClean D.Disk j → IsReading D.Disk j []) }
+{
     let mut journal = Journal::new(disk);
     journal.open()?;
     Ok(journal)
@@ -197,7 +204,9 @@ fn opened<D: Disk + Drop>(disk: D) -> Result<Journal<D>, OpenError> {
 fn live_of<D: Disk + Drop>(
     alloc: Global,
     service: Service<Machine, Journal<D>>,
-) -> Result<Live<D>, OpenError> {
+) -> Result<Live<D>, OpenError>
+    ensures { IfOk result (λ l. service_of l ≡ service) }
+{
     Ok(Live {
         alloc,
         turns: Turns::new(alloc, config_of(&service))?,

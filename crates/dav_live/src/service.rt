@@ -30,7 +30,7 @@ impl<H: Ends + Drop, J: Keeps + Drop> Service<H, J> {
     ghost use Rattle.dav_kept.specs.Kept.{journal_of};
     ghost use Rattle.dav_live.specs.Life.{IsOneRun, IsOpened};
     ghost use Rattle.dav_live.specs.Numbered.{AreNumbered};
-    ghost use Rattle.dav_live.specs.Serving.{admission_of, held_of, kept_of};
+    ghost use Rattle.dav_live.specs.Serving.{StaysAll, admission_of, held_of, kept_of};
 
     /// A service of this handler, as the requests of the journal leave it.
     pub fn open(
@@ -126,7 +126,9 @@ impl<H: Ends + Drop, J: Keeps + Drop> Service<H, J> {
     }
 
     /// Tells what there is to be told.
-    pub fn tell<L: Watch>(&mut self, watch: &mut L) {
+    pub fn tell<L: Watch>(&mut self, watch: &mut L)
+        ensures { StaysAll self.old self.new }
+    {
         if !self.told.lines().is_empty() {
             watch.tell(self.told.lines());
         }
