@@ -9,6 +9,7 @@ ghost use Rattle.dav_core.specs.Property.{patched, patch_of, without_xml, patche
 
 mod filesystem;
 mod loaded;
+mod passing;
 mod saved;
 #[cfg(test)]
 pub(crate) mod tests;
