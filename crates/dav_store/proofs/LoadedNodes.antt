@@ -98,7 +98,6 @@ pub parent_less : (x : List ℕ) (p : Path) → path_cmp (parent_of (x ∷ p)) (
 parent_less x [] = refl
 parent_less x (y ∷ p) = ap (λ (o : Ordering). ordering_then o (path_cmp (parent_of (y ∷ p)) (y ∷ p))) (tied_itself nat_list_cmp_total x) ∙ parent_less y p
 
-
 pub below_less : (p q : Path) (es : Nodes) → path_cmp p q ≡ Less → T (below_all path_cmp q es) → T (below_all path_cmp p es)
 below_less p q [] lt h = tt
 below_less p q (e ∷ es) lt h =

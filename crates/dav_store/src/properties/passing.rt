@@ -10,7 +10,11 @@ use dav_core::errors::NoMemory;
 use std::alloc::Global;
 
 // Whether an element, if there is one, passes.
-fn passes<T: ElementTest>(alloc: Global, element: &Option<Element>, test: &T) -> Result<bool, NoMemory>
+fn passes<T: ElementTest>(
+    alloc: Global,
+    element: &Option<Element>,
+    test: &T,
+) -> Result<bool, NoMemory>
     ensures { IfOk result (λ is. Decides is (IfSome element.now (T.passes test.now))) }
 {
     match element {

@@ -9,10 +9,10 @@ pub returns-then-not-is_lt : goal.returns-then-not-is_lt
 returns-then-not-is_lt c =
     let read : path_cmp c.index-list-i.result.0 c.index-list-i-in-loop-i.result.0 ≡ path_cmp (get_or c.args.list.now (c.loop-i.i - 1) c.index-list-i.result).0 (get_or c.args.list.now c.loop-i.i c.index-list-i-in-loop-i.result).0 =
     λ t. path_cmp (c.index-list-i.is t).0 (c.index-list-i-in-loop-i.is t).0 in (
-  λ t. cc,
-  λ s. absurd (rises_not path_cmp c.args.list.now c.loop-i.i c.index-list-i.result c.index-list-i-in-loop-i.result c.loop-i.auto.i c.loop-i-test.true c.index-list-i.is c.index-list-i-in-loop-i.is
-      (test_other (path_cmp c.index-list-i.result.0 c.index-list-i-in-loop-i.result.0) (ap is_lt read ∙ sym (c.if-not-is_lt.ensures ∙ ap is_lt c.compare.ensures))) s),
-)
+      λ t. cc,
+      λ s. absurd (rises_not path_cmp c.args.list.now c.loop-i.i c.index-list-i.result c.index-list-i-in-loop-i.result c.loop-i.auto.i c.loop-i-test.true c.index-list-i.is c.index-list-i-in-loop-i.is
+          (test_other (path_cmp c.index-list-i.result.0 c.index-list-i-in-loop-i.result.0) (ap is_lt read ∙ sym (c.if-not-is_lt.ensures ∙ ap is_lt c.compare.ensures))) s),
+    )
 
 pub loop-i-preserved : goal.loop-i-preserved
 loop-i-preserved c =
