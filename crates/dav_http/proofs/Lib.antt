@@ -19,3 +19,4 @@ mod HeadTextLemmas
 mod LeavesLemmas
 mod LeavesSteps
 pub mod OneAnswer
+pub mod SavedLaws
