@@ -20,3 +20,4 @@ mod LeavesLemmas
 mod LeavesSteps
 pub mod OneAnswer
 pub mod SavedLaws
+pub mod SavedCalls

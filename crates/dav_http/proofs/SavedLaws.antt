@@ -4,8 +4,8 @@ use Rattle.std.proofs.lemmas.List.{append-nil}
 use Rattle.dav_core.specs.Locks.{Lock}
 use Rattle.dav_core.specs.World.{World}
 use Rattle.dav_engine.specs.Plan.{Locks}
-use Rattle.dav_saved.specs.Locks.{locks, locks_at}
-use Rattle.dav_saved.specs.Worlds.{world, world_at}
+use Rattle.dav_saved.specs.Locks.{locks, locks_at, AreSaveableLocks}
+use Rattle.dav_saved.specs.Worlds.{world, world_at, IsSaveableWorld}
 use Rattle.dav_saved.proofs.Fields.{some_is}
 use Rattle.dav_saved.proofs.LockLaws.{locks_again}
 use Rattle.dav_saved.proofs.WorldLaws.{world_again}
@@ -46,3 +46,14 @@ loads_one_server first one other bytes l m =
       settings = first.settings;
       state = record { store = record { world = world-is i; refusals = []; short = false }; locks = Some (locks-are i) };
     }) ∙ sym m.is
+
+-- the parts that are read of what was saved are those that were saved
+pub parts_are : (bytes : List ℕ) (w v : World) (ls ks : List Lock) (rest : List ℕ) → bytes ≡ world w ++ locks ls → IsSaveableWorld most_levels w → AreSaveableLocks most_levels ls
+    → world_at most_levels bytes ≡ Some (v, rest) → locks_at most_levels rest ≡ Some (ks, []) → (v ≡ w) × (ks ≡ ls)
+parts_are bytes w v ls ks rest is fits listed reads reads_locks =
+    let first-part : ◌≡◌ {A = World × List ℕ} (v, rest) (w, locks ls) =
+    some_is (v, rest) (w, locks ls) (sym reads ∙ ap (world_at most_levels) is ∙ world_again most_levels w (locks ls) fits) in
+    let behind : rest ≡ locks ls = ap (λ (p : World × List ℕ). p.1) first-part in
+    let second-part : ◌≡◌ {A = List Lock × List ℕ} (ks, []) (ls, []) =
+    some_is (ks, []) (ls, []) (sym reads_locks ∙ ap (locks_at most_levels) (behind ∙ sym (append-nil (locks ls))) ∙ locks_again most_levels ls [] listed) in
+    (ap (λ (p : World × List ℕ). p.0) first-part, ap (λ (p : List Lock × List ℕ). p.0) second-part)

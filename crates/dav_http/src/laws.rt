@@ -40,7 +40,6 @@ pub fn steps_are_one()
 {}
 
 /// What was saved of a server is loaded as the same server, and bytes are loaded as one server.
-#[tactic(auto, using(crate::proofs::SavedLaws::saved_is_loaded, crate::proofs::SavedLaws::loads_one_server))]
 pub fn saved_is_loaded()
     ensures saved { SavedIsLoaded }
     ensures one { LoadsOneServer }
