@@ -22,7 +22,7 @@ PROPFIND /a HTTP/1.1^Depth: 0^^<propfind xmlns='DAV:'><prop><x:p xmlns:x='urn:x'
 PROPFIND / HTTP/1.1^Depth: 1^^ -> 207 *
 PROPFIND /d HTTP/1.1^Depth: 1^^<propfind xmlns='DAV:'><prop><lockdiscovery/></prop></propfind> -> 207 *
 PUT /d/n HTTP/1.1^^x -> 423 *
-PUT /d/n HTTP/1.1^If: </d> (<urn:t>)^^x -> 204 |
+PUT /d/n HTTP/1.1^If: (<urn:t>)^^x -> 204 |
 PUT /a HTTP/1.1^^other -> 204 |
 PROPFIND / HTTP/1.1^Depth: 1^^ -> 207 *
 UNLOCK /d HTTP/1.1^Lock-Token: <urn:t>^^ -> 204 |
