@@ -65,11 +65,13 @@ elements_within ns h =
 pub owners_within : (ls : List Lock) → AllByRecursion IsKeepableLock ls → AllByRecursion (λ l. IsWithin most_levels l.owner) ls
 owners_within ls h = all_weaker IsKeepableLock (λ (l : Lock). IsWithin most_levels l.owner) (λ l k. value_within l.owner k.owner) ls h
 
-pub saveable : (w : World) (ls : List Lock) (s : Server) → w ≡ s.state.store.world → s.state.locks ≡ Some ls → IsWorld s.state.store.world → AreKeepable w ls
+pub saveable : (w : World) (ls : List Lock) (s : Server) → s.state.store.refusals ≡ [] → s.state.store.short ≡ false → w ≡ s.state.store.world → s.state.locks ≡ Some ls → IsWorld s.state.store.world → AreKeepable w ls
     → IsSaveableWorld most_levels w → AreSaveableLocks most_levels ls → IsSaveable s
-saveable w ls s same listed is keepable fits locks = record {
+saveable w ls s unrefused ample same listed is keepable fits locks = record {
   list = ls;
   is_list = listed;
+  unrefused = unrefused;
+  ample = ample;
   is_world = is;
   keepable = subst (λ (v : World). AreKeepable v ls) same keepable;
   world = subst (IsSaveableWorld most_levels) same fits;

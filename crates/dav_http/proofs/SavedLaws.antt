@@ -21,7 +21,7 @@ pub locks_read : (s : Server) (is : IsSaveable s) → locks_at most_levels (lock
 locks_read s is = ap (locks_at most_levels) (sym (append-nil (locks is.list))) ∙ locks_again most_levels is.list [] is.locks
 
 pub saved_is_loaded : SavedIsLoaded
-saved_is_loaded first state loaded settings unrefused ample is l =
+saved_is_loaded first state loaded settings is l =
     let first-part : ◌≡◌ {A = World × List ℕ} (l.world, l.rest) (state.state.store.world, locks is.list) =
     some_is (l.world, l.rest) (state.state.store.world, locks is.list) (sym l.reads ∙ world_read state is) in
     let rest : l.rest ≡ locks is.list = ap (λ (p : World × List ℕ). p.1) first-part in
@@ -31,7 +31,7 @@ saved_is_loaded first state loaded settings unrefused ample is l =
     let locks-are : Some l.locks ≡ state.state.locks = ap (λ (p : List Lock × List ℕ). Some p.0) second-part ∙ sym is.is_list in
     l.is ∙ (λ i. record {
       settings = sym settings i;
-      state = record { store = record { world = world-is i; refusals = sym unrefused i; short = sym ample i }; locks = locks-are i };
+      state = record { store = record { world = world-is i; refusals = sym is.unrefused i; short = sym is.ample i }; locks = locks-are i };
     })
 
 pub loads_one_server : LoadsOneServer

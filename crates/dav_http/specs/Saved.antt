@@ -42,10 +42,13 @@ pub record AreKeepable (w : World) (ls : List Lock) : Type 0 where
   pub elements : ElementsPass IsKeepable w.nodes
   pub locks : AllByRecursion IsKeepableLock ls
 
--- Which servers can be saved: those with a list of locks, whose store holds a world, of elements and locks that can be saved and loaded.
+-- Which servers can be saved: those with a list of locks, whose store holds a world, of elements and locks that can be saved and loaded;
+-- no call of the store will be refused, and no allocation in it has failed.
 pub record IsSaveable (s : Server) : Type 0 where
   pub list : List Lock
   pub is_list : s.state.locks ≡ Some list
+  pub unrefused : s.state.store.refusals ≡ []
+  pub ample : s.state.store.short ≡ false
   pub is_world : IsWorld s.state.store.world
   pub keepable : AreKeepable s.state.store.world list
   pub world : IsSaveableWorld most_levels s.state.store.world
@@ -64,13 +67,10 @@ pub record Loads (first : Server) (bytes : List ℕ) (loaded : Server) : Type 0 
     state = record { store = record { world = world; refusals = []; short = false }; locks = Some locks };
   }
 
--- A server that was saved is loaded as the same server, where it has the settings of the one that loads it, no call of its store will be
--- refused, and no allocation in it has failed.
+-- A server that was saved is loaded as the same server, where it has the settings of the one that loads it.
 abbrev pub SavedIsLoaded : Type 0
 SavedIsLoaded =
-    (first state loaded : Server)
-    → state.settings ≡ first.settings → state.state.store.refusals ≡ [] → state.state.store.short ≡ false
-    → IsSaveable state → Loads first (saved_bytes state) loaded → loaded ≡ state
+    (first state loaded : Server) → state.settings ≡ first.settings → IsSaveable state → Loads first (saved_bytes state) loaded → loaded ≡ state
 
 -- bytes are loaded as one server
 abbrev pub LoadsOneServer : Type 0

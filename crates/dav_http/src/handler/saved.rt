@@ -14,6 +14,7 @@ use super::Handler;
 use crate::sendable::is_sendable;
 use dav_core::element::Element;
 use dav_core::errors::NoMemory;
+use dav_core::fs::DavFileSystem;
 use dav_core::ls::DavLock;
 use dav_saved::LoadError;
 use dav_store::memfs::MemFs;
@@ -153,8 +154,8 @@ impl Handler {
     ghost use Rattle.dav_http.specs.Saved.{saved_bytes, IsSaveable, Loads};
 
     /// Adds the server to what is saved: the world of its store, and its list of locks. False where something can't be saved, as
-    /// an element of more than 256 levels, or one that is written so long that it can't be read again; nothing may be assumed of
-    /// `out` then, or after an error.
+    /// an element of more than 256 levels, or one that is written so long that it can't be read again, and where memory ran out in
+    /// the store; nothing may be assumed of `out` then, or after an error.
     pub fn save(&self, alloc: Global, out: &mut Vec<u8>) -> Result<bool, NoMemory>
         ensures saved { IfOk result (λ is. is ≡ true → out.new.items
             ≡ out.old.items ++ saved_bytes self.now.server) }
@@ -164,6 +165,9 @@ impl Handler {
             return Ok(false);
         };
         let fs = self.handler.fs();
+        if fs.was_short() {
+            return Ok(false);
+        }
         if !are_keepable(alloc, fs, ls)? {
             return Ok(false);
         }
