@@ -19,3 +19,5 @@ mod HeadTextLemmas
 mod LeavesLemmas
 mod LeavesSteps
 pub mod OneAnswer
+pub mod SavedLaws
+pub mod SavedCalls

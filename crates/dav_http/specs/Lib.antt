@@ -7,3 +7,4 @@ pub mod Ending
 pub mod Sending
 pub mod HeadText
 pub mod Kept
+pub mod Saved

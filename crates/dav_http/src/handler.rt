@@ -6,6 +6,8 @@ ghost use Rattle.dav_server.specs.Head.{Request, IsHead};
 ghost use Rattle.dav_http.specs.Sent.{IsSendableTextIfAny};
 ghost use Rattle.dav_http.specs.Steps.{IsBodyOf, IsExchangeOf, IsTokenOf};
 
+mod saved;
+
 use crate::head::{Head, takes_tree};
 use crate::owner::with_prefixed_owners;
 use crate::sendable::is_sendable_if_any;

@@ -1,4 +1,5 @@
 //! Laws of replies. Each function does nothing: its contract is a theorem on the definitions.
+ghost use Rattle.dav_http.specs.Saved.{LoadsOneServer, SavedIsLoaded};
 ghost use Rattle.dav_http.specs.Steps.{StepsAreOne};
 ghost use Rattle.dav_http.specs.SentLaws.{CutsStaySendable, NewIsSendable, RunsAreReadAgain, StepsAreReadAgain, PrefixedOwnersMayBeSent, UsualOwnersMayBeSent};
 
@@ -36,4 +37,10 @@ pub fn prefixed_owners_may_be_sent()
 /// A request has one answer: any two steps for it from one server have the same reply, and leave the same server.
 pub fn steps_are_one()
     ensures { StepsAreOne }
+{}
+
+/// What was saved of a server is loaded as the same server, and bytes are loaded as one server.
+pub fn saved_is_loaded()
+    ensures saved { SavedIsLoaded }
+    ensures one { LoadsOneServer }
 {}

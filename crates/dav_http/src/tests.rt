@@ -1,5 +1,8 @@
 //! Requests as rows of text: what is kept of a head, and what a server answers. In a row `^` is
 //! CRLF.
+
+mod saved;
+
 use crate::{HandleError, Handler, Head, is_sendable_if_any, leaves, send, unlock_head};
 use bytes::{Buf, Bytes};
 use dav_engine::Caller;

@@ -72,8 +72,3 @@ unfoldable pub list_at : {A : Type 0} → (List ℕ → Read A) → List ℕ →
 list_at one bytes = do
   n ← number_at bytes
   many_at one n.0 n.1
-
--- What reading gives, where its value passes this test; none where it doesn't.
-abbrev pub checked : {A : Type 0} → (A → Bool) → Read A → Read A
-checked test None = None
-checked test (Some x) = if test x.0 then Some x else None

@@ -177,6 +177,19 @@ impl<F: DavFileSystem + Drop, L: DavLockSystem + Drop> DavHandler<F, L> {
             backend: Backend { fs, ls },
         })
     }
+
+    /// Goes on with another store, and with other locks where there is a lock system. Its own are dropped. Allocates nothing.
+    pub fn restore(&mut self, fs: F, ls: Option<L>)
+        ensures settings { self.new.server.settings ≡ self.old.server.settings }
+        ensures fs { self.new.fs ≡ fs }
+        ensures ls { self.new.ls ≡ ls }
+        ensures state { self.new.server.state ≡ record {
+          store = F.state fs;
+          locks = option_map L.locks ls;
+        } }
+    {
+        self.backend = Backend { fs, ls };
+    }
 }
 
 // The token for a lock that a request creates.

@@ -1,6 +1,6 @@
 -- The parts of a store in memory after a node came, went or was moved.
 use Rattle.std.proofs.Common.{◌≡◌, ℕ, ◌+◌, ◌<◌, ◌==◌, ◌&&◌, Bool, true, false, cond, List, [], ◌∷◌, ◌++◌, Option, Some, None, refl, sym, ap, subst, ◌∙◌, ⊎_elim, arith, if◌then◌else◌}
-use Rattle.std.specs.Prelude.{Vec, nat_eq, is_none, Result, Ok, Err}
+use Rattle.std.specs.Prelude.{◌≢◌, Vec, nat_eq, is_none, Result, Ok, Err}
 use Rattle.std.specs.Option.{option_and_then, option_map, IsSome, IfSome, is_some}
 use Rattle.std.specs.HashMap.{HashMap, get}
 use Rattle.std.specs.Result.{IsOk, OnOk}
@@ -11,9 +11,9 @@ use Rattle.dav_core.proofs.Theorems.{shape}
 use Rattle.dav_store.specs.Tree.{Tree, Node, node, value_of, single, leaf, child, key_refusal, add_refusal, added, deleted, moved, Does, DoesOrLacks, delete_refusal, has_children, has_some, children_of, root_id}
 use Rattle.dav_store.specs.Placed.{named, placed, found, bare, is_same_name, IsGrown, IsMadeMap, IsChild}
 use Rattle.dav_store.specs.Entries.{IsKept}
-use Rattle.dav_store.specs.Makings.{AreMadeBefore}
-use Rattle.dav_store.proofs.MadeBefore.{before_found}
+use Rattle.dav_store.specs.Makings.{IsUnmade}
 use Rattle.dav_store.proofs.Walks.{inner}
+use Rattle.dav_store.proofs.LoadedNodes.{at_found}
 use Rattle.dav_store.proofs.TreeSingle.{named_single}
 use Rattle.dav_store.proofs.Placing.{number_is, named_from, name-itself, root_there}
 use Rattle.dav_store.proofs.TreePaths.{found_there, then_same, some_is, none-below, found-push}
@@ -280,8 +280,8 @@ pub on_ok : {A E : Type 0} (r : Result A E) (P : Type 0) → IsOk r → OnOk r P
 on_ok (Ok x) P i h = h
 on_ok (Err e) P i h = let no : false ≡ true = i in cc
 
--- where all nodes were made under numbers below one, none was made under that one
-pub unmade : {Z S : Type 0} (t : Tree (Vec ℕ Z) Seen) (made : HashMap ℕ ℕ S) → IsKept t made → (ns : Nodes) → placed (bare t) ≡ ns → (n : ℕ) → AreMadeBefore n ns → get nat_eq made n ≡ None
+-- where no node was made under a number, the map has none for it
+pub unmade : {Z S : Type 0} (t : Tree (Vec ℕ Z) Seen) (made : HashMap ℕ ℕ S) → IsKept t made → (ns : Nodes) → placed (bare t) ≡ ns → (n : ℕ) → IsUnmade n ns → get nat_eq made n ≡ None
 unmade t made kept ns view n before = by (get nat_eq made n) refl where
   by : (o : Option ℕ) → get nat_eq made n ≡ o → o ≡ None
   by None e = refl
@@ -289,7 +289,7 @@ unmade t made kept ns view n before = by (get nat_eq made n) refl where
       let one = kept.map.only n m e in
       let at = kept.grown.reached m (ap is_some one.1) in
       let stood : find path_cmp at.0 ns ≡ Some one.0 = value_some t kept.grown ns view at.0 (Some m) (sym at.1) m refl ∙ sym (value_bare t m) ∙ one.1 in
-      absurd (omega (arith, one.2, before_found n ns at.0 one.0 before stood))
+      absurd (at_found (λ e. e.1.made ≢ n) ns at.0 one.0 before stood one.2)
 
 -- ---- a node that may be put at a path
 module _ {Z S : Type 0} (t : Tree (Vec ℕ Z) Seen) (made : HashMap ℕ ℕ S) (kept : IsKept t made) (ns : Nodes) (view : placed (bare t) ≡ ns) (q : Path) (above : Option ℕ) (here : above ≡ found (bare t) (parent_of q)) (id : ℕ) (is : above ≡ Some id)

@@ -46,5 +46,10 @@ pub mod IndexSound
 pub mod IndexCalls
 pub mod SeatLemmas
 pub mod SavedCalls
+pub mod LoadedNodes
+pub mod LoadedWorlds
+pub mod LoadedReads
 pub mod SubtreeLemmas
 pub mod SubtreesKept
+pub mod LoadedOrder
+pub mod LoadedTrees

@@ -9,22 +9,17 @@ use Rattle.std.specs.FinMap.Entries.{by_order}
 use Rattle.dav_core.specs.Path.{Path, path_cmp, parent_of, is_same_path, is_at_or_under, rest_after}
 use Rattle.dav_core.specs.World.{Node, Nodes, adjust, change_node, prune, graft, union, moved, touched, modified_at, is_file_made_with}
 use Rattle.dav_core.specs.Calls.{emptied, written}
-use Rattle.dav_store.specs.Makings.{AreMadeBefore}
-use Rattle.dav_store.proofs.Walks.{inner}
+use Rattle.dav_store.specs.Makings.{AreMadeBefore, IsUnmade}
 
 -- they are below a greater number too
 before_later : (n m : ℕ) (ns : Nodes) → n ≤ m → AreMadeBefore n ns → AreMadeBefore m ns
 before_later n m [] le h = tt
 before_later n m (e ∷ es) le h = (omega (arith, le, h.0), before_later n m es le h.1)
 
--- what stands at a path was created under one of them
-before_found_step : (n : ℕ) (e : Path × Node) (es : Nodes) (v : Node) (q : Path) (b : Bool) → AreMadeBefore n (e ∷ es) → (find path_cmp q es ≡ Some v → v.made < n) → cond b (Some e.1) (find path_cmp q es) ≡ Some v → v.made < n
-before_found_step n e es v q true h ih is = subst (λ (x : Node). x.made < n) (inner e.1 v is) h.0
-before_found_step n e es v q false h ih is = ih is
-
-pub before_found : (n : ℕ) (ns : Nodes) (q : Path) (v : Node) → AreMadeBefore n ns → find path_cmp q ns ≡ Some v → v.made < n
-before_found n [] q v h is = cc
-before_found n (e ∷ es) q v h is = before_found_step n e es v q _ h (before_found n es q v h.1) is
+-- none was created under this one
+pub before_unmade : (n : ℕ) (ns : Nodes) → AreMadeBefore n ns → IsUnmade n ns
+before_unmade n [] h = tt
+before_unmade n (e ∷ es) h = ((λ same. omega (arith, h.0, same)), before_unmade n es h.1)
 
 put_step : (n : ℕ) (p : Path) (v : Node) (e : Path × Node) (es done : Nodes) (o : Ordering) → v.made < n → AreMadeBefore n (e ∷ es) → AreMadeBefore n done → AreMadeBefore n (by_order o ((p, v) ∷ e ∷ es) ((e.0, v) ∷ es) (e ∷ done))
 put_step n p v e es done Less new h ih = (new, h)

@@ -20,3 +20,4 @@ pub mod LockIndex
 pub mod Loaded
 pub mod Subtrees
 pub mod PartsOf
+pub mod Passing

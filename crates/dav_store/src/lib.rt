@@ -11,6 +11,7 @@ pub mod memfs;
 pub mod memls;
 mod names;
 mod node;
+pub mod passing;
 mod paths;
 mod properties;
 #[cfg(test)]

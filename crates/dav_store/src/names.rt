@@ -1,10 +1,13 @@
 //! The names of a path, as owned bytes (RFC 3986, section 3.3).
 ghost use Rattle.std.specs.Prelude.{◌≡◌, ◌++◌, ◌∷◌, [], IfOk};
-ghost use Rattle.dav_core.specs.Path.{names, IsSegment};
+ghost use Rattle.dav_core.specs.Path.{names, path_cmp, IsSegment};
+
+mod saved;
 
 use dav_core::davpath::DavPath;
 use dav_core::errors::NoMemory;
 use std::alloc::Global;
+use std::cmp::Ordering;
 use std::marker::Model;
 
 /// The bytes of a name.
@@ -111,5 +114,19 @@ impl Names {
         ensures { result.now ≡ self.now }
     {
         &self.names
+    }
+
+    /// Compares name by name, and a path before what is below it.
+    pub fn compare(&self, other: &Names) -> Ordering
+        ensures { result ≡ path_cmp self.now other.now }
+    {
+        let len = self.names.len().min(other.names.len());
+        for i in 0..len {
+            let order = self.names[i].as_slice().cmp(&other.names[i].as_slice());
+            if order.is_ne() {
+                return order;
+            }
+        }
+        self.names.len().cmp(&other.names.len())
     }
 }

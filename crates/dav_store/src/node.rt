@@ -162,6 +162,13 @@ impl Node {
         self.made
     }
 
+    /// The last change number that it took.
+    pub fn number(&self) -> u64
+        ensures { result ≡ self.now.number }
+    {
+        self.number
+    }
+
     /// The bytes of a file; none of a folder.
     pub fn bytes(&self) -> &[u8]
         ensures { result.now ≡ bytes_of self.now.kind }

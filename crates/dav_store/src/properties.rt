@@ -7,6 +7,7 @@ ghost use Rattle.std.specs.Option.{option_and_then};
 ghost use Rattle.dav_core.specs.Element.{prefix_of};
 ghost use Rattle.dav_core.specs.Property.{key_cmp, is_same_key, property_key, patched_by, patch_of, without_xml, shown_property};
 
+mod passing;
 mod saved;
 
 use dav_core::davprop::DavProp;

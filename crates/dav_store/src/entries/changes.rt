@@ -8,7 +8,7 @@ ghost use Rattle.dav_core.specs.Path.{names, path_cmp, parent_of, last_name, is_
 ghost use Rattle.dav_core.specs.World.{adjust, touched, prune, moved, members, is_folder_node, is_folder_kind, last_moment, max_file_len, change_node, is_file_made_with, Node as Seen, fresh};
 ghost use Rattle.dav_core.specs.Calls.{emptied, written, copied_over, repatched};
 ghost use Rattle.dav_core.specs.Property.{Patch, patched};
-ghost use Rattle.dav_store.specs.Makings.{AreMadeBefore};
+ghost use Rattle.dav_store.specs.Makings.{AreMadeBefore, IsUnmade};
 ghost use Rattle.dav_store.specs.Placed.{bare, found};
 
 use super::{Entries, finding, want_of_memory};
@@ -111,6 +111,7 @@ pub fn write_file_made_with(
 
 /// Adds a new node at a path where nothing is, below a folder, and changes that folder at this moment. The number of its
 /// creation is above those of all others. Where memory runs out, nothing changes.
+#[tactic(auto, using(crate::proofs::MadeBefore::before_unmade))]
 pub fn add_node(
     alloc: Global,
     entries: &mut Entries,
@@ -158,12 +159,17 @@ fn room_for(
     Ok((folder, name))
 }
 
-// Puts a new node at a path. All room is made before anything changes.
-fn put_new(alloc: Global, entries: &mut Entries, path: &DavPath, node: Node) -> Result<(), NoMemory>
+/// Puts a node at a path where nothing is, below a folder, which isn't changed. All room is made before anything changes.
+pub fn put_new(
+    alloc: Global,
+    entries: &mut Entries,
+    path: &DavPath,
+    node: Node,
+) -> Result<(), NoMemory>
     requires folder { is_folder_node
         (find path_cmp (parent_of (names path.now)) entries.old.nodes) ≡ true }
     requires free { find path_cmp (names path.now) entries.old.nodes ≡ None }
-    requires new { AreMadeBefore node.made entries.old.nodes }
+    requires new { IsUnmade node.made entries.old.nodes }
     requires numbers { entries.old.last < max_u64 }
     ensures ok { OnOk result (entries.new ≡ record {
       nodes = put path_cmp (names path.now) node entries.old.nodes;

@@ -6,7 +6,8 @@
 //! listing ends in a slash. A property is written by its name, after a colon where it has no namespace, and `set` stores
 //! one without an element where its value is missing. `properties` lists them with their elements, as `name=value`, and
 //! `names` without. `saved` asks whether the store is saved as these bytes: `#n` is the number n in eight bytes, `'t'` the
-//! text t, any other word a byte.
+//! text t, any other word a byte. `load` goes on with the store that is loaded from bytes, if they are one. `reload` goes on
+//! with the store that is loaded from what is saved of it; it answers whether each front of those bytes is refused.
 ghost use Rattle.std.specs.Prelude.{◌≤◌};
 ghost use Rattle.dav_core.specs.World.{last_moment};
 
@@ -14,6 +15,7 @@ use super::*;
 use bytes::Bytes;
 use dav_core::element::Element;
 use dav_core::fs::{DavDirEntry, DavFileSystem, DavMetaData, ReadDirMeta};
+use dav_saved::LoadError;
 use std::mem;
 use std::process::Abort;
 use std::test::Fail;
@@ -167,6 +169,72 @@ open /d/f read,create,write 2 -> ok
 write ab 3 -> ok
 set /d :x -> 200 x without xml
 saved #4 #3 #0 #0 #0 0 #0 #0 #1 #1 #1 'd' #1 #1 0 #1 #0 #1 'x' 0 #1 #2 #2 #1 'd' #1 'f' #2 #3 1 #2 'ab' #0 #2 #3 -> yes
+reload -> fronts are refused
+bytes /d/f -> ab
+metadata /d/f -> len 2, number 3, created 2, modified 3
+properties /d -> x
+list /d -> f
+metadata / -> folder, number 0, created 0, modified 1
+short -> no
+open /d/f write 4 -> ok
+write c 4 -> ok
+open /g read,create,write 5 -> ok
+metadata /d/f -> len 2, number 4, created 2, modified 4
+metadata /g -> len 0, number 5, created 5, modified 5
+reload -> fronts are refused
+list / -> d/ g
+bytes /d/f -> cb
+# a store that is loaded: the root, the folder /d with a property, and the file /d/f
+load #4 #3 #0 #0 #0 0 #0 #0 #0 #1 #1 'd' #1 #1 0 #1 #0 #1 'x' 0 #1 #2 #2 #1 'd' #1 'f' #2 #3 1 #2 'ab' #0 #2 #3 -> ok
+bytes /d/f -> ab
+metadata /d/f -> len 2, number 3, created 2, modified 3
+mkdir /d/e 4 -> ok
+metadata /d/e -> folder, number 4, created 4, modified 4
+rename /d /c 5 -> ok
+list /c -> e/ f
+properties /c -> x
+load #1 #1 #0 #0 #0 0 #0 #0 #0 7 -> more
+load #18446744073709551615 #1 #0 #0 #0 0 #0 #253402300799 #253402300799 -> ok
+mkdir /d 1 -> GeneralFailure
+# the root, and it alone begins
+load #4 #0 -> NotSaved
+load #4 #1 #1 #1 'd' #1 #1 0 #0 #0 #0 -> NotSaved
+load #4 #1 #0 #0 #0 1 #1 'a' #0 #0 #0 -> NotSaved
+load #4 #1 #0 #1 #1 0 #0 #0 #0 -> NotSaved
+load #4 #2 #0 #0 #0 0 #0 #0 #0 #0 #1 #1 0 #0 #0 #0 -> NotSaved
+# each path once, in order
+load #4 #3 #0 #0 #0 0 #0 #0 #0 #1 #1 'd' #1 #1 0 #0 #0 #0 #1 #1 'e' #2 #2 0 #0 #0 #0 -> ok
+load #4 #3 #0 #0 #0 0 #0 #0 #0 #1 #1 'd' #1 #1 0 #0 #0 #0 #1 #1 'd' #2 #2 0 #0 #0 #0 -> NotSaved
+load #4 #3 #0 #0 #0 0 #0 #0 #0 #1 #1 'e' #1 #1 0 #0 #0 #0 #1 #1 'd' #2 #2 0 #0 #0 #0 -> NotSaved
+load #4 #3 #0 #0 #0 0 #0 #0 #0 #2 #1 'd' #1 'f' #1 #1 0 #0 #0 #0 #1 #1 'd' #2 #2 0 #0 #0 #0 -> NotSaved
+# each in a folder
+load #4 #2 #0 #0 #0 0 #0 #0 #0 #2 #1 'd' #1 'f' #1 #1 0 #0 #0 #0 -> NotSaved
+load #4 #3 #0 #0 #0 0 #0 #0 #0 #1 #1 'd' #1 #1 1 #0 #0 #0 #0 #2 #1 'd' #1 'f' #2 #2 0 #0 #0 #0 -> NotSaved
+# each change number once, and below the next
+load #4 #3 #0 #0 #0 0 #0 #0 #0 #1 #1 'd' #1 #3 0 #0 #0 #0 #1 #1 'e' #2 #2 0 #0 #0 #0 -> ok
+load #4 #3 #0 #0 #0 0 #0 #0 #0 #1 #1 'd' #1 #3 0 #0 #0 #0 #1 #1 'e' #2 #3 0 #0 #0 #0 -> NotSaved
+load #4 #3 #0 #0 #0 0 #0 #0 #0 #1 #1 'd' #1 #3 0 #0 #0 #0 #1 #1 'e' #1 #2 0 #0 #0 #0 -> NotSaved
+load #4 #3 #0 #0 #0 0 #0 #0 #0 #1 #1 'd' #1 #3 0 #0 #0 #0 #1 #1 'e' #3 #3 0 #0 #0 #0 -> NotSaved
+load #4 #3 #0 #0 #0 0 #0 #0 #0 #1 #1 'd' #1 #2 0 #0 #0 #0 #1 #1 'e' #2 #3 0 #0 #0 #0 -> NotSaved
+load #4 #3 #0 #0 #0 0 #0 #0 #0 #1 #1 'd' #2 #3 0 #0 #0 #0 #1 #1 'e' #1 #2 0 #0 #0 #0 -> NotSaved
+load #4 #2 #0 #0 #0 0 #0 #0 #0 #1 #1 'd' #0 #1 0 #0 #0 #0 -> NotSaved
+load #4 #2 #0 #0 #0 0 #0 #0 #0 #1 #1 'd' #2 #1 0 #0 #0 #0 -> NotSaved
+load #4 #2 #0 #0 #0 0 #0 #0 #0 #1 #1 'd' #1 #4 0 #0 #0 #0 -> NotSaved
+load #0 #1 #0 #0 #0 0 #0 #0 #0 -> NotSaved
+# times that are dates
+load #1 #1 #0 #0 #0 0 #0 #253402300800 #0 -> NotSaved
+load #1 #1 #0 #0 #0 0 #0 #0 #253402300800 -> NotSaved
+# properties in order of their keys, each key once
+load #1 #1 #0 #0 #0 0 #2 #0 #1 'x' 0 #0 #1 'y' 0 #0 #0 -> ok
+load #1 #1 #0 #0 #0 0 #2 #0 #1 'y' 0 #0 #1 'x' 0 #0 #0 -> NotSaved
+load #1 #1 #0 #0 #0 0 #2 #0 #1 'x' 0 #0 #1 'x' 0 #0 #0 -> NotSaved
+# names
+load #4 #2 #0 #0 #0 0 #0 #0 #0 #1 #3 '...' #1 #1 0 #0 #0 #0 -> ok
+load #4 #2 #0 #0 #0 0 #0 #0 #0 #1 #0 #1 #1 0 #0 #0 #0 -> NotSaved
+load #4 #2 #0 #0 #0 0 #0 #0 #0 #1 #1 '.' #1 #1 0 #0 #0 #0 -> NotSaved
+load #4 #2 #0 #0 #0 0 #0 #0 #0 #1 #2 '..' #1 #1 0 #0 #0 #0 -> NotSaved
+load #4 #2 #0 #0 #0 0 #0 #0 #0 #1 #3 'a/b' #1 #1 0 #0 #0 #0 -> NotSaved
+load #4 #2 #0 #0 #0 0 #0 #0 #0 #1 #2 'a' 0 #1 #1 0 #0 #0 #0 -> NotSaved
 "##;
 
 // The store that rows are played on, with one open file and the entries that were listed last.
@@ -526,16 +594,53 @@ fn push_word(bytes: &mut Vec<u8>, word: &str) -> Result<(), Fail> {
     Ok(())
 }
 
-// Whether a store is saved as the bytes of a row.
-fn is_saved_as(alloc: Global, fs: &MemFs, row: Row<'_>) -> Result<bool, Fail> {
-    let (mut saved, mut bytes) = (Vec::new(alloc), Vec::new(alloc));
-    fs.save(&mut saved)?;
+// The bytes of a row.
+fn bytes_of(alloc: Global, row: Row<'_>) -> Result<Vec<u8>, Fail> {
+    let mut bytes = Vec::new(alloc);
     for words in &row[1..] {
         for word in words.split(' ') {
-            push_word(&mut bytes, word)?;
+            if !word.is_empty() {
+                push_word(&mut bytes, word)?;
+            }
         }
     }
-    Ok(saved == bytes)
+    Ok(bytes)
+}
+
+// Whether a store is saved as the bytes of a row.
+fn is_saved_as(alloc: Global, fs: &MemFs, row: Row<'_>) -> Result<bool, Fail> {
+    let mut saved = Vec::new(alloc);
+    fs.save(&mut saved)?;
+    Ok(saved == bytes_of(alloc, row)?)
+}
+
+// Goes on with the store that is loaded from bytes, and answers whether they are one, and nothing more.
+fn load(alloc: Global, fs: &mut MemFs, bytes: &[u8]) -> &'static str {
+    match MemFs::load(alloc, 1, bytes) {
+        Ok((loaded, rest)) => {
+            let is_all = rest.is_empty();
+            *fs = loaded;
+            if is_all { "ok" } else { "more" }
+        }
+        Err(LoadError::NotSaved) => "NotSaved",
+        Err(LoadError::Memory) => "Memory",
+    }
+}
+
+// Goes on with the store that is loaded from what is saved of it, and answers whether each front of that is refused.
+fn reload(alloc: Global, fs: &mut MemFs) -> Result<&'static str, Fail> {
+    let mut saved = Vec::new(alloc);
+    fs.save(&mut saved)?;
+    for end in 0..saved.len() {
+        if load(alloc, fs, &saved[..end]) != "NotSaved" {
+            return Ok("a front is taken");
+        }
+    }
+    if load(alloc, fs, &saved) == "ok" {
+        Ok("fronts are refused")
+    } else {
+        Ok("it is refused")
+    }
 }
 
 // Makes the call of a row: here, where it is about whole stores, and else on the store.
@@ -550,6 +655,11 @@ fn play(
             let is_so = is_saved_as(alloc, &played.fs, row)?;
             return Ok(text(alloc, if is_so { "yes" } else { "no" }));
         }
+        "load" => {
+            let bytes = bytes_of(alloc, row)?;
+            return Ok(text(alloc, load(alloc, &mut played.fs, &bytes)));
+        }
+        "reload" => return Ok(text(alloc, reload(alloc, &mut played.fs)?)),
         "next" => *played = begun(alloc, row[1].parse::<u64>()?)?,
         "clone" => *other = played.fs.clone()?,
         "other" => mem::swap(&mut played.fs, other),

@@ -10,6 +10,7 @@ use super::MemLs;
 use super::index::{self, Counts};
 use super::kept::Kept;
 use dav_core::errors::NoMemory;
+use dav_core::ls::DavLock;
 use dav_saved::{LoadError, lock_of, number_of, put_lock, put_number};
 use std::alloc::Global;
 
@@ -63,12 +64,29 @@ fn read_list(alloc: Global, levels: usize, bytes: &[u8]) -> Result<(MemLs, &[u8]
 }
 
 impl MemLs {
-    ghost use Rattle.std.specs.Prelude.{◌≡◌, ◌++◌, ℕ, List, IfOk, OnOk, Some};
+    ghost use Rattle.std.specs.Prelude.{◌≡◌, ◌++◌, ℕ, List, IfOk, OnOk, Some, length, option_copied, slice_get};
     ghost use Rattle.std.specs.List.{AllByRecursion};
     ghost use Rattle.dav_core.specs.Locks.{Lock};
     ghost use Rattle.dav_saved.specs.Reading.{Gives};
     ghost use Rattle.dav_saved.specs.Parts.{IsWithin};
     ghost use Rattle.dav_saved.specs.Locks.{locks, locks_at, AreSaveableLocks};
+
+    /// How many locks there are.
+    pub fn len(&self) -> usize
+        ensures { result ≡ length self.now }
+    {
+        self.locks.len()
+    }
+
+    /// The lock at a place in the list; `None` past its end.
+    pub fn get(&self, place: usize) -> Option<&DavLock>
+        ensures { option_copied result ≡ slice_get self.now place }
+    {
+        match self.locks.get(place) {
+            Some(kept) => Some(kept.lock()),
+            None => None,
+        }
+    }
 
     /// Adds the locks in their order to what is saved. After an error a part of them may have been
     /// added.

@@ -1,9 +1,10 @@
 //! Folders and files as they are saved, and as they are read.
-ghost use Rattle.std.specs.Prelude.{◌≡◌, ◌++◌, ◌&&◌, nat_le, OnOk};
-ghost use Rattle.dav_core.specs.World.{last_moment};
+ghost use Rattle.std.specs.Prelude.{◌≡◌, ◌++◌, OnOk};
+ghost use Rattle.std.specs.Bool.{Decides};
 ghost use Rattle.dav_saved.specs.Reading.{Gives};
-ghost use Rattle.dav_saved.specs.Worlds.{kind, kind_at, fields_at, IsKind};
+ghost use Rattle.dav_saved.specs.Worlds.{kind, kind_at, fields_at, node_of, IsKind};
 ghost use Rattle.dav_store.specs.KindOf.{kind_of};
+ghost use Rattle.dav_store.specs.Loaded.{IsFitNode};
 ghost use Rattle.dav_store.specs.PartsOf.{parts_view};
 
 use super::{Content, Node};
@@ -83,18 +84,23 @@ fn parts_of(alloc: Global, levels: usize, bytes: &[u8]) -> Result<(Parts, &[u8])
     Ok((parts, rest))
 }
 
-// Whether both times of a node can be shown as HTTP dates.
-fn are_dates(created: u64, modified: u64) -> bool
-    ensures { result ≡ (nat_le created last_moment && nat_le modified last_moment) }
+// Whether the node of these fields may stand in a world whose next change number is this one.
+fn is_fit(parts: &Parts, next: u64) -> bool
+    ensures { Decides result (IsFitNode next (node_of (parts_view parts.now))) }
 {
-    created <= LAST_MOMENT && modified <= LAST_MOMENT
+    if parts.made > parts.number || parts.number >= next {
+        return false;
+    }
+    if parts.created > LAST_MOMENT || parts.modified > LAST_MOMENT {
+        return false;
+    }
+    parts.properties.are_rising()
 }
 
 impl Node {
     ghost use Rattle.std.specs.Prelude.{◌≡◌, ◌++◌, ℕ, OnOk};
-    ghost use Rattle.dav_saved.specs.Reading.{Gives, checked};
     ghost use Rattle.dav_saved.specs.Worlds.{node, node_at, AreWithin, IsSaveableNode};
-    ghost use Rattle.dav_store.specs.Loaded.{has_dates};
+    ghost use Rattle.dav_store.specs.Loaded.{GivesOnly, IsFitNode};
 
     /// Adds the node to what is saved. After an error a part of it may have been added.
     pub fn save(&self, out: &mut Vec<u8>) -> Result<(), NoMemory>
@@ -113,13 +119,19 @@ impl Node {
     }
 
     /// The node in front of bytes, and what is behind it. `NotSaved` where no node is there whose
-    /// elements have at most so many levels, and whose times can be shown as HTTP dates (RFC 9110,
-    /// section 5.6.7).
-    pub fn load(alloc: Global, levels: usize, bytes: &[u8]) -> Result<(Node, &[u8]), LoadError>
-        ensures { Gives (λ x. (x.0, x.1.now)) result (checked has_dates (node_at levels bytes.now)) }
+    /// elements have at most so many levels, and which may stand in a world whose next change number
+    /// is `next`.
+    pub fn load(
+        alloc: Global,
+        levels: usize,
+        next: u64,
+        bytes: &[u8],
+    ) -> Result<(Node, &[u8]), LoadError>
+        ensures { GivesOnly (IsFitNode next) (λ x. (x.0, x.1.now)) result
+            (node_at levels bytes.now) }
     {
         let (parts, rest) = parts_of(alloc, levels, bytes)?;
-        if !are_dates(parts.created, parts.modified) {
+        if !is_fit(&parts, next) {
             return Err(LoadError::NotSaved);
         }
         let node = Node {

@@ -1,5 +1,6 @@
 //! Properties as they are saved, and as they are read.
-ghost use Rattle.std.specs.Prelude.{◌≡◌, ◌++◌, ℕ, OnOk, IfOk};
+ghost use Rattle.std.specs.Prelude.{◌≡◌, ◌++◌, ℕ, T, OnOk, IfOk};
+ghost use Rattle.std.specs.Bool.{Decides};
 ghost use Rattle.std.specs.FinMap.{is_sorted};
 ghost use Rattle.dav_core.specs.Property.{key_cmp};
 ghost use Rattle.dav_saved.specs.Spelling.{pair, many};
@@ -91,8 +92,23 @@ fn entries_of(
     Ok((entries, rest))
 }
 
+// Whether properties are in order of their keys, each key once.
+fn are_rising(entries: &[(Key, Option<Element>)]) -> bool
+    ensures { Decides result (T (is_sorted key_cmp entries.now)) }
+{
+    for i in 1..entries.len() {
+        if !entries[i - 1].0.compare(&entries[i].0).is_lt() {
+            return false;
+        }
+    }
+    true
+}
+
 impl Properties {
-    ghost use Rattle.std.specs.Prelude.{◌≡◌, ◌++◌, ℕ, OnOk};
+    ghost use Rattle.std.specs.Prelude.{◌≡◌, ◌++◌, ℕ, T, OnOk};
+    ghost use Rattle.std.specs.Bool.{Decides};
+    ghost use Rattle.std.specs.FinMap.{is_sorted};
+    ghost use Rattle.dav_core.specs.Property.{key_cmp};
     ghost use Rattle.dav_saved.specs.Spelling.{many};
     ghost use Rattle.dav_saved.specs.Reading.{Gives, list_at};
     ghost use Rattle.dav_saved.specs.Worlds.{property, property_at, AreSaveableProperties, AreWithin};
@@ -121,5 +137,12 @@ impl Properties {
         let (count, rest) = number_of(bytes)?;
         let (entries, rest) = entries_of(alloc, levels, count, rest)?;
         Ok((Properties { entries }, rest))
+    }
+
+    /// Whether the properties are in order of their keys, each key once.
+    pub fn are_rising(&self) -> bool
+        ensures { Decides result (T (is_sorted key_cmp self.now)) }
+    {
+        are_rising(&self.entries)
     }
 }
