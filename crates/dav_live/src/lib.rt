@@ -15,6 +15,8 @@ mod page;
 mod rejection;
 mod service;
 mod settings;
+#[cfg(test)]
+mod tests;
 mod token;
 mod told;
 
