@@ -37,10 +37,10 @@ def secret_of(password):
 class Server:
     """A server of a folder. `kill` ends it as a power cut of the program would: SIGKILL to the front and the core."""
 
-    def __init__(self, folder=None, *options, users=None, memory=None):
+    def __init__(self, folder=None, *options, users=None, memory=None, top=TOP):
         self.kept = tempfile.TemporaryDirectory(prefix="live-") if folder is None else None
         self.folder = folder or self.kept.name
-        self.options = list(options)
+        self.options, self.top = list(options), top
         self.port = free_port()
         self.address = f"127.0.0.1:{self.port}"
         if users:
@@ -50,7 +50,7 @@ class Server:
         self.start()
 
     def start(self):
-        words = [f"{TOP}/serve", self.folder, "--port", str(self.port), *self.options]
+        words = [f"{self.top}/serve", self.folder, "--port", str(self.port), *self.options]
         self.said = open(f"{self.folder}/said", "ab")
         self.process = subprocess.Popen(words, stderr=self.said, stdin=subprocess.DEVNULL)
         began = time.time()

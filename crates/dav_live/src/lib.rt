@@ -17,6 +17,8 @@ mod page;
 mod rejection;
 mod service;
 mod settings;
+#[cfg(test)]
+mod tests;
 mod token;
 mod told;
 

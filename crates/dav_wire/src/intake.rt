@@ -223,6 +223,8 @@ impl Intake {
         if len > room {
             return Ok(Found::Refused(Refusal::NoRoom(room)));
         }
+        let to_come = self.stated.saturating_sub(self.body.len());
+        self.body.reserve(to_come)?;
         self.body.extend_from_slice(bytes)?;
         self.input.advance(piece.end);
         Ok(Found::Part)
