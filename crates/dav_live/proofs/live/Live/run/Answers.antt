@@ -15,7 +15,7 @@ loop-init g c = same_runs IsAnswer (λ j bs. IsKept g.D.Disk j bs) (kept_in c.ar
 
 pub loop-preserved : goal.loop-preserved
 loop-preserved g c =
-    runs_then IsAnswer (λ j bs. IsKept g.D.Disk j bs) (kept_in c.args.self.now) (kept_in c.loop.self) (kept_in c.serve_once.new.self) c.loop.invariant c.in-Ok.ensures.run
+    runs_then IsAnswer (λ j bs. IsKept g.D.Disk j bs) (kept_in c.args.self.now) (kept_in c.loop.self) (kept_in c.serve_once.new.self) c.loop.invariant c.in-Ok-serve_once.ensures.run
 
 pub returns-in-Err : goal.returns-in-Err
 returns-in-Err g c =

@@ -11,7 +11,6 @@ use Rattle.dav_live.proofs.live.Live.turn.Goals as goal
 
 pub returns-in-Ok-clause-run : goal.returns-in-Ok-clause-run
 returns-in-Ok-clause-run g c =
-    let kept = λ j bs. IsKept g.D.Disk j bs in
     turn_carries (doing g.D.Disk) (λ a b. RunGoesOn IsAnswer (λ j bs. IsKept g.D.Disk j bs) (kept_of a) (kept_of b))
     (run_carries IsAnswer (λ j bs. IsKept g.D.Disk j bs) (λ (s : Server) (now : ℕ) (head : Option (List ℕ)). IsNextEnd s.state.locks now head))
     c.args.reports.now c.in-Ok.used c.args.self.now.turns c.serve.new.self c.args.self.now.service c.serve.new.keeper c.in-Ok.ensures.turn.0 c.in-Ok.ensures.turn.1
