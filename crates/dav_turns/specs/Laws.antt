@@ -108,7 +108,8 @@ OrdersAnswerWhatCame {S} k =
     (orders : List Order) → opening.kind ≡ OPENED
     → All (λ t. IsFalse (opens opening.slot t)) (filter_map report_in events)
     → Happens k config (report opening ∷ events) old new orders
-    → AreAnswersTo k config.connection (stream_of (pieces opening.slot events)) (bytes_for opening.slot orders)
+    → AreAnswersTo k config.connection (stream_of (pieces opening.slot events))
+    (bytes_for opening.slot orders)
 
 -- an open connection that has nothing to send, has handed over each whole request that came, and
 -- waits for input that goes on
@@ -128,12 +129,12 @@ ReadsOnlyAtRest {S} k =
 
 -- ---- bodies
 
--- Of new turns nothing takes room. And whatever happens, in whatever turns, to connections whose bodies
--- take no more room together than the most: what they take after that is no more either.
+-- Of new turns nothing takes room. And whatever happens, in whatever turns, to connections whose
+-- bodies take no more room together than the most: what they take after that is no more either.
 pub record BodiesFit {S : Type 0} (k : Keeping S) : Type 0 where
   pub first : (config : TurnsConfig) → held_by (new_turns config).slots ≡ 0
-  pub always : (config : TurnsConfig) (events : List Event) (old new : Server S) (orders : List Order)
-      → held_by old.slots ≤ config.max_waiting → Happens k config events old new orders
+  pub always : (config : TurnsConfig) (events : List Event) (old new : Server S)
+      (orders : List Order) → held_by old.slots ≤ config.max_waiting → Happens k config events old new orders
       → held_by new.slots ≤ config.max_waiting
 
 -- ---- reports
