@@ -7,7 +7,7 @@ use Rattle.dav_wire.specs.declared.state.State.TheVariants.{Open}
 use Rattle.dav_wire.specs.History.{History, IsServed, AreAllCalled}
 use Rattle.dav_turns.specs.declared.config.TurnsConfig.{TurnsConfig}
 use Rattle.dav_turns.specs.declared.frames.TheConstants.{OPENED, GOT, READ}
-use Rattle.dav_turns.specs.Connections.{ConnectionView, TurnsView}
+use Rattle.dav_turns.specs.Connections.{ConnectionView, Slots, TurnsView}
 use Rattle.dav_turns.specs.Frames.{Order, ReportView, BeginsWith, IsPart, IsTooLong, ReadsReports}
 use Rattle.dav_turns.specs.Turns.{Keeping, Server, server, Heard, GoesOn, IsIn, Turn, held_by, new_turns}
 
@@ -108,7 +108,8 @@ OrdersAnswerWhatCame {S} k =
     (orders : List Order) → opening.kind ≡ OPENED
     → All (λ t. IsFalse (opens opening.slot t)) (filter_map report_in events)
     → Happens k config (report opening ∷ events) old new orders
-    → AreAnswersTo k config.connection (stream_of (pieces opening.slot events)) (bytes_for opening.slot orders)
+    → AreAnswersTo k config.connection (stream_of (pieces opening.slot events))
+    (bytes_for opening.slot orders)
 
 -- an open connection that has nothing to send, has handed over each whole request that came, and
 -- waits for input that goes on
@@ -128,13 +129,17 @@ ReadsOnlyAtRest {S} k =
 
 -- ---- bodies
 
--- Of new turns nothing takes room. And whatever happens, in whatever turns, to connections whose bodies
--- take no more room together than the most: what they take after that is no more either.
+-- the bodies that are being read take no more room together than the most
+abbrev pub FitTogether : TurnsConfig → Slots → Type 0
+FitTogether config slots = held_by slots ≤ config.max_waiting
+
+-- Of new turns nothing takes room. And whatever happens, in whatever turns, to connections whose
+-- bodies take no more room together than the most: what they take after that is no more either.
 pub record BodiesFit {S : Type 0} (k : Keeping S) : Type 0 where
   pub first : (config : TurnsConfig) → held_by (new_turns config).slots ≡ 0
-  pub always : (config : TurnsConfig) (events : List Event) (old new : Server S) (orders : List Order)
-      → held_by old.slots ≤ config.max_waiting → Happens k config events old new orders
-      → held_by new.slots ≤ config.max_waiting
+  pub always : (config : TurnsConfig) (events : List Event) (old new : Server S)
+      (orders : List Order) → FitTogether config old.slots
+      → Happens k config events old new orders → FitTogether config new.slots
 
 -- ---- reports
 

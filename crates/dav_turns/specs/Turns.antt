@@ -49,12 +49,12 @@ abbrev pub after_hearing : Option (List ℕ) → History → History
 after_hearing None h = h
 after_hearing (Some bytes) h = after_taken h bytes
 
--- The keeper takes the address of the connection, and then judges the heads and answers the requests
--- that came whole, each once and in order. The connection takes what was heard and no more, sends nothing, and
--- leaves no work. There is room for so many bytes of a body: it holds no more than that, and a request
--- that is refused for want of room is refused for that room.
-pub record Advances {S : Type 0} (k : Keeping S) (room : ℕ) (bytes : Option (List ℕ)) (old : ConnectionView)
-    (was : S) (new : ConnectionView) (now : S) : Type 0 where
+-- The keeper takes the address of the connection, and then judges the heads and answers the
+-- requests that came whole, each once and in order. The connection takes what was heard and no
+-- more, sends nothing, and leaves no work. There is room for so many bytes of a body: it holds no
+-- more than that, and a request that is refused for want of room is refused for that room.
+pub record Advances {S : Type 0} (k : Keeping S) (room : ℕ) (bytes : Option (List ℕ))
+    (old : ConnectionView) (was : S) (new : ConnectionView) (now : S) : Type 0 where
   pub ready : S
   pub placed : k.placed was old.address ready
   pub stays : new ≡ record old { history = new.history }
@@ -141,7 +141,8 @@ abbrev pub server : {S : Type 0} → Slots → S → Server S
 server slots keeper = record { slots = slots; keeper = keeper }
 
 -- A connection came to a free slot, from this address. The order is to read from it.
-pub record Opens (config : TurnsConfig) (slot : ℕ) (address : List ℕ) (old new : Slots) : Type 0 where
+pub record Opens (config : TurnsConfig) (slot : ℕ) (address : List ℕ) (old new : Slots)
+    : Type 0 where
   pub free : IsFree old slot
   pub slots : new ≡ set old slot (Some (new_connection config.connection address))
 
@@ -171,17 +172,19 @@ abbrev pub IsStill : {S : Type 0} → Server S → Server S → List Order → T
 IsStill old new orders = (new.slots ≡ old.slots) × (orders ≡ [])
 
 -- what a report does, after its moment has passed
-pub data Does {S : Type 0} (k : Keeping S) (config : TurnsConfig) (t : ReportView) (old new : Server S)
-    (orders : List Order) : Type 0 where
+pub data Does {S : Type 0} (k : Keeping S) (config : TurnsConfig) (t : ReportView)
+    (old new : Server S) (orders : List Order) : Type 0 where
   hello : t.kind ≡ HELLO → k.greeted old.keeper t.bytes new.keeper → IsStill old new orders
       → Does k config t old new orders
   opened : t.kind ≡ OPENED → Opens config t.slot t.bytes old.slots new.slots
       → new.keeper ≡ old.keeper → orders ≡ record { slot = t.slot; next = READ; bytes = [] } ∷ []
       → Does k config t old new orders
-  got : t.kind ≡ GOT → (order : Order) → GoesOn k (room_for config t.slot old.slots) t.slot (Some t.bytes) old new order
+  got : t.kind ≡ GOT → (order : Order)
+      → GoesOn k (room_for config t.slot old.slots) t.slot (Some t.bytes) old new order
       → orders ≡ order ∷ [] → Does k config t old new orders
-  sent : t.kind ≡ SENT → (order : Order) → GoesOn k (room_for config t.slot old.slots) t.slot None old new order → orders ≡ order ∷ []
-      → Does k config t old new orders
+  sent : t.kind ≡ SENT → (order : Order)
+      → GoesOn k (room_for config t.slot old.slots) t.slot None old new order
+      → orders ≡ order ∷ [] → Does k config t old new orders
   gone : t.kind ≡ GONE → Ends t.slot old.slots new.slots → new.keeper ≡ old.keeper → orders ≡ []
       → Does k config t old new orders
   ticked : t.kind ≡ TICK → k.marked old.keeper new.keeper → IsStill old new orders

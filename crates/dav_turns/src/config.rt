@@ -6,7 +6,7 @@ use dav_wire::Config;
 pub struct TurnsConfig {
     /// Those of each.
     pub connection: Config,
-    /// The most bytes of the bodies that are being read, of all connections together. A request whose
-    /// body would be beyond that is refused (503).
+    /// The most bytes of the bodies that are being read, of all connections together. A request
+    /// whose body would be beyond that is refused (503).
     pub max_waiting: usize,
 }

@@ -41,8 +41,8 @@ impl Turns {
         })
     }
 
-    /// What is true of all turns: the bodies that are being read have, all together, at most so many
-    /// bytes as they may. It does nothing.
+    /// What is true of all turns: the bodies that are being read have, all together, at most so
+    /// many bytes as they may. It does nothing.
     pub fn bodies_fit(&self)
         ensures { held_by self.now.slots ≤ self.now.config.max_waiting }
     {

@@ -33,8 +33,8 @@ pub record History : Type 0 where
   -- all that was sent, and what waits for that
   pub sent : List ℕ
   pub pending : List ℕ
-  -- of the request that is being read: how long its head states its body to be, if it does, and what of
-  -- that body was taken
+  -- of the request that is being read: how long its head states its body to be, if it does, and
+  -- what of that body was taken
   pub stated : ℕ
   pub body : List ℕ
 
@@ -179,8 +179,8 @@ abbrev pub IsInvited : Limits → History → Type 0
 IsInvited limits h =
     RestIs limits h (λ rest. ExpectsContinue limits rest → ∥ ((front : List ℕ) × (written h ≡ front ++ continue_text)) ∥₁)
 
--- that request states no longer body than it may have (one that does was refused), and what it states
--- is what is held for it
+-- that request states no longer body than it may have (one that does was refused), and what it
+-- states is what is held for it
 abbrev pub IsNextWithin : Config → History → Type 0
 IsNextWithin config h = RestIs config.limits h (IsStatedWithin config h.stated)
 
@@ -217,7 +217,18 @@ after_sent h count = record h { sent = h.sent ++ take count h.pending; pending =
 
 -- nothing came yet
 abbrev pub new_history : History
-new_history = record { state = Open; received = []; ended = false; unread = []; calls = []; judgements = []; sent = []; pending = []; stated = 0; body = [] }
+new_history = record {
+  state = Open;
+  received = [];
+  ended = false;
+  unread = [];
+  calls = [];
+  judgements = [];
+  sent = [];
+  pending = [];
+  stated = 0;
+  body = [];
+}
 
 -- What the answerer did, from one state to the other, are the judgements and the calls that were
 -- added to the history.

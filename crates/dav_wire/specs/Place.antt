@@ -98,7 +98,8 @@ pub record IsBetween (p : Place) (stream interim : List ℕ) : Type 0 where
 
 -- The reader is within the body of the request that begins the stream, for which this much was written, or at its start.
 abbrev pub StandsAt : Bool → Place → List ℕ → List ℕ → Type 0
-StandsAt true p stream interim = Begun p stream interim × (length p.body ≤ p.most) × IsStatedWithin p.config p.stated stream
+StandsAt true p stream interim =
+    Begun p stream interim × (length p.body ≤ p.most) × IsStatedWithin p.config p.stated stream
 StandsAt false p stream interim = IsBetween p stream interim
 
 abbrev pub Standing : Place → List ℕ → List ℕ → Type 0

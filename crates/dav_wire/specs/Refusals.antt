@@ -15,7 +15,8 @@ use Rattle.dav_wire.specs.declared.state.Refusal.{Refusal}
 use Rattle.dav_wire.specs.declared.state.Refusal.TheVariants.{Truncated, Unreadable, BodyTooLong, UnknownCoding, NoRoom}
 use Rattle.dav_wire.specs.Exchange.{most_of}
 
--- the status of a refusal (RFC 9110, sections 15.5 and 15.6.4, RFC 6585, section 5, and RFC 9112, sections 3 and 6.1)
+-- the status of a refusal (RFC 9110, sections 15.5 and 15.6.4, RFC 6585, section 5, and RFC 9112,
+-- sections 3 and 6.1)
 abbrev pub refusal_status : Refusal → ℕ
 refusal_status Truncated = 400
 refusal_status (Unreadable e) = status_of e
@@ -53,7 +54,8 @@ retry_after = (codes "retry-after", codes "1")
 -- the fields of such a response; a 401 has a challenge too, and a 503 says when to try again
 abbrev pub closing_fields : ℕ → List (List ℕ × List ℕ)
 closing_fields status =
-    if status == 401 then challenge ∷ last_fields else if status == 503 then retry_after ∷ last_fields else last_fields
+    if status == 401 then challenge ∷ last_fields
+    else if status == 503 then retry_after ∷ last_fields else last_fields
 
 -- a response with this status, its phrase and these fields
 abbrev pub closing_text : ℕ → List ℕ
@@ -70,16 +72,17 @@ len_stated UntilClose = 0
 -- method may have (RFC 9112, section 6.2).
 abbrev pub IsStatedWithin : Config → ℕ → List ℕ → Type 0
 IsStatedWithin config stated stream =
-    (h : RequestHead) (framing : Framing) (after : List ℕ) → AcceptsRequest config.limits stream h framing after
-    → (stated ≡ len_stated framing) × (stated ≤ most_of config h.method)
+    (h : RequestHead) (framing : Framing) (after : List ℕ)
+    → AcceptsRequest config.limits stream h framing after → (stated ≡ len_stated framing) × (stated ≤ most_of config h.method)
 
--- Why the request that begins the stream is refused: the input ended within it; or, whatever bytes might follow, it has too
--- many fields, or can't be read at all, or its body is longer than its method may have, or has an unknown coding,
--- or there is room for less of its body.
+-- Why the request that begins the stream is refused: the input ended within it; or, whatever bytes
+-- might follow, it has too many fields, or can't be read at all, or its body is longer than its
+-- method may have, or has an unknown coding, or there is room for less of its body.
 abbrev pub IsRefusedFor : Refusal → Config → Bool → List ℕ → Type 0
 IsRefusedFor Truncated config ended stream = IsTrue ended × (stream ≢ []) × HasNoMessage config.limits stream
 IsRefusedFor (Unreadable e) config ended stream = NextIs config.limits stream HasTooManyFields × IsReadError config.limits stream e
 IsRefusedFor BodyTooLong config ended stream =
     NextIs config.limits stream (λ m. most_of config m.head.method < length m.body.bytes)
 IsRefusedFor UnknownCoding config ended stream = NextIs config.limits stream HasUnknownCoding
-IsRefusedFor (NoRoom room) config ended stream = NextIs config.limits stream (λ m. room < length m.body.bytes)
+IsRefusedFor (NoRoom room) config ended stream =
+    NextIs config.limits stream (λ m. room < length m.body.bytes)

@@ -115,7 +115,8 @@ impl Intake {
     // There is no more to read: more bytes may come, or the input ended here.
     fn wait(&self) -> Found
         ensures told { (room : ℕ) → TellsRoom room result }
-        ensures finds { (stream interim : List ℕ) (before : ℕ) → IsStarved (place self.now) stream interim
+        ensures finds { (stream interim : List ℕ) (before : ℕ)
+            → IsStarved (place self.now) stream interim
             → Finds result self.now.ended (judged_at (place self.now)) before (place self.now)
             stream interim }
     {

@@ -40,19 +40,26 @@ PUT /one = hello ; GET /one -> hello ; !<html>
 GET /none/ -> !<html>
 ";
 
+// A request with this head and body, of nobody who is known.
+fn request_for<'r>(head: &'r [u8], body: &'r Bytes) -> Request<'r> {
+    let _ = (head.len(), body.len());
+    let nobody: Option<&'r str> = None;
+    Request {
+        moment: 1,
+        principal: nobody,
+        token: nobody,
+        head,
+        body,
+    }
+}
+
 // The response to a request of a row, whose body, if any, follows `=`.
 fn answered(alloc: Global, machine: &mut Machine, text: &str) -> Result<Response, Fail> {
     let (line, body) = text.split_once(" = ").unwrap_or((text, ""));
     let mut head = unescaped(alloc, line)?;
     head.extend_from_slice(b" HTTP/1.1\r\n\r\n")?;
     let body = Bytes::copy_from_slice(alloc, body.as_bytes())?;
-    let request = Request {
-        moment: 1,
-        principal: None,
-        token: None,
-        head: &head,
-        body: &body,
-    };
+    let request = request_for(&head, &body);
     let mut response = Response::new(alloc);
     machine
         .handle(&request, &mut response)
@@ -62,17 +69,18 @@ fn answered(alloc: Global, machine: &mut Machine, text: &str) -> Result<Response
 
 // Whether a page has these texts, in this order, but none after `!`.
 fn has(page: &str, wanted: &str) -> bool {
-    let mut rest = page;
+    let mut from = 0usize;
     for text in wanted.split(" ; ") {
         if let Some(absent) = text.strip_prefix('!') {
             if page.contains(absent) {
                 return false;
             }
-        } else if let Some((_, after)) = rest.split_once(text) {
-            rest = after;
-        } else {
-            return false;
+            continue;
         }
+        let Some(place) = page.get(from..).unwrap_or("").find(text) else {
+            return false;
+        };
+        from = from.saturating_add(place).saturating_add(text.len());
     }
     true
 }
